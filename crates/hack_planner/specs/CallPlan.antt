@@ -2,9 +2,10 @@
 use Rattle.std.specs.Prelude.{ℕ, ◌≡◌, ◌++◌, List, [], map, length, string_bytes, Bool, Option, Some, None, Result, Ok, Err}
 use Rattle.std.specs.declared.string.String.{String}
 use Rattle.std.specs.declared.alloc.Global.{Global}
+use Rattle.std.specs.List.{AllZip}
 use Rattle.hack_base.specs.Names.{Name}
 use Rattle.hack_load.specs.Contexts.{ContextRecord}
-use Rattle.hack_planner.specs.ContextMembers.{AreChosen, IsChoiceFault}
+use Rattle.hack_planner.specs.ContextMembers.{AreChosen, AreChoiceNotes, IsChoiceFault}
 use Rattle.hack_versions.specs.declared.version.Version.{Version}
 use Rattle.hack_versions.specs.declared.version.VersionFault.{VersionFault}
 use Rattle.hack_versions.specs.declared.rustup.RangeFault.{RangeFault}
@@ -14,7 +15,7 @@ use Rattle.hack_plan.specs.Inputs.{AreVersions, AreNotices, IsVersionsFault}
 use Rattle.hack_plan.specs.Spans.{versions_of}
 use Rattle.hack_plan.specs.declared.versions.PlanInput.{PlanInput}
 use Rattle.hack_plan.specs.declared.versions.Versions.{Versions}
-use Rattle.hack_planner.specs.Calls.{IsInputOf, ArePlanned, HasBadOwn, HasNoSample, call_of, left_out_notes}
+use Rattle.hack_planner.specs.Calls.{IsInputOf, HasPackageRuns, ArePlanned, HasBadOwn, HasNoSample, call_of, left_out_notes}
 use Rattle.hack_plan.specs.Plans.{AreLaid}
 use Rattle.hack_plan.specs.Prepared.{ArePrepared}
 use Rattle.hack_plan.specs.View.{PackageView, PlanView}
@@ -25,31 +26,36 @@ use Rattle.hack_planner.specs.declared.fault.PlanFault.TheVariants as fault
 abbrev pub run_counts : List PackageView → List ℕ
 run_counts packages = map (λ k. length k.runs) packages
 
--- the plan of a call with a subcommand, where `stable` is this version: exactly the admissible runs
--- of the chosen packages, in order, each version with its places and its preparations; and no cause
--- to refuse it holds
-pub record IsPlan (cx : ContextRecord) (rustup : Name) (latest : Option Version) (plan : PlanView) (notes : List Note) : Type 0 where
+-- the places of a plan are exactly the admissible runs of the chosen packages, in order, where `stable` is this version
+pub record HasJustRuns (cx : ContextRecord) (latest : Option Version) (plan : PlanView) : Type 0 where
   pub ids : List ℕ
-  pub single : Bool
   pub input : PlanInput
   pub versions : Versions
-  pub on_packages : List Note
-  pub on_features : List Note
-  pub on_range : List Note
-  pub chosen : AreChosen cx ids single on_packages
+  pub chosen : AreChosen cx ids
   pub of_call : IsInputOf cx ids input
   pub of_range : AreVersions input versions
   pub newest : versions.stable ≡ latest
-  pub ranged : AreNotices input.range input latest on_range
-  pub planned : ArePlanned cx single ids plan.packages on_features
-  pub call : plan.call ≡ call_of cx rustup
+  pub packages : AllZip (HasPackageRuns cx) ids plan.packages
   pub places : ArePlaces input (run_counts plan.packages) latest plan.entries
-  pub laid : AreLaid (versions_of input.range versions.groups.items) plan
+
+-- the plan of a call with a subcommand, where `stable` is this version: it has just these runs, each version with its places
+-- and its preparations, and what its commands say; and no cause to refuse it holds
+pub record IsPlan (cx : ContextRecord) (rustup : Name) (latest : Option Version) (plan : PlanView) (notes : List Note) : Type 0 where
+  pub base : HasJustRuns cx latest plan
+  pub single : Bool
+  pub on_packages : List Note
+  pub on_features : List Note
+  pub on_range : List Note
+  pub noted : AreChoiceNotes cx single on_packages
+  pub planned : ArePlanned cx single base.ids plan.packages on_features
+  pub ranged : AreNotices base.input.range base.input latest on_range
+  pub call : plan.call ≡ call_of cx rustup
+  pub laid : AreLaid (versions_of base.input.range base.versions.groups.items) plan
   pub prepared : ArePrepared cx.args.locked cx.args.clean_per_version plan.versions
-  pub told : notes ≡ on_packages ++ (on_features ++ (on_range ++ left_out_notes cx ids input versions.groups.items))
-  pub readable : (e : VersionFault) → ¬ HasBadOwn cx ids e
-  pub in_range : (e : RangeFault) → ¬ IsVersionsFault input.range input latest e
-  pub fits : ¬ HasTooMany input (run_counts plan.packages) latest
+  pub told : notes ≡ on_packages ++ (on_features ++ (on_range ++ left_out_notes cx base.ids base.input base.versions.groups.items))
+  pub readable : (e : VersionFault) → ¬ HasBadOwn cx base.ids e
+  pub in_range : (e : RangeFault) → ¬ IsVersionsFault base.input.range base.input latest e
+  pub fits : ¬ HasTooMany base.input (run_counts plan.packages) latest
 
 -- the plan without a version, for a call without a subcommand
 pub record IsEmptyPlan (cx : ContextRecord) (rustup : Name) (plan : PlanView) (notes : List Note) : Type 0 where
@@ -69,43 +75,40 @@ abbrev pub IsPlanOf : Option (String Global) → Result (Option Version) (String
 IsPlanOf None stable cx rustup plan notes = IsEmptyPlan cx rustup plan notes
 IsPlanOf (Some subcommand) stable cx rustup plan notes = IsPlanBy stable cx rustup plan notes
 
+-- the places of a call's plan, given the answer for `stable`: none without a subcommand
+abbrev pub HasRunsOf : Option (String Global) → Result (Option Version) (String Global) → ContextRecord → PlanView → Type 0
+HasRunsOf None stable cx plan = plan.entries ≡ []
+HasRunsOf (Some subcommand) (Ok latest) cx plan = HasJustRuns cx latest plan
+HasRunsOf (Some subcommand) (Err text) cx plan = ⊥
+
 -- the own version of one of the chosen packages can't be read
 pub record IsBadVersion (cx : ContextRecord) (e : VersionFault) : Type 0 where
   pub ids : List ℕ
-  pub single : Bool
-  pub notes : List Note
-  pub chosen : AreChosen cx ids single notes
+  pub chosen : AreChosen cx ids
   pub bad : HasBadOwn cx ids e
 
 -- the range is refused for the chosen packages
 pub record IsBadRange (cx : ContextRecord) (latest : Option Version) (e : RangeFault) : Type 0 where
   pub ids : List ℕ
-  pub single : Bool
-  pub notes : List Note
   pub input : PlanInput
-  pub chosen : AreChosen cx ids single notes
+  pub chosen : AreChosen cx ids
   pub of_call : IsInputOf cx ids input
   pub bad : IsVersionsFault input.range input latest e
 
 -- the chosen packages have more than 4294967295 runs in all
 pub record AreTooManyRuns (cx : ContextRecord) (latest : Option Version) : Type 0 where
   pub ids : List ℕ
-  pub single : Bool
-  pub notes : List Note
   pub input : PlanInput
   pub packages : List PackageView
-  pub on_features : List Note
-  pub chosen : AreChosen cx ids single notes
+  pub chosen : AreChosen cx ids
   pub of_call : IsInputOf cx ids input
-  pub planned : ArePlanned cx single ids packages on_features
+  pub each : AllZip (HasPackageRuns cx) ids packages
   pub many : HasTooMany input (run_counts packages) latest
 
 -- the sample of one of the chosen packages, of this name, needs too many questions
 pub record IsTooWide (cx : ContextRecord) (name : Name) : Type 0 where
   pub ids : List ℕ
-  pub single : Bool
-  pub notes : List Note
-  pub chosen : AreChosen cx ids single notes
+  pub chosen : AreChosen cx ids
   pub wide : HasNoSample cx ids name
 
 -- the causes to refuse a call with a subcommand, where `stable` is this version

@@ -106,7 +106,17 @@ pub record HasNoSampleAt (cx : ContextRecord) (id : ℕ) (name : Name) : Type 0 
 abbrev pub HasNoSample : ContextRecord → List ℕ → Name → Type 0
 HasNoSample cx ids name = (id : ℕ) × Contains ids id × HasNoSampleAt cx id name
 
--- a chosen package in the plan: its texts, the features of `--features` that it gets, and its runs
+-- a chosen package in the plan has its candidates and its runs
+pub record HasPackageRuns (cx : ContextRecord) (id : ℕ) (k : PackageView) : Type 0 where
+  pub pkg : PackageRecord
+  pub features : Features
+  pub known : package_at cx id ≡ Some pkg
+  pub loaded : features_at cx id ≡ Some features
+  pub candidates : (k.candidates ≡ candidates (wishes cx.args) (known_as pkg features)) ⊎ ((k.candidates ≡ []) × (k.runs ≡ Plain ∷ []))
+  pub runs : AreRuns (wishes cx.args) (known_as pkg features) k.runs
+
+-- what else the plan says of a chosen package: its texts, the features of `--features` that it gets, that its runs cover its
+-- sets under a powerset, and their settings; and the notices on its features
 pub record IsPlanned (cx : ContextRecord) (single : Bool) (id : ℕ) (k : PackageView) (notes : List Note) : Type 0 where
   pub pkg : PackageRecord
   pub features : Features
@@ -115,8 +125,6 @@ pub record IsPlanned (cx : ContextRecord) (single : Bool) (id : ℕ) (k : Packag
   pub name : k.name ≡ pkg.name
   pub path : k.manifest_path ≡ given_path cx.args.no_manifest_path cx.current_dir (Some pkg)
   pub given : k.features ≡ passed_for cx (Some id)
-  pub candidates : (k.candidates ≡ candidates (wishes cx.args) (known_as pkg features)) ⊎ ((k.candidates ≡ []) × (k.runs ≡ Plain ∷ []))
-  pub runs : AreRuns (wishes cx.args) (known_as pkg features) k.runs
   pub covered : cx.args.feature_powerset ≡ true → cx.args.strength ≡ None → AreCovering (wishes cx.args) (known_as pkg features) k.runs
   pub settings : AreRunSettings cx.args.strength (package_choice (wishes cx.args) (known_as pkg features)) k.runs k.settings
   pub told : notes ≡ candidate_notes single (wishes cx.args) (known_as pkg features)

@@ -7,7 +7,7 @@ use Rattle.hack_features.specs.FeatureMap.{FeatureMap}
 use Rattle.hack_base.specs.Notes.{Note}
 use Rattle.hack_rules.specs.CliLists.{Lift, same_names}
 use Rattle.hack_planner.specs.Texts.{feature_text, dependency_text, group_text}
-use Rattle.hack_planner.specs.Members.{warning_note, info_note}
+use Rattle.hack_planner.specs.MemberNotes.{warning_note, info_note}
 
 -- the names of a feature: its own, or those of a group
 abbrev pub Names : Type 0

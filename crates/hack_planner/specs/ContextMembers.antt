@@ -9,6 +9,7 @@ use Rattle.hack_metadata.specs.Records.{PackageRecord}
 use Rattle.hack_base.specs.Notes.{Note}
 use Rattle.hack_planner.specs.declared.fault.PackagesFault.{PackagesFault}
 use Rattle.hack_planner.specs.Members.{Member, IsPackageList}
+use Rattle.hack_planner.specs.MemberNotes.{AreListNotes}
 use Rattle.hack_planner.specs.MembersView.{choosing_of}
 use Rattle.hack_planner.specs.PackagesView.{IsListFault}
 use Rattle.hack_planner.specs.Candidates.{Known}
@@ -29,9 +30,13 @@ package_name_at cx id = option_map (λ p. p.name) (package_at cx id)
 abbrev pub current_name : ContextRecord → Option Name
 current_name cx = option_and_then (package_name_at cx) cx.current_package
 
--- the packages that the call runs on, and the notices about them
-abbrev pub AreChosen : ContextRecord → List ℕ → Bool → List Note → Type 0
-AreChosen cx places is_single notes = IsPackageList (choosing_of cx.args (current_name cx)) cx.metadata.workspace_root (members_in cx) places is_single notes
+-- the packages that the call runs on
+abbrev pub AreChosen : ContextRecord → List ℕ → Type 0
+AreChosen cx places = IsPackageList (choosing_of cx.args (current_name cx)) (members_in cx) places
+
+-- whether exactly one is left after exclusions, and the notices about them
+abbrev pub AreChoiceNotes : ContextRecord → Bool → List Note → Type 0
+AreChoiceNotes cx is_single notes = AreListNotes (choosing_of cx.args (current_name cx)) cx.metadata.workspace_root (members_in cx) is_single notes
 
 -- why these packages aren't known
 abbrev pub IsChoiceFault : ContextRecord → PackagesFault → Type 0

@@ -1,5 +1,5 @@
 -- The sets of features that a plan covers.
-use Rattle.std.specs.Prelude.{ℕ, ◌≡◌, ◌<◌, List, Bool, Option, Some, length, Contains, IsSomeAnd, slice_get}
+use Rattle.std.specs.Prelude.{ℕ, ◌≡◌, ◌<◌, List, Option, Some, length, Contains, IsSomeAnd, slice_get}
 use Rattle.hack_features.specs.Rules.{Choice, IsWanted, Covers}
 use Rattle.hack_features.specs.Sets.{IsSelection}
 use Rattle.hack_load.specs.Contexts.{ContextRecord, package_at, features_at}
@@ -14,7 +14,6 @@ use Rattle.hack_plan.specs.Inputs.{IsStepList, UsesVersion, slots_of}
 use Rattle.hack_plan.specs.declared.versions.PlanInput.{PlanInput}
 use Rattle.hack_plan.specs.View.{PlanView}
 use Rattle.hack_versions.specs.declared.version.Version.{Version}
-use Rattle.hack_base.specs.Notes.{Note}
 use Rattle.hack_planner.specs.Calls.{IsInputOf}
 
 -- the input from which the sets of a package are chosen
@@ -33,11 +32,9 @@ pub record HoldsCover (plan : PlanView) (version : Option Version) (slot place :
 -- version and each set of its candidates that has to be covered
 pub record AreCovered (cx : ContextRecord) (latest : Option Version) (plan : PlanView) : Type 0 where
   pub ids : List ℕ
-  pub single : Bool
-  pub notes : List Note
   pub input : PlanInput
   pub steps : List Version
-  pub chosen : AreChosen cx ids single notes
+  pub chosen : AreChosen cx ids
   pub of_call : IsInputOf cx ids input
   pub on_steps : IsStepList input.range input latest steps
   pub covered : (place id : ℕ) (p : PackageRecord) (features : Features) (version : Option Version) (slot : ℕ) (s : List ℕ)

@@ -1,5 +1,6 @@
 pub mod Texts
 pub mod Members
+pub mod MemberNotes
 pub mod MembersView
 pub mod InternalListingView
 pub mod PackagesView

@@ -5,9 +5,6 @@ use Rattle.std.specs.Str.{bytes_eq}
 use Rattle.hack_base.specs.Names.{Name}
 use Rattle.hack_metadata.specs.Records.{PackageRecord}
 use Rattle.hack_metadata.specs.PackageSpecs.{Identity, Matches}
-use Rattle.hack_base.specs.Notes.{Note}
-use Rattle.hack_base.specs.declared.notice.NoticeKind.TheVariants.{Info, Warn}
-use Rattle.hack_planner.specs.Texts.{exclusion_text, lift_text, private_text}
 
 -- a member of a workspace: its place in the metadata, its record, and whether it is private
 pub record Member : Type 0 where
@@ -98,26 +95,14 @@ IsAbout false c members asked = asked ≡ members_without_names c.everyone c.cur
 abbrev pub is_skipped : Choosing → Member → Bool
 is_skipped c m = c.ignore_private && m.is_private
 
--- notices: a warning, and an information
-abbrev pub warning_note : List ℕ → Note
-warning_note text = record { kind = Warn; text = text }
-
-abbrev pub info_note : List ℕ → Note
-info_note text = record { kind = Info; text = text }
-
--- the packages that a call runs on, by their places: those that it is about, without the excluded,
--- and without private ones if these are ignored; whether exactly one is left after exclusions,
--- where private ones that are skipped count too; and the notices: about exclusions that match no
--- member, package names of `--allow-together` that no member has, and private packages skipped
-pub record IsPackageList (c : Choosing) (root : Name) (members : List Member) (places : List ℕ) (is_single : Bool) (notes : List Note) : Type 0 where
+-- the members that a call is about, without the excluded
+pub record AreRemaining (c : Choosing) (members remaining : List Member) : Type 0 where
   pub about : List Member
-  pub remaining : List Member
-  pub on_exclusions : List Note
   pub is_about : IsAbout (names_some c) c members about
   pub remain : SelectsMembers (λ m. ¬ IsMatched c.excluded m) about remaining
-  pub single : is_single ≡ (length remaining == 1)
+
+-- the packages that a call runs on, by their places: those that remain, without private ones if these are ignored
+pub record IsPackageList (c : Choosing) (members : List Member) (places : List ℕ) : Type 0 where
+  pub remaining : List Member
+  pub left : AreRemaining c members remaining
   pub chosen : places ≡ map (λ m. m.place) (filter (λ m. not (is_skipped c m)) remaining)
-  pub unmatched : Collects (λ spec. ¬ MatchesSome members spec) (λ spec. warning_note (exclusion_text root spec)) c.excluded on_exclusions
-  pub told : notes ≡ on_exclusions
-      ++ (map (λ owner. warning_note (lift_text root owner)) (filter (λ owner. not (is_called members owner)) c.lifted_for)
-      ++ map (λ m. info_note (private_text c.verbose m.pkg)) (filter (is_skipped c) remaining))

@@ -1,5 +1,5 @@
 -- The samples of a plan's packages, and the patterns that a plan shows.
-use Rattle.std.specs.Prelude.{ℕ, ◌≡◌, ◌≢◌, ◌<◌, ◌≤◌, List, Bool, Option, Some, length, Contains, IsSomeAnd, slice_get}
+use Rattle.std.specs.Prelude.{ℕ, ◌≡◌, ◌≢◌, ◌<◌, ◌≤◌, List, Option, Some, length, Contains, IsSomeAnd, slice_get}
 use Rattle.hack_features.specs.Rules.{Choice, IsListed}
 use Rattle.hack_features.specs.Samples.{CoversPatterns, SetShows}
 use Rattle.hack_features.specs.Sets.{IsSelection, Pairwise}
@@ -13,10 +13,9 @@ use Rattle.hack_plan.specs.Inputs.{IsStepList, UsesVersion, slots_of}
 use Rattle.hack_plan.specs.declared.versions.PlanInput.{PlanInput}
 use Rattle.hack_plan.specs.View.{PlanView}
 use Rattle.hack_versions.specs.declared.version.Version.{Version}
-use Rattle.hack_base.specs.Notes.{Note}
 use Rattle.hack_planner.specs.Calls.{IsInputOf}
 use Rattle.hack_planner.specs.CoveredSets.{choice_at}
-use Rattle.hack_planner.specs.Powersets.{run_sets_of}
+use Rattle.hack_planner.specs.Powersets.{HoldsOfEach, run_sets_of}
 
 -- the sets of the runs are listed ones, each once, and show each pattern of at most so many candidates that some listed set
 -- shows
@@ -25,15 +24,9 @@ pub record IsSampleOf (choice : Choice) (strength : ℕ) (runs : List PackageRun
   pub once : Pairwise (λ s t. s ≢ t) (run_sets_of runs)
   pub covers : CoversPatterns choice (length choice.candidates) strength (run_sets_of runs)
 
--- the plan has exactly the chosen packages, and the sets of each package's runs are a sample
-pub record HaveSamples (cx : ContextRecord) (strength : ℕ) (plan : PlanView) : Type 0 where
-  pub ids : List ℕ
-  pub single : Bool
-  pub notes : List Note
-  pub chosen : AreChosen cx ids single notes
-  pub as_many : length ids ≡ length plan.packages
-  pub each : (place id : ℕ) (p : PackageRecord) (features : Features) → slice_get ids place ≡ Some id → package_at cx id ≡ Some p → features_at cx id ≡ Some features
-      → IsSomeAnd (slice_get plan.packages place) (λ k. IsSampleOf (choice_at cx p features) strength k.runs)
+-- the sets of each package's runs are a sample
+abbrev pub HaveSamples : ContextRecord → ℕ → PlanView → Type 0
+HaveSamples cx strength plan = HoldsOfEach cx plan (λ choice runs. IsSampleOf choice strength runs)
 
 -- the plan holds a place of the version, slot and package, whose run has a set that shows the pattern
 pub record HoldsPattern (plan : PlanView) (version : Option Version) (slot place : ℕ) (choice : Choice) (pattern : List Setting) : Type 0 where
@@ -47,11 +40,9 @@ pub record HoldsPattern (plan : PlanView) (version : Option Version) (slot place
 -- at most so many candidates that some listed set shows
 pub record ArePatternsHeld (cx : ContextRecord) (strength : ℕ) (latest : Option Version) (plan : PlanView) : Type 0 where
   pub ids : List ℕ
-  pub single : Bool
-  pub notes : List Note
   pub input : PlanInput
   pub steps : List Version
-  pub chosen : AreChosen cx ids single notes
+  pub chosen : AreChosen cx ids
   pub of_call : IsInputOf cx ids input
   pub on_steps : IsStepList input.range input latest steps
   pub held : (place id : ℕ) (p : PackageRecord) (features : Features) (version : Option Version) (slot : ℕ) (pattern : List Setting) (s : List ℕ)

@@ -3,7 +3,7 @@ use Rattle.std.specs.Prelude.{filter}
 use Rattle.hack_base.specs.Notes.{note_of}
 use Rattle.hack_base.specs.Names.{names_of}
 use Rattle.hack_planner.specs.Texts.{dependency_text}
-use Rattle.hack_planner.specs.Members.{warning_note}
+use Rattle.hack_planner.specs.MemberNotes.{warning_note}
 use Rattle.hack_planner.specs.Candidates.{one_has}
 use Rattle.hack_planner.specs.CandidatesView.{known_of_package}
 use Rattle.hack_planner.proofs.candidates.dependency_notes.Given as goal

@@ -6,7 +6,8 @@ use Rattle.hack_base.specs.Names.{Name, names_of}
 use Rattle.hack_features.specs.declared.feature.Feature.{Feature}
 use Rattle.hack_base.specs.Notes.{note_of}
 use Rattle.hack_planner.specs.Texts.{exclusion_text, lift_text, private_text}
-use Rattle.hack_planner.specs.Members.{Choosing, SelectsMembers, Collects, IsMatched, MatchesSome, is_called, is_skipped, warning_note, info_note}
+use Rattle.hack_planner.specs.Members.{Choosing, SelectsMembers, Collects, IsMatched, MatchesSome, is_called, is_skipped}
+use Rattle.hack_planner.specs.MemberNotes.{warning_note, info_note}
 use Rattle.hack_planner.specs.Members as plain
 use Rattle.hack_planner.specs.MembersView.{member_view, choosing_of}
 use Rattle.hack_planner.proofs.PackageLemmas.{three-lists}

@@ -1,0 +1,27 @@
+-- What a call is told about the packages that it runs on.
+use Rattle.std.specs.Prelude.{◌≡◌, ◌==◌, ◌++◌, ℕ, List, Bool, not, map, filter, length}
+use Rattle.hack_base.specs.Names.{Name}
+use Rattle.hack_base.specs.Notes.{Note}
+use Rattle.hack_base.specs.declared.notice.NoticeKind.TheVariants.{Info, Warn}
+use Rattle.hack_planner.specs.Members.{Member, Choosing, AreRemaining, Collects, MatchesSome, is_called, is_skipped}
+use Rattle.hack_planner.specs.Texts.{exclusion_text, lift_text, private_text}
+
+-- notices: a warning, and an information
+abbrev pub warning_note : List ℕ → Note
+warning_note text = record { kind = Warn; text = text }
+
+abbrev pub info_note : List ℕ → Note
+info_note text = record { kind = Info; text = text }
+
+-- whether exactly one package is left after exclusions, where private ones that are skipped count
+-- too; and the notices: about exclusions that match no member, package names of
+-- `--allow-together` that no member has, and private packages that are skipped
+pub record AreListNotes (c : Choosing) (root : Name) (members : List Member) (is_single : Bool) (notes : List Note) : Type 0 where
+  pub remaining : List Member
+  pub on_exclusions : List Note
+  pub left : AreRemaining c members remaining
+  pub single : is_single ≡ (length remaining == 1)
+  pub unmatched : Collects (λ spec. ¬ MatchesSome members spec) (λ spec. warning_note (exclusion_text root spec)) c.excluded on_exclusions
+  pub told : notes ≡ on_exclusions
+      ++ (map (λ owner. warning_note (lift_text root owner)) (filter (λ owner. not (is_called members owner)) c.lifted_for)
+      ++ map (λ m. info_note (private_text c.verbose m.pkg)) (filter (is_skipped c) remaining))
