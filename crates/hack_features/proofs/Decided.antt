@@ -15,11 +15,12 @@ use Rattle.hack_features.proofs.ReachLemmas.{all_targets, adds-one, adds-there, 
 use Rattle.hack_base.specs.Names.{Name}
 use Rattle.hack_features.specs.FeatureMap.{FeatureMap, values_at, IsKey, Chain, Enables, EnablesOneOf}
 use Rattle.hack_features.specs.Search.{edge_of}
-use Rattle.hack_features.specs.Internal.{target_of, IsTarget, Adds, IsReach, leads}
+use Rattle.hack_features.specs.InternalSearch.{target_of, IsTarget, Adds, IsReach}
 use Rattle.hack_features.specs.Places.{name_at, AreAt, AreAllAt, AreRoutes, ArePlaced}
 use Rattle.hack_features.specs.Sets.{Pairwise}
 use Rattle.hack_features.specs.Rules.{Choice, names_at, names_in, SparesNames, NotBothReach, Serves}
 use Rattle.hack_features.specs.Tables.{AreTables, is_exclusive, is_required, cell, bit}
+use Rattle.hack_features.specs.InternalTables.{leads}
 use Rattle.hack_features.specs.declared.reach.Edges.{Edges}
 use Rattle.hack_features.specs.declared.reach.Edges.TheVariants.{Enabling}
 

@@ -19,7 +19,7 @@ use Rattle.hack_features.proofs.NameSetLemmas.{has-more, has_just-nil}
 use Rattle.hack_base.specs.Names.{Name, names_of}
 use Rattle.hack_features.specs.FeatureMap.{FeatureMap, IsKey, Enables, here}
 use Rattle.hack_features.specs.Deps.{NameSet, has_name, get_at, IsDepsOf, AreDepsOf, AreServers, ServeGroups, dropped, kept}
-use Rattle.hack_features.specs.Internal.{IsServedBy}
+use Rattle.hack_features.specs.InternalDeps.{IsServedBy}
 use Rattle.hack_features.specs.Feature.{group_of, groups_of}
 use Rattle.hack_features.specs.declared.feature.Feature.{Feature}
 

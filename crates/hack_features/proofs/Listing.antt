@@ -10,7 +10,7 @@ use Rattle.std.proofs.lemmas.List.Quantifiers.{all_pairs_push}
 use Rattle.std.specs.Prelude.{Vec}
 use Rattle.hack_base.proofs.Members.{last_of, Contains-head, Contains-nil, Contains-cons_cases, Contains-map, Contains-map_from, Contains-filter, Contains-filter_from}
 use Rattle.hack_features.specs.Sets.{IsSelection, IsBefore, Pairwise, IsListing, IsWithin, items_at}
-use Rattle.hack_features.specs.Internal.{has_room, with_each}
+use Rattle.hack_features.specs.InternalSets.{has_room, with_each}
 use Rattle.hack_samples.specs.Sets.{rows_of}
 
 -- the sets of positions below n, by the greatest

@@ -11,7 +11,7 @@ use Rattle.hack_features.proofs.ReachLemmas.{Chain-snoc, Chain-kept}
 use Rattle.hack_features.specs.FeatureMap.{Chain, here, step}
 use Rattle.hack_samples.specs.Sets.{rows_of}
 use Rattle.hack_features.specs.Tables.{bit}
-use Rattle.hack_features.specs.Internal.{Leads, AddsPlaces, AreMarked, ones}
+use Rattle.hack_features.specs.InternalPlaces.{Leads, AddsPlaces, AreMarked, ones}
 
 -- ---- marks
 

@@ -11,7 +11,7 @@ use Rattle.std.proofs.lemmas.Map.Text.{is_eq-slice_cmp}
 use Rattle.hack_base.proofs.NameLemmas.{same_text}
 use Rattle.hack_base.specs.Names.{Name}
 use Rattle.hack_features.specs.Deps.{NameSet, has_name}
-use Rattle.hack_features.specs.Internal.{HasJust}
+use Rattle.hack_features.specs.InternalSearch.{HasJust}
 
 has-more-step : (x y : Name) (b old new : Bool) → bytes_eq x y ≡ b → new ≡ cond b true old → IsTrue new ↔ (IsTrue old ⊎ (x ≡ y))
 has-more-step x y true old new t e = (λ k. inr (same_text x y t), λ k. e)

@@ -4,7 +4,7 @@ use Rattle.std.proofs.lemmas.List.{map-append}
 use Rattle.std.proofs.lemmas.List.Elements.{All-head, All-tail, All-push, All-weaker, filter-append}
 use Rattle.std.proofs.Math.ListN.{get_or-append}
 use Rattle.std.proofs.Math.Seq.{get_or-append_seam}
-use Rattle.hack_features.specs.Internal.{with_next, AreOpen}
+use Rattle.hack_features.specs.InternalQuestions.{with_next, AreOpen}
 use Rattle.hack_features.specs.Sets.{IsWithin}
 use Rattle.hack_base.proofs.Steps.{seen-next}
 

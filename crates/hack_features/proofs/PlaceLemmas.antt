@@ -13,12 +13,13 @@ use Rattle.std.proofs.lemmas.List.Elements.{All-append, All-cons, All-nil, All-w
 use Rattle.std.proofs.lemmas.Map.Keys.{IsDistinct-push}
 use Rattle.hack_base.proofs.Members.{lt_or_same}
 use Rattle.hack_base.proofs.Steps.{filter_map-found, filter_map-missed}
-use Rattle.hack_features.specs.Internal.{target_of, HasPlaces, targets_of, IsMore}
+use Rattle.hack_features.specs.InternalSearch.{target_of}
 use Rattle.hack_features.specs.declared.reach.Edges.{Edges}
 use Rattle.hack_base.proofs.NameLemmas.{none_from, same_text, differ}
 use Rattle.hack_base.specs.Names.{Name}
 use Rattle.hack_features.specs.Deps.{get_at}
 use Rattle.hack_features.specs.Places.{name_at, AreAt, AreAllAt}
+use Rattle.hack_features.specs.InternalPlaces.{HasPlaces, targets_of, IsMore}
 
 pub places-none : (places : BTreeMap (Bor Name) ℕ) → places.entries ≡ [] → HasPlaces [] places
 places-none places e = record {

@@ -17,7 +17,7 @@ use Rattle.hack_base.proofs.NameLemmas.{none_from, length-le_from_distinct}
 use Rattle.hack_base.specs.Names.{Name, names_of}
 use Rattle.hack_features.specs.FeatureMap.{FeatureMap, feature_map, values_at, IsDependency, Chain, here, step}
 use Rattle.hack_features.specs.Search.{edge_of}
-use Rattle.hack_features.specs.Internal.{target_of, IsTarget, Adds, IsReach}
+use Rattle.hack_features.specs.InternalSearch.{target_of, IsTarget, Adds, IsReach}
 use Rattle.hack_features.specs.declared.reach.Edges.{Edges}
 use Rattle.hack_features.specs.declared.reach.Edges.TheVariants.{Enabling, Reaching}
 

@@ -26,7 +26,7 @@ use Rattle.hack_features.specs.Places.{name_at, AreAt}
 use Rattle.hack_features.specs.RoutesView.{routed_names}
 use Rattle.hack_features.specs.View.{choice_of, size_of, may_of, whole_of}
 use Rattle.hack_features.specs.Samples.{positions_of, IsOn, SetShows, CoversPatterns, IsSample}
-use Rattle.hack_features.specs.Internal.{one_leads, providers_of, all_providers}
+use Rattle.hack_features.specs.InternalSamples.{one_leads, providers_of, all_providers}
 use Rattle.hack_features.proofs.FrontLemmas.{all-same}
 use Rattle.hack_features.proofs.CandidateLemmas.{length-candidates_of}
 use Rattle.hack_features.proofs.Listing.{selection_none, selection_push, selection_up}

@@ -14,10 +14,12 @@ use Rattle.hack_features.specs.declared.reach.Edges.TheVariants.{Enabling}
 use Rattle.hack_features.specs.FeatureMap.{IsKey, Enables}
 use Rattle.hack_features.specs.Places.{name_at, AreAt, AreAllAt, ArePlaced}
 use Rattle.hack_features.specs.Rules.{Choice, names_at, names_in, IsEnabledBy}
-use Rattle.hack_features.specs.Internal.{one_leads, leads, leads_to_each, AreKeyPlaces}
+use Rattle.hack_features.specs.InternalSamples.{one_leads}
 use Rattle.hack_features.specs.Tables.{bit}
+use Rattle.hack_features.specs.InternalTables.{leads}
 use Rattle.hack_features.specs.Settings.{IsEnabledByKey, SaysOfEach, AreSettings, AreSettingsOfAll, IsOfCandidates}
 use Rattle.hack_samples.specs.Samples.{RowShows}
+use Rattle.hack_features.specs.InternalSettings.{leads_to_each, AreKeyPlaces}
 use Rattle.hack_features.specs.View.{choice_of}
 use Rattle.hack_samples.specs.Sets.{rows_of}
 use Rattle.hack_features.specs.RoutesView.{routed_names as names_by_place}

@@ -6,8 +6,9 @@ use Rattle.std.proofs.lemmas.List.Elements.{filter-append, filter_agree}
 use Rattle.std.specs.List.{remove}
 use Rattle.std.specs.Prelude.{if◌then◌else◌}
 use Rattle.hack_features.specs.Sets.{IsListing}
-use Rattle.hack_features.specs.Internal.{with_next, IsClosed}
+use Rattle.hack_features.specs.InternalQuestions.{with_next}
 use Rattle.hack_features.specs.Walk.{below}
+use Rattle.hack_features.specs.InternalWalk.{IsClosed}
 use Rattle.hack_features.proofs.Permitted.{Passes, permitted_below, permitted_listing}
 
 filter-map : (f : List ℕ → List ℕ) (test : List ℕ → Bool) (xs : List (List ℕ)) → filter test (map f xs) ≡ map f (filter (λ x. test (f x)) xs)

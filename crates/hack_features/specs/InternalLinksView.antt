@@ -3,7 +3,7 @@ use Rattle.std.specs.Prelude.{◌≡◌, ◌≤◌, List, length}
 use Rattle.hack_base.specs.Names.{Name}
 use Rattle.hack_features.specs.FeatureMap.{FeatureMap}
 use Rattle.hack_samples.specs.Sets.{rows_of}
-use Rattle.hack_features.specs.Internal.{HasPlaces, AreRows}
+use Rattle.hack_features.specs.InternalPlaces.{HasPlaces, AreRows}
 use Rattle.hack_features.specs.InternalNamesView.{table}
 use Rattle.hack_features.specs.declared.links.Links.{Links}
 use Rattle.hack_features.specs.declared.reach.Edges.{Edges}

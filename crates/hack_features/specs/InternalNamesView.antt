@@ -1,7 +1,7 @@
 -- What a table of names shows.
 use Rattle.std.specs.Prelude.{List}
 use Rattle.hack_base.specs.Names.{Name, names_behind}
-use Rattle.hack_features.specs.Internal.{HasPlaces}
+use Rattle.hack_features.specs.InternalPlaces.{HasPlaces}
 use Rattle.hack_features.specs.declared.names.Names.{Names}
 
 -- the names of a table, by place

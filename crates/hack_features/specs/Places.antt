@@ -7,7 +7,6 @@ use Rattle.hack_base.specs.Names.{Name}
 use Rattle.hack_features.specs.FeatureMap.{FeatureMap, IsKey, Chain}
 use Rattle.hack_features.specs.Search.{edge_of}
 use Rattle.hack_features.specs.Tables.{bit}
-pub use Rattle.hack_features.specs.Internal.{leads}
 use Rattle.hack_features.specs.declared.reach.Edges.{Edges}
 
 -- the name at a place

@@ -3,12 +3,12 @@
 ghost use Rattle.std.specs.Prelude.{◌<◌, ◌↔◌, length, IsTrue, IfOk};
 ghost use Rattle.hack_features.specs.FeatureMap.{FeatureMap, feature_map};
 ghost use Rattle.hack_features.specs.Deps.{AreDepsOf, AreServers, IsDepsOf};
-ghost use Rattle.hack_features.specs.Internal.{IsServedBy};
+ghost use Rattle.hack_features.specs.InternalDeps.{IsServedBy};
 ghost use Rattle.hack_features.specs.Deps.{ServeGroups};
 ghost use Rattle.hack_features.specs.Feature.{group_of, groups_of};
 ghost use Rattle.hack_features.specs.Places.{name_at};
 ghost use Rattle.hack_features.specs.RoutesView.{routed_names};
-ghost use Rattle.hack_features.specs.Internal.{AreRoutesOf};
+ghost use Rattle.hack_features.specs.InternalRoutesView.{AreRoutesOf};
 ghost use Rattle.hack_features.specs.declared.reach.Edges.TheVariants.{Enabling};
 
 use crate::feature::Feature;

@@ -23,7 +23,7 @@ pub(crate) struct Links<'a> {
 impl<'a> Links<'a> {
     ghost use Rattle.hack_features.specs.InternalNamesView.{table, IsInStep};
     ghost use Rattle.hack_features.specs.InternalLinksView.{table_of, AreLinks, IsLinking};
-    ghost use Rattle.hack_features.specs.Internal.{IsGrown};
+    ghost use Rattle.hack_features.specs.InternalPlaces.{IsGrown};
 
     /// Makes the row of the next name. Names that its values lead to are added to the table.
     fn add_row(

@@ -6,8 +6,8 @@ ghost use Rattle.std.specs.List.{slice_index_or};
 ghost use Rattle.hack_features.specs.FeatureMap.{Chain};
 ghost use Rattle.hack_samples.specs.Sets.{rows_of};
 ghost use Rattle.hack_features.specs.Tables.{bit};
-ghost use Rattle.hack_features.specs.Places.{leads};
-ghost use Rattle.hack_features.specs.Internal.{Leads, AddsPlaces, AreMarked};
+ghost use Rattle.hack_features.specs.InternalPlaces.{Leads, AddsPlaces, AreMarked};
+ghost use Rattle.hack_features.specs.InternalTables.{leads};
 
 use std::alloc::{AllocError, Global};
 

@@ -4,9 +4,9 @@
 ghost use Rattle.std.specs.Prelude.{◌≡◌, ◌<◌, length, IfOk, OnOk, MatchOption, Contains};
 ghost use Rattle.hack_base.specs.Names.{Name, names_of};
 ghost use Rattle.hack_features.specs.FeatureMap.{feature_map, values_at, IsKey};
-ghost use Rattle.hack_features.specs.Internal.{Adds, IsTarget};
+ghost use Rattle.hack_features.specs.InternalSearch.{Adds, IsTarget};
 ghost use Rattle.hack_features.specs.Places.{name_at, AreAt};
-ghost use Rattle.hack_features.specs.Internal.{targets_of, IsMore};
+ghost use Rattle.hack_features.specs.InternalPlaces.{targets_of, IsMore};
 
 use crate::reach::Edges;
 use std::alloc::{AllocError, Global};

@@ -5,7 +5,7 @@ ghost use Rattle.hack_features.specs.FeatureMap.{feature_map};
 ghost use Rattle.hack_features.specs.Feature.{groups_of, candidates_of};
 ghost use Rattle.hack_samples.specs.Sets.{rows_of};
 ghost use Rattle.hack_features.specs.Places.{AreAllAt};
-ghost use Rattle.hack_features.specs.Internal.{IsMore};
+ghost use Rattle.hack_features.specs.InternalPlaces.{IsMore};
 ghost use Rattle.hack_features.specs.InternalNamesView.{table, IsInStep};
 
 use crate::feature::Feature;

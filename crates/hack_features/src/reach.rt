@@ -5,7 +5,7 @@ ghost use Rattle.std.specs.Option.{option_map};
 ghost use Rattle.hack_base.specs.Names.{names_of, names_behind};
 ghost use Rattle.hack_features.specs.FeatureMap.{feature_map};
 ghost use Rattle.hack_features.specs.Search.{edge_of};
-ghost use Rattle.hack_features.specs.Internal.{IsReach};
+ghost use Rattle.hack_features.specs.InternalSearch.{IsReach};
 
 use std::alloc::{AllocError, Global};
 use std::collections::{BTreeMap, BTreeSet};
@@ -20,7 +20,7 @@ pub(crate) enum Edges {
 }
 
 impl Edges {
-    ghost use Rattle.hack_features.specs.Internal.{target_of};
+    ghost use Rattle.hack_features.specs.InternalSearch.{target_of};
 
     /// The name that a value leads to.
     pub(crate) fn target(self, value: &str) -> Option<&str>
@@ -45,7 +45,7 @@ struct Found<'a> {
 }
 
 impl<'a> Found<'a> {
-    ghost use Rattle.hack_features.specs.Internal.{Adds, IsSeenInStep, IsTarget, names_found};
+    ghost use Rattle.hack_features.specs.InternalSearch.{Adds, IsSeenInStep, IsTarget, names_found};
 
     /// Adds a name unless it was found before.
     fn add(&mut self, name: &'a str) -> Result<(), AllocError>

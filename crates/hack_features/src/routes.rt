@@ -8,7 +8,7 @@ ghost use Rattle.hack_base.specs.Names.{Name};
 ghost use Rattle.hack_features.specs.FeatureMap.{FeatureMap, feature_map};
 ghost use Rattle.hack_samples.specs.Sets.{rows_of};
 ghost use Rattle.hack_features.specs.Tables.{bit, cell};
-ghost use Rattle.hack_features.specs.Places.{leads};
+ghost use Rattle.hack_features.specs.InternalTables.{leads};
 
 use crate::links::Links;
 use crate::marks::all_marks;
@@ -42,7 +42,7 @@ impl<'a> Routes<'a> {
     ghost use Rattle.hack_features.specs.FeatureMap.{IsKey};
     ghost use Rattle.hack_features.specs.InternalNamesView.{table, IsInStep};
     ghost use Rattle.hack_features.specs.RoutesView.{routed_names};
-    ghost use Rattle.hack_features.specs.Internal.{AreRoutesOf};
+    ghost use Rattle.hack_features.specs.InternalRoutesView.{AreRoutesOf};
 
     /// What names lead to: the names of the table, which has to have the keys of the map, and all
     /// names that chains of edges lead to from them.

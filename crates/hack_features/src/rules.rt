@@ -7,7 +7,7 @@ ghost use Rattle.hack_samples.specs.Sets.{rows_of};
 ghost use Rattle.hack_features.specs.Rules.{Choice, IsPermitted, IsRequired};
 ghost use Rattle.hack_features.specs.Rules.{IsFirstCover, IsWanted};
 ghost use Rattle.hack_features.specs.Tables.{keeps_depth as depth_test};
-ghost use Rattle.hack_features.specs.Internal.{wanted_test};
+ghost use Rattle.hack_features.specs.InternalTables.{wanted_test};
 ghost use Rattle.hack_features.specs.Tables.{AreTables};
 ghost use Rattle.hack_features.specs.ChoiceView.{choice, choice_in};
 ghost use Rattle.hack_features.specs.PlacedView.{IsPlaced};
@@ -41,7 +41,7 @@ pub struct Rules<'a> {
 impl<'a> Rules<'a> {
     ghost use Rattle.std.specs.Prelude.{◌↔◌, ◌++◌, ◌∷◌, min};
     ghost use Rattle.hack_features.specs.Sets.{IsWithin};
-    ghost use Rattle.hack_features.specs.Internal.{AreLimits, IsFree};
+    ghost use Rattle.hack_features.specs.InternalQuestions.{AreLimits, IsFree};
     ghost use Rattle.hack_features.specs.View.{choice_of, size_of, questions_asked, may_of};
     ghost use Rattle.hack_features.specs.View.{whole_of};
     ghost use Rattle.hack_features.specs.Samples.{positions_of};

@@ -6,8 +6,8 @@ ghost use Rattle.hack_samples.specs.Sets.{rows_of as rows_in, tables_of};
 ghost use Rattle.hack_samples.specs.Sets.{rows_of};
 ghost use Rattle.hack_features.specs.Forest.{sets_in};
 ghost use Rattle.hack_features.specs.Samples.{positions_of};
-ghost use Rattle.hack_features.specs.Internal.{one_leads, providers_of};
-ghost use Rattle.hack_features.specs.Internal.{all_providers};
+ghost use Rattle.hack_features.specs.InternalSamples.{one_leads, providers_of};
+ghost use Rattle.hack_features.specs.InternalSamples.{all_providers};
 
 use crate::forest::{FeatureSets, Forest};
 use crate::members::members_of;

@@ -3,9 +3,9 @@
 ghost use Rattle.std.specs.Prelude.{◌≡◌, IfOk, List, ℕ, ◌<◌, AllPairs};
 ghost use Rattle.std.specs.Ordering.{MatchOrdering};
 ghost use Rattle.hack_features.specs.Sets.{IsBefore, ListsSelections, IsWithin};
-ghost use Rattle.hack_features.specs.Internal.{has_room};
+ghost use Rattle.hack_features.specs.InternalSets.{has_room};
 ghost use Rattle.hack_samples.specs.Sets.{rows_of};
-ghost use Rattle.hack_features.specs.Internal.{with_each};
+ghost use Rattle.hack_features.specs.InternalSets.{with_each};
 
 use std::alloc::{AllocError, Global};
 use std::cmp::Ordering;

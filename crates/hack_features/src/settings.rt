@@ -4,7 +4,7 @@
 ghost use Rattle.std.specs.Prelude.{◌≡◌, ◌∷◌, [], map, flat_map, length, IfOk};
 ghost use Rattle.std.specs.List.{slice_index_or};
 ghost use Rattle.hack_samples.specs.Sets.{rows_of};
-ghost use Rattle.hack_features.specs.Internal.{leads_to_each, AreKeyPlaces};
+ghost use Rattle.hack_features.specs.InternalSettings.{leads_to_each, AreKeyPlaces};
 
 use crate::marks::row_at;
 use crate::placed::Placed;

@@ -9,12 +9,12 @@ ghost use Rattle.hack_features.specs.FeatureMap.{feature_map, FeatureMap};
 ghost use Rattle.hack_features.specs.Feature.{groups_of, candidates_of};
 ghost use Rattle.hack_samples.specs.Sets.{rows_of};
 ghost use Rattle.hack_features.specs.Rules.{unlifted_groups};
-ghost use Rattle.hack_features.specs.Places.{leads};
+ghost use Rattle.hack_features.specs.InternalTables.{leads};
 ghost use Rattle.hack_features.specs.PlacedView.{IsPlaced};
 ghost use Rattle.hack_features.specs.Tables.{bit, count_at, cell, is_lean, is_exclusive};
 ghost use Rattle.hack_features.specs.Tables.{is_required};
-ghost use Rattle.hack_features.specs.Internal.{spares_test, serves_test, Counts};
-ghost use Rattle.hack_features.specs.Internal.{Matched, CountsHits, RowsServe};
+ghost use Rattle.hack_features.specs.InternalTables.{spares_test, serves_test, Counts};
+ghost use Rattle.hack_features.specs.InternalTables.{Matched, CountsHits, RowsServe};
 ghost use Rattle.hack_features.specs.declared.reach.Edges.TheVariants.{Enabling};
 
 use crate::feature::Feature;

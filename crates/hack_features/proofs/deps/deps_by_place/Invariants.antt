@@ -1,6 +1,6 @@
 use Rattle.hack_features.specs.FeatureMap.{FeatureMap}
 use Rattle.hack_features.specs.RoutesView.{routed_names}
-use Rattle.hack_features.specs.Internal.{AreRoutesOf}
+use Rattle.hack_features.specs.InternalRoutesView.{AreRoutesOf}
 use Rattle.hack_features.specs.declared.reach.Edges.TheVariants.{Enabling}
 use Rattle.hack_features.proofs.RouteDeps.{Tabling}
 use Rattle.hack_features.proofs.deps.deps_by_place.Given as goal

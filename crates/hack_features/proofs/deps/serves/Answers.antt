@@ -2,7 +2,7 @@ use Rattle.std.proofs.Common.{◌≡◌, ◌+◌, ◌∷◌, ◌++◌, [], ◌�
 use Rattle.hack_base.specs.Names.{names_of}
 use Rattle.hack_features.specs.Feature.{group_of}
 use Rattle.hack_features.specs.Deps.{has_name}
-use Rattle.hack_features.specs.Internal.{IsServedBy}
+use Rattle.hack_features.specs.InternalDeps.{IsServedBy}
 use Rattle.hack_base.proofs.Members.{not_from}
 use Rattle.hack_base.proofs.NameLemmas.{names-more, names-at, same_text, differ}
 use Rattle.hack_features.proofs.DepsLemmas.{IsUnserved, unserved-more}

@@ -3,7 +3,7 @@ use Rattle.std.proofs.lemmas.List.{length-map, map-append}
 use Rattle.hack_features.specs.FeatureMap.{Chain}
 use Rattle.hack_samples.specs.Sets.{rows_of}
 use Rattle.hack_features.specs.Tables.{bit}
-use Rattle.hack_features.specs.Internal.{Leads}
+use Rattle.hack_features.specs.InternalPlaces.{Leads}
 use Rattle.hack_base.proofs.Steps.{row-pushed, row_items}
 use Rattle.hack_features.proofs.marks.all_marks.Goals as goal
 

@@ -1,7 +1,7 @@
 use Rattle.std.proofs.Common.{◌≡◌, ◌<◌, ◌≤◌, [], ℕ, List, length, get_or, sym, ap, ◌∙◌, subst, Contains, All, arith, replicate, false}
 use Rattle.std.proofs.lemmas.List.{length-map, length-replicate, get_or_default}
 use Rattle.hack_samples.specs.Sets.{rows_of}
-use Rattle.hack_features.specs.Internal.{AddsPlaces, AreMarked}
+use Rattle.hack_features.specs.InternalPlaces.{AddsPlaces, AreMarked}
 use Rattle.hack_base.proofs.Steps.{row_items}
 use Rattle.hack_features.proofs.MarkLemmas.{marked-none, marked-few, marking-start, marking-next, marking-end, inside_of}
 use Rattle.hack_features.proofs.marks.mark_reached.Goals as goal

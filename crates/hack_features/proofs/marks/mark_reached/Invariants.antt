@@ -1,6 +1,6 @@
 use Rattle.std.proofs.Common.{◌≡◌, ◌-◌, length}
 use Rattle.hack_samples.specs.Sets.{rows_of}
-use Rattle.hack_features.specs.Internal.{AreMarked}
+use Rattle.hack_features.specs.InternalPlaces.{AreMarked}
 use Rattle.hack_features.proofs.MarkLemmas.{Marking}
 use Rattle.hack_features.proofs.marks.mark_reached.Given as goal
 

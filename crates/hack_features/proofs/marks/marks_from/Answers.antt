@@ -2,7 +2,7 @@ use Rattle.std.proofs.Common.{◌≡◌, ◌↔◌, ◌==◌, ◌||◌, ℕ, Lis
 use Rattle.hack_features.specs.FeatureMap.{Chain}
 use Rattle.hack_samples.specs.Sets.{rows_of}
 use Rattle.hack_features.specs.Tables.{bit}
-use Rattle.hack_features.specs.Internal.{Leads}
+use Rattle.hack_features.specs.InternalPlaces.{Leads}
 use Rattle.hack_features.proofs.MarkLemmas.{led_nowhere, led_on, nil_from}
 use Rattle.hack_features.proofs.marks.marks_from.Goals as goal
 

@@ -2,7 +2,7 @@ use Rattle.std.proofs.Common.{take}
 use Rattle.hack_samples.specs.Sets.{rows_of}
 use Rattle.hack_features.specs.Feature.{groups_of}
 use Rattle.hack_features.specs.Places.{AreAllAt}
-use Rattle.hack_features.specs.Internal.{IsMore}
+use Rattle.hack_features.specs.InternalPlaces.{IsMore}
 use Rattle.hack_features.specs.InternalNamesView.{table, IsInStep}
 use Rattle.hack_features.proofs.placed.group_places.Given as goal
 

@@ -1,6 +1,6 @@
 use Rattle.std.proofs.Common.{◌≡◌, ◌++◌, take, true}
 use Rattle.hack_features.specs.Forest.{sets_of}
-use Rattle.hack_features.specs.Internal.{with_next}
+use Rattle.hack_features.specs.InternalQuestions.{with_next}
 use Rattle.hack_features.proofs.questions.extend_each.Given as goal
 
 abbrev pub invariant-loop-place : goal.invariant-loop-place

@@ -1,7 +1,7 @@
 use Rattle.std.proofs.Common.{◌≡◌, ◌++◌, ◌∷◌, [], List, ℕ, suc, Bool, true, get_or, ap, ◌∙◌, sym, subst, arith}
 use Rattle.hack_features.specs.Sets.{IsSelection}
 use Rattle.hack_features.specs.Forest.{sets_of}
-use Rattle.hack_features.specs.Internal.{AreComplete}
+use Rattle.hack_features.specs.InternalQuestions.{AreComplete}
 use Rattle.hack_features.proofs.Listing.{selection_up, selection_push}
 use Rattle.hack_features.proofs.Permitted.{complete-push}
 use Rattle.hack_features.proofs.questions.extend_one.Goals as goal

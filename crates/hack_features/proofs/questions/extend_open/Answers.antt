@@ -2,7 +2,7 @@ use Rattle.std.proofs.Common.{◌≡◌, ◌<◌, ◌++◌, [], ◌∷◌, List,
 use Rattle.std.proofs.Math.ListN.{get_or-append}
 use Rattle.hack_features.specs.Sets.{IsSelection}
 use Rattle.hack_features.specs.Forest.{sets_of}
-use Rattle.hack_features.specs.Internal.{with_next, AreComplete, AreOpen}
+use Rattle.hack_features.specs.InternalQuestions.{with_next, AreComplete, AreOpen}
 use Rattle.hack_features.proofs.OpenLemmas.{at, open-asked, open-gone_in, next-place}
 use Rattle.hack_features.proofs.questions.extend_open.Goals as goal
 use Rattle.hack_features.proofs.questions.extend_open.Goals.{then-has_room+then-len-new+in_ok-push, else-has_room, else-has_room-via-then-has_room+else-len-new, else-has_room-via-else-has_room}

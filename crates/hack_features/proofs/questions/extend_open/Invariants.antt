@@ -1,6 +1,6 @@
 use Rattle.std.proofs.Common.{◌≡◌, ◌≤◌, ◌+◌, ◌++◌, List, ℕ, take, map, IsTrue}
 use Rattle.hack_features.specs.Forest.{sets_of}
-use Rattle.hack_features.specs.Internal.{with_next, AreComplete, AreOpen}
+use Rattle.hack_features.specs.InternalQuestions.{with_next, AreComplete, AreOpen}
 use Rattle.hack_features.proofs.OpenLemmas.{at}
 use Rattle.hack_features.proofs.questions.extend_open.Given as goal
 

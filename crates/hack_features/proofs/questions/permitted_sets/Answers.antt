@@ -1,6 +1,6 @@
 use Rattle.std.proofs.Common.{◌≡◌, ap, ◌∙◌, sym, subst, arith, All, IsTrue}
 use Rattle.hack_features.specs.Sets.{IsSelection, IsListing}
-use Rattle.hack_features.specs.Internal.{AreLimits}
+use Rattle.hack_features.specs.InternalQuestions.{AreLimits}
 use Rattle.hack_features.proofs.Permitted.{permitted_below, permitted_listing, all_selections}
 use Rattle.hack_features.proofs.questions.permitted_sets.Goals as goal
 

@@ -1,6 +1,6 @@
 use Rattle.std.proofs.Common.{◌≡◌, ◌≤◌, ◌+◌, ◌*◌, length, IsTrue, IfSome}
 use Rattle.hack_features.specs.Forest.{sets_of}
-use Rattle.hack_features.specs.Internal.{AreComplete, AreOpen}
+use Rattle.hack_features.specs.InternalQuestions.{AreComplete, AreOpen}
 use Rattle.hack_features.proofs.Permitted.{permitted_below}
 use Rattle.hack_features.proofs.questions.permitted_sets.Given as goal
 

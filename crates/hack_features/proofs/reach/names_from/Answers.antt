@@ -2,7 +2,7 @@ use Rattle.std.proofs.Common.{◌≡◌, ◌+◌, ◌<◌, List, length, subst, 
 use Rattle.hack_base.specs.Names.{Name, names_of, names_behind}
 use Rattle.hack_features.specs.FeatureMap.{feature_map, values_at}
 use Rattle.hack_features.specs.Search.{edge_of}
-use Rattle.hack_features.specs.Internal.{HasJust, Adds, IsTarget}
+use Rattle.hack_features.specs.InternalSearch.{HasJust, Adds, IsTarget}
 use Rattle.hack_base.proofs.NameLemmas.{shown-at, length-shown}
 use Rattle.hack_features.proofs.NameSetLemmas.{has_just-nil}
 use Rattle.hack_features.proofs.ReachLemmas.{Searching, searching-start, searching-next, searching-bound, searching-end, adds-edges, adds-no_targets, values_at-Some, values_at-None}

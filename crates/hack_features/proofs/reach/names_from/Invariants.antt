@@ -2,7 +2,7 @@ use Rattle.std.proofs.Common.{◌-◌, ◌∷◌, length}
 use Rattle.hack_base.specs.Names.{names_behind}
 use Rattle.hack_features.specs.FeatureMap.{feature_map}
 use Rattle.hack_features.specs.Search.{edge_of}
-use Rattle.hack_features.specs.Internal.{HasJust}
+use Rattle.hack_features.specs.InternalSearch.{HasJust}
 use Rattle.hack_features.proofs.ReachLemmas.{Searching, all_targets}
 use Rattle.hack_features.proofs.reach.names_from.Given as goal
 

@@ -1,7 +1,7 @@
 use Rattle.std.proofs.Common.{◌≡◌, take, map}
 use Rattle.hack_samples.specs.Sets.{tables_of}
 use Rattle.hack_samples.specs.Sets.{rows_of}
-use Rattle.hack_features.specs.Internal.{providers_of}
+use Rattle.hack_features.specs.InternalSamples.{providers_of}
 use Rattle.hack_features.proofs.samples.all_providers.Given as goal
 
 abbrev pub invariant-loop-names : goal.invariant-loop-names

@@ -1,7 +1,7 @@
 use Rattle.std.proofs.Common.{◌∙◌, ◌∷◌, [], get_or, ap}
 use Rattle.std.proofs.lemmas.List.{map-append, take_more}
 use Rattle.hack_samples.specs.Sets.{rows_of}
-use Rattle.hack_features.specs.Internal.{providers_of}
+use Rattle.hack_features.specs.InternalSamples.{providers_of}
 use Rattle.hack_base.proofs.Steps.{row_items}
 use Rattle.hack_features.proofs.MemberLemmas.{step-map}
 use Rattle.hack_features.proofs.samples.providers_at.Goals as goal

@@ -1,6 +1,6 @@
 use Rattle.std.proofs.Common.{◌≡◌, take, map}
 use Rattle.hack_samples.specs.Sets.{rows_of}
-use Rattle.hack_features.specs.Internal.{providers_of}
+use Rattle.hack_features.specs.InternalSamples.{providers_of}
 use Rattle.hack_features.proofs.samples.providers_at.Given as goal
 
 abbrev pub invariant-loop-y : goal.invariant-loop-y

@@ -1,6 +1,6 @@
 use Rattle.std.proofs.Common.{◌∙◌, List, ℕ, ap}
 use Rattle.hack_samples.specs.Sets.{rows_of}
-use Rattle.hack_features.specs.Internal.{one_leads}
+use Rattle.hack_features.specs.InternalSamples.{one_leads}
 use Rattle.hack_features.proofs.MemberLemmas.{step-map, rows-next}
 use Rattle.hack_features.proofs.samples.providers_of.Goals as goal
 

@@ -1,6 +1,6 @@
 use Rattle.std.proofs.Common.{◌≡◌, take, map}
 use Rattle.hack_samples.specs.Sets.{rows_of}
-use Rattle.hack_features.specs.Internal.{one_leads}
+use Rattle.hack_features.specs.InternalSamples.{one_leads}
 use Rattle.hack_features.proofs.samples.providers_of.Given as goal
 
 abbrev pub invariant-loop-names : goal.invariant-loop-names

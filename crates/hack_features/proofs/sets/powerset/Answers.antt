@@ -1,7 +1,7 @@
 use Rattle.std.proofs.Common.{◌≡◌, ◌++◌, map, ap, ◌∙◌, length, arith}
 use Rattle.std.proofs.lemmas.List.{map-append}
 use Rattle.hack_features.specs.Sets.{items_at}
-use Rattle.hack_features.specs.Internal.{with_each}
+use Rattle.hack_features.specs.InternalSets.{with_each}
 use Rattle.hack_samples.specs.Sets.{rows_of}
 use Rattle.hack_features.proofs.Listing.{next_lists, listing, sets_below}
 use Rattle.hack_features.proofs.sets.powerset.Goals as goal

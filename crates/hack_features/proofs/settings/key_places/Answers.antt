@@ -1,5 +1,5 @@
 use Rattle.std.proofs.Common.{◌≡◌, ◌+◌, ◌∙◌, List, ℕ, Bool, length, sym, ap, subst, arith}
-use Rattle.hack_features.specs.Internal.{AreKeyPlaces}
+use Rattle.hack_features.specs.InternalSettings.{AreKeyPlaces}
 use Rattle.hack_features.proofs.SettingLemmas.{keys-hit, keys-missed, no-keys}
 use Rattle.hack_features.proofs.settings.key_places.Goals as goal
 use Rattle.hack_features.proofs.settings.key_places.Goals.{then-is_key+in_ok-push, else-is_key}

@@ -1,5 +1,5 @@
 use Rattle.std.proofs.Common.{◌≤◌, length}
-use Rattle.hack_features.specs.Internal.{AreKeyPlaces}
+use Rattle.hack_features.specs.InternalSettings.{AreKeyPlaces}
 use Rattle.hack_features.proofs.settings.key_places.Given as goal
 
 abbrev pub invariant-loop-x : goal.invariant-loop-x

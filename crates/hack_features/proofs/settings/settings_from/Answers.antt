@@ -1,6 +1,6 @@
 use Rattle.std.proofs.Common.{◌∙◌, List, ℕ, ap}
 use Rattle.hack_samples.specs.Sets.{rows_of}
-use Rattle.hack_features.specs.Internal.{leads_to_each}
+use Rattle.hack_features.specs.InternalSettings.{leads_to_each}
 use Rattle.hack_features.proofs.MemberLemmas.{step-map, rows-next}
 use Rattle.hack_features.proofs.settings.settings_from.Goals as goal
 

@@ -6,9 +6,9 @@ use Rattle.hack_features.specs.Feature.{candidates_of, groups_of, group_of}
 use Rattle.hack_features.specs.Rules.{unlifted_groups}
 use Rattle.hack_samples.specs.Sets.{rows_of}
 use Rattle.hack_features.specs.RoutesView.{routed_names}
-use Rattle.hack_features.specs.Internal as table
+use Rattle.hack_features.specs.InternalTables as table
 use Rattle.hack_features.specs.Tables.{bit}
-use Rattle.hack_features.specs.Internal.{Matched, CountsHits}
+use Rattle.hack_features.specs.InternalTables.{Matched, CountsHits}
 use Rattle.hack_base.proofs.Steps.{row_items}
 use Rattle.hack_features.proofs.MarkLemmas.{nil_from}
 use Rattle.hack_features.proofs.TableLemmas.{unlifted-more, lifted_group, next_group, hits_of}

@@ -3,7 +3,7 @@ use Rattle.hack_features.specs.FeatureMap.{feature_map}
 use Rattle.hack_features.specs.Feature.{candidates_of, groups_of}
 use Rattle.hack_features.specs.Rules.{unlifted_groups}
 use Rattle.hack_samples.specs.Sets.{rows_of}
-use Rattle.hack_features.specs.Internal.{Matched, CountsHits}
+use Rattle.hack_features.specs.InternalTables.{Matched, CountsHits}
 use Rattle.hack_features.proofs.tables.hit_rows.Given as goal
 
 abbrev pub invariant-loop-place : goal.invariant-loop-place

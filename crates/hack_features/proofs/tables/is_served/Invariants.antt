@@ -1,6 +1,6 @@
 use Rattle.std.proofs.Common.{◌≡◌, ◌<◌, ℕ, false}
 use Rattle.hack_samples.specs.Sets.{rows_of}
-use Rattle.hack_features.specs.Internal.{serves_test}
+use Rattle.hack_features.specs.InternalTables.{serves_test}
 use Rattle.hack_features.proofs.tables.is_served.Given as goal
 
 abbrev pub invariant-loop-x : goal.invariant-loop-x

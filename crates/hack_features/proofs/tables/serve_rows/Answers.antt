@@ -3,8 +3,8 @@ use Rattle.std.specs.List.{list_any}
 use Rattle.std.proofs.lemmas.List.{take_all, map-append, length-map}
 use Rattle.hack_samples.specs.Sets.{rows_of}
 use Rattle.hack_features.specs.RoutesView.{routed_names}
-use Rattle.hack_features.specs.Internal as table
-use Rattle.hack_features.specs.Internal.{RowsServe, serves_test}
+use Rattle.hack_features.specs.InternalTables as table
+use Rattle.hack_features.specs.InternalTables.{RowsServe, serves_test}
 use Rattle.hack_base.proofs.NameLemmas.{length-shown}
 use Rattle.hack_base.proofs.Steps.{row_items}
 use Rattle.hack_features.proofs.MarkLemmas.{row_at}

@@ -2,7 +2,7 @@ use Rattle.std.proofs.Common.{◌≡◌, ◌<◌, [], sym, ap, ◌∙◌, arith,
 use Rattle.std.proofs.lemmas.List.{map-append, length-map}
 use Rattle.hack_samples.specs.Sets.{rows_of}
 use Rattle.hack_features.specs.Tables.{bit}
-use Rattle.hack_features.specs.Internal.{spares_test}
+use Rattle.hack_features.specs.InternalTables.{spares_test}
 use Rattle.hack_base.proofs.Steps.{row-pushed, row_items}
 use Rattle.hack_features.proofs.MarkLemmas.{row_at}
 use Rattle.hack_features.proofs.tables.spare_rows.Goals as goal

@@ -2,7 +2,7 @@ use Rattle.std.proofs.Common.{◌≡◌, ◌++◌, ◌∷◌, [], ◌<◌, ◌�
 use Rattle.std.proofs.lemmas.List.{get_or_default, map-append, length-map}
 use Rattle.hack_features.specs.FeatureMap.{feature_map}
 use Rattle.hack_features.specs.Places.{name_at}
-use Rattle.hack_features.specs.Internal.{AreRows}
+use Rattle.hack_features.specs.InternalPlaces.{AreRows}
 use Rattle.hack_samples.specs.Sets.{rows_of}
 use Rattle.hack_features.specs.InternalNamesView.{table}
 use Rattle.hack_features.specs.InternalLinksView.{table_of}

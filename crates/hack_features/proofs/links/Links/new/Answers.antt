@@ -1,7 +1,7 @@
 use Rattle.std.proofs.Common.{◌++◌, ◌<◌, ◌≤◌, [], length, sym, ap, subst, arith}
 use Rattle.hack_features.specs.FeatureMap.{feature_map}
 use Rattle.hack_samples.specs.Sets.{rows_of}
-use Rattle.hack_features.specs.Internal.{AreRows}
+use Rattle.hack_features.specs.InternalPlaces.{AreRows}
 use Rattle.hack_features.specs.InternalNamesView.{table}
 use Rattle.hack_features.specs.InternalLinksView.{table_of}
 use Rattle.hack_base.proofs.NameLemmas.{length-shown}

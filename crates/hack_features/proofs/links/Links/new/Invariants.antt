@@ -1,6 +1,6 @@
 use Rattle.std.proofs.Common.{◌++◌, ◌-◌, length}
 use Rattle.hack_features.specs.FeatureMap.{feature_map}
-use Rattle.hack_features.specs.Internal.{IsGrown}
+use Rattle.hack_features.specs.InternalPlaces.{IsGrown}
 use Rattle.hack_features.specs.InternalNamesView.{table}
 use Rattle.hack_features.specs.InternalLinksView.{IsLinking, table_of}
 use Rattle.hack_features.proofs.ReachLemmas.{all_targets}

@@ -1,6 +1,6 @@
 use Rattle.std.proofs.Common.{◌≡◌, set, true, false, ◌∙◌, sym, subst}
 use Rattle.std.proofs.lemmas.List.{get_or_default}
-use Rattle.hack_features.specs.Internal.{AreMarked, AddsPlaces}
+use Rattle.hack_features.specs.InternalPlaces.{AreMarked, AddsPlaces}
 use Rattle.hack_features.proofs.MarkLemmas.{marked-more, places-one}
 use Rattle.hack_features.proofs.marks.Marks.mark.Goals as goal
 

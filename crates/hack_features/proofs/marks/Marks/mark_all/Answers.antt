@@ -1,6 +1,6 @@
 use Rattle.std.proofs.Common.{take, sym, ◌∙◌, subst, Contains, ℕ, get_or}
 use Rattle.std.proofs.lemmas.List.{take_more}
-use Rattle.hack_features.specs.Internal.{AddsPlaces}
+use Rattle.hack_features.specs.InternalPlaces.{AddsPlaces}
 use Rattle.hack_features.proofs.MarkLemmas.{places-next}
 use Rattle.hack_features.proofs.marks.Marks.mark_all.Goals as goal
 

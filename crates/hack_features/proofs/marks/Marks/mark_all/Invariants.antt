@@ -1,5 +1,5 @@
 use Rattle.std.proofs.Common.{◌≡◌, length, take, Contains}
-use Rattle.hack_features.specs.Internal.{AreMarked, AddsPlaces}
+use Rattle.hack_features.specs.InternalPlaces.{AreMarked, AddsPlaces}
 use Rattle.hack_features.proofs.marks.Marks.mark_all.Given as goal
 
 abbrev pub invariant-loop-place : goal.invariant-loop-place

@@ -4,7 +4,7 @@ use Rattle.std.specs.Str.{bytes_eq}
 use Rattle.std.proofs.lemmas.Map.Text.{btree_map_updates_str}
 use Rattle.hack_base.specs.Names.{Name, names_behind}
 use Rattle.hack_features.specs.Deps.{get_at}
-use Rattle.hack_features.specs.Internal.{HasPlaces}
+use Rattle.hack_features.specs.InternalPlaces.{HasPlaces}
 use Rattle.hack_features.specs.InternalNamesView.{table}
 use Rattle.hack_base.proofs.NameLemmas.{shown-push, length-shown}
 use Rattle.hack_features.proofs.PlaceLemmas.{places-push}

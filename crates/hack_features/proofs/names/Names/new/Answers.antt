@@ -1,6 +1,6 @@
 use Rattle.std.proofs.Common.{subst, sym, ap}
 use Rattle.hack_base.specs.Names.{names_behind}
-use Rattle.hack_features.specs.Internal.{HasPlaces}
+use Rattle.hack_features.specs.InternalPlaces.{HasPlaces}
 use Rattle.hack_features.proofs.PlaceLemmas.{places-none}
 use Rattle.hack_features.proofs.names.Names.new.Goals as goal
 

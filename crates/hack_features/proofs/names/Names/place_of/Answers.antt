@@ -1,5 +1,5 @@
 use Rattle.std.proofs.Common.{◌≡◌, sym, subst}
-use Rattle.hack_features.specs.Internal.{Adds}
+use Rattle.hack_features.specs.InternalSearch.{Adds}
 use Rattle.hack_features.specs.InternalNamesView.{table}
 use Rattle.hack_features.proofs.ReachLemmas.{adds-one, adds-there}
 use Rattle.hack_features.proofs.PlaceLemmas.{placed-there}

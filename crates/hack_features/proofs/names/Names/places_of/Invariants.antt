@@ -1,7 +1,7 @@
 use Rattle.std.proofs.Common.{take}
 use Rattle.hack_base.specs.Names.{names_of}
 use Rattle.hack_features.specs.Places.{AreAt}
-use Rattle.hack_features.specs.Internal.{IsMore}
+use Rattle.hack_features.specs.InternalPlaces.{IsMore}
 use Rattle.hack_features.specs.InternalNamesView.{table, IsInStep}
 use Rattle.hack_features.proofs.names.Names.places_of.Given as goal
 

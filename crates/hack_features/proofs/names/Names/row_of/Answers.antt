@@ -1,7 +1,8 @@
 use Rattle.std.proofs.Common.{◌∙◌, [], sym, ap, subst}
 use Rattle.hack_base.specs.Names.{names_of}
-use Rattle.hack_features.specs.Internal.{Adds, IsTarget, targets_of}
+use Rattle.hack_features.specs.InternalSearch.{Adds, IsTarget}
 use Rattle.hack_features.specs.Places.{AreAt}
+use Rattle.hack_features.specs.InternalPlaces.{targets_of}
 use Rattle.hack_features.specs.InternalNamesView.{table}
 use Rattle.hack_features.proofs.ReachLemmas.{values_at-Some, values_at-None, adds-no_targets}
 use Rattle.hack_features.proofs.PlaceLemmas.{at-nothing}

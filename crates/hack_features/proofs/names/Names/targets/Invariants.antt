@@ -1,7 +1,8 @@
 use Rattle.std.proofs.Common.{take}
 use Rattle.hack_base.specs.Names.{names_of}
-use Rattle.hack_features.specs.Internal.{Adds, IsTarget, targets_of}
+use Rattle.hack_features.specs.InternalSearch.{Adds, IsTarget}
 use Rattle.hack_features.specs.Places.{AreAt}
+use Rattle.hack_features.specs.InternalPlaces.{targets_of}
 use Rattle.hack_features.specs.InternalNamesView.{table, IsInStep}
 use Rattle.hack_features.proofs.names.Names.targets.Given as goal
 

@@ -1,6 +1,6 @@
 use Rattle.std.proofs.Common.{sym, subst, Contains}
 use Rattle.std.proofs.lemmas.List.Elements.{Contains-append_left}
-use Rattle.hack_features.specs.Internal.{IsMore}
+use Rattle.hack_features.specs.InternalPlaces.{IsMore}
 use Rattle.hack_samples.specs.Sets.{rows_of}
 use Rattle.hack_features.specs.Feature.{groups_of, candidates_of}
 use Rattle.hack_features.specs.InternalNamesView.{table}

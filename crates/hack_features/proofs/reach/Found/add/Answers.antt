@@ -1,7 +1,7 @@
 use Rattle.std.proofs.Common.{◌≡◌, ap, sym, subst, ◌∙◌, true, false}
 use Rattle.hack_base.specs.Names.{names_behind}
 use Rattle.hack_features.specs.Deps.{has_name}
-use Rattle.hack_features.specs.Internal.{HasJust, Adds}
+use Rattle.hack_features.specs.InternalSearch.{HasJust, Adds}
 use Rattle.hack_base.proofs.Members.{not_from}
 use Rattle.hack_base.proofs.NameLemmas.{shown-push}
 use Rattle.hack_features.proofs.NameSetLemmas.{has_just-more}

@@ -1,6 +1,6 @@
 use Rattle.std.proofs.Common.{◌≡◌, ◌+◌, ◌++◌, ◌∷◌, [], take, subst, sym, ap, ◌∙◌}
 use Rattle.hack_base.specs.Names.{names_of, names_behind}
-use Rattle.hack_features.specs.Internal.{HasJust, Adds, IsTarget}
+use Rattle.hack_features.specs.InternalSearch.{HasJust, Adds, IsTarget}
 use Rattle.hack_base.proofs.NameLemmas.{names-more}
 use Rattle.hack_features.proofs.ReachLemmas.{adds-target, adds-no_target}
 use Rattle.hack_features.proofs.reach.Found.add_targets.Goals as goal

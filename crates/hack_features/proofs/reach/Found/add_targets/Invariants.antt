@@ -1,6 +1,6 @@
 use Rattle.std.proofs.Common.{take}
 use Rattle.hack_base.specs.Names.{names_of, names_behind}
-use Rattle.hack_features.specs.Internal.{HasJust, Adds, IsTarget}
+use Rattle.hack_features.specs.InternalSearch.{HasJust, Adds, IsTarget}
 use Rattle.hack_features.proofs.reach.Found.add_targets.Given as goal
 
 abbrev pub invariant-loop-value : goal.invariant-loop-value

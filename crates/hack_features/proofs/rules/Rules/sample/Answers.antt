@@ -4,7 +4,7 @@ use Rattle.hack_samples.specs.Samples as samples
 use Rattle.hack_samples.specs.Sets.{rows_of}
 use Rattle.hack_features.specs.View.{choice_of, size_of}
 use Rattle.hack_features.specs.Samples.{IsSample, CoversPatterns, positions_of}
-use Rattle.hack_features.specs.Internal.{all_providers}
+use Rattle.hack_features.specs.InternalSamples.{all_providers}
 use Rattle.hack_features.proofs.SampleLemmas.{sample_of, covers_of, may, required, providers}
 use Rattle.hack_features.proofs.rules.Rules.sample.Goals as goal
 

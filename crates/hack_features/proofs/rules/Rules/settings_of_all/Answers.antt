@@ -1,7 +1,7 @@
 use Rattle.std.proofs.Common.{length, subst, sym}
 use Rattle.std.proofs.lemmas.Result.{IfOk-weaker}
 use Rattle.hack_features.specs.Settings.{IsOnWithAll}
-use Rattle.hack_features.specs.Internal.{AreKeyPlaces}
+use Rattle.hack_features.specs.InternalSettings.{AreKeyPlaces}
 use Rattle.hack_features.specs.View.{choice_of}
 use Rattle.hack_features.proofs.SettingLemmas.{settings_of_all_row, shows_iff}
 use Rattle.hack_features.proofs.rules.Rules.settings_of_all.Goals as goal
