@@ -1,12 +1,13 @@
 #!/usr/bin/env python3
 """Prints which definitions a public function's contract rests on: what somebody has to read who wants to know what is promised.
 
-usage: tests/closure.py [--list] [CRATE::MODULE::FUNCTION ..]
+usage: tests/closure.py [--list] [CRATE::MODULE::FUNCTION[@CLAUSE] ..]
 
 A name in a clause leads by the imports of its file to a definition in some crate's specs/, and that to those that it names;
 definitions of the standard library and of the kit's crates aren't followed. A definition's lines are counted without blank
-ones and comments. Without a function, those of the headline and of a whole call are taken. With --list each definition is
-printed with its lines, most first. A line a function: its name, how many definitions, and how many lines they have.
+ones and comments. Behind an @ stands the name of one clause; else the whole contract is taken. Without a function, the headline
+and the contracts of its call and of a whole call are. With --list each definition is printed with its lines, most first. A line
+a function: its name, how many definitions, and how many lines they have.
 """
 import argparse
 import functools
@@ -15,12 +16,13 @@ import re
 import sys
 
 ROOT = os.path.dirname(os.path.dirname(os.path.realpath(__file__)))
-# The call that carries the headline, and a call from its arguments to its status.
-PROMISES = ["hack_run::drive::drive_context", "hack_run::run::run"]
+# The headline, the call that carries it, and a call from its arguments to its status.
+PROMISES = ["hack_run::drive::drive_context@headline", "hack_run::drive::drive_context", "hack_run::run::run"]
 NAME = re.compile(r"[A-Za-z_][\w'-]*")
 IMPORT = re.compile(r"(?:ghost )?use Rattle\.(hack_\w+)\.specs\.([\w.]+?)(?:\.\{([^}]*)\}| as (\w+))?;?\s*(?:--.*)?$")
 DEFINES = re.compile(r"( *)(?:(?:abbrev|record|data|pub) )+(\S+)")
 FUNCTION = re.compile(r"( *)(?:pub(?:\([^)]*\))? )?(?:final )?fn (\w+)")
+CLAUSE = re.compile(r" *(?:ensures|requires) (?:(\w+) )?\{")
 
 
 @functools.cache
@@ -81,8 +83,9 @@ def follow(start):
     return found
 
 
-def contract(function):
-    """What the clauses of a function name in some crate's specs."""
+def contract(promise):
+    """What the clauses of a function, or one of them, name in some crate's specs."""
+    function, _, clause = promise.partition("@")
     crate, *modules, name = function.split("::")
     path = f"{ROOT}/crates/{crate}/src/{'/'.join(modules)}.rt"
     if not os.path.isfile(path):
@@ -93,7 +96,14 @@ def contract(function):
         sys.exit(f"{function}: it isn't in {path}")
     indent = FUNCTION.match(lines[at])[1]
     end = next(n for n in range(at, len(lines)) if lines[n] == f"{indent}{{" or lines[n].partition("//")[0].endswith(";"))
-    text = "\n".join(it.partition("//")[0] for it in lines[at:end])
+    said, taken = [], not clause
+    for line in (it.partition("//")[0] for it in lines[at:end]):
+        begun = CLAUSE.match(line)
+        taken = begun[1] == clause if clause and begun else taken
+        said += [line] * taken
+    if not said:
+        sys.exit(f"{function} has no clause {clause}")
+    text = "\n".join(said)
     brought = imports(lines)
     return [brought[word] for word in {*NAME.findall(text)} if word in brought]
 
@@ -103,12 +113,12 @@ def main():
     parser.add_argument("--list", action="store_true", help="print each definition with its lines")
     parser.add_argument("function", nargs="*", metavar="FUNCTION")
     asked = parser.parse_args()
-    for function in asked.function or PROMISES:
-        found = follow(contract(function))
+    for promise in asked.function or PROMISES:
+        found = follow(contract(promise))
         if asked.list:
             for (crate, name, item), lines in sorted(found.items(), key=lambda it: -len(it[1])):
                 print(f"{len(lines):4} {crate}::{name}::{item}")
-        print(f"{function}: {len(found)} definitions, {sum(map(len, found.values()))} lines")
+        print(f"{promise}: {len(found)} definitions, {sum(map(len, found.values()))} lines")
 
 
 if __name__ == "__main__":

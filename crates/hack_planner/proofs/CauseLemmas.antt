@@ -1,5 +1,6 @@
 -- Errors of the parts of a plan are causes to refuse it, and the notices on all parts.
-use Rattle.std.proofs.Common.{◌≡◌, refl, sym, ap, subst, ◌∙◌, ◌⊎◌, inl, inr, ℕ, List, [], ◌∷◌, ◌++◌, map, Bool, Option, append_assoc}
+use Rattle.std.proofs.Common.{◌≡◌, refl, sym, ap, subst, ◌∙◌, ◌⊎◌, inl, inr, ℕ, List, [], ◌∷◌, ◌++◌, map, Option, append_assoc}
+use Rattle.std.specs.List.{AllZip}
 use Rattle.std.proofs.lemmas.List.{map-append}
 use Rattle.hack_load.specs.Contexts.{ContextRecord}
 use Rattle.hack_planner.specs.ContextMembers.{AreChosen}
@@ -13,7 +14,7 @@ use Rattle.hack_plan.specs.declared.parts.PlanPackage.{PlanPackage}
 use Rattle.hack_base.specs.Notes.{Note, note_of}
 use Rattle.hack_base.specs.declared.notice.Notice.{Notice}
 use Rattle.hack_versions.specs.declared.version.Version.{Version}
-use Rattle.hack_planner.specs.Calls.{ArePlanned, IsInputOf}
+use Rattle.hack_planner.specs.Calls.{HasPackageRuns, IsInputOf}
 use Rattle.hack_planner.specs.CallPlan.{IsCause, run_counts}
 use Rattle.hack_planner.specs.Internal.{SaysRangeRefused}
 use Rattle.hack_planner.specs.InternalFaultConversions.{of_places}
@@ -21,21 +22,21 @@ use Rattle.hack_planner.specs.declared.fault.PlanFault.{PlanFault}
 use Rattle.hack_planner.specs.declared.fault.PlanFault.TheVariants as fault
 
 -- the error of the range is a cause
-pub range-cause : (cx : ContextRecord) (ids : List ℕ) (single : Bool) (notes : List Note) (s : PlanInput) (latest : Option Version) (e : PlanFault) → AreChosen cx ids single notes → IsInputOf cx ids s
+pub range-cause : (cx : ContextRecord) (ids : List ℕ) (s : PlanInput) (latest : Option Version) (e : PlanFault) → AreChosen cx ids → IsInputOf cx ids s
     → (e ≡ fault.Memory) ⊎ SaysRangeRefused s latest e → (e ≡ fault.Memory) ⊎ IsCause cx latest e
-range-cause cx ids single notes s latest fault.Memory chosen of_call h = inl refl
-range-cause cx ids single notes s latest (fault.Stable text) chosen of_call (inl e) = absurd (cc)
-range-cause cx ids single notes s latest (fault.Stable text) chosen of_call (inr bad) = absurd bad
-range-cause cx ids single notes s latest (fault.Packages e) chosen of_call (inl m) = absurd (cc)
-range-cause cx ids single notes s latest (fault.Packages e) chosen of_call (inr bad) = absurd bad
-range-cause cx ids single notes s latest (fault.Version e) chosen of_call (inl m) = absurd (cc)
-range-cause cx ids single notes s latest (fault.Version e) chosen of_call (inr bad) = absurd bad
-range-cause cx ids single notes s latest (fault.Range e) chosen of_call (inl m) = absurd (cc)
-range-cause cx ids single notes s latest (fault.Range e) chosen of_call (inr bad) = inr (record { ids = ids; single = single; notes = notes; input = s; chosen = chosen; of_call = of_call; bad = bad })
-range-cause cx ids single notes s latest (fault.TooManyQuestions name) chosen of_call (inl e) = absurd (cc)
-range-cause cx ids single notes s latest (fault.TooManyQuestions name) chosen of_call (inr bad) = absurd bad
-range-cause cx ids single notes s latest fault.TooManyRuns chosen of_call (inl e) = absurd (cc)
-range-cause cx ids single notes s latest fault.TooManyRuns chosen of_call (inr bad) = absurd bad
+range-cause cx ids s latest fault.Memory chosen of_call h = inl refl
+range-cause cx ids s latest (fault.Stable text) chosen of_call (inl e) = absurd (cc)
+range-cause cx ids s latest (fault.Stable text) chosen of_call (inr bad) = absurd bad
+range-cause cx ids s latest (fault.Packages e) chosen of_call (inl m) = absurd (cc)
+range-cause cx ids s latest (fault.Packages e) chosen of_call (inr bad) = absurd bad
+range-cause cx ids s latest (fault.Version e) chosen of_call (inl m) = absurd (cc)
+range-cause cx ids s latest (fault.Version e) chosen of_call (inr bad) = absurd bad
+range-cause cx ids s latest (fault.Range e) chosen of_call (inl m) = absurd (cc)
+range-cause cx ids s latest (fault.Range e) chosen of_call (inr bad) = inr (record { ids = ids; input = s; chosen = chosen; of_call = of_call; bad = bad })
+range-cause cx ids s latest (fault.TooManyQuestions name) chosen of_call (inl e) = absurd (cc)
+range-cause cx ids s latest (fault.TooManyQuestions name) chosen of_call (inr bad) = absurd bad
+range-cause cx ids s latest fault.TooManyRuns chosen of_call (inl e) = absurd (cc)
+range-cause cx ids s latest fault.TooManyRuns chosen of_call (inr bad) = absurd bad
 
 -- the numbers of runs of packages and of their views
 pub counts-same : (packages : List PlanPackage) → run_counts (map plan_package_view packages) ≡ counts_in packages
@@ -43,20 +44,17 @@ counts-same [] = refl
 counts-same (k ∷ ks) = ap (λ l. count_in k ∷ l) (counts-same ks)
 
 -- too many runs are a cause to refuse the plan
-pub places-cause : (cx : ContextRecord) (ids : List ℕ) (single : Bool) (notes : List Note) (s : PlanInput) (stable latest : Option Version) (packages : List PlanPackage) (on_features : List Note) (e : PlacesFault) → AreChosen cx ids single notes → IsInputOf cx ids s
-    → ArePlanned cx single ids (map plan_package_view packages) on_features → stable ≡ latest → (e ≡ places.Memory) ⊎ ((e ≡ places.TooManyRuns) × HasTooMany s (counts_in packages) stable) → (of_places e ≡ fault.Memory) ⊎ IsCause cx latest (of_places e)
-places-cause cx ids single notes s stable latest packages on_features places.Memory chosen of_call planned newest h = inl refl
-places-cause cx ids single notes s stable latest packages on_features places.TooManyRuns chosen of_call planned newest (inl e) = absurd (cc)
-places-cause cx ids single notes s stable latest packages on_features places.TooManyRuns chosen of_call planned newest (inr h) = inr (record {
+pub places-cause : (cx : ContextRecord) (ids : List ℕ) (s : PlanInput) (stable latest : Option Version) (packages : List PlanPackage) (e : PlacesFault) → AreChosen cx ids → IsInputOf cx ids s
+    → AllZip (HasPackageRuns cx) ids (map plan_package_view packages) → stable ≡ latest → (e ≡ places.Memory) ⊎ ((e ≡ places.TooManyRuns) × HasTooMany s (counts_in packages) stable) → (of_places e ≡ fault.Memory) ⊎ IsCause cx latest (of_places e)
+places-cause cx ids s stable latest packages places.Memory chosen of_call each newest h = inl refl
+places-cause cx ids s stable latest packages places.TooManyRuns chosen of_call each newest (inl e) = absurd (cc)
+places-cause cx ids s stable latest packages places.TooManyRuns chosen of_call each newest (inr h) = inr (record {
   ids = ids;
-  single = single;
-  notes = notes;
   input = s;
   packages = map plan_package_view packages;
-  on_features = on_features;
   chosen = chosen;
   of_call = of_call;
-  planned = planned;
+  each = each;
   many = subst (λ counts. HasTooMany s counts latest) (sym (counts-same packages)) (subst (HasTooMany s (counts_in packages)) newest h.1);
 })
 

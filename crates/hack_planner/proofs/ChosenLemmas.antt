@@ -1,12 +1,13 @@
 -- Chosen packages one by one; they are members.
 use Rattle.std.proofs.Common.{◌≡◌, ℕ, ◌+◌, ◌<◌, List, [], ◌∷◌, ◌++◌, length, take, get_or, map, ap, sym, subst, ◌∙◌, Option, Some, None, Bool, true, false, inl, inr, Contains, All, option_map}
-use Rattle.std.specs.List.{filter_map, cons_option, slice_index_or}
+use Rattle.std.specs.List.{AllZip, filter_map, cons_option, slice_index_or}
 use Rattle.std.specs.Str.{bytes_eq}
 use Rattle.std.proofs.lemmas.Bool.{cases_Bool}
 use Rattle.std.proofs.lemmas.List.{take_more, map-append, get_or_default}
 use Rattle.std.proofs.lemmas.List.Elements.{Contains-push_cases, All-contains_itself}
 use Rattle.hack_base.specs.Names.{Name}
 use Rattle.hack_base.proofs.Members.{Contains-cons_cases, Contains-head, Contains-tail, Contains-nil, Contains-map, Contains-map_from, Contains-filter_from}
+use Rattle.hack_load.proofs.FeatureLemmas.{each-join}
 use Rattle.hack_load.specs.Contexts.{ContextRecord, package_at, is_private_at, rust_version_at}
 use Rattle.hack_metadata.specs.Records.{PackageRecord}
 use Rattle.hack_metadata.specs.RecordViews.{place_at}
@@ -16,7 +17,7 @@ use Rattle.hack_planner.specs.Members.{Member, Choosing, taken, left, ends, Sele
 use Rattle.hack_base.specs.Notes.{Note}
 use Rattle.hack_versions.specs.declared.version.VersionFault.{VersionFault}
 use Rattle.hack_versions.specs.declared.group.PackageVersion.{PackageVersion}
-use Rattle.hack_planner.specs.Calls.{IsMember, AreMembers, grows, IsPlanned, ArePlanned, adds, IsBadOwn, HasBadOwn}
+use Rattle.hack_planner.specs.Calls.{IsMember, AreMembers, grows, HasPackageRuns, IsPlanned, ArePlanned, adds, IsBadOwn, HasBadOwn}
 use Rattle.hack_plan.specs.View.{PackageView}
 
 -- one id more
@@ -32,6 +33,13 @@ members-more cx ids i d lt members member is before = subst (λ ps. AreMembers c
 pub planned-more : (cx : ContextRecord) (single : Bool) (ids : List PackageId) (i : ℕ) (d : PackageId) → i < length ids → (packages : List PackageView) (k : PackageView) (notes more : List Note) → IsPlanned cx single (get_or ids i d).index k more
     → ArePlanned cx single (map place_at (take i ids)) packages notes → ArePlanned cx single (map place_at (take (i + 1) ids)) (packages ++ k ∷ []) (notes ++ more)
 planned-more cx single ids i d lt packages k notes more is before = subst (λ ps. ArePlanned cx single ps (packages ++ k ∷ []) (notes ++ more)) (sym (id-more ids i d lt)) (adds before is)
+
+-- the runs of one package more
+pub runs-more : (cx : ContextRecord) (ids : List PackageId) (i : ℕ) (d : PackageId) → i < length ids → (packages : List PackageView) (k : PackageView) → HasPackageRuns cx (get_or ids i d).index k
+    → AllZip (HasPackageRuns cx) (map place_at (take i ids)) packages → AllZip (HasPackageRuns cx) (map place_at (take (i + 1) ids)) (packages ++ k ∷ [])
+runs-more cx ids i d lt packages k is before =
+    subst (λ ps. AllZip (HasPackageRuns cx) ps (packages ++ k ∷ [])) (sym (id-more ids i d lt))
+    (each-join (HasPackageRuns cx) (map place_at (take i ids)) ((get_or ids i d).index ∷ []) packages (k ∷ []) before (is, tt))
 
 -- a package whose own version can't be read is one of them
 pub bad-at : (cx : ContextRecord) (ids : List PackageId) (i : ℕ) (d : PackageId) → i < length ids → (e : VersionFault) → IsBadOwn cx.args.version_range (rust_version_at cx (get_or ids i d).index) e → HasBadOwn cx (map place_at ids) e
@@ -91,11 +99,11 @@ member-in cx [] m c = absurd (Contains-nil m c)
 member-in cx (id ∷ ids) m c = member-step cx id ids m (package_at cx id) c (member-in cx ids m)
 
 -- the chosen packages are members of the workspace
-pub ids-in : (cx : ContextRecord) (ids : List PackageId) (single : Bool) (notes : List Note) → AreChosen cx (map place_at ids) single notes → All (λ (id : PackageId). Contains cx.metadata.workspace_members id.index) ids
-ids-in cx ids single notes chosen k d lt =
+pub ids-in : (cx : ContextRecord) (ids : List PackageId) → AreChosen cx (map place_at ids) → All (λ (id : PackageId). Contains cx.metadata.workspace_members id.index) ids
+ids-in cx ids chosen k d lt =
     let id = slice_index_or ids k d in
     let at = subst (λ ps. Contains ps id.index) chosen.chosen (Contains-map place_at ids id (All-contains_itself ids k d lt)) in
     let from = Contains-map_from (λ (m : Member). m.place) _ id.index at in
     let kept = Contains-filter_from _ chosen.remaining from.0 from.1 in
-    let there = about-in _ _ _ chosen.about from.0 chosen.is_about (kept-in _ chosen.about chosen.remaining from.0 chosen.remain kept.0) in
+    let there = about-in _ _ _ chosen.left.about from.0 chosen.left.is_about (kept-in _ chosen.left.about chosen.remaining from.0 chosen.left.remain kept.0) in
     subst (λ p. Contains cx.metadata.workspace_members p) from.2 (member-in cx cx.metadata.workspace_members from.0 there)

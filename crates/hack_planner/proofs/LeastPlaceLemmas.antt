@@ -4,37 +4,34 @@ use Rattle.std.specs.List.{AllZip}
 use Rattle.std.proofs.lemmas.Bool.{cases_lt}
 use Rattle.std.proofs.lemmas.List.{get_or_past, length-map, map-append}
 use Rattle.std.proofs.lemmas.List.Elements.{All-weaker, AllZip-get_or, AllZip-push, length_all_zip}
-use Rattle.hack_base.specs.Notes.{Note}
 use Rattle.hack_load.specs.Contexts.{ContextRecord, package_at, features_at}
 use Rattle.hack_load.specs.GivenFeatures.{passed_for}
 use Rattle.hack_load.specs.declared.features.Features.{Features}
 use Rattle.hack_metadata.specs.Records.{PackageRecord}
 use Rattle.hack_metadata.specs.RecordViews.{place_at}
 use Rattle.hack_metadata.specs.declared.metadata.resolve.PackageId.{PackageId}
-use Rattle.hack_planner.specs.Candidates.{candidates, candidate_notes}
+use Rattle.hack_planner.specs.Candidates.{candidates}
 use Rattle.hack_planner.specs.CandidatesView.{wishes}
 use Rattle.hack_planner.specs.ContextMembers.{AreChosen, known_as}
-use Rattle.hack_planner.specs.Kinds.{AreRunSettings, package_choice}
 use Rattle.hack_planner.specs.LeastRuns.{HasRunsAtLeast}
 use Rattle.hack_plan.specs.Entries.{HasRun, HasTooMany, IsAdmissible}
-use Rattle.hack_plan.specs.Runs.{PackageRun}
 use Rattle.hack_plan.specs.declared.places.PlacesFault.{PlacesFault}
 use Rattle.hack_plan.specs.declared.places.PlacesFault.TheVariants as places
 use Rattle.hack_plan.specs.declared.places.PlanEntry.{PlanEntry}
 use Rattle.hack_plan.specs.declared.versions.PlanInput.{PlanInput}
 use Rattle.hack_plan.specs.View.{PackageView}
 use Rattle.hack_versions.specs.declared.version.Version.{Version}
-use Rattle.hack_planner.specs.Calls.{IsInputOf, begins, given_path}
+use Rattle.hack_planner.specs.Calls.{IsInputOf, given_path}
 use Rattle.hack_planner.specs.InternalLeastPlaces.{HasAtLeast, HaveAtLeast}
 use Rattle.hack_planner.specs.CallPlan.{IsCause, run_counts}
 use Rattle.hack_planner.specs.InternalFaultConversions.{of_places}
 use Rattle.hack_planner.specs.declared.fault.PlanFault.TheVariants as fault
-use Rattle.hack_planner.proofs.ChosenLemmas.{planned-more}
+use Rattle.hack_planner.proofs.ChosenLemmas.{runs-more}
 
--- a package of at least so many runs, as it stands in a plan
-pub planned-at_least : (cx : ContextRecord) (single : Bool) (id least : ℕ) (pkg : PackageRecord) (features : Features) → cx.args.strength ≡ None → package_at cx id ≡ Some pkg → features_at cx id ≡ Some features
-    → HasRunsAtLeast (wishes cx.args) (known_as pkg features) least → HasAtLeast cx single id least
-planned-at_least cx single id least pkg features all known loaded h =
+-- a package of at least so many runs, as it may stand in a plan
+pub planned-at_least : (cx : ContextRecord) (id least : ℕ) (pkg : PackageRecord) (features : Features) → package_at cx id ≡ Some pkg → features_at cx id ≡ Some features
+    → HasRunsAtLeast (wishes cx.args) (known_as pkg features) least → HasAtLeast cx id least
+planned-at_least cx id least pkg features known loaded h =
     let w = wishes cx.args in
     let p = known_as pkg features in
     record {
@@ -46,35 +43,27 @@ planned-at_least cx single id least pkg features all known loaded h =
         runs = h.runs;
         settings = [];
       };
-      notes = candidate_notes single w p;
-      planned = record {
+      has = record {
         pkg = pkg;
         features = features;
         known = known;
         loaded = loaded;
-        name = refl;
-        path = refl;
-        given = refl;
         candidates = inl refl;
         runs = h.are_runs;
-        covered = λ powerset strength. h.covering;
-        settings = subst (λ o. AreRunSettings o (package_choice w p) h.runs []) (sym all) refl;
-        told = refl;
       };
       enough = h.enough;
     }
 
 -- none of no packages
-pub none-at_least : (cx : ContextRecord) (single : Bool) → HaveAtLeast cx single [] []
-none-at_least cx single = record { packages = []; notes = []; planned = begins; enough = tt }
+pub none-at_least : (cx : ContextRecord) → HaveAtLeast cx [] []
+none-at_least cx = record { packages = []; each = tt; enough = tt }
 
 -- one package more
-pub more-at_least : (cx : ContextRecord) (single : Bool) (ids : List PackageId) (i : ℕ) (d : PackageId) (counts new : List ℕ) (least : ℕ) → i < length ids → new ≡ counts ++ least ∷ [] → HasAtLeast cx single (get_or ids i d).index least
-    → HaveAtLeast cx single (map place_at (take i ids)) counts → HaveAtLeast cx single (map place_at (take (i + 1) ids)) new
-more-at_least cx single ids i d counts new least lt pushed one before = record {
+pub more-at_least : (cx : ContextRecord) (ids : List PackageId) (i : ℕ) (d : PackageId) (counts new : List ℕ) (least : ℕ) → i < length ids → new ≡ counts ++ least ∷ [] → HasAtLeast cx (get_or ids i d).index least
+    → HaveAtLeast cx (map place_at (take i ids)) counts → HaveAtLeast cx (map place_at (take (i + 1) ids)) new
+more-at_least cx ids i d counts new least lt pushed one before = record {
   packages = before.packages ++ one.planned_as ∷ [];
-  notes = before.notes ++ one.notes;
-  planned = planned-more cx single ids i d lt before.packages one.planned_as before.notes one.notes one.planned before.planned;
+  each = runs-more cx ids i d lt before.packages one.planned_as one.has before.each;
   enough = subst (λ ns. AllZip (λ least n. least ≤ n) ns (run_counts (before.packages ++ one.planned_as ∷ []))) (sym pushed)
       (subst (AllZip (λ least n. least ≤ n) (counts ++ least ∷ [])) (sym (map-append (λ (k : PackageView). length k.runs) before.packages (one.planned_as ∷ [])))
       (AllZip-push (λ least n. least ≤ n) counts (run_counts before.packages) least (length one.planned_as.runs) before.enough one.enough));
@@ -105,20 +94,17 @@ many-more s least counts stable h many = (
 )
 
 -- too many runs of what the packages have at least are a cause to refuse the plan
-pub least-cause : (cx : ContextRecord) (ids : List ℕ) (single : Bool) (notes : List Note) (s : PlanInput) (stable : Option Version) (counts : List ℕ) (e : PlacesFault) → AreChosen cx ids single notes → IsInputOf cx ids s
-    → HaveAtLeast cx single ids counts → (e ≡ places.Memory) ⊎ ((e ≡ places.TooManyRuns) × HasTooMany s counts stable) → (of_places e ≡ fault.Memory) ⊎ IsCause cx stable (of_places e)
-least-cause cx ids single notes s stable counts places.Memory chosen of_call least h = inl refl
-least-cause cx ids single notes s stable counts places.TooManyRuns chosen of_call least (inl e) = absurd (cc)
-least-cause cx ids single notes s stable counts places.TooManyRuns chosen of_call least (inr h) = inr (record {
+pub least-cause : (cx : ContextRecord) (ids : List ℕ) (s : PlanInput) (stable : Option Version) (counts : List ℕ) (e : PlacesFault) → AreChosen cx ids → IsInputOf cx ids s
+    → HaveAtLeast cx ids counts → (e ≡ places.Memory) ⊎ ((e ≡ places.TooManyRuns) × HasTooMany s counts stable) → (of_places e ≡ fault.Memory) ⊎ IsCause cx stable (of_places e)
+least-cause cx ids s stable counts places.Memory chosen of_call least h = inl refl
+least-cause cx ids s stable counts places.TooManyRuns chosen of_call least (inl e) = absurd (cc)
+least-cause cx ids s stable counts places.TooManyRuns chosen of_call least (inr h) = inr (record {
   ids = ids;
-  single = single;
-  notes = notes;
   input = s;
   packages = least.packages;
-  on_features = least.notes;
   chosen = chosen;
   of_call = of_call;
-  planned = least.planned;
+  each = least.each;
   many = many-more s counts (run_counts least.packages) stable least.enough h.1;
 })
 

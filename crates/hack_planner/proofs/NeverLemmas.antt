@@ -1,6 +1,7 @@
 -- Where there is a plan, no cause holds: what a cause claims of some choice, input and runs, it
 -- would claim of the plan's own.
-use Rattle.std.proofs.Common.{◌≡◌, subst, List, ℕ, Bool, Option, Some, None, Result, Ok, String, Global}
+use Rattle.std.proofs.Common.{◌≡◌, subst, List, ℕ, Option, Some, None, Result, Ok, String, Global}
+use Rattle.std.specs.List.{AllZip}
 use Rattle.hack_load.specs.Contexts.{ContextRecord}
 use Rattle.hack_planner.specs.ContextMembers.{AreChosen, IsChoiceFault}
 use Rattle.hack_planner.specs.declared.fault.PackagesFault.{PackagesFault}
@@ -8,11 +9,10 @@ use Rattle.hack_plan.specs.Entries.{HasTooMany}
 use Rattle.hack_plan.specs.Inputs.{IsVersionsFault}
 use Rattle.hack_plan.specs.declared.versions.PlanInput.{PlanInput}
 use Rattle.hack_plan.specs.View.{PackageView}
-use Rattle.hack_base.specs.Notes.{Note}
 use Rattle.hack_versions.specs.declared.rustup.RangeFault.{RangeFault}
 use Rattle.hack_versions.specs.declared.version.Version.{Version}
 use Rattle.hack_versions.specs.declared.version.VersionFault.{VersionFault}
-use Rattle.hack_planner.specs.Calls.{ArePlanned, HasBadOwn, IsInputOf}
+use Rattle.hack_planner.specs.Calls.{HasPackageRuns, HasBadOwn, IsInputOf}
 use Rattle.hack_planner.specs.CallPlan.{IsSureCause, IsSureCauseBy, IsSureCauseOf, run_counts}
 use Rattle.hack_planner.specs.declared.fault.PlanFault.{PlanFault}
 use Rattle.hack_planner.specs.declared.fault.PlanFault.TheVariants as fault
@@ -22,14 +22,11 @@ use Rattle.hack_planner.proofs.InputLemmas.{fault-same, many-same}
 -- a call whose parts are all accepted
 pub record IsSound (cx : ContextRecord) (latest : Option Version) : Type 0 where
   pub ids : List ℕ
-  pub single : Bool
   pub input : PlanInput
   pub packages : List PackageView
-  pub notes : List Note
-  pub on_features : List Note
-  pub chosen : AreChosen cx ids single notes
+  pub chosen : AreChosen cx ids
   pub of_call : IsInputOf cx ids input
-  pub planned : ArePlanned cx single ids packages on_features
+  pub each : AllZip (HasPackageRuns cx) ids packages
   pub known : (e : PackagesFault) → ¬ IsChoiceFault cx e
   pub readable : (e : VersionFault) → ¬ HasBadOwn cx ids e
   pub in_range : (e : RangeFault) → ¬ IsVersionsFault input.range input latest e
@@ -43,18 +40,18 @@ pub no-cause : (cx : ContextRecord) (latest : Option Version) → IsSound cx lat
 no-cause cx latest h fault.Memory bad = bad
 no-cause cx latest h (fault.Stable text) bad = bad
 no-cause cx latest h (fault.Packages e) bad = h.known e bad
-no-cause cx latest h (fault.Version e) bad = h.readable e (subst (λ ids. HasBadOwn cx ids e) (chosen-once cx bad.ids h.ids bad.single h.single bad.notes h.notes bad.chosen h.chosen) bad.bad)
+no-cause cx latest h (fault.Version e) bad = h.readable e (subst (λ ids. HasBadOwn cx ids e) (chosen-once cx bad.ids h.ids bad.chosen h.chosen) bad.bad)
 no-cause cx latest h (fault.Range e) bad =
-    let ids = chosen-once cx bad.ids h.ids bad.single h.single bad.notes h.notes bad.chosen h.chosen in
+    let ids = chosen-once cx bad.ids h.ids bad.chosen h.chosen in
     let agree = inputs-agree cx h.ids bad.input h.input (subst (λ l. IsInputOf cx l bad.input) ids bad.of_call) h.of_call in
     h.in_range e (fault-same bad.input h.input agree latest e bad.bad)
 no-cause cx latest h (fault.TooManyQuestions name) both = no-strength cx.args.strength both.0 both.1.wide.2.wide.given
 no-cause cx latest h fault.TooManyRuns both =
     let bad = both.1 in
-    let ids = chosen-once cx bad.ids h.ids bad.single h.single bad.notes h.notes bad.chosen h.chosen in
+    let ids = chosen-once cx bad.ids h.ids bad.chosen h.chosen in
     let agree = inputs-agree cx h.ids bad.input h.input (subst (λ l. IsInputOf cx l bad.input) ids bad.of_call) h.of_call in
-    let planned = subst (λ l. ArePlanned cx bad.single l bad.packages bad.on_features) ids bad.planned in
-    let counts = counts-once cx both.0 h.ids bad.single h.single bad.packages h.packages bad.on_features h.on_features planned h.planned in
+    let each = subst (λ l. AllZip (HasPackageRuns cx) l bad.packages) ids bad.each in
+    let counts = counts-once cx both.0 h.ids bad.packages h.packages each h.each in
     h.fits (subst (λ ns. HasTooMany h.input ns latest) counts (many-same bad.input h.input agree (run_counts bad.packages) latest bad.many))
 
 -- a sure cause that depends on the answer for `stable` is one for this version

@@ -21,12 +21,11 @@ use Rattle.hack_planner.specs.MembersView.{choosing_of}
 use Rattle.hack_plan.specs.Runs.{PackageRun, runs_from}
 use Rattle.hack_plan.specs.declared.versions.PlanInput.{PlanInput}
 use Rattle.hack_plan.specs.View.{PackageView}
-use Rattle.hack_base.specs.Notes.{Note}
 use Rattle.hack_versions.specs.declared.group.PackageVersion.{PackageVersion}
 use Rattle.hack_versions.specs.declared.version.Version.{Version}
 use Rattle.hack_versions.specs.declared.version.VersionRange.{VersionRange}
 use Rattle.hack_versions.proofs.RangeLemmas.{version-same}
-use Rattle.hack_planner.specs.Calls.{AreMembers, starts, grows, ArePlanned, begins, adds, IsMember, IsOwn, IsPlanned, IsInputOf}
+use Rattle.hack_planner.specs.Calls.{AreMembers, starts, grows, HasPackageRuns, IsMember, IsOwn, IsInputOf}
 use Rattle.hack_planner.specs.CallPlan.{run_counts}
 use Rattle.hack_planner.proofs.InputLemmas.{AgreeInputs, AreAlike, map-alike, zip-alike}
 
@@ -44,16 +43,16 @@ about-once : (named : Bool) (c : Choosing) (members xs ys : List Member) → IsA
 about-once true c members xs ys h k = collects-once (IsMatched c.named) (λ m. m) members xs ys h k
 about-once false c members xs ys h k = h ∙ sym k
 
-listed-once : (c : Choosing) (root : Name) (members : List Member) (places others : List ℕ) (single one : Bool) (notes more : List Note) → IsPackageList c root members places single notes → IsPackageList c root members others one more → places ≡ others
-listed-once c root members places others single one notes more h k =
-    let about : h.about ≡ k.about = about-once (names_some c) c members h.about k.about h.is_about k.is_about in
-    let remain = subst (λ l. SelectsMembers (λ m. ¬ IsMatched c.excluded m) l h.remaining) about h.remain in
-    let remaining : h.remaining ≡ k.remaining = collects-once (λ m. ¬ IsMatched c.excluded m) (λ m. m) k.about h.remaining k.remaining remain k.remain in
+listed-once : (c : Choosing) (members : List Member) (places others : List ℕ) → IsPackageList c members places → IsPackageList c members others → places ≡ others
+listed-once c members places others h k =
+    let about : h.left.about ≡ k.left.about = about-once (names_some c) c members h.left.about k.left.about h.left.is_about k.left.is_about in
+    let remain = subst (λ l. SelectsMembers (λ m. ¬ IsMatched c.excluded m) l h.remaining) about h.left.remain in
+    let remaining : h.remaining ≡ k.remaining = collects-once (λ m. ¬ IsMatched c.excluded m) (λ m. m) k.left.about h.remaining k.remaining remain k.left.remain in
     h.chosen ∙ ap (λ l. map (λ (m : Member). m.place) (filter (λ m. not (is_skipped c m)) l)) remaining ∙ sym k.chosen
 
 -- two choices of one call have the same ids
-pub chosen-once : (cx : ContextRecord) (ids others : List ℕ) (single one : Bool) (notes more : List Note) → AreChosen cx ids single notes → AreChosen cx others one more → ids ≡ others
-chosen-once cx ids others single one notes more h k = listed-once (choosing_of cx.args (current_name cx)) cx.metadata.workspace_root (members_in cx) ids others single one notes more h k
+pub chosen-once : (cx : ContextRecord) (ids others : List ℕ) → AreChosen cx ids → AreChosen cx others → ids ≡ others
+chosen-once cx ids others h k = listed-once (choosing_of cx.args (current_name cx)) (members_in cx) ids others h k
 
 -- ---- their own versions
 
@@ -135,26 +134,16 @@ runs-once : (b : Bool) (w : Wishes) (p : Known) (xs ys : List PackageRun) → w.
 runs-once true w p xs ys all h k = h.made ∙ ap (runs_from (options_of w p)) (sets-once w.powerset w p h.sets k.sets all h.are_sets k.are_sets) ∙ sym k.made
 runs-once false w p xs ys all h k = h ∙ sym k
 
--- a package with its runs, as in a plan
-abbrev HasRuns : ContextRecord → ℕ → PackageView → Type 0
-HasRuns cx id k = (single : Bool) × (notes : List Note) × IsPlanned cx single id k notes
-
-package-once : (cx : ContextRecord) → cx.args.strength ≡ None → (id : ℕ) (k l : PackageView) → HasRuns cx id k → HasRuns cx id l → length k.runs ≡ length l.runs
-package-once cx all id k l h i =
-    let a = h.2 in
-    let b = i.2 in
+-- a package has one number of runs
+package-once : (cx : ContextRecord) → cx.args.strength ≡ None → (id : ℕ) (k l : PackageView) → HasPackageRuns cx id k → HasPackageRuns cx id l → length k.runs ≡ length l.runs
+package-once cx all id k l a b =
     let pkg = same_Some a.pkg b.pkg (sym a.known ∙ b.known) in
     let features = same_Some a.features b.features (sym a.loaded ∙ b.loaded) in
     let runs = subst (λ q. AreRuns (wishes cx.args) (known_as q b.features) k.runs) pkg (subst (λ f. AreRuns (wishes cx.args) (known_as a.pkg f) k.runs) features a.runs) in
     ap (λ (rs : List PackageRun). length rs) (runs-once (asks (wishes cx.args)) (wishes cx.args) (known_as b.pkg b.features) k.runs l.runs all runs b.runs)
 
-planned-each : (cx : ContextRecord) (single : Bool) (ids : List ℕ) (packages : List PackageView) (notes : List Note) → ArePlanned cx single ids packages notes → AllZip (HasRuns cx) ids packages
-planned-each cx single ids packages notes begins = tt
-planned-each cx single _ _ _ (adds {ids} {packages} {notes} {id} {k} {more} before is) =
-    each-join (HasRuns cx) ids (id ∷ []) packages (k ∷ []) (planned-each cx single ids packages notes before) ((single, more, is), tt)
-
 -- the number of runs of each chosen package is determined, where there are no samples
-pub counts-once : (cx : ContextRecord) → cx.args.strength ≡ None → (ids : List ℕ) (single one : Bool) (packages others : List PackageView) (notes more : List Note) → ArePlanned cx single ids packages notes → ArePlanned cx one ids others more → run_counts packages ≡ run_counts others
-counts-once cx all ids single one packages others notes more h k =
+pub counts-once : (cx : ContextRecord) → cx.args.strength ≡ None → (ids : List ℕ) (packages others : List PackageView) → AllZip (HasPackageRuns cx) ids packages → AllZip (HasPackageRuns cx) ids others → run_counts packages ≡ run_counts others
+counts-once cx all ids packages others h k =
     map-alike (λ (p q : PackageView). length p.runs ≡ length q.runs) (λ p. length p.runs) (λ p q e. e) packages others
-    (zip-alike (HasRuns cx) (λ (p q : PackageView). length p.runs ≡ length q.runs) (package-once cx all) ids packages others (planned-each cx single ids packages notes h) (planned-each cx one ids others more k))
+    (zip-alike (HasPackageRuns cx) (λ (p q : PackageView). length p.runs ≡ length q.runs) (package-once cx all) ids packages others h k)

@@ -1,6 +1,7 @@
 -- The chosen packages of a plan in parallel lists, and what the plan covers.
 use Rattle.std.proofs.Common.{◌≡◌, refl, sym, ap, subst, ◌∙◌, arith, ℕ, zero, suc, ◌<◌, List, [], ◌∷◌, ◌++◌, ◌⊎◌, inl, inr, length, get_or, Bool, true, false, Option, None, Some, option_map}
 use Rattle.std.specs.Prelude.{IsSomeAnd, IsTrue, ◌↔◌, slice_get}
+use Rattle.std.specs.List.{AllZip}
 use Rattle.std.proofs.lemmas.List.{length-append}
 use Rattle.std.proofs.lemmas.Option.{slice_get-map, slice_get_read, get_or_from_slice_get}
 use Rattle.hack_features.specs.Rules.{IsWanted}
@@ -25,7 +26,7 @@ use Rattle.hack_versions.specs.declared.version.Version.{Version}
 use Rattle.hack_base.specs.Notes.{Note}
 use Rattle.hack_rules.specs.declared.uses.behavior.WorkspaceBehavior.TheVariants.{Cargo}
 use Rattle.hack_planner.specs.Calls.{AreMembers, starts, grows, ArePlanned, begins, adds, IsPlanned}
-use Rattle.hack_planner.specs.CallPlan.{IsPlan, run_counts}
+use Rattle.hack_planner.specs.CallPlan.{HasJustRuns, IsPlan, run_counts}
 use Rattle.hack_planner.specs.CoveredSets.{AreCovered, HoldsCover, choice_at}
 
 -- the candidates of a kind are those of its package, or none where the package has a plain run alone
@@ -43,17 +44,24 @@ members-length cx _ _ (grows {ids} {members} {id} {member} before is) =
     let b = length-append members (member ∷ []) in
     omega arith
 
+pub same_some : {X : Type 0} (a b : X) → Some a ≡ Some b → a ≡ b
+same_some a b e = cc
+
+-- what stands beside an element of the first list
+pub zip-at : {A B : Type 0} (R : A → B → Type 0) (xs : List A) (ys : List B) (k : ℕ) (x : A) → AllZip R xs ys → slice_get xs k ≡ Some x → (y : B) × (slice_get ys k ≡ Some y) × R x y
+zip-at R [] ys k x h at = absurd (cc)
+zip-at R (z ∷ xs) [] k x h at = absurd h
+zip-at R (z ∷ xs) (y ∷ ys) zero x h at = (y, refl, subst (λ w. R w y) (same_some z x at) h.0)
+zip-at R (z ∷ xs) (y ∷ ys) (suc k) x h at = zip-at R xs ys k x h.1 at
+
 -- there is a planned package for each chosen one
-pub planned-length : (cx : ContextRecord) (single : Bool) (ids : List ℕ) (packages : List PackageView) (notes : List Note) → ArePlanned cx single ids packages notes → length ids ≡ length packages
+planned-length : (cx : ContextRecord) (single : Bool) (ids : List ℕ) (packages : List PackageView) (notes : List Note) → ArePlanned cx single ids packages notes → length ids ≡ length packages
 planned-length cx single ids packages notes begins = refl
 planned-length cx single _ _ _ (adds {ids} {packages} {notes} {id} {k} {more} before is) =
     let h = planned-length cx single ids packages notes before in
     let a = length-append ids (id ∷ []) in
     let b = length-append packages (k ∷ []) in
     omega arith
-
-pub same_some : {X : Type 0} (a b : X) → Some a ≡ Some b → a ≡ b
-same_some a b e = cc
 
 -- an element of a list to which one was appended
 push-cases : {X : Type 0} (xs : List X) (last : X) (i : ℕ) (x : X) → slice_get (xs ++ last ∷ []) i ≡ Some x → (slice_get xs i ≡ Some x) ⊎ ((i ≡ length xs) × (last ≡ x))
@@ -72,7 +80,7 @@ push-end [] last = refl
 push-end (y ∷ xs) last = push-end xs last
 
 -- the planned package at an index
-pub planned-at : (cx : ContextRecord) (single : Bool) (ids : List ℕ) (packages : List PackageView) (notes : List Note) (place id : ℕ) → ArePlanned cx single ids packages notes → slice_get ids place ≡ Some id
+planned-at : (cx : ContextRecord) (single : Bool) (ids : List ℕ) (packages : List PackageView) (notes : List Note) (place id : ℕ) → ArePlanned cx single ids packages notes → slice_get ids place ≡ Some id
     → (k : PackageView) × (more : List Note) × (slice_get packages place ≡ Some k) × IsPlanned cx single id k more
 planned-at cx single ids packages notes place id begins at = absurd (cc)
 planned-at cx single _ _ _ place id (adds {ids} {packages} {notes} {id = last} {k} {more} before is) at =
@@ -95,11 +103,11 @@ below-count packages place rank k at lt =
     subst (λ n. rank < n) (sym (get_or_from_slice_get (run_counts packages) place (length k.runs) 0 there)) lt
 
 -- where a package's runs cover its sets, the plan does
-cover-at : (cx : ContextRecord) (rustup : List ℕ) (latest : Option Version) (plan : PlanView) (notes : List Note) (h : IsPlan cx rustup latest plan notes) → h.input.as_cargo ≡ false
+cover-at : (cx : ContextRecord) (latest : Option Version) (plan : PlanView) (h : HasJustRuns cx latest plan) → h.input.as_cargo ≡ false
     → (place id : ℕ) (p : PackageRecord) (features : Features) (version : Option Version) (slot : ℕ) (s : List ℕ) → UsesVersion h.input.range h.input h.places.0 version place → slot < slots_of h.input version
     → (k : PackageView) → slice_get plan.packages place ≡ Some k → AreCovering (wishes cx.args) (known_as p features) k.runs
     → IsSelection (length (candidates (wishes cx.args) (known_as p features))) s → IsWanted (choice_at cx p features) s → HoldsCover plan version slot place (choice_at cx p features) s
-cover-at cx rustup latest plan notes h each place id p features version slot s uses within k at covering selection wanted =
+cover-at cx latest plan h each place id p features version slot s uses within k at covering selection wanted =
     let cover = covering s selection wanted in
     let rank = cover.2.0 in
     let entry : PlanEntry = record { version = version; slot = slot; «package» = Some place; rank = rank } in
@@ -115,18 +123,16 @@ cover-at cx rustup latest plan notes h each place id p features version slot s u
 -- under a powerset a plan covers the sets of its packages
 pub covers : (cx : ContextRecord) (rustup : List ℕ) (latest : Option Version) (plan : PlanView) (notes : List Note) → IsPlan cx rustup latest plan notes → cx.args.feature_powerset ≡ true → cx.args.strength ≡ None → ¬ (cx.args.workspace_behavior ≡ Cargo) → AreCovered cx latest plan
 covers cx rustup latest plan notes h powerset all each = record {
-  ids = h.ids;
-  single = h.single;
-  notes = h.on_packages;
-  input = h.input;
-  steps = h.places.0;
-  chosen = h.chosen;
-  of_call = h.of_call;
-  on_steps = h.places.1;
+  ids = h.base.ids;
+  input = h.base.input;
+  steps = h.base.places.0;
+  chosen = h.base.chosen;
+  of_call = h.base.of_call;
+  on_steps = h.base.places.1;
   covered = λ place id p features version slot s at known loaded uses within selection wanted.
-      let m = planned-at cx h.single h.ids plan.packages h.on_features place id h.planned at in
+      let m = planned-at cx h.single h.base.ids plan.packages h.on_features place id h.planned at in
       let same_p = same_some m.3.pkg p (sym m.3.known ∙ known) in
       let same_f = same_some m.3.features features (sym m.3.loaded ∙ loaded) in
       let covering = subst (λ q. AreCovering (wishes cx.args) (known_as q features) m.0.runs) same_p (subst (λ f. AreCovering (wishes cx.args) (known_as m.3.pkg f) m.0.runs) same_f (m.3.covered powerset all)) in
-      cover-at cx rustup latest plan notes h (not-all h.input.as_cargo _ h.of_call.as_cargo each) place id p features version slot s uses within m.0 m.2 covering selection wanted;
+      cover-at cx latest plan h.base (not-all h.base.input.as_cargo _ h.base.of_call.as_cargo each) place id p features version slot s uses within m.0 m.2 covering selection wanted;
 }

@@ -4,6 +4,7 @@ use Rattle.std.specs.Prelude.{IsSomeAnd, slice_get, ◌||◌}
 use Rattle.std.proofs.lemmas.List.{get_or_default}
 use Rattle.std.proofs.lemmas.List.Elements.{All-contains}
 use Rattle.std.proofs.lemmas.Option.{slice_get_read}
+use Rattle.std.proofs.lemmas.Slice.Zip.{AllZip-long}
 use Rattle.hack_base.proofs.Members.{Contains-cons_cases, Contains-head, Contains-tail, Contains-nil, Contains-map}
 use Rattle.hack_features.specs.Rules.{IsListed}
 use Rattle.hack_features.specs.Samples.{IsSample, CoversPatterns, SetShows}
@@ -26,17 +27,17 @@ use Rattle.hack_plan.specs.Runs.{PackageRun, Plain, AllFeatures, NoDefaultFeatur
 use Rattle.hack_plan.specs.Inputs.{UsesVersion, slots_of}
 use Rattle.hack_plan.specs.declared.places.PlanEntry.{PlanEntry}
 use Rattle.hack_plan.specs.View.{PackageView, PlanView}
-use Rattle.hack_base.specs.Notes.{Note}
 use Rattle.hack_versions.specs.declared.version.Version.{Version}
 use Rattle.hack_rules.specs.declared.uses.behavior.WorkspaceBehavior.TheVariants.{Cargo}
+use Rattle.hack_planner.specs.Calls.{HasPackageRuns}
 use Rattle.hack_planner.specs.Internal.{SaysNoSample, HasRunsFault}
 use Rattle.hack_planner.specs.CoveredSets.{choice_at}
-use Rattle.hack_planner.specs.CallPlan.{IsCause, IsPlan, run_counts}
+use Rattle.hack_planner.specs.CallPlan.{HasJustRuns, IsCause, run_counts}
 use Rattle.hack_planner.specs.Powersets.{run_sets_of}
 use Rattle.hack_planner.specs.Samples.{IsSampleOf, HaveSamples, HoldsPattern, ArePatternsHeld}
 use Rattle.hack_planner.specs.declared.fault.PlanFault.{PlanFault}
 use Rattle.hack_planner.specs.declared.fault.PlanFault.TheVariants as fault
-use Rattle.hack_planner.proofs.PlanLemmas.{below-count, not-all, planned-at, planned-length, same_some}
+use Rattle.hack_planner.proofs.PlanLemmas.{below-count, not-all, same_some, zip-at}
 use Rattle.hack_planner.proofs.PowersetLemmas.{apart, apart-turned, from-turned, in-turned, or-true, sets_of-runs}
 
 -- a package whose runs have too many questions has no sample
@@ -51,21 +52,21 @@ runs-at cx ids i d lt e bad =
     ((get_or ids i d).index, Contains-map place_at ids (get_or ids i d) (i, lt, get_or_default ids i (get_or ids i d) d lt), bad)
 
 -- that there is no sample is a cause to refuse the plan
-pub sample-cause : (cx : ContextRecord) (ids : List ℕ) (single : Bool) (notes : List Note) (latest : Option Version) (e : PlanFault) → AreChosen cx ids single notes
+pub sample-cause : (cx : ContextRecord) (ids : List ℕ) (latest : Option Version) (e : PlanFault) → AreChosen cx ids
     → (e ≡ fault.Memory) ⊎ HasRunsFault cx ids e → (e ≡ fault.Memory) ⊎ IsCause cx latest e
-sample-cause cx ids single notes latest fault.Memory chosen h = inl refl
-sample-cause cx ids single notes latest (fault.Stable text) chosen (inl e) = absurd (cc)
-sample-cause cx ids single notes latest (fault.Stable text) chosen (inr bad) = absurd bad.2
-sample-cause cx ids single notes latest (fault.Packages e) chosen (inl m) = absurd (cc)
-sample-cause cx ids single notes latest (fault.Packages e) chosen (inr bad) = absurd bad.2
-sample-cause cx ids single notes latest (fault.Version e) chosen (inl m) = absurd (cc)
-sample-cause cx ids single notes latest (fault.Version e) chosen (inr bad) = absurd bad.2
-sample-cause cx ids single notes latest (fault.Range e) chosen (inl m) = absurd (cc)
-sample-cause cx ids single notes latest (fault.Range e) chosen (inr bad) = absurd bad.2
-sample-cause cx ids single notes latest (fault.TooManyQuestions name) chosen (inl e) = absurd (cc)
-sample-cause cx ids single notes latest (fault.TooManyQuestions name) chosen (inr bad) = inr (record { ids = ids; single = single; notes = notes; chosen = chosen; wide = bad })
-sample-cause cx ids single notes latest fault.TooManyRuns chosen (inl e) = absurd (cc)
-sample-cause cx ids single notes latest fault.TooManyRuns chosen (inr bad) = absurd bad.2
+sample-cause cx ids latest fault.Memory chosen h = inl refl
+sample-cause cx ids latest (fault.Stable text) chosen (inl e) = absurd (cc)
+sample-cause cx ids latest (fault.Stable text) chosen (inr bad) = absurd bad.2
+sample-cause cx ids latest (fault.Packages e) chosen (inl m) = absurd (cc)
+sample-cause cx ids latest (fault.Packages e) chosen (inr bad) = absurd bad.2
+sample-cause cx ids latest (fault.Version e) chosen (inl m) = absurd (cc)
+sample-cause cx ids latest (fault.Version e) chosen (inr bad) = absurd bad.2
+sample-cause cx ids latest (fault.Range e) chosen (inl m) = absurd (cc)
+sample-cause cx ids latest (fault.Range e) chosen (inr bad) = absurd bad.2
+sample-cause cx ids latest (fault.TooManyQuestions name) chosen (inl e) = absurd (cc)
+sample-cause cx ids latest (fault.TooManyQuestions name) chosen (inr bad) = inr (record { ids = ids; chosen = chosen; wide = bad })
+sample-cause cx ids latest fault.TooManyRuns chosen (inl e) = absurd (cc)
+sample-cause cx ids latest fault.TooManyRuns chosen (inr bad) = absurd bad.2
 
 -- the sets of a package's runs under a strength
 sample : (w : Wishes) (p : Known) (strength : ℕ) (runs : List PackageRun) → w.powerset ≡ true → w.strength ≡ Some strength → AreRuns w p runs → IsSampleOf (package_choice w p) strength runs
@@ -89,20 +90,18 @@ sample w p strength runs is given made =
     }
 
 -- with a strength each chosen package of a plan has a sample
-pub samples : (cx : ContextRecord) (rustup : List ℕ) (latest : Option Version) (plan : PlanView) (notes : List Note) (strength : ℕ) → IsPlan cx rustup latest plan notes
+pub samples : (cx : ContextRecord) (latest : Option Version) (plan : PlanView) (strength : ℕ) → HasJustRuns cx latest plan
     → cx.args.feature_powerset ≡ true → cx.args.strength ≡ Some strength → HaveSamples cx strength plan
-samples cx rustup latest plan notes strength h is given = record {
+samples cx latest plan strength h is given = record {
   ids = h.ids;
-  single = h.single;
-  notes = h.on_packages;
   chosen = h.chosen;
-  as_many = planned-length cx h.single h.ids plan.packages h.on_features h.planned;
+  as_many = sym (AllZip-long (HasPackageRuns cx) h.ids plan.packages h.packages);
   each = λ place id p features at known loaded.
-      let m = planned-at cx h.single h.ids plan.packages h.on_features place id h.planned at in
-      let same_p = same_some m.3.pkg p (sym m.3.known ∙ known) in
-      let same_f = same_some m.3.features features (sym m.3.loaded ∙ loaded) in
-      let runs = subst (λ q. AreRuns (wishes cx.args) (known_as q features) m.0.runs) same_p (subst (λ f. AreRuns (wishes cx.args) (known_as m.3.pkg f) m.0.runs) same_f m.3.runs) in
-      subst (λ o. IsSomeAnd o (λ (k : PackageView). IsSampleOf (choice_at cx p features) strength k.runs)) (sym m.2) (sample (wishes cx.args) (known_as p features) strength m.0.runs is given runs);
+      let m = zip-at (HasPackageRuns cx) h.ids plan.packages place id h.packages at in
+      let same_p = same_some m.2.pkg p (sym m.2.known ∙ known) in
+      let same_f = same_some m.2.features features (sym m.2.loaded ∙ loaded) in
+      let runs = subst (λ q. AreRuns (wishes cx.args) (known_as q features) m.0.runs) same_p (subst (λ f. AreRuns (wishes cx.args) (known_as m.2.pkg f) m.0.runs) same_f m.2.runs) in
+      subst (λ o. IsSomeAnd o (λ (k : PackageView). IsSampleOf (choice_at cx p features) strength k.runs)) (sym m.1) (sample (wishes cx.args) (known_as p features) strength m.0.runs is given runs);
 }
 
 -- a set of runs has its run
@@ -118,11 +117,11 @@ in-runs (Set t ∷ runs) s c =
     ]
 
 -- where a package's sample shows a pattern, the plan does
-pattern-at : (cx : ContextRecord) (rustup : List ℕ) (latest : Option Version) (plan : PlanView) (notes : List Note) (h : IsPlan cx rustup latest plan notes) → h.input.as_cargo ≡ false
+pattern-at : (cx : ContextRecord) (latest : Option Version) (plan : PlanView) (h : HasJustRuns cx latest plan) → h.input.as_cargo ≡ false
     → (place : ℕ) (p : PackageRecord) (features : Features) (version : Option Version) (slot : ℕ) (pattern : List Setting) → UsesVersion h.input.range h.input h.places.0 version place → slot < slots_of h.input version
     → (k : PackageView) → slice_get plan.packages place ≡ Some k → (s : List ℕ) → Contains (run_sets_of k.runs) s → SetShows (choice_at cx p features) pattern s
     → HoldsPattern plan version slot place (choice_at cx p features) pattern
-pattern-at cx rustup latest plan notes h each place p features version slot pattern uses within k at s there shows =
+pattern-at cx latest plan h each place p features version slot pattern uses within k at s there shows =
     let run = in-runs k.runs s there in
     let rank = run.0 in
     let entry : PlanEntry = record { version = version; slot = slot; «package» = Some place; rank = rank } in
@@ -136,22 +135,20 @@ pattern-at cx rustup latest plan notes h each place p features version slot patt
     }
 
 -- with a strength a plan holds a place for each pattern
-pub patterns : (cx : ContextRecord) (rustup : List ℕ) (latest : Option Version) (plan : PlanView) (notes : List Note) (strength : ℕ) → IsPlan cx rustup latest plan notes
+pub patterns : (cx : ContextRecord) (latest : Option Version) (plan : PlanView) (strength : ℕ) → HasJustRuns cx latest plan
     → cx.args.feature_powerset ≡ true → cx.args.strength ≡ Some strength → ¬ (cx.args.workspace_behavior ≡ Cargo) → ArePatternsHeld cx strength latest plan
-patterns cx rustup latest plan notes strength h is given each = record {
+patterns cx latest plan strength h is given each = record {
   ids = h.ids;
-  single = h.single;
-  notes = h.on_packages;
   input = h.input;
   steps = h.places.0;
   chosen = h.chosen;
   of_call = h.of_call;
   on_steps = h.places.1;
   held = λ place id p features version slot pattern s at known loaded uses within few selection listed shows.
-      let m = planned-at cx h.single h.ids plan.packages h.on_features place id h.planned at in
-      let same_p = same_some m.3.pkg p (sym m.3.known ∙ known) in
-      let same_f = same_some m.3.features features (sym m.3.loaded ∙ loaded) in
-      let runs = subst (λ q. AreRuns (wishes cx.args) (known_as q features) m.0.runs) same_p (subst (λ f. AreRuns (wishes cx.args) (known_as m.3.pkg f) m.0.runs) same_f m.3.runs) in
+      let m = zip-at (HasPackageRuns cx) h.ids plan.packages place id h.packages at in
+      let same_p = same_some m.2.pkg p (sym m.2.known ∙ known) in
+      let same_f = same_some m.2.features features (sym m.2.loaded ∙ loaded) in
+      let runs = subst (λ q. AreRuns (wishes cx.args) (known_as q features) m.0.runs) same_p (subst (λ f. AreRuns (wishes cx.args) (known_as m.2.pkg f) m.0.runs) same_f m.2.runs) in
       let by = (sample (wishes cx.args) (known_as p features) strength m.0.runs is given runs).covers pattern few s selection listed shows in
-      pattern-at cx rustup latest plan notes h (not-all h.input.as_cargo _ h.of_call.as_cargo each) place p features version slot pattern uses within m.0 m.2 by.by by.chosen by.shows;
+      pattern-at cx latest plan h (not-all h.input.as_cargo _ h.of_call.as_cargo each) place p features version slot pattern uses within m.0 m.1 by.by by.chosen by.shows;
 }

@@ -5,6 +5,7 @@ use Rattle.std.specs.List.{filter_map}
 use Rattle.std.proofs.lemmas.Bool.{eqb-true}
 use Rattle.std.proofs.lemmas.List.{take-append-drop, get_or_append_left, get_or-append-add, length-append}
 use Rattle.std.proofs.lemmas.List.Elements.{All-append, All-cons, All-head, All-tail, Contains-append_left, Contains-append_right, Contains-append_cases, filter_map-append}
+use Rattle.std.proofs.lemmas.Slice.Zip.{AllZip-long}
 use Rattle.hack_features.specs.Sets.{IsBefore, IsListing, Pairwise}
 use Rattle.hack_load.specs.Contexts.{ContextRecord}
 use Rattle.hack_load.specs.declared.features.Features.{Features}
@@ -16,12 +17,12 @@ use Rattle.hack_planner.specs.Kinds.{ArePowersets, AreSets, AreSetRuns, AreRuns,
 use Rattle.hack_plan.specs.Runs.{PackageRun, Plain, AllFeatures, NoDefaultFeatures, Set, allows_two, is_plain, in_turn, keeps_all, run_if, last_first, runs_from, with_last_first}
 use Rattle.hack_plan.specs.declared.runs.RunOptions.{RunOptions}
 use Rattle.hack_plan.specs.View.{PackageView, PlanView}
-use Rattle.hack_base.specs.Notes.{Note}
 use Rattle.hack_versions.specs.declared.version.Version.{Version}
+use Rattle.hack_planner.specs.Calls.{HasPackageRuns}
 use Rattle.hack_planner.specs.CoveredSets.{choice_at}
-use Rattle.hack_planner.specs.CallPlan.{IsPlan}
+use Rattle.hack_planner.specs.CallPlan.{HasJustRuns}
 use Rattle.hack_planner.specs.Powersets.{HavePowersets, IsPowerset, set_of, run_sets_of}
-use Rattle.hack_planner.proofs.PlanLemmas.{planned-at, planned-length, same_some}
+use Rattle.hack_planner.proofs.PlanLemmas.{same_some, zip-at}
 
 all-front : {X : Type 0} (P : X → Type 0) (xs ys : List X) → All P (xs ++ ys) → All P xs
 all-front P xs ys h = λ k d l. subst P (get_or_append_left xs ys d k l) (h k d (omega (arith, l, length-append xs ys)))
@@ -135,17 +136,15 @@ powerset w p runs is all made =
     }
 
 -- under a powerset each chosen package of a plan has its powerset
-pub powersets : (cx : ContextRecord) (rustup : List ℕ) (latest : Option Version) (plan : PlanView) (notes : List Note) → IsPlan cx rustup latest plan notes → cx.args.feature_powerset ≡ true → cx.args.strength ≡ None → HavePowersets cx plan
-powersets cx rustup latest plan notes h is all = record {
+pub powersets : (cx : ContextRecord) (latest : Option Version) (plan : PlanView) → HasJustRuns cx latest plan → cx.args.feature_powerset ≡ true → cx.args.strength ≡ None → HavePowersets cx plan
+powersets cx latest plan h is all = record {
   ids = h.ids;
-  single = h.single;
-  notes = h.on_packages;
   chosen = h.chosen;
-  as_many = planned-length cx h.single h.ids plan.packages h.on_features h.planned;
+  as_many = sym (AllZip-long (HasPackageRuns cx) h.ids plan.packages h.packages);
   each = λ place id p features at known loaded.
-      let m = planned-at cx h.single h.ids plan.packages h.on_features place id h.planned at in
-      let same_p = same_some m.3.pkg p (sym m.3.known ∙ known) in
-      let same_f = same_some m.3.features features (sym m.3.loaded ∙ loaded) in
-      let runs = subst (λ q. AreRuns (wishes cx.args) (known_as q features) m.0.runs) same_p (subst (λ f. AreRuns (wishes cx.args) (known_as m.3.pkg f) m.0.runs) same_f m.3.runs) in
-      subst (λ o. IsSomeAnd o (λ (k : PackageView). IsPowerset (choice_at cx p features) k.runs)) (sym m.2) (powerset (wishes cx.args) (known_as p features) m.0.runs is all runs);
+      let m = zip-at (HasPackageRuns cx) h.ids plan.packages place id h.packages at in
+      let same_p = same_some m.2.pkg p (sym m.2.known ∙ known) in
+      let same_f = same_some m.2.features features (sym m.2.loaded ∙ loaded) in
+      let runs = subst (λ q. AreRuns (wishes cx.args) (known_as q features) m.0.runs) same_p (subst (λ f. AreRuns (wishes cx.args) (known_as m.2.pkg f) m.0.runs) same_f m.2.runs) in
+      subst (λ o. IsSomeAnd o (λ (k : PackageView). IsPowerset (choice_at cx p features) k.runs)) (sym m.1) (powerset (wishes cx.args) (known_as p features) m.0.runs is all runs);
 }

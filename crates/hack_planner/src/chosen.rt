@@ -1,6 +1,7 @@
 //! The chosen packages, as a plan needs them.
 
 ghost use Rattle.std.specs.Prelude.{◌≡◌, ◌⊎◌, All, Contains, IfErr, IfOk, map};
+ghost use Rattle.std.specs.List.{AllZip};
 ghost use Rattle.hack_features.specs.Feature.{groups_of};
 ghost use Rattle.hack_base.specs.Names.{names_of, names_behind};
 ghost use Rattle.hack_planner.specs.KindsView.{candidates_in, runs_of};
@@ -9,7 +10,7 @@ ghost use Rattle.hack_metadata.specs.RecordViews.{place_at};
 ghost use Rattle.hack_load.specs.ContextView.{context_view};
 ghost use Rattle.hack_base.specs.Notes.{note_of};
 ghost use Rattle.hack_plan.specs.View.{plan_package_view};
-ghost use Rattle.hack_planner.specs.Calls.{IsPlanned, ArePlanned};
+ghost use Rattle.hack_planner.specs.Calls.{HasPackageRuns, IsPlanned, ArePlanned};
 ghost use Rattle.hack_planner.specs.Internal.{SaysNoSample, HasRunsFault};
 
 use crate::determine::determine_kind;
@@ -48,6 +49,8 @@ fn chosen_package(
     requires { Contains (context_view cx.now).metadata.workspace_members id.index }
     ensures ok { IfOk result (λ answer. IsPlanned (context_view cx.now) single id.index
         (plan_package_view answer.0) (map note_of answer.1.items)) }
+    ensures runs { IfOk result (λ answer. HasPackageRuns (context_view cx.now) id.index
+        (plan_package_view answer.0)) }
     ensures err { IfErr result (λ e. (e ≡ PlanFault.Memory)
         ⊎ SaysNoSample (context_view cx.now) id.index e) }
 {
@@ -91,6 +94,8 @@ pub(crate) fn chosen_packages(
     ensures ok { IfOk result (λ answer. ArePlanned (context_view cx.now) single
         (map place_at ids.now) (map plan_package_view answer.0.items)
         (map note_of answer.1.items)) }
+    ensures runs { IfOk result (λ answer. AllZip (HasPackageRuns (context_view cx.now))
+        (map place_at ids.now) (map plan_package_view answer.0.items)) }
     ensures err { IfErr result (λ e. (e ≡ PlanFault.Memory)
         ⊎ HasRunsFault (context_view cx.now) (map place_at ids.now) e) }
 {

@@ -18,7 +18,7 @@ ghost use Rattle.hack_planner.specs.LeastRuns.{HasRunsAtLeast};
 ghost use Rattle.hack_planner.specs.ContextMembers.{member_at, members_in};
 ghost use Rattle.hack_planner.specs.ContextMembers.{package_name_at as named_at};
 ghost use Rattle.hack_planner.specs.ContextMembers.{current_name as current_called};
-ghost use Rattle.hack_planner.specs.ContextMembers.{AreChosen, IsChoiceFault, known_as};
+ghost use Rattle.hack_planner.specs.ContextMembers.{AreChosen, AreChoiceNotes, IsChoiceFault, known_as};
 
 use crate::fault::PackagesFault;
 use crate::kind::{PackageRuns, determine_runs};
@@ -85,7 +85,9 @@ pub fn determine_package_list(
     context: &Context,
 ) -> Result<(PackageList, Vec<Notice>), PackagesFault>
     ensures ok { IfOk result (λ answer. AreChosen (context_view context.now)
-        (map (λ id. id.index) answer.0.ids.items) answer.0.is_single (map note_of answer.1.items)) }
+        (map (λ id. id.index) answer.0.ids.items)) }
+    ensures notes { IfOk result (λ answer. AreChoiceNotes (context_view context.now)
+        answer.0.is_single (map note_of answer.1.items)) }
     ensures never { IfOk result (λ _. (e : PackagesFault)
         → ¬ IsChoiceFault (context_view context.now) e) }
     ensures err { IfErr result (λ e. (e ≡ PackagesFault.Memory)

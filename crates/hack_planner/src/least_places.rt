@@ -2,9 +2,7 @@
 //!
 //! That this finds every such call isn't promised: the plan refuses the others.
 
-ghost use Rattle.std.specs.Prelude.{◌≡◌, ◌⊎◌, All, Bool, Contains, IfErr, IfOk, List, None, map};
-ghost use Rattle.std.specs.Prelude.{true};
-ghost use Rattle.hack_base.specs.Notes.{Note};
+ghost use Rattle.std.specs.Prelude.{◌≡◌, ◌⊎◌, All, Contains, IfErr, IfOk, None, map, true};
 ghost use Rattle.hack_load.specs.ContextView.{context_view};
 ghost use Rattle.hack_metadata.specs.RecordViews.{place_at};
 ghost use Rattle.hack_planner.specs.ContextMembers.{AreChosen};
@@ -51,7 +49,7 @@ fn least_runs(alloc: Global, cx: &Context, id: PackageId) -> Result<usize, Alloc
     requires member { Contains (context_view cx.now).metadata.workspace_members id.index }
     requires powerset { (context_view cx.now).args.feature_powerset ≡ true }
     requires all { (context_view cx.now).args.strength ≡ None }
-    ensures { (single : Bool) → IfOk result (HasAtLeast (context_view cx.now) single id.index) }
+    ensures { IfOk result (HasAtLeast (context_view cx.now) id.index) }
 {
     // This call promises that what was loaded fits together.
     let _ = cx.workspace_members();
@@ -66,8 +64,8 @@ fn least_counts(alloc: Global, cx: &Context, ids: &[PackageId]) -> Result<Vec<us
         id.index) ids.now }
     requires powerset { (context_view cx.now).args.feature_powerset ≡ true }
     requires all { (context_view cx.now).args.strength ≡ None }
-    ensures { (single : Bool) → IfOk result (λ counts.
-        HaveAtLeast (context_view cx.now) single (map place_at ids.now) counts.items) }
+    ensures { IfOk result (λ counts.
+        HaveAtLeast (context_view cx.now) (map place_at ids.now) counts.items) }
 {
     let mut counts = Vec::new(alloc);
     for id in ids {
@@ -89,8 +87,7 @@ pub(crate) fn refuse_too_many(
         id.index) ids.now }
     requires input { IsInputOf (context_view cx.now) (map place_at ids.now) input.now }
     requires versions { AreVersions input.now versions.now }
-    ensures { (single : Bool) (notes : List Note)
-        → AreChosen (context_view cx.now) (map place_at ids.now) single notes
+    ensures { AreChosen (context_view cx.now) (map place_at ids.now)
         → IfErr result (λ e. (e ≡ PlanFault.Memory)
         ⊎ IsCause (context_view cx.now) versions.now.stable e) }
 {

@@ -5,6 +5,7 @@ ghost use Rattle.std.specs.Prelude.{option_copied};
 ghost use Rattle.hack_base.specs.Names.{Name, names_of};
 ghost use Rattle.hack_base.specs.Notes.{note_of};
 ghost use Rattle.hack_planner.specs.Members.{IsPackageList, IsAbout};
+ghost use Rattle.hack_planner.specs.MemberNotes.{AreListNotes};
 ghost use Rattle.hack_planner.specs.Members.{names_some as some_named};
 ghost use Rattle.hack_planner.specs.Members.{members_without_names as all_unnamed};
 ghost use Rattle.hack_planner.specs.MembersView.{member_view, choosing_of};
@@ -106,8 +107,9 @@ pub fn choose_packages(
     root: &str,
 ) -> Result<(PackageList, Vec<Notice>), PackagesFault>
     ensures ok { IfOk result (λ answer. IsPackageList (choosing_of args.now (option_copied
-        current.entry)) root.now
-        (map member_view members.now) (map (λ id. id.index) answer.0.ids.items) answer.0.is_single
+        current.entry)) (map member_view members.now) (map (λ id. id.index) answer.0.ids.items)) }
+    ensures notes { IfOk result (λ answer. AreListNotes (choosing_of args.now (option_copied
+        current.entry)) root.now (map member_view members.now) answer.0.is_single
         (map note_of answer.1.items)) }
     ensures never { IfOk result (λ _. (e : PackagesFault)
         → ¬ IsListFault (choosing_of args.now (option_copied current.entry)) (map member_view

@@ -4,7 +4,7 @@ ghost use Rattle.std.specs.Prelude.{◌≡◌, ◌⊎◌, All, Contains, IfOk, I
 ghost use Rattle.std.specs.Prelude.{List, ℕ, None, Option, Ok, Some, true};
 ghost use Rattle.hack_metadata.specs.RecordViews.{place_at};
 ghost use Rattle.hack_load.specs.ContextView.{context_view};
-ghost use Rattle.hack_planner.specs.ContextMembers.{AreChosen, IsChoiceFault};
+ghost use Rattle.hack_planner.specs.ContextMembers.{AreChosen, AreChoiceNotes, IsChoiceFault};
 ghost use Rattle.hack_base.specs.Notes.{note_of};
 ghost use Rattle.hack_versions.specs.RangeSteps.{NeedsStable};
 ghost use Rattle.hack_rules.specs.declared.uses.behavior.WorkspaceBehavior.TheVariants.{Cargo};
@@ -145,7 +145,9 @@ fn plan_by(
 /// The chosen packages.
 fn chosen_list(alloc: Global, cx: &Context) -> Result<(PackageList, Vec<Notice>), PlanFault>
     ensures ok { IfOk result (λ answer. AreChosen (context_view cx.now)
-        (map place_at answer.0.ids.items) answer.0.is_single (map note_of answer.1.items)) }
+        (map place_at answer.0.ids.items)) }
+    ensures notes { IfOk result (λ answer. AreChoiceNotes (context_view cx.now)
+        answer.0.is_single (map note_of answer.1.items)) }
     ensures members { IfOk result (λ answer.
         All (λ id. Contains (context_view cx.now).metadata.workspace_members id.index)
         answer.0.ids.items) }

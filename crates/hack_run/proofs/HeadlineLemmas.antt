@@ -1,6 +1,6 @@
 -- The headline, put together from the plan and its session.
-use Rattle.std.proofs.Common.{◌≡◌, sym, subst, List, ℕ, Option, None, Some, Result, Ok, true, IsSome, Global, String, length}
-use Rattle.hack_planner.specs.CallPlan.{IsPlanOf}
+use Rattle.std.proofs.Common.{◌≡◌, sym, subst, List, ℕ, Option, None, Some, Result, Ok, Err, true, IsSome, Global, String, length}
+use Rattle.hack_planner.specs.CallPlan.{HasRunsOf, IsPlanOf}
 use Rattle.hack_planner.specs.Powersets.{HavePowersets}
 use Rattle.hack_planner.specs.Samples.{HaveSamples, ArePatternsHeld}
 use Rattle.hack_rules.specs.declared.uses.behavior.WorkspaceBehavior.TheVariants.{Cargo}
@@ -23,16 +23,21 @@ shared plan = record {
   blocks = λ count some. joined-all count some plan;
 }
 
+-- the places of a call's plan
+runs-of : (subcommand : Option (String Global)) (stable : Result (Option Version) (String Global)) (cx : ContextRecord) (rustup : Name) (plan : PlanView) (notes : List Note) → IsPlanOf subcommand stable cx rustup plan notes → HasRunsOf subcommand stable cx plan
+runs-of None stable cx rustup plan notes h = h.entries
+runs-of (Some name) (Ok latest) cx rustup plan notes h = h.base
+runs-of (Some name) (Err text) cx rustup plan notes h = h
+
 -- the session of a context's plan and the chosen piece, driven to its end
 pub handed_out : (cx : ContextRecord) (stable : Result (Option Version) (String Global)) (rustup : Name) (t : Course) (plan : PlanView) (notes : List Note) (given : Args) → given ≡ cx.args
     → IsPlanOf cx.args.subcommand stable cx rustup plan notes → (IsSome cx.args.subcommand → cx.args.feature_powerset ≡ true → cx.args.strength ≡ None → HavePowersets cx plan)
     → ((strength : ℕ) → IsSome cx.args.subcommand → cx.args.feature_powerset ≡ true → cx.args.strength ≡ Some strength → HaveSamples cx strength plan)
     → ((strength : ℕ) (latest : Option Version) → stable ≡ Ok latest → IsSome cx.args.subcommand → cx.args.feature_powerset ≡ true → cx.args.strength ≡ Some strength → ¬ (cx.args.workspace_behavior ≡ Cargo) → ArePatternsHeld cx strength latest plan)
     → t.plan ≡ plan → t.keep_going ≡ cx.args.keep_going → IsSchedule given.partition plan t.schedule → next_of t ≡ None → IsHistory t → HandsOut given.partition (length plan.entries) t
-    → IsHandedOut cx stable rustup t
+    → IsHandedOut cx stable t
 handed_out cx stable rustup t plan notes given args planned powersets samples patterns same goes_on schedule complete history runs = record {
-  notes = notes;
-  plan = subst (λ (p : PlanView). IsPlanOf cx.args.subcommand stable cx rustup p notes) (sym same) planned;
+  plan = subst (λ (p : PlanView). HasRunsOf cx.args.subcommand stable cx p) (sym same) (runs-of cx.args.subcommand stable cx rustup plan notes planned);
   schedule = subst (λ (p : PlanView). IsSchedule cx.args.partition p t.schedule) (sym same) (subst (λ (a : Args). IsSchedule a.partition plan t.schedule) args schedule);
   goes_on = goes_on;
   history = history;

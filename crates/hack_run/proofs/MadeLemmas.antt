@@ -38,7 +38,7 @@ goes_on cx stable rustup old new mid term asked needed told (inr one) = record {
   mid = mid;
   asked = asked;
   needed = needed;
-  runs = inr (record { stable = stable; told = told; performs = record { course = one.course; cut = one.cut; handed = one.handed; calls = one.calls; wrote = one.wrote } });
+  runs = inr (record { stable = stable; told = told; performs = record { course = one.course; notes = one.notes; cut = one.cut; handed = one.handed; planned = one.planned; calls = one.calls; wrote = one.wrote } });
 }
 
 -- nothing is printed
@@ -52,7 +52,7 @@ shows_nothing false had = tt
 behind_told : (cx : ContextRecord) (rustup : Name) (mid : List Call) (old new : HostView) (was now : Term) → PerformsBehind cx rustup mid old new → PerformsBehind cx rustup mid (record old { term = was }) (record new { term = now })
 behind_told cx rustup mid old new was now h =
     let one = h.performs in
-    record { stable = h.stable; told = h.told; performs = record { course = one.course; cut = one.cut; handed = one.handed; calls = one.calls; wrote = one.wrote } }
+    record { stable = h.stable; told = h.told; performs = record { course = one.course; notes = one.notes; cut = one.cut; handed = one.handed; planned = one.planned; calls = one.calls; wrote = one.wrote } }
 
 goes_told : (cx : ContextRecord) (rustup : Name) (old new : HostView) (was now : Term) → PerformsPlanAtMostOnce cx rustup old new → PerformsPlanAtMostOnce cx rustup (record old { term = was }) (record new { term = now })
 goes_told cx rustup old new was now h = record { mid = h.mid; asked = h.asked; needed = h.needed; runs = go h.runs }

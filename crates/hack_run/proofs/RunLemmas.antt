@@ -257,7 +257,7 @@ list_shows cx stable rustup old mid begun gathered left out empty made kept = go
 
     go : PerformsAtMostOne true cx stable rustup (host_writing begun old) (host_writing gathered mid) → PerformsAtMostOne true cx stable rustup old (record mid { out = out })
     go (inl none) = inl (none.0, shown [] none.1)
-    go (inr one) = inr (record { course = one.course; cut = one.cut; handed = one.handed; calls = one.calls; wrote = shown (flat_map (lines_written one.course.plan) one.course.handed) one.wrote })
+    go (inr one) = inr (record { course = one.course; notes = one.notes; cut = one.cut; handed = one.handed; planned = one.planned; calls = one.calls; wrote = shown (flat_map (lines_written one.course.plan) one.course.handed) one.wrote })
 
 -- what a runner keeps through notices and steps, it keeps where a list was handed over
 pub handed_keeps : {R N : Type 0} (whole : Type 0) (had has : Option (List ℕ)) (Told : List Note → R → R → Type 0) (Ran : PlanView → List Handed → R → R → Type 0) (cx : ContextRecord) (stable : Result (Option Version) (String Global)) (rustup : Name) (a b : R)
@@ -280,8 +280,10 @@ handed_makes whole had has Told Ran cx stable rustup a b (inr l) w calls refused
     let did = ran l.course.plan steps l.mid b l.ran in
     inr (record {
       course = l.course;
+      notes = l.notes;
       cut = did.cut;
       handed = l.handed;
+      planned = l.planned;
       calls = subst (λ (cs : List Call). MakesCalls (λ made. PerformsAll l.course.plan steps made did.cut) cs (calls b)) (told l.notes a l.mid l.told) (record { made = did.made; grown = did.grown; such = did.performed });
       wrote = all_shown had has (flat_map (lines_written l.course.plan) l.course.handed) (l.wrote w);
     })

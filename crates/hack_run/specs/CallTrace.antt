@@ -26,6 +26,7 @@ use Rattle.hack_words.specs.declared.cli.args.Args.{Args}
 use Rattle.hack_words.specs.declared.cli.env.Env.{Env}
 use Rattle.hack_words.specs.declared.cli.parse.Parsed.{Parsed}
 use Rattle.hack_words.specs.declared.cli.parse.Parsed.TheVariants as parsed
+use Rattle.hack_planner.specs.CallPlan.{IsPlanOf}
 use Rattle.hack_run.specs.Headline.{IsHandedOut}
 use Rattle.hack_run.specs.Questions.{AsksRustup, AsksStable, InstallsStable, NeedsAnswer, rustup_asked, stable_command}
 use Rattle.hack_run.specs.Warnings.{GrowsWithin}
@@ -46,8 +47,10 @@ ListGrowsWithin false had has text = Unit {0}
 -- steps that passed, and nothing else
 pub record PerformsOne (listing : Bool) (cx : ContextRecord) (stable : Result (Option Version) (String Global)) (rustup : Name) (old new : HostView) : Type 0 where
   pub course : Course
+  pub notes : List Note
   pub cut : ℕ
-  pub handed : IsHandedOut cx stable rustup course
+  pub handed : IsHandedOut cx stable course
+  pub planned : IsPlanOf cx.args.subcommand stable cx rustup course.plan notes
   pub calls : MakesCalls (λ made. PerformsAll course.plan (steps_performed listing course.handed) made cut) old.calls new.calls
   pub wrote : ListGrowsWithin listing old.out new.out (flat_map (lines_written course.plan) course.handed)
 

@@ -36,7 +36,7 @@ PerformsAtMostOne listing cx stable rustup old new = ((new.calls ≡ old.calls) 
 -- of the steps that passed
 pub record HandsOver {R : Type 0} (whole : Type 0) (had has : Option (List ℕ)) (Told : List Note → R → R → Type 0) (Ran : PlanView → List Handed → R → R → Type 0) (cx : ContextRecord) (stable : Result (Option Version) (String Global)) (rustup : Name) (old new : R) : Type 0 where
   pub course : Course
-  pub handed : IsHandedOut cx stable rustup course
+  pub handed : IsHandedOut cx stable course
   pub notes : List Note
   pub planned : IsPlanOf cx.args.subcommand stable cx rustup course.plan notes
   pub mid : R

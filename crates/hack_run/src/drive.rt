@@ -49,7 +49,7 @@ pub fn drive_context<R: Teller>(
     // a strength it is a sample of them; then each pattern of at most that many candidates that
     // some listed set shows has a place in the plan, for each package, version and slot.
     ensures headline { IfOk result
-        (IsHandedOut (context_view cx.now) stable rustup.now) }
+        (IsHandedOut (context_view cx.now) stable) }
 
     // The runner printed just the plan's notices, and was then handed just these steps with these
     // outcomes, in order.

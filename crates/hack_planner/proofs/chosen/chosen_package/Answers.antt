@@ -34,11 +34,27 @@ returns-clause-ok c =
           ∙ ap (λ (a : Args). given_path a.no_manifest_path c.current_dir.result.now (Some pkg)) c.args-2.ensures
           ∙ ap (λ dir. given_path cx.args.no_manifest_path dir (Some pkg)) c.current_dir.ensures;
       given = c.in_ok-features.ensures ∙ ap names_behind c.as_slice.ensures.value ∙ c.in_ok-given.ensures.names;
-      candidates = of-kind (wishes cx.args) (known_as pkg features) c.in-Ok.answer.0.kind (groups_of c.in_ok-candidates.candidates.items) (runs_in c.in_ok-candidates.runs) parts.candidates parts.runs (found.kind pkg features known loaded);
-      runs = subst (AreRuns (wishes cx.args) (known_as pkg features)) (sym parts.runs) (found.runs pkg features known loaded);
       covered = λ powerset all. subst (AreCovering (wishes cx.args) (known_as pkg features)) (sym parts.runs) (found.covered pkg features known loaded powerset all);
       settings = subst (λ (rs : List PackageRun). AreRunSettings cx.args.strength (package_choice (wishes cx.args) (known_as pkg features)) rs (rows_of c.in-Ok.answer.0.settings.items)) (sym parts.runs) (found.settings pkg features known loaded);
       told = found.notices pkg features known loaded;
+    }
+
+pub returns-clause-runs : goal.returns-clause-runs
+returns-clause-runs c =
+    let cx = context_view c.args.cx.now in
+    let pkg = package_view c.packages-pkg.result.now in
+    let features = c.pkg_features.result.now in
+    let known = c.packages-pkg.ensures in
+    let loaded = c.pkg_features.ensures in
+    let found = c.in-Ok.ensures in
+    let parts = c.in_ok-candidates.ensures in
+    record {
+      pkg = pkg;
+      features = features;
+      known = known;
+      loaded = loaded;
+      candidates = of-kind (wishes cx.args) (known_as pkg features) c.in-Ok.answer.0.kind (groups_of c.in_ok-candidates.candidates.items) (runs_in c.in_ok-candidates.runs) parts.candidates parts.runs (found.kind pkg features known loaded);
+      runs = subst (AreRuns (wishes cx.args) (known_as pkg features)) (sym parts.runs) (found.runs pkg features known loaded);
     }
 
 pub returns-in-Err-TooManyQuestions-clause-err : goal.returns-in-Err-TooManyQuestions-clause-err

@@ -5,10 +5,10 @@ use Rattle.hack_planner.proofs.LeastPlaceLemmas.{planned-at_least}
 use Rattle.hack_planner.proofs.least_places.least_runs.Goals as goal
 
 pub returns : goal.returns
-returns c = λ single.
+returns c =
     let cx = context_view c.args.cx.now in
     let pkg = package_view c.packages.result.now in
     let features = c.pkg_features.result.now in
     IfOk-weaker c.least_count.result _ _
-    (λ least h. planned-at_least cx single c.args.id.index least pkg features c.requires.all c.packages.ensures c.pkg_features.ensures h)
+    (λ least h. planned-at_least cx c.args.id.index least pkg features c.packages.ensures c.pkg_features.ensures h)
     (c.least_count.ensures pkg features c.packages.ensures c.pkg_features.ensures)

@@ -1,5 +1,7 @@
 use Rattle.std.proofs.Common.{◌≡◌, ◌⊎◌, ◌∙◌, sym, ap, subst, List, map, All, Contains}
+use Rattle.std.specs.List.{AllZip}
 use Rattle.std.proofs.lemmas.List.{length-map}
+use Rattle.std.proofs.lemmas.Slice.Zip.{AllZip-long}
 use Rattle.std.proofs.lemmas.Result.{err_from_is_err_and}
 use Rattle.hack_load.specs.ContextView.{context_view}
 use Rattle.hack_metadata.specs.RecordViews.{place_at}
@@ -11,12 +13,12 @@ use Rattle.hack_plan.specs.Prepared.{ArePrepared}
 use Rattle.hack_plan.specs.View.{CallView, plan_package_view}
 use Rattle.hack_base.specs.Notes.{note_of}
 use Rattle.hack_versions.specs.declared.version.VersionFault.{VersionFault}
-use Rattle.hack_planner.specs.Calls.{IsInputOf, ArePlanned, HasBadOwn, left_out_notes}
+use Rattle.hack_planner.specs.Calls.{IsInputOf, HasPackageRuns, ArePlanned, HasBadOwn, left_out_notes}
 use Rattle.hack_planner.specs.Internal.{HasRunsFault}
 use Rattle.hack_planner.specs.CallPlan.{IsCause, run_counts}
 use Rattle.hack_planner.proofs.CauseLemmas.{range-cause, places-cause, counts-same, all-told}
 use Rattle.hack_planner.proofs.NeverLemmas.{no-cause}
-use Rattle.hack_planner.proofs.PlanLemmas.{members-length, planned-length, covers}
+use Rattle.hack_planner.proofs.PlanLemmas.{members-length, covers}
 use Rattle.hack_planner.proofs.PlanSampleLemmas.{sample-cause}
 use Rattle.hack_planner.specs.declared.fault.PlanFault.TheVariants as fault
 use Rattle.hack_planner.proofs.plan.plan_by.Goals as goal
@@ -27,7 +29,7 @@ returns-in_err-versions-clause-err c =
     let ids = c.in_ok-list.list.ids.items in
     let p = err_from_is_err_and c.from_residual-in_err-versions.result c.from_residual-in_err-versions.ensures.1 in
     let of_call = subst (λ l. IsInputOf cx (map place_at l) c.in_ok-input.input) c.as_slice.ensures.value c.in_ok-input.ensures.ok in
-    rw (p.1, p.2) (range-cause cx (map place_at ids) c.in_ok-list.list.is_single (map note_of c.in_ok-list.notices.items) c.in_ok-input.input c.args.latest _ c.in_ok-list.ensures.ok of_call c.in_err-versions.ensures.err)
+    rw (p.1, p.2) (range-cause cx (map place_at ids) c.in_ok-input.input c.args.latest _ c.in_ok-list.ensures.ok of_call c.in_err-versions.ensures.err)
 
 pub chosen_packages-requires : goal.chosen_packages-requires
 chosen_packages-requires c =
@@ -42,9 +44,9 @@ of_input-requires-clause-packages c =
     let cx = context_view c.args.cx.now in
     let ids = c.in_ok-list.list.ids.items in
     let of_call = subst (λ l. IsInputOf cx (map place_at l) c.in_ok-input.input) c.as_slice.ensures.value c.in_ok-input.ensures.ok in
-    let planned = subst (λ l. ArePlanned cx c.in_ok-list.list.is_single (map place_at l) (map plan_package_view c.in-Ok.answer.0.items) (map note_of c.in-Ok.answer.1.items)) c.as_slice-ids.ensures.value c.in-Ok.ensures.ok in
+    let each = subst (λ (l : List PackageId). AllZip (HasPackageRuns cx) (map place_at l) (map plan_package_view c.in-Ok.answer.0.items)) c.as_slice-ids.ensures.value c.in-Ok.ensures.runs in
     sym (length-map c.in-Ok.answer.0.items plan_package_view)
-    ∙ sym (planned-length cx c.in_ok-list.list.is_single (map place_at ids) _ _ planned)
+    ∙ AllZip-long (HasPackageRuns cx) (map place_at ids) (map plan_package_view c.in-Ok.answer.0.items) each
     ∙ members-length cx (map place_at ids) c.in_ok-input.input.packages.items of_call.members
 
 pub refuse_too_many-requires-clause-members : goal.refuse_too_many-requires-clause-members
@@ -60,24 +62,24 @@ refuse_too_many-requires-clause-input c =
 pub returns-in-Err-clause-err : goal.returns-in-Err-clause-err
 returns-in-Err-clause-err c =
     let cx = context_view c.args.cx.now in
-    let chosen = subst (λ (l : List PackageId). AreChosen cx (map place_at l) c.in_ok-list.list.is_single (map note_of c.in_ok-list.notices.items)) (sym c.as_slice-ids.ensures.value) c.in_ok-list.ensures.ok in
+    let chosen = subst (λ (l : List PackageId). AreChosen cx (map place_at l)) (sym c.as_slice-ids.ensures.value) c.in_ok-list.ensures.ok in
     subst (λ v. (c.in-Err.fault ≡ fault.Memory) ⊎ IsCause cx v c.in-Err.fault) c.in_ok-versions.ensures.stable
-    (c.in-Err.ensures c.in_ok-list.list.is_single (map note_of c.in_ok-list.notices.items) chosen)
+    (c.in-Err.ensures chosen)
 
 pub returns-in-Err-chosen_packages-clause-err : goal.returns-in-Err-chosen_packages-clause-err
 returns-in-Err-chosen_packages-clause-err c =
     let cx = context_view c.args.cx.now in
     let ids = c.in_ok-list.list.ids.items in
     let cause = subst (λ (l : List PackageId). (c.in-Err-chosen_packages.fault ≡ fault.Memory) ⊎ HasRunsFault cx (map place_at l) c.in-Err-chosen_packages.fault) c.as_slice-ids.ensures.value c.in-Err-chosen_packages.ensures.err in
-    sample-cause cx (map place_at ids) c.in_ok-list.list.is_single (map note_of c.in_ok-list.notices.items) c.args.latest c.in-Err-chosen_packages.fault c.in_ok-list.ensures.ok cause
+    sample-cause cx (map place_at ids) c.args.latest c.in-Err-chosen_packages.fault c.in_ok-list.ensures.ok cause
 
 pub returns-in-Err-of_input-clause-err : goal.returns-in-Err-of_input-clause-err
 returns-in-Err-of_input-clause-err c =
     let cx = context_view c.args.cx.now in
     let ids = c.in_ok-list.list.ids.items in
     let of_call = subst (λ l. IsInputOf cx (map place_at l) c.in_ok-input.input) c.as_slice.ensures.value c.in_ok-input.ensures.ok in
-    let planned = subst (λ l. ArePlanned cx c.in_ok-list.list.is_single (map place_at l) (map plan_package_view c.in-Ok.answer.0.items) (map note_of c.in-Ok.answer.1.items)) c.as_slice-ids.ensures.value c.in-Ok.ensures.ok in
-    rw c.of_places.ensures (places-cause cx (map place_at ids) c.in_ok-list.list.is_single (map note_of c.in_ok-list.notices.items) c.in_ok-input.input c.in_ok-versions.versions.stable c.args.latest c.in-Ok.answer.0.items (map note_of c.in-Ok.answer.1.items) c.in-Err-of_input.fault c.in_ok-list.ensures.ok of_call planned c.in_ok-versions.ensures.stable c.in-Err-of_input.ensures.err)
+    let each = subst (λ (l : List PackageId). AllZip (HasPackageRuns cx) (map place_at l) (map plan_package_view c.in-Ok.answer.0.items)) c.as_slice-ids.ensures.value c.in-Ok.ensures.runs in
+    rw c.of_places.ensures (places-cause cx (map place_at ids) c.in_ok-input.input c.in_ok-versions.versions.stable c.args.latest c.in-Ok.answer.0.items c.in-Err-of_input.fault c.in_ok-list.ensures.ok of_call each c.in_ok-versions.ensures.stable c.in-Err-of_input.ensures.err)
 
 pub returns-clause-ok : goal.returns-clause-ok
 returns-clause-ok c = λ rustup call.
@@ -90,22 +92,27 @@ returns-clause-ok c = λ rustup call.
     let on_features = map note_of c.in-Ok.answer.1.items in
     let counts = ap run_counts c.in-Ok-of_input.ensures.packages ∙ counts-same packages in
     let planned = subst (λ l. ArePlanned cx single (map place_at l) (map plan_package_view packages) on_features) c.as_slice-ids.ensures.value c.in-Ok.ensures.ok in
+    let each = subst (λ (l : List PackageId). AllZip (HasPackageRuns cx) (map place_at l) (map plan_package_view packages)) c.as_slice-ids.ensures.value c.in-Ok.ensures.runs in
     record {
-      ids = map place_at ids;
+      base = record {
+        ids = map place_at ids;
+        input = input;
+        versions = c.in_ok-versions.versions;
+        chosen = c.in_ok-list.ensures.ok;
+        of_call = subst (λ l. IsInputOf cx (map place_at l) input) c.as_slice.ensures.value c.in_ok-input.ensures.ok;
+        of_range = c.in_ok-versions.ensures.ok;
+        newest = c.in_ok-versions.ensures.stable;
+        packages = subst (AllZip (HasPackageRuns cx) (map place_at ids)) (sym c.in-Ok-of_input.ensures.packages) each;
+        places = subst (λ ns. ArePlaces input ns c.args.latest plan.entries) (sym counts) (subst (λ v. ArePlaces input (counts_in packages) v plan.entries) c.in_ok-versions.ensures.stable c.in-Ok-of_input.ensures.entries);
+      };
       single = single;
-      input = input;
-      versions = c.in_ok-versions.versions;
       on_packages = map note_of c.in_ok-list.notices.items;
       on_features = on_features;
       on_range = map note_of c.in_ok-versions.on_range.items;
-      chosen = c.in_ok-list.ensures.ok;
-      of_call = subst (λ l. IsInputOf cx (map place_at l) input) c.as_slice.ensures.value c.in_ok-input.ensures.ok;
-      of_range = c.in_ok-versions.ensures.ok;
-      newest = c.in_ok-versions.ensures.stable;
+      noted = c.in_ok-list.ensures.notes;
       ranged = c.in_ok-versions.ensures.notices;
       planned = subst (λ ks. ArePlanned cx single (map place_at ids) ks on_features) (sym c.in-Ok-of_input.ensures.packages) planned;
       call = c.in-Ok-of_input.ensures.call ∙ call;
-      places = subst (λ ns. ArePlaces input ns c.args.latest plan.entries) (sym counts) (subst (λ v. ArePlaces input (counts_in packages) v plan.entries) c.in_ok-versions.ensures.stable c.in-Ok-of_input.ensures.entries);
       laid = c.in-Ok-of_input.ensures.spans;
       prepared = subst (λ (k : CallView). ArePrepared k.locked k.clean_per_version plan.versions) call c.in-Ok-of_input.ensures.prepared;
       told = all-told c.in_ok-list.notices.items c.in-Ok.answer.1.items c.in_ok-versions.on_range.items c.in_ok-on_left_out.on_left_out.items c.append.new.self.items c.append-2.new.self.items c.append-3.new.self.items
@@ -125,20 +132,15 @@ pub returns-clause-never : goal.returns-clause-never
 returns-clause-never c =
     let cx = context_view c.args.cx.now in
     let ids = c.in_ok-list.list.ids.items in
-    let single = c.in_ok-list.list.is_single in
     let input = c.in_ok-input.input in
     let packages = c.in-Ok.answer.0.items in
-    let on_features = map note_of c.in-Ok.answer.1.items in
     no-cause cx c.args.latest (record {
       ids = map place_at ids;
-      single = single;
       input = input;
       packages = map plan_package_view packages;
-      notes = map note_of c.in_ok-list.notices.items;
-      on_features = on_features;
       chosen = c.in_ok-list.ensures.ok;
       of_call = subst (λ l. IsInputOf cx (map place_at l) input) c.as_slice.ensures.value c.in_ok-input.ensures.ok;
-      planned = subst (λ l. ArePlanned cx single (map place_at l) (map plan_package_view packages) on_features) c.as_slice-ids.ensures.value c.in-Ok.ensures.ok;
+      each = subst (λ (l : List PackageId). AllZip (HasPackageRuns cx) (map place_at l) (map plan_package_view packages)) c.as_slice-ids.ensures.value c.in-Ok.ensures.runs;
       known = c.in_ok-list.ensures.never;
       readable = subst (λ (l : List PackageId). (e : VersionFault) → ¬ HasBadOwn cx (map place_at l) e) c.as_slice.ensures.value c.in_ok-input.ensures.never;
       in_range = c.in_ok-versions.ensures.never;
