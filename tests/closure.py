@@ -2,15 +2,18 @@
 """Prints which definitions a public function's contract rests on: what somebody has to read who wants to know what is promised.
 
 usage: tests/closure.py [--list] [CRATE::MODULE::FUNCTION[@CLAUSE] ..]
+       tests/closure.py --private
 
 A name in a clause leads by the imports of its file to a definition in some crate's specs/, and that to those that it names;
 definitions of the standard library and of the kit's crates aren't followed. A definition's lines are counted without blank
 ones and comments. Behind an @ stands the name of one clause; else the whole contract is taken. Without a function, the headline
 and the contracts of its call and of a whole call are. With --list each definition is printed with its lines, most first. A line
-a function: its name, how many definitions, and how many lines they have.
+a function: its name, how many definitions, and how many lines they have. With --private the definitions are printed that no
+public contract, type or trait rests on, and that stand in another file than Internal*.antt.
 """
 import argparse
 import functools
+import glob
 import os
 import re
 import sys
@@ -22,6 +25,7 @@ NAME = re.compile(r"[A-Za-z_][\w'-]*")
 IMPORT = re.compile(r"(?:ghost )?use Rattle\.(hack_\w+)\.specs\.([\w.]+?)(?:\.\{([^}]*)\}| as (\w+))?;?\s*(?:--.*)?$")
 DEFINES = re.compile(r"( *)(?:(?:abbrev|record|data|pub) )+(\S+)")
 FUNCTION = re.compile(r"( *)(?:pub(?:\([^)]*\))? )?(?:final )?fn (\w+)")
+PUBLIC = re.compile(r" *pub (?:final )?fn ")
 CLAUSE = re.compile(r" *(?:ensures|requires) (?:(\w+) )?\{")
 
 
@@ -83,6 +87,51 @@ def follow(start):
     return found
 
 
+def head(lines, at):
+    """The line behind the contract of a function, and whether a body begins there."""
+    begins = FUNCTION.match(lines[at])[1] + "{"
+    while not lines[at].startswith(begins) and not lines[at].partition("//")[0].rstrip().endswith((";", "{")):
+        at += 1
+    return at, lines[at].endswith("{")
+
+
+def public_text(lines):
+    """These lines without imports, bodies, and the contracts of private functions. A trait's functions are public."""
+    kept, at, of_trait = [], 0, False
+    while at < len(lines):
+        line = lines[at]
+        if re.match(r"(?:pub )?(?:trait|impl)\b", line):
+            of_trait = " for " in " ".join(lines[at:at + 4]).partition("{")[0] or "trait " in line
+        function = FUNCTION.match(line)
+        if function:
+            end, has_body = head(lines, at)
+            kept += lines[at:end] if PUBLIC.match(line) or of_trait and function[1] else []
+            while has_body and lines[end] != f"{function[1]}}}":
+                end += 1
+            at = end
+        elif not re.match(r"\s*(?://|(?:pub )?(?:ghost )?use )", line):
+            kept.append(line)
+        at += 1
+    return kept
+
+
+def cited(lines, text):
+    """The definitions that this text of a file names."""
+    brought = imports(lines)
+    return [brought[word] for word in {*NAME.findall("\n".join(it.partition("//")[0] for it in text))} if word in brought]
+
+
+def private():
+    """The definitions that only private functions need, and that stand in another file than Internal*.antt."""
+    files = [lines_of(path) for path in glob.glob(f"{ROOT}/crates/*/src/**/*.rt", recursive=True)]
+    public = follow([it for lines in files for it in cited(lines, public_text(lines))])
+    for path in sorted(glob.glob(f"{ROOT}/crates/*/specs/*.antt")):
+        crate, name = path.split("/")[-3], os.path.basename(path)[:-len(".antt")]
+        if not name.startswith("Internal"):
+            yield from (f"{crate}::{name}::{item}" for item in module(crate, name)[0]
+                        if NAME.fullmatch(item) and item != "mutual" and (crate, name, item) not in public)
+
+
 def contract(promise):
     """What the clauses of a function, or one of them, name in some crate's specs."""
     function, _, clause = promise.partition("@")
@@ -94,8 +143,7 @@ def contract(promise):
     at = next((n for n, it in enumerate(lines) if (m := FUNCTION.match(it)) and m[2] == name), None)
     if at is None:
         sys.exit(f"{function}: it isn't in {path}")
-    indent = FUNCTION.match(lines[at])[1]
-    end = next(n for n in range(at, len(lines)) if lines[n] == f"{indent}{{" or lines[n].partition("//")[0].endswith(";"))
+    end, _ = head(lines, at)
     said, taken = [], not clause
     for line in (it.partition("//")[0] for it in lines[at:end]):
         begun = CLAUSE.match(line)
@@ -103,16 +151,18 @@ def contract(promise):
         said += [line] * taken
     if not said:
         sys.exit(f"{function} has no clause {clause}")
-    text = "\n".join(said)
-    brought = imports(lines)
-    return [brought[word] for word in {*NAME.findall(text)} if word in brought]
+    return cited(lines, said)
 
 
 def main():
     parser = argparse.ArgumentParser(description=__doc__, formatter_class=argparse.RawDescriptionHelpFormatter)
     parser.add_argument("--list", action="store_true", help="print each definition with its lines")
     parser.add_argument("function", nargs="*", metavar="FUNCTION")
+    parser.add_argument("--private", action="store_true", help="print the definitions that only private functions need")
     asked = parser.parse_args()
+    if asked.private:
+        print("\n".join(private()))
+        return
     for promise in asked.function or PROMISES:
         found = follow(contract(promise))
         if asked.list:

@@ -21,7 +21,8 @@ use Rattle.hack_process.specs.Commands.{asked_of}
 use Rattle.hack_process.specs.Faults.{IsFault, IsReadFault}
 use Rattle.hack_process.specs.declared.fault.ProcessFault.{ProcessFault}
 use Rattle.hack_process.specs.declared.fault.ProcessFault.TheVariants as p
-use Rattle.hack_metadata.specs.QuestionCalls.{Stage, first, locked, newer, taken, to_cargo, versioned, LeadsToStage, answers, tells_older, first_counts, asks_again, AsksCargo, UsesAnswer, EndsSo, FailsToRead, FailsFirst, FallsBack, IsAnswer, IsLockfile, IsNeeded, IsNextCommand, IsTextFault, Lacks, PutsBack, StopsQuestion, TellsAs, FailsAs, WroteWhereKnown}
+use Rattle.hack_metadata.specs.QuestionCalls.{Stage, first, locked, newer, taken, to_cargo, versioned, LeadsToStage, answers, tells_older, first_counts, asks_again, EndsSo, FailsToRead, IsAnswer, IsLockfile, IsNeeded, IsNextCommand, Lacks, PutsBack, StopsQuestion, TellsAs, WroteWhereKnown}
+use Rattle.hack_metadata.specs.InternalQuestionCalls.{AsksCargo, UsesAnswer, FailsFirst, FallsBack, IsTextFault, FailsAs}
 use Rattle.hack_metadata.specs.Fields.{object_in_text}
 use Rattle.hack_base.specs.FieldReadings.{FieldReading}
 use Rattle.hack_metadata.specs.FileFaults.{IsUnread, IsUnwritten}

@@ -16,3 +16,4 @@ pub mod QuestionCalls
 pub mod FilesAfterAsking
 pub mod Requests
 pub mod Internal
+pub mod InternalQuestionCalls

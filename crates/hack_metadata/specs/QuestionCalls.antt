@@ -15,7 +15,6 @@ use Rattle.hack_process.specs.CommandTexts.{Command, text_of}
 use Rattle.hack_process.specs.Commands.{asked_of}
 use Rattle.hack_process.specs.Faults.{GotAnswer, IsReadFault, without_line_ends}
 use Rattle.hack_base.specs.PathTexts.{join_of}
-use Rattle.hack_process.specs.declared.fault.ProcessFault.{ProcessFault}
 use Rattle.hack_metadata.specs.Fields.{object_in_text, string_in}
 use Rattle.hack_base.specs.FieldReadings.{FieldReading}
 use Rattle.hack_metadata.specs.MetadataReading.{read_metadata}
@@ -161,24 +160,6 @@ StopsQuestion q stage mid new (fault.Files f) = StopsAtFile q stage mid new f
 StopsQuestion q stage mid new (fault.Output shown) = (new ≡ mid) × ((c : Command) × (text : Name) × IsAnswer q stage c text × (object_in_text text ≡ None) × (string_bytes shown ≡ text_of q.verbose q.dir c))
 StopsQuestion q stage mid new (fault.Field name) = (new ≡ mid) × Lacks stage name.now
 
--- an answer is used: the result is the metadata in it, or the error says why it can't be read
-abbrev pub UsesAnswer : Question → Command → Name → ℕ → List Call → Result Metadata AskFault → Type 0
-UsesAnswer q c text minor now (Ok m) = TellsAs (read_metadata minor) text (metadata_view m)
-UsesAnswer q c text minor now (Err e) = StopsQuestion q (taken c text minor) now now e
-
--- the full request was made to cargo, and its answer is used; or an error ended the question
-abbrev pub AsksCargo : Question → List Call → List Call → Result Metadata AskFault → Type 0
-AsksCargo q old new r = ((e : AskFault) × (r ≡ Err e) × StopsQuestion q to_cargo old new e)
-    ⊎ ((words : List Name) × (text : Name) × (q.full ≡ Some words) × ReadsOutput (command_line q.cargo words) text old new × UsesAnswer q (command_line q.cargo words) text q.cargo_version new r)
-
--- cargo's first answer, this text, is used; or the full request, where dependencies are wanted
-abbrev pub FallsBack : Question → Name → List Call → List Call → Result Metadata AskFault → Type 0
-FallsBack q text old new r = ((q.deps ≡ false) × (new ≡ old) × UsesAnswer q (first_command q) text q.cargo_version new r) ⊎ ((q.deps ≡ true) × AsksCargo q old new r)
-
--- the question ended at the first request to cargo, or at its answer
-abbrev pub FailsFirst : Question → ℕ → List Call → List Call → AskFault → Type 0
-FailsFirst q minor old new e = StopsQuestion q (newer minor) old new e ⊎ ((text : Name) × ReadsOutput (first_command q) text old new × StopsQuestion q (first minor text) new new e)
-
 module _ (tells : Type 0) (q : Question) (held : Contents) (old new : List Call) where
   -- calls and writes led to a stage where this error ends the question, and `W` holds of the writes
   abbrev pub Halts : (Stage → List Change → Type 0) → AskFault → Type 0
@@ -206,30 +187,3 @@ Wrote tells held Made (taken c text minor) made = Made made
 -- where the files say which changes were made, these are all of them
 abbrev pub WroteWhereKnown : Type 0 → Type 0 → List Change → List Change → Contents → Contents → Stage → List Change → Type 0
 WroteWhereKnown whole tells before now held later stage made = whole → Wrote tells held (λ cs. Makes cs before now held later) stage made
-
--- why f can't be read from a text
-abbrev pub IsTextFault : {A : Type 0} → (Members → FieldReading A) → Name → Name → AskFault → Type 0
-IsTextFault f text shown fault.Memory = Unit {0}
-IsTextFault f text shown fault.NoHost = ⊥
-IsTextFault f text shown (fault.Process p) = ⊥
-IsTextFault f text shown (fault.Files e) = ⊥
-IsTextFault f text shown (fault.Output told) = (object_in_text text ≡ None) × (string_bytes told ≡ shown)
-IsTextFault f text shown (fault.Field name) = (ms : Members) × (object_in_text text ≡ Some ms) × (f ms ≡ Err name.now)
-
--- why a text can't be read as an object
-abbrev pub IsObjectFault : Name → Name → AskFault → Type 0
-IsObjectFault text shown fault.Memory = Unit {0}
-IsObjectFault text shown fault.NoHost = ⊥
-IsObjectFault text shown (fault.Process p) = ⊥
-IsObjectFault text shown (fault.Files e) = ⊥
-IsObjectFault text shown (fault.Output told) = (object_in_text text ≡ None) × (string_bytes told ≡ shown)
-IsObjectFault text shown (fault.Field name) = ⊥
-
--- memory was refused and M holds, or a command failed by an error of which P holds
-abbrev pub FailsAs : Type 0 → (ProcessFault → Type 0) → AskFault → Type 0
-FailsAs M P fault.Memory = M
-FailsAs M P fault.NoHost = ⊥
-FailsAs M P (fault.Process p) = P p
-FailsAs M P (fault.Files e) = ⊥
-FailsAs M P (fault.Output text) = ⊥
-FailsAs M P (fault.Field name) = ⊥

@@ -18,7 +18,8 @@ ghost use Rattle.hack_planner.specs.LeastRuns.{HasRunsAtLeast};
 ghost use Rattle.hack_planner.specs.ContextMembers.{member_at, members_in};
 ghost use Rattle.hack_planner.specs.ContextMembers.{package_name_at as named_at};
 ghost use Rattle.hack_planner.specs.ContextMembers.{current_name as current_called};
-ghost use Rattle.hack_planner.specs.ContextMembers.{AreChosen, AreChoiceNotes, IsChoiceFault, known_as};
+ghost use Rattle.hack_planner.specs.ContextMembers.{AreChosen, AreChoiceNotes, IsChoiceFault};
+ghost use Rattle.hack_planner.specs.ContextMembers.{known_as};
 
 use crate::fault::PackagesFault;
 use crate::kind::{PackageRuns, determine_runs};

@@ -1,10 +1,6 @@
 -- A builder's own arguments, one by one.
-use Rattle.std.specs.Prelude.{ℕ, Bool, true, false, ◌&&◌, not, List, [], if◌then◌else◌}
+use Rattle.std.specs.Prelude.{ℕ, Bool, true, false, List, [], if◌then◌else◌}
 use Rattle.hack_process.specs.CommandTexts.{spaced_word, each_spaced, is_manifest_path, shown_path}
-
--- an argument is `--manifest-path` itself, and not the value of one before it
-abbrev pub awaits_path : Bool → List ℕ → Bool
-awaits_path is_path word = not is_path && is_manifest_path word
 
 -- what is shown for an own argument, which is the value of `--manifest-path` or not
 abbrev pub shown_own : Bool → Bool → List ℕ → List ℕ → List ℕ

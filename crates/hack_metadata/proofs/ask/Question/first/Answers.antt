@@ -3,7 +3,8 @@ use Rattle.std.proofs.lemmas.Result.{err_from_is_err_and}
 use Rattle.hack_process.specs.CommandTexts.{text_of}
 use Rattle.hack_process.specs.Commands.{command_of}
 use Rattle.hack_metadata.specs.InternalAskView.{question_of}
-use Rattle.hack_metadata.specs.QuestionCalls.{ReadsOutput, IsTextFault, first, newer, root_of}
+use Rattle.hack_metadata.specs.QuestionCalls.{ReadsOutput, first, newer, root_of}
+use Rattle.hack_metadata.specs.InternalQuestionCalls.{IsTextFault}
 use Rattle.hack_metadata.specs.Requests.{first_command}
 use Rattle.hack_metadata.proofs.AskWays.{command-stops, text-stops}
 use Rattle.hack_metadata.proofs.ask.Question.first.Goals as goal

@@ -2,7 +2,8 @@ use Rattle.std.proofs.Common.{◌≡◌, ◌<◌, ◌≤◌, [], inr, refl, sym,
 use Rattle.std.specs.Prelude.{option_copied, string_bytes}
 use Rattle.std.proofs.lemmas.Result.{err_from_is_err_and}
 use Rattle.hack_metadata.specs.InternalAskView.{question_of}
-use Rattle.hack_metadata.specs.QuestionCalls.{AsksCargo, EndsSo, LeadsToStage, WroteWhereKnown, begun, newer, versioned, starts, tells_minor, is_older, is_newer}
+use Rattle.hack_metadata.specs.QuestionCalls.{EndsSo, LeadsToStage, WroteWhereKnown, begun, newer, versioned, starts, tells_minor, is_older, is_newer}
+use Rattle.hack_metadata.specs.InternalQuestionCalls.{AsksCargo}
 use Rattle.hack_metadata.specs.Requests.{question, version_command}
 use Rattle.hack_metadata.proofs.AskWays.{cargo-ends, question-stops, unchanged, whole-leaves, wrote-none}
 use Rattle.hack_metadata.proofs.metadata.Metadata.new.Goals as goal
