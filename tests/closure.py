@@ -22,7 +22,7 @@ ROOT = os.path.dirname(os.path.dirname(os.path.realpath(__file__)))
 # The headline, the call that carries it, and a call from its arguments to its status.
 PROMISES = ["hack_run::drive::drive_context@headline", "hack_run::drive::drive_context", "hack_run::run::run"]
 NAME = re.compile(r"[A-Za-z_][\w'-]*")
-IMPORT = re.compile(r"(?:ghost )?use Rattle\.(hack_\w+)\.specs\.([\w.]+?)(?:\.\{([^}]*)\}| as (\w+))?;?\s*(?:--.*)?$")
+IMPORT = re.compile(r"(?:pub )?(?:ghost )?use Rattle\.(hack_\w+)\.specs\.([\w.]+?)(?:\.\{([^}]*)\}| as (\w+))?;?\s*(?:--.*)?$")
 DEFINES = re.compile(r"( *)(?:(?:abbrev|record|data|pub) )+(\S+)")
 FUNCTION = re.compile(r"( *)(?:pub(?:\([^)]*\))? )?(?:final )?fn (\w+)")
 PUBLIC = re.compile(r" *pub (?:final )?fn ")

@@ -16,7 +16,7 @@ use Rattle.hack_features.proofs.Single.{member_of, key_from}
 use Rattle.hack_features.proofs.Listing.{selection_pop, selection_push, selection_up, before_new, before_push}
 use Rattle.hack_base.specs.Names.{Name}
 use Rattle.hack_features.specs.FeatureMap.{IsKey, here, Enables}
-use Rattle.hack_features.specs.InternalTables.{leads}
+use Rattle.hack_features.specs.Tables.{leads}
 use Rattle.hack_features.specs.Places.{name_at, ArePlaced}
 use Rattle.hack_features.specs.declared.reach.Edges.TheVariants.{Enabling}
 use Rattle.hack_features.proofs.TableLemmas.{placed, shown_at, low_at}

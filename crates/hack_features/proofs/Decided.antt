@@ -19,8 +19,7 @@ use Rattle.hack_features.specs.InternalSearch.{target_of, IsTarget, Adds, IsReac
 use Rattle.hack_features.specs.Places.{name_at, AreAt, AreAllAt, AreRoutes, ArePlaced}
 use Rattle.hack_features.specs.Sets.{Pairwise}
 use Rattle.hack_features.specs.Rules.{Choice, names_at, names_in, SparesNames, NotBothReach, Serves}
-use Rattle.hack_features.specs.Tables.{AreTables, is_exclusive, is_required, cell, bit}
-use Rattle.hack_features.specs.InternalTables.{leads}
+use Rattle.hack_features.specs.Tables.{AreTables, is_exclusive, is_required, cell, bit, leads}
 use Rattle.hack_features.specs.declared.reach.Edges.{Edges}
 use Rattle.hack_features.specs.declared.reach.Edges.TheVariants.{Enabling}
 

@@ -17,10 +17,9 @@ use Rattle.hack_base.specs.Names.{Name, names_of}
 use Rattle.hack_features.specs.FeatureMap.{FeatureMap, feature_map, values_at, IsKey, Chain, here, step}
 use Rattle.hack_features.specs.Search.{edge_of}
 use Rattle.hack_features.specs.InternalSearch.{target_of, IsTarget, Adds}
-use Rattle.hack_features.specs.Tables.{bit}
+use Rattle.hack_features.specs.Tables.{bit, leads}
 use Rattle.hack_features.specs.Places.{name_at, AreAt, AreRoutes}
 use Rattle.hack_features.specs.InternalPlaces.{targets_of, HasPlaces, AreRows, IsGrown, Leads}
-use Rattle.hack_features.specs.InternalTables.{leads}
 use Rattle.hack_features.specs.declared.reach.Edges.{Edges}
 
 pub at_last : {X : Type 0} (xs : List X) (x d : X) → get_or (xs ++ x ∷ []) (length xs) d ≡ x

@@ -15,8 +15,7 @@ use Rattle.hack_features.specs.FeatureMap.{IsKey, Enables}
 use Rattle.hack_features.specs.Places.{name_at, AreAt, AreAllAt, ArePlaced}
 use Rattle.hack_features.specs.Rules.{Choice, names_at, names_in, IsEnabledBy}
 use Rattle.hack_features.specs.InternalSamples.{one_leads}
-use Rattle.hack_features.specs.Tables.{bit}
-use Rattle.hack_features.specs.InternalTables.{leads}
+use Rattle.hack_features.specs.Tables.{bit, leads}
 use Rattle.hack_features.specs.Settings.{IsEnabledByKey, SaysOfEach, AreSettings, AreSettingsOfAll, IsOfCandidates}
 use Rattle.hack_samples.specs.Samples.{RowShows}
 use Rattle.hack_features.specs.InternalSettings.{leads_to_each, AreKeyPlaces}

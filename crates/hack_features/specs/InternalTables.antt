@@ -4,15 +4,11 @@ use Rattle.std.specs.List.{slice_index_or, list_all, list_any}
 use Rattle.hack_base.specs.Names.{Name}
 use Rattle.hack_features.specs.FeatureMap.{FeatureMap, Reaches, EnablesOneOf}
 use Rattle.hack_features.specs.Deps.{IsDropped}
-use Rattle.hack_features.specs.Tables.{bit, cell, count_at, is_exclusive, is_required, keeps_depth}
+use Rattle.hack_features.specs.Tables.{bit, cell, count_at, is_exclusive, is_required, keeps_depth, leads}
 
 -- the set is not empty, and keeps the depth, the exclusions and the groups
 abbrev pub wanted_test : Option ℕ → List (List ℕ) → List (List Bool) → List ℕ → Bool
 wanted_test depth hits serves s = not (length s == 0) && (keeps_depth depth s && (is_exclusive hits s && is_required serves s))
-
--- a chain leads from a place to another, as the marks say; a place leads to itself
-abbrev pub leads : List (List Bool) → ℕ → ℕ → Bool
-leads marks from to = from == to || cell marks from to
 
 -- one of the names, by place, is a key, differs from each of the others, and leads to it
 abbrev pub spares_test : List Bool → List (List Bool) → List ℕ → List ℕ → Bool

@@ -4,9 +4,9 @@ use Rattle.std.specs.List.{slice_index_or}
 use Rattle.std.specs.Map.{lookup}
 use Rattle.std.specs.Str.{bytes_eq}
 use Rattle.hack_base.specs.Names.{Name}
+use Rattle.hack_features.specs.Tables.{leads, bit}
 use Rattle.hack_features.specs.FeatureMap.{FeatureMap, IsKey, Chain}
 use Rattle.hack_features.specs.Search.{edge_of}
-use Rattle.hack_features.specs.Tables.{bit}
 use Rattle.hack_features.specs.declared.reach.Edges.{Edges}
 
 -- the name at a place

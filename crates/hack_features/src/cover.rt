@@ -6,7 +6,7 @@ ghost use Rattle.std.specs.List.{list_any, slice_index_or, remove};
 ghost use Rattle.hack_features.specs.Sets.{IsSelection};
 ghost use Rattle.hack_samples.specs.Sets.{rows_of};
 ghost use Rattle.hack_features.specs.Rules.{Choice, IsFirstCover, IsWanted};
-ghost use Rattle.hack_features.specs.InternalTables.{leads};
+ghost use Rattle.hack_features.specs.Tables.{leads};
 ghost use Rattle.hack_features.specs.PlacedView.{IsPlaced};
 ghost use Rattle.hack_features.specs.InternalCover.{set_enables_test, covers_test};
 ghost use Rattle.hack_features.specs.declared.reach.Edges.TheVariants.{Enabling};

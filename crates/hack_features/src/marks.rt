@@ -7,7 +7,7 @@ ghost use Rattle.hack_features.specs.FeatureMap.{Chain};
 ghost use Rattle.hack_samples.specs.Sets.{rows_of};
 ghost use Rattle.hack_features.specs.Tables.{bit};
 ghost use Rattle.hack_features.specs.InternalPlaces.{Leads, AddsPlaces, AreMarked};
-ghost use Rattle.hack_features.specs.InternalTables.{leads};
+ghost use Rattle.hack_features.specs.Tables.{leads};
 
 use std::alloc::{AllocError, Global};
 

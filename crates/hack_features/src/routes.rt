@@ -8,7 +8,7 @@ ghost use Rattle.hack_base.specs.Names.{Name};
 ghost use Rattle.hack_features.specs.FeatureMap.{FeatureMap, feature_map};
 ghost use Rattle.hack_samples.specs.Sets.{rows_of};
 ghost use Rattle.hack_features.specs.Tables.{bit, cell};
-ghost use Rattle.hack_features.specs.InternalTables.{leads};
+ghost use Rattle.hack_features.specs.Tables.{leads};
 
 use crate::links::Links;
 use crate::marks::all_marks;

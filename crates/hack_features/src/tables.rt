@@ -9,7 +9,7 @@ ghost use Rattle.hack_features.specs.FeatureMap.{feature_map, FeatureMap};
 ghost use Rattle.hack_features.specs.Feature.{groups_of, candidates_of};
 ghost use Rattle.hack_samples.specs.Sets.{rows_of};
 ghost use Rattle.hack_features.specs.Rules.{unlifted_groups};
-ghost use Rattle.hack_features.specs.InternalTables.{leads};
+ghost use Rattle.hack_features.specs.Tables.{leads};
 ghost use Rattle.hack_features.specs.PlacedView.{IsPlaced};
 ghost use Rattle.hack_features.specs.Tables.{bit, count_at, cell, is_lean, is_exclusive};
 ghost use Rattle.hack_features.specs.Tables.{is_required};

@@ -187,28 +187,28 @@ pub data Continues (tells whole locked talks records : Type 0) (words : List Nam
 
 -- how a call goes under its own lock: what an interrupted call left is brought back before anything
 -- else is changed, and before anything is called
-pub data LockedCallLeadsTo (tells whole locked talks records : Type 0) (words : List Name) (env : Env) (does : Edits) (folder journal : Name) (old new : Scene) : Type 0 where
+pub data IsLockedCourse (tells whole locked talks records : Type 0) (words : List Name) (env : Env) (does : Edits) (folder journal : Name) (old new : Scene) : Type 0 where
   -- that can't be brought back: the call ends
   ended : Restores tells whole folder journal old.files new.files old.host.term new.host.term (Ok false) → new ≡ scene_with new.files new.host.term old → IsFailed new
-      → LockedCallLeadsTo tells whole locked talks records words env does folder journal old new
+      → IsLockedCourse tells whole locked talks records words env does folder journal old new
   -- memory was refused meanwhile: the call ends
   cut_short : (term : Term) (fault : CallFault) → Restores tells whole folder journal old.files new.files old.host.term term (Err fault)
-      → new ≡ scene_with new.files new.host.term old → IsFailed new → LockedCallLeadsTo tells whole locked talks records words env does folder journal old new
+      → new ≡ scene_with new.files new.host.term old → IsFailed new → IsLockedCourse tells whole locked talks records words env does folder journal old new
   -- it is back: the call is performed
   went_on : (files : FilesView) (term : Term) → Restores tells whole folder journal old.files files old.host.term term (Ok true)
       → Continues tells whole locked talks records words env does journal (scene_with files term old) new
-      → LockedCallLeadsTo tells whole locked talks records words env does folder journal old new
+      → IsLockedCourse tells whole locked talks records words env does folder journal old new
 
 -- how a call goes
-pub data CallLeadsTo (tells whole locked talks records : Type 0) (words : List Name) (env : Env) (old new : Scene) : Type 0 where
+pub data IsCallCourse (tells whole locked talks records : Type 0) (words : List Name) (env : Env) (old new : Scene) : Type 0 where
   -- memory was refused before it began: nothing was changed or called
-  starved : Untouched tells whole old new → IsFailed new → CallLeadsTo tells whole locked talks records words env old new
+  starved : Untouched tells whole old new → IsFailed new → IsCallCourse tells whole locked talks records words env old new
   -- another call has the lock, there is none, or memory was refused: nothing was changed or called
   turned_away : (does : Edits) (folder journal : Name) (fault : CallFault) → DecidesHowToGoOn tells whole records words env does folder journal old new (Err fault) → IsFailed new
-      → CallLeadsTo tells whole locked talks records words env old new
+      → IsCallCourse tells whole locked talks records words env old new
   -- nothing is to be guarded, or nothing can be: the call is performed without a journal
   without_journal : (does : Edits) (folder journal : Name) (at : Scene) → DecidesHowToGoOn tells whole records words env does folder journal old at (Ok Plain) → at.host.term ≡ old.host.term
-      → PerformsUnjournaled tells talks words env at new → CallLeadsTo tells whole locked talks records words env old new
+      → PerformsUnjournaled tells talks words env at new → IsCallCourse tells whole locked talks records words env old new
   -- the lock is this call's
   under_its_lock : (does : Edits) (folder journal : Name) (at : Scene) → DecidesHowToGoOn tells whole records words env does folder journal old at (Ok Guarded) → at.host.term ≡ old.host.term
-      → LockedCallLeadsTo tells whole locked talks records words env does folder journal at new → CallLeadsTo tells whole locked talks records words env old new
+      → IsLockedCourse tells whole locked talks records words env does folder journal at new → IsCallCourse tells whole locked talks records words env old new

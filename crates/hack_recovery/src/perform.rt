@@ -6,8 +6,8 @@ ghost use Rattle.std.specs.Prelude.{◌⊎◌};
 ghost use Rattle.hack_base.specs.Names.{names_of};
 ghost use Rattle.hack_files.specs.Files.{KeepsAll, Makes};
 ghost use Rattle.hack_recovery.specs.LockEvents.{LocksView};
-ghost use Rattle.hack_recovery.specs.CallCourses.{CallLeadsTo, Continues, IsJournalClosed};
-ghost use Rattle.hack_recovery.specs.CallCourses.{IsJournaledCall, LockedCallLeadsTo};
+ghost use Rattle.hack_recovery.specs.CallCourses.{IsCallCourse, Continues, IsJournalClosed};
+ghost use Rattle.hack_recovery.specs.CallCourses.{IsJournaledCall, IsLockedCourse};
 ghost use Rattle.hack_recovery.specs.CallCourses.{scene_of};
 ghost use Rattle.hack_run.specs.Readings.{IsEarlyReading};
 ghost use Rattle.hack_run.specs.Worlds.{IsSameHost, files_of};
@@ -44,7 +44,7 @@ pub fn perform<F: Files, L: Files, K: Locks, C: Caller, O: Write, E: Write>(
     ensures one { (result.0 ≡ 1) ↔ (IsTrue host.new.term.now.error
         ⊎ (IsTrue host.new.term.now.warn × IsTrue host.old.env.now.deny_warnings)) }
     ensures at_most_one { result.0 ≤ 1 }
-    ensures goes { CallLeadsTo F.tells F.whole L.tells C.tells K.tells (names_of words.now)
+    ensures goes { IsCallCourse F.tells F.whole L.tells C.tells K.tells (names_of words.now)
         host.old.env.now
         (scene_of F.Files L.Files C.Caller O.Write files lockfiles
         (K.shown locks.old) host.old)
@@ -101,7 +101,7 @@ fn guarded<F: Files, L: Files, K: Locks, C: Caller, O: Write, E: Write>(
     ensures one { (result.0 ≡ 1) ↔ (IsTrue host.new.term.now.error
         ⊎ (IsTrue host.new.term.now.warn × IsTrue host.old.env.now.deny_warnings)) }
     ensures at_most_one { result.0 ≤ 1 }
-    ensures goes { LockedCallLeadsTo F.tells F.whole L.tells C.tells K.tells (names_of words.now)
+    ensures goes { IsLockedCourse F.tells F.whole L.tells C.tells K.tells (names_of words.now)
         host.old.env.now begun.edits (string_bytes begun.folder) (string_bytes begun.journal)
         (scene_of F.Files L.Files C.Caller O.Write files lockfiles
         (K.shown locks.old) host.old)

@@ -2,7 +2,7 @@ use Rattle.std.proofs.Common.{◌≡◌, [], ◌∙◌, ℕ, List, Bool, false, 
 use Rattle.std.specs.List.{list_any}
 use Rattle.std.proofs.lemmas.List.{take_more}
 use Rattle.hack_samples.specs.Sets.{rows_of}
-use Rattle.hack_features.specs.InternalTables.{leads}
+use Rattle.hack_features.specs.Tables.{leads}
 use Rattle.hack_base.proofs.Steps.{none_one_more}
 use Rattle.hack_features.proofs.cover.set_enables.Goals as goal
 

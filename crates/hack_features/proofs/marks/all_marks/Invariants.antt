@@ -2,7 +2,7 @@ use Rattle.std.proofs.Common.{◌≡◌, ◌<◌, ◌↔◌, ℕ, IsTrue, length
 use Rattle.hack_features.specs.FeatureMap.{Chain}
 use Rattle.hack_samples.specs.Sets.{rows_of}
 use Rattle.hack_features.specs.InternalPlaces.{Leads}
-use Rattle.hack_features.specs.InternalTables.{leads}
+use Rattle.hack_features.specs.Tables.{leads}
 use Rattle.hack_features.proofs.marks.all_marks.Given as goal
 
 abbrev pub invariant-loop-place : goal.invariant-loop-place

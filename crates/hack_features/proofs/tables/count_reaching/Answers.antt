@@ -2,7 +2,8 @@ use Rattle.std.proofs.Common.{◌≡◌, ◌+◌, ◌∙◌, ℕ, IsTrue, arith,
 use Rattle.std.specs.List.{list_any}
 use Rattle.std.proofs.lemmas.List.{take_more, take_all}
 use Rattle.hack_samples.specs.Sets.{rows_of}
-use Rattle.hack_features.specs.InternalTables.{leads, Counts}
+use Rattle.hack_features.specs.Tables.{leads}
+use Rattle.hack_features.specs.InternalTables.{Counts}
 use Rattle.hack_features.specs.InternalTables as table
 use Rattle.hack_features.proofs.TableLemmas.{counts_yes, counts_no}
 use Rattle.hack_features.proofs.tables.count_reaching.Goals as goal

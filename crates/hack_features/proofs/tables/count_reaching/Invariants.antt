@@ -1,7 +1,8 @@
 use Rattle.std.proofs.Common.{◌≤◌, take, IsTrue}
 use Rattle.std.specs.List.{list_any}
 use Rattle.hack_samples.specs.Sets.{rows_of}
-use Rattle.hack_features.specs.InternalTables.{leads, Counts}
+use Rattle.hack_features.specs.Tables.{leads}
+use Rattle.hack_features.specs.InternalTables.{Counts}
 use Rattle.hack_features.proofs.tables.count_reaching.Given as goal
 
 abbrev pub invariant-loop-x : goal.invariant-loop-x

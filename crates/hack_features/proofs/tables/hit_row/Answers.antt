@@ -1,7 +1,8 @@
 use Rattle.std.proofs.Common.{◌≡◌, [], sym, arith, ℕ, get_or, subst, List, IsTrue, ap, ◌∙◌}
 use Rattle.std.specs.List.{list_any}
 use Rattle.hack_samples.specs.Sets.{rows_of}
-use Rattle.hack_features.specs.InternalTables.{leads, Counts}
+use Rattle.hack_features.specs.Tables.{leads}
+use Rattle.hack_features.specs.InternalTables.{Counts}
 use Rattle.hack_base.proofs.Steps.{row-pushed}
 use Rattle.hack_features.proofs.MarkLemmas.{row_at}
 use Rattle.hack_features.proofs.tables.hit_row.Goals as goal

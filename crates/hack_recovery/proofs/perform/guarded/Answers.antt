@@ -1,7 +1,7 @@
 use Rattle.std.proofs.Common.{ap, refl}
 use Rattle.hack_term.specs.declared.term.Term.{Term}
 use Rattle.hack_run.specs.Worlds.{files_of}
-use Rattle.hack_recovery.specs.CallCourses.LockedCallLeadsTo.{cut_short, ended, went_on}
+use Rattle.hack_recovery.specs.CallCourses.IsLockedCourse.{cut_short, ended, went_on}
 use Rattle.hack_recovery.proofs.WayLemmas.{not_restored}
 use Rattle.hack_recovery.proofs.perform.guarded.Goals as goal
 

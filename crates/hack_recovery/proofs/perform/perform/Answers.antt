@@ -1,7 +1,7 @@
 use Rattle.std.proofs.Common.{ap, refl, string_bytes}
 use Rattle.hack_term.specs.declared.term.Term.{Term}
 use Rattle.hack_recovery.specs.CallCourses.{Scene, scene_of}
-use Rattle.hack_recovery.specs.CallCourses.CallLeadsTo.{turned_away, under_its_lock, without_journal}
+use Rattle.hack_recovery.specs.CallCourses.IsCallCourse.{turned_away, under_its_lock, without_journal}
 use Rattle.hack_recovery.proofs.perform.perform.Goals as goal
 
 pub returns-in-Ok-Plain-clause-goes : goal.returns-in-Ok-Plain-clause-goes

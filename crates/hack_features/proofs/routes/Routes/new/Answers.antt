@@ -3,7 +3,7 @@ use Rattle.std.proofs.lemmas.List.{length-map}
 use Rattle.std.proofs.lemmas.List.Elements.{Contains-append_left}
 use Rattle.hack_features.specs.FeatureMap.{feature_map, Chain}
 use Rattle.hack_features.specs.InternalPlaces.{Leads}
-use Rattle.hack_features.specs.InternalTables.{leads}
+use Rattle.hack_features.specs.Tables.{leads}
 use Rattle.hack_samples.specs.Sets.{rows_of}
 use Rattle.hack_features.specs.InternalNamesView.{table}
 use Rattle.hack_features.specs.InternalLinksView.{table_of}
