@@ -13,25 +13,18 @@ use Rattle.hack_planner.specs.MembersView.{member_view, choosing_of}
 use Rattle.hack_planner.proofs.PackageLemmas.{three-lists}
 use Rattle.hack_planner.proofs.packages.choose_packages.Goals as goal
 
-remaining-left : (c : goal.Ctx) → AreRemaining (choosing_of c.args.args.now (option_copied c.args.current)) (map member_view c.args.members.now) (map member_view c.in_ok-left.left.items)
-remaining-left c =
-    let left : List plain.Member = map member_view c.in_ok-left.left.items in
-    record {
-      about = map member_view c.in-Ok.about.items;
-      is_about = c.in-Ok.ensures.ok;
-      remain = subst (λ l. SelectsMembers (λ (m : plain.Member). ¬ IsMatched (names_of l) m) (map member_view c.in-Ok.about.items) left) c.deref-2.ensures.value
-          (subst (λ l. SelectsMembers (λ (m : plain.Member). ¬ IsMatched (names_of c.deref-2.result.now) m) (map member_view l) left) c.deref.ensures.value c.in_ok-left.ensures);
-    }
-
 pub returns-clause-ok : goal.returns-clause-ok
 returns-clause-ok c =
     let w : Choosing = choosing_of c.args.args.now (option_copied c.args.current) in
-    let root = c.args.root.now in
-    let ms : List plain.Member = map member_view c.args.members.now in
     let left : List plain.Member = map member_view c.in_ok-left.left.items in
     record {
       remaining = left;
-      left = remaining-left c;
+      left = record {
+        about = map member_view c.in-Ok.about.items;
+        is_about = c.in-Ok.ensures.ok;
+        remain = subst (λ l. SelectsMembers (λ (m : plain.Member). ¬ IsMatched (names_of l) m) (map member_view c.in-Ok.about.items) left) c.deref-2.ensures.value
+            (subst (λ l. SelectsMembers (λ (m : plain.Member). ¬ IsMatched (names_of c.deref-2.result.now) m) (map member_view l) left) c.deref.ensures.value c.in_ok-left.ensures);
+      };
       chosen = c.in_ok-kept_ids.ensures ∙ ap (λ l. map (λ (m : plain.Member). m.place) (filter (λ (m : plain.Member). not (is_skipped w m)) (map member_view l))) c.deref-6.ensures.value;
     }
 
@@ -44,7 +37,12 @@ returns-clause-notes c =
     record {
       remaining = left;
       on_exclusions = map note_of c.in_ok-notices.notices.items;
-      left = remaining-left c;
+      left = record {
+        about = map member_view c.in-Ok.about.items;
+        is_about = c.in-Ok.ensures.ok;
+        remain = subst (λ l. SelectsMembers (λ (m : plain.Member). ¬ IsMatched (names_of l) m) (map member_view c.in-Ok.about.items) left) c.deref-2.ensures.value
+            (subst (λ l. SelectsMembers (λ (m : plain.Member). ¬ IsMatched (names_of c.deref-2.result.now) m) (map member_view l) left) c.deref.ensures.value c.in_ok-left.ensures);
+      };
       single = c.is_one.ensures ∙ ap (λ l. length (map member_view l) == 1) c.deref-7.ensures.value;
       unmatched = subst (λ l. Collects (λ (spec : Name). ¬ MatchesSome ms spec) (λ (spec : Name). warning_note (exclusion_text root spec)) (names_of l) (map note_of c.in_ok-notices.notices.items)) c.deref-3.ensures.value c.in_ok-notices.ensures;
       told = three-lists c.in_ok-notices.notices.items c.in_ok-lifts.lifts.items c.in_ok-skips.skips.items _ _ _ _ c.in_ok-append.ensures.items c.in_ok-append-2.ensures.items
