@@ -6,7 +6,6 @@ pub mod Spans
 pub mod Runs
 pub mod RunsView
 pub mod FrontRuns
-pub mod Calls
 pub mod View
 pub mod Commands
 pub mod Plans

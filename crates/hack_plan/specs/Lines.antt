@@ -12,7 +12,7 @@ use Rattle.hack_plan.specs.Commands.{call_command, manifest_words, run_names, ru
 
 -- the arguments of a run's own
 abbrev pub own_in : RunLine → List (List ℕ)
-own_in line = flat_map target_pair (targets_in (call_view line.call.now.words) line.version line.slot) ++ manifest_words (option_map (λ path. path.now) line.manifest_path) ++ run_words (run_of line.run line.positions.items)
+own_in line = flat_map target_pair (targets_in (call_view line.words.now) line.version line.slot) ++ manifest_words (option_map (λ path. path.now) line.manifest_path) ++ run_words (run_of line.run line.positions.items)
 
 -- the names of a run's features
 abbrev pub names_in : RunLine → List Name
@@ -20,11 +20,11 @@ names_in line = map string_bytes line.features.now ++ run_names (groups_of line.
 
 -- the command of a run
 abbrev pub command_in : RunLine → Command
-command_in line = call_command (call_view line.call.now.words) line.version (own_in line) (names_in line)
+command_in line = call_command (call_view line.words.now) line.version (own_in line) (names_in line)
 
 -- what a run shows: its command, as a list of commands shows it
 abbrev pub listed_text : RunLine → List ℕ
-listed_text line = listed_of (call_view line.call.now.words).dir (command_in line)
+listed_text line = listed_of (call_view line.words.now).dir (command_in line)
 
 -- a target, as a line shows it
 abbrev pub shown_target : List ℕ → List ℕ

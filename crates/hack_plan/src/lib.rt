@@ -4,7 +4,6 @@
 #![tactic(auto)]
 
 mod blocks;
-mod call;
 mod commands;
 mod line;
 pub mod parts;

@@ -20,14 +20,13 @@ ghost use Rattle.hack_plan.specs.Lines.{shown_manifest, shown_target};
 ghost use Rattle.hack_plan.specs.Internal.{before_name, joined_names};
 ghost use Rattle.hack_plan.specs.Lines.{takes_option};
 
-use crate::call::Call;
 use crate::commands::{
     names_of, push_all, push_manifest, push_names, push_run, push_targets, run_word,
 };
-use crate::parts::PlanPackage;
+use crate::parts::{CommandParts, PlanPackage};
 use crate::runs::Run;
 use hack_base::copies::text_in;
-use hack_base::paths::under;
+use hack_base::paths::{stem, under};
 use hack_features::Feature;
 use hack_process::process::{ProcessBuilder, Spaced, Trailing};
 use hack_versions::version::Version;
@@ -37,7 +36,7 @@ use std::fmt;
 /// A run. It is shown as the line of its command in a list of commands.
 #[derive(Drop)]
 pub struct RunLine<'a> {
-    call: &'a Call,
+    words: &'a CommandParts,
     version: Option<Version>,
     slot: usize,
     manifest_path: Option<&'a str>,
@@ -53,20 +52,20 @@ impl<'a> RunLine<'a> {
     /// The run for all packages.
     pub(crate) fn whole(
         alloc: Global,
-        call: &'a Call,
+        words: &'a CommandParts,
         version: Option<Version>,
         slot: usize,
     ) -> RunLine<'a>
-        ensures call { result.call.now ≡ call.now }
+        ensures words { result.words.now ≡ words.now }
         ensures command { command_in result
-            ≡ whole_command (call_view call.now.words) version slot }
+            ≡ whole_command (call_view words.now) version slot }
     {
         RunLine {
-            call,
+            words,
             version,
             slot,
             manifest_path: None,
-            features: call.words.features.as_slice(),
+            features: words.features.as_slice(),
             candidates: &[],
             run: Run::Plain,
             positions: Vec::new(alloc),
@@ -76,20 +75,20 @@ impl<'a> RunLine<'a> {
     /// A package's run; where it is the run of a set, `positions` are those of the set's
     /// candidates.
     pub(crate) fn of_package(
-        call: &'a Call,
+        words: &'a CommandParts,
         version: Option<Version>,
         slot: usize,
         member: &'a PlanPackage,
         run: Run,
         positions: Vec<usize>,
     ) -> RunLine<'a>
-        ensures call { result.call.now ≡ call.now }
+        ensures words { result.words.now ≡ words.now }
         ensures command { command_in result
-            ≡ run_command (call_view call.now.words) version slot (plan_package_view member.now)
+            ≡ run_command (call_view words.now) version slot (plan_package_view member.now)
             (run_of run positions.items) }
     {
         RunLine {
-            call,
+            words,
             version,
             slot,
             manifest_path: text_in(&member.manifest_path),
@@ -106,8 +105,7 @@ impl<'a> RunLine<'a> {
     {
         let own = self.own_words(alloc)?;
         let names = self.names(alloc)?;
-        self.call
-            .words
+        self.words
             .command(alloc, self.version, own.as_slice(), names.as_slice())
     }
 
@@ -115,7 +113,7 @@ impl<'a> RunLine<'a> {
     fn own_words(&self, alloc: Global) -> Result<Vec<&'a str>, AllocError>
         ensures { IfOk result (λ own. names_behind own.items ≡ own_in self.now) }
     {
-        let targets = self.call.words.targets_in(self.version, self.slot);
+        let targets = self.words.targets_in(self.version, self.slot);
         let mut own = Vec::with_capacity(alloc, 2 * targets.len() + 3)?;
         push_targets(&mut own, targets)?;
         push_manifest(&mut own, self.manifest_path)?;
@@ -150,8 +148,8 @@ impl fmt::Display for RunLine<'_> {
     ghost output = { λ line. Some (listed_text line) };
 
     fn fmt<W: fmt::Write>(&self, f: &mut fmt::Formatter<W>) -> fmt::Result {
-        let words = &self.call.words;
-        let program = self.call.shown_program(self.version);
+        let words = self.words;
+        let program = stem(words.program_of(self.version));
         let leading = Leading(self.version);
         let passed = Spaced(words.passed.as_slice());
         let own = Own {

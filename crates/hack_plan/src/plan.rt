@@ -14,7 +14,6 @@ ghost use Rattle.hack_plan.specs.Commands.{name_in, ranked_command, slot_target}
 ghost use Rattle.hack_plan.specs.Lines.{command_in, listed_text};
 ghost use Rattle.hack_plan.specs.Plans.{counts_in};
 
-use crate::call::Call;
 pub use crate::commands::toolchain;
 pub use crate::line::RunLine;
 use crate::parts::{CommandParts, PlanPackage, PlanVersion};
@@ -29,7 +28,7 @@ use std::marker::Model;
 /// What is run, in order.
 #[derive(Drop)]
 pub struct Plan {
-    call: Call,
+    words: CommandParts,
     packages: Vec<PlanPackage>,
     versions: Vec<PlanVersion>,
     places: Places,
@@ -46,7 +45,7 @@ impl Model for Plan {
     ghost Value = { PlanView };
 
     ghost view = { λ p. record {
-      call = call_view p.call.words;
+      call = call_view p.words;
       packages = map plan_package_view p.packages.items;
       versions = p.versions.items;
       entries = p.places.entries;
@@ -131,7 +130,7 @@ impl Plan {
     {
         let entry = self.entry(place);
         match self.package_of(entry) {
-            None => Ok(RunLine::whole(alloc, &self.call, entry.version, entry.slot)),
+            None => Ok(RunLine::whole(alloc, &self.words, entry.version, entry.slot)),
             Some(member) => self.of_package(alloc, entry, member),
         }
     }
@@ -166,7 +165,7 @@ impl Plan {
         member: &'a PlanPackage,
     ) -> Result<RunLine<'a>, AllocError>
         requires { entry.rank < length (plan_package_view member.now).runs }
-        ensures dir { IfOk result (λ line. (call_view line.call.now.words).dir
+        ensures dir { IfOk result (λ line. (call_view line.words.now).dir
             ≡ self.now.call.dir) }
         ensures command { IfOk result (λ line. command_in line
             ≡ ranked_command self.now.call entry.version entry.slot (Some
@@ -176,7 +175,7 @@ impl Plan {
         let mut positions = Vec::with_capacity(alloc, member.candidates.len())?;
         let run = member.runs.run(entry.rank, &mut positions)?;
         Ok(RunLine::of_package(
-            &self.call,
+            &self.words,
             entry.version,
             entry.slot,
             member,
@@ -189,7 +188,7 @@ impl Plan {
     pub fn cleaning(&self, alloc: Global) -> Result<ProcessBuilder<'_>, AllocError>
         ensures { IfOk result (λ command. command_of command ≡ clean_command self.now.call None) }
     {
-        self.call.words.cleaning(alloc, None)
+        self.words.cleaning(alloc, None)
     }
 
     /// The command that removes the artifacts of a place's package before its run, or all artifacts
@@ -205,7 +204,7 @@ impl Plan {
             ≡ clean_command self.now.call (chosen_package_at self.now.packages q.package))) }
     {
         let entry = self.places.run(place);
-        self.call.words.cleaning(alloc, self.package_of(entry))
+        self.words.cleaning(alloc, self.package_of(entry))
     }
 
     /// The command that regenerates the lockfile with the cargo of a version.
@@ -217,21 +216,21 @@ impl Plan {
         ensures { IfOk result (λ command. command_of command
             ≡ lockfile_command self.now.call version) }
     {
-        self.call.words.lockfile(alloc, version)
+        self.words.lockfile(alloc, version)
     }
 
     /// The program to run as rustup.
     pub fn rustup(&self) -> &str
         ensures { result.now ≡ self.now.call.rustup }
     {
-        self.call.words.rustup.as_str()
+        self.words.rustup.as_str()
     }
 
     /// The targets, in the order of their bytes.
     pub fn targets(&self) -> &[String]
         ensures { map string_bytes result.now ≡ self.now.call.targets }
     {
-        self.call.words.targets.as_slice()
+        self.words.targets.as_slice()
     }
 
     /// The target of a slot that has one of its own.
@@ -239,21 +238,21 @@ impl Plan {
         ensures { option_map (λ target. target.now) result
             ≡ slot_target self.now.call version slot }
     {
-        self.call.words.slot_target(version, slot)
+        self.words.slot_target(version, slot)
     }
 
     /// The current folder; messages show paths relative to it.
     pub fn dir(&self) -> &str
         ensures { result.now ≡ self.now.call.dir }
     {
-        self.call.words.dir.as_str()
+        self.words.dir.as_str()
     }
 
     /// Whether a package's artifacts are removed before each of its runs.
     pub fn cleans_per_run(&self) -> bool
         ensures { result ≡ self.now.call.clean_per_run }
     {
-        self.call.words.clean_per_run
+        self.words.clean_per_run
     }
 }
 
@@ -274,7 +273,7 @@ impl Plan {
         ensures entries { result.entries ≡ [] }
     {
         Plan {
-            call: Call::without_lines(words),
+            words,
             packages: Vec::new(alloc),
             versions: Vec::new(alloc),
             places: Places::empty(alloc),
@@ -314,9 +313,8 @@ impl Plan {
             words.locked,
             words.clean_per_version,
         )?;
-        let call = Call::new(alloc, words)?;
         Ok(Plan {
-            call,
+            words,
             packages,
             versions,
             places,

@@ -8,7 +8,7 @@ use Rattle.hack_plan.specs.Lines.{command_in, listed_text}
 use Rattle.hack_plan.proofs.plan.Plan.line.Goals as goal
 
 -- the line of the entry at a place
-line-at : (plan : PlanView) (line : RunLine) (o : Option PlanEntry) (q : PlanEntry) (k : Option PackageView) → o ≡ Some q → k ≡ chosen_package_at plan.packages q.package → (call_view line.call.now.words).dir ≡ plan.call.dir
+line-at : (plan : PlanView) (line : RunLine) (o : Option PlanEntry) (q : PlanEntry) (k : Option PackageView) → o ≡ Some q → k ≡ chosen_package_at plan.packages q.package → (call_view line.words.now).dir ≡ plan.call.dir
     → command_in line ≡ ranked_command plan.call q.version q.slot k q.rank → option_map (λ entry. listed_of plan.call.dir (command_of_entry plan entry)) o ≡ Some (listed_text line)
 line-at plan line o q k e f d h =
     ap (option_map (λ entry. listed_of plan.call.dir (command_of_entry plan entry))) e
@@ -16,7 +16,7 @@ line-at plan line o q k e f d h =
     ∙ (λ i. Some (listed_of (sym d i) (sym h i)))
 
 -- the same, where the line may not be made
-line-in : {E : Type 0} (plan : PlanView) (r : Result RunLine E) (o : Option PlanEntry) (q : PlanEntry) (k : Option PackageView) → o ≡ Some q → k ≡ chosen_package_at plan.packages q.package → IfOk r (λ line. (call_view line.call.now.words).dir ≡ plan.call.dir)
+line-in : {E : Type 0} (plan : PlanView) (r : Result RunLine E) (o : Option PlanEntry) (q : PlanEntry) (k : Option PackageView) → o ≡ Some q → k ≡ chosen_package_at plan.packages q.package → IfOk r (λ line. (call_view line.words.now).dir ≡ plan.call.dir)
     → IfOk r (λ line. command_in line ≡ ranked_command plan.call q.version q.slot k q.rank) → IfOk r (λ line. option_map (λ entry. listed_of plan.call.dir (command_of_entry plan entry)) o ≡ Some (listed_text line))
 line-in plan (Ok line) o q k e f d h = line-at plan line o q k e f d h
 line-in plan (Err fault) o q k e f d h = tt
@@ -25,7 +25,7 @@ pub returns-in-None-clause-text : goal.returns-in-None-clause-text
 returns-in-None-clause-text c =
     let entry = c.entry-entry.result in
     line-at c.args.self.now c.whole.result _ entry None c.entry-entry.ensures c.in-None.ensures
-    (ap (λ call. (call_view call.words).dir) c.whole.ensures.call ∙ ap (λ (plan : PlanView). plan.call.dir) c.self.view_is)
+    (ap (λ words. (call_view words).dir) c.whole.ensures.words ∙ ap (λ (plan : PlanView). plan.call.dir) c.self.view_is)
     (c.whole.ensures.command ∙ ap (λ (plan : PlanView). whole_command plan.call entry.version entry.slot) c.self.view_is)
 
 pub returns-in-Some-clause-text : goal.returns-in-Some-clause-text

@@ -10,7 +10,7 @@ use Rattle.hack_plan.proofs.plan.Plan.of_package.Goals as goal
 
 pub returns-clause-command : goal.returns-clause-command
 returns-clause-command c =
-    let call = call_view c.self.inside.call.words in
+    let call = call_view c.self.inside.words in
     let runs = runs_in c.args.member.now.runs in
     let command : CallView → PackageRun → Command = λ call run. run_command call c.args.entry.version c.args.entry.slot (plan_package_view c.args.member.now) run in
     c.of_package.ensures.command
