@@ -1,5 +1,5 @@
 -- Where there is a plan, no cause to refuse one holds.
-use Rattle.std.proofs.Common.{◌≡◌, ◌⊎◌, ℕ, ◌+◌, ◌*◌, ◌<◌, ◌^◌, List, length, arith, ap, sym, ◌∙◌, subst, inl, inr, Option, Some, None, Bool, true, false, IfSome}
+use Rattle.std.proofs.Common.{◌≡◌, ◌⊎◌, ℕ, ◌+◌, ◌*◌, ◌<◌, ◌^◌, List, length, arith, ap, sym, ◌∙◌, subst, inl, inr, [], refl, Option, Some, None, Bool, true, false, IfSome, Result, Ok, Err, IfOk}
 use Rattle.std.specs.List.{Contains}
 use Rattle.std.proofs.lemmas.List.Elements.{All-contains}
 use Rattle.hack_versions.specs.declared.version.Version.{Version}
@@ -13,7 +13,7 @@ use Rattle.hack_versions.proofs.OrderLemmas.{at_most-both}
 use Rattle.hack_plan.specs.declared.places.PlanEntry.{PlanEntry}
 use Rattle.hack_plan.specs.declared.versions.PlanInput.{PlanInput}
 use Rattle.hack_plan.specs.Inputs.{IsStepList, UsesVersion, IsVersion, owns_of}
-use Rattle.hack_plan.specs.Entries.{IsAdmissible, HasRun, ArePlaces, HasTooMany}
+use Rattle.hack_plan.specs.Entries.{IsAdmissible, HasRun, Lists, ArePlaces, HasTooMany}
 use Rattle.hack_plan.proofs.Pigeon.{not-too-many}
 
 abbrev IsOver : Version → Option Version → Type 0
@@ -81,3 +81,13 @@ list-same (Some range) z stable s t f g v c = same-steps range z.step (owns_of z
 pub never-too-many : (z : PlanInput) (counts : List ℕ) (stable : Option Version) (entries : List PlanEntry) → ArePlaces z counts stable entries → length entries < 2 ^ 32 → HasTooMany z counts stable → ⊥
 never-too-many z counts stable entries p short w =
     not-too-many (IsAdmissible z counts p.0) (IsAdmissible z counts w.0) entries (admissible-same w.0 p.0 (list-same z.range z stable w.0 p.0 w.1 p.1) z counts) p.2 short w.2
+
+-- the same of a plan that may not be made
+pub never-if : (z : PlanInput) (counts : List ℕ) (stable : Option Version) {X E : Type 0} (r : Result X E) (entries : X → List PlanEntry) → IfOk r (λ p. ArePlaces z counts stable (entries p)) → IfOk r (λ p. length (entries p) < 2 ^ 32) → IfOk r (λ _. ¬ HasTooMany z counts stable)
+never-if z counts stable (Ok p) entries places short = never-too-many z counts stable (entries p) places short
+never-if z counts stable (Err e) entries places short = tt
+
+-- without a range there are no steps
+pub never-alone : (z : PlanInput) (counts : List ℕ) (stable : Option Version) {X E : Type 0} (r : Result X E) (entries : X → List PlanEntry) → None ≡ z.range → IfOk r (λ p. Lists (IsAdmissible z counts []) (entries p)) → IfOk r (λ p. length (entries p) < 2 ^ 32) → IfOk r (λ _. ¬ HasTooMany z counts stable)
+never-alone z counts stable (Ok p) entries is lists short = never-too-many z counts stable (entries p) ([], subst (λ range. IsStepList range z stable []) is refl, lists) short
+never-alone z counts stable (Err e) entries is lists short = tt

@@ -1,9 +1,11 @@
 -- The commands of a plan.
-use Rattle.std.specs.Prelude.{ℕ, Bool, false, List, [], ◌∷◌, ◌++◌, Option, Some, None, take, drop, length, codes, decimal, slice_get, nat_lt, ◌&&◌, if◌then◌else◌}
+use Rattle.std.specs.Prelude.{◌≡◌, ℕ, Bool, false, List, [], ◌∷◌, ◌++◌, Option, Some, None, take, drop, length, codes, decimal, slice_get, nat_lt, ◌&&◌, if◌then◌else◌}
 use Rattle.std.specs.List.{flat_map, slice_index_or}
 use Rattle.hack_base.specs.Names.{Name}
 use Rattle.hack_versions.specs.declared.version.Version.{Version}
 use Rattle.hack_process.specs.CommandTexts.{Command, with_names}
+use Rattle.hack_process.specs.Commands.{command_of}
+use Rattle.hack_process.specs.declared.process.ProcessBuilder.{ProcessBuilder}
 use Rattle.hack_plan.specs.Runs.{PackageRun, Plain, AllFeatures, NoDefaultFeatures, Set}
 use Rattle.hack_plan.specs.Inputs.{minor_of}
 use Rattle.hack_plan.specs.declared.places.PlanEntry.{PlanEntry}
@@ -113,3 +115,7 @@ clean_command c cleaned = plain_command c.cargo [] (codes "clean" ∷ locked_wor
 -- the command that regenerates the lockfile
 abbrev pub lockfile_command : CallView → Version → Command
 lockfile_command c v = plain_command c.rustup (rustup_run_words (Some v)) (codes "generate-lockfile" ∷ manifest_words c.current_manifest)
+
+-- a builder has collected the command
+abbrev pub HasCollected : Command → ProcessBuilder → Type 0
+HasCollected command builder = command_of builder ≡ command

@@ -1,11 +1,11 @@
 //! The places of a plan as blocks with running sums: a block has the runs of one version, slot and
 //! package.
 
-ghost use Rattle.std.specs.Prelude.{ℕ, true, false, ◌≡◌, ◌<◌, ◌≤◌, ◌+◌, ◌^◌, ◌⊎◌, [], length, All};
-ghost use Rattle.std.specs.Prelude.{AllPairs, OnOk, OnErr, IfOk, IfErr, slice_get, slice_index};
+ghost use Rattle.std.specs.Prelude.{true, false, ◌≡◌, ◌<◌, ◌^◌, ◌⊎◌, [], length, All};
+ghost use Rattle.std.specs.Prelude.{AllPairs, OnOk, IfErr, slice_get};
 ghost use Rattle.hack_plan.specs.Entries.{AddsEntries, Overfills};
 ghost use Rattle.hack_plan.specs.Parts.{InVersion};
-ghost use Rattle.hack_plan.specs.Internal.{InBlock, InSlot};
+ghost use Rattle.hack_plan.specs.Internal.{InBlock, InSlotOf, InSlotsOf};
 
 use crate::places::{PlacesFault, PlanEntry};
 use hack_versions::version::Version;
@@ -23,6 +23,15 @@ pub struct Block {
     package: Option<usize>,
     runs: usize,
     end: usize,
+}
+
+/// A version, and the packages that use it, as indexes into the chosen ones.
+#[derive(Clone, Copy)]
+pub struct VersionUse<'a> {
+    pub version: Option<Version>,
+    pub packages: &'a [usize],
+    /// The number of runs of each chosen package.
+    pub counts: &'a [usize],
 }
 
 /// Blocks, each with the number of places up to and including it.
@@ -110,23 +119,16 @@ impl Blocks {
     }
 
     /// The places of one version and slot.
-    fn add_slot(
-        &mut self,
-        version: Option<Version>,
-        slot: usize,
-        members: &[usize],
-        runs: &[usize],
-    ) -> Result<(), PlacesFault>
-        requires increasing { AllPairs (λ a b. a < b) members.now }
-        requires within { All (λ p. p < length runs.now) members.now }
-        ensures ok { OnOk result (AddsEntries (InSlot version slot members.now runs.now) self.old
-            self.new) }
+    fn add_slot(&mut self, slot: usize, uses: &VersionUse<'_>) -> Result<(), PlacesFault>
+        requires increasing { AllPairs (λ a b. a < b) uses.now.packages.now }
+        requires within { All (λ p. p < length uses.now.counts.now) uses.now.packages.now }
+        ensures ok { OnOk result (AddsEntries (InSlotOf uses.now slot) self.old self.new) }
         ensures err { IfErr result (λ e. (e ≡ PlacesFault.Memory)
-            ⊎ ((e ≡ PlacesFault.TooManyRuns) × Overfills (InSlot version slot members.now runs.now)
-            self.old)) }
+            ⊎ ((e ≡ PlacesFault.TooManyRuns) × Overfills (InSlotOf uses.now slot) self.old)) }
     {
-        for member in members {
-            if let Err(fault) = self.push(version, slot, Some(*member), runs[*member]) {
+        for member in uses.packages {
+            let runs = uses.counts[*member];
+            if let Err(fault) = self.push(uses.version, slot, Some(*member), runs) {
                 return Err(fault);
             }
         }
@@ -137,23 +139,21 @@ impl Blocks {
     pub fn add_version(
         &mut self,
         whole: bool,
-        version: Option<Version>,
         slots: usize,
-        members: &[usize],
-        runs: &[usize],
+        uses: &VersionUse<'_>,
     ) -> Result<(), PlacesFault>
-        requires increasing { AllPairs (λ a b. a < b) members.now }
-        requires within { whole ≡ false → All (λ p. p < length runs.now) members.now }
-        ensures ok { OnOk result (AddsEntries (InVersion whole version slots members.now runs.now)
-            self.old self.new) }
+        requires increasing { AllPairs (λ a b. a < b) uses.now.packages.now }
+        requires within { whole ≡ false
+            → All (λ p. p < length uses.now.counts.now) uses.now.packages.now }
+        ensures ok { OnOk result (AddsEntries (InSlotsOf whole uses.now slots) self.old self.new) }
         ensures err { IfErr result (λ e. (e ≡ PlacesFault.Memory)
-            ⊎ ((e ≡ PlacesFault.TooManyRuns) × Overfills (InVersion whole version slots members.now
-            runs.now) self.old)) }
+            ⊎ ((e ≡ PlacesFault.TooManyRuns) × Overfills (InSlotsOf whole uses.now slots)
+            self.old)) }
     {
         if whole {
-            self.add_single(version, slots)
+            self.add_single(uses.version, slots)
         } else {
-            self.add_packages(version, slots, members, runs)
+            self.add_packages(slots, uses)
         }
     }
 
@@ -174,23 +174,16 @@ impl Blocks {
     }
 
     /// The places of all packages in each slot.
-    fn add_packages(
-        &mut self,
-        version: Option<Version>,
-        slots: usize,
-        members: &[usize],
-        runs: &[usize],
-    ) -> Result<(), PlacesFault>
-        requires increasing { AllPairs (λ a b. a < b) members.now }
-        requires within { All (λ p. p < length runs.now) members.now }
-        ensures ok { OnOk result (AddsEntries (InVersion false version slots members.now runs.now)
-            self.old self.new) }
+    fn add_packages(&mut self, slots: usize, uses: &VersionUse<'_>) -> Result<(), PlacesFault>
+        requires increasing { AllPairs (λ a b. a < b) uses.now.packages.now }
+        requires within { All (λ p. p < length uses.now.counts.now) uses.now.packages.now }
+        ensures ok { OnOk result (AddsEntries (InSlotsOf false uses.now slots) self.old self.new) }
         ensures err { IfErr result (λ e. (e ≡ PlacesFault.Memory)
-            ⊎ ((e ≡ PlacesFault.TooManyRuns) × Overfills (InVersion false version slots members.now
-            runs.now) self.old)) }
+            ⊎ ((e ≡ PlacesFault.TooManyRuns) × Overfills (InSlotsOf false uses.now slots)
+            self.old)) }
     {
         for slot in 0..slots {
-            if let Err(fault) = self.add_slot(version, slot, members, runs) {
+            if let Err(fault) = self.add_slot(slot, uses) {
                 return Err(fault);
             }
         }

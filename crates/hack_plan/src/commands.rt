@@ -1,7 +1,7 @@
 //! The commands of a plan.
 
 ghost use Rattle.std.specs.Prelude.{◌≡◌, ◌++◌, ◌∷◌, [], Some, None, map, option_map, IfOk, OnOk};
-ghost use Rattle.std.specs.Prelude.{List, ℕ, take, drop, string_bytes, codes, slice_get};
+ghost use Rattle.std.specs.Prelude.{List, ℕ, take, drop, string_bytes, slice_get};
 ghost use Rattle.std.specs.List.{cons_option, flat_map, slice_index_or};
 ghost use Rattle.hack_base.specs.Names.{names_behind};
 ghost use Rattle.hack_features.specs.Feature.{groups_of};
@@ -11,9 +11,8 @@ ghost use Rattle.hack_plan.specs.View.{call_view, plan_package_view};
 ghost use Rattle.hack_plan.specs.Commands.{toolchain_of, program_of, rustup_run_words, is_split};
 ghost use Rattle.hack_plan.specs.Commands.{targets_in, target_pair, manifest_words, run_words};
 ghost use Rattle.hack_plan.specs.Commands.{candidate_names_at, call_command, plain_command};
-ghost use Rattle.hack_plan.specs.Commands.{locked_words};
-ghost use Rattle.hack_plan.specs.Commands.{cleaned_words, clean_command, lockfile_command};
-ghost use Rattle.hack_plan.specs.Commands.{slot_target};
+ghost use Rattle.hack_plan.specs.Commands.{HasCollected, cleaned_words, clean_command};
+ghost use Rattle.hack_plan.specs.Commands.{lockfile_command, slot_target};
 
 use crate::parts::{CommandParts, PlanPackage};
 use crate::runs::Run;
@@ -152,8 +151,7 @@ impl CommandParts {
         alloc: Global,
         version: Version,
     ) -> Result<ProcessBuilder<'_>, AllocError>
-        ensures { IfOk result (λ command. command_of command
-            ≡ lockfile_command (call_view self.now) version) }
+        ensures { IfOk result (HasCollected (lockfile_command (call_view self.now) version)) }
     {
         let mut command = self.program(alloc, Some(version))?;
         command.arg("generate-lockfile")?;

@@ -1,17 +1,16 @@
 //! The plan of an input: its runs in order, kept as blocks with running sums, in which binary
 //! search finds a run.
 
-ghost use Rattle.std.specs.Prelude.{ℕ, ◌≡◌, ◌<◌, ◌≤◌, ◌^◌, ◌⊎◌, ◌↔◌, ◌++◌, ◌∷◌, [], Some, None};
-ghost use Rattle.std.specs.Prelude.{true, false, length, All, AllPairs, Contains, OnOk, OnErr};
+ghost use Rattle.std.specs.Prelude.{ℕ, ◌≡◌, ◌<◌, ◌^◌, ◌⊎◌, ◌↔◌, ◌∷◌, [], Some, None};
+ghost use Rattle.std.specs.Prelude.{false, length, All, AllPairs, Contains, OnOk};
 ghost use Rattle.std.specs.Prelude.{IfOk, IfErr, slice_get};
-ghost use Rattle.hack_versions.specs.declared.group.VersionGroup.{VersionGroup as Group};
 ghost use Rattle.hack_plan.specs.Inputs.{AreVersions, AreCounted, GroupsBy, slots_of};
 ghost use Rattle.hack_plan.specs.Entries.{ArePlaces, HasTooMany, Lists, IsAdmissible, AreTooMany};
 ghost use Rattle.hack_plan.specs.Entries.{AddsEntries, Overfills};
 ghost use Rattle.hack_plan.specs.Parts.{InVersion};
 ghost use Rattle.hack_plan.specs.declared.places.PlacesFault.TheVariants.{Memory as OutOfMemory};
 
-use crate::blocks::Blocks;
+use crate::blocks::{Blocks, VersionUse};
 use crate::versions::{PlanInput, Versions};
 use hack_versions::rustup::VersionGroup;
 use hack_versions::version::{Version, VersionRange};
@@ -79,7 +78,6 @@ impl Model for Places {
 }
 
 impl Places {
-    ghost use Rattle.std.specs.Prelude.{List};
     ghost use Rattle.hack_plan.specs.Spans.{AreSpans, versions_of};
 
     /// The plan. `versions` are those of the input, and `counts` the number of runs of each
@@ -101,10 +99,10 @@ impl Places {
             ⊎ ((e ≡ PlacesFault.TooManyRuns) × HasTooMany input.now counts.now
             versions.now.stable)) }
     {
-        let places = Places::of(alloc, input, versions, counts)?;
-        // This call promises that there are less than 2^32.
-        let _ = places.len();
-        Ok(places)
+        match input.range {
+            None => Places::without_range(alloc, input, counts),
+            Some(range) => Places::with_range(alloc, input, range, versions, counts),
+        }
     }
 
     /// The number of places, at most 4294967295.
@@ -162,16 +160,19 @@ impl Places {
             (slots_of input.now version) packages.now counts.now) self.old.entries
             self.new.entries) }
         ensures next { OnOk result (AppendsPlaces version self.old self.new) }
+        ensures short { OnOk result (length self.new.entries < 2 ^ 32) }
         ensures err { IfErr result (λ e. (e ≡ PlacesFault.Memory)
             ⊎ ((e ≡ PlacesFault.TooManyRuns) × Overfills (InVersion input.now.as_cargo version
             (slots_of input.now version) packages.now counts.now) self.old.entries)) }
     {
         let first = self.blocks.len();
         let slots = slots(input, version);
-        if let Err(fault) = self
-            .blocks
-            .add_version(input.as_cargo, version, slots, packages, counts)
-        {
+        let uses = VersionUse {
+            version,
+            packages,
+            counts,
+        };
+        if let Err(fault) = self.blocks.add_version(input.as_cargo, slots, &uses) {
             return Err(fault);
         }
         let end = self.blocks.len();
@@ -196,6 +197,7 @@ impl Places {
         requires counted { AreCounted input.now counts.now }
         ensures ok { IfOk result (λ p. Lists (IsAdmissible input.now counts.now []) p.entries) }
         ensures spans { IfOk result (AreSpans (None ∷ [])) }
+        ensures short { IfOk result (λ p. length p.entries < 2 ^ 32) }
         ensures err { IfErr result (λ e. (e ≡ PlacesFault.Memory)
             ⊎ ((e ≡ PlacesFault.TooManyRuns) × AreTooMany (IsAdmissible input.now counts.now []))) }
     {
@@ -222,6 +224,7 @@ impl Places {
             p.entries) }
         ensures spans { IfOk result (AreSpans
             (versions_of (Some range) versions.now.groups.items)) }
+        ensures short { IfOk result (λ p. length p.entries < 2 ^ 32) }
         ensures err { IfErr result (λ e. (e ≡ PlacesFault.Memory)
             ⊎ ((e ≡ PlacesFault.TooManyRuns) × HasTooMany input.now counts.now
             versions.now.stable)) }
@@ -235,29 +238,6 @@ impl Places {
             }
         }
         Ok(places)
-    }
-
-    /// The plan of an input.
-    fn of(
-        alloc: Global,
-        input: &PlanInput,
-        versions: &Versions,
-        counts: &[usize],
-    ) -> Result<Places, PlacesFault>
-        requires versions { AreVersions input.now versions.now }
-        requires counted { AreCounted input.now counts.now }
-        ensures ok { IfOk result (λ p. ArePlaces input.now counts.now versions.now.stable
-            p.entries) }
-        ensures spans { IfOk result (AreSpans (versions_of input.now.range
-            versions.now.groups.items)) }
-        ensures err { IfErr result (λ e. (e ≡ PlacesFault.Memory)
-            ⊎ ((e ≡ PlacesFault.TooManyRuns) × HasTooMany input.now counts.now
-            versions.now.stable)) }
-    {
-        match input.range {
-            None => Places::without_range(alloc, input, counts),
-            Some(range) => Places::with_range(alloc, input, range, versions, counts),
-        }
     }
 }
 

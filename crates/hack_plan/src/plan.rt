@@ -8,7 +8,8 @@ ghost use Rattle.hack_process.specs.Commands.{command_of};
 ghost use Rattle.hack_process.specs.CommandTexts.{listed_of};
 ghost use Rattle.hack_plan.specs.Prepared.{span_of};
 ghost use Rattle.hack_plan.specs.View.{call_view, plan_package_view};
-ghost use Rattle.hack_plan.specs.Commands.{command_of_entry, clean_command, lockfile_command};
+ghost use Rattle.hack_plan.specs.Commands.{HasCollected, command_of_entry, clean_command};
+ghost use Rattle.hack_plan.specs.Commands.{lockfile_command};
 ghost use Rattle.hack_plan.specs.Commands.{chosen_package_at};
 ghost use Rattle.hack_plan.specs.Commands.{name_in, ranked_command, slot_target};
 ghost use Rattle.hack_plan.specs.Lines.{command_in, listed_text};
@@ -213,8 +214,7 @@ impl Plan {
         alloc: Global,
         version: Version,
     ) -> Result<ProcessBuilder<'_>, AllocError>
-        ensures { IfOk result (λ command. command_of command
-            ≡ lockfile_command self.now.call version) }
+        ensures { IfOk result (HasCollected (lockfile_command self.now.call version)) }
     {
         self.words.lockfile(alloc, version)
     }

@@ -19,20 +19,23 @@ add-requires-clause-within c = λ b.
     omega (arith, p, c.requires.counted b))
 
 pub loop-group-preserved : goal.loop-group-preserved
-loop-group-preserved c = λ steps are.
-    let k = c.loop-group.invariant steps are in
-    let f = rw c.deref.ensures.value at c.in_default.ensures.ok in (
-      groups-more c.args.input.now c.args.counts.now c.args.range c.requires.some steps c.as_slice-group-items.result.now are c.loop-group.group-index c.group-item.result c.loop-group-test.true (sym c.group-item.is) _ _ _ k.0 f,
-      spans-group c.args.input.now c.args.counts.now c.args.range c.requires.some steps c.as_slice-group-items.result.now are c.loop-group.group-index c.group-item.result c.loop-group-test.true (sym c.group-item.is)
-          c.args.input.now.as_cargo (slots_of c.args.input.now (Some c.group-item.result.version)) _ _ k.0 k.1 f c.in_default.ensures.next,
-    )
+loop-group-preserved c = (
+  λ steps are.
+      let k = c.loop-group.invariant.0 steps are in
+      let f = rw c.deref.ensures.value at c.in_default.ensures.ok in (
+        groups-more c.args.input.now c.args.counts.now c.args.range c.requires.some steps c.as_slice-group-items.result.now are c.loop-group.group-index c.group-item.result c.loop-group-test.true (sym c.group-item.is) _ _ _ k.0 f,
+        spans-group c.args.input.now c.args.counts.now c.args.range c.requires.some steps c.as_slice-group-items.result.now are c.loop-group.group-index c.group-item.result c.loop-group-test.true (sym c.group-item.is)
+            c.args.input.now.as_cargo (slots_of c.args.input.now (Some c.group-item.result.version)) _ _ k.0 k.1 f c.in_default.ensures.next,
+      ),
+  c.in_default.ensures.short,
+)
 
 pub returns-in-Err-clause-err : goal.returns-in-Err-clause-err
 returns-in-Err-clause-err c =
     let v = c.as_slice-group-items.ensures.value in
     let steps = c.requires.versions.0 in
     let are = subst (λ xs. AreVersionGroups (UsesAt c.args.range steps c.args.input.now.packages.items) xs) (sym v) c.requires.versions.2 in
-    let k = c.loop-group.invariant steps are in
+    let k = c.loop-group.invariant.0 steps are in
     let f = rw c.deref.ensures.value at c.in-Err.ensures.err in
     elim f [
       | inl e ↦ inl e
@@ -51,7 +54,7 @@ returns-clause-ok c =
     let v = c.as_slice-group-items.ensures.value in
     let steps = c.requires.versions.0 in
     let are = subst (λ xs. AreVersionGroups (UsesAt c.args.range steps c.args.input.now.packages.items) xs) (sym v) c.requires.versions.2 in
-    let k = rw (take_all c.loop-group.group-index c.as_slice-group-items.result.now c.loop-group-test.false) at (c.loop-group.invariant steps are) in (
+    let k = rw (take_all c.loop-group.group-index c.as_slice-group-items.result.now c.loop-group-test.false) at (c.loop-group.invariant.0 steps are) in (
       steps,
       subst (λ r. IsStepList r c.args.input.now c.args.versions.now.stable steps) (sym c.requires.some) c.requires.versions.1,
       groups-all c.args.input.now c.args.counts.now c.args.range steps c.as_slice-group-items.result.now _ c.requires.some are k.0,
@@ -62,5 +65,5 @@ returns-clause-spans c =
     let v = c.as_slice-group-items.ensures.value in
     let steps = c.requires.versions.0 in
     let are = subst (λ xs. AreVersionGroups (UsesAt c.args.range steps c.args.input.now.packages.items) xs) (sym v) c.requires.versions.2 in
-    let k = rw (take_all c.loop-group.group-index c.as_slice-group-items.result.now c.loop-group-test.false) at (c.loop-group.invariant steps are) in
+    let k = rw (take_all c.loop-group.group-index c.as_slice-group-items.result.now c.loop-group-test.false) at (c.loop-group.invariant.0 steps are) in
     subst (λ (xs : List VersionGroup). AreSpans (map version_in xs) c.loop-group.places) v k.1

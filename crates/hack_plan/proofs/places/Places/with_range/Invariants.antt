@@ -1,4 +1,4 @@
-use Rattle.std.proofs.Common.{List, [], take, map}
+use Rattle.std.proofs.Common.{◌<◌, ◌^◌, List, [], length, take, map}
 use Rattle.hack_versions.specs.declared.version.Version.{Version}
 use Rattle.hack_versions.specs.VersionUses.{UsesAt, AreVersionGroups}
 use Rattle.hack_plan.specs.Entries.{AddsEntries}
@@ -7,4 +7,4 @@ use Rattle.hack_plan.proofs.Groups.{InGroups}
 use Rattle.hack_plan.proofs.places.Places.with_range.Given as goal
 
 abbrev pub invariant-loop-group : goal.invariant-loop-group
-invariant-loop-group l = (steps : List Version) → AreVersionGroups (UsesAt l.fn.range steps l.input.packages.items) l.group-items → AddsEntries (InGroups l.input l.counts steps (take l.group-index l.group-items)) [] l.places.entries × AreSpans (map version_in (take l.group-index l.group-items)) l.places
+invariant-loop-group l = ((steps : List Version) → AreVersionGroups (UsesAt l.fn.range steps l.input.packages.items) l.group-items → AddsEntries (InGroups l.input l.counts steps (take l.group-index l.group-items)) [] l.places.entries × AreSpans (map version_in (take l.group-index l.group-items)) l.places) × (length l.places.entries < 2 ^ 32)
