@@ -26,7 +26,8 @@ use Rattle.hack_session.specs.declared.step.Handed.{Handed}
 use Rattle.hack_session.specs.StepCalls.{EndsOrIsCut, number_at}
 use Rattle.hack_base.specs.Counters.{GrowsBy}
 use Rattle.hack_session.specs.InternalStepCalls.{is_memory}
-use Rattle.hack_session.specs.StepOutput.{Shown, on_err, both_shown, all_shown, Manner, space_before, end_line, group_shown, cleaning_shown, run_cleaning_shown, status_shown, addition_shown, addition_parts, run_parts, skip_parts, parts_of, IsWhole, IsSomeFront, IsFront, Displays, is_run, IsErrorLine, TellsError, memory_shown, ShowsStep, ShowsAll, Streams, Prints, HasShown}
+use Rattle.hack_session.specs.InternalStepResults.{ShowsParts, ShowsStepParts}
+use Rattle.hack_session.specs.StepOutput.{Shown, on_err, both_shown, all_shown, Manner, space_before, end_line, group_shown, cleaning_shown, run_cleaning_shown, status_shown, addition_shown, addition_parts, run_parts, skip_parts, parts_of, IsWhole, IsSomeFront, IsFront, Displays, is_run, IsErrorLine, TellsError, memory_shown, ShowsAddition, ShowsStep, ShowsAll, Streams, Prints, HasShown}
 use Rattle.hack_session.specs.Internal.{end_shown, opening_shown, then-nothing, prints_as}
 use Rattle.hack_session.specs.JoinedOutput.{prints_then, prints_none}
 use Rattle.hack_session.proofs.RunLemmas.{comes_fault, comes_map, not_cut, cut_of}
@@ -54,9 +55,6 @@ part_more x parts s p = (suc p.0, ap (both_shown x) p.1)
 
 -- ---- by what was returned
 
-abbrev pub Part : {T : Type 0} → List Shown → Result T ProcessFault → Shown → Type 0
-Part parts r s = EndsOrIsCut (λ _. IsWhole parts s) (IsSomeFront parts s) r
-
 comes_both : (T : Type 0) (r : Result T ProcessFault) (A : Outcome → Type 0) (C : Type 0) → ((o : Outcome) → A o) → C → EndsOrIsCut A C r
 comes_both T (Ok done) A C f c = f Passed
 comes_both T (Err Memory) A C f c = c
@@ -73,12 +71,12 @@ retyped S T (NotText text) A C h = h
 retyped S T (ByFailure failure) A C h = h
 
 -- the one part was printed, whatever was returned
-pub printed_part : (T : Type 0) (r : Result T ProcessFault) (x : Shown) (a b : Streams) → Prints (λ s. s ≡ x) a b → Prints (Part (x ∷ []) r) a b
-printed_part T r x a b p = prints_as (λ s. s ≡ x) (Part (x ∷ []) r) a b (λ s e. comes_both T r (λ _. IsWhole (x ∷ []) s) (IsSomeFront (x ∷ []) s) (λ _. one_whole x s e) (whole_part (x ∷ []) s (one_whole x s e))) p
+pub printed_part : (T : Type 0) (r : Result T ProcessFault) (x : Shown) (a b : Streams) → Prints (λ s. s ≡ x) a b → Prints (ShowsParts (x ∷ []) r) a b
+printed_part T r x a b p = prints_as (λ s. s ≡ x) (ShowsParts (x ∷ []) r) a b (λ s e. comes_both T r (λ _. IsWhole (x ∷ []) s) (IsSomeFront (x ∷ []) s) (λ _. one_whole x s e) (whole_part (x ∷ []) s (one_whole x s e))) p
 
 -- a step without parts
-pub printed_none : (T : Type 0) (r : Result T ProcessFault) (a : Streams) → Prints (Part [] r) a a
-printed_none T r a = prints_none (Part [] r) a (comes_both T r (λ _. IsWhole [] (on_err [])) (IsSomeFront [] (on_err [])) (λ _. refl) (no_part []))
+pub printed_none : (T : Type 0) (r : Result T ProcessFault) (a : Streams) → Prints (ShowsParts [] r) a a
+printed_none T r a = prints_none (ShowsParts [] r) a (comes_both T r (λ _. IsWhole [] (on_err [])) (IsSomeFront [] (on_err [])) (λ _. refl) (no_part []))
 
 -- memory was refused before anything was printed
 pub refused_part : (T : Type 0) (r : Result T ProcessFault) (A : Outcome → Shown → Type 0) (parts : List Shown) (a : Streams) → r ≡ Err Memory → Prints (λ s. EndsOrIsCut (λ o. A o s) (IsSomeFront parts s) r) a a
@@ -95,19 +93,19 @@ cut_part T fault A parts a e = prints_none (λ s. EndsOrIsCut {T = T} (λ o. A o
     only (ByFailure failure) e = absurd (cc)
 
 -- memory was refused, and nothing was printed
-pub nothing_part : (T : Type 0) (r : Result T ProcessFault) (parts : List Shown) (a b : Streams) → r ≡ Err Memory → Prints (λ s. s ≡ on_err []) a b → Prints (Part parts r) a b
-nothing_part T r parts a b e p = subst (λ (x : Result T ProcessFault). Prints (Part parts x) a b) (sym e) (prints_as (λ s. s ≡ on_err []) (Part {T = T} parts (Err Memory)) a b (λ s is. (0, is)) p)
+pub nothing_part : (T : Type 0) (r : Result T ProcessFault) (parts : List Shown) (a b : Streams) → r ≡ Err Memory → Prints (λ s. s ≡ on_err []) a b → Prints (ShowsParts parts r) a b
+nothing_part T r parts a b e p = subst (λ (x : Result T ProcessFault). Prints (ShowsParts parts x) a b) (sym e) (prints_as (λ s. s ≡ on_err []) (ShowsParts {T = T} parts (Err Memory)) a b (λ s is. (0, is)) p)
 
 pub err_nothing : (T E : Type 0) (r : Result T E) (fault : E) (P : Shown → Type 0) (a : Streams) → r ≡ Err fault → Prints (λ s. MatchResult r (λ _. P s) (λ _. s ≡ on_err [])) a a
 err_nothing T E r fault P a e = subst (λ (x : Result T E). Prints (λ s. MatchResult x (λ _. P s) (λ _. s ≡ on_err [])) a a) (sym e) (prints_none (λ s. MatchResult {T = T} (Err fault) (λ _. P s) (λ _. s ≡ on_err [])) a refl)
 
 -- a group with a text
-pub group_part : (T : Type 0) (r : Result T ProcessFault) (m : Manner) (text other : List ℕ) (a b : Streams) → text ≡ other → Prints (λ s. s ≡ group_shown m text) a b → Prints (Part (group_shown m other ∷ []) r) a b
+pub group_part : (T : Type 0) (r : Result T ProcessFault) (m : Manner) (text other : List ℕ) (a b : Streams) → text ≡ other → Prints (λ s. s ≡ group_shown m text) a b → Prints (ShowsParts (group_shown m other ∷ []) r) a b
 group_part T r m text other a b e p = printed_part T r (group_shown m other) a b (subst (λ (x : List ℕ). Prints (λ s. s ≡ group_shown m x) a b) e p)
 
 -- all of it, or what ends early
-pub or_early : (T : Type 0) (r : Result T ProcessFault) (parts : List Shown) (A : Outcome → Shown → Type 0) (a b : Streams) → Prints (Part parts r) a b → Prints (λ s. EndsOrIsCut (λ o. IsWhole parts s ⊎ A o s) (IsSomeFront parts s) r) a b
-or_early T r parts A a b p = prints_as (Part parts r) (λ s. EndsOrIsCut (λ o. IsWhole parts s ⊎ A o s) (IsSomeFront parts s) r) a b (λ s h. comes_map T r (λ _. IsWhole parts s) (λ o. IsWhole parts s ⊎ A o s) (IsSomeFront parts s) (IsSomeFront parts s) (λ o w. inl w) (λ w. w) h) p
+pub or_early : (T : Type 0) (r : Result T ProcessFault) (parts : List Shown) (A : Outcome → Shown → Type 0) (a b : Streams) → Prints (ShowsParts parts r) a b → Prints (λ s. EndsOrIsCut (λ o. IsWhole parts s ⊎ A o s) (IsSomeFront parts s) r) a b
+or_early T r parts A a b p = prints_as (ShowsParts parts r) (λ s. EndsOrIsCut (λ o. IsWhole parts s ⊎ A o s) (IsSomeFront parts s) r) a b (λ s h. comes_map T r (λ _. IsWhole parts s) (λ o. IsWhole parts s ⊎ A o s) (IsSomeFront parts s) (IsSomeFront parts s) (λ o w. inl w) (λ w. w) h) p
 
 pub in_manner : (P : Manner → Shown → Type 0) (m n : Manner) (a b : Streams) → m ≡ n → Prints (P m) a b → Prints (P n) a b
 in_manner P m n a b e p = subst (λ (x : Manner). Prints (P x) a b) e p
@@ -128,8 +126,8 @@ prints_group m text a b c p q =
     (λ s t e f. ap (λ (x : Shown). both_shown x t) e ∙ ap (both_shown (opening_shown m text)) f ∙ ap (λ (l : List ℕ). record { out = opening_line m.group text ++ end_line m.group; err = l }) (append-nil (message_line m.group m.coloring text))) p q
 
 -- one part and others after it
-pub part_then : (T : Type 0) (r : Result T ProcessFault) (x : Shown) (parts : List Shown) (a b c : Streams) → Prints (λ s. s ≡ x) a b → Prints (Part parts r) b c → Prints (Part (x ∷ parts) r) a c
-part_then T r x parts a b c p q = prints_then (λ s. s ≡ x) (Part parts r) (Part (x ∷ parts) r) a b c
+pub part_then : (T : Type 0) (r : Result T ProcessFault) (x : Shown) (parts : List Shown) (a b c : Streams) → Prints (λ s. s ≡ x) a b → Prints (ShowsParts parts r) b c → Prints (ShowsParts (x ∷ parts) r) a c
+part_then T r x parts a b c p q = prints_then (λ s. s ≡ x) (ShowsParts parts r) (ShowsParts (x ∷ parts) r) a b c
     (λ s t e h. comes_map T r (λ _. IsWhole parts t) (λ _. IsWhole (x ∷ parts) (both_shown s t)) (IsSomeFront parts t) (IsSomeFront (x ∷ parts) (both_shown s t))
     (λ _ w. ap (λ (y : Shown). both_shown y t) e ∙ ap (both_shown x) w)
     (λ w. subst (λ (y : Shown). IsSomeFront (x ∷ parts) (both_shown y t)) (sym e) (part_more x parts t w)) h) p q
@@ -162,8 +160,8 @@ skip_refused T E r fault m plan place a b lt e p = prints_as (λ s. s ≡ on_err
     (λ s is. subst (λ (x : Result T E). MatchResult x (λ _. IsWhole (skip_parts m plan place (slice_get plan.entries place)) s) (λ _. IsSomeFront (skip_parts m plan place (slice_get plan.entries place)) s)) (sym e) (space_skip m plan place s lt is)) p
 
 -- a cleaning by other names of its folder and its command
-pub cleaned_as : (T : Type 0) (r : Result T ProcessFault) (m : Manner) (dir other : List ℕ) (k l : Command) (a b : Streams) → dir ≡ other → k ≡ l → Prints (Part (cleaning_shown m dir k ∷ []) r) a b → Prints (Part (cleaning_shown m other l ∷ []) r) a b
-cleaned_as T r m dir other k l a b e f p = subst (λ (x : List ℕ). Prints (Part (cleaning_shown m x l ∷ []) r) a b) e (subst (λ (x : Command). Prints (Part (cleaning_shown m dir x ∷ []) r) a b) f p)
+pub cleaned_as : (T : Type 0) (r : Result T ProcessFault) (m : Manner) (dir other : List ℕ) (k l : Command) (a b : Streams) → dir ≡ other → k ≡ l → Prints (ShowsParts (cleaning_shown m dir k ∷ []) r) a b → Prints (ShowsParts (cleaning_shown m other l ∷ []) r) a b
+cleaned_as T r m dir other k l a b e f p = subst (λ (x : List ℕ). Prints (ShowsParts (cleaning_shown m x l ∷ []) r) a b) e (subst (λ (x : Command). Prints (ShowsParts (cleaning_shown m dir x ∷ []) r) a b) f p)
 
 -- ---- runs
 
@@ -185,9 +183,9 @@ own_cleaning m plan o q clean e g b =
 
 -- a run is shown by the parts that it has
 pub ran_part : (T : Type 0) (r : Result T ProcessFault) (m : Manner) (plan : PlanView) (place : ℕ) (a b : Streams)
-    → Prints (Part (run_parts m plan place (slice_get plan.entries place)) r) a b
+    → Prints (ShowsParts (run_parts m plan place (slice_get plan.entries place)) r) a b
     → Prints (λ s. EndsOrIsCut (λ o. Displays m plan (Run place) o s) (IsSomeFront (parts_of m plan (Run place)) s) r) a b
-ran_part T r m plan place a b p = prints_as (Part (run_parts m plan place (slice_get plan.entries place)) r) (λ s. EndsOrIsCut (λ o. Displays m plan (Run place) o s) (IsSomeFront (parts_of m plan (Run place)) s) r) a b
+ran_part T r m plan place a b p = prints_as (ShowsParts (run_parts m plan place (slice_get plan.entries place)) r) (λ s. EndsOrIsCut (λ o. Displays m plan (Run place) o s) (IsSomeFront (parts_of m plan (Run place)) s) r) a b
     (λ s h. comes_map T r (λ _. IsWhole (run_parts m plan place (slice_get plan.entries place)) s) (λ o. Displays m plan (Run place) o s) (IsSomeFront (run_parts m plan place (slice_get plan.entries place)) s) (IsSomeFront (parts_of m plan (Run place)) s)
     (λ o w. of_outcome o s w) (λ w. w) h) p
   where
@@ -199,27 +197,27 @@ ran_part T r m plan place a b p = prints_as (Part (run_parts m plan place (slice
 pub ran_plain : (T : Type 0) (r : Result T ProcessFault) (m : Manner) (plan : PlanView) (place : ℕ) (q : PlanEntry) (a b c : Streams)
     → slice_get plan.entries place ≡ Some q → plan.call.clean_per_run ≡ false
     → Prints (λ s. s ≡ on_err (space_before m.group place)) a b
-    → Prints (Part (status_shown m (codes "running") plan place q ∷ []) r) b c
+    → Prints (ShowsParts (status_shown m (codes "running") plan place q ∷ []) r) b c
     → Prints (λ s. EndsOrIsCut (λ o. Displays m plan (Run place) o s) (IsSomeFront (parts_of m plan (Run place)) s) r) a c
 ran_plain T r m plan place q a b c e f p t =
     let status = status_shown m (codes "running") plan place q in
-    let mid : Prints (Part (run_cleaning_shown m plan q ∷ status ∷ []) r) b c = part_then T r (run_cleaning_shown m plan q) (status ∷ []) b b c (prints_none (λ s. s ≡ run_cleaning_shown m plan q) b (sym (no_cleaning m plan q f))) t in
+    let mid : Prints (ShowsParts (run_cleaning_shown m plan q ∷ status ∷ []) r) b c = part_then T r (run_cleaning_shown m plan q) (status ∷ []) b b c (prints_none (λ s. s ≡ run_cleaning_shown m plan q) b (sym (no_cleaning m plan q f))) t in
     ran_part T r m plan place a c
-    (subst (λ (o : Option PlanEntry). Prints (Part (run_parts m plan place o) r) a c) (sym e)
+    (subst (λ (o : Option PlanEntry). Prints (ShowsParts (run_parts m plan place o) r) a c) (sym e)
     (part_then T r (on_err (space_before m.group place)) (run_cleaning_shown m plan q ∷ status ∷ []) a b c p mid))
 
 -- with a cleaning that passed
 pub ran_cleaned : (S T : Type 0) (done : S) (r : Result T ProcessFault) (m : Manner) (plan : PlanView) (place : ℕ) (q : PlanEntry) (x : Shown) (a b c d : Streams)
     → slice_get plan.entries place ≡ Some q → x ≡ run_cleaning_shown m plan q
     → Prints (λ s. s ≡ on_err (space_before m.group place)) a b
-    → Prints (Part {T = S} (x ∷ []) (Ok done)) b c
-    → Prints (Part (status_shown m (codes "running") plan place q ∷ []) r) c d
+    → Prints (ShowsParts {T = S} (x ∷ []) (Ok done)) b c
+    → Prints (ShowsParts (status_shown m (codes "running") plan place q ∷ []) r) c d
     → Prints (λ s. EndsOrIsCut (λ o. Displays m plan (Run place) o s) (IsSomeFront (parts_of m plan (Run place)) s) r) a d
 ran_cleaned S T done r m plan place q x a b c d e f p u t =
     let status = status_shown m (codes "running") plan place q in
-    let clean : Prints (λ s. s ≡ run_cleaning_shown m plan q) b c = prints_as (Part {T = S} (x ∷ []) (Ok done)) (λ s. s ≡ run_cleaning_shown m plan q) b c (λ s h. whole_is x s h ∙ f) u in
+    let clean : Prints (λ s. s ≡ run_cleaning_shown m plan q) b c = prints_as (ShowsParts {T = S} (x ∷ []) (Ok done)) (λ s. s ≡ run_cleaning_shown m plan q) b c (λ s h. whole_is x s h ∙ f) u in
     ran_part T r m plan place a d
-    (subst (λ (o : Option PlanEntry). Prints (Part (run_parts m plan place o) r) a d) (sym e)
+    (subst (λ (o : Option PlanEntry). Prints (ShowsParts (run_parts m plan place o) r) a d) (sym e)
     (part_then T r (on_err (space_before m.group place)) (run_cleaning_shown m plan q ∷ status ∷ []) a b d p
     (part_then T r (run_cleaning_shown m plan q) (status ∷ []) b c d clean t)))
 
@@ -235,10 +233,10 @@ one_part x s (suc k, e) = inr (e ∙ ap (both_shown x) (none k) ∙ then-nothing
 pub ran_not : (S T : Type 0) (fault : ProcessFault) (m : Manner) (plan : PlanView) (place : ℕ) (q : PlanEntry) (x : Shown) (a b c : Streams)
     → slice_get plan.entries place ≡ Some q → x ≡ run_cleaning_shown m plan q → plan.call.clean_per_run ≡ true
     → Prints (λ s. s ≡ on_err (space_before m.group place)) a b
-    → Prints (Part {T = S} (x ∷ []) (Err fault)) b c
+    → Prints (ShowsParts {T = S} (x ∷ []) (Err fault)) b c
     → Prints (λ s. EndsOrIsCut {T = T} (λ o. Displays m plan (Run place) o s) (IsSomeFront (parts_of m plan (Run place)) s) (Err fault)) a c
 ran_not S T fault m plan place q x a b c e f g p u =
-    prints_then (λ s. s ≡ on_err (space_before m.group place)) (Part {T = S} (x ∷ []) (Err fault)) (λ s. EndsOrIsCut {T = T} (λ o. Displays m plan (Run place) o s) (IsSomeFront (parts_of m plan (Run place)) s) (Err fault)) a b c
+    prints_then (λ s. s ≡ on_err (space_before m.group place)) (ShowsParts {T = S} (x ∷ []) (Err fault)) (λ s. EndsOrIsCut {T = T} (λ o. Displays m plan (Run place) o s) (IsSomeFront (parts_of m plan (Run place)) s) (Err fault)) a b c
     (λ s t is h. fault_as S T fault (λ o. Displays m plan (Run place) o (both_shown s t)) (IsSomeFront (parts_of m plan (Run place)) (both_shown s t)) t
     (λ w. inr (g, subst (λ (o : Option PlanEntry). IsFront 2 (run_parts m plan place o) (both_shown s t)) (sym e) (two s t is (whole_is x t w ∙ f))))
     (λ w. subst (λ (o : Option PlanEntry). IsSomeFront (run_parts m plan place o) (both_shown s t)) (sym e) (some s t is (one_part x t w))) h) p u
@@ -275,23 +273,19 @@ skipped m plan place q a b c e p t =
 
 -- ---- toolchains
 
--- what the addition of a toolchain prints, or nothing where it is found
-abbrev pub Adds : {T : Type 0} → List Shown → Type 0 → Result T ProcessFault → Shown → Type 0
-Adds parts without r s = EndsOrIsCut (λ o. IsWhole parts s ⊎ ((o ≡ Passed) × without × (s ≡ on_err []))) (IsSomeFront parts s) r
-
 -- the addition of a toolchain by another name of its command
 pub added_as : (T : Type 0) (r : Result T ProcessFault) (m : Manner) (dir : List ℕ) (k l : Command) (A : Outcome → Shown → Type 0) (a b : Streams) → k ≡ l
-    → Prints (Part (addition_shown m dir k ∷ []) r) a b → Prints (λ s. EndsOrIsCut (λ o. IsWhole (addition_shown m dir l ∷ []) s ⊎ A o s) (IsSomeFront (addition_shown m dir l ∷ []) s) r) a b
-added_as T r m dir k l A a b e p = or_early T r (addition_shown m dir l ∷ []) A a b (subst (λ (x : Command). Prints (Part (addition_shown m dir x ∷ []) r) a b) e p)
+    → Prints (ShowsParts (addition_shown m dir k ∷ []) r) a b → Prints (λ s. EndsOrIsCut (λ o. IsWhole (addition_shown m dir l ∷ []) s ⊎ A o s) (IsSomeFront (addition_shown m dir l ∷ []) s) r) a b
+added_as T r m dir k l A a b e p = or_early T r (addition_shown m dir l ∷ []) A a b (subst (λ (x : Command). Prints (ShowsParts (addition_shown m dir x ∷ []) r) a b) e p)
 
 pub no_targets : (xs : List (String Global)) → true ≡ (length xs == 0) → map string_bytes xs ≡ []
 no_targets [] e = refl
 no_targets (x ∷ xs) e = absurd (search rules)
 
 pub tried_shown : (T : Type 0) (r : Result T ProcessFault) (parts more : List Shown) (without : Type 0) (a b : Streams) → parts ≡ more → without
-    → Prints (λ s. EndsOrIsCut (λ o. IsWhole parts s ⊎ ((o ≡ Passed) × (s ≡ on_err []))) (IsSomeFront parts s) r) a b → Prints (Adds more without r) a b
-tried_shown T r parts more without a b e w p = subst (λ (l : List Shown). Prints (Adds l without r) a b) e
-    (prints_as (λ s. EndsOrIsCut (λ o. IsWhole parts s ⊎ ((o ≡ Passed) × (s ≡ on_err []))) (IsSomeFront parts s) r) (Adds parts without r) a b
+    → Prints (λ s. EndsOrIsCut (λ o. IsWhole parts s ⊎ ((o ≡ Passed) × (s ≡ on_err []))) (IsSomeFront parts s) r) a b → Prints (ShowsAddition more without r) a b
+tried_shown T r parts more without a b e w p = subst (λ (l : List Shown). Prints (ShowsAddition l without r) a b) e
+    (prints_as (λ s. EndsOrIsCut (λ o. IsWhole parts s ⊎ ((o ≡ Passed) × (s ≡ on_err []))) (IsSomeFront parts s) r) (ShowsAddition parts without r) a b
     (λ s h. comes_map T r (λ o. IsWhole parts s ⊎ ((o ≡ Passed) × (s ≡ on_err []))) (λ o. IsWhole parts s ⊎ ((o ≡ Passed) × without × (s ≡ on_err []))) (IsSomeFront parts s) (IsSomeFront parts s)
     (λ o q. either o s q) (λ q. q) h) p)
   where
@@ -302,21 +296,21 @@ tried_shown T r parts more without a b e w p = subst (λ (l : List Shown). Print
 -- the toolchain of a version that has a number
 pub install_shown : (T : Type 0) (r : Result T ProcessFault) (m : Manner) (plan : PlanView) (o : Option Version) (v : Version) (dir rustup name : List ℕ) (targets : List (List ℕ)) (a b : Streams)
     → Some v ≡ o → dir ≡ plan.call.dir → rustup ≡ plan.call.rustup → name ≡ toolchain_of v → targets ≡ plan.call.targets
-    → Prints (Adds (addition_shown m dir (addition_of rustup (toolchain_name name) targets) ∷ []) (targets ≡ []) r) a b
-    → Prints (Adds (addition_parts m plan o) (plan.call.targets ≡ []) r) a b
+    → Prints (ShowsAddition (addition_shown m dir (addition_of rustup (toolchain_name name) targets) ∷ []) (targets ≡ []) r) a b
+    → Prints (ShowsAddition (addition_parts m plan o) (plan.call.targets ≡ []) r) a b
 install_shown T r m plan o v dir rustup name targets a b e d f g h p =
-    subst (λ (x : Option Version). Prints (Adds (addition_parts m plan x) (plan.call.targets ≡ []) r) a b) e
-    (subst (λ (x : List ℕ). Prints (Adds (addition_shown m x (addition_of plan.call.rustup (toolchain_of v) plan.call.targets) ∷ []) (plan.call.targets ≡ []) r) a b) d
-    (subst (λ (x : List ℕ). Prints (Adds (addition_shown m dir (addition_of x (toolchain_of v) plan.call.targets) ∷ []) (plan.call.targets ≡ []) r) a b) f
-    (subst (λ (x : List ℕ). Prints (Adds (addition_shown m dir (addition_of rustup (toolchain_name x) plan.call.targets) ∷ []) (plan.call.targets ≡ []) r) a b) g
-    (subst (λ (x : List (List ℕ)). Prints (Adds (addition_shown m dir (addition_of rustup (toolchain_name name) x) ∷ []) (x ≡ []) r) a b) h p))))
+    subst (λ (x : Option Version). Prints (ShowsAddition (addition_parts m plan x) (plan.call.targets ≡ []) r) a b) e
+    (subst (λ (x : List ℕ). Prints (ShowsAddition (addition_shown m x (addition_of plan.call.rustup (toolchain_of v) plan.call.targets) ∷ []) (plan.call.targets ≡ []) r) a b) d
+    (subst (λ (x : List ℕ). Prints (ShowsAddition (addition_shown m dir (addition_of x (toolchain_of v) plan.call.targets) ∷ []) (plan.call.targets ≡ []) r) a b) f
+    (subst (λ (x : List ℕ). Prints (ShowsAddition (addition_shown m dir (addition_of rustup (toolchain_name x) plan.call.targets) ∷ []) (plan.call.targets ≡ []) r) a b) g
+    (subst (λ (x : List (List ℕ)). Prints (ShowsAddition (addition_shown m dir (addition_of rustup (toolchain_name name) x) ∷ []) (x ≡ []) r) a b) h p))))
 
-pub none_added : (T : Type 0) (done : T) (m : Manner) (plan : PlanView) (o : Option Version) (a : Streams) → None ≡ o → Prints (Adds {T = T} (addition_parts m plan o) (plan.call.targets ≡ []) (Ok done)) a a
-none_added T done m plan o a e = subst (λ (x : Option Version). Prints (Adds {T = T} (addition_parts m plan x) (plan.call.targets ≡ []) (Ok done)) a a) e (prints_none (Adds {T = T} (addition_parts m plan None) (plan.call.targets ≡ []) (Ok done)) a (inl refl))
+pub none_added : (T : Type 0) (done : T) (m : Manner) (plan : PlanView) (o : Option Version) (a : Streams) → None ≡ o → Prints (ShowsAddition {T = T} (addition_parts m plan o) (plan.call.targets ≡ []) (Ok done)) a a
+none_added T done m plan o a e = subst (λ (x : Option Version). Prints (ShowsAddition {T = T} (addition_parts m plan x) (plan.call.targets ≡ []) (Ok done)) a a) e (prints_none (ShowsAddition {T = T} (addition_parts m plan None) (plan.call.targets ≡ []) (Ok done)) a (inl refl))
 
 pub toolchain_step : (T : Type 0) (r : Result T ProcessFault) (m : Manner) (plan : PlanView) (v : ℕ) (a b : Streams)
-    → Prints (Adds (addition_parts m plan (number_at (slice_get plan.versions v))) (plan.call.targets ≡ []) r) a b → Prints (λ s. EndsOrIsCut (λ o. Displays m plan (Prepare (Toolchain v)) o s) (IsSomeFront (parts_of m plan (Prepare (Toolchain v))) s) r) a b
-toolchain_step T r m plan v a b p = prints_as (Adds (addition_parts m plan (number_at (slice_get plan.versions v))) (plan.call.targets ≡ []) r) (λ s. EndsOrIsCut (λ o. Displays m plan (Prepare (Toolchain v)) o s) (IsSomeFront (parts_of m plan (Prepare (Toolchain v))) s) r) a b
+    → Prints (ShowsAddition (addition_parts m plan (number_at (slice_get plan.versions v))) (plan.call.targets ≡ []) r) a b → Prints (λ s. EndsOrIsCut (λ o. Displays m plan (Prepare (Toolchain v)) o s) (IsSomeFront (parts_of m plan (Prepare (Toolchain v))) s) r) a b
+toolchain_step T r m plan v a b p = prints_as (ShowsAddition (addition_parts m plan (number_at (slice_get plan.versions v))) (plan.call.targets ≡ []) r) (λ s. EndsOrIsCut (λ o. Displays m plan (Prepare (Toolchain v)) o s) (IsSomeFront (parts_of m plan (Prepare (Toolchain v))) s) r) a b
     (λ s h. comes_map T r (λ o. IsWhole (addition_parts m plan (number_at (slice_get plan.versions v))) s ⊎ ((o ≡ Passed) × (plan.call.targets ≡ []) × (s ≡ on_err []))) (λ o. Displays m plan (Prepare (Toolchain v)) o s) (IsSomeFront (addition_parts m plan (number_at (slice_get plan.versions v))) s) (IsSomeFront (parts_of m plan (Prepare (Toolchain v))) s)
     (λ o q. either o s q) (λ q. q) h) p
   where
@@ -328,54 +322,50 @@ toolchain_step T r m plan v a b p = prints_as (Adds (addition_parts m plan (numb
 
 -- ---- whole steps
 
--- what a step prints, by what it returned
-abbrev pub Does : {T : Type 0} → Manner → PlanView → Step → Result T ProcessFault → Shown → Type 0
-Does m plan step r s = EndsOrIsCut (λ o. Displays m plan step o s) (IsSomeFront (parts_of m plan step) s) r
-
 one_shows : (keep_going : Bool) (m : Manner) (plan : PlanView) (h : Handed) (s : Shown) (cut : ℕ) → ShowsStep keep_going m plan h s cut → ShowsAll keep_going m plan (h ∷ []) s cut
 one_shows keep_going m plan h s cut p = (s, on_err [], cut, 0, sym (then-nothing s), omega arith, p, (refl, refl))
 
-pub shown_passed : (T : Type 0) (done : T) (keep_going : Bool) (m : Manner) (plan : PlanView) (step : Step) (a b : Streams) (n : ℕ) → Prints (Does {T = T} m plan step (Ok done)) a b → HasShown keep_going m plan (record { step = step; outcome = Passed } ∷ []) a b n n
+pub shown_passed : (T : Type 0) (done : T) (keep_going : Bool) (m : Manner) (plan : PlanView) (step : Step) (a b : Streams) (n : ℕ) → Prints (ShowsStepParts {T = T} m plan step (Ok done)) a b → HasShown keep_going m plan (record { step = step; outcome = Passed } ∷ []) a b n n
 shown_passed T done keep_going m plan step a b n p =
     let h : Handed = record { step = step; outcome = Passed } in
     record {
       cut = 0;
       counted = λ t. omega arith;
-      printed = prints_as (Does {T = T} m plan step (Ok done)) (λ s. ShowsAll keep_going m plan (h ∷ []) s 0) a b
+      printed = prints_as (ShowsStepParts {T = T} m plan step (Ok done)) (λ s. ShowsAll keep_going m plan (h ∷ []) s 0) a b
           (λ s d. one_shows keep_going m plan h s 0 (inl (s, on_err [], sym (then-nothing s), d, refl, refl))) p;
     }
 
 pub shown_cut : (T : Type 0) (fault : ProcessFault) (keep_going : Bool) (m : Manner) (plan : PlanView) (step : Step) (a b c : Streams) (n k : ℕ) → true ≡ is_memory fault → GrowsBy 1 n k
-    → Prints (Does {T = T} m plan step (Err fault)) a b → Prints (λ s. s ≡ memory_shown m) b c → HasShown keep_going m plan (record { step = step; outcome = Failed } ∷ []) a c n k
+    → Prints (ShowsStepParts {T = T} m plan step (Err fault)) a b → Prints (λ s. s ≡ memory_shown m) b c → HasShown keep_going m plan (record { step = step; outcome = Failed } ∷ []) a c n k
 shown_cut T fault keep_going m plan step a b c n k e grows p q =
     let h : Handed = record { step = step; outcome = Failed } in
     record {
       cut = 1;
       counted = grows;
-      printed = prints_then (Does {T = T} m plan step (Err fault)) (λ s. s ≡ memory_shown m) (λ s. ShowsAll keep_going m plan (h ∷ []) s 1) a b c
+      printed = prints_then (ShowsStepParts {T = T} m plan step (Err fault)) (λ s. s ≡ memory_shown m) (λ s. ShowsAll keep_going m plan (h ∷ []) s 1) a b c
           (λ s t d is. one_shows keep_going m plan h (both_shown s t) 1 (inr (s, ap (both_shown s) is, cut_of T fault (λ o. Displays m plan step o s) (IsSomeFront (parts_of m plan step) s) e d, refl, refl))) p q;
     }
 
 -- a step failed, and its error was told or not
 shown_error : (T : Type 0) (fault : ProcessFault) (keep_going : Bool) (m : Manner) (plan : PlanView) (step : Step) (a b c : Streams) (n : ℕ) → fault ≢ Memory
-    → Prints (Does {T = T} m plan step (Err fault)) a b → Prints (TellsError keep_going m step Failed) b c → HasShown keep_going m plan (record { step = step; outcome = Failed } ∷ []) a c n n
+    → Prints (ShowsStepParts {T = T} m plan step (Err fault)) a b → Prints (TellsError keep_going m step Failed) b c → HasShown keep_going m plan (record { step = step; outcome = Failed } ∷ []) a c n n
 shown_error T fault keep_going m plan step a b c n ne p q =
     let h : Handed = record { step = step; outcome = Failed } in
     record {
       cut = 0;
       counted = λ t. omega arith;
-      printed = prints_then (Does {T = T} m plan step (Err fault)) (TellsError keep_going m step Failed) (λ s. ShowsAll keep_going m plan (h ∷ []) s 0) a b c
+      printed = prints_then (ShowsStepParts {T = T} m plan step (Err fault)) (TellsError keep_going m step Failed) (λ s. ShowsAll keep_going m plan (h ∷ []) s 0) a b c
           (λ s t d tells. one_shows keep_going m plan h (both_shown s t) 0 (inl (s, t, refl, not_cut T fault (λ o. Displays m plan step o s) (IsSomeFront (parts_of m plan step) s) ne d, tells, refl))) p q;
     }
 
 pub shown_told : (T : Type 0) (fault : ProcessFault) (keep_going : Bool) (m : Manner) (plan : PlanView) (step : Step) (a b c : Streams) (n : ℕ) → fault ≢ Memory → keep_going ≡ true → is_run step ≡ true
-    → Prints (Does {T = T} m plan step (Err fault)) a b → Prints (IsErrorLine m) b c → HasShown keep_going m plan (record { step = step; outcome = Failed } ∷ []) a c n n
+    → Prints (ShowsStepParts {T = T} m plan step (Err fault)) a b → Prints (IsErrorLine m) b c → HasShown keep_going m plan (record { step = step; outcome = Failed } ∷ []) a c n n
 shown_told T fault keep_going m plan step a b c n ne e f p q =
     shown_error T fault keep_going m plan step a b c n ne p
     (prints_as (IsErrorLine m) (TellsError keep_going m step Failed) b c (λ s l. subst (λ (x : Bool). MatchBool (x && is_run step) (IsErrorLine m s) (s ≡ on_err [])) (sym e) (subst (λ (x : Bool). MatchBool x (IsErrorLine m s) (s ≡ on_err [])) (sym f) l)) q)
 
 pub shown_untold : (T : Type 0) (fault : ProcessFault) (keep_going : Bool) (m : Manner) (plan : PlanView) (step : Step) (a b : Streams) (n : ℕ) → fault ≢ Memory → (keep_going && is_run step) ≡ false
-    → Prints (Does {T = T} m plan step (Err fault)) a b → HasShown keep_going m plan (record { step = step; outcome = Failed } ∷ []) a b n n
+    → Prints (ShowsStepParts {T = T} m plan step (Err fault)) a b → HasShown keep_going m plan (record { step = step; outcome = Failed } ∷ []) a b n n
 shown_untold T fault keep_going m plan step a b n ne e p =
     shown_error T fault keep_going m plan step a b b n ne p
     (prints_none (TellsError keep_going m step Failed) b (subst (λ (x : Bool). MatchBool x (IsErrorLine m (on_err [])) (on_err [] ≡ on_err [])) (sym e) refl))
@@ -393,5 +383,5 @@ not_and true b e = absurd (cc)
 not_and false b e = refl
 
 -- what a step does, by the step's name
-pub does_as : (T : Type 0) (r : Result T ProcessFault) (m : Manner) (plan : PlanView) (step other : Step) (a b : Streams) → step ≡ other → Prints (Does m plan other r) a b → Prints (Does m plan step r) a b
-does_as T r m plan step other a b e p = subst (λ (x : Step). Prints (Does m plan x r) a b) (sym e) p
+pub does_as : (T : Type 0) (r : Result T ProcessFault) (m : Manner) (plan : PlanView) (step other : Step) (a b : Streams) → step ≡ other → Prints (ShowsStepParts m plan other r) a b → Prints (ShowsStepParts m plan step r) a b
+does_as T r m plan step other a b e p = subst (λ (x : Step). Prints (ShowsStepParts m plan x r) a b) (sym e) p

@@ -2,6 +2,7 @@ pub mod Histories
 pub mod Schedules
 pub mod Cursors
 pub mod Handouts
+pub mod References
 pub mod Toolchains
 pub mod StepCalls
 pub mod JoinedCalls
@@ -15,3 +16,4 @@ pub mod Suspects
 pub mod SuspectNotes
 pub mod Internal
 pub mod InternalStepCalls
+pub mod InternalStepResults

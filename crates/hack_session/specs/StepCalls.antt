@@ -4,6 +4,7 @@ use Rattle.std.specs.Prelude.{◌≡◌, ◌≢◌, ◌⊎◌, ◌+◌, ◌-◌,
 use Rattle.hack_process.specs.declared.fault.ProcessFault.{ProcessFault}
 use Rattle.hack_process.specs.declared.fault.ProcessFault.TheVariants.{Memory, EmptyProgram, NeverExecuted, NotText, Failed as ByFailure}
 use Rattle.hack_process.specs.Calls.{Asked, Call, IsSuccess}
+use Rattle.hack_process.specs.declared.caller.Caller.{Ghosts as Calling}
 use Rattle.hack_process.specs.Commands.{asked_of}
 use Rattle.hack_term.specs.declared.term.Term.{Term}
 use Rattle.hack_versions.specs.declared.version.Version.{Version}
@@ -141,11 +142,19 @@ EndsOrIsCut ended cut (Err (NeverExecuted text)) = ended Failed
 EndsOrIsCut ended cut (Err (NotText text)) = ended Failed
 EndsOrIsCut ended cut (Err (ByFailure failure)) = ended Failed
 
+-- a toolchain is tried and added, or that is cut short
+abbrev pub TriesAndAdds : {T : Type 0} → List (List ℕ) → Asked → Asked → Result T ProcessFault → List Call → Type 0
+TriesAndAdds targets try add r calls = EndsOrIsCut (Installs targets try add calls) (BreaksInstall targets try add calls) r
+
 -- new is old with such calls after it
 pub record MakesCalls (P : List Call → Type 0) (old new : List Call) : Type 0 where
   pub made : List Call
   pub grown : new ≡ old ++ made
   pub such : P made
+
+-- a caller made such calls, where those are known
+abbrev pub MakesCallsOn : {C : Type 0} → Calling C → (List Call → Type 0) → C → C → Type 0
+MakesCallsOn c P old new = c.tells → MakesCalls P (c.calls old) (c.calls new)
 
 -- the calls of a step, and whether it was cut short: no, and they are just its own; or memory was
 -- refused in it, and it counts as one

@@ -1,6 +1,7 @@
 -- What steps print, on `out` and on `err`.
-use Rattle.std.specs.Prelude.{◌≡◌, ◌⊎◌, ◌+◌, ℕ, zero, suc, Bool, true, false, ◌&&◌, MatchBool, List, [], ◌∷◌, ◌++◌, codes, take, Option, Some, None, slice_get, if◌then◌else◌}
+use Rattle.std.specs.Prelude.{◌≡◌, ◌⊎◌, ◌+◌, ℕ, zero, suc, Bool, true, false, ◌&&◌, MatchBool, List, [], ◌∷◌, ◌++◌, codes, take, Option, Some, None, Result, slice_get, if◌then◌else◌}
 use Rattle.hack_base.specs.Writes.{Writes}
+use Rattle.hack_base.specs.declared.writes.Sink.{Ghosts as Taking}
 use Rattle.hack_term.specs.declared.log_group.LogGroup.{LogGroup}
 use Rattle.hack_term.specs.declared.log_group.LogGroup.TheVariants.{None as Ungrouped, GithubActions}
 use Rattle.hack_term.specs.declared.term.Coloring.{Coloring}
@@ -10,13 +11,15 @@ use Rattle.hack_term.specs.Lines.{info_line, error_line}
 use Rattle.hack_versions.specs.declared.version.Version.{Version}
 use Rattle.hack_plan.specs.declared.places.PlanEntry.{PlanEntry}
 use Rattle.hack_process.specs.CommandTexts.{Command, text_of}
+use Rattle.hack_process.specs.declared.fault.ProcessFault.{ProcessFault}
 use Rattle.hack_plan.specs.declared.parts.Preparation.TheVariants.{Toolchain, Lockfile, Clean}
 use Rattle.hack_plan.specs.View.{PlanView}
 use Rattle.hack_plan.specs.Commands.{clean_command, chosen_package_at, toolchain_of}
 use Rattle.hack_session.specs.Toolchains.{addition_of}
 use Rattle.hack_session.specs.Statuses.{place_status, running_text}
-use Rattle.hack_session.specs.StepCalls.{number_at}
+use Rattle.hack_session.specs.StepCalls.{EndsOrIsCut, number_at}
 use Rattle.hack_base.specs.Counters.{GrowsBy}
+use Rattle.hack_session.specs.declared.screen.Screen.{Screen}
 use Rattle.hack_session.specs.declared.step.Step.{Step}
 use Rattle.hack_session.specs.declared.step.Step.TheVariants.{Prepare, Skip, Run}
 use Rattle.hack_session.specs.declared.step.Outcome.{Outcome}
@@ -51,6 +54,10 @@ pub record Manner : Type 0 where
 -- the manner of a terminal
 abbrev pub manner_of : LogGroup → Term → Manner
 manner_of group term = record { group = group; coloring = term.coloring; verbose = term.verbose }
+
+-- the manner of a screen
+abbrev pub manner_on : {O E : Type 0} → Screen O E → Manner
+manner_on screen = manner_of screen.log_group screen.term.now
 
 -- ---- the parts of a step
 
@@ -122,6 +129,12 @@ IsFront k parts shown = shown ≡ all_shown (take k parts)
 abbrev pub IsSomeFront : List Shown → Shown → Type 0
 IsSomeFront parts shown = (k : ℕ) × IsFront k parts shown
 
+-- the addition of a toolchain is shown; or it isn't, without targets, where the toolchain is found;
+-- or the first parts are, where memory was refused
+abbrev pub ShowsAddition : {T : Type 0} → List Shown → Type 0 → Result T ProcessFault → Shown → Type 0
+ShowsAddition parts without r shown =
+    EndsOrIsCut (λ outcome. IsWhole parts shown ⊎ ((outcome ≡ Passed) × without × (shown ≡ on_err []))) (IsSomeFront parts shown) r
+
 -- what a step shows that isn't cut short, but for the line on its error: all of its parts. But a
 -- toolchain that is found isn't added, a run whose cleaning failed has no status, and the skip of a
 -- place doesn't fail
@@ -190,6 +203,20 @@ pub record Prints (P : Shown → Type 0) (old new : Streams) : Type 0 where
   pub such : P shown
   pub out_written : Writes old.out new.out old.out_failed new.out_failed shown.out
   pub err_written : Writes old.err new.err old.err_failed new.err_failed shown.err
+
+-- the streams of a screen
+abbrev pub streams_of : {O E : Type 0} → Taking O → Taking E → Screen O E → Streams
+streams_of o e screen = streams o.contents o.failed e.contents e.failed screen.out.now screen.err.now
+
+-- such texts were written on a screen
+abbrev pub PrintsOn : {O E : Type 0} → Taking O → Taking E → (Shown → Type 0) → Screen O E → Screen O E → Type 0
+PrintsOn o e P old new = Prints P (streams_of o e old) (streams_of o e new)
+
+-- a screen is handed on: its streams are still the same, and so is its manner
+pub record IsSameScreen {O E : Type 0} (old new : Screen O E) : Type 0 where
+  pub out : new.out.ghost_name ≡ old.out.ghost_name
+  pub err : new.err.ghost_name ≡ old.err.ghost_name
+  pub manner : manner_on new ≡ manner_on old
 
 -- what the steps show was written, and the count of steps that were cut short because memory was
 -- refused grew by those

@@ -1,24 +1,22 @@
 //! The steps of a plan, performed by commands.
 
-ghost use Rattle.std.specs.Prelude.{◌≡◌, ◌⊎◌, ◌<◌, ◌∷◌, [], IfOk, MatchResult, None, Some, codes};
+ghost use Rattle.std.specs.Prelude.{◌≡◌, ◌<◌, ◌∷◌, [], IfOk, None, Some, codes};
 ghost use Rattle.std.specs.Prelude.{false, length, option_map, slice_get, string_bytes};
 ghost use Rattle.hack_process.specs.Commands.{asked_of, command_of};
 ghost use Rattle.hack_plan.specs.Commands.{clean_command, command_of_entry, name_in};
 ghost use Rattle.hack_plan.specs.Commands.{chosen_package_at};
 ghost use Rattle.hack_session.specs.Histories.{IsStepOf};
-ghost use Rattle.hack_session.specs.StepCalls.{Breaks, BreaksInstallAt, EndsOrIsCut, Exactly};
-ghost use Rattle.hack_session.specs.StepCalls.{CallsUpToFailure};
-ghost use Rattle.hack_session.specs.StepCalls.{InstallsAt, IsCutShort, MakesCalls};
-ghost use Rattle.hack_session.specs.StepCalls.{lockfile_commands};
-ghost use Rattle.hack_session.specs.StepCalls.{number_at, run_commands};
-ghost use Rattle.hack_session.specs.StepOutput.{Displays, IsSomeFront, IsWhole, Prints};
-ghost use Rattle.hack_session.specs.StepOutput.{addition_parts};
-ghost use Rattle.hack_session.specs.StepOutput.{cleaning_shown, manner_of, on_err, parts_of};
-ghost use Rattle.hack_session.specs.StepOutput.{skip_parts, status_shown, streams};
-ghost use Rattle.hack_session.specs.declared.step.Outcome.TheVariants.{Passed};
+ghost use Rattle.hack_session.specs.StepCalls.{MakesCallsOn, lockfile_commands, number_at};
+ghost use Rattle.hack_session.specs.StepCalls.{run_commands};
+ghost use Rattle.hack_session.specs.StepOutput.{IsSameScreen, PrintsOn, ShowsAddition};
+ghost use Rattle.hack_session.specs.StepOutput.{addition_parts, cleaning_shown, manner_on};
+ghost use Rattle.hack_session.specs.StepOutput.{skip_parts, status_shown};
+ghost use Rattle.hack_session.specs.InternalStepResults.{CallsInOrder, InstallsVersion};
+ghost use Rattle.hack_session.specs.InternalStepResults.{MakesStepCalls, ShowsAsFar, ShowsParts};
+ghost use Rattle.hack_session.specs.InternalStepResults.{ShowsStepParts};
 ghost use Rattle.hack_session.specs.Statuses.{place_status, told_name as name_told};
 
-use crate::calls::{call, call_in_group, call_quietly};
+use crate::calls::{call, call_in_group};
 use crate::rustup::install_toolchain;
 use crate::screen::{Screen, Status};
 use crate::step::Step;
@@ -32,34 +30,24 @@ use std::alloc::{AllocError, Global};
 /// Performs a step. `ProcessFault::Memory` means that memory was refused, which cut the step short.
 pub(crate) fn perform<C: Caller, O: Sink, E: Sink>(
     alloc: Global,
-    caller: &mut C,
-    screen: &mut Screen<'_, O, E>,
     plan: &Plan,
     step: Step,
+    caller: &mut C,
+    screen: &mut Screen<'_, O, E>,
 ) -> Result<(), ProcessFault>
     requires { IsStepOf plan.now step }
-    ensures made { C.tells → MakesCalls (λ calls.
-        EndsOrIsCut (Exactly plan.now step calls) (IsCutShort plan.now step calls) result)
-        (C.calls caller.old) (C.calls caller.new) }
-    ensures shown { Prints (λ shown. EndsOrIsCut
-        (λ outcome. Displays (manner_of screen.old.log_group screen.old.term.now)
-        plan.now step outcome shown)
-        (IsSomeFront (parts_of (manner_of screen.old.log_group screen.old.term.now) plan.now step)
-        shown)
-        result)
-        (streams O.contents O.failed E.contents E.failed screen.old.out.now screen.old.err.now)
-        (streams O.contents O.failed E.contents E.failed screen.new.out.now screen.new.err.now) }
-    ensures lent { (screen.new.out.ghost_name ≡ screen.old.out.ghost_name)
-        × (screen.new.err.ghost_name ≡ screen.old.err.ghost_name) }
-    ensures manner { manner_of screen.new.log_group screen.new.term.now
-        ≡ manner_of screen.old.log_group screen.old.term.now }
+    ensures made { MakesCallsOn C.Caller
+        (MakesStepCalls plan.now step result) caller.old caller.new }
+    ensures shown { PrintsOn O.Sink E.Sink
+        (ShowsStepParts (manner_on screen.old) plan.now step result) screen.old screen.new }
+    ensures screen { IsSameScreen screen.old screen.new }
 {
     match step {
         Step::Prepare(Preparation::Toolchain(version)) => {
-            install(alloc, caller, screen, plan, version)
+            install(alloc, caller, screen, plan, number(plan, version))
         }
         Step::Prepare(Preparation::Lockfile(version)) => {
-            generate_lockfile(alloc, caller, plan, version)
+            generate_lockfile(alloc, caller, plan, number(plan, version))
         }
         Step::Prepare(Preparation::Clean(_)) => clean_all(alloc, caller, screen, plan),
         Step::Skip(place) => match skip(alloc, screen, plan, place) {
@@ -70,32 +58,31 @@ pub(crate) fn perform<C: Caller, O: Sink, E: Sink>(
     }
 }
 
-/// Makes sure that a version's toolchain is installed.
+/// The number of a version; none where it has none.
+fn number(plan: &Plan, version: usize) -> Option<Version>
+    ensures { result ≡ number_at (slice_get plan.now.versions version) }
+{
+    match plan.versions().get(version) {
+        Some(version) => version.version,
+        None => None,
+    }
+}
+
+/// Makes sure that a version's toolchain is installed, where the version has a number.
 fn install<C: Caller, O: Sink, E: Sink>(
     alloc: Global,
     caller: &mut C,
     screen: &mut Screen<'_, O, E>,
     plan: &Plan,
-    version: usize,
+    number: Option<Version>,
 ) -> Result<(), ProcessFault>
-    ensures made { C.tells → MakesCalls (λ calls. EndsOrIsCut
-        (InstallsAt plan.now (number_at (slice_get plan.now.versions version)) calls)
-        (BreaksInstallAt plan.now (number_at (slice_get plan.now.versions version)) calls) result)
-        (C.calls caller.old) (C.calls caller.new) }
-    ensures shown { Prints (λ shown. EndsOrIsCut
-        (λ outcome. IsWhole (addition_parts (manner_of screen.old.log_group screen.old.term.now)
-        plan.now (number_at (slice_get plan.now.versions version))) shown
-        ⊎ ((outcome ≡ Passed) × (plan.now.call.targets ≡ []) × (shown ≡ on_err [])))
-        (IsSomeFront (addition_parts (manner_of screen.old.log_group screen.old.term.now)
-        plan.now (number_at (slice_get plan.now.versions version))) shown) result)
-        (streams O.contents O.failed E.contents E.failed screen.old.out.now screen.old.err.now)
-        (streams O.contents O.failed E.contents E.failed screen.new.out.now screen.new.err.now) }
-    ensures lent { (screen.new.out.ghost_name ≡ screen.old.out.ghost_name)
-        × (screen.new.err.ghost_name ≡ screen.old.err.ghost_name) }
-    ensures manner { manner_of screen.new.log_group screen.new.term.now
-        ≡ manner_of screen.old.log_group screen.old.term.now }
+    ensures made { MakesCallsOn C.Caller
+        (InstallsVersion plan.now number result) caller.old caller.new }
+    ensures shown { PrintsOn O.Sink E.Sink (ShowsAddition (addition_parts (manner_on screen.old)
+        plan.now number) (plan.now.call.targets ≡ []) result) screen.old screen.new }
+    ensures screen { IsSameScreen screen.old screen.new }
 {
-    match number(plan, version) {
+    match number {
         Some(number) => {
             let name = toolchain(alloc, number)?;
             install_toolchain(
@@ -113,34 +100,20 @@ fn install<C: Caller, O: Sink, E: Sink>(
     }
 }
 
-/// The number of a version; none where it has none.
-fn number(plan: &Plan, version: usize) -> Option<Version>
-    ensures { result ≡ number_at (slice_get plan.now.versions version) }
-{
-    match plan.versions().get(version) {
-        Some(version) => version.version,
-        None => None,
-    }
-}
-
-/// Makes a version's lockfile.
+/// Makes a version's lockfile, where the version has a number.
 fn generate_lockfile<C: Caller>(
     alloc: Global,
     caller: &mut C,
     plan: &Plan,
-    version: usize,
+    number: Option<Version>,
 ) -> Result<(), ProcessFault>
-    ensures { C.tells → MakesCalls (λ calls. EndsOrIsCut
-        (CallsUpToFailure (lockfile_commands plan.now
-        (number_at (slice_get plan.now.versions version))) calls)
-        (Breaks (lockfile_commands plan.now
-        (number_at (slice_get plan.now.versions version))) calls) result)
-        (C.calls caller.old) (C.calls caller.new) }
+    ensures { MakesCallsOn C.Caller
+        (CallsInOrder (lockfile_commands plan.now number) result) caller.old caller.new }
 {
-    match number(plan, version) {
+    match number {
         Some(number) => {
             let command = plan.lockfile(alloc, number)?;
-            call_quietly(alloc, caller, &command, plan.dir())
+            call(alloc, caller, &command, false, plan.dir())
         }
         None => Ok(()),
     }
@@ -153,22 +126,11 @@ fn clean_all<C: Caller, O: Sink, E: Sink>(
     screen: &mut Screen<'_, O, E>,
     plan: &Plan,
 ) -> Result<(), ProcessFault>
-    ensures made { C.tells → MakesCalls (λ calls.
-        EndsOrIsCut (CallsUpToFailure (asked_of false (clean_command plan.now.call None)
-        ∷ []) calls)
-        (Breaks (asked_of false (clean_command plan.now.call None) ∷ []) calls) result)
-        (C.calls caller.old) (C.calls caller.new) }
-    ensures shown { Prints (λ shown. EndsOrIsCut
-        (λ _. IsWhole (cleaning_shown (manner_of screen.old.log_group screen.old.term.now)
-        plan.now.call.dir (clean_command plan.now.call None) ∷ []) shown)
-        (IsSomeFront (cleaning_shown (manner_of screen.old.log_group screen.old.term.now)
-        plan.now.call.dir (clean_command plan.now.call None) ∷ []) shown) result)
-        (streams O.contents O.failed E.contents E.failed screen.old.out.now screen.old.err.now)
-        (streams O.contents O.failed E.contents E.failed screen.new.out.now screen.new.err.now) }
-    ensures lent { (screen.new.out.ghost_name ≡ screen.old.out.ghost_name)
-        × (screen.new.err.ghost_name ≡ screen.old.err.ghost_name) }
-    ensures manner { manner_of screen.new.log_group screen.new.term.now
-        ≡ manner_of screen.old.log_group screen.old.term.now }
+    ensures made { MakesCallsOn C.Caller (CallsInOrder
+        (asked_of false (clean_command plan.now.call None) ∷ []) result) caller.old caller.new }
+    ensures shown { PrintsOn O.Sink E.Sink (ShowsParts (cleaning_shown (manner_on screen.old)
+        plan.now.call.dir (clean_command plan.now.call None) ∷ []) result) screen.old screen.new }
+    ensures screen { IsSameScreen screen.old screen.new }
 {
     let command = plan.cleaning(alloc)?;
     clean(alloc, caller, screen, &command, plan.dir())
@@ -182,24 +144,14 @@ fn clean<C: Caller, O: Sink, E: Sink>(
     command: &ProcessBuilder<'_>,
     dir: &str,
 ) -> Result<(), ProcessFault>
-    ensures made { C.tells → MakesCalls (λ calls.
-        EndsOrIsCut (CallsUpToFailure (asked_of false (command_of command.now) ∷ []) calls)
-        (Breaks (asked_of false (command_of command.now) ∷ []) calls) result)
-        (C.calls caller.old) (C.calls caller.new) }
-    ensures shown { Prints (λ shown. EndsOrIsCut
-        (λ _. IsWhole (cleaning_shown (manner_of screen.old.log_group screen.old.term.now)
-        dir.now (command_of command.now) ∷ []) shown)
-        (IsSomeFront (cleaning_shown (manner_of screen.old.log_group screen.old.term.now)
-        dir.now (command_of command.now) ∷ []) shown) result)
-        (streams O.contents O.failed E.contents E.failed screen.old.out.now screen.old.err.now)
-        (streams O.contents O.failed E.contents E.failed screen.new.out.now screen.new.err.now) }
-    ensures lent { (screen.new.out.ghost_name ≡ screen.old.out.ghost_name)
-        × (screen.new.err.ghost_name ≡ screen.old.err.ghost_name) }
-    ensures manner { manner_of screen.new.log_group screen.new.term.now
-        ≡ manner_of screen.old.log_group screen.old.term.now }
+    ensures made { MakesCallsOn C.Caller (CallsInOrder
+        (asked_of false (command_of command.now) ∷ []) result) caller.old caller.new }
+    ensures shown { PrintsOn O.Sink E.Sink (ShowsParts (cleaning_shown (manner_on screen.old)
+        dir.now (command_of command.now) ∷ []) result) screen.old screen.new }
+    ensures screen { IsSameScreen screen.old screen.new }
 {
     screen.tell_cleaning(alloc, command, dir)?;
-    call(alloc, caller, command, dir)
+    call(alloc, caller, command, true, dir)
 }
 
 /// Prints that a place is skipped.
@@ -210,17 +162,9 @@ fn skip<O: Sink, E: Sink>(
     place: usize,
 ) -> Result<(), AllocError>
     requires { place < length plan.now.entries }
-    ensures shown { Prints (λ shown. MatchResult result
-        (λ _. IsWhole (skip_parts (manner_of screen.old.log_group screen.old.term.now)
-        plan.now place (slice_get plan.now.entries place)) shown)
-        (λ _. IsSomeFront (skip_parts (manner_of screen.old.log_group screen.old.term.now)
-        plan.now place (slice_get plan.now.entries place)) shown))
-        (streams O.contents O.failed E.contents E.failed screen.old.out.now screen.old.err.now)
-        (streams O.contents O.failed E.contents E.failed screen.new.out.now screen.new.err.now) }
-    ensures lent { (screen.new.out.ghost_name ≡ screen.old.out.ghost_name)
-        × (screen.new.err.ghost_name ≡ screen.old.err.ghost_name) }
-    ensures manner { manner_of screen.new.log_group screen.new.term.now
-        ≡ manner_of screen.old.log_group screen.old.term.now }
+    ensures shown { PrintsOn O.Sink E.Sink (ShowsAsFar (skip_parts (manner_on screen.old)
+        plan.now place (slice_get plan.now.entries place)) result) screen.old screen.new }
+    ensures screen { IsSameScreen screen.old screen.new }
 {
     screen.space(place);
     let run = plan.run(alloc, place)?;
@@ -239,31 +183,20 @@ fn run<C: Caller, O: Sink, E: Sink>(
     place: usize,
 ) -> Result<(), ProcessFault>
     requires { place < length plan.now.entries }
-    ensures made { C.tells → MakesCalls (λ calls.
-        EndsOrIsCut (CallsUpToFailure (run_commands plan.now
-        (slice_get plan.now.entries place)) calls)
-        (Breaks (run_commands plan.now (slice_get plan.now.entries place)) calls) result)
-        (C.calls caller.old) (C.calls caller.new) }
-    ensures shown { Prints (λ shown. EndsOrIsCut
-        (λ outcome. Displays (manner_of screen.old.log_group screen.old.term.now)
-        plan.now (Step.Run place) outcome shown)
-        (IsSomeFront (parts_of (manner_of screen.old.log_group screen.old.term.now)
-        plan.now (Step.Run place)) shown) result)
-        (streams O.contents O.failed E.contents E.failed screen.old.out.now screen.old.err.now)
-        (streams O.contents O.failed E.contents E.failed screen.new.out.now screen.new.err.now) }
-    ensures lent { (screen.new.out.ghost_name ≡ screen.old.out.ghost_name)
-        × (screen.new.err.ghost_name ≡ screen.old.err.ghost_name) }
-    ensures manner { manner_of screen.new.log_group screen.new.term.now
-        ≡ manner_of screen.old.log_group screen.old.term.now }
+    ensures made { MakesCallsOn C.Caller (CallsInOrder (run_commands plan.now
+        (slice_get plan.now.entries place)) result) caller.old caller.new }
+    ensures shown { PrintsOn O.Sink E.Sink (ShowsStepParts (manner_on screen.old) plan.now
+        (Step.Run place) result) screen.old screen.new }
+    ensures screen { IsSameScreen screen.old screen.new }
 {
     screen.space(place);
     let run = plan.run(alloc, place)?;
     if !plan.cleans_per_run() {
-        return run_own(alloc, caller, screen, plan, place, &run);
+        return run_own(alloc, caller, screen, place, plan, &run);
     }
     let cleaning = plan.run_cleaning(alloc, place)?;
     match clean(alloc, caller, screen, &cleaning, plan.dir()) {
-        Ok(()) => run_own(alloc, caller, screen, plan, place, &run),
+        Ok(()) => run_own(alloc, caller, screen, place, plan, &run),
         Err(fault) => Err(fault),
     }
 }
@@ -273,29 +206,19 @@ fn run_own<C: Caller, O: Sink, E: Sink>(
     alloc: Global,
     caller: &mut C,
     screen: &mut Screen<'_, O, E>,
-    plan: &Plan,
     place: usize,
+    plan: &Plan,
     run: &PlannedCommand<'_>,
 ) -> Result<(), ProcessFault>
     requires place { place < length plan.now.entries }
     requires name { option_map (λ name. name.now) run.now.name
         ≡ name_in (chosen_package_at plan.now.packages run.now.entry.package) }
     requires command { command_of run.now.command ≡ command_of_entry plan.now run.now.entry }
-    ensures made { C.tells → MakesCalls (λ calls.
-        EndsOrIsCut (CallsUpToFailure (asked_of false (command_of run.now.command) ∷ []) calls)
-        (Breaks (asked_of false (command_of run.now.command) ∷ []) calls) result)
-        (C.calls caller.old) (C.calls caller.new) }
-    ensures shown { Prints (λ shown. EndsOrIsCut
-        (λ _. IsWhole (status_shown (manner_of screen.old.log_group screen.old.term.now)
-        (codes "running") plan.now place run.now.entry ∷ []) shown)
-        (IsSomeFront (status_shown (manner_of screen.old.log_group screen.old.term.now)
-        (codes "running") plan.now place run.now.entry ∷ []) shown) result)
-        (streams O.contents O.failed E.contents E.failed screen.old.out.now screen.old.err.now)
-        (streams O.contents O.failed E.contents E.failed screen.new.out.now screen.new.err.now) }
-    ensures lent { (screen.new.out.ghost_name ≡ screen.old.out.ghost_name)
-        × (screen.new.err.ghost_name ≡ screen.old.err.ghost_name) }
-    ensures manner { manner_of screen.new.log_group screen.new.term.now
-        ≡ manner_of screen.old.log_group screen.old.term.now }
+    ensures made { MakesCallsOn C.Caller (CallsInOrder
+        (asked_of false (command_of run.now.command) ∷ []) result) caller.old caller.new }
+    ensures shown { PrintsOn O.Sink E.Sink (ShowsParts (status_shown (manner_on screen.old)
+        (codes "running") plan.now place run.now.entry ∷ []) result) screen.old screen.new }
+    ensures screen { IsSameScreen screen.old screen.new }
 {
     let text = status(alloc, "running", screen.term.verbose, plan, place, run)?;
     call_in_group(alloc, caller, screen, &run.command, &text, plan.dir())

@@ -1,18 +1,16 @@
 //! Toolchains that rustup adds.
 
-ghost use Rattle.std.specs.Prelude.{◌≡◌, ◌≢◌, ◌∷◌, ◌⊎◌, [], List, ℕ, IfOk, MatchOption};
+ghost use Rattle.std.specs.Prelude.{◌≡◌, ◌≢◌, ◌∷◌, [], List, ℕ, IfOk, MatchOption};
 ghost use Rattle.std.specs.Prelude.{false, map, not, string_bytes, true};
 ghost use Rattle.hack_process.specs.Commands.{asked_of, command_of};
-ghost use Rattle.hack_session.specs.declared.step.Outcome.TheVariants.{Passed};
-ghost use Rattle.hack_session.specs.StepCalls.{Breaks, BreaksInstall, EndsOrIsCut, Fails};
-ghost use Rattle.hack_session.specs.StepCalls.{CallsUpToFailure};
-ghost use Rattle.hack_session.specs.StepCalls.{Installs, MakesCalls};
-ghost use Rattle.hack_session.specs.StepOutput.{IsSomeFront, IsWhole, Prints, addition_shown};
-ghost use Rattle.hack_session.specs.StepOutput.{manner_of};
-ghost use Rattle.hack_session.specs.StepOutput.{on_err, streams};
+ghost use Rattle.hack_session.specs.StepCalls.{MakesCallsOn, TriesAndAdds};
+ghost use Rattle.hack_session.specs.StepOutput.{IsSameScreen, PrintsOn, ShowsAddition};
+ghost use Rattle.hack_session.specs.StepOutput.{addition_shown, manner_on};
+ghost use Rattle.hack_session.specs.InternalStepResults.{CallsInOrder, ShowsParts};
+ghost use Rattle.hack_session.specs.InternalStepResults.{ShowsPartsOrNone};
 ghost use Rattle.hack_session.specs.Toolchains.{addition_of, toolchain_name, trial_of};
 
-use crate::calls::{call_in_group, call_quietly, is_memory};
+use crate::calls::{call, call_in_group, is_memory};
 use crate::screen::{Screen, running};
 use hack_base::writes::Sink;
 use hack_process::process::{Caller, ProcessBuilder, ProcessFault};
@@ -31,31 +29,16 @@ pub fn install_toolchain<C: Caller, O: Sink, E: Sink>(
     print_output: bool,
     dir: &str,
 ) -> Result<(), ProcessFault>
-    ensures made { C.tells → MakesCalls (λ calls. EndsOrIsCut
-        (Installs (map string_bytes target.now)
+    ensures made { MakesCallsOn C.Caller (TriesAndAdds (map string_bytes target.now)
         (asked_of true (trial_of rustup.now (toolchain_name toolchain.now)))
         (asked_of (not print_output) (addition_of rustup.now (toolchain_name toolchain.now)
-        (map string_bytes target.now))) calls)
-        (BreaksInstall (map string_bytes target.now)
-        (asked_of true (trial_of rustup.now (toolchain_name toolchain.now)))
-        (asked_of (not print_output) (addition_of rustup.now (toolchain_name toolchain.now)
-        (map string_bytes target.now))) calls) result)
-        (C.calls caller.old) (C.calls caller.new) }
+        (map string_bytes target.now))) result) caller.old caller.new }
     ensures quiet { print_output ≡ false → screen.new ≡ screen.old }
-    ensures shown { print_output ≡ true → Prints (λ shown. EndsOrIsCut
-        (λ outcome. IsWhole (addition_shown (manner_of screen.old.log_group screen.old.term.now)
-        dir.now (addition_of rustup.now (toolchain_name toolchain.now)
-        (map string_bytes target.now)) ∷ []) shown
-        ⊎ ((outcome ≡ Passed) × (map string_bytes target.now ≡ []) × (shown ≡ on_err [])))
-        (IsSomeFront (addition_shown (manner_of screen.old.log_group screen.old.term.now)
-        dir.now (addition_of rustup.now (toolchain_name toolchain.now)
-        (map string_bytes target.now)) ∷ []) shown) result)
-        (streams O.contents O.failed E.contents E.failed screen.old.out.now screen.old.err.now)
-        (streams O.contents O.failed E.contents E.failed screen.new.out.now screen.new.err.now) }
-    ensures lent { (screen.new.out.ghost_name ≡ screen.old.out.ghost_name)
-        × (screen.new.err.ghost_name ≡ screen.old.err.ghost_name) }
-    ensures manner { manner_of screen.new.log_group screen.new.term.now
-        ≡ manner_of screen.old.log_group screen.old.term.now }
+    ensures shown { print_output ≡ true → PrintsOn O.Sink E.Sink (ShowsAddition
+        (addition_shown (manner_on screen.old) dir.now (addition_of rustup.now
+        (toolchain_name toolchain.now) (map string_bytes target.now)) ∷ [])
+        (map string_bytes target.now ≡ []) result) screen.old screen.new }
+    ensures screen { IsSameScreen screen.old screen.new }
 {
     let name = without_plus(toolchain);
     let add = addition(alloc, rustup, name, target)?;
@@ -76,27 +59,16 @@ pub(crate) fn try_toolchain<C: Caller, O: Sink, E: Sink>(
     print_output: bool,
     dir: &str,
 ) -> Result<(), ProcessFault>
-    ensures made { C.tells → MakesCalls (λ calls. EndsOrIsCut
-        (Installs [] (asked_of true (command_of trial.now))
-        (asked_of (not print_output) (command_of add.now)) calls)
-        (BreaksInstall [] (asked_of true (command_of trial.now))
-        (asked_of (not print_output) (command_of add.now)) calls) result)
-        (C.calls caller.old) (C.calls caller.new) }
+    ensures made { MakesCallsOn C.Caller (TriesAndAdds []
+        (asked_of true (command_of trial.now))
+        (asked_of (not print_output) (command_of add.now)) result) caller.old caller.new }
     ensures quiet { print_output ≡ false → screen.new ≡ screen.old }
-    ensures shown { print_output ≡ true → Prints (λ shown. EndsOrIsCut
-        (λ outcome. IsWhole (addition_shown (manner_of screen.old.log_group screen.old.term.now)
-        dir.now (command_of add.now) ∷ []) shown
-        ⊎ ((outcome ≡ Passed) × (shown ≡ on_err [])))
-        (IsSomeFront (addition_shown (manner_of screen.old.log_group screen.old.term.now)
-        dir.now (command_of add.now) ∷ []) shown) result)
-        (streams O.contents O.failed E.contents E.failed screen.old.out.now screen.old.err.now)
-        (streams O.contents O.failed E.contents E.failed screen.new.out.now screen.new.err.now) }
-    ensures lent { (screen.new.out.ghost_name ≡ screen.old.out.ghost_name)
-        × (screen.new.err.ghost_name ≡ screen.old.err.ghost_name) }
-    ensures manner { manner_of screen.new.log_group screen.new.term.now
-        ≡ manner_of screen.old.log_group screen.old.term.now }
+    ensures shown { print_output ≡ true → PrintsOn O.Sink E.Sink (ShowsPartsOrNone
+        (addition_shown (manner_on screen.old) dir.now (command_of add.now) ∷ []) result)
+        screen.old screen.new }
+    ensures screen { IsSameScreen screen.old screen.new }
 {
-    match call_quietly(alloc, caller, trial, dir) {
+    match call(alloc, caller, trial, false, dir) {
         Ok(()) => Ok(()),
         Err(fault) => {
             if is_memory(&fault) {
@@ -116,25 +88,16 @@ pub(crate) fn add_toolchain<C: Caller, O: Sink, E: Sink>(
     print_output: bool,
     dir: &str,
 ) -> Result<(), ProcessFault>
-    ensures made { C.tells → MakesCalls (λ calls. EndsOrIsCut
-        (CallsUpToFailure (asked_of (not print_output) (command_of add.now) ∷ []) calls)
-        (Breaks (asked_of (not print_output) (command_of add.now) ∷ []) calls) result)
-        (C.calls caller.old) (C.calls caller.new) }
+    ensures made { MakesCallsOn C.Caller (CallsInOrder
+        (asked_of (not print_output) (command_of add.now) ∷ []) result) caller.old caller.new }
     ensures quiet { print_output ≡ false → screen.new ≡ screen.old }
-    ensures shown { print_output ≡ true → Prints (λ shown. EndsOrIsCut
-        (λ _. IsWhole (addition_shown (manner_of screen.old.log_group screen.old.term.now)
-        dir.now (command_of add.now) ∷ []) shown)
-        (IsSomeFront (addition_shown (manner_of screen.old.log_group screen.old.term.now)
-        dir.now (command_of add.now) ∷ []) shown) result)
-        (streams O.contents O.failed E.contents E.failed screen.old.out.now screen.old.err.now)
-        (streams O.contents O.failed E.contents E.failed screen.new.out.now screen.new.err.now) }
-    ensures lent { (screen.new.out.ghost_name ≡ screen.old.out.ghost_name)
-        × (screen.new.err.ghost_name ≡ screen.old.err.ghost_name) }
-    ensures manner { manner_of screen.new.log_group screen.new.term.now
-        ≡ manner_of screen.old.log_group screen.old.term.now }
+    ensures shown { print_output ≡ true → PrintsOn O.Sink E.Sink (ShowsParts
+        (addition_shown (manner_on screen.old) dir.now (command_of add.now) ∷ []) result)
+        screen.old screen.new }
+    ensures screen { IsSameScreen screen.old screen.new }
 {
     if !print_output {
-        return call_quietly(alloc, caller, add, dir);
+        return call(alloc, caller, add, false, dir);
     }
     let text = running(alloc, add, screen.term.verbose, dir)?;
     call_in_group(alloc, caller, screen, add, &text, dir)

@@ -4,11 +4,9 @@ ghost use Rattle.std.specs.Prelude.{◌≡◌, ◌↔◌, [], IfOk, IsSome, Matc
 ghost use Rattle.std.specs.Prelude.{string_bytes};
 ghost use Rattle.hack_process.specs.CommandTexts.{text_of};
 ghost use Rattle.hack_process.specs.Commands.{command_of};
-ghost use Rattle.hack_session.specs.StepOutput.{Prints, cleaning_shown, manner_of};
-ghost use Rattle.hack_session.specs.Internal.{end_shown};
-ghost use Rattle.hack_session.specs.StepOutput.{on_err};
-ghost use Rattle.hack_session.specs.StepOutput.{space_before, streams};
-ghost use Rattle.hack_session.specs.Internal.{opening_shown};
+ghost use Rattle.hack_session.specs.StepOutput.{IsSameScreen, PrintsOn, cleaning_shown, manner_on};
+ghost use Rattle.hack_session.specs.StepOutput.{on_err, space_before};
+ghost use Rattle.hack_session.specs.Internal.{end_shown, opening_shown};
 ghost use Rattle.hack_session.specs.Statuses.{on_text, running_text, status_text};
 
 use hack_base::writes::{Sink, write_front};
@@ -31,13 +29,9 @@ pub struct Screen<'a, O: Sink, E: Sink> {
 impl<O: Sink, E: Sink> Screen<'_, O, E> {
     /// Writes the empty line before each place but the first, where lines aren't grouped.
     pub(crate) fn space(&mut self, place: usize)
-        ensures shown { Prints (λ shown. shown ≡ on_err (space_before self.old.log_group place))
-            (streams O.contents O.failed E.contents E.failed self.old.out.now self.old.err.now)
-            (streams O.contents O.failed E.contents E.failed self.new.out.now self.new.err.now) }
-        ensures lent { (self.new.out.ghost_name ≡ self.old.out.ghost_name)
-            × (self.new.err.ghost_name ≡ self.old.err.ghost_name) }
-        ensures manner { manner_of self.new.log_group self.new.term.now
-            ≡ manner_of self.old.log_group self.old.term.now }
+        ensures shown { PrintsOn O.Sink E.Sink
+            (λ shown. shown ≡ on_err (space_before self.old.log_group place)) self.old self.new }
+        ensures screen { IsSameScreen self.old self.new }
     {
         if place > 0 && self.log_group == LogGroup::None {
             let _ = write_front("\n", self.err);
@@ -47,14 +41,9 @@ impl<O: Sink, E: Sink> Screen<'_, O, E> {
     /// Opens a group with a text, or writes the text on a line of its own.
     pub(crate) fn open(&mut self, text: &str) -> Option<LogGroupGuard>
         ensures guard { IsSome result ↔ (self.old.log_group ≡ LogGroup.GithubActions) }
-        ensures shown { Prints (λ shown. shown
-            ≡ opening_shown (manner_of self.old.log_group self.old.term.now) text.now)
-            (streams O.contents O.failed E.contents E.failed self.old.out.now self.old.err.now)
-            (streams O.contents O.failed E.contents E.failed self.new.out.now self.new.err.now) }
-        ensures lent { (self.new.out.ghost_name ≡ self.old.out.ghost_name)
-            × (self.new.err.ghost_name ≡ self.old.err.ghost_name) }
-        ensures manner { manner_of self.new.log_group self.new.term.now
-            ≡ manner_of self.old.log_group self.old.term.now }
+        ensures shown { PrintsOn O.Sink E.Sink
+            (λ shown. shown ≡ opening_shown (manner_on self.old) text.now) self.old self.new }
+        ensures screen { IsSameScreen self.old self.new }
     {
         let (guard, _told) = self.log_group.print(self.term, text, self.out, self.err);
         guard
@@ -63,14 +52,9 @@ impl<O: Sink, E: Sink> Screen<'_, O, E> {
     /// Ends a group.
     pub(crate) fn close(&mut self, guard: Option<LogGroupGuard>)
         requires { IsSome guard ↔ (self.now.log_group ≡ LogGroup.GithubActions) }
-        ensures shown { Prints (λ shown. shown
-            ≡ end_shown (manner_of self.old.log_group self.old.term.now))
-            (streams O.contents O.failed E.contents E.failed self.old.out.now self.old.err.now)
-            (streams O.contents O.failed E.contents E.failed self.new.out.now self.new.err.now) }
-        ensures lent { (self.new.out.ghost_name ≡ self.old.out.ghost_name)
-            × (self.new.err.ghost_name ≡ self.old.err.ghost_name) }
-        ensures manner { manner_of self.new.log_group self.new.term.now
-            ≡ manner_of self.old.log_group self.old.term.now }
+        ensures shown { PrintsOn O.Sink E.Sink
+            (λ shown. shown ≡ end_shown (manner_on self.old)) self.old self.new }
+        ensures screen { IsSameScreen self.old self.new }
     {
         if let Some(guard) = guard {
             let _ = guard.end(self.out);
@@ -84,15 +68,10 @@ impl<O: Sink, E: Sink> Screen<'_, O, E> {
         command: &ProcessBuilder<'_>,
         dir: &str,
     ) -> Result<(), AllocError>
-        ensures shown { Prints (λ shown. MatchResult result (λ _. shown
-            ≡ cleaning_shown (manner_of self.old.log_group self.old.term.now)
-            dir.now (command_of command.now)) (λ _. shown ≡ on_err []))
-            (streams O.contents O.failed E.contents E.failed self.old.out.now self.old.err.now)
-            (streams O.contents O.failed E.contents E.failed self.new.out.now self.new.err.now) }
-        ensures lent { (self.new.out.ghost_name ≡ self.old.out.ghost_name)
-            × (self.new.err.ghost_name ≡ self.old.err.ghost_name) }
-        ensures manner { manner_of self.new.log_group self.new.term.now
-            ≡ manner_of self.old.log_group self.old.term.now }
+        ensures shown { PrintsOn O.Sink E.Sink (λ shown. MatchResult result
+            (λ _. shown ≡ cleaning_shown (manner_on self.old) dir.now (command_of command.now))
+            (λ _. shown ≡ on_err [])) self.old self.new }
+        ensures screen { IsSameScreen self.old self.new }
     {
         if self.term.verbose {
             let text = running(alloc, command, true, dir)?;

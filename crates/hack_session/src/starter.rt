@@ -4,6 +4,7 @@ ghost use Rattle.std.specs.Prelude.{◌≡◌, ◌⊎◌, All, List, ℕ, true};
 ghost use Rattle.std.proofs.Common.{◌∙◌, refl, inl};
 ghost use Rattle.hack_base.specs.Writes.{Writes};
 ghost use Rattle.hack_session.specs.Histories.{HasPassed};
+ghost use Rattle.hack_session.specs.References.{IsHandedOver};
 ghost use Rattle.hack_session.specs.StepCalls.{HasPerformed, HasTold};
 ghost use Rattle.hack_session.specs.JoinedCalls.{performed_none, performed_more, none_passed};
 ghost use Rattle.hack_session.specs.JoinedCalls.{passed_or};
@@ -57,19 +58,14 @@ impl<'a, C: Caller, O: Sink, E: Sink> Starter<'a, C, O, E> {
         keep_going: bool,
         fault: &'a mut Option<ProcessFault>,
     ) -> Starter<'a, C, O, E>
-        ensures caller { (result.caller.ghost_name ≡ caller.entry.ghost_name)
-            × (result.caller.now ≡ caller.entry.now) }
-        ensures term { (result.term.ghost_name ≡ term.entry.ghost_name)
-            × (result.term.now ≡ term.entry.now) }
-        ensures out { (result.out.ghost_name ≡ out.entry.ghost_name)
-            × (result.out.now ≡ out.entry.now) }
-        ensures err { (result.err.ghost_name ≡ err.entry.ghost_name)
-            × (result.err.now ≡ err.entry.now) }
-        ensures fault { (result.fault.ghost_name ≡ fault.entry.ghost_name)
-            × (result.fault.now ≡ fault.entry.now) }
         ensures log_group { result.log_group ≡ log_group }
         ensures keep_going { result.keep_going ≡ keep_going }
         ensures refused { result.refused ≡ 0 }
+        ensures caller { IsHandedOver caller.entry result.caller }
+        ensures term { IsHandedOver term.entry result.term }
+        ensures out { IsHandedOver out.entry result.out }
+        ensures err { IsHandedOver err.entry result.err }
+        ensures fault { IsHandedOver fault.entry result.fault }
     {
         Starter {
             alloc,
@@ -152,7 +148,7 @@ impl<C: Caller, O: Sink, E: Sink> Runner for Starter<'_, C, O, E> {
             err: self.err,
             log_group: self.log_group,
         };
-        match perform(self.alloc, self.caller, &mut screen, plan, step) {
+        match perform(self.alloc, plan, step, self.caller, &mut screen) {
             Ok(()) => Outcome::Passed,
             Err(fault) => {
                 if is_memory(&fault) {

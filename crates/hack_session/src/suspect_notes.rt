@@ -1,6 +1,6 @@
 //! The notices on the small patterns that explain failed runs.
 
-ghost use Rattle.std.specs.Prelude.{◌≡◌, ◌++◌, ◌∷◌, ◌-◌, [], IfOk, OnOk, length, map, nat_lt};
+ghost use Rattle.std.specs.Prelude.{◌≡◌, ◌++◌, ◌∷◌, ◌-◌, [], IfOk, OnOk, map, nat_lt};
 ghost use Rattle.std.specs.Prelude.{codes, option_map, slice_get, string_bytes, take, unwrap_or};
 ghost use Rattle.std.specs.Prelude.{if◌then◌else◌};
 ghost use Rattle.std.specs.List.{flat_map, list_any, slice_index_or};
@@ -12,7 +12,7 @@ ghost use Rattle.hack_samples.specs.Sets.{rows_of};
 ghost use Rattle.hack_session.specs.Suspects.{explained_view};
 ghost use Rattle.hack_session.specs.SuspectNotes.{package_candidates, has_setting, heading_text};
 ghost use Rattle.hack_session.specs.SuspectNotes.{info};
-ghost use Rattle.hack_session.specs.SuspectNotes.{suspect_lines, more_text, most_lines, notes_of};
+ghost use Rattle.hack_session.specs.SuspectNotes.{suspect_lines, more_text, most_lines};
 ghost use Rattle.hack_session.specs.SuspectNotes.{suspect_notes_on, place_text, setting_text};
 ghost use Rattle.hack_session.specs.SuspectNotes.{state_text};
 ghost use Rattle.hack_session.specs.SuspectNotes.{suspect_text, for_target_text, too_many_text};
@@ -82,7 +82,9 @@ fn add_found(
         return Ok(());
     }
     add_info(notices, heading_text(alloc, plan, part)?)?;
-    add_lines(alloc, candidates_in(plan, part.package), found, notices)
+    let candidates = candidates_in(plan, part.package);
+    add_suspects(alloc, candidates, first_ones(found), notices)?;
+    add_more(alloc, found.len(), notices)
 }
 
 /// Whether one of the patterns has a setting.
@@ -95,20 +97,6 @@ fn has_setting(found: &[Vec<Setting>]) -> bool
         }
     }
     false
-}
-
-/// Adds a line for each of the first suspects, and one that says how many more there are.
-fn add_lines(
-    alloc: Global,
-    candidates: &[Feature],
-    found: &[Vec<Setting>],
-    notices: &mut Vec<Notice>,
-) -> Result<(), AllocError>
-    ensures { OnOk result (AddsNotes notices.old notices.new
-        (suspect_lines (groups_of candidates.now) (rows_of found.now))) }
-{
-    add_suspects(alloc, candidates, first_ones(found), notices)?;
-    add_more(alloc, found.len(), notices)
 }
 
 /// The suspects that are shown.

@@ -1,9 +1,10 @@
 use Rattle.std.proofs.Common.{ap, ◌∙◌, sym, slice_get, Err, ◌∷◌, [], false, codes, refl, Ok}
 use Rattle.std.proofs.lemmas.Result.{err_from_is_err_and}
 use Rattle.hack_process.specs.Commands.{asked_of, command_of}
-use Rattle.hack_session.proofs.RunLemmas.{cut_run, ran_as, run_plain, run_cleaned, run_then, run_stops}
-use Rattle.hack_session.specs.StepOutput.{manner_of, status_shown, cleaning_shown}
-use Rattle.hack_session.proofs.ShownLemmas.{Part, cleaned_as, in_manner, own_cleaning, ran_plain, ran_cleaned, ran_not, run_refused}
+use Rattle.hack_session.proofs.RunLemmas.{cut_run, ran_as, run_cleaned, run_plain, run_stops, run_then}
+use Rattle.hack_session.specs.StepOutput.{cleaning_shown, manner_on, status_shown}
+use Rattle.hack_session.proofs.ShownLemmas.{cleaned_as, in_manner, own_cleaning, ran_cleaned, ran_not, ran_plain, run_refused}
+use Rattle.hack_session.specs.InternalStepResults.{ShowsParts}
 use Rattle.hack_session.proofs.perform.run.Goals as goal
 
 pub returns-in_err-run-clause-made : goal.returns-in_err-run-clause-made
@@ -28,32 +29,32 @@ returns-clause-made g c = λ t.
 pub returns-in_err-run-clause-shown : goal.returns-in_err-run-clause-shown
 returns-in_err-run-clause-shown g c =
     let p = err_from_is_err_and c.from_residual.result c.from_residual.ensures.1 in
-    run_refused (Unit {0}) c.from_residual.result (manner_of c.args.screen.now.log_group c.args.screen.now.term.now) c.args.plan.now c.args.place _ _ c.requires (p.1 ∙ ap Err p.2) c.space.ensures.shown
+    run_refused (Unit {0}) c.from_residual.result (manner_on c.args.screen.now) c.args.plan.now c.args.place _ _ c.requires (p.1 ∙ ap Err p.2) c.space.ensures.shown
 
 pub returns-in_err-cleaning-clause-shown : goal.returns-in_err-cleaning-clause-shown
 returns-in_err-cleaning-clause-shown g c =
     let p = err_from_is_err_and c.from_residual-in_err-cleaning.result c.from_residual-in_err-cleaning.ensures.1 in
-    run_refused (Unit {0}) c.from_residual-in_err-cleaning.result (manner_of c.args.screen.now.log_group c.args.screen.now.term.now) c.args.plan.now c.args.place _ _ c.requires (p.1 ∙ ap Err p.2) c.space.ensures.shown
+    run_refused (Unit {0}) c.from_residual-in_err-cleaning.result (manner_on c.args.screen.now) c.args.plan.now c.args.place _ _ c.requires (p.1 ∙ ap Err p.2) c.space.ensures.shown
 
 pub returns-then-not-cleans_per_run-clause-shown : goal.returns-then-not-cleans_per_run-clause-shown
 returns-then-not-cleans_per_run-clause-shown g c =
-    ran_plain (Unit {0}) c.run_own.result (manner_of c.args.screen.now.log_group c.args.screen.now.term.now) c.args.plan.now c.args.place c.in_ok-run.run'.entry _ _ _ c.in_ok-run.ensures.entry (sym c.if-not-cleans_per_run.ensures) c.space.ensures.shown
-    (in_manner (λ m s. Part (status_shown m (codes "running") c.args.plan.now c.args.place c.in_ok-run.run'.entry ∷ []) c.run_own.result s) _ _ _ _ c.space.ensures.manner c.run_own.ensures.shown)
+    ran_plain (Unit {0}) c.run_own.result (manner_on c.args.screen.now) c.args.plan.now c.args.place c.in_ok-run.run'.entry _ _ _ c.in_ok-run.ensures.entry (sym c.if-not-cleans_per_run.ensures) c.space.ensures.shown
+    (in_manner (λ m s. ShowsParts (status_shown m (codes "running") c.args.plan.now c.args.place c.in_ok-run.run'.entry ∷ []) c.run_own.result s) _ _ _ _ c.space.ensures.screen.manner c.run_own.ensures.shown)
 
 pub returns-in-Ok-clause-shown : goal.returns-in-Ok-clause-shown
 returns-in-Ok-clause-shown g c =
-    ran_cleaned (Unit {0}) (Unit {0}) tt c.run_own-in-Ok.result (manner_of c.args.screen.now.log_group c.args.screen.now.term.now) c.args.plan.now c.args.place c.in_ok-run.run'.entry (cleaning_shown (manner_of c.args.screen.now.log_group c.args.screen.now.term.now) c.args.plan.now.call.dir (command_of c.in_ok-cleaning.cleaning)) _ _ _ _ c.in_ok-run.ensures.entry
-    (own_cleaning (manner_of c.args.screen.now.log_group c.args.screen.now.term.now) c.args.plan.now (slice_get c.args.plan.now.entries c.args.place) c.in_ok-run.run'.entry (command_of c.in_ok-cleaning.cleaning) c.in_ok-run.ensures.entry c.in_ok-cleaning.ensures (sym c.if-not-cleans_per_run.ensures))
+    ran_cleaned (Unit {0}) (Unit {0}) tt c.run_own-in-Ok.result (manner_on c.args.screen.now) c.args.plan.now c.args.place c.in_ok-run.run'.entry (cleaning_shown (manner_on c.args.screen.now) c.args.plan.now.call.dir (command_of c.in_ok-cleaning.cleaning)) _ _ _ _ c.in_ok-run.ensures.entry
+    (own_cleaning (manner_on c.args.screen.now) c.args.plan.now (slice_get c.args.plan.now.entries c.args.place) c.in_ok-run.run'.entry (command_of c.in_ok-cleaning.cleaning) c.in_ok-run.ensures.entry c.in_ok-cleaning.ensures (sym c.if-not-cleans_per_run.ensures))
     c.space.ensures.shown
-    (in_manner (λ m s. Part {T = Unit {0}} (cleaning_shown m c.args.plan.now.call.dir (command_of c.in_ok-cleaning.cleaning) ∷ []) (Ok tt) s) _ _ _ _ c.space.ensures.manner (cleaned_as (Unit {0}) (Ok tt) (manner_of c.space.new.self.log_group c.space.new.self.term.now) _ _ (command_of c.in_ok-cleaning.cleaning) (command_of c.in_ok-cleaning.cleaning) _ _ c.dir.ensures refl c.in-Ok.ensures.shown))
-    (in_manner (λ m s. Part (status_shown m (codes "running") c.args.plan.now c.args.place c.in_ok-run.run'.entry ∷ []) c.run_own-in-Ok.result s) _ _ _ _ (c.in-Ok.ensures.manner ∙ c.space.ensures.manner) c.run_own-in-Ok.ensures.shown)
+    (in_manner (λ m s. ShowsParts {T = Unit {0}} (cleaning_shown m c.args.plan.now.call.dir (command_of c.in_ok-cleaning.cleaning) ∷ []) (Ok tt) s) _ _ _ _ c.space.ensures.screen.manner (cleaned_as (Unit {0}) (Ok tt) (manner_on c.space.new.self) _ _ (command_of c.in_ok-cleaning.cleaning) (command_of c.in_ok-cleaning.cleaning) _ _ c.dir.ensures refl c.in-Ok.ensures.shown))
+    (in_manner (λ m s. ShowsParts (status_shown m (codes "running") c.args.plan.now c.args.place c.in_ok-run.run'.entry ∷ []) c.run_own-in-Ok.result s) _ _ _ _ (c.in-Ok.ensures.screen.manner ∙ c.space.ensures.screen.manner) c.run_own-in-Ok.ensures.shown)
 
 pub returns-clause-shown : goal.returns-clause-shown
 returns-clause-shown g c =
-    ran_not (Unit {0}) (Unit {0}) c.in-Err.fault (manner_of c.args.screen.now.log_group c.args.screen.now.term.now) c.args.plan.now c.args.place c.in_ok-run.run'.entry (cleaning_shown (manner_of c.args.screen.now.log_group c.args.screen.now.term.now) c.args.plan.now.call.dir (command_of c.in_ok-cleaning.cleaning)) _ _ _ c.in_ok-run.ensures.entry
-    (own_cleaning (manner_of c.args.screen.now.log_group c.args.screen.now.term.now) c.args.plan.now (slice_get c.args.plan.now.entries c.args.place) c.in_ok-run.run'.entry (command_of c.in_ok-cleaning.cleaning) c.in_ok-run.ensures.entry c.in_ok-cleaning.ensures (sym c.if-not-cleans_per_run.ensures))
+    ran_not (Unit {0}) (Unit {0}) c.in-Err.fault (manner_on c.args.screen.now) c.args.plan.now c.args.place c.in_ok-run.run'.entry (cleaning_shown (manner_on c.args.screen.now) c.args.plan.now.call.dir (command_of c.in_ok-cleaning.cleaning)) _ _ _ c.in_ok-run.ensures.entry
+    (own_cleaning (manner_on c.args.screen.now) c.args.plan.now (slice_get c.args.plan.now.entries c.args.place) c.in_ok-run.run'.entry (command_of c.in_ok-cleaning.cleaning) c.in_ok-run.ensures.entry c.in_ok-cleaning.ensures (sym c.if-not-cleans_per_run.ensures))
     (sym c.if-not-cleans_per_run.ensures) c.space.ensures.shown
-    (in_manner (λ m s. Part {T = Unit {0}} (cleaning_shown m c.args.plan.now.call.dir (command_of c.in_ok-cleaning.cleaning) ∷ []) (Err c.in-Err.fault) s) _ _ _ _ c.space.ensures.manner (cleaned_as (Unit {0}) (Err c.in-Err.fault) (manner_of c.space.new.self.log_group c.space.new.self.term.now) _ _ (command_of c.in_ok-cleaning.cleaning) (command_of c.in_ok-cleaning.cleaning) _ _ c.dir.ensures refl c.in-Err.ensures.shown))
+    (in_manner (λ m s. ShowsParts {T = Unit {0}} (cleaning_shown m c.args.plan.now.call.dir (command_of c.in_ok-cleaning.cleaning) ∷ []) (Err c.in-Err.fault) s) _ _ _ _ c.space.ensures.screen.manner (cleaned_as (Unit {0}) (Err c.in-Err.fault) (manner_on c.space.new.self) _ _ (command_of c.in_ok-cleaning.cleaning) (command_of c.in_ok-cleaning.cleaning) _ _ c.dir.ensures refl c.in-Err.ensures.shown))
 
 pub returns-then-not-cleans_per_run-clause-made : goal.returns-then-not-cleans_per_run-clause-made
 returns-then-not-cleans_per_run-clause-made g c = λ t.

@@ -1,9 +1,9 @@
 use Rattle.std.proofs.Common.{◌≡◌, ◌⊎◌, inr, refl, ◌∷◌, []}
 use Rattle.hack_process.specs.Commands.{command_of}
 use Rattle.hack_session.specs.declared.step.Outcome.TheVariants.{Passed}
-use Rattle.hack_session.specs.StepOutput.{IsWhole, addition_shown, manner_of, on_err}
+use Rattle.hack_session.specs.StepOutput.{IsWhole, addition_shown, manner_on, on_err}
 use Rattle.hack_session.specs.JoinedOutput.{prints_none}
-use Rattle.hack_session.proofs.RunLemmas.{tried_then, not_memory}
+use Rattle.hack_session.proofs.RunLemmas.{not_memory, tried_then}
 use Rattle.hack_session.proofs.ShownLemmas.{cut_part, or_early}
 use Rattle.hack_session.proofs.rustup.try_toolchain.Goals as goal
 
@@ -15,7 +15,7 @@ pub returns-in-Ok-clause-shown : goal.returns-in-Ok-clause-shown
 returns-in-Ok-clause-shown g c = λ e. prints_none _ _ (inr (refl, refl))
 
 pub returns-then-is_memory-clause-shown : goal.returns-then-is_memory-clause-shown
-returns-then-is_memory-clause-shown g c = λ e. cut_part (Unit {0}) c.in-Err.fault (λ o s. IsWhole (addition_shown (manner_of c.args.screen.now.log_group c.args.screen.now.term.now) c.args.dir.now (command_of c.args.add.now) ∷ []) s ⊎ ((o ≡ Passed) × (s ≡ on_err []))) _ _ c.if-is_memory.ensures
+returns-then-is_memory-clause-shown g c = λ e. cut_part (Unit {0}) c.in-Err.fault (λ o s. IsWhole (addition_shown (manner_on c.args.screen.now) c.args.dir.now (command_of c.args.add.now) ∷ []) s ⊎ ((o ≡ Passed) × (s ≡ on_err []))) _ _ c.if-is_memory.ensures
 
 pub returns-else-is_memory-clause-shown : goal.returns-else-is_memory-clause-shown
-returns-else-is_memory-clause-shown g c = λ e. or_early (Unit {0}) c.add_toolchain.result (addition_shown (manner_of c.args.screen.now.log_group c.args.screen.now.term.now) c.args.dir.now (command_of c.args.add.now) ∷ []) (λ o s. (o ≡ Passed) × (s ≡ on_err [])) _ _ (c.add_toolchain.ensures.shown e)
+returns-else-is_memory-clause-shown g c = λ e. or_early (Unit {0}) c.add_toolchain.result (addition_shown (manner_on c.args.screen.now) c.args.dir.now (command_of c.args.add.now) ∷ []) (λ o s. (o ≡ Passed) × (s ≡ on_err [])) _ _ (c.add_toolchain.ensures.shown e)
