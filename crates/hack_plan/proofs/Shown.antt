@@ -16,7 +16,8 @@ use Rattle.hack_process.specs.CommandTexts.{spaced_word, each_spaced, is_manifes
 use Rattle.hack_process.proofs.CommandLemmas.{shown-plain}
 use Rattle.hack_plan.specs.Commands.{call_command, rustup_run_words, manifest_words, candidate_names_at, program_of, run_words, target_pair}
 use Rattle.hack_plan.specs.View.{CallView}
-use Rattle.hack_plan.specs.Lines.{folder_behind, shown_manifest, shown_target}
+use Rattle.hack_plan.specs.Lines.{shown_manifest, shown_target}
+use Rattle.hack_plan.specs.Internal.{folder_behind}
 use Rattle.hack_plan.specs.Internal.{before_name, is_still_first, joined_names}
 
 -- the option before a manifest's path

@@ -1,5 +1,5 @@
 -- What only private functions of the crate promise each other.
-use Rattle.std.specs.Prelude.{ℕ, Bool, true, false, List, [], ◌∷◌, ◌++◌, ◌-◌, codes, Option, ◌≡◌, ◌<◌, ◌↔◌, Some, slice_get, ◌+◌, length}
+use Rattle.std.specs.Prelude.{ℕ, Bool, true, false, List, [], ◌∷◌, ◌++◌, ◌-◌, codes, Option, ◌≡◌, ◌<◌, ◌↔◌, Some, slice_get, ◌+◌, length, None, if◌then◌else◌}
 use Rattle.std.specs.List.{join_with_byte}
 use Rattle.hack_versions.specs.declared.version.Version.{Version}
 use Rattle.hack_plan.specs.declared.places.PlanEntry.{PlanEntry}
@@ -7,6 +7,20 @@ use Rattle.hack_plan.specs.declared.blocks.VersionUse.{VersionUse}
 use Rattle.hack_plan.specs.Parts.{InVersion, OfPackage}
 use Rattle.hack_plan.specs.Prepared.{Remakes}
 use Rattle.hack_plan.specs.Spans.{Laid}
+use Rattle.hack_process.specs.CommandTexts.{is_manifest_path}
+
+-- a text is `--manifest-path`
+abbrev pub is_option : Option (List ℕ) → Bool
+is_option None = false
+is_option (Some text) = is_manifest_path text
+
+-- the last target is itself `--manifest-path`
+abbrev pub takes_option : List (List ℕ) → Bool
+takes_option targets = is_option (slice_get targets (length targets - 1))
+
+-- the folder to which a path after these targets is shown relative
+abbrev pub folder_behind : List (List ℕ) → List ℕ → List ℕ
+folder_behind targets dir = if takes_option targets then [] else dir
 
 -- what comes before a name, which is the first or not
 abbrev pub before_name : Bool → List ℕ

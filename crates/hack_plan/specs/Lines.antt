@@ -1,11 +1,11 @@
 -- The line of a run, and what its parts show.
-use Rattle.std.specs.Prelude.{ℕ, Bool, false, List, [], ◌∷◌, ◌++◌, ◌-◌, Option, Some, None, codes, length, map, option_map, slice_get, string_bytes, if◌then◌else◌}
+use Rattle.std.specs.Prelude.{ℕ, List, [], ◌∷◌, ◌++◌, ◌-◌, Option, Some, None, codes, map, option_map, string_bytes}
 use Rattle.std.specs.List.{flat_map}
 use Rattle.hack_base.specs.Names.{Name}
 use Rattle.hack_base.specs.PathTexts.{under_of}
 use Rattle.hack_features.specs.Feature.{groups_of}
 use Rattle.hack_plan.specs.Runs.{run_of}
-use Rattle.hack_process.specs.CommandTexts.{Command, is_manifest_path, listed_of}
+use Rattle.hack_process.specs.CommandTexts.{Command, listed_of}
 use Rattle.hack_plan.specs.declared.line.RunLine.{RunLine}
 use Rattle.hack_plan.specs.View.{call_view}
 use Rattle.hack_plan.specs.Commands.{call_command, manifest_words, run_names, run_words, target_pair, targets_in}
@@ -34,16 +34,3 @@ shown_target target = codes " --target " ++ target
 abbrev pub shown_manifest : List ℕ → Option (List ℕ) → List (List ℕ)
 shown_manifest dir None = []
 shown_manifest dir (Some path) = codes "--manifest-path" ∷ under_of path dir ∷ []
-
--- a text is `--manifest-path`
-abbrev pub is_option : Option (List ℕ) → Bool
-is_option None = false
-is_option (Some text) = is_manifest_path text
-
--- the last target is itself `--manifest-path`
-abbrev pub takes_option : List (List ℕ) → Bool
-takes_option targets = is_option (slice_get targets (length targets - 1))
-
--- the folder to which a path after these targets is shown relative
-abbrev pub folder_behind : List (List ℕ) → List ℕ → List ℕ
-folder_behind targets dir = if takes_option targets then [] else dir

@@ -15,10 +15,11 @@ ghost use Rattle.hack_plan.specs.View.{call_view, plan_package_view};
 ghost use Rattle.hack_plan.specs.Commands.{rustup_run_words, manifest_words, candidate_names_at};
 ghost use Rattle.hack_plan.specs.Commands.{run_command};
 ghost use Rattle.hack_plan.specs.Commands.{run_names, run_words, target_pair, whole_command};
-ghost use Rattle.hack_plan.specs.Lines.{command_in, folder_behind, listed_text, names_in, own_in};
+ghost use Rattle.hack_plan.specs.Lines.{command_in, listed_text, names_in, own_in};
+ghost use Rattle.hack_plan.specs.Internal.{folder_behind};
 ghost use Rattle.hack_plan.specs.Lines.{shown_manifest, shown_target};
 ghost use Rattle.hack_plan.specs.Internal.{before_name, joined_names};
-ghost use Rattle.hack_plan.specs.Lines.{takes_option};
+ghost use Rattle.hack_plan.specs.Internal.{takes_option};
 
 use crate::commands::{
     names_of, push_all, push_manifest, push_names, push_run, push_targets, run_word,
