@@ -10,12 +10,12 @@ use crate::journaled::journaled;
 use crate::listed::{cuts, list};
 use crate::scene::{scene_of, told};
 use crate::sessions::session;
+use crate::shared::spelled_out;
 use crate::shown::push_sections;
 use crate::steps::steps;
 use crate::toolchains::toolchain;
 use crate::world::world_of;
 use hack_holds::{Ask, Wrong, hold};
-use hack_run::host::Host;
 use hack_run::run::run;
 use std::alloc::{AllocError, Global};
 
@@ -40,12 +40,12 @@ impl Ask for Asked<'_> {
 fn answered(alloc: Global, kind: &str, world: &str, words: &str) -> Result<String, AllocError> {
     match kind {
         "journal" => journaled(alloc, world, words),
-        "edits" => told(alloc, edits(alloc, world, words)),
-        "session" => told(alloc, session(alloc, world, words, false)),
-        "context" => told(alloc, session(alloc, world, words, true)),
-        "list" => told(alloc, list(alloc, world, words)),
-        "cuts" => told(alloc, cuts(alloc, world, words)),
-        "steps" => told(alloc, steps(alloc, world, words)),
+        "edits" => told(edits(alloc, world, words)),
+        "session" => told(session(alloc, world, words, false)),
+        "context" => told(session(alloc, world, words, true)),
+        "list" => told(list(alloc, world, words)),
+        "cuts" => told(cuts(alloc, world, words)),
+        "steps" => told(steps(alloc, world, words)),
         "toolchain" => toolchain(alloc, world, words),
         sections => called(alloc, world, words, sections),
     }
@@ -54,22 +54,19 @@ fn answered(alloc: Global, kind: &str, world: &str, words: &str) -> Result<Strin
 /// A whole call: the sections, and its status.
 fn called(alloc: Global, world: &str, words: &str, sections: &str) -> Result<String, AllocError> {
     let mut scene = scene_of(alloc, world, words)?;
-    let mut host = Host::new(
-        alloc,
-        &scene.env,
-        &mut scene.term,
-        &mut scene.caller,
-        &mut scene.out,
-        &mut scene.err,
-    );
-    let status = run(scene.words.as_slice(), None, &mut scene.files, &mut host);
+    let (words, files, mut host) = scene.parts(alloc);
+    let status = run(words, None, files, &mut host);
     let mut text = String::new(alloc);
     push_sections(&mut text, alloc, &scene, sections)?;
     format!(in alloc; "{text}status {status}")
 }
 
-/// Checks rows in a world.
+/// Checks rows in a world; both may have texts of `shared`.
 pub fn on(alloc: Global, world: &str, rows: &str) -> Result<(), Wrong> {
-    let mut asked = Asked { world };
-    hold(alloc, &mut asked, rows)
+    let world = spelled_out(alloc, world)?;
+    let rows = spelled_out(alloc, rows)?;
+    let mut asked = Asked {
+        world: world.as_str(),
+    };
+    hold(alloc, &mut asked, rows.as_str())
 }

@@ -2,7 +2,7 @@
 //! changes up to the edits, and after `back` the changes at the end, and how many of those failed.
 
 use crate::asked::on;
-use crate::scene::{Off, Scene, context_of, scene_of};
+use crate::scene::{Scene, context_of, scene_of};
 use crate::shown::push_changes;
 use crate::world::push_all;
 use crate::worlds::{ROOT, VIRTUAL};
@@ -46,7 +46,7 @@ fn edited(alloc: Global, cx: &Context, scene: &mut Scene) -> Result<String, Allo
     format!(in alloc; "{text}{failed} failed")
 }
 
-pub fn edits(alloc: Global, world: &str, words: &str) -> Result<String, Off> {
+pub fn edits(alloc: Global, world: &str, words: &str) -> Result<String, Wrong> {
     let mut scene = scene_of(alloc, world, words)?;
     let cx = context_of(alloc, &mut scene)?;
     Ok(edited(alloc, &cx, &mut scene)?)
@@ -64,34 +64,14 @@ fn rows(rt: HostRuntime) -> Result<(), Wrong> {
 
             > edits: hack check --no-dev-deps -v
             | removing dev-dependencies from /w/Cargo.toml
-            | /w/Cargo.toml:
-            | [package]
-            | name = "p"
-            |
-            | [features]
-            | f = []
+            + root edited
             | back
-            | /w/Cargo.toml:
-            | [package]
-            | name = "p"
-            |
-            | [features]
-            | f = ["d/g"]
-            |
-            | [dev-dependencies]
-            | d = "1"
-            | /w/Cargo.lock:
-            | # lock
+            + root as it was
             | 0 failed
 
             > edits: hack --remove-dev-deps -v
             | removing dev-dependencies from /w/Cargo.toml
-            | /w/Cargo.toml:
-            | [package]
-            | name = "p"
-            |
-            | [features]
-            | f = []
+            + root edited
             | back
             | 0 failed
 

@@ -68,41 +68,25 @@ fn the_plan(rt: HostRuntime) -> Result<(), Wrong> {
             | status 1
 
             > hack check --rust-version
-            | rustup --version
-            | cargo -vV
-            | rustup run stable cargo -vV
-            | cargo metadata --format-version=1 --no-deps
-            | cargo locate-project
+            + asked after rustup
             | err
             | error: no rust-version field in selected Cargo.toml's is specified
             | status 1
 
             > hack check --version-range 1.61..=1.60
-            | rustup --version
-            | cargo -vV
-            | rustup run stable cargo -vV
-            | cargo metadata --format-version=1 --no-deps
-            | cargo locate-project
+            + asked after rustup
             | err
             | error: specified version range `1.61..=1.60` is empty
             | status 1
 
             > hack check --rust-version; own "x.1"
-            | rustup --version
-            | cargo -vV
-            | rustup run stable cargo -vV
-            | cargo metadata --format-version=1 --no-deps
-            | cargo locate-project
+            + asked after rustup
             | err
             | error: invalid number `x`
             | status 1
 
             > hack check --workspace --exclude y
-            | asked
-            | cargo check --manifest-path Cargo.toml
-            | err
-            | warning: excluded package(s) `y` not found in workspace `/w`
-            | info: running `cargo check` on p (1/1)
+            + y isn't a member
             | status 0
         "#,
     )

@@ -8,7 +8,6 @@ use crate::world::files_of;
 use crate::worlds::{ROOT, VIRTUAL};
 use hack_files::fs::{MemoryFiles, Step};
 use hack_holds::Wrong;
-use hack_run::host::Host;
 use hack_run::journaled::run_journaled;
 use std::alloc::{AllocError, Global};
 
@@ -28,21 +27,9 @@ pub fn journaled(alloc: Global, world: &str, words: &str) -> Result<String, Allo
     let files = files_of(alloc, world)?;
     let lockfiles = files_of(alloc, world)?;
     let journal = String::from_str(alloc, "/w/journal")?;
-    let mut host = Host::new(
-        alloc,
-        &scene.env,
-        &mut scene.term,
-        &mut scene.caller,
-        &mut scene.out,
-        &mut scene.err,
-    );
+    let (words, _, mut host) = scene.parts(alloc);
     let (status, files, lockfiles, failed): (u8, MemoryFiles, MemoryFiles, u64) = run_journaled(
-        scene.words.as_slice(),
-        None,
-        files,
-        lockfiles,
-        journal,
-        &mut host,
+        words, None, files, lockfiles, journal, &mut host,
     );
     let mut text = format!(in alloc; "status {status}, {failed} failed")?;
     push_paths(&mut text, files.steps(), scene.first)?;

@@ -26,6 +26,8 @@ mod scene;
 #[cfg(test)]
 mod sessions;
 #[cfg(test)]
+mod shared;
+#[cfg(test)]
 mod shown;
 #[cfg(test)]
 mod steps;

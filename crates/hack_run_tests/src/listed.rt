@@ -4,7 +4,7 @@
 //! prefix of the list. The last line says whether a list has many writes.
 
 use crate::asked::on;
-use crate::scene::{Off, context_of, scene_of};
+use crate::scene::{context_of, scene_of};
 use crate::sessions::driven;
 use crate::worlds::PLAIN;
 use hack_files::fs::FailingWriter;
@@ -24,7 +24,7 @@ fn list_over<W: Lines, R: Teller>(
     cx: &Context,
     out: &mut W,
     runner: &mut R,
-) -> Result<usize, Off> {
+) -> Result<usize, Wrong> {
     let mut lister = Lister {
         alloc,
         out,
@@ -40,7 +40,7 @@ fn list_over<W: Lines, R: Teller>(
 }
 
 /// Lists a plan on a writer; how many steps were handed out, and how many lines failed.
-fn list_on<W: Write>(alloc: Global, cx: &Context, list: &mut W) -> Result<(usize, u64), Off> {
+fn list_on<W: Write>(alloc: Global, cx: &Context, list: &mut W) -> Result<(usize, u64), Wrong> {
     let mut caller = FakeCaller::new(alloc, End::Status(0));
     let mut term = Term::new(Coloring::Never, false);
     let mut fault = None;
@@ -72,7 +72,7 @@ struct Listed {
 }
 
 /// Lists a plan on a writer that fails at this write.
-fn cut_at(alloc: Global, cx: &Context, failing: u64) -> Result<Listed, Off> {
+fn cut_at(alloc: Global, cx: &Context, failing: u64) -> Result<Listed, Wrong> {
     let mut list = FailingWriter::new(Vec::new(alloc), failing);
     let (handed, failed) = list_on(alloc, cx, &mut list)?;
     let text = String::from_utf8_lossy(alloc, list.inner().as_slice())?;
@@ -83,7 +83,7 @@ fn cut_at(alloc: Global, cx: &Context, failing: u64) -> Result<Listed, Off> {
     })
 }
 
-pub fn list(alloc: Global, world: &str, words: &str) -> Result<String, Off> {
+pub fn list(alloc: Global, world: &str, words: &str) -> Result<String, Wrong> {
     let mut scene = scene_of(alloc, world, words)?;
     let cx = context_of(alloc, &mut scene)?;
     let whole = cut_at(alloc, &cx, 0)?;
@@ -130,7 +130,7 @@ fn push_cut(text: &mut String, alloc: Global, cut: &Listed, whole: &str) -> Resu
 
 /// Appends the results of each write that fails to the text, up to the first write that isn't made;
 /// returns how many are made.
-fn push_cuts(text: &mut String, alloc: Global, cx: &Context, whole: &str) -> Result<u64, Off> {
+fn push_cuts(text: &mut String, alloc: Global, cx: &Context, whole: &str) -> Result<u64, Wrong> {
     for failing in 1..=100_u64 {
         let cut = cut_at(alloc, cx, failing)?;
         push_cut(text, alloc, &cut, whole)?;
@@ -141,7 +141,7 @@ fn push_cuts(text: &mut String, alloc: Global, cx: &Context, whole: &str) -> Res
     Ok(100)
 }
 
-pub fn cuts(alloc: Global, world: &str, words: &str) -> Result<String, Off> {
+pub fn cuts(alloc: Global, world: &str, words: &str) -> Result<String, Wrong> {
     let mut scene = scene_of(alloc, world, words)?;
     let cx = context_of(alloc, &mut scene)?;
     let whole = cut_at(alloc, &cx, 0)?;

@@ -5,7 +5,7 @@ use crate::worlds::PLAIN;
 use hack_holds::Wrong;
 
 #[test]
-fn lists(rt: HostRuntime) -> Result<(), Wrong> {
+fn lists_of_commands(rt: HostRuntime) -> Result<(), Wrong> {
     on(
         rt.alloc(),
         PLAIN,
@@ -35,11 +35,7 @@ fn lists(rt: HostRuntime) -> Result<(), Wrong> {
             | status 0
 
             > hack check --version-range 1.60..=1.61 --print-command-list
-            | rustup --version
-            | cargo -vV
-            | rustup run stable cargo -vV
-            | cargo metadata --format-version=1 --no-deps
-            | cargo locate-project
+            + asked after rustup
             | rustup run 1.60 cargo --version
             | rustup run 1.61 cargo --version
             | out
@@ -48,11 +44,7 @@ fn lists(rt: HostRuntime) -> Result<(), Wrong> {
             | status 0
 
             > hack check --version-range 1.60..=1.61 --print-command-list --keep-going; fails 1 rustup run 1.61 cargo --version; fails 1 rustup toolchain add 1.61 --no-self-update
-            | rustup --version
-            | cargo -vV
-            | rustup run stable cargo -vV
-            | cargo metadata --format-version=1 --no-deps
-            | cargo locate-project
+            + asked after rustup
             | rustup run 1.60 cargo --version
             | rustup run 1.61 cargo --version
             | rustup toolchain add 1.61 --no-self-update
@@ -100,22 +92,14 @@ fn lists_that_go_on(rt: HostRuntime) -> Result<(), Wrong> {
         PLAIN,
         r#"
             > calls err: hack check --feature-powerset --version-range 1.60..=1.61 --print-command-list; features a b c d e f g h i j; broken write 1
-            | rustup --version
-            | cargo -vV
-            | rustup run stable cargo -vV
-            | cargo metadata --format-version=1 --no-deps
-            | cargo locate-project
+            + asked after rustup
             | rustup run 1.60 cargo --version
             | err
             | error: failed to write the command list
             | status 1
 
             > calls err: hack check --feature-powerset --version-range 1.60..=1.61 --print-command-list --keep-going; features a b c d e f g h i j; broken write 1
-            | rustup --version
-            | cargo -vV
-            | rustup run stable cargo -vV
-            | cargo metadata --format-version=1 --no-deps
-            | cargo locate-project
+            + asked after rustup
             | rustup run 1.60 cargo --version
             | rustup run 1.61 cargo --version
             | err

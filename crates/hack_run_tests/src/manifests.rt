@@ -11,85 +11,32 @@ fn development_dependencies(rt: HostRuntime) -> Result<(), Wrong> {
         ROOT,
         r#"
             > err changes: hack check --no-dev-deps
-            | err
-            | info: --no-dev-deps modifies real `Cargo.toml` while cargo-hack is running and restores it when finished
+            + no-dev-deps told
             | info: running `cargo check` on p (1/1)
-            | /w/Cargo.toml:
-            | [package]
-            | name = "p"
-            |
-            | [features]
-            | f = []
-            | /w/Cargo.toml:
-            | [package]
-            | name = "p"
-            |
-            | [features]
-            | f = ["d/g"]
-            |
-            | [dev-dependencies]
-            | d = "1"
-            | /w/Cargo.lock:
-            | # lock
+            + root edited
+            + root as it was
             | status 0
 
             > err changes: hack check --no-dev-deps; fails 101 cargo check --manifest-path Cargo.toml
-            | err
-            | info: --no-dev-deps modifies real `Cargo.toml` while cargo-hack is running and restores it when finished
+            + no-dev-deps told
             | info: running `cargo check` on p (1/1)
             | error: process didn't exit successfully: `cargo check --manifest-path Cargo.toml` (exit status: 101)
-            | /w/Cargo.toml:
-            | [package]
-            | name = "p"
-            |
-            | [features]
-            | f = []
-            | /w/Cargo.toml:
-            | [package]
-            | name = "p"
-            |
-            | [features]
-            | f = ["d/g"]
-            |
-            | [dev-dependencies]
-            | d = "1"
-            | /w/Cargo.lock:
-            | # lock
+            + root edited
+            + root as it was
             | status 1
 
             > err changes: hack --remove-dev-deps
-            | /w/Cargo.toml:
-            | [package]
-            | name = "p"
-            |
-            | [features]
-            | f = []
+            + root edited
             | status 0
 
             > err changes: hack check --no-dev-deps --partition 2/2 -v
-            | err
-            | info: --no-dev-deps modifies real `Cargo.toml` while cargo-hack is running and restores it when finished
+            + no-dev-deps told
             | info: removing dev-dependencies from /w/Cargo.toml
             | info: skipping `cargo check --manifest-path Cargo.toml` (1/1)
             | info: restoring /w/Cargo.toml
             | info: restoring /w/Cargo.lock
-            | /w/Cargo.toml:
-            | [package]
-            | name = "p"
-            |
-            | [features]
-            | f = []
-            | /w/Cargo.toml:
-            | [package]
-            | name = "p"
-            |
-            | [features]
-            | f = ["d/g"]
-            |
-            | [dev-dependencies]
-            | d = "1"
-            | /w/Cargo.lock:
-            | # lock
+            + root edited
+            + root as it was
             | status 0
         "#,
     )
@@ -102,8 +49,7 @@ fn private_members(rt: HostRuntime) -> Result<(), Wrong> {
         VIRTUAL,
         r#"
             > err changes: hack check --no-private --workspace
-            | err
-            | info: --no-private modifies real `Cargo.toml` while cargo-hack is running and restores it when finished
+            + no-private told
             | info: skipped running on private package `q`
             | info: running `cargo check` on p (1/1)
             | /w/Cargo.toml:
@@ -145,8 +91,7 @@ fn a_private_root(rt: HostRuntime) -> Result<(), Wrong> {
         ROOT,
         r#"
             > err changes: hack check --no-private; members p! /w/Cargo.toml
-            | err
-            | info: --no-private modifies real `Cargo.toml` while cargo-hack is running and restores it when finished
+            + no-private told
             | error: --no-private is not supported yet with workspace with private root crate
             | status 1
         "#,
@@ -200,8 +145,7 @@ fn a_member_that_no_text_names(rt: HostRuntime) -> Result<(), Wrong> {
         UNPLACED,
         r#"
             > err changes: hack check --no-private --workspace
-            | err
-            | info: --no-private modifies real `Cargo.toml` while cargo-hack is running and restores it when finished
+            + no-private told
             | error: unsupported form of manifest `/w/Cargo.toml`
             | status 1
         "#,
@@ -215,8 +159,7 @@ fn an_excluded_folder_that_is_no_text(rt: HostRuntime) -> Result<(), Wrong> {
         NUMBERED,
         r#"
             > err changes: hack check --no-private --workspace
-            | err
-            | info: --no-private modifies real `Cargo.toml` while cargo-hack is running and restores it when finished
+            + no-private told
             | error: failed to edit manifest `/w/Cargo.toml`
             | status 1
         "#,
@@ -230,8 +173,7 @@ fn an_inline_table(rt: HostRuntime) -> Result<(), Wrong> {
         INLINE,
         r#"
             > err changes: hack check --no-dev-deps --workspace
-            | err
-            | info: --no-dev-deps modifies real `Cargo.toml` while cargo-hack is running and restores it when finished
+            + no-dev-deps told
             | error: unsupported form of manifest `/w/q/Cargo.toml`
             | /w/p/Cargo.toml:
             | [package]

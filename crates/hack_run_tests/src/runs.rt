@@ -11,17 +11,7 @@ fn a_failed_run(rt: HostRuntime) -> Result<(), Wrong> {
         PLAIN,
         r#"
             > hack check --each-feature --exclude-no-default-features --keep-going; features a b; fails 101 cargo check --manifest-path Cargo.toml --no-default-features --features a
-            | asked
-            | cargo check --manifest-path Cargo.toml --all-features
-            | cargo check --manifest-path Cargo.toml --no-default-features --features a
-            | cargo check --manifest-path Cargo.toml --no-default-features --features b
-            | err
-            | info: running `cargo check --all-features` on p (1/3)
-            |
-            | info: running `cargo check --no-default-features --features a` on p (2/3)
-            | error: process didn't exit successfully: `cargo check --manifest-path Cargo.toml --no-default-features --features a` (exit status: 101)
-            |
-            | info: running `cargo check --no-default-features --features b` on p (3/3)
+            + three runs, of which a fails
             |
             | error: failed to run 1 commands
             |
@@ -32,13 +22,7 @@ fn a_failed_run(rt: HostRuntime) -> Result<(), Wrong> {
             | status 1
 
             > hack check --each-feature --exclude-no-default-features; features a b; fails 101 cargo check --manifest-path Cargo.toml --no-default-features --features a
-            | asked
-            | cargo check --manifest-path Cargo.toml --all-features
-            | cargo check --manifest-path Cargo.toml --no-default-features --features a
-            | err
-            | info: running `cargo check --all-features` on p (1/3)
-            |
-            | info: running `cargo check --no-default-features --features a` on p (2/3)
+            + two runs up to a
             | error: process didn't exit successfully: `cargo check --manifest-path Cargo.toml --no-default-features --features a` (exit status: 101)
             | status 1
 
@@ -115,45 +99,16 @@ fn pieces(rt: HostRuntime) -> Result<(), Wrong> {
         PLAIN,
         r#"
             > hack check --feature-powerset --depth 1 --optional-deps --partition 2/3; features a; optional d
-            | asked
-            | cargo check --manifest-path Cargo.toml --no-default-features --features a
-            | cargo check --manifest-path Cargo.toml --no-default-features --features d
-            | err
-            | info: skipping `cargo check --all-features` on p (1/4)
-            |
-            | info: skipping `cargo check --no-default-features` on p (2/4)
-            |
-            | info: running `cargo check --no-default-features --features a` on p (3/4)
-            |
-            | info: running `cargo check --no-default-features --features d` on p (4/4)
+            + second piece by blocks
             | status 0
 
             > hack check --feature-powerset --depth 1 --optional-deps --partition 2/3 --partition-kind turn; features a; optional d
-            | asked
-            | cargo check --manifest-path Cargo.toml --no-default-features
-            | err
-            | info: skipping `cargo check --all-features` on p (1/4)
-            |
-            | info: running `cargo check --no-default-features` on p (2/4)
-            |
-            | info: skipping `cargo check --no-default-features --features a` on p (3/4)
-            |
-            | info: skipping `cargo check --no-default-features --features d` on p (4/4)
+            + second piece by turns
             | status 0
 
             > hack check --version-range 1.60..=1.61 --partition 2/2
-            | rustup --version
-            | cargo -vV
-            | rustup run stable cargo -vV
-            | cargo metadata --format-version=1 --no-deps
-            | cargo locate-project
-            | rustup run 1.60 cargo --version
-            | rustup run 1.61 cargo --version
-            | rustup run 1.61 cargo check --manifest-path Cargo.toml
-            | err
-            | info: skipping `rustup run 1.60 cargo check` on p (1/2)
-            |
-            | info: running `rustup run 1.61 cargo check` on p (2/2)
+            + asked after rustup
+            + second of two versions
             | status 0
         "#,
     )
@@ -227,37 +182,13 @@ fn toolchains(rt: HostRuntime) -> Result<(), Wrong> {
         PLAIN,
         r#"
             > hack check --version-range 1.60..=1.61; fails 1 rustup run 1.60 cargo --version; fails 1 rustup toolchain add 1.60 --no-self-update
-            | rustup --version
-            | cargo -vV
-            | rustup run stable cargo -vV
-            | cargo metadata --format-version=1 --no-deps
-            | cargo locate-project
-            | rustup run 1.60 cargo --version
-            | rustup toolchain add 1.60 --no-self-update
-            | err
-            | info: running `rustup toolchain add 1.60 --no-self-update`
-            | error: process didn't exit successfully: `rustup toolchain add 1.60 --no-self-update` (exit status: 1)
-            | status 1
+            + toolchain 1.60 isn't added
 
             > hack check --version-range 1.60..=1.61 --keep-going; fails 1 rustup run 1.60 cargo --version; fails 1 rustup toolchain add 1.60 --no-self-update
-            | rustup --version
-            | cargo -vV
-            | rustup run stable cargo -vV
-            | cargo metadata --format-version=1 --no-deps
-            | cargo locate-project
-            | rustup run 1.60 cargo --version
-            | rustup toolchain add 1.60 --no-self-update
-            | err
-            | info: running `rustup toolchain add 1.60 --no-self-update`
-            | error: process didn't exit successfully: `rustup toolchain add 1.60 --no-self-update` (exit status: 1)
-            | status 1
+            + toolchain 1.60 isn't added
 
             > hack check --version-range 1.60..=1.60; fails 1 rustup run 1.60 cargo --version
-            | rustup --version
-            | cargo -vV
-            | rustup run stable cargo -vV
-            | cargo metadata --format-version=1 --no-deps
-            | cargo locate-project
+            + asked after rustup
             | rustup run 1.60 cargo --version
             | rustup toolchain add 1.60 --no-self-update
             | rustup run 1.60 cargo check --manifest-path Cargo.toml
@@ -267,11 +198,7 @@ fn toolchains(rt: HostRuntime) -> Result<(), Wrong> {
             | status 0
 
             > hack check --version-range 1.60..=1.60; on github; fails 1 rustup run 1.60 cargo --version
-            | rustup --version
-            | cargo -vV
-            | rustup run stable cargo -vV
-            | cargo metadata --format-version=1 --no-deps
-            | cargo locate-project
+            + asked after rustup
             | rustup run 1.60 cargo --version
             | rustup toolchain add 1.60 --no-self-update
             | rustup run 1.60 cargo check --manifest-path Cargo.toml
@@ -283,40 +210,18 @@ fn toolchains(rt: HostRuntime) -> Result<(), Wrong> {
             | status 0
 
             > hack check --version-range 1.90..
-            | rustup --version
-            | cargo -vV
-            | rustup run stable cargo -vV
-            | cargo metadata --format-version=1 --no-deps
-            | cargo locate-project
+            + asked after rustup
             | rustup run stable cargo --version
-            | rustup run stable cargo -vV
-            | rustup run 1.90 cargo --version
-            | rustup run 1.90 cargo check --manifest-path Cargo.toml
-            | err
-            | info: running `rustup run 1.90 cargo check` on p (1/1)
-            | status 0
+            + stable is 1.90
 
             > hack check --version-range 1.90..; fails 1 rustup run stable cargo --version
-            | rustup --version
-            | cargo -vV
-            | rustup run stable cargo -vV
-            | cargo metadata --format-version=1 --no-deps
-            | cargo locate-project
+            + asked after rustup
             | rustup run stable cargo --version
             | rustup toolchain add stable --no-self-update
-            | rustup run stable cargo -vV
-            | rustup run 1.90 cargo --version
-            | rustup run 1.90 cargo check --manifest-path Cargo.toml
-            | err
-            | info: running `rustup run 1.90 cargo check` on p (1/1)
-            | status 0
+            + stable is 1.90
 
             > hack check --version-range 1.90..; fails 1 rustup run stable cargo --version; fails 1 rustup toolchain add stable --no-self-update
-            | rustup --version
-            | cargo -vV
-            | rustup run stable cargo -vV
-            | cargo metadata --format-version=1 --no-deps
-            | cargo locate-project
+            + asked after rustup
             | rustup run stable cargo --version
             | rustup toolchain add stable --no-self-update
             | err
@@ -324,11 +229,7 @@ fn toolchains(rt: HostRuntime) -> Result<(), Wrong> {
             | status 1
 
             > hack check --rust-version; own "1.89"
-            | rustup --version
-            | cargo -vV
-            | rustup run stable cargo -vV
-            | cargo metadata --format-version=1 --no-deps
-            | cargo locate-project
+            + asked after rustup
             | rustup run 1.89 cargo --version
             | rustup run 1.89 cargo check --manifest-path Cargo.toml
             | err
@@ -336,11 +237,7 @@ fn toolchains(rt: HostRuntime) -> Result<(), Wrong> {
             | status 0
 
             > hack check --rust-version --clean-per-version; own "1.89"
-            | rustup --version
-            | cargo -vV
-            | rustup run stable cargo -vV
-            | cargo metadata --format-version=1 --no-deps
-            | cargo locate-project
+            + asked after rustup
             | rustup run 1.89 cargo --version
             | cargo clean
             | rustup run 1.89 cargo check --manifest-path Cargo.toml

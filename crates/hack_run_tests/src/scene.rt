@@ -3,12 +3,14 @@
 use crate::world::{caller_of, coloring_of, env_of, files_of, number};
 use hack_files::fs::{FailingFiles, FailingWriter, MemoryFiles};
 use hack_files::restore::Manager;
+use hack_holds::Wrong;
 use hack_load::context::{Answers, Context};
 use hack_process::process::FakeCaller;
+use hack_run::host::Host;
 use hack_term::term::Term;
 use hack_versions::rustup::Rustup;
 use hack_words::cli::{Args, CliFault, Env, Parsed};
-use std::alloc::{AllocError, AllocFailed, Global};
+use std::alloc::{AllocError, Global};
 
 /// What a call is made with, and the state that it leaves.
 #[derive(Drop)]
@@ -22,6 +24,27 @@ pub struct Scene {
     pub caller: FakeCaller,
     pub out: FailingWriter<Vec<u8>>,
     pub err: Vec<u8>,
+}
+
+/// A host with what a scene has for it.
+pub type SceneHost<'a> = Host<'a, FakeCaller, FailingWriter<Vec<u8>>, Vec<u8>>;
+
+impl Scene {
+    /// The arguments, the files, and the host of a call.
+    pub fn parts(
+        &mut self,
+        alloc: Global,
+    ) -> (&[String], &mut FailingFiles<MemoryFiles>, SceneHost<'_>) {
+        let host = Host::new(
+            alloc,
+            &self.env,
+            &mut self.term,
+            &mut self.caller,
+            &mut self.out,
+            &mut self.err,
+        );
+        (self.words.as_slice(), &mut self.files, host)
+    }
 }
 
 pub fn words_of(alloc: Global, text: &str) -> Result<Vec<String>, AllocError> {
@@ -50,37 +73,20 @@ pub fn scene_of(alloc: Global, world: &str, words: &str) -> Result<Scene, AllocE
     })
 }
 
-/// Why a question has no answer.
-#[derive(Clone, Copy)]
-pub enum Off {
-    Memory,
-    Words,
-    Context,
-    Plan,
-}
-
-impl From<AllocError> for Off {
-    fn from(_e: AllocError) -> Off {
-        Off::Memory
-    }
-}
-
-impl<T: Drop> From<AllocFailed<T>> for Off {
-    fn from(_e: AllocFailed<T>) -> Off {
-        Off::Memory
-    }
-}
-
 /// The answer, or why there is none, as text.
-pub fn told(alloc: Global, answer: Result<String, Off>) -> Result<String, AllocError> {
-    let why = match answer {
-        Ok(text) => return Ok(text),
-        Err(Off::Memory) => return Err(AllocError),
-        Err(Off::Words) => "no arguments",
-        Err(Off::Context) => "no context",
-        Err(Off::Plan) => "no plan",
-    };
-    String::from_str(alloc, why)
+pub fn told(answer: Result<String, Wrong>) -> Result<String, AllocError> {
+    match answer {
+        Ok(text) | Err(Wrong::Row(text)) => Ok(text),
+        Err(Wrong::Memory) => Err(AllocError),
+    }
+}
+
+/// The error of a question that has no answer, and says why.
+pub fn unanswered(alloc: Global, why: &str) -> Wrong {
+    match String::from_str(alloc, why) {
+        Ok(why) => Wrong::Row(why),
+        Err(_) => Wrong::Memory,
+    }
 }
 
 fn parsed(alloc: Global, words: &[String], env: &Env) -> Result<Parsed, CliFault> {
@@ -88,15 +94,15 @@ fn parsed(alloc: Global, words: &[String], env: &Env) -> Result<Parsed, CliFault
     Ok(answer.0)
 }
 
-fn args_of(alloc: Global, words: &[String], env: &Env) -> Result<Args, Off> {
+fn args_of(alloc: Global, words: &[String], env: &Env) -> Result<Args, Wrong> {
     match parsed(alloc, words, env) {
         Ok(Parsed::Args(args)) => Ok(args),
-        _ => Err(Off::Words),
+        _ => Err(unanswered(alloc, "no arguments")),
     }
 }
 
 /// The context for the arguments, for which the caller and the files are asked.
-pub fn context_of(alloc: Global, scene: &mut Scene) -> Result<Context, Off> {
+pub fn context_of(alloc: Global, scene: &mut Scene) -> Result<Context, Wrong> {
     let args = args_of(alloc, scene.words.as_slice(), &scene.env)?;
     let mut manager = Manager::new(alloc, true);
     let answers = Answers::ask(
@@ -110,6 +116,6 @@ pub fn context_of(alloc: Global, scene: &mut Scene) -> Result<Context, Off> {
     let _ = manager.restore_all(&mut scene.files, &mut scene.term, &mut scene.err);
     match Context::new(alloc, args, answers) {
         Ok((context, _)) => Ok(context),
-        Err(_) => Err(Off::Context),
+        Err(_) => Err(unanswered(alloc, "no context")),
     }
 }

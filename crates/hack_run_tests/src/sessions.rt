@@ -3,7 +3,7 @@
 //! failed, the calls, both streams, and how many steps were cut short because memory ran out.
 
 use crate::asked::on;
-use crate::scene::{Off, Scene, context_of, scene_of};
+use crate::scene::{Scene, context_of, scene_of, unanswered};
 use crate::shown::push_sections;
 use crate::worlds::PLAIN;
 use hack_holds::Wrong;
@@ -23,25 +23,25 @@ const STABLE: Version = Version {
 };
 
 /// The plan of a context.
-pub fn planned(alloc: Global, cx: &Context) -> Result<Plan, Off> {
+pub fn planned(alloc: Global, cx: &Context) -> Result<Plan, Wrong> {
     match plan_of(alloc, cx, "rustup", Ok(Some(STABLE))) {
         Ok((plan, _)) => Ok(plan),
-        Err(_) => Err(Off::Plan),
+        Err(_) => Err(unanswered(alloc, "no plan")),
     }
 }
 
 /// Drives the plan of a context.
-pub fn driven<R: Teller>(alloc: Global, cx: &Context, runner: &mut R) -> Result<Session, Off> {
+pub fn driven<R: Teller>(alloc: Global, cx: &Context, runner: &mut R) -> Result<Session, Wrong> {
     let plan = planned(alloc, cx)?;
     let args = cx.args();
     Ok(drive_plan(alloc, plan, args.partition, args.keep_going, runner)?)
 }
 
 /// Drives a context, and prints its notices.
-fn driven_whole<R: Teller>(alloc: Global, cx: &Context, runner: &mut R) -> Result<Session, Off> {
+fn driven_whole<R: Teller>(alloc: Global, cx: &Context, runner: &mut R) -> Result<Session, Wrong> {
     match drive_context(alloc, cx, "rustup", Ok(Some(STABLE)), runner) {
         Ok(session) => Ok(session),
-        Err(_) => Err(Off::Plan),
+        Err(_) => Err(unanswered(alloc, "no plan")),
     }
 }
 
@@ -53,7 +53,12 @@ struct Left {
     refused: u64,
 }
 
-fn performed(alloc: Global, cx: &Context, scene: &mut Scene, is_whole: bool) -> Result<Left, Off> {
+fn performed(
+    alloc: Global,
+    cx: &Context,
+    scene: &mut Scene,
+    is_whole: bool,
+) -> Result<Left, Wrong> {
     let mut fault = None;
     let mut starter = Starter::new(
         alloc,
@@ -108,7 +113,7 @@ fn left_text(alloc: Global, scene: &Scene, left: &Left) -> Result<String, AllocE
     format!(in alloc; "{text}refused {refused}")
 }
 
-pub fn session(alloc: Global, world: &str, words: &str, is_whole: bool) -> Result<String, Off> {
+pub fn session(alloc: Global, world: &str, words: &str, is_whole: bool) -> Result<String, Wrong> {
     let mut scene = scene_of(alloc, world, words)?;
     let cx = context_of(alloc, &mut scene)?;
     let left = performed(alloc, &cx, &mut scene, is_whole)?;
@@ -116,47 +121,22 @@ pub fn session(alloc: Global, world: &str, words: &str, is_whole: bool) -> Resul
 }
 
 #[test]
-fn pieces(rt: HostRuntime) -> Result<(), Wrong> {
+fn pieces_of_a_session(rt: HostRuntime) -> Result<(), Wrong> {
     on(
         rt.alloc(),
         PLAIN,
         r#"
             > session: hack check --each-feature --partition 2/3; features a d
-            | asked
-            | cargo check --manifest-path Cargo.toml --no-default-features --features a
-            | cargo check --manifest-path Cargo.toml --no-default-features --features d
-            | err
-            | info: skipping `cargo check --all-features` on p (1/4)
-            |
-            | info: skipping `cargo check --no-default-features` on p (2/4)
-            |
-            | info: running `cargo check --no-default-features --features a` on p (3/4)
-            |
-            | info: running `cargo check --no-default-features --features d` on p (4/4)
+            + second piece by blocks
             | refused 0
 
             > session: hack check --each-feature --partition 2/3 --partition-kind turn; features a d
-            | asked
-            | cargo check --manifest-path Cargo.toml --no-default-features
-            | err
-            | info: skipping `cargo check --all-features` on p (1/4)
-            |
-            | info: running `cargo check --no-default-features` on p (2/4)
-            |
-            | info: skipping `cargo check --no-default-features --features a` on p (3/4)
-            |
-            | info: skipping `cargo check --no-default-features --features d` on p (4/4)
+            + second piece by turns
             | refused 0
 
             > session: hack check --version-range 1.60..=1.61 --partition 2/2
             | asked
-            | rustup run 1.60 cargo --version
-            | rustup run 1.61 cargo --version
-            | rustup run 1.61 cargo check --manifest-path Cargo.toml
-            | err
-            | info: skipping `rustup run 1.60 cargo check` on p (1/2)
-            |
-            | info: running `rustup run 1.61 cargo check` on p (2/2)
+            + second of two versions
             | refused 0
         "#,
     )
@@ -170,32 +150,12 @@ fn failures(rt: HostRuntime) -> Result<(), Wrong> {
         r#"
             > session: hack check --each-feature --exclude-no-default-features; features a b; fails 101 cargo check --manifest-path Cargo.toml --no-default-features --features a
             | fault process didn't exit successfully: `cargo check --manifest-path Cargo.toml --no-default-features --features a` (exit status: 101)
-            | asked
-            | cargo check --manifest-path Cargo.toml --all-features
-            | cargo check --manifest-path Cargo.toml --no-default-features --features a
-            | err
-            | info: running `cargo check --all-features` on p (1/3)
-            |
-            | info: running `cargo check --no-default-features --features a` on p (2/3)
+            + two runs up to a
             | refused 0
 
             > session: hack check --each-feature --exclude-no-default-features --keep-going; features a b; fails 101 cargo check --manifest-path Cargo.toml --no-default-features --features a
-            | failed to run 1 commands
-            |
-            | failed commands:
-            |     p:
-            |         `cargo check --manifest-path Cargo.toml --no-default-features --features a`
-            | asked
-            | cargo check --manifest-path Cargo.toml --all-features
-            | cargo check --manifest-path Cargo.toml --no-default-features --features a
-            | cargo check --manifest-path Cargo.toml --no-default-features --features b
-            | err
-            | info: running `cargo check --all-features` on p (1/3)
-            |
-            | info: running `cargo check --no-default-features --features a` on p (2/3)
-            | error: process didn't exit successfully: `cargo check --manifest-path Cargo.toml --no-default-features --features a` (exit status: 101)
-            |
-            | info: running `cargo check --no-default-features --features b` on p (3/3)
+            + report of a
+            + three runs, of which a fails
             | refused 0
 
             > session: hack check --version-range 1.60..=1.61 --keep-going; fails 101 rustup run 1.60 cargo --version; fails 101 rustup toolchain add 1.60 --no-self-update
@@ -240,30 +200,12 @@ fn contexts(rt: HostRuntime) -> Result<(), Wrong> {
         PLAIN,
         r#"
             > context: hack check --workspace --exclude y
-            | asked
-            | cargo check --manifest-path Cargo.toml
-            | err
-            | warning: excluded package(s) `y` not found in workspace `/w`
-            | info: running `cargo check` on p (1/1)
+            + y isn't a member
             | refused 0
 
             > context: hack check --each-feature --exclude-no-default-features --keep-going; features a b; fails 101 cargo check --manifest-path Cargo.toml --no-default-features --features a
-            | failed to run 1 commands
-            |
-            | failed commands:
-            |     p:
-            |         `cargo check --manifest-path Cargo.toml --no-default-features --features a`
-            | asked
-            | cargo check --manifest-path Cargo.toml --all-features
-            | cargo check --manifest-path Cargo.toml --no-default-features --features a
-            | cargo check --manifest-path Cargo.toml --no-default-features --features b
-            | err
-            | info: running `cargo check --all-features` on p (1/3)
-            |
-            | info: running `cargo check --no-default-features --features a` on p (2/3)
-            | error: process didn't exit successfully: `cargo check --manifest-path Cargo.toml --no-default-features --features a` (exit status: 101)
-            |
-            | info: running `cargo check --no-default-features --features b` on p (3/3)
+            + report of a
+            + three runs, of which a fails
             | refused 0
 
             > context: hack check --package x

@@ -2,7 +2,7 @@
 //! each, with its outcome. `failing step N` says which one fails, from 1.
 
 use crate::asked::on;
-use crate::scene::{Off, context_of, scene_of};
+use crate::scene::{context_of, scene_of};
 use crate::sessions::planned;
 use crate::world::number;
 use crate::worlds::PLAIN;
@@ -40,7 +40,7 @@ fn push_handed(text: &mut String, alloc: Global, handed: History<'_>) -> Result<
     Ok(())
 }
 
-pub fn steps(alloc: Global, world: &str, words: &str) -> Result<String, Off> {
+pub fn steps(alloc: Global, world: &str, words: &str) -> Result<String, Wrong> {
     let mut scene = scene_of(alloc, world, words)?;
     let cx = context_of(alloc, &mut scene)?;
     let plan = planned(alloc, &cx)?;

@@ -21,24 +21,10 @@ fn printed_or_refused(rt: HostRuntime) -> Result<(), Wrong> {
             | status 0
 
             > hack
-            | err
-            | error: no subcommand or valid flag specified
-            |
-            | USAGE:
-            |     cargo hack [OPTIONS] [SUBCOMMAND]
-            |
-            | For more information try --help
-            | status 1
+            + no subcommand
 
             > hack --each-feature
-            | err
-            | error: no subcommand or valid flag specified
-            |
-            | USAGE:
-            |     cargo hack [OPTIONS] [SUBCOMMAND]
-            |
-            | For more information try --help
-            | status 1
+            + no subcommand
 
             > hack check --depth 1
             | err
@@ -83,52 +69,28 @@ fn rustup(rt: HostRuntime) -> Result<(), Wrong> {
             | status 0
 
             > hack check --version-range 1.60..=1.60; fails 1 rustup --version
-            | rustup --version
-            | cargo -vV
-            | rustup run stable cargo -vV
-            | cargo metadata --format-version=1 --no-deps
-            | cargo locate-project
-            | rustup run 1.60 cargo --version
-            | rustup run 1.60 cargo check --manifest-path Cargo.toml
+            + checked by 1.60
             | err
             | warning: unable to determine rustup version; assuming latest stable rustup: process didn't exit successfully: `rustup --version` (exit status: 1)
             | info: running `rustup run 1.60 cargo check` on p (1/1)
             | status 0
 
             > hack check --version-range 1.60..=1.60; says rustup --version = rustup 2.0.0
-            | rustup --version
-            | cargo -vV
-            | rustup run stable cargo -vV
-            | cargo metadata --format-version=1 --no-deps
-            | cargo locate-project
-            | rustup run 1.60 cargo --version
-            | rustup run 1.60 cargo check --manifest-path Cargo.toml
+            + checked by 1.60
             | err
             | warning: unable to determine rustup version; assuming latest stable rustup: unexpected output from `rustup --version`: rustup 2.0.0
             | info: running `rustup run 1.60 cargo check` on p (1/1)
             | status 0
 
             > hack check --version-range 1.60..1.60
-            | rustup --version
-            | cargo -vV
-            | rustup run stable cargo -vV
-            | cargo metadata --format-version=1 --no-deps
-            | cargo locate-project
-            | rustup run 1.60 cargo --version
-            | rustup run 1.60 cargo check --manifest-path Cargo.toml
+            + checked by 1.60
             | err
             | warning: using `..` for inclusive range is deprecated; consider using `1.60..=1.60`
             | info: running `rustup run 1.60 cargo check` on p (1/1)
             | status 0
 
             > hack check --version-range 1.60..1.60; deny warnings
-            | rustup --version
-            | cargo -vV
-            | rustup run stable cargo -vV
-            | cargo metadata --format-version=1 --no-deps
-            | cargo locate-project
-            | rustup run 1.60 cargo --version
-            | rustup run 1.60 cargo check --manifest-path Cargo.toml
+            + checked by 1.60
             | err
             | warning: using `..` for inclusive range is deprecated; consider using `1.60..=1.60`
             | info: running `rustup run 1.60 cargo check` on p (1/1)

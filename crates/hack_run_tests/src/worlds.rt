@@ -14,14 +14,7 @@ pub const PLAIN: &str = r#"
 pub const ROOT: &str = r#"
     members p /w/Cargo.toml
     file: /w/Cargo.toml
-    | [package]
-    | name = "p"
-    |
-    | [features]
-    | f = ["d/g"]
-    |
-    | [dev-dependencies]
-    | d = "1"
+    + root manifest
     file: /w/Cargo.lock
     | # lock
 "#;
