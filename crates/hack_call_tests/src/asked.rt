@@ -103,18 +103,6 @@ fn shown(
     }
 }
 
-fn shown_plan(
-    alloc: Global,
-    show: Show,
-    given: Given<'_>,
-    cx: &Context,
-) -> Result<String, AllocError> {
-    match planned(alloc, cx, given.stable) {
-        Ok((plan, notices)) => shown(alloc, show, given, &plan, notices.as_slice()),
-        Err(fault) => format!(in alloc; "{fault}"),
-    }
-}
-
 fn answered(
     alloc: Global,
     show: Show,
@@ -122,10 +110,14 @@ fn answered(
     cx: &Context,
 ) -> Result<String, AllocError> {
     match show {
-        Show::Packages => package_names(alloc, cx),
-        Show::EachOfSeveral => package_runs(alloc, cx, false),
-        Show::EachAlone => package_runs(alloc, cx, true),
-        _ => shown_plan(alloc, show, given, cx),
+        Show::Packages => return package_names(alloc, cx),
+        Show::EachOfSeveral => return package_runs(alloc, cx, false),
+        Show::EachAlone => return package_runs(alloc, cx, true),
+        _ => {}
+    }
+    match planned(alloc, cx, given.stable) {
+        Ok((plan, notices)) => shown(alloc, show, given, &plan, notices.as_slice()),
+        Err(fault) => format!(in alloc; "{fault}"),
     }
 }
 
@@ -134,7 +126,7 @@ impl Ask for Asked<'_> {
         let given = given_of(self.members, question);
         match context_of(alloc, given) {
             Ok(cx) => answered(alloc, self.show, given, &cx),
-            Err(why) => reason(alloc, why),
+            Err(why) => reason(why),
         }
     }
 }

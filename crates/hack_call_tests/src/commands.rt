@@ -56,8 +56,7 @@ fn what_a_context_gives_a_command(rt: HostRuntime) -> Result<(), Wrong> {
         rt.alloc(),
         Show::Commands,
         r#"
-            cargo -vV = @own
-            cargo metadata --format-version=1 --no-deps = @rooted
+            + rooted
             cargo locate-project = {"root":"/w/Cargo.toml"}
             /w/Cargo.toml = [package]\n[features]\na = []\n
             /w/q/Cargo.toml = [package]\n

@@ -9,25 +9,18 @@ fn workspaces(rt: HostRuntime) -> Result<(), Wrong> {
         rt.alloc(),
         Show::Context,
         r#"
-            cargo -vV = @own
-            cargo metadata --format-version=1 --no-deps = @rooted
+            + rooted
         "#,
         r#"
             > cargo locate-project = {"root":"/w/Cargo.toml"} & /w/Cargo.toml = [package]\n[features]\na = []\n & /w/q/Cargo.toml = [package]\n $ check
-            | cargo -vV
-            | rustup run stable cargo -vV
-            | cargo metadata --format-version=1 --no-deps
-            | cargo locate-project
+            + asked
             | 0 of 0
             | /w by `cargo` 1.70 (1.70) in /w
             | at p
             | p at /w/Cargo.toml, private: false, 1.60, 28: a
             | q at /w/q/Cargo.toml, private: true, none, 10:
             > cargo locate-project = {"root":"/w/q/Cargo.toml"} & /w/Cargo.toml = [package]\n & /w/q/Cargo.toml = [package]\n[features]\na = []\n $ check
-            | cargo -vV
-            | rustup run stable cargo -vV
-            | cargo metadata --format-version=1 --no-deps
-            | cargo locate-project
+            + asked
             | 0 of 0
             | /w by `cargo` 1.70 (1.70) in /w
             | at q
@@ -39,18 +32,14 @@ fn workspaces(rt: HostRuntime) -> Result<(), Wrong> {
         rt.alloc(),
         Show::Context,
         r#"
-            cargo -vV = @own
-            cargo metadata --format-version=1 --no-deps = @virtual
+            + virtual
             cargo locate-project = {"root":"/w/Cargo.toml"}
             /w/a/Cargo.toml = [package]\n
             /w/b/Cargo.toml = [package]\n
         "#,
         "
             > check
-            | cargo -vV
-            | rustup run stable cargo -vV
-            | cargo metadata --format-version=1 --no-deps
-            | cargo locate-project
+            + asked
             | 0 of 0
             | /w by `cargo` 1.70 (1.70) in /w
             | at none
@@ -66,8 +55,7 @@ fn words_and_a_newer_stable(rt: HostRuntime) -> Result<(), Wrong> {
         rt.alloc(),
         Show::Context,
         r#"
-            cargo -vV = @own
-            cargo metadata --format-version=1 --no-deps = @single
+            + single
             cargo metadata --format-version=1 --manifest-path m --no-deps = @single
             rustup run stable cargo metadata --format-version=1 --no-deps = @single
             cargo locate-project = {"root":"/w/Cargo.toml"}
@@ -87,15 +75,10 @@ fn words_and_a_newer_stable(rt: HostRuntime) -> Result<(), Wrong> {
 
             # Stable's cargo reports the metadata where it is newer, and the lockfile stays.
             > rustup run stable cargo -vV = release: 1.80.0\n & /w/Cargo.lock = locked $ check
-            | cargo -vV
-            | rustup run stable cargo -vV
-            | cargo metadata --format-version=1 --no-deps
-            | rustup run stable cargo metadata --format-version=1 --no-deps
+            + stable's metadata asked
             | cargo locate-project
             | 0 of 0, lockfile 'locked'
-            | /w by `cargo` 1.70 (1.80) in /w
-            | at p
-            | p at /w/Cargo.toml, private: false, 1.60, 10:
+            + p by stable 1.80
         "#,
     )
 }
@@ -113,42 +96,30 @@ fn minor_versions_of_cargo(rt: HostRuntime) -> Result<(), Wrong> {
         "#,
         "
             > cargo -vV = release: 1.29.0 $ check
-            | at p
-            | p at /w/Cargo.toml, private: true, 1.50, 48:
+            + as the manifest says
             > cargo -vV = release: 1.30.0 $ check
-            | at p
-            | p at /w/Cargo.toml, private: true, 1.50, 48:
+            + as the manifest says
             > cargo -vV = release: 1.38.0 $ check
-            | at p
-            | p at /w/Cargo.toml, private: true, 1.50, 48:
+            + as the manifest says
             > cargo -vV = release: 1.39.0 $ check
-            | at p
-            | p at /w/Cargo.toml, private: false, 1.50, 48:
+            + public as reported
             > cargo -vV = release: 1.40.0 $ check
-            | at p
-            | p at /w/Cargo.toml, private: false, 1.50, 48:
+            + public as reported
             > cargo -vV = release: 1.41.0 $ check
-            | at p
-            | p at /w/Cargo.toml, private: false, 1.50, 48:
+            + public as reported
             > cargo -vV = release: 1.57.0-nightly $ check
-            | at p
-            | p at /w/Cargo.toml, private: false, 1.50, 48:
+            + public as reported
             > cargo -vV = release: 1.58.0 $ check
-            | at p
-            | p at /w/Cargo.toml, private: false, 1.60, 48:
+            + public and 1.60 as reported
             > cargo -vV = release: 1.63.0 $ check
-            | at p
-            | p at /w/Cargo.toml, private: false, 1.60, 48:
+            + public and 1.60 as reported
             > cargo -vV = release: 1.64.0 $ check
-            | at p
-            | p at /w/Cargo.toml, private: false, 1.60, 48:
+            + public and 1.60 as reported
             > cargo -vV = 1.64.0 $ check
-            | at p
-            | p at /w/Cargo.toml, private: true, 1.50, 48:
+            + as the manifest says
             | warning: unable to determine cargo version: unexpected output from `cargo -vV`: 1.64.0
             > cargo -vV = release: 1.x $ check
-            | at p
-            | p at /w/Cargo.toml, private: true, 1.50, 48:
+            + as the manifest says
             | warning: unable to determine cargo version: invalid number `x`
         ",
     )

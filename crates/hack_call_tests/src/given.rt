@@ -1,45 +1,26 @@
 //! Calls from short texts: the arguments after `hack`, and a context in a workspace.
 
 use crate::workspace::{manifest_text, metadata_text};
+use hack_holds::Wrong;
 use hack_load::context::{Answers, Context, Loaded, Located};
 use hack_manifest::manifest::Manifest;
 use hack_metadata::metadata::{Metadata, MetadataFault, object_of};
 use hack_versions::rustup::Rustup;
 use hack_words::cli::{Args, CliFault, Env, Parsed};
-use std::alloc::{AllocError, AllocFailed, Global};
+use std::alloc::{AllocError, Global};
 
-/// Why a row makes no call.
-#[derive(Drop)]
-pub enum Off {
-    Memory,
-    Words,
-    Metadata,
-    Manifest,
-    Context,
-}
+const NO_MANIFESTS: &str = "no manifests, or a member twice";
 
-impl From<AllocError> for Off {
-    fn from(_e: AllocError) -> Off {
-        Off::Memory
+/// The answer to a row that makes no call: why it makes none.
+pub fn reason(wrong: Wrong) -> Result<String, AllocError> {
+    match wrong {
+        Wrong::Row(why) => Ok(why),
+        Wrong::Memory => Err(AllocError),
     }
 }
 
-impl<T: Drop> From<AllocFailed<T>> for Off {
-    fn from(_e: AllocFailed<T>) -> Off {
-        Off::Memory
-    }
-}
-
-/// The answer to a row that makes no call.
-pub fn reason(alloc: Global, off: Off) -> Result<String, AllocError> {
-    let text = match off {
-        Off::Memory => return Err(AllocError),
-        Off::Words => "no arguments",
-        Off::Metadata => "no metadata",
-        Off::Manifest => "no manifests, or a member twice",
-        Off::Context => "no context",
-    };
-    String::from_str(alloc, text)
+fn no_call(alloc: Global, why: &str) -> Wrong {
+    String::from_str(alloc, why).map_or(Wrong::Memory, Wrong::Row)
 }
 
 /// The environment of a call in `/w` with these variables.
@@ -48,7 +29,7 @@ pub fn env_of(alloc: Global, variables: &[(String, String)]) -> Result<Env, Allo
 }
 
 /// `hack` and the arguments after it.
-fn words_of(alloc: Global, text: &str) -> Result<Vec<String>, Off> {
+fn words_of(alloc: Global, text: &str) -> Result<Vec<String>, Wrong> {
     let mut words = Vec::new(alloc);
     words.push(String::from_str(alloc, "hack")?)?;
     for word in text.split_whitespace() {
@@ -63,11 +44,11 @@ fn parsed(alloc: Global, words: &[String], env: &Env) -> Result<Parsed, CliFault
 }
 
 /// The parsed arguments after `hack`.
-pub fn args_of(alloc: Global, env: &Env, text: &str) -> Result<Args, Off> {
+pub fn args_of(alloc: Global, env: &Env, text: &str) -> Result<Args, Wrong> {
     let words = words_of(alloc, text)?;
     match parsed(alloc, words.as_slice(), env) {
         Ok(Parsed::Args(args)) => Ok(args),
-        _ => Err(Off::Words),
+        _ => Err(no_call(alloc, "no arguments")),
     }
 }
 
@@ -77,13 +58,16 @@ pub fn read(alloc: Global, text: &str, minor: u32) -> Result<Metadata, MetadataF
 }
 
 /// The manifest of a member, read as with cargo 1.90.
-pub fn manifest_of(alloc: Global, member: &str) -> Result<Manifest, Off> {
+pub fn manifest_of(alloc: Global, member: &str) -> Result<Manifest, Wrong> {
     let text = manifest_text(alloc, member)?;
-    Manifest::new(alloc, "/w/p/Cargo.toml", text, 90).map_err(|_| Off::Manifest)
+    match Manifest::new(alloc, "/w/p/Cargo.toml", text, 90) {
+        Ok(manifest) => Ok(manifest),
+        Err(_) => Err(no_call(alloc, NO_MANIFESTS)),
+    }
 }
 
 /// The manifest of each member.
-fn manifests_of(alloc: Global, members: &str) -> Result<Vec<Manifest>, Off> {
+fn manifests_of(alloc: Global, members: &str) -> Result<Vec<Manifest>, Wrong> {
     let mut manifests = Vec::new(alloc);
     for member in members.split(';') {
         manifests.push(manifest_of(alloc, member)?)?;
@@ -97,23 +81,22 @@ pub fn located(alloc: Global, text: String) -> Result<Located, AllocError> {
     Ok(Located { command, text })
 }
 
-fn loaded(alloc: Global, members: &str, current: &str) -> Result<Loaded, Off> {
-    let cargo = String::from_str(alloc, "/bin/cargo")?;
-    let current_dir = String::from_str(alloc, "/w")?;
+fn loaded(alloc: Global, members: &str, current: &str) -> Result<Loaded, Wrong> {
     let root = format!(in alloc; "{{\"root\":\"/w/{current}/Cargo.toml\"}}")?;
-    let located = located(alloc, root)?;
     let text = metadata_text(alloc, members, "", "null")?;
-    let metadata = read(alloc, text.as_str(), 90).map_err(|_| Off::Metadata)?;
+    let Ok(metadata) = read(alloc, text.as_str(), 90) else {
+        return Err(no_call(alloc, "no metadata"));
+    };
     let manifests = manifests_of(alloc, members)?;
     if manifests.len() != metadata.workspace_members.len() {
-        return Err(Off::Manifest);
+        return Err(no_call(alloc, NO_MANIFESTS));
     }
     Ok(Loaded {
-        cargo,
-        current_dir,
+        cargo: String::from_str(alloc, "/bin/cargo")?,
+        current_dir: String::from_str(alloc, "/w")?,
         metadata,
         manifests,
-        located,
+        located: located(alloc, root)?,
     })
 }
 
@@ -141,7 +124,7 @@ pub struct Given<'a> {
 }
 
 /// The context of a call.
-pub fn context_of(alloc: Global, given: Given<'_>) -> Result<Context, Off> {
+pub fn context_of(alloc: Global, given: Given<'_>) -> Result<Context, Wrong> {
     let env = env_of(alloc, &[])?;
     let args = args_of(alloc, &env, given.words)?;
     let loaded = loaded(alloc, given.members, given.current)?;
@@ -152,6 +135,6 @@ pub fn context_of(alloc: Global, given: Given<'_>) -> Result<Context, Off> {
     };
     match Context::new(alloc, args, answers) {
         Ok((context, _)) => Ok(context),
-        Err(_) => Err(Off::Context),
+        Err(_) => Err(no_call(alloc, "no context")),
     }
 }

@@ -42,6 +42,8 @@ mod plans;
 #[cfg(test)]
 mod records;
 #[cfg(test)]
+mod shared;
+#[cfg(test)]
 mod shown;
 #[cfg(test)]
 mod specs;

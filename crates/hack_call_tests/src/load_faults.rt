@@ -12,21 +12,15 @@ fn faults_that_end_the_questions(rt: HostRuntime) -> Result<(), Wrong> {
         r"
             # Cargo fails to report the metadata, or reports none.
             > check
-            | cargo -vV
-            | rustup run stable cargo -vV
-            | cargo metadata --format-version=1 --no-deps
+            + metadata asked
             | 0 of 0
             | process didn't exit successfully: `cargo metadata --format-version=1 --no-deps` (exit status: 101)
             > cargo metadata --format-version=1 --no-deps = [] $ check
-            | cargo -vV
-            | rustup run stable cargo -vV
-            | cargo metadata --format-version=1 --no-deps
+            + metadata asked
             | 0 of 0
             | failed to parse output from `cargo metadata --format-version=1 --no-deps`
             > cargo metadata --format-version=1 --no-deps = {} $ check
-            | cargo -vV
-            | rustup run stable cargo -vV
-            | cargo metadata --format-version=1 --no-deps
+            + metadata asked
             | 0 of 0
             | failed to parse `packages` field from metadata
 
@@ -39,30 +33,21 @@ fn faults_that_end_the_questions(rt: HostRuntime) -> Result<(), Wrong> {
 
             # A manifest that is missing, or ill formed.
             > cargo metadata --format-version=1 --no-deps = @virtual & /w/a/Cargo.toml = [package]\n $ check
-            | cargo -vV
-            | rustup run stable cargo -vV
-            | cargo metadata --format-version=1 --no-deps
+            + metadata asked
             | 0 of 1
             | failed to read from file `/w/b/Cargo.toml`
             > cargo metadata --format-version=1 --no-deps = @single & /w/Cargo.toml = package $ check
-            | cargo -vV
-            | rustup run stable cargo -vV
-            | cargo metadata --format-version=1 --no-deps
+            + metadata asked
             | 0 of 0
             | failed to parse manifest `/w/Cargo.toml` as toml
             > cargo metadata --format-version=1 --no-deps = @single & /w/Cargo.toml = [package]\n[features]\na = 1\n $ check
-            | cargo -vV
-            | rustup run stable cargo -vV
-            | cargo metadata --format-version=1 --no-deps
+            + metadata asked
             | 0 of 0
             | failed to parse `features` field from manifest `/w/Cargo.toml`
 
             # Cargo fails to locate the current package.
             > cargo metadata --format-version=1 --no-deps = @single & /w/Cargo.toml = [package]\n $ check
-            | cargo -vV
-            | rustup run stable cargo -vV
-            | cargo metadata --format-version=1 --no-deps
-            | cargo locate-project
+            + asked
             | 0 of 0
             | process didn't exit successfully: `cargo locate-project` (exit status: 101)
         ",
@@ -80,26 +65,17 @@ fn answers_that_make_no_context(rt: HostRuntime) -> Result<(), Wrong> {
         "#,
         r"
             > cargo -vV = release: 1.40.0\nhost: h & cargo metadata --format-version=1 --filter-platform h = @node $ check --each-feature --include-deps-features
-            | cargo -vV
-            | rustup run stable cargo -vV
-            | cargo metadata --format-version=1 --filter-platform h
-            | cargo locate-project
+            + host h asked
             | 0 of 0
             | --include-deps-features requires Cargo 1.41 or later
             > cargo -vV = release: 1.41.0\nhost: h & cargo metadata --format-version=1 --filter-platform h = @node $ check --each-feature --include-deps-features
-            | cargo -vV
-            | rustup run stable cargo -vV
-            | cargo metadata --format-version=1 --filter-platform h
-            | cargo locate-project
+            + host h asked
             | 0 of 0
             | /w by `cargo` 1.41 (1.41) in /w
             | at p
             | p at /w/Cargo.toml, private: false, none, 10:
             > cargo -vV = release: 1.41.0\nhost: h & cargo metadata --format-version=1 --filter-platform h = @single $ check --each-feature --include-deps-features
-            | cargo -vV
-            | rustup run stable cargo -vV
-            | cargo metadata --format-version=1 --filter-platform h
-            | cargo locate-project
+            + host h asked
             | 0 of 0
             | failed to parse `nodes` field from metadata
         ",
@@ -118,17 +94,11 @@ fn answers_that_tell_no_place(rt: HostRuntime) -> Result<(), Wrong> {
         ",
         "
             > cargo -vV = @own & cargo locate-project = {} $ check
-            | cargo -vV
-            | rustup run stable cargo -vV
-            | cargo metadata --format-version=1 --no-deps
-            | cargo locate-project
+            + asked
             | 0 of 0
             | failed to parse `root` field from locate-project
             > cargo -vV = @own & cargo locate-project = /w/Cargo.toml $ check
-            | cargo -vV
-            | rustup run stable cargo -vV
-            | cargo metadata --format-version=1 --no-deps
-            | cargo locate-project
+            + asked
             | 0 of 0
             | failed to parse output from `cargo locate-project`
 

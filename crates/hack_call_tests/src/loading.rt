@@ -8,6 +8,7 @@ ghost use Rattle.hack_load.specs.ContextView.{context_view};
 
 use crate::commands::commands;
 use crate::given::{args_of, env_of, reason};
+use crate::shared::with_shared;
 use crate::shown::{name_of, push_notices};
 use crate::workspace::push_all;
 use crate::world::{Stage, stage_of};
@@ -199,7 +200,7 @@ fn outcome(
             Show::Metadata => metadata_outcome(alloc, stage, &env, &args),
             _ => context_outcome(alloc, show, stage, &env, args),
         },
-        Err(why) => reason(alloc, why),
+        Err(why) => reason(why),
     }
 }
 
@@ -266,7 +267,13 @@ impl Ask for Loading<'_> {
     }
 }
 
-/// Checks rows in this environment.
+/// Checks rows in this environment; both may have texts of `shared`.
 pub fn within(alloc: Global, show: Show, world: &str, rows: &str) -> Result<(), Wrong> {
-    hold(alloc, &mut Loading { show, world }, rows)
+    let world = with_shared(alloc, world)?;
+    let rows = with_shared(alloc, rows)?;
+    let mut loading = Loading {
+        show,
+        world: world.as_str(),
+    };
+    hold(alloc, &mut loading, rows.as_str())
 }

@@ -45,11 +45,9 @@ struct Places {}
 
 impl Ask for Places {
     fn answer(&mut self, alloc: Global, question: &str) -> Result<String, AllocError> {
-        let (kind, text) = question.split_once(' ').unwrap_or((question, ""));
-        match kind {
-            "root" => root(alloc, text),
-            "at" => current_at(alloc, text),
-            _ => String::from_str(alloc, "no such question"),
+        match question.strip_prefix("at ") {
+            Some(path) => current_at(alloc, path),
+            None => root(alloc, question.strip_prefix("root ").unwrap_or("")),
         }
     }
 }

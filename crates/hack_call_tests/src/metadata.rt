@@ -10,7 +10,7 @@ fn stable_is_asked_over_a_lockfile_that_stays(rt: HostRuntime) -> Result<(), Wro
         rt.alloc(),
         Show::Metadata,
         r"
-            rustup run stable cargo -vV = release: 1.80.0\n
+            + stable 1.80
             cargo metadata --format-version=1 --no-deps --manifest-path p = @empty
         ",
         "
@@ -54,7 +54,7 @@ fn targets_the_host_and_answers_that_are_none(rt: HostRuntime) -> Result<(), Wro
         rt.alloc(),
         Show::Metadata,
         r"
-            rustup run stable cargo -vV = release: 1.80.0\n
+            + stable 1.80
             cargo metadata --format-version=1 --manifest-path p --filter-platform h = @empty
             /w/Cargo.lock = locked
         ",

@@ -102,7 +102,7 @@ fn push_runs(text: &mut String, alloc: Global, runs: &PackageRuns) -> Result<(),
 }
 
 /// Appends the runs of a member to the text, and the notices.
-fn push_member(
+fn push_runs_of(
     text: &mut String,
     alloc: Global,
     cx: &Context,
@@ -125,7 +125,7 @@ fn push_member(
 pub fn package_runs(alloc: Global, cx: &Context, single: bool) -> Result<String, AllocError> {
     let mut text = String::new(alloc);
     for id in cx.workspace_members() {
-        push_member(&mut text, alloc, cx, *id, single)?;
+        push_runs_of(&mut text, alloc, cx, *id, single)?;
     }
     Ok(text)
 }

@@ -152,38 +152,61 @@ impl Ask for Records {
     }
 }
 
+/// The two packages in answers, by the privacy and the version of the first.
+static BOTH: [(&str, &str); 4] = [
+    (
+        "+ private, 1.60",
+        "| a 1.2.3 at /w/p/Cargo.toml, private, 1.60: alloc; std log?/std alloc; l, rand,\n| b 0.1.0 at /w/q/Cargo.toml, public, none:",
+    ),
+    (
+        "+ public, 1.60",
+        "| a 1.2.3 at /w/p/Cargo.toml, public, 1.60: alloc; std log?/std alloc; l, rand,\n| b 0.1.0 at /w/q/Cargo.toml, public, none:",
+    ),
+    (
+        "+ private, none",
+        "| a 1.2.3 at /w/p/Cargo.toml, private, none: alloc; std log?/std alloc; l, rand,\n| b 0.1.0 at /w/q/Cargo.toml, public, none:",
+    ),
+    (
+        "+ public, none",
+        "| a 1.2.3 at /w/p/Cargo.toml, public, none: alloc; std log?/std alloc; l, rand,\n| b 0.1.0 at /w/q/Cargo.toml, public, none:",
+    ),
+];
+
+/// Checks rows, in which both packages may be given by a line `+ PRIVACY, VERSION`.
+fn on(alloc: Global, rows: &str) -> Result<(), Wrong> {
+    let mut rows = String::from_str(alloc, rows)?;
+    for (name, lines) in &BOTH {
+        rows = rows.as_str().replace(alloc, name, lines)?;
+    }
+    hold(alloc, &mut Records {}, rows.as_str())
+}
+
 #[test]
 fn a_package_as_it_is(rt: HostRuntime) -> Result<(), Wrong> {
-    hold(
+    on(
         rt.alloc(),
-        &mut Records {},
         r#"
             > 90 members ["b","a"]
             | 1.90 in /w: q p
-            | a 1.2.3 at /w/p/Cargo.toml, private, 1.60: alloc; std log?/std alloc; l, rand,
-            | b 0.1.0 at /w/q/Cargo.toml, public, none:
+            + private, 1.60
         "#,
     )
 }
 
 #[test]
 fn members_are_the_last_packages_and_stand_once(rt: HostRuntime) -> Result<(), Wrong> {
-    hold(
+    on(
         rt.alloc(),
-        &mut Records {},
         r#"
             > 90 members ["a"]
             | 1.90 in /w: p
-            | a 1.2.3 at /w/p/Cargo.toml, private, 1.60: alloc; std log?/std alloc; l, rand,
-            | b 0.1.0 at /w/q/Cargo.toml, public, none:
+            + private, 1.60
             > 90 members ["b","a","b","b","a"]
             | 1.90 in /w: q p
-            | a 1.2.3 at /w/p/Cargo.toml, private, 1.60: alloc; std log?/std alloc; l, rand,
-            | b 0.1.0 at /w/q/Cargo.toml, public, none:
+            + private, 1.60
             > 90 members []
             | 1.90 in /w:
-            | a 1.2.3 at /w/p/Cargo.toml, private, 1.60: alloc; std log?/std alloc; l, rand,
-            | b 0.1.0 at /w/q/Cargo.toml, public, none:
+            + private, 1.60
             > 90 same ["a"]
             | 1.90 in /w: q
             | a 1.2.3 at /w/p/Cargo.toml, private, 1.60: alloc; std log?/std alloc; l, rand,
@@ -194,34 +217,27 @@ fn members_are_the_last_packages_and_stand_once(rt: HostRuntime) -> Result<(), W
 
 #[test]
 fn fields_that_came_with_a_later_cargo(rt: HostRuntime) -> Result<(), Wrong> {
-    hold(
+    on(
         rt.alloc(),
-        &mut Records {},
         r#"
             > 38 publish []
             | 1.38 in /w:
-            | a 1.2.3 at /w/p/Cargo.toml, public, none: alloc; std log?/std alloc; l, rand,
-            | b 0.1.0 at /w/q/Cargo.toml, public, none:
+            + public, none
             > 39 publish []
             | 1.39 in /w:
-            | a 1.2.3 at /w/p/Cargo.toml, private, none: alloc; std log?/std alloc; l, rand,
-            | b 0.1.0 at /w/q/Cargo.toml, public, none:
+            + private, none
             > 57 publish []
             | 1.57 in /w:
-            | a 1.2.3 at /w/p/Cargo.toml, private, none: alloc; std log?/std alloc; l, rand,
-            | b 0.1.0 at /w/q/Cargo.toml, public, none:
+            + private, none
             > 58 publish []
             | 1.58 in /w:
-            | a 1.2.3 at /w/p/Cargo.toml, private, 1.60: alloc; std log?/std alloc; l, rand,
-            | b 0.1.0 at /w/q/Cargo.toml, public, none:
+            + private, 1.60
             > 58 publish null
             | 1.58 in /w:
-            | a 1.2.3 at /w/p/Cargo.toml, public, 1.60: alloc; std log?/std alloc; l, rand,
-            | b 0.1.0 at /w/q/Cargo.toml, public, none:
+            + public, 1.60
             > 58 publish ["mine"]
             | 1.58 in /w:
-            | a 1.2.3 at /w/p/Cargo.toml, public, 1.60: alloc; std log?/std alloc; l, rand,
-            | b 0.1.0 at /w/q/Cargo.toml, public, none:
+            + public, 1.60
         "#,
     )
 }
@@ -229,20 +245,17 @@ fn fields_that_came_with_a_later_cargo(rt: HostRuntime) -> Result<(), Wrong> {
 // A cargo 1.29 reports no dependencies of nodes.
 #[test]
 fn a_graph_of_dependencies(rt: HostRuntime) -> Result<(), Wrong> {
-    hold(
+    on(
         rt.alloc(),
-        &mut Records {},
         r#"
             > 90 graph {"nodes":[{"id":"b","deps":[]},{"id":"a","deps":[{"pkg":"b","dep_kinds":[{"kind":null,"target":"cfg(unix)"},{"kind":"dev","target":null}]}]}]}
             | 1.90 in /w:
-            | a 1.2.3 at /w/p/Cargo.toml, private, 1.60: alloc; std log?/std alloc; l, rand,
-            | b 0.1.0 at /w/q/Cargo.toml, public, none:
+            + private, 1.60
             | node: normal cfg(unix); dev all;
             | node:
             > 29 graph {"nodes":[{"id":"b","deps":[]},{"id":"a","deps":[{"pkg":"b","dep_kinds":[{"kind":null,"target":"cfg(unix)"},{"kind":"dev","target":null}]}]}]}
             | 1.29 in /w:
-            | a 1.2.3 at /w/p/Cargo.toml, public, none: alloc; std log?/std alloc; l, rand,
-            | b 0.1.0 at /w/q/Cargo.toml, public, none:
+            + public, none
             | node:
             | node:
         "#,

@@ -10,15 +10,12 @@ fn a_manifest_that_is_no_text(rt: HostRuntime) -> Result<(), Wrong> {
         rt.alloc(),
         Show::Context,
         r"
-            cargo -vV = @own
-            cargo metadata --format-version=1 --no-deps = @single
+            + single
             /w/Cargo.toml = [package]\n# \x\n
         ",
         "
             > check
-            | cargo -vV
-            | rustup run stable cargo -vV
-            | cargo metadata --format-version=1 --no-deps
+            + metadata asked
             | 0 of 0
             | file `/w/Cargo.toml` is not UTF-8 text
         ",
@@ -31,17 +28,11 @@ fn answers_that_are_no_text(rt: HostRuntime) -> Result<(), Wrong> {
         rt.alloc(),
         Show::Context,
         r#"
-            cargo -vV = @own
-            cargo metadata --format-version=1 --no-deps = @single
-            cargo locate-project = {"root":"/w/Cargo.toml"}
-            /w/Cargo.toml = [package]\n
+            + the package alone
         "#,
         r"
             > cargo -vV = release: 1.80.0 \x\n $ check
-            | cargo -vV
-            | rustup run stable cargo -vV
-            | cargo metadata --format-version=1 --no-deps
-            | cargo locate-project
+            + asked
             | 0 of 0
             | /w by `cargo` 1.0 (1.0) in /w
             | at p
@@ -50,25 +41,15 @@ fn answers_that_are_no_text(rt: HostRuntime) -> Result<(), Wrong> {
 
             # That of stable counts as none.
             > rustup run stable cargo -vV = release: 1.80.0 \x\n $ check
-            | cargo -vV
-            | rustup run stable cargo -vV
-            | cargo metadata --format-version=1 --no-deps
-            | cargo locate-project
+            + asked
             | 0 of 0
-            | /w by `cargo` 1.70 (1.70) in /w
-            | at p
-            | p at /w/Cargo.toml, private: false, 1.60, 10:
+            + p in cargo 1.70
             > cargo metadata --format-version=1 --no-deps = release: 1.80.0 \x\n $ check
-            | cargo -vV
-            | rustup run stable cargo -vV
-            | cargo metadata --format-version=1 --no-deps
+            + metadata asked
             | 0 of 0
             | failed to parse output from `cargo metadata --format-version=1 --no-deps`
             > cargo locate-project = release: 1.80.0 \x\n $ check
-            | cargo -vV
-            | rustup run stable cargo -vV
-            | cargo metadata --format-version=1 --no-deps
-            | cargo locate-project
+            + asked
             | 0 of 0
             | failed to parse output from `cargo locate-project`
         ",
@@ -82,10 +63,7 @@ fn programs_without_a_name(rt: HostRuntime) -> Result<(), Wrong> {
         Show::Context,
         r#"
             CARGO = cargo
-            cargo -vV = @own
-            cargo metadata --format-version=1 --no-deps = @single
-            cargo locate-project = {"root":"/w/Cargo.toml"}
-            /w/Cargo.toml = [package]\n
+            + the package alone
         "#,
         "
             > CARGO = $ check
@@ -103,9 +81,7 @@ fn programs_without_a_name(rt: HostRuntime) -> Result<(), Wrong> {
             | cargo metadata --format-version=1 --no-deps
             | cargo locate-project
             | 0 of 0
-            | /w by `cargo` 1.70 (1.70) in /w
-            | at p
-            | p at /w/Cargo.toml, private: false, 1.60, 10:
+            + p in cargo 1.70
         ",
     )
 }
@@ -118,7 +94,7 @@ fn files_that_fail(rt: HostRuntime) -> Result<(), Wrong> {
         Show::Context,
         r#"
             cargo -vV = @own
-            rustup run stable cargo -vV = release: 1.80.0\n
+            + stable 1.80
             cargo metadata --format-version=1 --no-deps = @single
             rustup run stable cargo metadata --format-version=1 --no-deps = @single
             cargo locate-project = {"root":"/w/Cargo.toml"}
@@ -128,43 +104,28 @@ fn files_that_fail(rt: HostRuntime) -> Result<(), Wrong> {
         r"
             # Whether there is a lockfile, and what it holds.
             > failing = 1 $ check
-            | cargo -vV
-            | rustup run stable cargo -vV
-            | cargo metadata --format-version=1 --no-deps
+            + metadata asked
             | 0 of 1, lockfile '\x'
             | failed to read from file `/w/Cargo.lock`
             > failing = 2 $ check
-            | cargo -vV
-            | rustup run stable cargo -vV
-            | cargo metadata --format-version=1 --no-deps
+            + metadata asked
             | 0 of 1, lockfile '\x'
             | failed to read from file `/w/Cargo.lock`
 
             # A lockfile that can't be written back is as the failure left it.
             > failing = 3 $ check
-            | cargo -vV
-            | rustup run stable cargo -vV
-            | cargo metadata --format-version=1 --no-deps
-            | rustup run stable cargo metadata --format-version=1 --no-deps
+            + stable's metadata asked
             | 0 of 1, lockfile ''
             | failed to write to file `/w/Cargo.lock`
             > failing = 4 $ check
-            | cargo -vV
-            | rustup run stable cargo -vV
-            | cargo metadata --format-version=1 --no-deps
-            | rustup run stable cargo metadata --format-version=1 --no-deps
+            + stable's metadata asked
             | 0 of 1, lockfile '\x'
             | failed to read from file `/w/Cargo.toml`
             > failing = 0 $ check
-            | cargo -vV
-            | rustup run stable cargo -vV
-            | cargo metadata --format-version=1 --no-deps
-            | rustup run stable cargo metadata --format-version=1 --no-deps
+            + stable's metadata asked
             | cargo locate-project
             | 0 of 0, lockfile '\x'
-            | /w by `cargo` 1.70 (1.80) in /w
-            | at p
-            | p at /w/Cargo.toml, private: false, 1.60, 10:
+            + p by stable 1.80
         ",
     )
 }

@@ -53,11 +53,11 @@ fn named(value: &str) -> &str {
 }
 
 fn byte_of(byte: u8, is_escape: bool) -> u8 {
-    match byte {
-        b'n' if is_escape => b'\n',
-        b's' if is_escape => b' ',
-        b'x' if is_escape => 255,
-        byte => byte,
+    match (byte, is_escape) {
+        (b'n', true) => b'\n',
+        (b's', true) => b' ',
+        (b'x', true) => 255,
+        (byte, _) => byte,
     }
 }
 
