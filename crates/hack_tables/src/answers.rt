@@ -4,34 +4,23 @@ use crate::table::Group;
 use crate::{commands, lists, packages, paths, stored, uses, versions, words};
 use std::alloc::{AllocError, Global};
 
-/// The answer to the arguments of a row; none for an unknown kind.
-pub(crate) fn answer(
-    alloc: Global,
-    group: &Group,
-    words: &[String],
-) -> Result<Option<String>, AllocError> {
-    if let Some(text) = words::answer(alloc, group, words)? {
-        return Ok(Some(text));
-    }
-    if let Some(text) = uses::answer(alloc, group, words)? {
-        return Ok(Some(text));
-    }
-    if let Some(text) = lists::answer(alloc, group, words)? {
-        return Ok(Some(text));
-    }
-    if let Some(text) = versions::answer(alloc, group, words)? {
-        return Ok(Some(text));
-    }
-    if let Some(text) = paths::answer(alloc, group, words)? {
-        return Ok(Some(text));
-    }
-    if let Some(text) = packages::answer(alloc, group, words)? {
-        return Ok(Some(text));
-    }
-    if let Some(text) = stored::answer(alloc, group, words)? {
-        return Ok(Some(text));
-    }
-    commands::answer(alloc, group, words)
+/// The answer to the arguments of a row; none where the kind is unknown to who is asked.
+pub(crate) type Found = Result<Option<String>, AllocError>;
+
+/// Returns the answer of the first module that knows the kind, if one does.
+macro_rules! first_of {
+    ($alloc:ident, $group:ident, $words:ident: $($module:ident),*) => {
+        $(
+            if let Some(text) = $module::answer($alloc, $group, $words)? {
+                return Ok(Some(text));
+            }
+        )*
+    };
+}
+
+pub(crate) fn answer(alloc: Global, group: &Group, words: &[String]) -> Found {
+    first_of!(alloc, group, words: words, uses, lists, versions, paths, packages, stored, commands);
+    Ok(None)
 }
 
 /// The argument at an index; empty where there is none.

@@ -1,17 +1,14 @@
 //! Lists of commands: from arguments and the bytes of a feature map to the bytes of the list, or
 //! the first error.
 
+use crate::answers::Found;
 use crate::table::Group;
 use hack_powerset_list::powerset_list;
 use std::alloc::{AllocError, Global};
 
 /// `powerset-list`: the lines for the input, which is the first argument, and the arguments after
 /// it, or the error.
-pub(crate) fn answer(
-    alloc: Global,
-    group: &Group,
-    words: &[String],
-) -> Result<Option<String>, AllocError> {
+pub(crate) fn answer(alloc: Global, group: &Group, words: &[String]) -> Found {
     if group.kind.as_str() != "powerset-list" {
         return Ok(None);
     }

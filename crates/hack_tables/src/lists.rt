@@ -1,7 +1,7 @@
 //! Texts that are read by themselves: lists of names in one argument, pieces of a plan, colours and
 //! log groups.
 
-use crate::answers::{joined, word, yes};
+use crate::answers::{Found, joined, word, yes};
 use crate::table::Group;
 use hack_base::lists::{has_separator, split_group, split_names};
 use hack_term::partition::{Partition, PartitionKind};
@@ -11,11 +11,7 @@ use std::alloc::{AllocError, Global};
 /// `group`, `list`: the names in one argument. `has a separator`. `piece`, `kind of pieces`,
 /// `coloring`, `log group`: what the text is read as, or its error. `places`: those that a piece
 /// has of a total, as a block or, with the setting `turn`, assigned in rotation.
-pub(crate) fn answer(
-    alloc: Global,
-    group: &Group,
-    words: &[String],
-) -> Result<Option<String>, AllocError> {
+pub(crate) fn answer(alloc: Global, group: &Group, words: &[String]) -> Found {
     let first = word(words, 0);
     let text = match group.kind.as_str() {
         "group" => joined(alloc, &split_group(alloc, first)?)?,

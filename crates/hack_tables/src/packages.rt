@@ -1,6 +1,6 @@
 //! Packages: which specifications match them.
 
-use crate::answers::{word, yes};
+use crate::answers::{Found, word, yes};
 use crate::table::Group;
 use hack_metadata::cargo::match_pkg_spec;
 use hack_metadata::metadata::Package;
@@ -8,11 +8,7 @@ use std::alloc::{AllocError, Global};
 use std::collections::BTreeMap;
 
 /// `specs`: whether the specification matches the group's package, or why that isn't known.
-pub(crate) fn answer(
-    alloc: Global,
-    group: &Group,
-    words: &[String],
-) -> Result<Option<String>, AllocError> {
+pub(crate) fn answer(alloc: Global, group: &Group, words: &[String]) -> Found {
     if group.kind.as_str() != "specs" {
         return Ok(None);
     }

@@ -1,17 +1,13 @@
 //! What a real cargo reported about a workspace, read as records.
 
-use crate::answers::{joined, or_none, word, yes};
+use crate::answers::{Found, joined, or_none, word, yes};
 use crate::table::Group;
 use hack_metadata::metadata::{Metadata, MetadataFault, Node, Package, PackageId, object_of};
 use std::alloc::{AllocError, Global};
 
 /// `metadata`: what the stored answer `json`, which a cargo of the minor version `minor` gave, says
 /// about the workspace, or about the package that the second argument names.
-pub(crate) fn answer(
-    alloc: Global,
-    group: &Group,
-    words: &[String],
-) -> Result<Option<String>, AllocError> {
+pub(crate) fn answer(alloc: Global, group: &Group, words: &[String]) -> Found {
     if group.kind.as_str() != "metadata" {
         return Ok(None);
     }

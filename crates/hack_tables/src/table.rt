@@ -7,7 +7,7 @@
 //! `\0` nothing and `\\` a backslash. Empty lines and those that begin with `#` are ignored.
 
 use crate::answers::answer;
-use std::alloc::{AllocError, AllocFailed, Global};
+use std::alloc::{AllocError, Global};
 use std::io;
 use std::io::Write;
 use thiserror::Error;
@@ -33,12 +33,6 @@ impl From<AllocError> for Fault {
     }
 }
 
-impl<T: Drop> From<AllocFailed<T>> for Fault {
-    fn from(_e: AllocFailed<T>) -> Fault {
-        Fault::Memory
-    }
-}
-
 /// How many rows there were, and how many of them failed.
 #[derive(Clone, Copy, Debug, PartialEq, Eq)]
 pub struct Counts {
@@ -56,6 +50,11 @@ pub(crate) struct Group {
 }
 
 impl Group {
+    fn set(&mut self, name: String, value: String) -> Result<(), AllocError> {
+        self.settings.push((name, value))?;
+        Ok(())
+    }
+
     /// The value of a setting, if it is given.
     pub(crate) fn setting(&self, name: &str) -> Option<&str> {
         for (known, value) in self.settings.as_slice() {
@@ -116,12 +115,6 @@ pub(crate) fn words_of(alloc: Global, question: &str) -> Result<Vec<String>, All
     Ok(words)
 }
 
-/// The text after a line's mark and one space.
-fn behind<'a>(line: &'a str, mark: &str) -> Option<&'a str> {
-    let rest = line.strip_prefix(mark)?;
-    Some(rest.strip_prefix(" ").unwrap_or(rest))
-}
-
 /// A table during its check: the group and the row whose lines are being read, and the counts.
 #[derive(Drop)]
 struct Reading {
@@ -176,10 +169,9 @@ impl Reading {
         let name = String::from_str(self.alloc, name)?;
         let value = unescaped(self.alloc, value)?;
         match &mut self.group {
-            Some(group) => group.settings.push((name, value))?,
-            None => return Err(Fault::Line(line)),
+            Some(group) => Ok(group.set(name, value)?),
+            None => Err(Fault::Line(line)),
         }
-        Ok(())
     }
 
     /// Begins a row.
@@ -218,6 +210,12 @@ fn tell<W: Write>(out: &mut W, group: &Group, row: &Row, found: &str) -> io::Res
         out,
         "line {line}: [{kind}] {question}\nfound:\n{found}\nwanted:\n{want}"
     )
+}
+
+/// The text after a line's mark and one space.
+fn behind<'a>(line: &'a str, mark: &str) -> Option<&'a str> {
+    let rest = line.strip_prefix(mark)?;
+    Some(rest.strip_prefix(" ").unwrap_or(rest))
 }
 
 /// Checks the rows of a table, and reports each that fails to `out`: its line, its question, the

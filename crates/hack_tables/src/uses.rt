@@ -1,6 +1,6 @@
 //! Arguments parsed into options, and what uses of options say.
 
-use crate::answers::{joined, or_none, word, yes};
+use crate::answers::{Found, joined, or_none, word, yes};
 use crate::table::Group;
 use hack_features::Feature;
 use hack_lexopt::{Next, Parser};
@@ -15,11 +15,7 @@ use std::alloc::{AllocError, Global};
 /// is asked for, or the error. `subcommand`: from the uses. `value`, `values`: from the uses in the
 /// arguments after the first one, which names an option. `usage`, `usage of a letter`, `named`: how
 /// an option is shown.
-pub(crate) fn answer(
-    alloc: Global,
-    group: &Group,
-    words: &[String],
-) -> Result<Option<String>, AllocError> {
+pub(crate) fn answer(alloc: Global, group: &Group, words: &[String]) -> Found {
     let text = match group.kind.as_str() {
         "cuts" => cuts(alloc, words)?,
         "passed" => passed(alloc, WorkspaceBehavior::new(group.has("cargo")), words)?,

@@ -3,7 +3,7 @@
 
 ghost use Rattle.std.specs.Prelude.{◌<◌};
 
-use crate::answers::{or_none, word, yes};
+use crate::answers::{Found, or_none, word, yes};
 use crate::table::Group;
 use hack_base::notice::Notice;
 use hack_process::cargo;
@@ -17,11 +17,7 @@ use std::alloc::{AllocError, Global};
 /// error; `host of cargo`. `steps`, `groups`, `how many groups`: of a range, where stable is 1.70
 /// and each package has its own version or none. `lockfiles`: before which versions the lockfile is
 /// generated.
-pub(crate) fn answer(
-    alloc: Global,
-    group: &Group,
-    words: &[String],
-) -> Result<Option<String>, AllocError> {
+pub(crate) fn answer(alloc: Global, group: &Group, words: &[String]) -> Found {
     let first = word(words, 0);
     let text = match group.kind.as_str() {
         "version" => match Version::parse(alloc, first) {

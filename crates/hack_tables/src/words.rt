@@ -1,6 +1,6 @@
 //! The command line of `cargo hack`: its outcome, and the fields that it gives.
 
-use crate::answers::yes;
+use crate::answers::{Found, yes};
 use crate::shown::{args_text, notices_text};
 use crate::table::{Group, words_of};
 use hack_words::cli::{Args, CliFault, Env, Help, Parsed, wants_rustup};
@@ -13,11 +13,7 @@ type Answer = Result<(Parsed, Vec<Notice>), CliFault>;
 /// `words`: the outcome of a command line with its notices, or the error. `fields`: the fields that
 /// differ from those of a command line without options. `wants rustup`: whether rustup's version is
 /// needed. `environment`: what is read from variables.
-pub(crate) fn answer(
-    alloc: Global,
-    group: &Group,
-    words: &[String],
-) -> Result<Option<String>, AllocError> {
+pub(crate) fn answer(alloc: Global, group: &Group, words: &[String]) -> Found {
     let text = match group.kind.as_str() {
         "words" => answer_text(alloc, parsed(alloc, group, words)?)?,
         "fields" => fields_text(alloc, parsed(alloc, group, words)?)?,
