@@ -3,12 +3,4 @@
 #![tactic(auto)]
 
 #[cfg(test)]
-mod edits;
-#[cfg(test)]
-mod files;
-#[cfg(test)]
-mod journal;
-#[cfg(test)]
-mod manifest;
-#[cfg(test)]
-mod text;
+mod tests;

@@ -2,9 +2,9 @@
 //! the other rows come before ` $ `: `members` and these, `in` and the current package, `cargo` and
 //! its minor version, `stable` and the error of asking for its version, or a `piece` of the plan.
 
-use crate::given::{Given, context_of, reason};
-use crate::packages::{package_names, package_runs};
-use crate::plans::{commands, counts, last, piece, runs, sets, versions};
+use crate::tests::given::{Given, context_of, reason};
+use crate::tests::packages::{package_names, package_runs};
+use crate::tests::plans::{commands, counts, last, piece, runs, sets, versions};
 use hack_base::notice::Notice;
 use hack_holds::{Ask, Wrong, hold};
 use hack_load::context::Context;

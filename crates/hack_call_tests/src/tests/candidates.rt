@@ -5,8 +5,8 @@
 //! Where a single candidate is asked for, the question is its name, and the answer whether it
 //! exists.
 
-use crate::given::{manifest_of, read};
-use crate::workspace::{metadata_text, push_all};
+use crate::tests::given::{manifest_of, read};
+use crate::tests::workspace::{metadata_text, push_all};
 use hack_features::feature::Feature;
 use hack_holds::{Ask, Wrong, hold};
 use hack_load::features::Features;

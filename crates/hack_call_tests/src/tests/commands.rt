@@ -5,8 +5,8 @@
 ghost use Rattle.std.specs.Prelude.{Contains};
 ghost use Rattle.hack_load.specs.ContextView.{context_view};
 
-use crate::loading::{Show, within};
-use crate::shown::push_notices;
+use crate::tests::loading::{Show, within};
+use crate::tests::shown::push_notices;
 use hack_holds::Wrong;
 use hack_load::context::Context;
 use hack_load::metadata::PackageId;

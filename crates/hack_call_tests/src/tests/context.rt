@@ -1,6 +1,6 @@
 //! The context of a call, in workspaces of several kinds and with several versions of cargo.
 
-use crate::loading::{Show, within};
+use crate::tests::loading::{Show, within};
 use hack_holds::Wrong;
 
 #[test]

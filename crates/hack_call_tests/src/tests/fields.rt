@@ -2,7 +2,7 @@
 //! cargo that reports metadata, and their text; `@blank` is a million bytes of white space, and
 //! `@open` and `@close` are 200 brackets. The answer is `read`, or the error.
 
-use crate::given::read;
+use crate::tests::given::read;
 use hack_holds::{Ask, Wrong, hold};
 use std::alloc::{AllocError, Global};
 

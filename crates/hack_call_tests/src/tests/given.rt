@@ -1,6 +1,6 @@
 //! Calls from short texts: the arguments after `hack`, and a context in a workspace.
 
-use crate::workspace::{manifest_text, metadata_text};
+use crate::tests::workspace::{manifest_text, metadata_text};
 use hack_holds::Wrong;
 use hack_load::context::{Answers, Context, Loaded, Located};
 use hack_manifest::manifest::Manifest;

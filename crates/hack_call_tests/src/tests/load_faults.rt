@@ -1,6 +1,6 @@
 //! Why there is no context: errors that end the questions, and answers that give none.
 
-use crate::loading::{Show, within};
+use crate::tests::loading::{Show, within};
 use hack_holds::Wrong;
 
 #[test]

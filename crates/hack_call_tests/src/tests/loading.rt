@@ -6,12 +6,12 @@
 ghost use Rattle.std.specs.Prelude.{◌<◌, Contains, length};
 ghost use Rattle.hack_load.specs.ContextView.{context_view};
 
-use crate::commands::commands;
-use crate::given::{args_of, env_of, reason};
-use crate::shared::with_shared;
-use crate::shown::{name_of, push_notices};
-use crate::workspace::push_all;
-use crate::world::{Stage, stage_of};
+use crate::tests::commands::commands;
+use crate::tests::given::{args_of, env_of, reason};
+use crate::tests::shared::with_shared;
+use crate::tests::shown::{name_of, push_notices};
+use crate::tests::workspace::push_all;
+use crate::tests::world::{Stage, stage_of};
 use hack_base::notice::Notice;
 use hack_features::feature::Feature;
 use hack_files::fs::{FailingFiles, Files, MemoryFiles};

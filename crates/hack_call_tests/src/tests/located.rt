@@ -1,7 +1,7 @@
 //! The path that `cargo locate-project` prints, asked with `root` and what it wrote, and the
 //! package whose manifest is there, asked with `at` and a path.
 
-use crate::given::{located, read};
+use crate::tests::given::{located, read};
 use hack_holds::{Ask, Wrong, hold};
 use hack_load::context::current_package;
 use hack_metadata::metadata::Metadata;

@@ -1,7 +1,7 @@
 //! The question to cargo for the metadata: which program is asked what, which answer is used, and
 //! what the lockfile holds afterwards. Stable's cargo is 1.80.
 
-use crate::loading::{Show, within};
+use crate::tests::loading::{Show, within};
 use hack_holds::Wrong;
 
 #[test]

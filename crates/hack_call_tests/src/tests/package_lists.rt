@@ -1,7 +1,7 @@
 //! Which members of a workspace a call runs on: their names, with `(single)` where one remains
 //! after exclusions, and the notices.
 
-use crate::asked::{Show, on};
+use crate::tests::asked::{Show, on};
 use hack_holds::Wrong;
 
 #[test]

@@ -1,7 +1,7 @@
 //! The runs of a package: their kind, their number, and each of them. `A` is the run with all
 //! features, `N` the one without, `-` the plain one.
 
-use crate::asked::{Show, on};
+use crate::tests::asked::{Show, on};
 use hack_holds::Wrong;
 
 #[test]

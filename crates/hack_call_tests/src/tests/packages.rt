@@ -3,8 +3,8 @@
 ghost use Rattle.std.specs.Prelude.{Contains};
 ghost use Rattle.hack_load.specs.ContextView.{context_view};
 
-use crate::shown::{name_of, push_notices};
-use crate::workspace::push_all;
+use crate::tests::shown::{name_of, push_notices};
+use crate::tests::workspace::push_all;
 use hack_base::notice::Notice;
 use hack_features::SampleFault;
 use hack_load::context::Context;

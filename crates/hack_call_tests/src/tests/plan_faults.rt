@@ -1,7 +1,7 @@
 //! Why a call has no plan. The rows of a sequence are ordered: the cause that a row names is gone
 //! in the next row, and the cause of that row held in the first as well.
 
-use crate::asked::{Show, on};
+use crate::tests::asked::{Show, on};
 use hack_holds::Wrong;
 
 #[test]

@@ -1,7 +1,7 @@
 //! The runs of a plan: their number, their commands, the packages that they are on, and the
 //! notices.
 
-use crate::asked::{Show, on};
+use crate::tests::asked::{Show, on};
 use hack_holds::Wrong;
 
 #[test]

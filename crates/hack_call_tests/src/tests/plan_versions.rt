@@ -1,7 +1,7 @@
 //! The versions of a plan: what is done before the runs of each, and its places. A letter says what
 //! is done, followed by the version's place.
 
-use crate::asked::{Show, on};
+use crate::tests::asked::{Show, on};
 use hack_holds::Wrong;
 
 #[test]

@@ -1,7 +1,7 @@
 //! Plans as text: their runs, versions, commands and pieces.
 
-use crate::shown::push_notices;
-use crate::workspace::push_all;
+use crate::tests::shown::push_notices;
+use crate::tests::workspace::push_all;
 use hack_base::notice::Notice;
 use hack_plan::parts::{PlanVersion, Preparation};
 use hack_plan::plan::PlannedCommand;

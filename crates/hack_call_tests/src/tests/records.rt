@@ -5,9 +5,9 @@
 //! its id, version and manifest, whether it may be published, its least Rust version, its features
 //! with their values, and its optional dependencies; then the nodes with their dependencies.
 
-use crate::given::read;
-use crate::shown::name_of;
-use crate::workspace::{push_all, whole_text};
+use crate::tests::given::read;
+use crate::tests::shown::name_of;
+use crate::tests::workspace::{push_all, whole_text};
 use hack_holds::{Ask, Wrong, hold};
 use hack_metadata::metadata::{DepKindInfo, Metadata, Node, Package};
 use std::alloc::{AllocError, Global};

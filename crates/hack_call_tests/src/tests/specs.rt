@@ -1,8 +1,8 @@
 //! Package ID specifications, applied to a package: whether one matches, or why that isn't known.
 
-use crate::given::read;
-use crate::workspace::{push_all, whole_text};
-use crate::world::bytes_of;
+use crate::tests::given::read;
+use crate::tests::workspace::{push_all, whole_text};
+use crate::tests::world::bytes_of;
 use hack_holds::{Ask, Wrong, hold};
 use hack_metadata::cargo::{SpecFault, match_pkg_spec};
 use hack_metadata::metadata::{Metadata, MetadataFault};

@@ -1,7 +1,7 @@
 //! What can't be read or started: bytes that are not UTF-8, programs without a name, and files of
 //! which a call fails.
 
-use crate::loading::{Show, within};
+use crate::tests::loading::{Show, within};
 use hack_holds::Wrong;
 
 #[test]

@@ -16,8 +16,8 @@ ghost use Rattle.std.specs.Prelude.{◌≡◌, IsTrue, IfOk, length};
 ghost use Rattle.hack_features.specs.Sets.{IsSelection};
 ghost use Rattle.hack_features.specs.View.{size_of};
 
-use crate::given::{Case, case_of, depth_of, numbers, refs, word_at};
-use crate::shown::{push_between, push_names, push_numbers, push_order};
+use crate::tests::given::{Case, case_of, depth_of, numbers, refs, word_at};
+use crate::tests::shown::{push_between, push_names, push_numbers, push_order};
 use hack_features::{
     Feature, FeatureSets, Questions, Rules, SampleFault, compare_sets, feature_powerset, powerset,
     pruned,

@@ -1,7 +1,7 @@
 //! Command lists: from arguments and the bytes of a feature map to the bytes of the list, or the
 //! first error.
 
-use crate::lists::on;
+use crate::tests::lists::on;
 use hack_holds::Wrong;
 
 const FOUR: &str = r#"{"a":[],"b":["a"],"c":["b"],"d":["a","b"]}"#;

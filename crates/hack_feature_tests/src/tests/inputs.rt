@@ -12,8 +12,8 @@
 ghost use Rattle.std.specs.Prelude.{IfOk};
 ghost use Rattle.hack_plan.specs.Inputs.{AreVersions};
 
-use crate::given::{numbers, value, word_at};
-use crate::shown::told;
+use crate::tests::given::{numbers, value, word_at};
+use crate::tests::shown::told;
 use hack_holds::{Ask, Wrong, hold};
 use hack_plan::places::Places;
 use hack_plan::progress::Progress;

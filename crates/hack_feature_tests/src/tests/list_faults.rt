@@ -1,7 +1,7 @@
 //! Errors of lists and of whole calls of the program: readers and writers that fail with each kind
 //! of error, and what is reported.
 
-use crate::lists::on;
+use crate::tests::lists::on;
 use hack_holds::Wrong;
 
 const MAP: &str = r#"{"a":[],"b":["a"]}"#;

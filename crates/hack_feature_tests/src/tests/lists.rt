@@ -19,9 +19,9 @@
 //! - `command plain`: the command of a run of the features `a`, `b` and `c`, of which the first and
 //!   the last are chosen.
 
-use crate::given::{features, word_at, words};
-use crate::shown::told;
-use crate::streams::{Broken, OTHER_KINDS, Page, Source, Takes, kind_of};
+use crate::tests::given::{features, word_at, words};
+use crate::tests::shown::told;
+use crate::tests::streams::{Broken, OTHER_KINDS, Page, Source, Takes, kind_of};
 use hack_holds::{Ask, Wrong, hold};
 use hack_plan::runs::Run;
 use hack_powerset_list::{

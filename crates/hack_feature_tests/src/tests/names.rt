@@ -7,8 +7,8 @@
 //!   feature.
 //! - `deps`: what each key enables; `serve a [b|c]`: the keys that serve each group.
 
-use crate::given::{Map, feature, features, map_of};
-use crate::shown::{push_between, push_order, told};
+use crate::tests::given::{Map, feature, features, map_of};
+use crate::tests::shown::{push_between, push_order, told};
 use hack_features::{Feature, at_least_one_of_for_package, compare_features, feature_deps};
 use hack_holds::{Ask, Wrong, hold};
 use std::alloc::{AllocError, Global};

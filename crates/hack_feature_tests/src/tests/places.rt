@@ -1,7 +1,7 @@
 //! Plans of small inputs, whole; plans that are too long for a list of places; and the pieces of a
 //! status line.
 
-use crate::inputs::on_plans;
+use crate::tests::inputs::on_plans;
 use hack_holds::Wrong;
 
 #[test]

@@ -2,8 +2,8 @@
 //! one. Its names are the letters `a` to `f` and what values make of them, which are the bits of a
 //! number; keys are letters. A set of candidates is a number too.
 
-use crate::given::{depth_of, positions_of};
-use crate::shown::{push_between, push_numbers};
+use crate::tests::given::{depth_of, positions_of};
+use crate::tests::shown::{push_between, push_numbers};
 use std::alloc::{AllocError, Global};
 
 const KEYS: [&str; 6] = ["a", "b", "c", "d", "e", "f"];

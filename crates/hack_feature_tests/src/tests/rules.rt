@@ -1,8 +1,8 @@
 //! Questions on sets, and how many of them an enumeration asks: at most the number of candidates
 //! times that of permitted sets.
 
-use crate::calls::on;
-use crate::given::numbered;
+use crate::tests::calls::on;
+use crate::tests::given::numbered;
 use hack_holds::Wrong;
 
 #[test]

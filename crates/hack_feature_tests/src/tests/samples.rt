@@ -1,7 +1,7 @@
 //! Samples of sets of features, worked out by hand: which sets they have at strength 1, and at a
 //! strength at which each listed set shows a pattern of its own.
 
-use crate::calls::on;
+use crate::tests::calls::on;
 use hack_holds::Wrong;
 
 #[test]

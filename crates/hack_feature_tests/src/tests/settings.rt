@@ -1,6 +1,6 @@
 //! Which candidates are on in a set, and with all features, worked out by hand.
 
-use crate::calls::on;
+use crate::tests::calls::on;
 use hack_holds::Wrong;
 
 #[test]

@@ -1,7 +1,7 @@
 //! Worked sets of features: what is listed for small maps and rules, and which listed set covers
 //! another.
 
-use crate::calls::on;
+use crate::tests::calls::on;
 use hack_holds::Wrong;
 
 const FOUR: &str = "a:;b: a;c: b;d: a b $ a b c d";

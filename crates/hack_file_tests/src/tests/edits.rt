@@ -11,9 +11,9 @@ mod features;
 mod manifests;
 mod private_crates;
 
-use crate::edits::features::thinned;
-use crate::edits::private_crates::{fault, without};
-use crate::text::{plain, shown};
+use crate::tests::edits::features::thinned;
+use crate::tests::edits::private_crates::{fault, without};
+use crate::tests::text::{plain, shown};
 use hack_edits::manifest::{ManifestFault, remove_dev_deps};
 use hack_holds::{Ask, Wrong, hold};
 use std::alloc::{AllocError, Global};

@@ -12,8 +12,8 @@ pub mod memory;
 mod restore;
 mod short;
 
-use crate::files::faults::{bytes, is_of_path, put, whole_text};
-use crate::text::{number, plain, push_plain, push_quoted, quoted};
+use crate::tests::files::faults::{bytes, is_of_path, put, whole_text};
+use crate::tests::text::{number, plain, push_plain, push_quoted, quoted};
 use hack_files::fs::{FileFault, Files};
 use hack_holds::{Ask, Wrong, hold};
 use std::alloc::{AllocError, Global};

@@ -19,11 +19,11 @@ mod failing;
 mod fronts;
 mod spelled;
 
-use crate::files::memory::in_memory;
-use crate::files::{answer, held, truth};
-use crate::journal::failing::left;
-use crate::journal::spelled::{entries, spelled, torn};
-use crate::text::number;
+use crate::tests::files::memory::in_memory;
+use crate::tests::files::{answer, held, truth};
+use crate::tests::journal::failing::left;
+use crate::tests::journal::spelled::{entries, spelled, torn};
+use crate::tests::text::number;
 use hack_files::fs::{FileFault, Files, MemoryFiles, Step};
 use hack_holds::{Ask, Wrong, hold};
 use hack_journal::apart::Apart;

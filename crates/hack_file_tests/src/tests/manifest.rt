@@ -8,8 +8,8 @@
 mod cuts;
 mod reads;
 
-use crate::manifest::cuts::cut;
-use crate::manifest::reads::{features, kept, package, told};
+use crate::tests::manifest::cuts::cut;
+use crate::tests::manifest::reads::{features, kept, package, told};
 use hack_holds::{Ask, Wrong, hold};
 use hack_manifest::manifest::ManifestFault;
 use std::alloc::{AllocError, Global};

@@ -5,16 +5,16 @@
 //! streams and the changes of files. The status comes last. The other questions are those of the
 //! modules `edits`, `journaled`, `listed`, `sessions`, `steps` and `toolchains`.
 
-use crate::edits::edits;
-use crate::journaled::journaled;
-use crate::listed::{cuts, list};
-use crate::scene::{scene_of, told};
-use crate::sessions::session;
-use crate::shared::spelled_out;
-use crate::shown::push_sections;
-use crate::steps::steps;
-use crate::toolchains::toolchain;
-use crate::world::world_of;
+use crate::tests::edits::edits;
+use crate::tests::journaled::journaled;
+use crate::tests::listed::{cuts, list};
+use crate::tests::scene::{scene_of, told};
+use crate::tests::sessions::session;
+use crate::tests::shared::spelled_out;
+use crate::tests::shown::push_sections;
+use crate::tests::steps::steps;
+use crate::tests::toolchains::toolchain;
+use crate::tests::world::world_of;
 use hack_holds::{Ask, Wrong, hold};
 use hack_run::run::run;
 use std::alloc::{AllocError, Global};

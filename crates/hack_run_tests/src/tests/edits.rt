@@ -1,11 +1,11 @@
 //! Manifests that are edited without a call: `edits` with arguments answers the notices and the
 //! changes up to the edits, and after `back` the changes at the end, and how many of those failed.
 
-use crate::asked::on;
-use crate::scene::{Scene, context_of, scene_of};
-use crate::shown::push_changes;
-use crate::world::push_all;
-use crate::worlds::{ROOT, VIRTUAL};
+use crate::tests::asked::on;
+use crate::tests::scene::{Scene, context_of, scene_of};
+use crate::tests::shown::push_changes;
+use crate::tests::world::push_all;
+use crate::tests::worlds::{ROOT, VIRTUAL};
 use hack_files::restore::Manager;
 use hack_holds::Wrong;
 use hack_load::context::Context;

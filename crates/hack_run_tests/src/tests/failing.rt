@@ -1,8 +1,8 @@
 //! Calls on files of which one call fails, from the first on: the errors that are printed, the
 //! paths whose contents differ from those at first, and the status.
 
-use crate::asked::on;
-use crate::worlds::{ROOT, VIRTUAL};
+use crate::tests::asked::on;
+use crate::tests::worlds::{ROOT, VIRTUAL};
 use hack_holds::Wrong;
 
 // The manifest is read, edited and written, the lockfile is looked for and read, and both are

@@ -1,7 +1,7 @@
 //! Errors of each stage after the command line.
 
-use crate::asked::on;
-use crate::worlds::PLAIN;
+use crate::tests::asked::on;
+use crate::tests::worlds::PLAIN;
 use hack_holds::Wrong;
 
 #[test]

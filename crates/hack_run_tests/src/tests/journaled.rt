@@ -2,10 +2,10 @@
 //! the files failed, the paths that the call changed, and after a bar those of its lockfiles. A `-`
 //! precedes a path that was removed.
 
-use crate::asked::on;
-use crate::scene::scene_of;
-use crate::world::files_of;
-use crate::worlds::{ROOT, VIRTUAL};
+use crate::tests::asked::on;
+use crate::tests::scene::scene_of;
+use crate::tests::world::files_of;
+use crate::tests::worlds::{ROOT, VIRTUAL};
 use hack_files::fs::{MemoryFiles, Step};
 use hack_holds::Wrong;
 use hack_run::journaled::run_journaled;

@@ -3,10 +3,10 @@
 //! for each, leaving out repetitions: how many line feeds were written, and whether that is a
 //! prefix of the list. The last line says whether a list has many writes.
 
-use crate::asked::on;
-use crate::scene::{context_of, scene_of};
-use crate::sessions::driven;
-use crate::worlds::PLAIN;
+use crate::tests::asked::on;
+use crate::tests::scene::{context_of, scene_of};
+use crate::tests::sessions::driven;
+use crate::tests::worlds::PLAIN;
 use hack_files::fs::FailingWriter;
 use hack_holds::Wrong;
 use hack_load::context::Context;

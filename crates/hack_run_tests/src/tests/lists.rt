@@ -1,7 +1,7 @@
 //! Lists of commands.
 
-use crate::asked::on;
-use crate::worlds::PLAIN;
+use crate::tests::asked::on;
+use crate::tests::worlds::PLAIN;
 use hack_holds::Wrong;
 
 #[test]

@@ -1,7 +1,7 @@
 //! Manifests that are edited for a call: what is printed, and then what is written, in order.
 
-use crate::asked::on;
-use crate::worlds::{ROOT, VIRTUAL};
+use crate::tests::asked::on;
+use crate::tests::worlds::{ROOT, VIRTUAL};
 use hack_holds::Wrong;
 
 #[test]

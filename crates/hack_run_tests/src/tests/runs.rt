@@ -1,7 +1,7 @@
 //! Runs: their commands, their lines, what stops them, and the report.
 
-use crate::asked::on;
-use crate::worlds::PLAIN;
+use crate::tests::asked::on;
+use crate::tests::worlds::PLAIN;
 use hack_holds::Wrong;
 
 #[test]

@@ -1,6 +1,6 @@
 //! The scene of a call: the world, with its arguments, a terminal and both streams.
 
-use crate::world::{caller_of, coloring_of, env_of, files_of, number};
+use crate::tests::world::{caller_of, coloring_of, env_of, files_of, number};
 use hack_files::fs::{FailingFiles, FailingWriter, MemoryFiles};
 use hack_files::restore::Manager;
 use hack_holds::Wrong;

@@ -2,10 +2,10 @@
 //! context, whose notices it prints. The answer is the error that stopped it, the report where runs
 //! failed, the calls, both streams, and how many steps were cut short because memory ran out.
 
-use crate::asked::on;
-use crate::scene::{Scene, context_of, scene_of, unanswered};
-use crate::shown::push_sections;
-use crate::worlds::PLAIN;
+use crate::tests::asked::on;
+use crate::tests::scene::{Scene, context_of, scene_of, unanswered};
+use crate::tests::shown::push_sections;
+use crate::tests::worlds::PLAIN;
 use hack_holds::Wrong;
 use hack_load::context::Context;
 use hack_planner::plan::{Plan, plan_of};

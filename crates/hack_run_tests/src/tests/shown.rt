@@ -1,7 +1,7 @@
 //! What is shown of a scene after a call, section by section; empty ones are left out.
 
-use crate::scene::Scene;
-use crate::world::{ASKED, push_all};
+use crate::tests::scene::Scene;
+use crate::tests::world::{ASKED, push_all};
 use hack_files::fs::Step;
 use hack_process::process::FakeCaller;
 use std::alloc::{AllocError, Global};

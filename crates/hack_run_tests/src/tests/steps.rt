@@ -1,11 +1,11 @@
 //! The steps of a session: `steps` with arguments answers those that are handed out, one line for
 //! each, with its outcome. `failing step N` says which one fails, from 1.
 
-use crate::asked::on;
-use crate::scene::{context_of, scene_of};
-use crate::sessions::planned;
-use crate::world::number;
-use crate::worlds::PLAIN;
+use crate::tests::asked::on;
+use crate::tests::scene::{context_of, scene_of};
+use crate::tests::sessions::planned;
+use crate::tests::world::number;
+use crate::tests::worlds::PLAIN;
 use hack_holds::Wrong;
 use hack_session::session::{History, Outcome, Session};
 use std::alloc::{AllocError, Global};

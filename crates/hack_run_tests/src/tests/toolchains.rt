@@ -1,11 +1,11 @@
 //! Toolchains that rustup adds: `toolchain` with a name and targets answers the calls, and the
 //! error or `ok`. Output is discarded here: whole calls show it.
 
-use crate::asked::on;
-use crate::scene::{Scene, scene_of, words_of};
-use crate::shown::push_sections;
-use crate::world::given;
-use crate::worlds::PLAIN;
+use crate::tests::asked::on;
+use crate::tests::scene::{Scene, scene_of, words_of};
+use crate::tests::shown::push_sections;
+use crate::tests::world::given;
+use crate::tests::worlds::PLAIN;
 use hack_holds::Wrong;
 use hack_process::process::ProcessFault;
 use hack_session::rustup::install_toolchain;

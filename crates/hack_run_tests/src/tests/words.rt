@@ -1,7 +1,7 @@
 //! Command lines: what is printed, what is refused, their notices, and rustup's version.
 
-use crate::asked::on;
-use crate::worlds::PLAIN;
+use crate::tests::asked::on;
+use crate::tests::worlds::PLAIN;
 use hack_holds::Wrong;
 
 #[test]

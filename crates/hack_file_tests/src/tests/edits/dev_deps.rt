@@ -1,6 +1,6 @@
 //! Development dependencies taken out: tables, keys and inline tables.
 
-use crate::edits::on;
+use crate::tests::edits::on;
 use hack_edits::manifest::nothing_left;
 use hack_holds::Wrong;
 

@@ -3,7 +3,7 @@
 //! target, d4 for development and only for a target, and d5 for development and for a build script.
 //! The answer is what an edit leaves of them.
 
-use crate::edits::{edited, on};
+use crate::tests::edits::{edited, on};
 use hack_holds::Wrong;
 use std::alloc::{AllocError, Global};
 

@@ -1,8 +1,8 @@
 //! Manifests in the forms that crates have. Each is shown with what an edit does to it, line by
 //! line: a line after `-` is removed, one after `+` is added, and one after a space stays.
 
-use crate::edits::on;
-use crate::text::push_shown;
+use crate::tests::edits::on;
+use crate::tests::text::push_shown;
 use hack_holds::Wrong;
 use std::alloc::{AllocError, Global};
 

@@ -1,7 +1,7 @@
 //! Workspaces without private crates.
 
-use crate::edits::{given, on};
-use crate::text::plain;
+use crate::tests::edits::{given, on};
+use crate::tests::text::plain;
 use hack_edits::manifest::{ManifestFault, paths_in_order, remove_private_crates};
 use hack_holds::Wrong;
 use std::alloc::{AllocError, Global};

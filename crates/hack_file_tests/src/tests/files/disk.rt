@@ -6,8 +6,8 @@
 //! file, `link: NAME` makes a link to `target`, `is link: NAME` asks whether there is one, `second
 //! name: NAME` gives the file `a` one more name, and `names` asks how many names the folder has.
 
-use crate::files::{CALLS, answer, hold_over, path_of, truth};
-use crate::text::quoted;
+use crate::tests::files::{CALLS, answer, hold_over, path_of, truth};
+use crate::tests::text::quoted;
 use hack_files::fs::Disk;
 use hack_holds::{Ask, Wrong, hold};
 use std::alloc::{AllocError, Global};

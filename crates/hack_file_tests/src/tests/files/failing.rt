@@ -5,8 +5,8 @@
 //! it shows what is written, and which of them fail. The other questions are about files that the
 //! test makes; `failures below` are those of the files in memory beneath them.
 
-use crate::files::answer;
-use crate::text::{number, number_of};
+use crate::tests::files::answer;
+use crate::tests::text::{number, number_of};
 use hack_files::fs::{FailingFiles, FailingWriter, Files, MemoryFiles};
 use hack_holds::{Ask, Wrong, hold};
 use std::alloc::{AllocError, Global};

@@ -1,9 +1,9 @@
 //! What `read`, `read_to_string` and `write` return for any files: the bytes as a list, the quoted
 //! text, `ok`, or the text of the error. `put a x\xff` writes bytes that are not UTF-8.
 
-use crate::files::short::Short;
-use crate::files::{hold_over, truth};
-use crate::text::quoted;
+use crate::tests::files::short::Short;
+use crate::tests::files::{hold_over, truth};
+use crate::tests::text::quoted;
 use hack_files::fs;
 use hack_files::fs::{FailingFiles, Files, FsFault, MemoryFiles};
 use hack_holds::Wrong;

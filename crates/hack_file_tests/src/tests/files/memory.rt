@@ -1,8 +1,8 @@
 //! Files in memory. Besides the questions of all files there are `changes`, how many were made, and
 //! `list of changes`.
 
-use crate::files::{CALLS, answer, hold_over};
-use crate::text::number;
+use crate::tests::files::{CALLS, answer, hold_over};
+use crate::tests::text::number;
 use hack_files::fs::MemoryFiles;
 use hack_holds::{Ask, Wrong, hold};
 use std::alloc::{AllocError, Global};

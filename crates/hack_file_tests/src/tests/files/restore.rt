@@ -12,9 +12,9 @@
 //! - `empty`: nothing is kept, and only the last file is restored before all of them. The answer
 //!   begins with the error and ends with the number of changes to the files.
 
-use crate::files::faults::text_of;
-use crate::files::held;
-use crate::text::number_of;
+use crate::tests::files::faults::text_of;
+use crate::tests::files::held;
+use crate::tests::text::number_of;
 use hack_files::fs::{FailingFiles, FailingWriter, Files, FsFault, MemoryFiles};
 use hack_files::restore::Manager;
 use hack_holds::{Ask, Wrong, hold};

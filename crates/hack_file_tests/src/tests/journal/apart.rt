@@ -1,6 +1,6 @@
 //! A call that edits a manifest and a lockfile, of which the journal keeps only the manifest.
 
-use crate::journal::on;
+use crate::tests::journal::on;
 use hack_holds::Wrong;
 
 /// A manifest and a lockfile, both edited.

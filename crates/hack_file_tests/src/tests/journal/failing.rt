@@ -4,9 +4,9 @@
 //! fails. It ends at the first failure. The answer is how many files a recovery restores then, or
 //! its error, and the contents at the paths.
 
-use crate::files::held;
-use crate::journal::{journaled, on, recovered, replayed};
-use crate::text::number_of;
+use crate::tests::files::held;
+use crate::tests::journal::{journaled, on, recovered, replayed};
+use crate::tests::text::number_of;
 use hack_files::fs::{FailingFiles, FileFault, Files, MemoryFiles};
 use hack_holds::Wrong;
 use hack_journal::journaled::Journaled;

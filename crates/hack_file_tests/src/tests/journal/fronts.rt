@@ -1,6 +1,6 @@
 //! A call that ends after each of its changes.
 
-use crate::journal::on;
+use crate::tests::journal::on;
 use hack_holds::Wrong;
 
 /// Edits two files, one of them twice, makes a new one, and restores all. The journal is written

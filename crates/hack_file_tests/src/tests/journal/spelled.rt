@@ -4,8 +4,8 @@
 //! TEXT` are the entries that a text is read back as, or the error, and `torn TEXT` is the length
 //! of the text, and the length of each prefix that isn't refused as no journal.
 
-use crate::journal::on;
-use crate::text::{plain, push_shown, shown};
+use crate::tests::journal::on;
+use crate::tests::text::{plain, push_shown, shown};
 use hack_holds::Wrong;
 use hack_journal::journal::{Entry, JournalFault, read_back, spell};
 use std::alloc::{AllocError, Global};

@@ -1,8 +1,8 @@
 //! The pieces that texts are cut into, one line for each: the names of its path, each after a `/`,
 //! and its text. What remains after the last piece comes last, after `tail`.
 
-use crate::manifest::on;
-use crate::text::{plain, push_shown};
+use crate::tests::manifest::on;
+use crate::tests::text::{plain, push_shown};
 use hack_holds::Wrong;
 use hack_manifest::manifest::{Piece, Pieces, cut_is_one, pieces_join};
 use std::alloc::{AllocError, Global};

@@ -1,7 +1,7 @@
 //! What manifests say, and their errors.
 
-use crate::manifest::on;
-use crate::text::{plain, shown};
+use crate::tests::manifest::on;
+use crate::tests::text::{plain, shown};
 use hack_holds::Wrong;
 use hack_manifest::manifest::{Manifest, ManifestFault, manifest_is_one};
 use std::alloc::{AllocError, Global};

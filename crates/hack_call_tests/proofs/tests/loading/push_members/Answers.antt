@@ -2,7 +2,7 @@ use Rattle.std.proofs.Common.{List, ℕ, get_or, subst}
 use Rattle.std.specs.Prelude.{Contains}
 use Rattle.hack_metadata.specs.declared.metadata.resolve.PackageId.{PackageId}
 use Rattle.hack_load.proofs.MemberLemmas.{id-contained}
-use Rattle.hack_call_tests.proofs.loading.push_members.Goals as goal
+use Rattle.hack_call_tests.proofs.tests.loading.push_members.Goals as goal
 
 pub push_member-requires-clause-within : goal.push_member-requires-clause-within
 push_member-requires-clause-within c =

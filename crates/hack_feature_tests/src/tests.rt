@@ -1,0 +1,18 @@
+//! The tests, each in the module of what it tests.
+
+mod calls;
+mod command_lists;
+mod comparison;
+mod given;
+mod inputs;
+mod list_faults;
+mod lists;
+mod names;
+mod places;
+mod plain;
+mod rules;
+mod samples;
+mod settings;
+mod shown;
+mod streams;
+mod worked_sets;

@@ -1,0 +1,20 @@
+//! The tests, each in the module of what it tests.
+
+mod asked;
+mod edits;
+mod failing;
+mod faults;
+mod journaled;
+mod listed;
+mod lists;
+mod manifests;
+mod runs;
+mod scene;
+mod sessions;
+mod shared;
+mod shown;
+mod steps;
+mod toolchains;
+mod words;
+mod world;
+mod worlds;
