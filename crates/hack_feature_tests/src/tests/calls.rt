@@ -36,6 +36,21 @@ fn is_selection(positions: &[usize], n: usize) -> bool
     }
 }
 
+/// Calls what takes candidates and the rules of a case.
+macro_rules! by_rules {
+    ($call:path, $alloc:ident, $case:ident, $refs:ident) => {
+        $call(
+            $alloc,
+            $refs,
+            $case.depth,
+            $case.some.as_slice(),
+            $case.apart.as_slice(),
+            &$case.map,
+            $case.lifted.as_slice(),
+        )
+    };
+}
+
 /// The rules of a case, for the candidates in `refs`.
 fn rules_of<'a>(
     alloc: Global,
@@ -44,15 +59,7 @@ fn rules_of<'a>(
 ) -> Result<Rules<'a>, AllocError>
     ensures { IfOk result (λ rules. size_of rules ≡ length refs.now) }
 {
-    Rules::new(
-        alloc,
-        refs,
-        case.depth,
-        case.some.as_slice(),
-        case.apart.as_slice(),
-        &case.map,
-        case.lifted.as_slice(),
-    )
+    by_rules!(Rules::new, alloc, case, refs)
 }
 
 /// The sets that `feature_powerset` lists.
@@ -61,15 +68,7 @@ fn powersets<'a>(
     case: &Case,
     refs: &[&'a Feature],
 ) -> Result<Vec<Vec<&'a Feature>>, AllocError> {
-    feature_powerset(
-        alloc,
-        refs,
-        case.depth,
-        case.some.as_slice(),
-        case.apart.as_slice(),
-        &case.map,
-        case.lifted.as_slice(),
-    )
+    by_rules!(feature_powerset, alloc, case, refs)
 }
 
 fn list(alloc: Global, case: &Case, refs: &[&Feature]) -> Result<String, AllocError> {
@@ -126,19 +125,12 @@ fn on_text(alloc: Global, row: &[bool]) -> Result<String, AllocError> {
     Ok(text)
 }
 
-fn settings(
-    alloc: Global,
-    case: &Case,
-    refs: &[&Feature],
-    set: &[usize],
-) -> Result<String, AllocError> {
-    let rules = rules_of(alloc, case, refs)?;
+fn settings(alloc: Global, rules: &Rules<'_>, set: &[usize]) -> Result<String, AllocError> {
     let row = rules.settings(alloc, set)?;
     on_text(alloc, row.as_slice())
 }
 
-fn settings_of_all(alloc: Global, case: &Case, refs: &[&Feature]) -> Result<String, AllocError> {
-    let rules = rules_of(alloc, case, refs)?;
+fn settings_of_all(alloc: Global, rules: &Rules<'_>) -> Result<String, AllocError> {
     let row = rules.settings_of_all(alloc)?;
     on_text(alloc, row.as_slice())
 }
@@ -300,8 +292,8 @@ fn answer(alloc: Global, input: &str, question: &str) -> Result<String, AllocErr
         "all" => all(alloc, &case, refs),
         "ask" => may_follow(alloc, &case, refs, set.as_slice(), next),
         "sample" => sample(alloc, &case, refs, word.parse::<usize>().unwrap_or(0)),
-        "settings" => settings(alloc, &case, refs, set.as_slice()),
-        "settings_of_all" => settings_of_all(alloc, &case, refs),
+        "settings" => settings(alloc, &rules_of(alloc, &case, refs)?, set.as_slice()),
+        "settings_of_all" => settings_of_all(alloc, &rules_of(alloc, &case, refs)?),
         "count" => count(alloc, &case, refs, word.parse::<u128>().unwrap_or(0)),
         _ => of_sets(alloc, kind, rest),
     }

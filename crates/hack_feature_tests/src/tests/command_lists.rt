@@ -1,21 +1,28 @@
 //! Command lists: from arguments and the bytes of a feature map to the bytes of the list, or the
 //! first error.
 
-use crate::tests::lists::on;
+use crate::tests::lists::{on, on_sharing};
 use hack_holds::Wrong;
+use std::alloc::Global;
 
 const FOUR: &str = r#"{"a":[],"b":["a"],"c":["b"],"d":["a","b"]}"#;
 
+/// Checks rows on this map; `+ first two of four` are the first lines of its list.
+fn on_four(alloc: Global, rows: &str) -> Result<(), Wrong> {
+    on_sharing(alloc, FOUR, &[("+ first two of four", FIRST_TWO)], rows)
+}
+
+const FIRST_TWO: &str = "| cargo check --no-default-features
+| cargo check --no-default-features --features c,d";
+
 #[test]
 fn lists_of_small_maps(rt: HostRuntime) -> Result<(), Wrong> {
-    on(
+    on_four(
         rt.alloc(),
-        FOUR,
         r#"
             > list
             | ok
-            | cargo check --no-default-features
-            | cargo check --no-default-features --features c,d
+            + first two of four
             | cargo check --no-default-features --features a
             | cargo check --no-default-features --features b
             | cargo check --no-default-features --features c
@@ -85,9 +92,8 @@ fn lists_of_small_maps(rt: HostRuntime) -> Result<(), Wrong> {
 
 #[test]
 fn lists_of_hostile_maps(rt: HostRuntime) -> Result<(), Wrong> {
-    on(
+    on_four(
         rt.alloc(),
-        FOUR,
         r#"
             > list <{"a":["a"]}
             | ok
@@ -181,9 +187,8 @@ fn refused_words_before_input_at_fault(rt: HostRuntime) -> Result<(), Wrong> {
 
 #[test]
 fn refused_input(rt: HostRuntime) -> Result<(), Wrong> {
-    on(
+    on_four(
         rt.alloc(),
-        FOUR,
         r#"
             > list <[]
             | features must be an object of arrays of texts
@@ -220,22 +225,16 @@ fn refused_input(rt: HostRuntime) -> Result<(), Wrong> {
 
 #[test]
 fn input_of_200_nested_arrays(rt: HostRuntime) -> Result<(), Wrong> {
-    on(
+    on_four(
         rt.alloc(),
-        FOUR,
-        r#"
-            > nested 200
-            | features must be an object of arrays of texts
-            |
-        "#,
+        "> nested 200\n| features must be an object of arrays of texts\n|",
     )
 }
 
 #[test]
 fn list_by_spaces(rt: HostRuntime) -> Result<(), Wrong> {
-    on(
+    on_four(
         rt.alloc(),
-        FOUR,
         r#"
             > list --at-least-one-of c_x
             | ok
@@ -248,21 +247,13 @@ fn list_by_spaces(rt: HostRuntime) -> Result<(), Wrong> {
 
 #[test]
 fn chain_of_300(rt: HostRuntime) -> Result<(), Wrong> {
-    on(
-        rt.alloc(),
-        FOUR,
-        r#"
-            > chain 300
-            | 301
-        "#,
-    )
+    on_four(rt.alloc(), "> chain 300\n| 301")
 }
 
 #[test]
 fn reader_that_fails(rt: HostRuntime) -> Result<(), Wrong> {
-    on(
+    on_four(
         rt.alloc(),
-        FOUR,
         r#"
             > read 0 pipe
             | failed to read the features
@@ -279,9 +270,8 @@ fn reader_that_fails(rt: HostRuntime) -> Result<(), Wrong> {
 
 #[test]
 fn writer_that_fails(rt: HostRuntime) -> Result<(), Wrong> {
-    on(
+    on_four(
         rt.alloc(),
-        FOUR,
         r#"
             > line 0 pipe
             | failed to write the command list
@@ -292,13 +282,11 @@ fn writer_that_fails(rt: HostRuntime) -> Result<(), Wrong> {
             |
             > line 83 pipe
             | failed to write the command list
-            | cargo check --no-default-features
-            | cargo check --no-default-features --features c,d
+            + first two of four
             |
             > line 130 pipe
             | failed to write the command list
-            | cargo check --no-default-features
-            | cargo check --no-default-features --features c,d
+            + first two of four
             | cargo check --no-default-features --features a
             |
         "#,

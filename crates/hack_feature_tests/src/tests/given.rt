@@ -121,8 +121,8 @@ fn lifted(alloc: Global, rules: &str) -> Result<Vec<bool>, AllocError> {
 /// The input from which the sets of a package are chosen, and the rules.
 #[derive(Drop)]
 pub struct Case {
-    pub map: Map,
     pub candidates: Vec<Feature>,
+    pub map: Map,
     pub depth: Option<usize>,
     pub some: Vec<Feature>,
     pub apart: Vec<Feature>,
@@ -133,8 +133,8 @@ pub struct Case {
 pub fn case_of(alloc: Global, input: &str, rules: &str) -> Result<Case, AllocError> {
     let (map, candidates) = input.split_once(" $ ").unwrap_or((input, ""));
     Ok(Case {
-        map: map_of(alloc, map)?,
         candidates: features(alloc, candidates)?,
+        map: map_of(alloc, map)?,
         depth: depth_of(rules),
         some: groups(alloc, rules, ["some=", "some="])?,
         apart: groups(alloc, rules, ["apart=", "lifted="])?,

@@ -1,16 +1,31 @@
 //! Errors of lists and of whole calls of the program: readers and writers that fail with each kind
 //! of error, and what is reported.
 
-use crate::tests::lists::on;
+use crate::tests::lists::on_sharing;
 use hack_holds::Wrong;
+use std::alloc::Global;
 
 const MAP: &str = r#"{"a":[],"b":["a"]}"#;
 
+/// The list of this map, whole and as the first 100 bytes of it.
+const ALL: &str = "| cargo check --no-default-features
+| cargo check --no-default-features --features b
+| cargo check --no-default-features --features a";
+
+const CUT: &str = "| cargo check --no-default-features
+| cargo check --no-default-features --features b
+| cargo check --no-de";
+
+/// Checks rows on the map, with these texts.
+fn on_map(alloc: Global, rows: &str) -> Result<(), Wrong> {
+    let shared = [("+ all lines", ALL), ("+ lines cut in the third", CUT)];
+    on_sharing(alloc, MAP, &shared, rows)
+}
+
 #[test]
 fn readers_that_fail(rt: HostRuntime) -> Result<(), Wrong> {
-    on(
+    on_map(
         rt.alloc(),
-        MAP,
         r#"
             > read 0 memory
             | out of memory
@@ -36,9 +51,8 @@ fn readers_that_fail(rt: HostRuntime) -> Result<(), Wrong> {
 
 #[test]
 fn failures_that_are_counted(rt: HostRuntime) -> Result<(), Wrong> {
-    on(
+    on_map(
         rt.alloc(),
-        MAP,
         r#"
             > counted read other
             | failed to read the features
@@ -61,15 +75,12 @@ fn failures_that_are_counted(rt: HostRuntime) -> Result<(), Wrong> {
 
 #[test]
 fn reader_that_is_interrupted(rt: HostRuntime) -> Result<(), Wrong> {
-    on(
+    on_map(
         rt.alloc(),
-        MAP,
         r#"
             > interrupted reader
             | ok
-            | cargo check --no-default-features
-            | cargo check --no-default-features --features b
-            | cargo check --no-default-features --features a
+            + all lines
             |
         "#,
     )
@@ -77,9 +88,8 @@ fn reader_that_is_interrupted(rt: HostRuntime) -> Result<(), Wrong> {
 
 #[test]
 fn writers_that_fail(rt: HostRuntime) -> Result<(), Wrong> {
-    on(
+    on_map(
         rt.alloc(),
-        MAP,
         r#"
             > write 0 memory
             | out of memory
@@ -100,14 +110,10 @@ fn writers_that_fail(rt: HostRuntime) -> Result<(), Wrong> {
             | c
             > write 100 memory
             | out of memory
-            | cargo check --no-default-features
-            | cargo check --no-default-features --features b
-            | cargo check --no-de
+            + lines cut in the third
             > write 127 memory
             | out of memory
-            | cargo check --no-default-features
-            | cargo check --no-default-features --features b
-            | cargo check --no-default-features --features a
+            + all lines
             > write 0 any
             | failed to write the command list
             |
@@ -127,29 +133,22 @@ fn writers_that_fail(rt: HostRuntime) -> Result<(), Wrong> {
             | c
             > write 100 any
             | failed to write the command list
-            | cargo check --no-default-features
-            | cargo check --no-default-features --features b
-            | cargo check --no-de
+            + lines cut in the third
             > write 127 any
             | failed to write the command list
-            | cargo check --no-default-features
-            | cargo check --no-default-features --features b
-            | cargo check --no-default-features --features a
+            + all lines
         "#,
     )
 }
 
 #[test]
 fn writer_that_is_interrupted(rt: HostRuntime) -> Result<(), Wrong> {
-    on(
+    on_map(
         rt.alloc(),
-        MAP,
         r#"
             > interrupted writer
             | ok
-            | cargo check --no-default-features
-            | cargo check --no-default-features --features b
-            | cargo check --no-default-features --features a
+            + all lines
             |
         "#,
     )
@@ -157,21 +156,16 @@ fn writer_that_is_interrupted(rt: HostRuntime) -> Result<(), Wrong> {
 
 #[test]
 fn flush_that_fails(rt: HostRuntime) -> Result<(), Wrong> {
-    on(
+    on_map(
         rt.alloc(),
-        MAP,
         r#"
             > flush full
             | failed to write the command list
-            | cargo check --no-default-features
-            | cargo check --no-default-features --features b
-            | cargo check --no-default-features --features a
+            + all lines
             |
             > flush memory
             | out of memory
-            | cargo check --no-default-features
-            | cargo check --no-default-features --features b
-            | cargo check --no-default-features --features a
+            + all lines
             |
         "#,
     )
@@ -179,9 +173,8 @@ fn flush_that_fails(rt: HostRuntime) -> Result<(), Wrong> {
 
 #[test]
 fn writer_that_takes_nothing(rt: HostRuntime) -> Result<(), Wrong> {
-    on(
+    on_map(
         rt.alloc(),
-        MAP,
         r#"
             > full writer
             | failed to write the command list
@@ -192,9 +185,8 @@ fn writer_that_takes_nothing(rt: HostRuntime) -> Result<(), Wrong> {
 
 #[test]
 fn faults_of_errors(rt: HostRuntime) -> Result<(), Wrong> {
-    on(
+    on_map(
         rt.alloc(),
-        MAP,
         r#"
             > fault read memory
             | out of memory
@@ -210,9 +202,8 @@ fn faults_of_errors(rt: HostRuntime) -> Result<(), Wrong> {
 
 #[test]
 fn list_of_some_pages(rt: HostRuntime) -> Result<(), Wrong> {
-    on(
+    on_map(
         rt.alloc(),
-        MAP,
         r#"
             > pages
             | true
@@ -222,22 +213,17 @@ fn list_of_some_pages(rt: HostRuntime) -> Result<(), Wrong> {
 
 #[test]
 fn calls(rt: HostRuntime) -> Result<(), Wrong> {
-    on(
+    on_map(
         rt.alloc(),
-        MAP,
         r#"
             > call powerset-list
             | 0 true
-            | cargo check --no-default-features
-            | cargo check --no-default-features --features b
-            | cargo check --no-default-features --features a
+            + all lines
             | err:
             |
             > call
             | 0 true
-            | cargo check --no-default-features
-            | cargo check --no-default-features --features b
-            | cargo check --no-default-features --features a
+            + all lines
             | err:
             |
             > call powerset-list --depth 0
@@ -271,9 +257,8 @@ fn calls(rt: HostRuntime) -> Result<(), Wrong> {
 
 #[test]
 fn calls_without_words(rt: HostRuntime) -> Result<(), Wrong> {
-    on(
+    on_map(
         rt.alloc(),
-        MAP,
         r#"
             > lost data
             | 1 true
@@ -292,9 +277,8 @@ fn calls_without_words(rt: HostRuntime) -> Result<(), Wrong> {
 /// An error stays an error where its line can't be printed.
 #[test]
 fn calls_that_cannot_tell(rt: HostRuntime) -> Result<(), Wrong> {
-    on(
+    on_map(
         rt.alloc(),
-        MAP,
         r#"
             > tell 0
             | 1 false
@@ -314,9 +298,8 @@ fn calls_that_cannot_tell(rt: HostRuntime) -> Result<(), Wrong> {
 
 #[test]
 fn commands_of_runs(rt: HostRuntime) -> Result<(), Wrong> {
-    on(
+    on_map(
         rt.alloc(),
-        MAP,
         r#"
             > command plain
             | cargo check

@@ -357,6 +357,20 @@ impl Ask for Lists<'_> {
     }
 }
 
+/// Checks rows on a map, in which each name in `shared` stands for the text after it there.
+pub fn on_sharing(
+    alloc: Global,
+    map: &str,
+    shared: &[(&str, &str)],
+    rows: &str,
+) -> Result<(), Wrong> {
+    let mut rows = String::from_str(alloc, rows)?;
+    for (name, lines) in shared {
+        rows = rows.as_str().replace(alloc, name, lines)?;
+    }
+    on(alloc, map, rows.as_str())
+}
+
 /// Checks rows on a map.
 pub fn on(alloc: Global, map: &str, rows: &str) -> Result<(), Wrong> {
     hold(alloc, &mut Lists { map }, rows)

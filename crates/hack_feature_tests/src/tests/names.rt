@@ -111,8 +111,8 @@ struct Named<'a> {
 
 impl Ask for Named<'_> {
     fn answer(&mut self, alloc: Global, question: &str) -> Result<String, AllocError> {
-        let (kind, rest) = question.split_once(' ').unwrap_or((question, ""));
         let map = map_of(alloc, self.map)?;
+        let (kind, rest) = question.split_once(' ').unwrap_or((question, ""));
         match kind {
             "order" => order(alloc, rest),
             "deps" => deps(alloc, &map),

@@ -4,6 +4,13 @@
 use crate::tests::calls::on;
 use crate::tests::given::numbered;
 use hack_holds::Wrong;
+use std::alloc::Global;
+
+/// Checks a row on so many numbered features, of which each enables the one before in a chain.
+fn on_numbered(alloc: Global, n: usize, is_chain: bool, row: &str) -> Result<(), Wrong> {
+    let input = numbered(alloc, n, is_chain)?;
+    on(alloc, input.as_str(), row)
+}
 
 #[test]
 fn few_questions_on_four_features(rt: HostRuntime) -> Result<(), Wrong> {
@@ -33,40 +40,31 @@ fn few_questions_on_runtimes(rt: HostRuntime) -> Result<(), Wrong> {
 
 #[test]
 fn few_questions_on_pairs_of_30(rt: HostRuntime) -> Result<(), Wrong> {
-    let input = numbered(rt.alloc(), 30, false)?;
-    on(
+    on_numbered(
         rt.alloc(),
-        input.as_str(),
-        "
-            > count 13980 depth=2
-            | 465 465 465 few true same true
-        ",
+        30,
+        false,
+        "> count 13980 depth=2\n| 465 465 465 few true same true",
     )
 }
 
 #[test]
 fn few_questions_on_a_chain_of_60(rt: HostRuntime) -> Result<(), Wrong> {
-    let input = numbered(rt.alloc(), 60, true)?;
-    on(
+    on_numbered(
         rt.alloc(),
-        input.as_str(),
-        "
-            > count 3660
-            | 60 60 60 few true same true
-        ",
+        60,
+        true,
+        "> count 3660\n| 60 60 60 few true same true",
     )
 }
 
 #[test]
 fn few_questions_on_a_chain_of_300(rt: HostRuntime) -> Result<(), Wrong> {
-    let input = numbered(rt.alloc(), 300, true)?;
-    on(
+    on_numbered(
         rt.alloc(),
-        input.as_str(),
-        "
-            > count 90300
-            | 300 300 300 few true same true
-        ",
+        300,
+        true,
+        "> count 90300\n| 300 300 300 few true same true",
     )
 }
 
