@@ -12,7 +12,6 @@ pub mod memory;
 mod restore;
 mod short;
 
-use crate::tests::files::faults::{bytes, is_of_path, put, whole_text};
 use crate::tests::text::{number, plain, push_plain, push_quoted, quoted};
 use hack_files::fs::{FileFault, Files};
 use hack_holds::{Ask, Wrong, hold};
@@ -61,10 +60,10 @@ pub fn answer<F: Files>(
         "remove" => done(alloc, files.remove(path)),
         "failures" => number(alloc, files.failures()),
         "held" => held(alloc, files, rest),
-        "bytes" => bytes(alloc, files, path),
-        "text" => whole_text(alloc, files, path),
-        "put" => put(alloc, files, path, text),
-        "fault" => is_of_path(alloc, files, path),
+        "bytes" => faults::bytes(alloc, files, path),
+        "text" => faults::text(alloc, files, path),
+        "put" => faults::put(alloc, files, path, text),
+        "fault" => faults::names(alloc, files, path),
         _ => String::from_str(alloc, "no such question"),
     }
 }

@@ -16,11 +16,7 @@ pub fn bytes<F: Files>(alloc: Global, files: &mut F, path: &str) -> Result<Strin
     }
 }
 
-pub fn whole_text<F: Files>(
-    alloc: Global,
-    files: &mut F,
-    path: &str,
-) -> Result<String, AllocError> {
+pub fn text<F: Files>(alloc: Global, files: &mut F, path: &str) -> Result<String, AllocError> {
     match fs::read_to_string(alloc, files, path) {
         Ok(text) => quoted(alloc, text.as_bytes()),
         Err(fault) => text_of(alloc, &fault),
@@ -43,36 +39,14 @@ pub fn put<F: Files>(
     }
 }
 
-/// Whether the error of reading is the one of this path.
-pub fn is_of_path<F: Files>(
-    alloc: Global,
-    files: &mut F,
-    path: &str,
-) -> Result<String, AllocError> {
+/// Whether the error of reading names this path.
+pub fn names<F: Files>(alloc: Global, files: &mut F, path: &str) -> Result<String, AllocError> {
     let wanted = Err(FsFault::Read(String::from_str(alloc, path)?));
     truth(alloc, Ok(fs::read(alloc, files, path) == wanted))
 }
 
 pub fn text_of(alloc: Global, fault: &FsFault) -> Result<String, AllocError> {
     format!(in alloc; "{fault}")
-}
-
-#[test]
-fn want_of_memory_is_no_failure_of_the_device(rt: HostRuntime) -> Result<(), Wrong> {
-    hold_over(
-        rt.alloc(),
-        Short { failures: 0 },
-        "
-            > bytes a
-            | out of memory
-            > text a
-            | out of memory
-            > put a 1
-            | out of memory
-            > failures
-            | 3
-        ",
-    )
 }
 
 #[test]
@@ -95,6 +69,24 @@ fn bytes_that_are_no_text_are_no_failure_of_the_device(rt: HostRuntime) -> Resul
             | file `a` is not UTF-8 text
             > failures
             | 0
+        ",
+    )
+}
+
+#[test]
+fn want_of_memory_is_no_failure_of_the_device(rt: HostRuntime) -> Result<(), Wrong> {
+    hold_over(
+        rt.alloc(),
+        Short { failures: 0 },
+        "
+            > bytes a
+            | out of memory
+            > text a
+            | out of memory
+            > put a 1
+            | out of memory
+            > failures
+            | 3
         ",
     )
 }
