@@ -1,15 +1,13 @@
 //! What `run`, `run_with_output` and `read` return with a caller in memory, and what it was asked.
 //! `commands` describes the questions.
 
-use crate::commands::on;
+use crate::commands::{on, on_own};
 use hack_holds::Wrong;
 
 #[test]
 fn a_command_that_ends_well(rt: HostRuntime) -> Result<(), Wrong> {
-    on(
+    on_own(
         rt.alloc(),
-        "",
-        "",
         r#"
             > command: /bin/cargo
             | `cargo`
@@ -40,57 +38,10 @@ fn a_command_that_ends_well(rt: HostRuntime) -> Result<(), Wrong> {
     )
 }
 
-static FAILING: &str = r"
-    > command: /bin/cargo
-    | `cargo`
-    > own words: check|--manifest-path|/w/m/Cargo.toml
-    | `cargo check`
-    > run: status 101|out\n|
-    | process didn't exit successfully: `/bin/cargo check --manifest-path m/Cargo.toml` (exit status: 101)
-    | /bin/cargo check --manifest-path /w/m/Cargo.toml
-    > run: signal 9||
-    | process didn't exit successfully: `/bin/cargo check --manifest-path m/Cargo.toml` (signal: 9)
-    | /bin/cargo check --manifest-path /w/m/Cargo.toml
-    > run: never started||
-    | could not execute process `/bin/cargo check --manifest-path m/Cargo.toml` (never executed)
-    | /bin/cargo check --manifest-path /w/m/Cargo.toml
-    > read: never started|out|err
-    | could not execute process `/bin/cargo check --manifest-path m/Cargo.toml` (never executed)
-    | /bin/cargo check --manifest-path /w/m/Cargo.toml captured
-    > output: status -1|out\n| err
-    | process didn't exit successfully: `/bin/cargo check --manifest-path m/Cargo.toml` (exit status: -1)
-    | --- stdout
-    | out
-    |
-    | --- stderr
-    |  err
-    | /bin/cargo check --manifest-path /w/m/Cargo.toml captured
-    > read: signal 11| \r\n|err
-    | process didn't exit successfully: `/bin/cargo check --manifest-path m/Cargo.toml` (signal: 11)
-    | --- stderr
-    | err
-    | /bin/cargo check --manifest-path /w/m/Cargo.toml captured
-    > read: status 1|out|\f err
-    | process didn't exit successfully: `/bin/cargo check --manifest-path m/Cargo.toml` (exit status: 1)
-    | --- stdout
-    | out
-    | /bin/cargo check --manifest-path /w/m/Cargo.toml captured
-    > read: status 0|a\f|err
-    | failed to parse output from `/bin/cargo check --manifest-path m/Cargo.toml`
-    | /bin/cargo check --manifest-path /w/m/Cargo.toml captured
-";
-
-#[test]
-fn a_command_that_fails(rt: HostRuntime) -> Result<(), Wrong> {
-    on(rt.alloc(), "", "", FAILING)
-}
-
 #[test]
 fn a_program_without_a_name_is_not_called(rt: HostRuntime) -> Result<(), Wrong> {
-    on(
+    on_own(
         rt.alloc(),
-        "",
-        "",
         "
             > caller: status 0
             | ok
@@ -143,10 +94,8 @@ fn words_are_asked_in_order(rt: HostRuntime) -> Result<(), Wrong> {
 
 #[test]
 fn answers_of_a_caller_in_memory(rt: HostRuntime) -> Result<(), Wrong> {
-    on(
+    on_own(
         rt.alloc(),
-        "",
-        "",
         r#"
             > caller: status 7
             | ok
@@ -182,4 +131,49 @@ fn answers_of_a_caller_in_memory(rt: HostRuntime) -> Result<(), Wrong> {
             | cargo  captured
         "#,
     )
+}
+
+static FAILING: &str = r"
+    > command: /bin/cargo
+    | `cargo`
+    > own words: check|--manifest-path|/w/m/Cargo.toml
+    | `cargo check`
+    > run: status 101|out\n|
+    | process didn't exit successfully: `/bin/cargo check --manifest-path m/Cargo.toml` (exit status: 101)
+    | /bin/cargo check --manifest-path /w/m/Cargo.toml
+    > run: signal 9||
+    | process didn't exit successfully: `/bin/cargo check --manifest-path m/Cargo.toml` (signal: 9)
+    | /bin/cargo check --manifest-path /w/m/Cargo.toml
+    > run: never started||
+    | could not execute process `/bin/cargo check --manifest-path m/Cargo.toml` (never executed)
+    | /bin/cargo check --manifest-path /w/m/Cargo.toml
+    > read: never started|out|err
+    | could not execute process `/bin/cargo check --manifest-path m/Cargo.toml` (never executed)
+    | /bin/cargo check --manifest-path /w/m/Cargo.toml captured
+    > output: status -1|out\n| err
+    | process didn't exit successfully: `/bin/cargo check --manifest-path m/Cargo.toml` (exit status: -1)
+    | --- stdout
+    | out
+    |
+    | --- stderr
+    |  err
+    | /bin/cargo check --manifest-path /w/m/Cargo.toml captured
+    > read: signal 11| \r\n|err
+    | process didn't exit successfully: `/bin/cargo check --manifest-path m/Cargo.toml` (signal: 11)
+    | --- stderr
+    | err
+    | /bin/cargo check --manifest-path /w/m/Cargo.toml captured
+    > read: status 1|out|\f err
+    | process didn't exit successfully: `/bin/cargo check --manifest-path m/Cargo.toml` (exit status: 1)
+    | --- stdout
+    | out
+    | /bin/cargo check --manifest-path /w/m/Cargo.toml captured
+    > read: status 0|a\f|err
+    | failed to parse output from `/bin/cargo check --manifest-path m/Cargo.toml`
+    | /bin/cargo check --manifest-path /w/m/Cargo.toml captured
+";
+
+#[test]
+fn a_command_that_fails(rt: HostRuntime) -> Result<(), Wrong> {
+    on_own(rt.alloc(), FAILING)
 }

@@ -1,6 +1,6 @@
 //! The texts and the arguments of commands. `commands` describes the questions.
 
-use crate::commands::on;
+use crate::commands::{on, on_own};
 use hack_holds::Wrong;
 
 #[test]
@@ -94,10 +94,8 @@ fn leading_words_come_first(rt: HostRuntime) -> Result<(), Wrong> {
 
 #[test]
 fn programs_without_a_name(rt: HostRuntime) -> Result<(), Wrong> {
-    on(
+    on_own(
         rt.alloc(),
-        "",
-        "",
         "
             > command: ..
             | `..`
@@ -171,7 +169,7 @@ static MANIFEST_PATHS: &str = "
 
 #[test]
 fn manifest_paths(rt: HostRuntime) -> Result<(), Wrong> {
-    on(rt.alloc(), "", "", MANIFEST_PATHS)
+    on_own(rt.alloc(), MANIFEST_PATHS)
 }
 
 #[test]
@@ -189,10 +187,8 @@ fn only_own_words_are_options(rt: HostRuntime) -> Result<(), Wrong> {
 
 #[test]
 fn features_are_one_word(rt: HostRuntime) -> Result<(), Wrong> {
-    on(
+    on_own(
         rt.alloc(),
-        "",
-        "",
         "
             > empty name
             | `c --features `
@@ -208,10 +204,8 @@ fn features_are_one_word(rt: HostRuntime) -> Result<(), Wrong> {
 
 #[test]
 fn features_are_taken_away(rt: HostRuntime) -> Result<(), Wrong> {
-    on(
+    on_own(
         rt.alloc(),
-        "",
-        "",
         "
             > names:
             | `c`

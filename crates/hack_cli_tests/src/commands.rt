@@ -105,34 +105,33 @@ impl Commands<'_> {
         }
         let before = self.caller.made().len();
         let mut told = match kind {
-            "run" => ran(alloc, &self.builder, &mut self.caller)?,
-            "output" => output(alloc, &self.builder, &mut self.caller)?,
-            _ => read(alloc, &self.builder, &mut self.caller)?,
+            "run" => self.ran(alloc)?,
+            "output" => self.output(alloc)?,
+            _ => self.read(alloc)?,
         };
         push_made(alloc, &mut told, self.caller.made(), before)?;
         Ok(told)
     }
-}
 
-fn ran(
-    alloc: Global,
-    command: &ProcessBuilder<'_>,
-    caller: &mut FakeCaller,
-) -> Result<String, AllocError> {
-    match command.run(alloc, caller, "/w") {
-        Ok(()) => String::from_str(alloc, "ok"),
-        Err(fault) => fault.to_string(alloc),
+    fn ran(&mut self, alloc: Global) -> Result<String, AllocError> {
+        match self.builder.run(alloc, &mut self.caller, "/w") {
+            Ok(()) => String::from_str(alloc, "ok"),
+            Err(fault) => fault.to_string(alloc),
+        }
     }
-}
 
-fn output(
-    alloc: Global,
-    command: &ProcessBuilder<'_>,
-    caller: &mut FakeCaller,
-) -> Result<String, AllocError> {
-    match command.run_with_output(alloc, caller, "/w") {
-        Ok(called) => outputs(alloc, &called),
-        Err(fault) => fault.to_string(alloc),
+    fn output(&mut self, alloc: Global) -> Result<String, AllocError> {
+        match self.builder.run_with_output(alloc, &mut self.caller, "/w") {
+            Ok(called) => outputs(alloc, &called),
+            Err(fault) => fault.to_string(alloc),
+        }
+    }
+
+    fn read(&mut self, alloc: Global) -> Result<String, AllocError> {
+        match self.builder.read(alloc, &mut self.caller, "/w") {
+            Ok(text) => format!(in alloc; "{text:?}"),
+            Err(fault) => fault.to_string(alloc),
+        }
     }
 }
 
@@ -140,17 +139,6 @@ fn outputs(alloc: Global, called: &Called) -> Result<String, AllocError> {
     let output = String::from_utf8_lossy(alloc, &called.stdout)?;
     let errors = String::from_utf8_lossy(alloc, &called.stderr)?;
     format!(in alloc; "{output:?} {errors:?}")
-}
-
-fn read(
-    alloc: Global,
-    command: &ProcessBuilder<'_>,
-    caller: &mut FakeCaller,
-) -> Result<String, AllocError> {
-    match command.read(alloc, caller, "/w") {
-        Ok(text) => format!(in alloc; "{text:?}"),
-        Err(fault) => fault.to_string(alloc),
-    }
 }
 
 /// A line for each call after the first ones.
@@ -198,6 +186,11 @@ fn letter(byte: u8, is_escape: bool) -> u8 {
         b'f' if is_escape => 0xff,
         byte => byte,
     }
+}
+
+/// Checks rows on a command without passed or trailing arguments.
+pub fn on_own(alloc: Global, rows: &str) -> Result<(), Wrong> {
+    on(alloc, "", "", rows)
 }
 
 /// Checks rows on a command with these passed and trailing arguments.

@@ -1,9 +1,15 @@
 //! The help, word for word.
 
+use std::alloc::{AllocError, Global};
+
 /// What `-h` and `--help` print.
-pub const HELP: &str = "
-> help: short
-| cargo-hack
+pub fn help_rows(alloc: Global) -> Result<String, AllocError> {
+    let rows = HELP.replace(alloc, "+ head", HEAD)?;
+    rows.as_str().replace(alloc, "+ tail", TAIL)
+}
+
+/// How both begin and end.
+const HEAD: &str = "| cargo-hack
 | Cargo subcommand to provide various options useful for testing and continuous integration.
 |
 | USAGE:
@@ -11,7 +17,18 @@ pub const HELP: &str = "
 |
 | Use -h for short descriptions and --help for more details.
 |
-| OPTIONS:
+| OPTIONS:";
+
+const TAIL: &str = "| Some common cargo commands are (see all commands with --list):
+|     build       Compile the current package
+|     check       Analyze the current package and report errors, but don't build object files
+|     run         Run a binary or example of the local package
+|     test        Run the tests
+|";
+
+const HELP: &str = "
+> help: short
++ head
 |     -p, --package <SPEC>...              Package(s) to check
 |         --all                            Alias for --workspace
 |         --workspace                      Perform command for all packages in the workspace
@@ -66,22 +83,9 @@ pub const HELP: &str = "
 |     -h, --help                           Prints help information
 |     -V, --version                        Prints version information
 |
-| Some common cargo commands are (see all commands with --list):
-|     build       Compile the current package
-|     check       Analyze the current package and report errors, but don't build object files
-|     run         Run a binary or example of the local package
-|     test        Run the tests
-|
++ tail
 > help: long
-| cargo-hack
-| Cargo subcommand to provide various options useful for testing and continuous integration.
-|
-| USAGE:
-|     cargo hack [OPTIONS] [SUBCOMMAND]
-|
-| Use -h for short descriptions and --help for more details.
-|
-| OPTIONS:
++ head
 |     -p, --package <SPEC>...
 |             Package(s) to check.
 |
@@ -313,10 +317,5 @@ pub const HELP: &str = "
 |     -V, --version
 |             Prints version information.
 |
-| Some common cargo commands are (see all commands with --list):
-|     build       Compile the current package
-|     check       Analyze the current package and report errors, but don't build object files
-|     run         Run a binary or example of the local package
-|     test        Run the tests
-|
++ tail
 ";

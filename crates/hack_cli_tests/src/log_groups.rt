@@ -1,7 +1,7 @@
 //! Groups of lines in a log, also where a write of their lines is interrupted or fails. `terminal`
 //! describes the questions.
 
-use crate::terminal::on;
+use crate::terminal::{on, on_plain};
 use hack_holds::Wrong;
 use hack_term::term::{Coloring, Term};
 
@@ -21,9 +21,8 @@ fn lines_of_log_groups(rt: HostRuntime) -> Result<(), Wrong> {
 
 #[test]
 fn a_group_hands_out_its_fault(rt: HostRuntime) -> Result<(), Wrong> {
-    on(
+    on_plain(
         rt.alloc(),
-        Term::new(Coloring::Never, false),
         r"
             > group none told / broken at 0 / broken at 0
             | broken, not open, out '', err '' in 1 writes
@@ -82,5 +81,5 @@ static INTERRUPTED: &str = r"
 
 #[test]
 fn a_group_is_ended_after_an_interrupted_write(rt: HostRuntime) -> Result<(), Wrong> {
-    on(rt.alloc(), Term::new(Coloring::Never, false), INTERRUPTED)
+    on_plain(rt.alloc(), INTERRUPTED)
 }

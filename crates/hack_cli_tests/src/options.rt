@@ -5,7 +5,7 @@
 
 use crate::asks::{halves, on};
 use crate::checks::checked;
-use crate::help_texts::HELP;
+use crate::help_texts::help_rows;
 use hack_holds::Wrong;
 use hack_options::{ALL, Help, Opt, long, short};
 use std::alloc::{AllocError, Global};
@@ -78,7 +78,8 @@ pub fn same(alloc: Global, text: &str) -> Result<String, AllocError> {
 
 #[test]
 fn help(rt: HostRuntime) -> Result<(), Wrong> {
-    on(rt.alloc(), HELP)
+    let rows = help_rows(rt.alloc())?;
+    on(rt.alloc(), rows.as_str())
 }
 
 #[test]

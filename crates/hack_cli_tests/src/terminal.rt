@@ -3,13 +3,14 @@
 //! how that ended, how often the page was written to, what the terminal has recorded so far, and
 //! the page. `group none TEXT` and `group github TEXT` print the line of a group on two pages, and
 //! end the group: how the line ended, how the end did where the group was open, and the pages. How
-//! a page fails is given after ` / `. `status FLAGS` records `error`, `warning`, both or nothing,
+//! a page fails is given after ` / `; `broken at 0..=5` are six pages, each with a line in the answer,
+//! of which each fails at another write. `status FLAGS` records `error`, `warning`, both or nothing,
 //! and asks for the status, where `denied` denies warnings.
 
-use crate::asks::halves;
+use crate::asks::{halves, push_line};
 use crate::page::{Page, name_of};
 use hack_holds::{Ask, Wrong, hold};
-use hack_term::term::{LogGroup, LogGroupGuard, Notice, NoticeKind, Term};
+use hack_term::term::{Coloring, LogGroup, LogGroupGuard, Notice, NoticeKind, Term};
 use std::alloc::{AllocError, Global};
 use std::io;
 
@@ -25,7 +26,7 @@ impl Ask for Terminal {
         match kind {
             "status" => self.status(alloc, text),
             "group" => self.group(alloc, text, pages),
-            _ => self.line(alloc, kind, text, pages),
+            _ => self.lines(alloc, kind, text, pages),
         }
     }
 }
@@ -58,6 +59,27 @@ impl Terminal {
         let noted = self.noted();
         let text = page.text(alloc)?;
         format!(in alloc; "{end}, {} writes, {noted}: '{text}'", page.writes)
+    }
+
+    /// The line on a page, or on one for each place where it fails.
+    fn lines(
+        &mut self,
+        alloc: Global,
+        kind: &str,
+        text: &str,
+        pages: &str,
+    ) -> Result<String, AllocError> {
+        let (page, last) = halves(pages, "..=");
+        let (how, first) = halves(page, " at ");
+        let (Ok(first), Ok(last)) = (first.parse::<u64>(), last.parse::<u64>()) else {
+            return self.line(alloc, kind, text, pages);
+        };
+        let mut told = String::new(alloc);
+        for place in first..=last {
+            let page = format!(in alloc; "{how} at {place}")?;
+            push_line(&mut told, self.line(alloc, kind, text, &page)?.as_str())?;
+        }
+        Ok(told)
     }
 
     fn noted(&self) -> &'static str {
@@ -107,6 +129,11 @@ fn kind_of(kind: &str) -> NoticeKind {
         "note-quiet" => NoticeKind::QuietWarn,
         _ => NoticeKind::Info,
     }
+}
+
+/// Checks rows on a terminal that never colours.
+pub fn on_plain(alloc: Global, rows: &str) -> Result<(), Wrong> {
+    on(alloc, Term::new(Coloring::Never, false), rows)
 }
 
 /// Checks rows on a terminal.

@@ -100,13 +100,15 @@ fn steps_text(alloc: Global, steps: &[Version], notices: &[Notice]) -> Result<St
     Ok(text)
 }
 
+/// Appends a line for each notice.
 fn push_notices(text: &mut String, notices: &[Notice]) -> Result<(), AllocError> {
     for notice in notices {
-        text.push_str(match notice.kind {
+        let kind = match notice.kind {
             NoticeKind::Info => "\ninfo: ",
             NoticeKind::Warn => "\nwarning: ",
             NoticeKind::QuietWarn => "\nquiet warning: ",
-        })?;
+        };
+        text.push_str(kind)?;
         text.push_str(notice.text.as_str())?;
     }
     Ok(())
