@@ -13,7 +13,7 @@ use Rattle.hack_metadata.specs.MetadataReading.{with_nodes}
 use Rattle.hack_metadata.specs.Records.{NodeRecord, Nodes, node_at}
 use Rattle.hack_metadata.specs.RecordViews.{node_view, nodes_view}
 use Rattle.hack_metadata.proofs.IdLemmas.{cmp-eq}
-use Rattle.hack_metadata.specs.contracts.resolve.PackageIdOrd.TheImpl as ord
+use Rattle.hack_metadata.specs.contracts.metadata.resolve.PackageIdOrd.TheImpl as ord
 use Rattle.hack_metadata.specs.declared.metadata.resolve.Node.{Node}
 use Rattle.hack_metadata.specs.declared.metadata.resolve.PackageId.{PackageId}
 
