@@ -3,9 +3,9 @@
 //! how that ended, how often the page was written to, what the terminal has recorded so far, and
 //! the page. `group none TEXT` and `group github TEXT` print the line of a group on two pages, and
 //! end the group: how the line ended, how the end did where the group was open, and the pages. How
-//! a page fails is given after ` / `; `broken at 0..=5` are six pages, each with a line in the answer,
-//! of which each fails at another write. `status FLAGS` records `error`, `warning`, both or nothing,
-//! and asks for the status, where `denied` denies warnings.
+//! a page fails is given after ` / `. With `broken at 0..=5` a line is written to six pages in
+//! turn, one for each of these places, and the answer has a line for each. `status FLAGS` records
+//! `error`, `warning`, both or nothing, and asks for the status, where `denied` denies warnings.
 
 use crate::asks::{halves, push_line};
 use crate::page::{Page, name_of};
@@ -61,7 +61,7 @@ impl Terminal {
         format!(in alloc; "{end}, {} writes, {noted}: '{text}'", page.writes)
     }
 
-    /// The line on a page, or on one for each place where it fails.
+    /// What writing a line did: on one page, or on a page for each of several places.
     fn lines(
         &mut self,
         alloc: Global,

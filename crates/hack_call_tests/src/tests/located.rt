@@ -45,9 +45,10 @@ struct Places {}
 
 impl Ask for Places {
     fn answer(&mut self, alloc: Global, question: &str) -> Result<String, AllocError> {
-        match question.strip_prefix("at ") {
-            Some(path) => current_at(alloc, path),
-            None => root(alloc, question.strip_prefix("root ").unwrap_or("")),
+        match (question.strip_prefix("root"), question.strip_prefix("at ")) {
+            (Some(text), _) => root(alloc, text.trim_start()),
+            (_, Some(path)) => current_at(alloc, path),
+            _ => String::from_str(alloc, "no such question"),
         }
     }
 }
