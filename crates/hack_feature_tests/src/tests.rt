@@ -1,4 +1,4 @@
-//! The tests, each beside what answers its questions, and what they share.
+//! The tests, each in the module of what it tests.
 
 mod calls;
 mod command_lists;
