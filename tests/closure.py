@@ -9,7 +9,7 @@ definitions of the standard library and of the kit's crates aren't followed. A d
 ones and comments. Behind an @ stands the name of one clause; else the whole contract is taken. Without a function, the headline
 and the contracts of its call and of a whole call are. With --list each definition is printed with its lines, most first. A line
 a function: its name, how many definitions, and how many lines they have. With --private the definitions are printed that no
-public contract, type or trait rests on, and that stand in another file than Internal*.antt.
+public contract, type or trait rests on, and that stand in another file than Internal*.antt, and those there on which one does.
 """
 import argparse
 import functools
@@ -105,7 +105,7 @@ def public_text(lines):
         function = FUNCTION.match(line)
         if function:
             end, has_body = head(lines, at)
-            kept += lines[at:end] if PUBLIC.match(line) or of_trait and function[1] else []
+            kept += lines[at:end + 1] if PUBLIC.match(line) or of_trait and function[1] else []
             while has_body and lines[end] != f"{function[1]}}}":
                 end += 1
             at = end
@@ -122,14 +122,14 @@ def cited(lines, text):
 
 
 def private():
-    """The definitions that only private functions need, and that stand in another file than Internal*.antt."""
+    """The definitions that only private functions need, and that stand in another file than Internal*.antt; and the others there."""
     files = [lines_of(path) for path in glob.glob(f"{ROOT}/crates/*/src/**/*.rt", recursive=True)]
     public = follow([it for lines in files for it in cited(lines, public_text(lines))])
     for path in sorted(glob.glob(f"{ROOT}/crates/*/specs/*.antt")):
         crate, name = path.split("/")[-3], os.path.basename(path)[:-len(".antt")]
-        if not name.startswith("Internal"):
-            yield from (f"{crate}::{name}::{item}" for item in module(crate, name)[0]
-                        if NAME.fullmatch(item) and item != "mutual" and (crate, name, item) not in public)
+        for item in filter(NAME.fullmatch, module(crate, name)[0]):
+            if item != "mutual" and name.startswith("Internal") == ((crate, name, item) in public):
+                yield f"{crate}::{name}::{item}"
 
 
 def contract(promise):
@@ -145,7 +145,7 @@ def contract(promise):
         sys.exit(f"{function}: it isn't in {path}")
     end, _ = head(lines, at)
     said, taken = [], not clause
-    for line in (it.partition("//")[0] for it in lines[at:end]):
+    for line in (it.partition("//")[0] for it in lines[at:end + 1]):
         begun = CLAUSE.match(line)
         taken = begun[1] == clause if clause and begun else taken
         said += [line] * taken

@@ -17,7 +17,7 @@ use Rattle.hack_planner.specs.Members.{Member, Choosing, taken, left, ends, Sele
 use Rattle.hack_base.specs.Notes.{Note}
 use Rattle.hack_versions.specs.declared.version.VersionFault.{VersionFault}
 use Rattle.hack_versions.specs.declared.group.PackageVersion.{PackageVersion}
-use Rattle.hack_planner.specs.Calls.{IsMember, AreMembers, grows, HasPackageRuns, IsPlanned, ArePlanned, adds, IsBadOwn, HasBadOwn}
+use Rattle.hack_planner.specs.Calls.{IsMember, AreMembers, grows, HasPackageRuns, IsDescribed, AreDescribed, adds, IsBadOwn, HasBadOwn}
 use Rattle.hack_plan.specs.View.{PackageView}
 
 -- one id more
@@ -30,9 +30,9 @@ pub members-more : (cx : ContextRecord) (ids : List PackageId) (i : ℕ) (d : Pa
 members-more cx ids i d lt members member is before = subst (λ ps. AreMembers cx ps (members ++ member ∷ [])) (sym (id-more ids i d lt)) (grows before is)
 
 -- one planned package more
-pub planned-more : (cx : ContextRecord) (single : Bool) (ids : List PackageId) (i : ℕ) (d : PackageId) → i < length ids → (packages : List PackageView) (k : PackageView) (notes more : List Note) → IsPlanned cx single (get_or ids i d).index k more
-    → ArePlanned cx single (map place_at (take i ids)) packages notes → ArePlanned cx single (map place_at (take (i + 1) ids)) (packages ++ k ∷ []) (notes ++ more)
-planned-more cx single ids i d lt packages k notes more is before = subst (λ ps. ArePlanned cx single ps (packages ++ k ∷ []) (notes ++ more)) (sym (id-more ids i d lt)) (adds before is)
+pub planned-more : (cx : ContextRecord) (single : Bool) (ids : List PackageId) (i : ℕ) (d : PackageId) → i < length ids → (packages : List PackageView) (k : PackageView) (notes more : List Note) → IsDescribed cx single (get_or ids i d).index k more
+    → AreDescribed cx single (map place_at (take i ids)) packages notes → AreDescribed cx single (map place_at (take (i + 1) ids)) (packages ++ k ∷ []) (notes ++ more)
+planned-more cx single ids i d lt packages k notes more is before = subst (λ ps. AreDescribed cx single ps (packages ++ k ∷ []) (notes ++ more)) (sym (id-more ids i d lt)) (adds before is)
 
 -- the runs of one package more
 pub runs-more : (cx : ContextRecord) (ids : List PackageId) (i : ℕ) (d : PackageId) → i < length ids → (packages : List PackageView) (k : PackageView) → HasPackageRuns cx (get_or ids i d).index k

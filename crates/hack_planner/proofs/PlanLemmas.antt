@@ -25,7 +25,7 @@ use Rattle.hack_versions.specs.declared.group.PackageVersion.{PackageVersion}
 use Rattle.hack_versions.specs.declared.version.Version.{Version}
 use Rattle.hack_base.specs.Notes.{Note}
 use Rattle.hack_rules.specs.declared.uses.behavior.WorkspaceBehavior.TheVariants.{Cargo}
-use Rattle.hack_planner.specs.Calls.{AreMembers, starts, grows, ArePlanned, begins, adds, IsPlanned}
+use Rattle.hack_planner.specs.Calls.{AreMembers, starts, grows, AreDescribed, begins, adds, IsDescribed}
 use Rattle.hack_planner.specs.CallPlan.{HasJustRuns, IsPlan, run_counts}
 use Rattle.hack_planner.specs.CoveredSets.{AreCovered, HoldsCover, choice_at}
 
@@ -55,7 +55,7 @@ zip-at R (z ∷ xs) (y ∷ ys) zero x h at = (y, refl, subst (λ w. R w y) (same
 zip-at R (z ∷ xs) (y ∷ ys) (suc k) x h at = zip-at R xs ys k x h.1 at
 
 -- there is a planned package for each chosen one
-planned-length : (cx : ContextRecord) (single : Bool) (ids : List ℕ) (packages : List PackageView) (notes : List Note) → ArePlanned cx single ids packages notes → length ids ≡ length packages
+planned-length : (cx : ContextRecord) (single : Bool) (ids : List ℕ) (packages : List PackageView) (notes : List Note) → AreDescribed cx single ids packages notes → length ids ≡ length packages
 planned-length cx single ids packages notes begins = refl
 planned-length cx single _ _ _ (adds {ids} {packages} {notes} {id} {k} {more} before is) =
     let h = planned-length cx single ids packages notes before in
@@ -80,15 +80,15 @@ push-end [] last = refl
 push-end (y ∷ xs) last = push-end xs last
 
 -- the planned package at an index
-planned-at : (cx : ContextRecord) (single : Bool) (ids : List ℕ) (packages : List PackageView) (notes : List Note) (place id : ℕ) → ArePlanned cx single ids packages notes → slice_get ids place ≡ Some id
-    → (k : PackageView) × (more : List Note) × (slice_get packages place ≡ Some k) × IsPlanned cx single id k more
+planned-at : (cx : ContextRecord) (single : Bool) (ids : List ℕ) (packages : List PackageView) (notes : List Note) (place id : ℕ) → AreDescribed cx single ids packages notes → slice_get ids place ≡ Some id
+    → (k : PackageView) × (more : List Note) × (slice_get packages place ≡ Some k) × IsDescribed cx single id k more
 planned-at cx single ids packages notes place id begins at = absurd (cc)
 planned-at cx single _ _ _ place id (adds {ids} {packages} {notes} {id = last} {k} {more} before is) at =
     elim (push-cases ids last place id at) [
       | inl there ↦ let h = planned-at cx single ids packages notes place id before there in (h.0, h.1, push-left packages k place h.0 h.2, h.3)
       | inr here ↦
           let end = here.0 ∙ planned-length cx single ids packages notes before in
-          (k, more, subst (λ i. slice_get (packages ++ k ∷ []) i ≡ Some k) (sym end) (push-end packages k), subst (λ i. IsPlanned cx single i k more) here.1 is)
+          (k, more, subst (λ i. slice_get (packages ++ k ∷ []) i ≡ Some k) (sym end) (push-end packages k), subst (λ i. IsDescribed cx single i k more) here.1 is)
     ]
 
 -- where there isn't one run for all packages
@@ -130,7 +130,7 @@ covers cx rustup latest plan notes h powerset all each = record {
   of_call = h.base.of_call;
   on_steps = h.base.places.1;
   covered = λ place id p features version slot s at known loaded uses within selection wanted.
-      let m = planned-at cx h.single h.base.ids plan.packages h.on_features place id h.planned at in
+      let m = planned-at cx h.single h.base.ids plan.packages h.on_features place id h.described at in
       let same_p = same_some m.3.pkg p (sym m.3.known ∙ known) in
       let same_f = same_some m.3.features features (sym m.3.loaded ∙ loaded) in
       let covering = subst (λ q. AreCovering (wishes cx.args) (known_as q features) m.0.runs) same_p (subst (λ f. AreCovering (wishes cx.args) (known_as m.3.pkg f) m.0.runs) same_f (m.3.covered powerset all)) in

@@ -15,7 +15,7 @@ use Rattle.hack_plan.specs.Inputs.{AreVersions, AreNotices, IsVersionsFault}
 use Rattle.hack_plan.specs.Spans.{versions_of}
 use Rattle.hack_plan.specs.declared.versions.PlanInput.{PlanInput}
 use Rattle.hack_plan.specs.declared.versions.Versions.{Versions}
-use Rattle.hack_planner.specs.Calls.{IsInputOf, HasPackageRuns, ArePlanned, HasBadOwn, HasNoSample, call_of, left_out_notes}
+use Rattle.hack_planner.specs.Calls.{IsInputOf, HasPackageRuns, AreDescribed, HasBadOwn, HasNoSample, call_of, left_out_notes}
 use Rattle.hack_plan.specs.Plans.{AreLaid}
 use Rattle.hack_plan.specs.Prepared.{ArePrepared}
 use Rattle.hack_plan.specs.View.{PackageView, PlanView}
@@ -26,33 +26,35 @@ use Rattle.hack_planner.specs.declared.fault.PlanFault.TheVariants as fault
 abbrev pub run_counts : List PackageView → List ℕ
 run_counts packages = map (λ k. length k.runs) packages
 
--- the places of a plan are exactly the admissible runs of the chosen packages, in order, where `stable` is this version
+-- a plan has exactly the chosen packages, each with its candidates and its runs; and its places are exactly the admissible
+-- runs, in order, where `stable` is this version
 pub record HasJustRuns (cx : ContextRecord) (latest : Option Version) (plan : PlanView) : Type 0 where
   pub ids : List ℕ
   pub input : PlanInput
-  pub versions : Versions
   pub chosen : AreChosen cx ids
   pub of_call : IsInputOf cx ids input
-  pub of_range : AreVersions input versions
-  pub newest : versions.stable ≡ latest
   pub packages : AllZip (HasPackageRuns cx) ids plan.packages
   pub places : ArePlaces input (run_counts plan.packages) latest plan.entries
 
--- the plan of a call with a subcommand, where `stable` is this version: it has just these runs, each version with its places
--- and its preparations, and what its commands say; and no cause to refuse it holds
+-- the plan of a call with a subcommand, where `stable` is this version: its places are just the admissible runs; each version
+-- has its places and its preparations; what its commands are made from; its notices, in order; and every own version can be
+-- read, the range isn't refused, and there aren't too many runs
 pub record IsPlan (cx : ContextRecord) (rustup : Name) (latest : Option Version) (plan : PlanView) (notes : List Note) : Type 0 where
   pub base : HasJustRuns cx latest plan
+  pub versions : Versions
   pub single : Bool
   pub on_packages : List Note
   pub on_features : List Note
   pub on_range : List Note
   pub noted : AreChoiceNotes cx single on_packages
-  pub planned : ArePlanned cx single base.ids plan.packages on_features
+  pub described : AreDescribed cx single base.ids plan.packages on_features
+  pub of_range : AreVersions base.input versions
+  pub newest : versions.stable ≡ latest
   pub ranged : AreNotices base.input.range base.input latest on_range
   pub call : plan.call ≡ call_of cx rustup
-  pub laid : AreLaid (versions_of base.input.range base.versions.groups.items) plan
+  pub laid : AreLaid (versions_of base.input.range versions.groups.items) plan
   pub prepared : ArePrepared cx.args.locked cx.args.clean_per_version plan.versions
-  pub told : notes ≡ on_packages ++ (on_features ++ (on_range ++ left_out_notes cx base.ids base.input base.versions.groups.items))
+  pub told : notes ≡ on_packages ++ (on_features ++ (on_range ++ left_out_notes cx base.ids base.input versions.groups.items))
   pub readable : (e : VersionFault) → ¬ HasBadOwn cx base.ids e
   pub in_range : (e : RangeFault) → ¬ IsVersionsFault base.input.range base.input latest e
   pub fits : ¬ HasTooMany base.input (run_counts plan.packages) latest
@@ -75,7 +77,8 @@ abbrev pub IsPlanOf : Option (String Global) → Result (Option Version) (String
 IsPlanOf None stable cx rustup plan notes = IsEmptyPlan cx rustup plan notes
 IsPlanOf (Some subcommand) stable cx rustup plan notes = IsPlanBy stable cx rustup plan notes
 
--- the places of a call's plan, given the answer for `stable`: none without a subcommand
+-- the places of a call's plan, given the answer for `stable`: none without a subcommand, else just the admissible runs; with
+-- an error in place of stable's version there is no plan
 abbrev pub HasRunsOf : Option (String Global) → Result (Option Version) (String Global) → ContextRecord → PlanView → Type 0
 HasRunsOf None stable cx plan = plan.entries ≡ []
 HasRunsOf (Some subcommand) (Ok latest) cx plan = HasJustRuns cx latest plan

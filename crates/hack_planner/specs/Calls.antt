@@ -106,7 +106,7 @@ pub record HasNoSampleAt (cx : ContextRecord) (id : ℕ) (name : Name) : Type 0 
 abbrev pub HasNoSample : ContextRecord → List ℕ → Name → Type 0
 HasNoSample cx ids name = (id : ℕ) × Contains ids id × HasNoSampleAt cx id name
 
--- a chosen package in the plan has its candidates and its runs
+-- a chosen package in the plan has its runs, and its candidates, or none where its one run is plain
 pub record HasPackageRuns (cx : ContextRecord) (id : ℕ) (k : PackageView) : Type 0 where
   pub pkg : PackageRecord
   pub features : Features
@@ -115,9 +115,10 @@ pub record HasPackageRuns (cx : ContextRecord) (id : ℕ) (k : PackageView) : Ty
   pub candidates : (k.candidates ≡ candidates (wishes cx.args) (known_as pkg features)) ⊎ ((k.candidates ≡ []) × (k.runs ≡ Plain ∷ []))
   pub runs : AreRuns (wishes cx.args) (known_as pkg features) k.runs
 
--- what else the plan says of a chosen package: its texts, the features of `--features` that it gets, that its runs cover its
--- sets under a powerset, and their settings; and the notices on its features
-pub record IsPlanned (cx : ContextRecord) (single : Bool) (id : ℕ) (k : PackageView) (notes : List Note) : Type 0 where
+-- what else the plan says of a chosen package: its texts; the features of `--features` that it gets; that under a powerset
+-- without a strength its runs cover each set that has to be covered; with a strength, which candidates are on in each run; and
+-- the notices on its features
+pub record IsDescribed (cx : ContextRecord) (single : Bool) (id : ℕ) (k : PackageView) (notes : List Note) : Type 0 where
   pub pkg : PackageRecord
   pub features : Features
   pub known : package_at cx id ≡ Some pkg
@@ -129,10 +130,10 @@ pub record IsPlanned (cx : ContextRecord) (single : Bool) (id : ℕ) (k : Packag
   pub settings : AreRunSettings cx.args.strength (package_choice (wishes cx.args) (known_as pkg features)) k.runs k.settings
   pub told : notes ≡ candidate_notes single (wishes cx.args) (known_as pkg features)
 
--- the chosen packages, in order, and the notices on their features
-pub data ArePlanned (cx : ContextRecord) (single : Bool) : List ℕ → List PackageView → List Note → Type 0 where
-  begins : ArePlanned cx single [] [] []
-  adds : {ids : List ℕ} {packages : List PackageView} {notes : List Note} {id : ℕ} {k : PackageView} {more : List Note} → ArePlanned cx single ids packages notes → IsPlanned cx single id k more → ArePlanned cx single (ids ++ id ∷ []) (packages ++ k ∷ []) (notes ++ more)
+-- this of each of the chosen packages, in order, and all their notices
+pub data AreDescribed (cx : ContextRecord) (single : Bool) : List ℕ → List PackageView → List Note → Type 0 where
+  begins : AreDescribed cx single [] [] []
+  adds : {ids : List ℕ} {packages : List PackageView} {notes : List Note} {id : ℕ} {k : PackageView} {more : List Note} → AreDescribed cx single ids packages notes → IsDescribed cx single id k more → AreDescribed cx single (ids ++ id ∷ []) (packages ++ k ∷ []) (notes ++ more)
 
 -- the notices on features that a version's packages don't get, for each slot
 abbrev pub version_notes : ContextRecord → List ℕ → PlanInput → Option Version → List ℕ → List Note

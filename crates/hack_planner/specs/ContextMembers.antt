@@ -34,7 +34,7 @@ current_name cx = option_and_then (package_name_at cx) cx.current_package
 abbrev pub AreChosen : ContextRecord → List ℕ → Type 0
 AreChosen cx places = IsPackageList (choosing_of cx.args (current_name cx)) (members_in cx) places
 
--- whether exactly one is left after exclusions, and the notices about them
+-- whether exactly one package is left after exclusions, and the notices about the packages that the call runs on
 abbrev pub AreChoiceNotes : ContextRecord → Bool → List Note → Type 0
 AreChoiceNotes cx is_single notes = AreListNotes (choosing_of cx.args (current_name cx)) cx.metadata.workspace_root (members_in cx) is_single notes
 

@@ -31,7 +31,7 @@ SaysRangeRefused s latest (fault.Range e) = IsVersionsFault s.range s latest e
 SaysRangeRefused s latest (fault.TooManyQuestions name) = ⊥
 SaysRangeRefused s latest fault.TooManyRuns = ⊥
 
--- the error says that
+-- the error says that the own version of one of these packages can't be read
 abbrev pub IsOwnFault : ContextRecord → List ℕ → PlanFault → Type 0
 IsOwnFault cx ids fault.Memory = ⊥
 IsOwnFault cx ids (fault.Stable text) = ⊥

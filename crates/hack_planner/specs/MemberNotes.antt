@@ -1,4 +1,4 @@
--- What a call is told about the packages that it runs on.
+-- The notices about the packages that a call runs on.
 use Rattle.std.specs.Prelude.{◌≡◌, ◌==◌, ◌++◌, ℕ, List, Bool, not, map, filter, length}
 use Rattle.hack_base.specs.Names.{Name}
 use Rattle.hack_base.specs.Notes.{Note}
@@ -6,10 +6,11 @@ use Rattle.hack_base.specs.declared.notice.NoticeKind.TheVariants.{Info, Warn}
 use Rattle.hack_planner.specs.Members.{Member, Choosing, AreRemaining, Collects, MatchesSome, is_called, is_skipped}
 use Rattle.hack_planner.specs.Texts.{exclusion_text, lift_text, private_text}
 
--- notices: a warning, and an information
+-- a notice that warns
 abbrev pub warning_note : List ℕ → Note
 warning_note text = record { kind = Warn; text = text }
 
+-- a notice that informs
 abbrev pub info_note : List ℕ → Note
 info_note text = record { kind = Info; text = text }
 

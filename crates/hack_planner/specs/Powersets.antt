@@ -27,7 +27,7 @@ pub record IsPowerset (choice : Choice) (runs : List PackageRun) : Type 0 where
   pub exact : (s : List ℕ) → Contains (run_sets_of runs) s ↔ (IsSelection (length choice.candidates) s × IsListed choice s)
   pub once : Pairwise (λ s t. s ≢ t) (run_sets_of runs)
 
--- the plan has exactly the chosen packages, and this holds of what each one's sets are chosen from and of its runs
+-- the plan has exactly the chosen packages, and P holds of what each one's sets are chosen from and of its runs
 pub record HoldsOfEach (cx : ContextRecord) (plan : PlanView) (P : Choice → List PackageRun → Type 0) : Type 0 where
   pub ids : List ℕ
   pub chosen : AreChosen cx ids
@@ -35,6 +35,6 @@ pub record HoldsOfEach (cx : ContextRecord) (plan : PlanView) (P : Choice → Li
   pub each : (place id : ℕ) (p : PackageRecord) (features : Features) → slice_get ids place ≡ Some id → package_at cx id ≡ Some p → features_at cx id ≡ Some features
       → IsSomeAnd (slice_get plan.packages place) (λ k. P (choice_at cx p features) k.runs)
 
--- the runs of each of a plan's packages have its powerset
+-- the plan has exactly the chosen packages, and the runs of each have its powerset
 abbrev pub HavePowersets : ContextRecord → PlanView → Type 0
 HavePowersets cx plan = HoldsOfEach cx plan IsPowerset

@@ -24,7 +24,7 @@ pub record IsSampleOf (choice : Choice) (strength : ℕ) (runs : List PackageRun
   pub once : Pairwise (λ s t. s ≢ t) (run_sets_of runs)
   pub covers : CoversPatterns choice (length choice.candidates) strength (run_sets_of runs)
 
--- the sets of each package's runs are a sample
+-- the plan has exactly the chosen packages, and the sets of each one's runs are a sample
 abbrev pub HaveSamples : ContextRecord → ℕ → PlanView → Type 0
 HaveSamples cx strength plan = HoldsOfEach cx plan (λ choice runs. IsSampleOf choice strength runs)
 

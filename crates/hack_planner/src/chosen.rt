@@ -10,7 +10,7 @@ ghost use Rattle.hack_metadata.specs.RecordViews.{place_at};
 ghost use Rattle.hack_load.specs.ContextView.{context_view};
 ghost use Rattle.hack_base.specs.Notes.{note_of};
 ghost use Rattle.hack_plan.specs.View.{plan_package_view};
-ghost use Rattle.hack_planner.specs.Calls.{HasPackageRuns, IsPlanned, ArePlanned};
+ghost use Rattle.hack_planner.specs.Calls.{HasPackageRuns, IsDescribed, AreDescribed};
 ghost use Rattle.hack_planner.specs.Internal.{SaysNoSample, HasRunsFault};
 
 use crate::determine::determine_kind;
@@ -47,7 +47,7 @@ fn chosen_package(
     single: bool,
 ) -> Result<(PlanPackage, Vec<Notice>), PlanFault>
     requires { Contains (context_view cx.now).metadata.workspace_members id.index }
-    ensures ok { IfOk result (λ answer. IsPlanned (context_view cx.now) single id.index
+    ensures ok { IfOk result (λ answer. IsDescribed (context_view cx.now) single id.index
         (plan_package_view answer.0) (map note_of answer.1.items)) }
     ensures runs { IfOk result (λ answer. HasPackageRuns (context_view cx.now) id.index
         (plan_package_view answer.0)) }
@@ -91,7 +91,7 @@ pub(crate) fn chosen_packages(
 ) -> Result<(Vec<PlanPackage>, Vec<Notice>), PlanFault>
     requires { All (λ id. Contains (context_view cx.now).metadata.workspace_members id.index)
         ids.now }
-    ensures ok { IfOk result (λ answer. ArePlanned (context_view cx.now) single
+    ensures ok { IfOk result (λ answer. AreDescribed (context_view cx.now) single
         (map place_at ids.now) (map plan_package_view answer.0.items)
         (map note_of answer.1.items)) }
     ensures runs { IfOk result (λ answer. AllZip (HasPackageRuns (context_view cx.now))

@@ -7,7 +7,7 @@ ghost use Rattle.hack_base.specs.Notes.{note_of};
 ghost use Rattle.hack_planner.specs.Texts.{exclusion_text, lift_text as lift_words, private_text};
 ghost use Rattle.hack_planner.specs.Members.{MatchesSome, AllMatch, SelectsMembers, Collects};
 ghost use Rattle.hack_planner.specs.Members.{is_called as has_called};
-use Rattle.hack_planner.specs.MemberNotes.{warning_note, info_note};
+ghost use Rattle.hack_planner.specs.MemberNotes.{warning_note, info_note};
 ghost use Rattle.hack_planner.specs.Members.{first_called as first_of};
 ghost use Rattle.hack_planner.specs.MembersView.{member_view};
 ghost use Rattle.hack_planner.specs.InternalListingView.{IsMatchedAs, IsNamedFault, kept_place};

@@ -24,7 +24,7 @@ pub record AreShared {A : Type 0} (plan : List A) : Type 0 where
 -- handed out are the chosen piece of the plan, in order, each place once, until a step stops or the piece ends. The pieces share
 -- out the plan. Under a powerset each package's sets are exactly the listed ones, each once; or with a strength a sample of
 -- them, and the plan has a place for each pattern of at most so many candidates that some listed set shows, for each package,
--- version and slot.
+-- version and slot. What the plan says beyond its places is in `ran` of `drive_context`.
 pub record IsHandedOut (cx : ContextRecord) (stable : Result (Option Version) (String Global)) (t : Course) : Type 0 where
   pub plan : HasRunsOf cx.args.subcommand stable cx t.plan
   pub schedule : IsSchedule cx.args.partition t.plan t.schedule

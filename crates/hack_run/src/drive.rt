@@ -51,8 +51,8 @@ pub fn drive_context<R: Teller>(
     ensures headline { IfOk result
         (IsHandedOut (context_view cx.now) stable) }
 
-    // The runner printed just the plan's notices, and was then handed just these steps with these
-    // outcomes, in order.
+    // The session's plan is the call's, with its commands, versions and preparations. The runner
+    // printed just its notices, and was then handed just these steps with these outcomes, in order.
     ensures ran { IfOk result (λ s. (notes : List Note) × (mid : R)
         × IsPlanOf (context_view cx.now).args.subcommand stable (context_view cx.now) rustup.now
         s.plan notes

@@ -13,7 +13,7 @@ use Rattle.hack_plan.specs.Prepared.{ArePrepared}
 use Rattle.hack_plan.specs.View.{CallView, plan_package_view}
 use Rattle.hack_base.specs.Notes.{note_of}
 use Rattle.hack_versions.specs.declared.version.VersionFault.{VersionFault}
-use Rattle.hack_planner.specs.Calls.{IsInputOf, HasPackageRuns, ArePlanned, HasBadOwn, left_out_notes}
+use Rattle.hack_planner.specs.Calls.{IsInputOf, HasPackageRuns, AreDescribed, HasBadOwn, left_out_notes}
 use Rattle.hack_planner.specs.Internal.{HasRunsFault}
 use Rattle.hack_planner.specs.CallPlan.{IsCause, run_counts}
 use Rattle.hack_planner.proofs.CauseLemmas.{range-cause, places-cause, counts-same, all-told}
@@ -91,27 +91,27 @@ returns-clause-ok c = λ rustup call.
     let packages = c.in-Ok.answer.0.items in
     let on_features = map note_of c.in-Ok.answer.1.items in
     let counts = ap run_counts c.in-Ok-of_input.ensures.packages ∙ counts-same packages in
-    let planned = subst (λ l. ArePlanned cx single (map place_at l) (map plan_package_view packages) on_features) c.as_slice-ids.ensures.value c.in-Ok.ensures.ok in
+    let described = subst (λ l. AreDescribed cx single (map place_at l) (map plan_package_view packages) on_features) c.as_slice-ids.ensures.value c.in-Ok.ensures.ok in
     let each = subst (λ (l : List PackageId). AllZip (HasPackageRuns cx) (map place_at l) (map plan_package_view packages)) c.as_slice-ids.ensures.value c.in-Ok.ensures.runs in
     record {
       base = record {
         ids = map place_at ids;
         input = input;
-        versions = c.in_ok-versions.versions;
         chosen = c.in_ok-list.ensures.ok;
         of_call = subst (λ l. IsInputOf cx (map place_at l) input) c.as_slice.ensures.value c.in_ok-input.ensures.ok;
-        of_range = c.in_ok-versions.ensures.ok;
-        newest = c.in_ok-versions.ensures.stable;
         packages = subst (AllZip (HasPackageRuns cx) (map place_at ids)) (sym c.in-Ok-of_input.ensures.packages) each;
         places = subst (λ ns. ArePlaces input ns c.args.latest plan.entries) (sym counts) (subst (λ v. ArePlaces input (counts_in packages) v plan.entries) c.in_ok-versions.ensures.stable c.in-Ok-of_input.ensures.entries);
       };
+      versions = c.in_ok-versions.versions;
+      of_range = c.in_ok-versions.ensures.ok;
+      newest = c.in_ok-versions.ensures.stable;
       single = single;
       on_packages = map note_of c.in_ok-list.notices.items;
       on_features = on_features;
       on_range = map note_of c.in_ok-versions.on_range.items;
       noted = c.in_ok-list.ensures.notes;
       ranged = c.in_ok-versions.ensures.notices;
-      planned = subst (λ ks. ArePlanned cx single (map place_at ids) ks on_features) (sym c.in-Ok-of_input.ensures.packages) planned;
+      described = subst (λ ks. AreDescribed cx single (map place_at ids) ks on_features) (sym c.in-Ok-of_input.ensures.packages) described;
       call = c.in-Ok-of_input.ensures.call ∙ call;
       laid = c.in-Ok-of_input.ensures.spans;
       prepared = subst (λ (k : CallView). ArePrepared k.locked k.clean_per_version plan.versions) call c.in-Ok-of_input.ensures.prepared;
