@@ -17,7 +17,7 @@ help:
 	@echo 'make install  proves and builds cargo-hack and powerset-list, and installs them in PREFIX/bin (PREFIX=$(PREFIX))'
 	@echo 'make uninstall  removes what make install put there'
 	@echo 'make dist     proves and builds both, and packs them with a sum of each file for machines without the kit'
-	@echo 'make bench    proves and builds powerset-list, and prints its times, memory and lines'
+	@echo 'make bench    proves and builds the programs, and prints times and memory, beside those of OTHER=PATH, another cargo-hack'
 	@echo 'make faults   proves and builds powerset-list, and tries calls that it refuses'
 	@echo 'make stand-ins proves and builds the programs that answer as cargo and rustup in tests, and tries them'
 
@@ -65,10 +65,13 @@ dist: programs
 manual: programs
 	@tools/manual.py $(CARGO_HACK)
 
-bench: program
+# OTHER: the path of another cargo-hack to compare with.
+bench: programs
 	@cd crates/hack_rows && rt run < stdin > /dev/null
 	@cd crates/sample_calls && rt run < stdin > /dev/null
-	@tests/bench.py $(POWERSET_LIST) crates/hack_rows/out/hack_rows crates/sample_calls/out/sample_calls
+	@tests/stand_ins.py > /dev/null
+	@tests/bench.py $(POWERSET_LIST) crates/hack_rows/out/hack_rows crates/sample_calls/out/sample_calls \
+		$(CARGO_HACK) crates/stand_cargo/out/stand_cargo $(OTHER)
 
 faults: program
 	@tests/powerset_list_refusals.py $(POWERSET_LIST)

@@ -1,9 +1,12 @@
 #!/usr/bin/env python3
 """Prints the wall time, the peak memory and the number of lines of powerset-list on growing feature maps, the times of
-packages grouped by version, of a large answer of cargo read, and of whole calls over a cargo and files in memory, and the
-sizes of covering samples beside the least possible ones and the powersets'.
+packages grouped by version, of a large answer of cargo read, and of whole calls over a cargo and files in memory, the
+sizes of covering samples beside the least possible ones and the powersets', and the times of the lists of the built cargo-hack.
 
-usage: tests/bench.py PROGRAM [ROWS [CALLS]]      PROGRAM: powerset-list; ROWS, CALLS: the built hack_rows and sample_calls
+usage: tests/bench.py PROGRAM [ROWS [CALLS [HACK CARGO [OTHER]]]]
+
+PROGRAM is powerset-list, ROWS and CALLS are the built hack_rows and sample_calls, HACK is cargo-hack, CARGO is stand_cargo, which
+answers at once, and OTHER is another cargo-hack, whose times and memory are printed beside.
 
 Nothing here passes or fails by its time. The time is the least of three runs whose output goes nowhere, and beside it
 stands how often `cat` takes as long for the same bytes, since machines differ. The memory is the program's own, by GNU
@@ -225,16 +228,59 @@ def commands_of(words, path, listed):
         return sum(line.startswith("cargo check ") for line in written)
 
 
+# ---- Lists of the built program.
+
+# Titles, members, features of each, arguments.
+LISTS = [
+    ("20 free features", 1, 20, ["--feature-powerset"]),
+    ("16 free features", 1, 16, ["--feature-powerset"]),
+    ("3 free features", 1, 3, ["--feature-powerset"]),
+    ("100 members with 5 features each", 100, 5, ["--each-feature"]),
+]
+
+
+def lay_out(folder, members, features):
+    """A workspace, and the answers of the stand-in for cargo; how a program is called there."""
+    told = told_by_cargo(members, features).replace('"/w', f'"{folder}/w')
+    files = {"answers/version": "cargo 1.90.0\nrelease: 1.90.0\nhost: h\n", "answers/metadata.json": told}
+    files |= {"answers/locate.json": json.dumps({"root": f"{folder}/w/p0/Cargo.toml"}), "w/Cargo.toml": "[workspace]\n"}
+    files |= {f"w/p{i}/Cargo.toml": with_features(features) for i in range(members)}
+    for name, text in files.items():
+        os.makedirs(os.path.dirname(f"{folder}/{name}"), exist_ok=True)
+        with open(f"{folder}/{name}", "w", encoding="utf-8") as out:
+            out.write(text)
+    return {"cwd": f"{folder}/w", "env": {"STAND_DIR": f"{folder}/answers"}}
+
+
+def print_lists(powerset_list, hack, cargo, other, folder, path):
+    """Prints the times and the memory of lists: how often powerset-list takes as long, and what another program takes."""
+    print(f"{'list of cargo-hack':40}{'seconds':>9}{'MiB':>7}{'of powerset-list':>18}" + f"{'other':>9}{'MiB':>7}{'of it':>7}" * bool(other))
+    for title, members, count, options in LISTS:
+        features = without_edges(count)
+        where = lay_out(f"{folder}/{members}-{count}", members, features)
+        where["env"]["CARGO"] = cargo
+        words = ["hack", "check", "--workspace", "--print-command-list", *options]
+        with open(path, "w", encoding="utf-8") as out:
+            json.dump(features, out)
+        seconds = seconds_of([hack, *words], path, **where)
+        line = f"{title:40}{seconds:9.3f}{memory_of([hack, *words], path, **where):>7}"
+        line += f"{seconds / seconds_of([powerset_list], path):18.1f}" if members == 1 else f"{'':18}"
+        if other:
+            others = seconds_of([other, *words], path, **where)
+            line += f"{others:9.3f}{memory_of([other, *words], path, **where):>7}{seconds / others:7.2f}"
+        print(line, flush=True)
+
+
 # ---- Measuring.
 
 
-def seconds_of(words, path):
+def seconds_of(words, path, **where):
     """The least wall time of three runs of a program, whose input is the file."""
     least = None
     for _ in range(RUNS):
         with open(path, "rb") as given:
             start = time.perf_counter()
-            status = subprocess.run(words, stdin=given, stdout=subprocess.DEVNULL).returncode
+            status = subprocess.run(words, stdin=given, stdout=subprocess.DEVNULL, **where).returncode
             took = time.perf_counter() - start
         if status != 0:
             sys.exit(f"{words[0]} failed")
@@ -242,13 +288,13 @@ def seconds_of(words, path):
     return least
 
 
-def memory_of(words, path):
+def memory_of(words, path, **where):
     """The peak memory of a program in MiB."""
     if GNU_TIME is None:
         return "-"
     with open(path, "rb") as given:
         how = {"stdin": given, "stdout": subprocess.DEVNULL, "stderr": subprocess.PIPE}
-        told = subprocess.run([GNU_TIME, "-f", "%M", *words], text=True, **how).stderr
+        told = subprocess.run([GNU_TIME, "-f", "%M", *words], text=True, **how, **where).stderr
     return f"{int(told.split()[-1]) / 1024:.1f}"
 
 
@@ -267,8 +313,8 @@ def lines_of(path):
 
 
 def main():
-    if len(sys.argv) not in (2, 3, 4):
-        sys.exit("usage: tests/bench.py PROGRAM [ROWS [CALLS]]")
+    if len(sys.argv) not in (2, 3, 4, 6, 7):
+        sys.exit("usage: tests/bench.py PROGRAM [ROWS [CALLS [HACK CARGO [OTHER]]]]")
     program = os.path.abspath(sys.argv[1])
     print(f"{'map':48}{'seconds':>9}{'of cat':>8}{'MiB':>9}{'lines':>12}")
     with tempfile.TemporaryDirectory() as folder:
@@ -290,6 +336,9 @@ def main():
             print(f"{title:48}{seconds_of(words, path):9.3f}{'':8}{memory_of(words, path):>9}", flush=True)
         for calls in sys.argv[3:4]:
             print_samples(os.path.abspath(calls), path, listed)
+        if len(sys.argv) > 4:
+            hack, cargo, *other = map(os.path.abspath, sys.argv[4:])
+            print_lists(program, hack, cargo, other[0] if other else None, folder, path)
 
 
 if __name__ == "__main__":
