@@ -22,6 +22,9 @@ import sys
 import tempfile
 import time
 
+sys.dont_write_bytecode = True
+from small_workspace import write  # noqa: E402
+
 RUNS = 3
 GNU_TIME = shutil.which("time")
 
@@ -239,17 +242,15 @@ LISTS = [
 ]
 
 
-def lay_out(folder, members, features):
-    """A workspace, and the answers of the stand-in for cargo; how a program is called there."""
+def lay_out(folder, cargo, members, features):
+    """A workspace, and the answers of the stand-in for cargo at this path; how a program is called there."""
     told = told_by_cargo(members, features).replace('"/w', f'"{folder}/w')
     files = {"answers/version": "cargo 1.90.0\nrelease: 1.90.0\nhost: h\n", "answers/metadata.json": told}
     files |= {"answers/locate.json": json.dumps({"root": f"{folder}/w/p0/Cargo.toml"}), "w/Cargo.toml": "[workspace]\n"}
     files |= {f"w/p{i}/Cargo.toml": with_features(features) for i in range(members)}
     for name, text in files.items():
-        os.makedirs(os.path.dirname(f"{folder}/{name}"), exist_ok=True)
-        with open(f"{folder}/{name}", "w", encoding="utf-8") as out:
-            out.write(text)
-    return {"cwd": f"{folder}/w", "env": {"STAND_DIR": f"{folder}/answers"}}
+        write(f"{folder}/{name}", text)
+    return {"cwd": f"{folder}/w", "env": {"CARGO": cargo, "STAND_DIR": f"{folder}/answers"}}
 
 
 def print_lists(powerset_list, hack, cargo, other, folder, path):
@@ -257,9 +258,8 @@ def print_lists(powerset_list, hack, cargo, other, folder, path):
     print(f"{'list of cargo-hack':40}{'seconds':>9}{'MiB':>7}{'of powerset-list':>18}" + f"{'other':>9}{'MiB':>7}{'of it':>7}" * bool(other))
     for title, members, count, options in LISTS:
         features = without_edges(count)
-        where = lay_out(f"{folder}/{members}-{count}", members, features)
-        where["env"]["CARGO"] = cargo
-        words = ["hack", "check", "--workspace", "--print-command-list", *options]
+        where = lay_out(f"{folder}/{members}-{count}", cargo, members, features)
+        words = [*LIST, *options]
         with open(path, "w", encoding="utf-8") as out:
             json.dump(features, out)
         seconds = seconds_of([hack, *words], path, **where)

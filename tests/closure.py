@@ -122,7 +122,7 @@ def cited(lines, text):
 
 
 def private():
-    """The definitions that only private functions need, and that stand in another file than Internal*.antt; and the others there."""
+    """The definitions in the wrong file: those that only private functions need outside Internal*.antt, and others inside."""
     files = [lines_of(path) for path in glob.glob(f"{ROOT}/crates/*/src/**/*.rt", recursive=True)]
     public = follow([it for lines in files for it in cited(lines, public_text(lines))])
     for path in sorted(glob.glob(f"{ROOT}/crates/*/specs/*.antt")):
