@@ -4,8 +4,7 @@ use Rattle.std.proofs.Math.Nat.{eq-or-lt_of_le}
 use Rattle.std.proofs.lemmas.List.{take_rest}
 use Rattle.std.specs.Io.KnownBytes.{Appends, Keeps}
 use Rattle.std.proofs.KnownBytes.{Appends-nil, Appends-trans}
-use Rattle.hack_base.specs.Writes.{AppendsFront, CountsErrors, HasFailed, NoFewer, Writes}
-use Rattle.hack_base.specs.Internal.{CountsWrite, one_more}
+use Rattle.hack_base.specs.Writes.{AppendsFront, CountsErrors, CountsWrite, HasFailed, NoFewer, Writes, one_more}
 
 -- all of one text, and a prefix of the next
 pub AppendsFront-then : (a b c : Option (List ℕ)) (bs cs : List ℕ) → Appends a b bs → AppendsFront b c cs → AppendsFront a c (bs ++ cs)

@@ -7,4 +7,3 @@ pub mod Lists
 pub mod PathTexts
 pub mod Notes
 pub mod Writes
-pub mod Internal

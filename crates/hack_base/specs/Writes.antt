@@ -1,5 +1,5 @@
 -- What is written to a sink, and how often that failed.
-use Rattle.std.specs.Prelude.{◌≡◌, ◌<◌, ◌≤◌, ◌⊎◌, ◌+◌, ◌-◌, ◌^◌, ℕ, List, ◌++◌, codes, Option, Some, None, Result, Ok, Err, ⊤}
+use Rattle.std.specs.Prelude.{◌≡◌, ◌<◌, ◌≤◌, ◌⊎◌, ◌+◌, ◌-◌, ◌^◌, ℕ, zero, suc, List, ◌++◌, codes, Option, Some, None, Result, Ok, Err, min, option_map, ⊤}
 use Rattle.std.specs.Io.KnownBytes.{Appends}
 
 -- known bytes grow by a prefix of the text, which may be all of it
@@ -30,3 +30,18 @@ Writes old new before now text = HasFailed before now ⊎ (Appends old new text 
 abbrev pub CountsErrors : {T E : Type 0} → Option ℕ → Option ℕ → Result T E → Type 0
 CountsErrors old new (Ok done) = NoFewer old new
 CountsErrors old new (Err fault) = HasFailed old new
+
+-- one failure more, if they are counted; a count of 2^64 - 1 stays
+abbrev pub one_more : Option ℕ → Option ℕ
+one_more = option_map (λ n. n + min 1 (2 ^ 64 - 1 - n))
+
+-- a call that fails is counted, and a call that doesn't fail isn't
+abbrev pub CountsFailure : {T E : Type 0} → Option ℕ → Option ℕ → Result T E → Type 0
+CountsFailure old new (Ok done) = new ≡ old
+CountsFailure old new (Err fault) = new ≡ one_more old
+
+-- a write fails where it answers an error, and where it takes nothing
+abbrev pub CountsWrite : {E : Type 0} → Option ℕ → Option ℕ → Result ℕ E → Type 0
+CountsWrite old new (Ok zero) = new ≡ one_more old
+CountsWrite old new (Ok (suc n)) = new ≡ old
+CountsWrite old new (Err fault) = new ≡ one_more old

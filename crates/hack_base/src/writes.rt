@@ -3,8 +3,7 @@
 ghost use Rattle.std.specs.Prelude.{◌≡◌, ℕ, List, Option, None, Some, OnOk, MatchResult};
 ghost use Rattle.std.specs.Io.{WritesAtMost};
 ghost use Rattle.std.specs.Io.KnownBytes.{Appends, Keeps, WriteAppends};
-ghost use Rattle.hack_base.specs.Writes.{AppendsFront, CountsErrors};
-ghost use Rattle.hack_base.specs.Internal.{CountsFailure, CountsWrite};
+ghost use Rattle.hack_base.specs.Writes.{AppendsFront, CountsErrors, CountsFailure, CountsWrite};
 ghost use Rattle.hack_base.specs.Writes.{HasFailed, NoFewer, line};
 
 use std::io;

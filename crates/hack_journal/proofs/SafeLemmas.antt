@@ -8,7 +8,7 @@ use Rattle.hack_files.specs.Files.{Change, Contents, after_change, after, Makes,
 use Rattle.hack_journal.specs.Journal.{Edit, journal_text}
 use Rattle.hack_journal.specs.SafeFiles.{gives, SomeEntryHasBytes, first_entry_of, KeepFirst, IsJournalOf, HoldFirstOrTold, IsSafe, IsJournaled, StaysSafe, Stays, changes_besides, without}
 use Rattle.hack_journal.specs.Internal.{Hidden, IsHeld}
-use Rattle.hack_journal.specs.SafeLaws.{makes_append, holds_left, safe_of, fronts_one, stays_none, stays_more}
+use Rattle.hack_journal.specs.SafeLaws.{makes_append, holds_left, safe_of, fronts_none, stays_none, stays_more}
 use Rattle.hack_journal.proofs.ChangeLemmas.{makes_here, makes_others, bytes_differ, changed_other}
 
 -- the first entry of a path has what it held at first; without one, no entry has bytes of the path
@@ -38,6 +38,11 @@ keeps_more j o (x ∷ es) more e k held ne text = (k.0, k.1, k.2, keeps_more j o
 pub tells_last : (es : List Edit) (e : Edit) → SomeEntryHasBytes (es ++ e ∷ []) e.path e.wrote
 tells_last [] e = inl (refl, inr refl)
 tells_last (x ∷ es) e = inr (tells_last es e)
+
+-- a property of the files before and after one change is one of each front of it
+fronts_one : (P : Contents → Type 0) (c : Change) (m : Contents) → P m → P (after_change c m) → (k : ℕ) → P (after (take k (c ∷ [])) m)
+fronts_one P c m h g zero = h
+fronts_one P c m h g (suc k) = fronts_none P (after_change c m) g k
 
 -- one change, where the files before and after it are safe
 pub stay_one : (j : List ℕ) (o : Contents) (c : Change) (t u : List Change) (m n : Contents) → Makes (c ∷ []) t u m n → IsSafe j o m → IsSafe j o n → StaysSafe j o t u m n

@@ -37,10 +37,6 @@ pub fronts_none : (P : Contents → Type 0) (m : Contents) → P m → (k : ℕ)
 fronts_none P m h zero = h
 fronts_none P m h (suc k) = h
 
-pub fronts_one : (P : Contents → Type 0) (c : Change) (m : Contents) → P m → P (after_change c m) → (k : ℕ) → P (after (take k (c ∷ [])) m)
-fronts_one P c m h g zero = h
-fronts_one P c m h g (suc k) = fronts_none P (after_change c m) g k
-
 pub stay_append : (j : List ℕ) (o : Contents) (t u v : List Change) (m n w : Contents) → StaysSafe j o t u m n → StaysSafe j o u v n w → StaysSafe j o t v m w
 stay_append j o t u v m n w f g = record {
   added = f.added ++ g.added;

@@ -1,8 +1,5 @@
 -- What only private functions of the crate promise each other.
-use Rattle.std.specs.Prelude.{◌≡◌, false, ◌⊎◌, ◌++◌, ◌∷◌, [], ℕ, List, Some, Result, Ok, Err, true, Option, nat_lt, map, MatchOption, option_map, string_bytes, option_copied}
-use Rattle.std.specs.Str.{bytes_eq}
-use Rattle.serde_json.specs.Data.{Members}
-use Rattle.serde_json.specs.Find.{get_member}
+use Rattle.std.specs.Prelude.{◌≡◌, ◌⊎◌, ◌++◌, ◌∷◌, [], ℕ, List, Some, Result, Ok, Err, true, Option, nat_lt, map, MatchOption, option_map, string_bytes, option_copied}
 use Rattle.hack_base.specs.Names.{Name}
 use Rattle.hack_files.specs.Files.{Change, Contents, KeepsOthers, puts}
 use Rattle.hack_base.specs.Counters.{GrowsBy}
@@ -25,10 +22,6 @@ use Rattle.hack_metadata.specs.declared.metadata.resolve.PackageId.{PackageId}
 use Rattle.hack_metadata.specs.PackageSpecs.{VersionText, Url}
 use Rattle.hack_metadata.specs.declared.cargo.VersionParts.{VersionParts}
 use Rattle.hack_metadata.specs.declared.cargo.UrlParts.{UrlParts}
-
--- every other field is as it was
-pub record KeepsOtherFields (key : Name) (old new : Members) : Type 0 where
-  pub others : (q : Name) → bytes_eq key q ≡ false → get_member q new ≡ get_member q old
 
 -- memory was refused, or the files failed by an error of which P holds
 abbrev pub IsFileFault : (FsFault → Type 0) → AskFault → Type 0

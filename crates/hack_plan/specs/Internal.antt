@@ -1,10 +1,10 @@
 -- What only private functions of the crate promise each other.
-use Rattle.std.specs.Prelude.{ℕ, Bool, true, false, List, [], ◌∷◌, ◌++◌, ◌-◌, codes, Option, ◌≡◌, ◌<◌, ◌↔◌, Some, slice_get, ◌+◌, length, None, if◌then◌else◌}
+use Rattle.std.specs.Prelude.{ℕ, Bool, true, false, List, [], ◌∷◌, ◌++◌, ◌-◌, codes, Option, ◌≡◌, ◌<◌, ◌↔◌, Some, slice_get, length, None, if◌then◌else◌}
 use Rattle.std.specs.List.{join_with_byte}
 use Rattle.hack_versions.specs.declared.version.Version.{Version}
 use Rattle.hack_plan.specs.declared.places.PlanEntry.{PlanEntry}
 use Rattle.hack_plan.specs.declared.blocks.VersionUse.{VersionUse}
-use Rattle.hack_plan.specs.Parts.{InVersion, OfPackage}
+use Rattle.hack_plan.specs.Parts.{OfPackage}
 use Rattle.hack_plan.specs.Prepared.{Remakes}
 use Rattle.hack_plan.specs.Spans.{Laid}
 use Rattle.hack_process.specs.CommandTexts.{is_manifest_path}
@@ -48,10 +48,6 @@ InSlot version slot packages runs q = (q.version ≡ version) × (q.slot ≡ slo
 -- one slot of a version, and any of the packages that use it
 abbrev pub InSlotOf : VersionUse → ℕ → PlanEntry → Type 0
 InSlotOf uses slot = InSlot uses.version slot uses.packages.now uses.counts.now
-
--- any of so many slots of a version, and any of the packages that use it, or all as one
-abbrev pub InSlotsOf : Bool → VersionUse → ℕ → PlanEntry → Type 0
-InSlotsOf whole uses slots = InVersion whole uses.version slots uses.packages.now uses.counts.now
 
 -- the flags that are set are those of the versions before which the lockfile is regenerated
 abbrev pub AreFlags : Bool → List Version → List Bool → Type 0

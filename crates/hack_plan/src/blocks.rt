@@ -4,8 +4,8 @@
 ghost use Rattle.std.specs.Prelude.{true, false, ◌≡◌, ◌<◌, ◌^◌, ◌⊎◌, [], length, All};
 ghost use Rattle.std.specs.Prelude.{AllPairs, OnOk, IfErr, slice_get};
 ghost use Rattle.hack_plan.specs.Entries.{AddsEntries, Overfills};
-ghost use Rattle.hack_plan.specs.Parts.{InVersion};
-ghost use Rattle.hack_plan.specs.Internal.{InBlock, InSlotOf, InSlotsOf};
+ghost use Rattle.hack_plan.specs.Parts.{InSlotsOf, InVersion};
+ghost use Rattle.hack_plan.specs.Internal.{InBlock, InSlotOf};
 
 use crate::places::{PlacesFault, PlanEntry};
 use hack_versions::version::Version;

@@ -5,8 +5,7 @@ ghost use Rattle.std.specs.Io.{ReadsAtMost};
 ghost use Rattle.std.specs.Io.KnownBytes.{ReadConsumes};
 ghost use Rattle.std.specs.IoError.{error_kind};
 ghost use Rattle.std.specs.declared.io.ErrorKind.TheVariants.{Interrupted};
-ghost use Rattle.hack_base.specs.Writes.{CountsErrors};
-ghost use Rattle.hack_base.specs.Internal.{CountsFailure};
+ghost use Rattle.hack_base.specs.Writes.{CountsErrors, CountsFailure};
 ghost use Rattle.hack_powerset_list.specs.CommandList.{IsInput};
 ghost use Rattle.hack_powerset_list.specs.Streams.{CountsUnlessMemory};
 

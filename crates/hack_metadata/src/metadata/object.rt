@@ -10,8 +10,7 @@ ghost use Rattle.hack_base.specs.Names.{optional_text};
 ghost use Rattle.hack_metadata.specs.Fields.{string_in, bool_in, array_in, object_in};
 ghost use Rattle.hack_metadata.specs.Fields.{nullable_in, optional_text_in, element_of};
 ghost use Rattle.hack_metadata.specs.Fields.{object_in_text};
-ghost use Rattle.hack_metadata.specs.Internal.{KeepsOtherFields};
-ghost use Rattle.hack_metadata.specs.FieldResults.{ReturnsField};
+ghost use Rattle.hack_metadata.specs.FieldResults.{KeepsOtherFields, ReturnsField};
 
 use crate::metadata::fault::MetadataFault;
 use serde_json::{Map, Value};
