@@ -3,8 +3,7 @@
 ghost use Rattle.std.specs.Prelude.{◌≡◌, [], None};
 ghost use Rattle.hack_files.specs.Files.{CountsFailedCall};
 
-use crate::fs::{FileFault, Files};
-use crate::memory::count_failure;
+use crate::fs::{FileFault, Files, count_failure};
 use std::alloc::Global;
 use std::fs::{Metadata, OpenFile, OpenOptions};
 use std::io::{ErrorKind, Read, Write};

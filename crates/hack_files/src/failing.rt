@@ -2,8 +2,7 @@
 
 ghost use Rattle.std.specs.Prelude.{◌≡◌, ◌↔◌, IsTrue};
 
-use crate::fs::{FileFault, Files};
-use crate::memory::count_failure;
+use crate::fs::{FileFault, Files, count_failure, counted};
 use std::alloc::Global;
 use std::io;
 use std::io::{ErrorKind, Write};
@@ -88,13 +87,8 @@ impl<F: Files> Files for FailingFiles<F> {
             count_failure(&mut self.failures);
             return Err(FileFault::Device);
         }
-        match self.inner.read(alloc, path) {
-            Ok(bytes) => Ok(bytes),
-            Err(fault) => {
-                count_failure(&mut self.failures);
-                Err(fault)
-            }
-        }
+        let outcome = self.inner.read(alloc, path);
+        counted(&mut self.failures, outcome)
     }
 
     fn write(&mut self, path: &str, bytes: &[u8]) -> Result<(), FileFault> {
@@ -103,13 +97,8 @@ impl<F: Files> Files for FailingFiles<F> {
             let _ = self.inner.write(path, b"");
             return Err(FileFault::Device);
         }
-        match self.inner.write(path, bytes) {
-            Ok(()) => Ok(()),
-            Err(fault) => {
-                count_failure(&mut self.failures);
-                Err(fault)
-            }
-        }
+        let outcome = self.inner.write(path, bytes);
+        counted(&mut self.failures, outcome)
     }
 
     fn exists(&mut self, path: &str) -> Result<bool, FileFault> {
@@ -117,13 +106,8 @@ impl<F: Files> Files for FailingFiles<F> {
             count_failure(&mut self.failures);
             return Err(FileFault::Device);
         }
-        match self.inner.exists(path) {
-            Ok(there) => Ok(there),
-            Err(fault) => {
-                count_failure(&mut self.failures);
-                Err(fault)
-            }
-        }
+        let outcome = self.inner.exists(path);
+        counted(&mut self.failures, outcome)
     }
 
     fn remove(&mut self, path: &str) -> Result<(), FileFault> {
@@ -131,13 +115,8 @@ impl<F: Files> Files for FailingFiles<F> {
             count_failure(&mut self.failures);
             return Err(FileFault::Device);
         }
-        match self.inner.remove(path) {
-            Ok(()) => Ok(()),
-            Err(fault) => {
-                count_failure(&mut self.failures);
-                Err(fault)
-            }
-        }
+        let outcome = self.inner.remove(path);
+        counted(&mut self.failures, outcome)
     }
 
     fn failures(&self) -> u64 {

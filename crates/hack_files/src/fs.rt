@@ -122,6 +122,24 @@ impl From<AllocError> for FsFault {
     }
 }
 
+/// Counts one more failure of files. A count at its greatest value stays.
+pub fn count_failure(failures: &mut u64)
+    ensures { GrowsBy 1 failures.old failures.new }
+{
+    *failures = failures.saturating_add(1);
+}
+
+/// The outcome of a call of files, which is counted where it is an error.
+pub fn counted<T: Drop>(failures: &mut u64, outcome: Result<T, FileFault>) -> Result<T, FileFault>
+    ensures same { result ≡ outcome }
+    ensures counted { CountsFailedCall failures.old failures.new outcome }
+{
+    if outcome.is_err() {
+        count_failure(failures);
+    }
+    outcome
+}
+
 // The error of a failed read, from what the files returned.
 fn read_fault(alloc: Global, path: &str, fault: FileFault) -> FsFault
     ensures { IsOfRead path.now result }

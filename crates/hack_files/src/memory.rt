@@ -3,10 +3,9 @@
 ghost use Rattle.std.specs.Prelude.{◌≡◌, ◌++◌, ◌∷◌, [], List, ℕ, None, OnOk, OnErr, map};
 ghost use Rattle.std.specs.Option.{option_map};
 ghost use Rattle.hack_files.specs.Files.{Change};
-ghost use Rattle.hack_base.specs.Counters.{GrowsBy};
 ghost use Rattle.hack_files.specs.Memory.{held_after, change_of};
 
-use crate::fs::{FileFault, Files};
+use crate::fs::{FileFault, Files, count_failure};
 use std::alloc::{AllocError, Global};
 
 /// A path and the bytes that it holds from now on, or `None` where it was removed.
@@ -22,13 +21,6 @@ pub struct MemoryFiles {
     alloc: Global,
     steps: Vec<Step>,
     failures: u64,
-}
-
-// Counts one more failure. A count at its greatest value stays.
-pub(crate) fn count_failure(failures: &mut u64)
-    ensures { GrowsBy 1 failures.old failures.new }
-{
-    *failures = failures.saturating_add(1);
 }
 
 // What the path holds after these steps.

@@ -7,8 +7,7 @@ ghost use Rattle.std.specs.Prelude.{◌≡◌, ◌↔◌, [], None, Some, IfOk, 
 ghost use Rattle.hack_files.specs.Files.{CountsFailedCall, KeepsOthers, KeepsAll};
 ghost use Rattle.hack_journal.specs.LockfilesApart.{is_lockfile, apart, KeepsLockfiles};
 
-use crate::journaled::count_failure;
-use hack_files::fs::{FileFault, Files};
+use hack_files::fs::{FileFault, Files, counted};
 use std::alloc::Global;
 
 /// Files whose lockfiles are those of `B`, and all others those of `A`. Each call goes to one of
@@ -89,13 +88,7 @@ impl<A: Files, B: Files> Files for Apart<A, B> {
         } else {
             self.files.read(alloc, path)
         };
-        match outcome {
-            Ok(bytes) => Ok(bytes),
-            Err(fault) => {
-                count_failure(&mut self.failures);
-                Err(fault)
-            }
-        }
+        counted(&mut self.failures, outcome)
     }
 
     fn write(&mut self, path: &str, bytes: &[u8]) -> Result<(), FileFault>
@@ -119,13 +112,7 @@ impl<A: Files, B: Files> Files for Apart<A, B> {
         } else {
             self.files.write(path, bytes)
         };
-        match outcome {
-            Ok(()) => Ok(()),
-            Err(fault) => {
-                count_failure(&mut self.failures);
-                Err(fault)
-            }
-        }
+        counted(&mut self.failures, outcome)
     }
 
     fn exists(&mut self, path: &str) -> Result<bool, FileFault>
@@ -148,13 +135,7 @@ impl<A: Files, B: Files> Files for Apart<A, B> {
         } else {
             self.files.exists(path)
         };
-        match outcome {
-            Ok(there) => Ok(there),
-            Err(fault) => {
-                count_failure(&mut self.failures);
-                Err(fault)
-            }
-        }
+        counted(&mut self.failures, outcome)
     }
 
     fn remove(&mut self, path: &str) -> Result<(), FileFault>
@@ -178,13 +159,7 @@ impl<A: Files, B: Files> Files for Apart<A, B> {
         } else {
             self.files.remove(path)
         };
-        match outcome {
-            Ok(()) => Ok(()),
-            Err(fault) => {
-                count_failure(&mut self.failures);
-                Err(fault)
-            }
-        }
+        counted(&mut self.failures, outcome)
     }
 
     fn failures(&self) -> u64 {

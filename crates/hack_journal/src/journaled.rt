@@ -8,7 +8,6 @@ ghost use Rattle.std.specs.Prelude.{◌≡◌, ◌≢◌, ◌++◌, ◌⊎◌, [
 ghost use Rattle.std.specs.Prelude.{IfOk, OnOk, OnErr, IsTrue, IsSome, ◌↔◌, string_bytes};
 ghost use Rattle.std.specs.Option.{option_map};
 ghost use Rattle.hack_files.specs.Files.{Contents, CountsFailedCall, KeepsOthers, KeepsAll};
-ghost use Rattle.hack_base.specs.Counters.{GrowsBy};
 ghost use Rattle.hack_files.specs.Files.{Makes, MakesOrNot, puts};
 ghost use Rattle.hack_journal.specs.Journal.{edit_of, edits_of, journal_text};
 ghost use Rattle.hack_journal.specs.SafeFiles.{SomeEntryHasBytes, first_entry_of, AreBack, gives};
@@ -19,7 +18,7 @@ ghost use Rattle.hack_journal.specs.Internal.{Hidden};
 use crate::contents::{are_back, look, put};
 use crate::entries::{copy, first, tells};
 use crate::journal::{Entry, spell};
-use hack_files::fs::{FileFault, Files};
+use hack_files::fs::{FileFault, Files, count_failure, counted};
 use std::alloc::Global;
 
 /// Files over other files, with a journal. The journal is none of the files: its path holds
@@ -31,13 +30,6 @@ pub struct Journaled<F: Files> {
     journal: String,
     entries: Vec<Entry>,
     failures: u64,
-}
-
-// Counts one more failure. A count at its greatest value stays.
-pub(crate) fn count_failure(failures: &mut u64)
-    ensures { GrowsBy 1 failures.old failures.new }
-{
-    *failures = failures.saturating_add(1);
 }
 
 impl<F: Files> Journaled<F> {
@@ -168,29 +160,8 @@ impl<F: Files> Journaled<F> {
         }
     }
 
-    // Writes a journal with one more entry, of a path that is to hold these bytes, or be removed.
-    fn note(&mut self, path: &str, bytes: Option<&[u8]>) -> Result<(), FileFault>
-        ensures handed { F.stays self.old.files self.new.files }
-        ensures rest { self.new ≡
-            record self.old { files = self.new.files; entries = self.new.entries } }
-        ensures told { OnOk result (SomeEntryHasBytes (edits_of self.new.entries.items) path.now
-            (option_map (λ bytes. bytes.now) bytes.entry)) }
-        ensures others { F.tells → KeepsOthers (string_bytes self.old.journal)
-            (F.bytes_at self.old.files) (F.bytes_at self.new.files) }
-        ensures hidden { F.whole → Hidden (string_bytes self.old.journal)
-            (F.trace self.old.files) (F.trace self.new.files)
-            (F.bytes_at self.old.files) (F.bytes_at self.new.files) }
-        ensures stays { F.tells → F.whole → path.now ≢ string_bytes self.old.journal →
-            Stays (string_bytes self.old.journal)
-            (edits_of self.old.entries.items) (edits_of self.new.entries.items)
-            (F.trace self.old.files) (F.trace self.new.files)
-            (F.bytes_at self.old.files) (F.bytes_at self.new.files) }
-    {
-        let entry = self.entry(path, bytes)?;
-        self.append(entry)
-    }
-
-    // Keeps what the path holds, unless an entry of the path has these bytes already.
+    // Keeps what the path holds before it is to hold these bytes, or be removed: writes a journal
+    // with one more entry, unless one of the path has these bytes already.
     fn keep(&mut self, path: &str, bytes: Option<&[u8]>) -> Result<(), FileFault>
         ensures handed { F.stays self.old.files self.new.files }
         ensures rest { self.new ≡
@@ -211,7 +182,8 @@ impl<F: Files> Journaled<F> {
         if tells(&self.entries, path, bytes) {
             return Ok(());
         }
-        self.note(path, bytes)
+        let entry = self.entry(path, bytes)?;
+        self.append(entry)
     }
 
     // Keeps what the path holds, and then gives it these bytes, or removes what is there.
@@ -381,23 +353,13 @@ impl<F: Files> Files for Journaled<F> {
             count_failure(&mut self.failures);
             return Err(FileFault::Device);
         }
-        match self.files.read(alloc, path) {
-            Ok(bytes) => Ok(bytes),
-            Err(fault) => {
-                count_failure(&mut self.failures);
-                Err(fault)
-            }
-        }
+        let outcome = self.files.read(alloc, path);
+        counted(&mut self.failures, outcome)
     }
 
     fn write(&mut self, path: &str, bytes: &[u8]) -> Result<(), FileFault> {
-        match self.change(path, Some(bytes)) {
-            Ok(()) => Ok(()),
-            Err(fault) => {
-                count_failure(&mut self.failures);
-                Err(fault)
-            }
-        }
+        let outcome = self.change(path, Some(bytes));
+        counted(&mut self.failures, outcome)
     }
 
     fn exists(&mut self, path: &str) -> Result<bool, FileFault>
@@ -425,23 +387,13 @@ impl<F: Files> Files for Journaled<F> {
         if path == self.journal.as_str() {
             return Ok(false);
         }
-        match self.files.exists(path) {
-            Ok(there) => Ok(there),
-            Err(fault) => {
-                count_failure(&mut self.failures);
-                Err(fault)
-            }
-        }
+        let outcome = self.files.exists(path);
+        counted(&mut self.failures, outcome)
     }
 
     fn remove(&mut self, path: &str) -> Result<(), FileFault> {
-        match self.change(path, None) {
-            Ok(()) => Ok(()),
-            Err(fault) => {
-                count_failure(&mut self.failures);
-                Err(fault)
-            }
-        }
+        let outcome = self.change(path, None);
+        counted(&mut self.failures, outcome)
     }
 
     fn failures(&self) -> u64 {

@@ -6,7 +6,7 @@ use Rattle.hack_versions.specs.declared.version.Version.{Version}
 use Rattle.hack_process.specs.CommandTexts.{Command, with_names}
 use Rattle.hack_process.specs.Commands.{command_of}
 use Rattle.hack_process.specs.declared.process.ProcessBuilder.{ProcessBuilder}
-use Rattle.hack_plan.specs.Runs.{PackageRun, Plain, AllFeatures, NoDefaultFeatures, Set}
+use Rattle.hack_plan.specs.Runs.{PackageRun, Plain, AllFeatures, Set}
 use Rattle.hack_plan.specs.Inputs.{minor_of}
 use Rattle.hack_plan.specs.declared.places.PlanEntry.{PlanEntry}
 use Rattle.hack_plan.specs.View.{CallView, PackageView, PlanView}
@@ -50,8 +50,7 @@ manifest_words (Some path) = codes "--manifest-path" ∷ path ∷ []
 abbrev pub run_words : PackageRun → List (List ℕ)
 run_words Plain = []
 run_words AllFeatures = codes "--all-features" ∷ []
-run_words NoDefaultFeatures = codes "--no-default-features" ∷ []
-run_words (Set s) = codes "--no-default-features" ∷ []
+run_words run = codes "--no-default-features" ∷ []
 
 -- the names of the candidates at the positions, one after another
 abbrev pub candidate_names_at : List (List Name) → List ℕ → List Name
@@ -59,10 +58,8 @@ candidate_names_at candidates positions = flat_map (λ p. slice_index_or candida
 
 -- the names of a run's set
 abbrev pub run_names : List (List Name) → PackageRun → List Name
-run_names candidates Plain = []
-run_names candidates AllFeatures = []
-run_names candidates NoDefaultFeatures = []
 run_names candidates (Set s) = candidate_names_at candidates s
+run_names candidates run = []
 
 -- a command with the arguments that the call passes on
 abbrev pub call_command : CallView → Option Version → List (List ℕ) → List (List ℕ) → Command
@@ -99,10 +96,6 @@ command_of_entry plan q = ranked_command plan.call q.version q.slot (chosen_pack
 abbrev pub plain_command : List ℕ → List (List ℕ) → List (List ℕ) → Command
 plain_command program leading own = record { program = program; strip_program_path = false; leading = leading; passed = []; own = own; features = None; trailing = [] }
 
--- `--locked`, where it is given
-abbrev pub locked_words : Bool → List (List ℕ)
-locked_words locked = if locked then codes "--locked" ∷ [] else []
-
 -- the package whose artifacts are removed, if it is a single one
 abbrev pub cleaned_words : Option PackageView → List (List ℕ)
 cleaned_words None = []
@@ -110,7 +103,8 @@ cleaned_words (Some k) = codes "--package" ∷ k.name ∷ []
 
 -- the command that removes the artifacts of a package, or all artifacts
 abbrev pub clean_command : CallView → Option PackageView → Command
-clean_command c cleaned = plain_command c.cargo [] (codes "clean" ∷ locked_words c.locked ++ cleaned_words cleaned)
+clean_command c cleaned =
+    plain_command c.cargo [] (codes "clean" ∷ (if c.locked then codes "--locked" ∷ [] else []) ++ cleaned_words cleaned)
 
 -- the command that regenerates the lockfile
 abbrev pub lockfile_command : CallView → Version → Command

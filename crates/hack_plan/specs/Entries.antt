@@ -20,14 +20,12 @@ pub record IsAdmissible (s : PlanInput) (counts : List ℕ) (steps : List Versio
 -- of two indexes of packages, the first is the lower
 abbrev pub IsLower : Option ℕ → Option ℕ → Type 0
 IsLower (Some a) (Some b) = a < b
-IsLower None b = ⊥
-IsLower (Some a) None = ⊥
+IsLower a b = ⊥
 
 -- of two versions, the first is the lower
 abbrev pub IsOlder : Option Version → Option Version → Type 0
 IsOlder (Some a) (Some b) = IsEarlierVersion a b
-IsOlder None b = ⊥
-IsOlder (Some a) None = ⊥
+IsOlder a b = ⊥
 
 -- ordered by package, rank
 abbrev pub ByPackage : PlanEntry → PlanEntry → Type 0

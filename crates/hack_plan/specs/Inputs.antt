@@ -28,8 +28,7 @@ IsStepList (Some range) s stable steps = AreStepsOf range s.step (owns_of s) sta
 abbrev pub UsesVersion : Option VersionRange → PlanInput → List Version → Option Version → ℕ → Type 0
 UsesVersion None s steps None p = p < length s.packages.items
 UsesVersion (Some range) s steps (Some v) p = UsesAt range steps s.packages.items v p
-UsesVersion None s steps (Some v) p = ⊥
-UsesVersion (Some range) s steps None p = ⊥
+UsesVersion range s steps v p = ⊥
 
 -- some package uses the version; without a range it is "none", also where there are no packages
 abbrev pub IsVersion : Option VersionRange → PlanInput → List Version → Option Version → Type 0
@@ -71,11 +70,11 @@ pub record HaveTwo (packages : List PackageVersion) : Type 0 where
   pub second : Contains packages other
   pub differ : own_of one ≢ own_of other
 
--- there is to be one run for packages with different own versions
-abbrev pub IsTwoFault : PlanInput → RangeFault → Type 0
-IsTwoFault s e = (s.as_cargo ≡ true) × HaveTwo s.packages.items × (e ≡ SingleMsrv)
-
--- why there are no versions: the range is refused, or a package under it, or own versions differ
+-- why there are no versions: the range is refused, or a package under it; or there is to be one run
+-- for packages with different own versions
 abbrev pub IsVersionsFault : Option VersionRange → PlanInput → Option Version → RangeFault → Type 0
 IsVersionsFault None s stable e = ⊥
-IsVersionsFault (Some range) s stable e = IsRangeFault range (owns_of s) stable e ⊎ (IsGroupFault range s.packages.items e ⊎ IsTwoFault s e)
+IsVersionsFault (Some range) s stable e =
+    IsRangeFault range (owns_of s) stable e
+    ⊎ (IsGroupFault range s.packages.items e
+    ⊎ ((s.as_cargo ≡ true) × HaveTwo s.packages.items × (e ≡ SingleMsrv)))

@@ -1,5 +1,5 @@
 -- What is done before the runs of each version.
-use Rattle.std.specs.Prelude.{ℕ, ◌≡◌, ◌++◌, ◌↔◌, List, [], ◌∷◌, Bool, true, false, Option, Some, None, IsTrue, filter_map, slice_get}
+use Rattle.std.specs.Prelude.{ℕ, ◌≡◌, ◌++◌, ◌↔◌, List, [], ◌∷◌, Bool, false, if◌then◌else◌, Option, Some, None, IsTrue, filter_map, slice_get}
 use Rattle.hack_versions.specs.declared.version.Version.{Version}
 use Rattle.hack_versions.specs.Lockfiles.{NeedsLockfile}
 use Rattle.hack_plan.specs.declared.places.Span.{Span}
@@ -15,16 +15,12 @@ span_of v = record { version = v.version; first = v.first; end = v.end }
 abbrev pub version_number_of : PlanVersion → Option Version
 version_number_of v = v.version
 
--- the preparation, where it is asked for
-abbrev pub where_asked : Bool → Preparation → List Preparation
-where_asked true p = p ∷ []
-where_asked false p = []
-
 -- the toolchain, then the lockfile where it is regenerated, then the cleaning where it is asked
 -- for; nothing without a version
 abbrev pub preparations_of : Option Version → ℕ → Bool → Bool → List Preparation
 preparations_of None place remakes cleans = []
-preparations_of (Some v) place remakes cleans = Toolchain place ∷ where_asked remakes (Lockfile place) ++ where_asked cleans (Clean place)
+preparations_of (Some v) place remakes cleans =
+    Toolchain place ∷ (if remakes then Lockfile place ∷ [] else []) ++ (if cleans then Clean place ∷ [] else [])
 
 -- the lockfile is regenerated before the version at an index
 abbrev pub Remakes : Bool → List Version → ℕ → Type 0

@@ -67,15 +67,11 @@ pub record IsEmptyPlan (cx : ContextRecord) (rustup : Name) (plan : PlanView) (n
   pub entries : plan.entries ≡ []
   pub told : notes ≡ []
 
--- the plan, given the answer for `stable`
-abbrev pub IsPlanBy : Result (Option Version) (String Global) → ContextRecord → Name → PlanView → List Note → Type 0
-IsPlanBy (Ok latest) cx rustup plan notes = IsPlan cx rustup latest plan notes
-IsPlanBy (Err text) cx rustup plan notes = ⊥
-
--- the plan of a call
+-- the plan of a call, given the answer for `stable`
 abbrev pub IsPlanOf : Option (String Global) → Result (Option Version) (String Global) → ContextRecord → Name → PlanView → List Note → Type 0
 IsPlanOf None stable cx rustup plan notes = IsEmptyPlan cx rustup plan notes
-IsPlanOf (Some subcommand) stable cx rustup plan notes = IsPlanBy stable cx rustup plan notes
+IsPlanOf (Some subcommand) (Ok latest) cx rustup plan notes = IsPlan cx rustup latest plan notes
+IsPlanOf (Some subcommand) (Err text) cx rustup plan notes = ⊥
 
 -- the places of a call's plan, given the answer for `stable`: none without a subcommand, else just the admissible runs; with
 -- an error in place of stable's version there is no plan

@@ -26,9 +26,8 @@ use Rattle.hack_plan.specs.View.{CallView, PackageView}
 
 -- the path of a package's manifest as a command is given it; none where commands get none
 abbrev pub given_path : Bool → Name → Option PackageRecord → Option Name
-given_path true dir p = None
-given_path false dir None = None
 given_path false dir (Some p) = Some (under_of p.manifest_path dir)
+given_path is_left_out dir p = None
 
 -- the current package, as cargo locates it
 abbrev pub current_package_of : ContextRecord → Option PackageRecord
@@ -64,9 +63,8 @@ IsOwn (Some range) text own = IsOwnText text own
 
 -- the text isn't a version, and a range is given, so that it is read
 abbrev pub IsBadOwn : Option VersionRange → Option Name → VersionFault → Type 0
-IsBadOwn None text e = ⊥
-IsBadOwn (Some range) None e = ⊥
 IsBadOwn (Some range) (Some text) e = IsVersionFault text e
+IsBadOwn range text e = ⊥
 
 -- a chosen package, with its name and its own version
 pub record IsMember (cx : ContextRecord) (id : ℕ) (member : PackageVersion) : Type 0 where

@@ -9,7 +9,7 @@ use Rattle.hack_features.specs.Settings.{AreSettings, AreSettingsOfAll}
 use Rattle.hack_features.specs.View as rules
 use Rattle.hack_features.specs.declared.rules.Rules.{Rules}
 use Rattle.hack_plan.specs.declared.runs.RunOptions.{RunOptions}
-use Rattle.hack_plan.specs.Runs.{PackageRun, Plain, AllFeatures, NoDefaultFeatures, Set, is_plain, runs_from}
+use Rattle.hack_plan.specs.Runs.{PackageRun, Plain, AllFeatures, Set, is_plain, runs_from}
 use Rattle.hack_planner.specs.Candidates.{Names, Wishes, Known, candidates, is_bare, lifted_for}
 
 -- what the sets of a package are chosen from
@@ -84,10 +84,9 @@ AreCovering w p runs = (s : List ℕ) → IsSelection (length (candidates w p)) 
 
 -- the row says which candidates are on in a run; a plain run counts as one with the empty set
 abbrev pub IsRowOf : Choice → PackageRun → List Bool → Type 0
-IsRowOf c Plain row = AreSettings c [] row
 IsRowOf c AllFeatures row = AreSettingsOfAll c row
-IsRowOf c NoDefaultFeatures row = AreSettings c [] row
 IsRowOf c (Set s) row = AreSettings c s row
+IsRowOf c run row = AreSettings c [] row
 
 -- with a strength there is a row for each run, else none
 abbrev pub AreRunSettings : Option ℕ → Choice → List PackageRun → List (List Bool) → Type 0

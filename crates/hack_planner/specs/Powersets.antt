@@ -7,16 +7,14 @@ use Rattle.hack_load.specs.Contexts.{ContextRecord, package_at, features_at}
 use Rattle.hack_load.specs.declared.features.Features.{Features}
 use Rattle.hack_metadata.specs.Records.{PackageRecord}
 use Rattle.hack_planner.specs.ContextMembers.{AreChosen}
-use Rattle.hack_plan.specs.Runs.{PackageRun, Plain, AllFeatures, NoDefaultFeatures, Set}
+use Rattle.hack_plan.specs.Runs.{PackageRun, Set}
 use Rattle.hack_plan.specs.View.{PlanView}
 use Rattle.hack_planner.specs.CoveredSets.{choice_at}
 
 -- the set of a run, if the run has one
 abbrev pub set_of : PackageRun → Option (List ℕ)
-set_of Plain = None
-set_of AllFeatures = None
-set_of NoDefaultFeatures = None
 set_of (Set s) = Some s
+set_of run = None
 
 -- the sets of runs, in order
 abbrev pub run_sets_of : List PackageRun → List (List ℕ)

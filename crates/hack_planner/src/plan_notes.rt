@@ -15,7 +15,6 @@ use hack_metadata::metadata::PackageId;
 use hack_plan::places::slots;
 use hack_plan::versions::{PlanInput, Versions};
 use hack_versions::rustup::VersionGroup;
-use hack_versions::version::Version;
 use std::alloc::{AllocError, Global};
 
 /// Reports what the package at an index into the chosen ones doesn't get.
@@ -61,23 +60,23 @@ fn add_slot(
     Ok(())
 }
 
-/// Reports it for the packages at these indexes, in each slot of a version.
-fn add_version(
+/// Reports it for the packages at these indexes, once for each of so many slots.
+fn add_slots(
     alloc: Global,
     cx: &Context,
     ids: &[PackageId],
-    input: &PlanInput,
-    version: Option<Version>,
+    slots: usize,
     places: &[usize],
     notices: &mut Vec<Notice>,
 ) -> Result<(), AllocError>
     requires { All (λ id. Contains (context_view cx.now).metadata.workspace_members id.index)
         ids.now }
     ensures { OnOk result (AddsNotes notices.old notices.new
-        (version_notes (context_view cx.now) (map place_at ids.now) input.now version places.now)) }
+        (flat_map (λ slot. flat_map (λ p. left_out_for (context_view cx.now)
+        (slice_get (map place_at ids.now) p)) places.now) (range_with_len 0 slots))) }
 {
-    for slot in 0..slots(input, version) {
-        // The notices are those of the version, once for each of its slots.
+    for slot in 0..slots {
+        // The notices are the same in each slot.
         let _ = slot;
         add_slot(alloc, cx, ids, places, notices)?;
     }
@@ -111,8 +110,8 @@ fn add_groups(
         (Some group.version) group.packages.items) groups.now)) }
 {
     for group in groups {
-        let version = Some(group.version);
-        add_version(alloc, cx, ids, input, version, &group.packages, notices)?;
+        let count = slots(input, Some(group.version));
+        add_slots(alloc, cx, ids, count, &group.packages, notices)?;
     }
     Ok(())
 }
@@ -136,7 +135,8 @@ fn add_versions(
         Some(_) => add_groups(alloc, cx, ids, input, groups, notices),
         None => {
             let all = below(alloc, ids.len())?;
-            add_version(alloc, cx, ids, input, None, all.as_slice(), notices)
+            let count = slots(input, None);
+            add_slots(alloc, cx, ids, count, all.as_slice(), notices)
         }
     }
 }

@@ -58,12 +58,7 @@ abbrev pub IsReadFault : Type 0 → Asked → List ℕ → List Call → List Ca
 IsReadFault tells asked shown old new (NotText text) =
     (asked.program ≢ []) × (string_bytes text ≡ shown)
     × (tells → GotAnswer (λ answer. IsSuccess answer.end × (¬ IsUtf8 answer.stdout)) asked old new)
-IsReadFault tells asked shown old new Memory = IsFault tells asked shown old new Memory
-IsReadFault tells asked shown old new EmptyProgram = IsFault tells asked shown old new EmptyProgram
-IsReadFault tells asked shown old new (NeverExecuted text) =
-    IsFault tells asked shown old new (NeverExecuted text)
-IsReadFault tells asked shown old new (Failed failure) =
-    IsFault tells asked shown old new (Failed failure)
+IsReadFault tells asked shown old new e = IsFault tells asked shown old new e
 
 -- a byte is a line feed or a carriage return
 abbrev pub ends_line : ℕ → Bool

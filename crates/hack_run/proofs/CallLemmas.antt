@@ -1,12 +1,13 @@
 -- Calls that a question makes, and what its answer says.
-use Rattle.std.specs.Str.{IsUtf8}
-use Rattle.std.proofs.Common.{◌≡◌, ◌≢◌, ◌∙◌, refl, inl, inr, List, Option, Some, None, Result, Ok, Err, IfOk, IfErr, OnOk, IsSome, Bool, true, false, sym, subst, ◌^◌, ◌-◌, Global, String}
+use Rattle.std.proofs.Common.{◌≡◌, ◌≢◌, ◌∙◌, refl, inl, inr, List, Option, Some, None, Result, Ok, Err, IfOk, IfErr, OnOk, IsSome, Bool, true, false, sym, subst, Global, String}
 use Rattle.hack_base.specs.Names.{Name}
+use Rattle.hack_metadata.specs.QuestionCalls.{FailsToRead, ReadsOutput}
+use Rattle.hack_metadata.specs.Requests.{version_command}
 use Rattle.hack_process.specs.Calls.{Answer, Asked, Call, IsSuccess, MayAdd}
 use Rattle.hack_process.specs.CargoTexts.{release_part}
 use Rattle.hack_process.specs.Commands.{asked_of}
 use Rattle.hack_process.specs.CommandTexts.{Command}
-use Rattle.hack_process.specs.Faults.{GotAnswer, IsReadFault, without_line_ends}
+use Rattle.hack_process.specs.Faults.{GotAnswer, IsReadFault}
 use Rattle.hack_process.specs.declared.caller.End.{End}
 use Rattle.hack_process.specs.declared.caller.End.TheVariants.{NeverStarted}
 use Rattle.hack_process.specs.declared.fault.ProcessFault.{ProcessFault}
@@ -18,7 +19,7 @@ use Rattle.hack_session.specs.declared.step.Outcome.{Outcome}
 use Rattle.hack_session.specs.declared.step.Outcome.TheVariants.{Passed}
 use Rattle.hack_versions.specs.declared.rustup.Rustup.{Rustup}
 use Rattle.hack_versions.specs.declared.rustup.Rustup.TheVariants as known
-use Rattle.hack_run.specs.Questions.{AsksInVain, AsksRustup, AsksStable, InstallsStable, IsUnknown, ReadsStable, TellsMinor, TellsStable, rustup_command, stable_command}
+use Rattle.hack_run.specs.Questions.{AsksRustup, AsksStable, InstallsStable, IsUnknown, ReadsStable, TellsMinor, TellsStable, rustup_command}
 use Rattle.hack_run.specs.Internal.{IsLatest}
 
 -- a command that failed may have been called
@@ -65,14 +66,10 @@ installed tells Ended Cut old new (Ok done) h = λ t. let m = h t in record { ma
 installed tells Ended Cut old new (Err e) h = tt
 
 -- the answer that was read has the version
-pub reads : (tells : Type 0) (rustup answer : Name) (c : Command) (old new : List Call) → c ≡ stable_command rustup
-    → (tells → GotAnswer (λ told. IsSuccess told.end × IsUtf8 told.stdout × (answer ≡ without_line_ends told.stdout)) (asked_of true c) old new)
+pub reads : (tells : Type 0) (rustup answer : Name) (c : Command) (old new : List Call) → c ≡ version_command rustup
+    → (tells → ReadsOutput c answer old new)
     → (v : Version) → TellsRelease (release_part answer) v → tells → ReadsStable rustup v old new
-reads tells rustup answer c old new is had v told t = record {
-  answer = answer;
-  read = subst (λ k. GotAnswer (λ told. IsSuccess told.end × IsUtf8 told.stdout × (answer ≡ without_line_ends told.stdout)) (asked_of true k) old new) is (had t);
-  told = told;
-}
+reads tells rustup answer c old new is had v told t = (answer, subst (λ k. ReadsOutput k answer old new) is (had t), told)
 
 -- the same after the toolchain was installed
 pub tells_stable : (tells : Type 0) (rustup : Name) (old mid new : List Call) → (tells → InstallsStable rustup old mid)
@@ -88,31 +85,27 @@ is_known P (Err e) p = tt
 
 -- rustup was asked, and its answer read
 pub asks_rustup : {E : Type 0} (tells : Type 0) (wants : Bool) (rustup answer : Name) (c : Command) (old new : List Call) (r : Result Rustup E) → wants ≡ true → c ≡ rustup_command rustup
-    → (tells → GotAnswer (λ told. IsSuccess told.end × IsUtf8 told.stdout × (answer ≡ without_line_ends told.stdout)) (asked_of true c) old new) → IfOk r (TellsMinor answer) → IfOk r (λ known. tells → AsksRustup wants rustup known old new)
+    → (tells → ReadsOutput c answer old new) → IfOk r (TellsMinor answer) → IfOk r (λ known. tells → AsksRustup wants rustup known old new)
 asks_rustup tells wants rustup answer c old new (Ok known) is same had told = λ t.
-    subst (λ b. AsksRustup b rustup known old new) (sym is) (inl (record {
-      answer = answer;
-      read = subst (λ k. GotAnswer (λ told. IsSuccess told.end × IsUtf8 told.stdout × (answer ≡ without_line_ends told.stdout)) (asked_of true k) old new) same (had t);
-      told = told;
-    }))
+    subst (λ b. AsksRustup b rustup known old new) (sym is) (inl (answer, subst (λ k. ReadsOutput k answer old new) same (had t), told))
 asks_rustup tells wants rustup answer c old new (Err e) is same had told = tt
 
 -- an error other than out of memory comes of a command that gave no answer
-in_vain : (tells : Type 0) (asked : Asked) (shown : Name) (old new : List Call) (e : ProcessFault) → e ≢ process.Memory → IsReadFault tells asked shown old new e → tells → AsksInVain asked old new
-in_vain tells asked shown old new process.Memory ne h t = absurd (ne refl)
-in_vain tells asked shown old new process.EmptyProgram ne h t = inl (h.0, h.1 t)
-in_vain tells asked shown old new (process.NeverExecuted text) ne h t = let had = h.2 t in inr (had.0, (λ s. never_started had.0.end had.1 s.0), had.2)
+in_vain : (tells : Type 0) (c : Command) (shown : Name) (old new : List Call) (e : ProcessFault) → e ≢ process.Memory → IsReadFault tells (asked_of true c) shown old new e → tells → FailsToRead c old new
+in_vain tells c shown old new process.Memory ne h t = absurd (ne refl)
+in_vain tells c shown old new process.EmptyProgram ne h t = inl (h.0, h.1 t)
+in_vain tells c shown old new (process.NeverExecuted text) ne h t = let had = h.2 t in inr (had.0, (λ s. never_started had.0.end had.1 s.0), had.2)
   where
     never_started : (how : End) → how ≡ NeverStarted → IsSuccess how → ⊥
     never_started how e s = cc
-in_vain tells asked shown old new (process.Failed failure) ne h t = let had = h.3 t in inr (had.0, (λ s. h.2.0 (had.1.ended ∙ s.0)), had.2)
-in_vain tells asked shown old new (process.NotText text) ne h t = let had = h.2 t in inr (had.0, (λ s. had.1.1 s.1), had.2)
+in_vain tells c shown old new (process.Failed failure) ne h t = let had = h.3 t in inr (had.0, (λ s. h.2.0 (had.1.ended ∙ s.0)), had.2)
+in_vain tells c shown old new (process.NotText text) ne h t = let had = h.2 t in inr (had.0, (λ s. had.1.1 s.1), had.2)
 
 -- rustup gave no answer
 pub asks_in_vain : {E : Type 0} (tells : Type 0) (wants : Bool) (rustup shown : Name) (c : Command) (old new : List Call) (r : Result Rustup E) (e : ProcessFault) → wants ≡ true → c ≡ rustup_command rustup
     → IsReadFault tells (asked_of true c) shown old new e → IfOk r IsUnknown → OnOk r (e ≢ process.Memory) → IfOk r (λ known. tells → AsksRustup wants rustup known old new)
 asks_in_vain tells wants rustup shown c old new (Ok known) e is same failed unknown lacks = λ t.
-    subst (λ b. AsksRustup b rustup known old new) (sym is) (inr (unknown, subst (λ k. AsksInVain (asked_of true k) old new) same (in_vain tells (asked_of true c) shown old new e lacks failed t)))
+    subst (λ b. AsksRustup b rustup known old new) (sym is) (inr (unknown, subst (λ k. FailsToRead k old new) same (in_vain tells c shown old new e lacks failed t)))
 asks_in_vain tells wants rustup shown c old new (Err x) e is same failed unknown lacks = tt
 
 -- nothing was asked

@@ -4,6 +4,7 @@ mod GatherLemmas
 mod HeadlineLemmas
 mod JournalLemmas
 mod MadeLemmas
+pub mod ReadingLemmas
 mod RunLemmas
 mod ToldLemmas
 mod WholeLemmas

@@ -1,5 +1,5 @@
 -- The programs that a call called, whatever came of it.
-use Rattle.std.specs.Prelude.{ℕ, ◌≡◌, ◌⊎◌, ◌∷◌, [], Bool, List, Option, Result, codes, false, filter, string_bytes, true}
+use Rattle.std.specs.Prelude.{ℕ, ◌≡◌, ◌⊎◌, ◌∷◌, [], Bool, List, Option, Result, codes, false, filter, if◌then◌else◌, string_bytes, true}
 use Rattle.std.specs.List.{flat_map}
 use Rattle.std.proofs.Common.{Global, String}
 use Rattle.hack_base.specs.Names.{Name}
@@ -14,7 +14,6 @@ use Rattle.hack_session.specs.Histories.{Course}
 use Rattle.hack_session.specs.ListLines.{is_sent, lines_written}
 use Rattle.hack_session.specs.StepCalls.{BreaksInstall, Installs, MakesCalls, PerformsAll}
 use Rattle.hack_session.specs.Toolchains.{addition_of, trial_of}
-use Rattle.hack_session.specs.declared.step.Handed.{Handed}
 use Rattle.hack_session.specs.declared.step.Outcome.TheVariants.{Failed}
 use Rattle.hack_base.specs.Notes.{Note}
 use Rattle.hack_versions.specs.declared.rustup.Rustup.{Rustup}
@@ -28,14 +27,10 @@ use Rattle.hack_words.specs.declared.cli.parse.Parsed.{Parsed}
 use Rattle.hack_words.specs.declared.cli.parse.Parsed.TheVariants as parsed
 use Rattle.hack_planner.specs.CallPlan.{IsPlanOf}
 use Rattle.hack_run.specs.Headline.{IsHandedOut}
-use Rattle.hack_run.specs.Questions.{AsksRustup, AsksStable, InstallsStable, NeedsAnswer, rustup_asked, stable_command}
+use Rattle.hack_metadata.specs.Requests.{version_command}
+use Rattle.hack_run.specs.Questions.{AsksRustup, AsksStable, InstallsStable, NeedsAnswer, rustup_asked}
 use Rattle.hack_run.specs.Warnings.{GrowsWithin}
 use Rattle.hack_run.specs.Worlds.{HostView, World, host_at, world_at}
-
--- the steps that call programs: of a list only those that aren't listed, else all
-abbrev pub steps_performed : Bool → List Handed → List Handed
-steps_performed true steps = filter is_sent steps
-steps_performed false steps = steps
 
 -- what a list wrote is a front of this text; nothing is said where commands aren't listed
 abbrev pub ListGrowsWithin : Bool → Option (List ℕ) → Option (List ℕ) → List ℕ → Type 0
@@ -43,7 +38,7 @@ ListGrowsWithin true had has text = GrowsWithin had has text
 ListGrowsWithin false had has text = Unit {0}
 
 -- one history of a context's plan, made with this answer on stable's version, was handed out, and
--- its steps made just these calls, one after the other; a list wrote a front of the lines of the
+-- its steps made just these calls, one after the other, of a list those that aren't listed; it wrote a front of the lines of the
 -- steps that passed, and nothing else
 pub record PerformsOne (listing : Bool) (cx : ContextRecord) (stable : Result (Option Version) (String Global)) (rustup : Name) (old new : HostView) : Type 0 where
   pub course : Course
@@ -51,7 +46,8 @@ pub record PerformsOne (listing : Bool) (cx : ContextRecord) (stable : Result (O
   pub cut : ℕ
   pub handed : IsHandedOut cx stable course
   pub planned : IsPlanOf cx.args.subcommand stable cx rustup course.plan notes
-  pub calls : MakesCalls (λ made. PerformsAll course.plan (steps_performed listing course.handed) made cut) old.calls new.calls
+  pub calls : MakesCalls (λ made.
+      PerformsAll course.plan (if listing then filter is_sent course.handed else course.handed) made cut) old.calls new.calls
   pub wrote : ListGrowsWithin listing old.out new.out (flat_map (lines_written course.plan) course.handed)
 
 -- installing the toolchain `stable` failed: it was tried, and added where that failed, up to the
@@ -66,7 +62,7 @@ FailsStable rustup old new =
 abbrev pub MayAskStable : Name → List Call → List Call → Type 0
 MayAskStable rustup old new =
     (new ≡ old)
-    ⊎ (((mid : List Call) × InstallsStable rustup old mid × MayAdd (asked_of true (stable_command rustup)) mid new)
+    ⊎ (((mid : List Call) × InstallsStable rustup old mid × MayAdd (asked_of true (version_command rustup)) mid new)
     ⊎ FailsStable rustup old new)
 
 -- this was answered on stable's version, and then one history of the plan was performed

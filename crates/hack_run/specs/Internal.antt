@@ -17,7 +17,7 @@ use Rattle.hack_words.specs.Start.{wants_rustup}
 use Rattle.hack_words.specs.declared.cli.env.Env.{Env}
 use Rattle.hack_run.specs.Questions.{AsksRustup}
 use Rattle.hack_run.specs.declared.reading.Reading.{Reading}
-use Rattle.hack_run.specs.Readings.{IsReading}
+use Rattle.hack_run.specs.Readings.{IsReadingOrRefusal}
 use Rattle.std.specs.List.{flat_map}
 use Rattle.hack_planner.specs.CallPlan.{IsPlanOf}
 use Rattle.hack_term.specs.declared.partition.Partition.{Partition}
@@ -55,11 +55,12 @@ IsLatest P (Ok None) = ⊥
 IsLatest P (Ok (Some v)) = P v
 IsLatest P (Err text) = Unit {0}
 
--- rustup was asked where a word needs it, and with what is then known the words are read into this
+-- rustup was asked where a word needs it, and with what is then known the words are read into this,
+-- or are refused
 pub record ReadsAfterRustup (tells : Type 0) (words : List Name) (env : Env) (old new : List Call) (reading : Reading) : Type 0 where
   pub rustup : Rustup
   pub asked : tells → AsksRustup (wants_rustup words) (string_bytes env.rustup) rustup old new
-  pub read : IsReading (around_of env rustup) words reading
+  pub read : IsReadingOrRefusal (around_of env rustup) words reading
 
 -- `Done` holds of a context's plan, made with this answer on stable's version, and a warning is
 -- noted just where one was before, or where a notice of the plan counts as one

@@ -1,13 +1,13 @@
 -- What rustup is asked before there is a plan.
-use Rattle.std.specs.Prelude.{◌≡◌, ◌⊎◌, ◌∷◌, ◌-◌, [], Bool, List, Option, Some, None, Result, Ok, Err, IfOk, IfSome, IsSome, IsSomeAnd, codes, false, true}
-use Rattle.std.specs.Str.{IsUtf8}
+use Rattle.std.specs.Prelude.{◌≡◌, ◌⊎◌, ◌∷◌, [], Bool, List, Option, Some, None, Result, Ok, Err, IfOk, IfSome, IsSome, IsSomeAnd, codes, false, true}
 use Rattle.std.proofs.Common.{Global, String}
 use Rattle.hack_base.specs.Names.{Name}
-use Rattle.hack_process.specs.Calls.{Asked, Call, IsSuccess}
+use Rattle.hack_metadata.specs.QuestionCalls.{FailsToRead, ReadsOutput}
+use Rattle.hack_metadata.specs.Requests.{version_command}
+use Rattle.hack_process.specs.Calls.{Asked, Call}
 use Rattle.hack_process.specs.CargoTexts.{release_part}
 use Rattle.hack_process.specs.Commands.{asked_of}
 use Rattle.hack_process.specs.CommandTexts.{Command}
-use Rattle.hack_process.specs.Faults.{GotAnswer, without_line_ends}
 use Rattle.hack_plan.specs.Commands.{plain_command}
 use Rattle.hack_versions.specs.RangeSteps.{NeedsStable}
 use Rattle.hack_versions.specs.ToolTexts.{IsAnswerFault, TellsRelease, rustup_part}
@@ -36,30 +36,16 @@ TellsMinor answer (Unknown text) = (fault : VersionTextFault) × IsAnswerFault a
 
 -- rustup's version isn't known
 abbrev pub IsUnknown : Rustup → Type 0
-IsUnknown (Known minor) = ⊥
-IsUnknown Unasked = ⊥
 IsUnknown (Unknown text) = Unit {0}
-
--- a command gave no answer: its program has no name, and nothing was called; or it didn't end with
--- status 0, or its output isn't UTF-8
-abbrev pub AsksInVain : Asked → List Call → List Call → Type 0
-AsksInVain asked old new = ((asked.program ≡ []) × (new ≡ old)) ⊎ GotAnswer (λ told. ¬ (IsSuccess told.end × IsUtf8 told.stdout)) asked old new
-
--- rustup was asked, and its answer has this minor version, or can't be read
-pub record ReadsRustup (rustup : Name) (known : Rustup) (old new : List Call) : Type 0 where
-  pub answer : Name
-  pub read : GotAnswer (λ told. IsSuccess told.end × IsUtf8 told.stdout × (answer ≡ without_line_ends told.stdout)) (rustup_asked rustup) old new
-  pub told : TellsMinor answer known
+IsUnknown known = ⊥
 
 -- where an argument needs it, rustup was asked, and `known` is what its answer says, or unknown
 -- where it gave no answer; else nothing was asked, and `known` says so
 abbrev pub AsksRustup : Bool → Name → Rustup → List Call → List Call → Type 0
 AsksRustup false rustup known old new = (known ≡ Unasked) × (new ≡ old)
-AsksRustup true rustup known old new = ReadsRustup rustup known old new ⊎ (IsUnknown known × AsksInVain (rustup_asked rustup) old new)
-
--- the command that asks stable's cargo for its version
-abbrev pub stable_command : Name → Command
-stable_command rustup = plain_command rustup [] (codes "run" ∷ codes "stable" ∷ codes "cargo" ∷ codes "-vV" ∷ [])
+AsksRustup true rustup known old new =
+    ((answer : Name) × ReadsOutput (rustup_command rustup) answer old new × TellsMinor answer known)
+    ⊎ (IsUnknown known × FailsToRead (rustup_command rustup) old new)
 
 -- the toolchain `stable` is installed: it was tried, and added where that failed
 abbrev pub InstallsStable : Name → List Call → List Call → Type 0
@@ -67,10 +53,9 @@ InstallsStable rustup old new =
     MakesCalls (λ calls. Installs [] (asked_of true (trial_of rustup (codes "stable"))) (asked_of true (addition_of rustup (codes "stable") [])) calls Passed) old new
 
 -- stable's cargo answered with this version
-pub record ReadsStable (rustup : Name) (v : Version) (old new : List Call) : Type 0 where
-  pub answer : Name
-  pub read : GotAnswer (λ told. IsSuccess told.end × IsUtf8 told.stdout × (answer ≡ without_line_ends told.stdout)) (asked_of true (stable_command rustup)) old new
-  pub told : TellsRelease (release_part answer) v
+abbrev pub ReadsStable : Name → Version → List Call → List Call → Type 0
+ReadsStable rustup v old new =
+    (answer : Name) × ReadsOutput (version_command rustup) answer old new × TellsRelease (release_part answer) v
 
 -- the toolchain is installed, and then its cargo answered with this version
 pub record TellsStable (rustup : Name) (v : Version) (old new : List Call) : Type 0 where

@@ -83,9 +83,8 @@ Obeys tells parsed.List env old new = ListsCommands (string_bytes env.cargo) old
 
 -- whether a warning is noted after the command line's notices; a text is printed without them
 abbrev pub warned_by : Parsed → List Note → Bool → Bool
-warned_by (parsed.Args args) notes warned = have_warning notes || warned
 warned_by (parsed.Print text) notes warned = warned
-warned_by parsed.List notes warned = have_warning notes || warned
+warned_by answer notes warned = have_warning notes || warned
 
 -- the world after them
 abbrev pub world_told : Parsed → List Note → World → World

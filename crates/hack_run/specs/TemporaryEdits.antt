@@ -16,8 +16,7 @@ use Rattle.hack_run.specs.Worlds.{FilesView}
 -- what the command line asks for isn't an edit that stays
 abbrev pub ComesBack : Parsed → Type 0
 ComesBack (parsed.Args args) = args.remove_dev_deps ≡ false
-ComesBack (parsed.Print text) = Unit {0}
-ComesBack parsed.List = Unit {0}
+ComesBack answer = Unit {0}
 
 -- the command line doesn't ask for an edit that stays, whatever rustup answers
 abbrev pub RestoresEdits : Env → List Name → Type 0

@@ -4,22 +4,17 @@ use Rattle.std.specs.List.{list_any}
 use Rattle.std.specs.Io.KnownBytes.{Appends, append_known}
 use Rattle.hack_base.specs.Notes.{Note}
 use Rattle.hack_base.specs.declared.notice.NoticeKind.{NoticeKind}
-use Rattle.hack_base.specs.declared.notice.NoticeKind.TheVariants.{Info, Warn, QuietWarn}
+use Rattle.hack_base.specs.declared.notice.NoticeKind.TheVariants.{Warn}
 use Rattle.hack_term.specs.declared.term.Term.{Term}
 
 -- notices of a kind count as warnings
 abbrev pub is_counted : NoticeKind → Bool
-is_counted Info = false
 is_counted Warn = true
-is_counted QuietWarn = false
-
--- a note counts as a warning
-abbrev pub is_warning : Note → Bool
-is_warning note = is_counted note.kind
+is_counted kind = false
 
 -- some of the notes counts as a warning
 abbrev pub have_warning : List Note → Bool
-have_warning notes = list_any is_warning notes
+have_warning notes = list_any (λ note. is_counted note.kind) notes
 
 -- a terminal after these notices: a warning is noted where one was before or some of them counts
 -- as one, and all else stays

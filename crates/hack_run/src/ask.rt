@@ -4,6 +4,7 @@
 ghost use Rattle.std.specs.Prelude.{◌≡◌, ◌≢◌, IfOk, IfSome, IsSome, IsSomeAnd, None, Ok, OnErr};
 ghost use Rattle.std.specs.Prelude.{OnOk, false, string_bytes, true};
 ghost use Rattle.hack_base.specs.Names.{names_of};
+ghost use Rattle.hack_metadata.specs.Requests.{version_command as asks_stable};
 ghost use Rattle.hack_process.specs.Calls.{MayAdd};
 ghost use Rattle.hack_process.specs.CargoTexts.{release_part};
 ghost use Rattle.hack_process.specs.Commands.{asked_of, command_of};
@@ -16,7 +17,6 @@ ghost use Rattle.hack_run.specs.Internal.{IsLatest};
 ghost use Rattle.hack_run.specs.Questions.{AsksRustup, IsAnswered, IsUnknown, ReadsStable};
 ghost use Rattle.hack_run.specs.Questions.{TellsMinor};
 ghost use Rattle.hack_run.specs.Questions.{rustup_asked, rustup_command as asks_rustup};
-ghost use Rattle.hack_run.specs.Questions.{stable_command as asks_stable};
 
 use hack_process::cargo::version;
 use hack_process::process::{Caller, ProcessBuilder, ProcessFault};

@@ -68,16 +68,15 @@ fn hand_to_starter<C: Caller, O: Write, E: Write>(
 {
     let rustup = host.env.rustup.as_str();
     let (log_group, keep_going) = manner(cx.args());
-    let mut starter = Starter::new(
+    let starter = Starter::new(
         host.alloc,
         host.caller,
         host.term,
         host.out,
         host.err,
-        log_group,
-        keep_going,
         fault,
     );
+    let mut starter = starter.in_manner(log_group, keep_going);
     let session = drive_context(host.alloc, cx, rustup, stable, &mut starter)?;
     Ok(session)
 }

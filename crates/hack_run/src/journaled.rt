@@ -8,7 +8,7 @@ ghost use Rattle.hack_journal.specs.Journal.{edits_of};
 ghost use Rattle.hack_journal.specs.SafeFiles.{AreBack, Stays, StaysSafe};
 ghost use Rattle.hack_run.specs.Journals.{contents_seen, files_seen, world_seen};
 ghost use Rattle.hack_run.specs.CallTrace.{MadeOnce};
-ghost use Rattle.hack_run.specs.Readings.{IsEarlyReading};
+ghost use Rattle.hack_run.specs.Readings.{IsEarlyReadingOrRefusal};
 ghost use Rattle.hack_run.specs.TemporaryEdits.{BringsBack, RestoresEdits};
 ghost use Rattle.hack_run.specs.Success.{AreRefused, IsDone, Refuses};
 ghost use Rattle.hack_run.specs.Worlds.{IsSameHost, host_of};
@@ -34,7 +34,7 @@ pub fn run_journaled<F: Files, L: Files, C: Caller, O: Write, E: Write>(
     journal: String,
     host: &mut Host<'_, C, O, E>,
 ) -> (u8, F, L, u64)
-    requires { IfSome reading (IsEarlyReading host.old.env.now (names_of words.now)) }
+    requires { IfSome reading (IsEarlyReadingOrRefusal host.old.env.now (names_of words.now)) }
     ensures host { IsSameHost host.old host.new }
     ensures one { (result.0 ≡ 1) ↔ (IsTrue host.new.term.now.error
         ⊎ (IsTrue host.new.term.now.warn × IsTrue host.old.env.now.deny_warnings)) }

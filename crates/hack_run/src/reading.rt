@@ -6,7 +6,7 @@ ghost use Rattle.hack_process.specs.Calls.{MayAdd};
 ghost use Rattle.hack_words.specs.ParseAnswers.{around_of};
 ghost use Rattle.hack_words.specs.Start.{wants_rustup as rustup_wanted};
 ghost use Rattle.hack_run.specs.Questions.{rustup_asked};
-ghost use Rattle.hack_run.specs.Readings.{IsEarlyReading, IsReading};
+ghost use Rattle.hack_run.specs.Readings.{IsEarlyReadingOrRefusal, IsReading};
 ghost use Rattle.hack_run.specs.Internal.{ReadsAfterRustup};
 
 use crate::ask::rustup_for;
@@ -50,7 +50,7 @@ pub(crate) fn reading_of<C: Caller>(
     verbose: bool,
     caller: &mut C,
 ) -> Result<Reading, AllocError>
-    requires { IfSome known (IsEarlyReading env.now (names_of words.now)) }
+    requires { IfSome known (IsEarlyReadingOrRefusal env.now (names_of words.now)) }
     ensures may { C.tells → MayAdd (rustup_asked (string_bytes env.now.rustup))
         (C.calls caller.old) (C.calls caller.new) }
     ensures read { IfOk result (ReadsAfterRustup C.tells (names_of words.now) env.now

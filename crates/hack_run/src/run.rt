@@ -8,7 +8,7 @@ ghost use Rattle.hack_base.specs.Notes.{note_of};
 ghost use Rattle.hack_process.specs.Calls.{MayAdd};
 ghost use Rattle.hack_run.specs.CallTrace.{MadeOnce, TriesOnce, listing_asked};
 ghost use Rattle.hack_run.specs.Questions.{rustup_asked};
-ghost use Rattle.hack_run.specs.Readings.{IsEarlyReading};
+ghost use Rattle.hack_run.specs.Readings.{IsEarlyReadingOrRefusal};
 ghost use Rattle.hack_run.specs.TemporaryEdits.{BringsBack, ComesBack, IsClean, RestoresEdits};
 ghost use Rattle.hack_run.specs.Success.{AreRefused, IsDone, ListsCommands, Obeys, Refuses};
 ghost use Rattle.hack_run.specs.Success.{world_told};
@@ -38,7 +38,7 @@ pub fn run<F: Files, C: Caller, O: Write, E: Write>(
     host: &mut Host<'_, C, O, E>,
 ) -> u8
     // What is read already is what these arguments are read into before anything is asked.
-    requires { IfSome reading (IsEarlyReading host.old.env.now (names_of words.now)) }
+    requires { IfSome reading (IsEarlyReadingOrRefusal host.old.env.now (names_of words.now)) }
     ensures host { IsSameHost host.old host.new }
     ensures one { (result ≡ 1) ↔ (IsTrue host.new.term.now.error
         ⊎ (IsTrue host.new.term.now.warn × IsTrue host.old.env.now.deny_warnings)) }
@@ -94,7 +94,7 @@ fn read<F: Files, C: Caller, O: Write, E: Write>(
     files: &mut F,
     host: &mut Host<'_, C, O, E>,
 ) -> Result<(), RunFault>
-    requires { IfSome reading (IsEarlyReading host.old.env.now (names_of words.now)) }
+    requires { IfSome reading (IsEarlyReadingOrRefusal host.old.env.now (names_of words.now)) }
     ensures host { IsSameHost host.old host.new }
     ensures stays { F.stays files.old files.new }
     ensures refused { AreRefused host.old.env.now (names_of words.now) → IsErr result

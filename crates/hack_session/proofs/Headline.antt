@@ -20,7 +20,7 @@ use Rattle.hack_session.specs.declared.step.Outcome.{Outcome}
 use Rattle.hack_session.specs.declared.step.Outcome.TheVariants.{Passed}
 use Rattle.hack_session.specs.declared.step.Handed.{Handed}
 use Rattle.hack_session.specs.Histories.{Course, IsHistory, IsSameCourse, HasPassed, next_of, passed_step, stops, stops_at, step_of}
-use Rattle.hack_session.specs.Schedules.{IsTestOf, IsSchedule, in_kind, in_piece, is_place, mark}
+use Rattle.hack_session.specs.Schedules.{IsChosen, IsSchedule, in_kind, in_piece, is_place, mark}
 use Rattle.hack_session.specs.Handouts.{ArePiece, HandsOut, run_place, run_places_of}
 
 is_true : (b : Bool) → IsTrue b → b ≡ true
@@ -41,7 +41,7 @@ kind_test : (kind : PartitionKind) (m count total place : ℕ) → IsTrue (in_ki
 kind_test Block m count total place = block_test ((m - 1) * div_ceil total count) (m * div_ceil total count) place
 kind_test Turn m count total place = turn_test (place % count) (m - 1)
 
-pub piece_test : (piece : Option Partition) (total : ℕ) → IsTestOf piece total (in_piece piece total)
+pub piece_test : (piece : Option Partition) (total : ℕ) → (place : ℕ) → place < total → IsTrue (in_piece piece total place) ↔ IsChosen piece total place
 piece_test None total = λ place lt. search rules
 piece_test (Some piece) total = λ place lt. kind_test piece.kind piece.piece piece.count total place
 
@@ -97,7 +97,7 @@ range_rises n = λ i j d lt l.
     let f : get_or (range_with_len 0 n) j d ≡ 0 + j = get_or-range_with_len 0 n j d high in
     omega arith
 
-pub are_piece : (piece : Option Partition) (total : ℕ) (inside : ℕ → Bool) → IsTestOf piece total inside → ArePiece piece total (filter inside (range_with_len 0 total))
+pub are_piece : (piece : Option Partition) (total : ℕ) (inside : ℕ → Bool) → ((place : ℕ) → place < total → IsTrue (inside place) ↔ IsChosen piece total place) → ArePiece piece total (filter inside (range_with_len 0 total))
 are_piece piece total inside test = record {
   increasing = AllPairs-filter (λ a b. a < b) inside (range_with_len 0 total) (range_rises total);
   exact = λ place. (

@@ -17,7 +17,7 @@ use Rattle.hack_plan.specs.View.{PlanView}
 use Rattle.hack_session.specs.declared.step.Step.{Step}
 use Rattle.hack_session.specs.declared.step.Step.TheVariants.{Prepare, Skip, Run}
 use Rattle.hack_session.specs.Histories.{IsStepOf}
-use Rattle.hack_session.specs.Schedules.{IsSchedule, all_steps, in_piece, mark, places_of, steps_of, is_place}
+use Rattle.hack_session.specs.Schedules.{IsSchedule, all_steps, in_piece, mark, steps_of, is_place}
 use Rattle.hack_session.proofs.Headline.{piece_test}
 
 pub range_join : (a m n : ℕ) → range_with_len a (m + n) ≡ range_with_len a m ++ range_with_len (a + m) n
@@ -60,7 +60,7 @@ laid_places inside from [] to t = ap (λ (n : ℕ). map (mark inside) (range_wit
     gap = omega (arith, t)
 laid_places inside from (v ∷ vs) to t =
     filter-append is_place (steps_of inside v) (flat_map (steps_of inside) vs)
-    ∙ ap (λ (l : List Step). l ++ filter is_place (flat_map (steps_of inside) vs)) (filter-append is_place (map Prepare v.preparations.items) (map (mark inside) (places_of v)) ∙ ap (λ (l : List Step). l ++ filter is_place (map (mark inside) (places_of v))) (no_places v.preparations.items) ∙ all_places inside (places_of v) ∙ ap (λ (k : ℕ). map (mark inside) (range_with_len k (v.end - k))) t.0)
+    ∙ ap (λ (l : List Step). l ++ filter is_place (flat_map (steps_of inside) vs)) (filter-append is_place (map Prepare v.preparations.items) (map (mark inside) (range_with_len v.first (v.end - v.first))) ∙ ap (λ (l : List Step). l ++ filter is_place (map (mark inside) (range_with_len v.first (v.end - v.first)))) (no_places v.preparations.items) ∙ all_places inside (range_with_len v.first (v.end - v.first)) ∙ ap (λ (k : ℕ). map (mark inside) (range_with_len k (v.end - k))) t.0)
     ∙ ap (λ (l : List Step). map (mark inside) (range_with_len from (v.end - from)) ++ l) (laid_places inside v.end vs to t.2)
     ∙ sym (map_append (mark inside) (range_with_len from (v.end - from)) (range_with_len v.end (to - v.end)))
     ∙ ap (map (mark inside)) (ap (λ (k : ℕ). range_with_len from (v.end - from) ++ range_with_len k (to - v.end)) (sym seam) ∙ sym (range_join from (v.end - from) (to - v.end)) ∙ ap (range_with_len from) total)
@@ -123,25 +123,25 @@ past_prepared (q ∷ ps) ms (suc n) le = past_prepared ps ms n (omega arith) ∙
 
 pub step_prepared : (inside : ℕ → Bool) (v : PlanVersion) (n : ℕ) (p : Preparation) → n < length v.preparations.items → p ≡ get_or v.preparations.items n p → Some (Prepare p) ≡ slice_get (steps_of inside v) n
 step_prepared inside v n p lt is =
-    sym (prepared_at v.preparations.items (map (mark inside) (places_of v)) n p (slice_get_read v.preparations.items (length v.preparations.items) n p refl lt is))
+    sym (prepared_at v.preparations.items (map (mark inside) (range_with_len v.first (v.end - v.first))) n p (slice_get_read v.preparations.items (length v.preparations.items) n p refl lt is))
 
 -- then its places
 pub step_placed : (inside : ℕ → Bool) (v : PlanVersion) (n place : ℕ) → length v.preparations.items ≤ n → place ≡ n - length v.preparations.items → place < v.end - v.first → slice_get (steps_of inside v) n ≡ Some (mark inside (v.first + place))
 step_placed inside v n place le is lt =
-    past_prepared v.preparations.items (map (mark inside) (places_of v)) n le ∙ ap (slice_get (map (mark inside) (places_of v))) (sym is)
-    ∙ slice_get-get_or (map (mark inside) (places_of v)) place (mark inside v.first) (omega (arith, length-map-range_with_len (mark inside) v.first (v.end - v.first)))
+    past_prepared v.preparations.items (map (mark inside) (range_with_len v.first (v.end - v.first))) n le ∙ ap (slice_get (map (mark inside) (range_with_len v.first (v.end - v.first)))) (sym is)
+    ∙ slice_get-get_or (map (mark inside) (range_with_len v.first (v.end - v.first))) place (mark inside v.first) (omega (arith, length-map-range_with_len (mark inside) v.first (v.end - v.first)))
     ∙ ap Some (get_or-map-range_with_len (mark inside) v.first (v.end - v.first) place (v.first + place) (mark inside v.first) lt refl)
 
 pub step_past : (inside : ℕ → Bool) (v : PlanVersion) (n place : ℕ) → length v.preparations.items ≤ n → place ≡ n - length v.preparations.items → v.end - v.first ≤ place → None ≡ slice_get (steps_of inside v) n
 step_past inside v n place le is past =
-    sym (past_prepared v.preparations.items (map (mark inside) (places_of v)) n le ∙ ap (slice_get (map (mark inside) (places_of v))) (sym is)
-    ∙ slice_get_past (map (mark inside) (places_of v)) place (omega (arith, length-map-range_with_len (mark inside) v.first (v.end - v.first))))
+    sym (past_prepared v.preparations.items (map (mark inside) (range_with_len v.first (v.end - v.first))) n le ∙ ap (slice_get (map (mark inside) (range_with_len v.first (v.end - v.first)))) (sym is)
+    ∙ slice_get_past (map (mark inside) (range_with_len v.first (v.end - v.first))) place (omega (arith, length-map-range_with_len (mark inside) v.first (v.end - v.first))))
 
 -- how many steps a version has
 pub length-steps_of : (inside : ℕ → Bool) (v : PlanVersion) → length (steps_of inside v) ≡ length v.preparations.items + (v.end - v.first)
 length-steps_of inside v =
-    length-append (map Prepare v.preparations.items) (map (mark inside) (places_of v))
-    ∙ ap (λ (n : ℕ). n + length (map (mark inside) (places_of v))) (length-map v.preparations.items Prepare)
+    length-append (map Prepare v.preparations.items) (map (mark inside) (range_with_len v.first (v.end - v.first)))
+    ∙ ap (λ (n : ℕ). n + length (map (mark inside) (range_with_len v.first (v.end - v.first)))) (length-map v.preparations.items Prepare)
     ∙ ap (λ (n : ℕ). length v.preparations.items + n) (length-map-range_with_len (mark inside) v.first (v.end - v.first))
 
 -- the steps of one more version

@@ -3,7 +3,7 @@ use Rattle.std.specs.Prelude.{ℕ, ◌≡◌, ◌⊎◌, ◌<◌, ◌↔◌, tru
 use Rattle.std.specs.List.{filter_map, list_any}
 use Rattle.hack_term.specs.declared.partition.Partition.{Partition}
 use Rattle.hack_session.specs.declared.step.Step.{Step}
-use Rattle.hack_session.specs.declared.step.Step.TheVariants.{Prepare, Skip, Run}
+use Rattle.hack_session.specs.declared.step.Step.TheVariants.{Run}
 use Rattle.hack_session.specs.Histories.{Course, stops, step_of}
 use Rattle.hack_session.specs.Schedules.{IsChosen}
 
@@ -15,8 +15,7 @@ pub record ArePiece (piece : Option Partition) (total : ℕ) (places : List ℕ)
 -- the place that a step runs
 abbrev pub run_place : Step → Option ℕ
 run_place (Run place) = Some place
-run_place (Prepare preparation) = None
-run_place (Skip place) = None
+run_place step = None
 
 -- the places that steps run, in order
 abbrev pub run_places_of : List Step → List ℕ

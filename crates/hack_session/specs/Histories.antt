@@ -26,8 +26,7 @@ IsStepOf plan (Run place) = place < length plan.entries
 abbrev pub stops_at : Bool → Step → Outcome → Bool
 stops_at keep (Prepare preparation) Failed = true
 stops_at keep (Run place) Failed = not keep
-stops_at keep (Skip place) Failed = false
-stops_at keep step Passed = false
+stops_at keep step outcome = false
 
 -- a step with its outcome stops the session
 abbrev pub stops : Bool → Handed → Bool

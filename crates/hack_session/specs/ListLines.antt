@@ -7,7 +7,7 @@ use Rattle.hack_plan.specs.declared.parts.Preparation.TheVariants.{Toolchain, Lo
 use Rattle.hack_plan.specs.View.{PlanView}
 use Rattle.hack_plan.specs.Commands.{clean_command, command_of_entry, chosen_package_at}
 use Rattle.hack_session.specs.declared.step.Step.{Step}
-use Rattle.hack_session.specs.declared.step.Step.TheVariants.{Prepare, Skip, Run}
+use Rattle.hack_session.specs.declared.step.Step.TheVariants.{Prepare, Run}
 use Rattle.hack_session.specs.declared.step.Outcome.{Outcome}
 use Rattle.hack_session.specs.declared.step.Outcome.TheVariants.{Passed, Failed}
 use Rattle.hack_session.specs.declared.step.Handed.{Handed}
@@ -31,19 +31,15 @@ run_lines_at plan (Some q) = lines_of plan q
 
 -- what a step lists: the cleaning's line for a cleaning, and a run's lines; nothing else
 abbrev pub step_lines : PlanView → Step → List ℕ
-step_lines plan (Prepare (Toolchain v)) = []
-step_lines plan (Prepare (Lockfile v)) = []
 step_lines plan (Prepare (Clean v)) = line_of plan.call.dir (clean_command plan.call None)
-step_lines plan (Skip place) = []
 step_lines plan (Run place) = run_lines_at plan (slice_get plan.entries place)
+step_lines plan step = []
 
 -- a step that isn't listed, but performed: a toolchain or a lockfile
 abbrev pub is_sent_step : Step → Bool
 is_sent_step (Prepare (Toolchain v)) = true
 is_sent_step (Prepare (Lockfile v)) = true
-is_sent_step (Prepare (Clean v)) = false
-is_sent_step (Skip place) = false
-is_sent_step (Run place) = false
+is_sent_step step = false
 
 -- such a step that was handed out
 abbrev pub is_sent : Handed → Bool

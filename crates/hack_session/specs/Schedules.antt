@@ -16,32 +16,23 @@ abbrev pub IsChosen : Option Partition → ℕ → ℕ → Type 0
 IsChosen None total place = Unit {0}
 IsChosen (Some piece) total place = InPiece piece.kind piece.piece piece.count total place
 
--- a test whether a place is in the chosen piece
-abbrev pub IsTestOf : Option Partition → ℕ → (ℕ → Bool) → Type 0
-IsTestOf piece total inside = (place : ℕ) → place < total → IsTrue (inside place) ↔ IsChosen piece total place
-
 -- a place outside the piece is skipped
 abbrev pub mark : (ℕ → Bool) → ℕ → Step
 mark inside place = if inside place then Run place else Skip place
 
--- the places of a version, in order
-abbrev pub places_of : PlanVersion → List ℕ
-places_of v = range_with_len v.first (v.end - v.first)
-
--- the preparations of a version, and then its places
+-- the preparations of a version, and then its places, in order
 abbrev pub steps_of : (ℕ → Bool) → PlanVersion → List Step
-steps_of inside v = map Prepare v.preparations.items ++ map (mark inside) (places_of v)
+steps_of inside v = map Prepare v.preparations.items ++ map (mark inside) (range_with_len v.first (v.end - v.first))
 
 -- a step is at a place
 abbrev pub is_place : Step → Bool
 is_place (Prepare preparation) = false
-is_place (Skip place) = true
-is_place (Run place) = true
+is_place step = true
 
 -- all places in order, each once, those outside the piece marked as skipped: for each version in order its preparations and then its places
 pub record IsSchedule (piece : Option Partition) (plan : PlanView) (schedule : List Step) : Type 0 where
   pub inside : ℕ → Bool
-  pub test : IsTestOf piece (length plan.entries) inside
+  pub test : (place : ℕ) → place < length plan.entries → IsTrue (inside place) ↔ IsChosen piece (length plan.entries) place
   pub places : filter is_place schedule ≡ map (mark inside) (range_with_len 0 (length plan.entries))
   pub steps : schedule ≡ flat_map (steps_of inside) plan.versions
 

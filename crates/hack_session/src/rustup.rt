@@ -40,47 +40,71 @@ pub fn install_toolchain<C: Caller, O: Sink, E: Sink>(
         (map string_bytes target.now ≡ []) result) screen.old screen.new }
     ensures screen { IsSameScreen screen.old screen.new }
 {
-    let name = without_plus(toolchain);
-    let add = addition(alloc, rustup, name, target)?;
+    let commands = commands(alloc, rustup, without_plus(toolchain), target)?;
     if !target.is_empty() {
-        return add_toolchain(alloc, caller, screen, &add, print_output, dir);
+        return add_toolchain(alloc, caller, screen, &commands.add, print_output, dir);
     }
-    let trial = trial(alloc, rustup, name)?;
-    try_toolchain(alloc, caller, screen, &trial, &add, print_output, dir)
+    try_toolchain(alloc, caller, screen, &commands, print_output, dir)
+}
+
+/// The commands on a toolchain.
+#[derive(Drop)]
+struct ToolchainCommands {
+    /// It fails where the toolchain isn't installed.
+    trial: ProcessBuilder<'static>,
+    /// It adds the toolchain.
+    add: ProcessBuilder<'static>,
+}
+
+/// Makes the commands that try and add a toolchain with these targets.
+fn commands(
+    alloc: Global,
+    rustup: &str,
+    toolchain: &str,
+    target: &[String],
+) -> Result<ToolchainCommands, AllocError>
+    ensures trial { IfOk result (λ commands. command_of commands.trial
+        ≡ trial_of rustup.now toolchain.now) }
+    ensures add { IfOk result (λ commands. command_of commands.add
+        ≡ addition_of rustup.now toolchain.now (map string_bytes target.now)) }
+{
+    let trial = trial(alloc, rustup, toolchain)?;
+    let add = addition(alloc, rustup, toolchain, target)?;
+    Ok(ToolchainCommands { trial, add })
 }
 
 /// Tries a toolchain with one command, and adds it with another if that fails.
-pub(crate) fn try_toolchain<C: Caller, O: Sink, E: Sink>(
+fn try_toolchain<C: Caller, O: Sink, E: Sink>(
     alloc: Global,
     caller: &mut C,
     screen: &mut Screen<'_, O, E>,
-    trial: &ProcessBuilder<'_>,
-    add: &ProcessBuilder<'_>,
+    commands: &ToolchainCommands,
     print_output: bool,
     dir: &str,
 ) -> Result<(), ProcessFault>
     ensures made { MakesCallsOn C.Caller (TriesAndAdds []
-        (asked_of true (command_of trial.now))
-        (asked_of (not print_output) (command_of add.now)) result) caller.old caller.new }
+        (asked_of true (command_of commands.now.trial))
+        (asked_of (not print_output) (command_of commands.now.add)) result)
+        caller.old caller.new }
     ensures quiet { print_output ≡ false → screen.new ≡ screen.old }
     ensures shown { print_output ≡ true → PrintsOn O.Sink E.Sink (ShowsPartsOrNone
-        (addition_shown (manner_on screen.old) dir.now (command_of add.now) ∷ []) result)
-        screen.old screen.new }
+        (addition_shown (manner_on screen.old) dir.now (command_of commands.now.add) ∷ [])
+        result) screen.old screen.new }
     ensures screen { IsSameScreen screen.old screen.new }
 {
-    match call(alloc, caller, trial, false, dir) {
+    match call(alloc, caller, &commands.trial, false, dir) {
         Ok(()) => Ok(()),
         Err(fault) => {
             if is_memory(&fault) {
                 return Err(fault);
             }
-            add_toolchain(alloc, caller, screen, add, print_output, dir)
+            add_toolchain(alloc, caller, screen, &commands.add, print_output, dir)
         }
     }
 }
 
 /// Adds a toolchain.
-pub(crate) fn add_toolchain<C: Caller, O: Sink, E: Sink>(
+fn add_toolchain<C: Caller, O: Sink, E: Sink>(
     alloc: Global,
     caller: &mut C,
     screen: &mut Screen<'_, O, E>,

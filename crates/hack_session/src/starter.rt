@@ -1,6 +1,6 @@
 //! Who performs the steps of a plan by commands.
 
-ghost use Rattle.std.specs.Prelude.{◌≡◌, ◌⊎◌, All, List, ℕ, true};
+ghost use Rattle.std.specs.Prelude.{◌≡◌, ◌⊎◌, All, List, ℕ, false, true};
 ghost use Rattle.std.proofs.Common.{◌∙◌, refl, inl};
 ghost use Rattle.hack_base.specs.Writes.{Writes};
 ghost use Rattle.hack_session.specs.Histories.{HasPassed};
@@ -46,20 +46,18 @@ pub struct Starter<'a, C: Caller, O: Sink, E: Sink> {
 }
 
 impl<'a, C: Caller, O: Sink, E: Sink> Starter<'a, C, O, E> {
-    /// A starter that prints lines by the kind of log groups. The error that stops it goes to
-    /// `fault`; with `keep_going` that of a run doesn't stop it.
+    /// A starter that doesn't group lines, and that the first error stops. That error goes to
+    /// `fault`.
     pub fn new(
         alloc: Global,
         caller: &'a mut C,
         term: &'a mut Term,
         out: &'a mut O,
         err: &'a mut E,
-        log_group: LogGroup,
-        keep_going: bool,
         fault: &'a mut Option<ProcessFault>,
     ) -> Starter<'a, C, O, E>
-        ensures log_group { result.log_group ≡ log_group }
-        ensures keep_going { result.keep_going ≡ keep_going }
+        ensures log_group { result.log_group ≡ LogGroup.None }
+        ensures keep_going { result.keep_going ≡ false }
         ensures refused { result.refused ≡ 0 }
         ensures caller { IsHandedOver caller.entry result.caller }
         ensures term { IsHandedOver term.entry result.term }
@@ -73,10 +71,22 @@ impl<'a, C: Caller, O: Sink, E: Sink> Starter<'a, C, O, E> {
             term,
             out,
             err,
-            log_group,
-            keep_going,
+            log_group: LogGroup::None,
+            keep_going: false,
             fault,
             refused: 0,
+        }
+    }
+
+    /// The same starter, which prints lines by this kind of log groups. With `keep_going` the error
+    /// of a run doesn't stop it.
+    pub fn in_manner(self, log_group: LogGroup, keep_going: bool) -> Starter<'a, C, O, E>
+        ensures { result ≡ record self.entry { log_group = log_group; keep_going = keep_going } }
+    {
+        Starter {
+            log_group,
+            keep_going,
+            ..self
         }
     }
 }

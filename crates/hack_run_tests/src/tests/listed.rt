@@ -45,16 +45,15 @@ fn list_on<W: Write>(alloc: Global, cx: &Context, list: &mut W) -> Result<(usize
     let mut term = Term::new(Coloring::Never, false);
     let mut fault = None;
     let (mut out, mut err) = (io::sink(), io::sink());
-    let mut starter = Starter::new(
+    let starter = Starter::new(
         alloc,
         &mut caller,
         &mut term,
         &mut out,
         &mut err,
-        LogGroup::None,
-        cx.args().keep_going,
         &mut fault,
     );
+    let mut starter = starter.in_manner(LogGroup::None, cx.args().keep_going);
     let mut lines = LineWriter {
         out: list,
         failed: 0,

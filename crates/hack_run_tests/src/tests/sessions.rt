@@ -60,16 +60,15 @@ fn performed(
     is_whole: bool,
 ) -> Result<Left, Wrong> {
     let mut fault = None;
-    let mut starter = Starter::new(
+    let starter = Starter::new(
         alloc,
         &mut scene.caller,
         &mut scene.term,
         &mut scene.out,
         &mut scene.err,
-        cx.args().log_group,
-        cx.args().keep_going,
         &mut fault,
     );
+    let mut starter = starter.in_manner(cx.args().log_group, cx.args().keep_going);
     let session = if is_whole {
         driven_whole(alloc, cx, &mut starter)?
     } else {

@@ -15,7 +15,7 @@ pub returns-in-Ok-clause-shown : goal.returns-in-Ok-clause-shown
 returns-in-Ok-clause-shown g c = λ e. prints_none _ _ (inr (refl, refl))
 
 pub returns-then-is_memory-clause-shown : goal.returns-then-is_memory-clause-shown
-returns-then-is_memory-clause-shown g c = λ e. cut_part (Unit {0}) c.in-Err.fault (λ o s. IsWhole (addition_shown (manner_on c.args.screen.now) c.args.dir.now (command_of c.args.add.now) ∷ []) s ⊎ ((o ≡ Passed) × (s ≡ on_err []))) _ _ c.if-is_memory.ensures
+returns-then-is_memory-clause-shown g c = λ e. cut_part (Unit {0}) c.in-Err.fault (λ o s. IsWhole (addition_shown (manner_on c.args.screen.now) c.args.dir.now (command_of c.args.commands.now.add) ∷ []) s ⊎ ((o ≡ Passed) × (s ≡ on_err []))) _ _ c.if-is_memory.ensures
 
 pub returns-else-is_memory-clause-shown : goal.returns-else-is_memory-clause-shown
-returns-else-is_memory-clause-shown g c = λ e. or_early (Unit {0}) c.add_toolchain.result (addition_shown (manner_on c.args.screen.now) c.args.dir.now (command_of c.args.add.now) ∷ []) (λ o s. (o ≡ Passed) × (s ≡ on_err [])) _ _ (c.add_toolchain.ensures.shown e)
+returns-else-is_memory-clause-shown g c = λ e. or_early (Unit {0}) c.add_toolchain.result (addition_shown (manner_on c.args.screen.now) c.args.dir.now (command_of c.args.commands.now.add) ∷ []) (λ o s. (o ≡ Passed) × (s ≡ on_err [])) _ _ (c.add_toolchain.ensures.shown e)

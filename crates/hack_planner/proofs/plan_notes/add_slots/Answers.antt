@@ -5,7 +5,7 @@ use Rattle.hack_load.specs.GivenFeatures.{left_out_for}
 use Rattle.hack_metadata.specs.RecordViews.{place_at}
 use Rattle.hack_base.specs.Notes.{note_of}
 use Rattle.hack_planner.proofs.NoteLemmas.{slots-more}
-use Rattle.hack_planner.proofs.plan_notes.add_version.Goals as goal
+use Rattle.hack_planner.proofs.plan_notes.add_slots.Goals as goal
 
 pub loop-slot-preserved : goal.loop-slot-preserved
 loop-slot-preserved c =

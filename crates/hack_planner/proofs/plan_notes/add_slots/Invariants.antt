@@ -4,7 +4,7 @@ use Rattle.hack_load.specs.ContextView.{context_view}
 use Rattle.hack_load.specs.GivenFeatures.{left_out_for}
 use Rattle.hack_metadata.specs.RecordViews.{place_at}
 use Rattle.hack_base.specs.Notes.{note_of}
-use Rattle.hack_planner.proofs.plan_notes.add_version.Given as goal
+use Rattle.hack_planner.proofs.plan_notes.add_slots.Given as goal
 
 abbrev pub invariant-loop-slot : goal.invariant-loop-slot
 invariant-loop-slot l = map note_of l.notices.items ≡ map note_of l.fn.notices.items
