@@ -112,16 +112,6 @@ pub enum FsFault {
     Memory,
 }
 
-impl From<AllocError> for FsFault {
-    ghost use Rattle.hack_files.specs.declared.fs.FsFault.TheVariants.{Memory};
-
-    ghost from_gives = { λ _ e. e ≡ Memory };
-
-    fn from(_e: AllocError) -> FsFault {
-        FsFault::Memory
-    }
-}
-
 /// Counts one more failure of files. A count at its greatest value stays.
 pub fn count_failure(failures: &mut u64)
     ensures { GrowsBy 1 failures.old failures.new }
@@ -138,6 +128,16 @@ pub fn counted<T: Drop>(failures: &mut u64, outcome: Result<T, FileFault>) -> Re
         count_failure(failures);
     }
     outcome
+}
+
+impl From<AllocError> for FsFault {
+    ghost use Rattle.hack_files.specs.declared.fs.FsFault.TheVariants.{Memory};
+
+    ghost from_gives = { λ _ e. e ≡ Memory };
+
+    fn from(_e: AllocError) -> FsFault {
+        FsFault::Memory
+    }
 }
 
 // The error of a failed read, from what the files returned.

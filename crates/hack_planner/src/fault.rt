@@ -35,28 +35,6 @@ pub enum PlanFault {
     TooManyRuns,
 }
 
-impl From<AllocError> for PlanFault {
-    ghost use Rattle.std.specs.Prelude.{◌≡◌};
-    ghost use Rattle.hack_planner.specs.declared.fault.PlanFault.TheVariants.{Memory};
-
-    ghost from_gives = { λ _ e. e ≡ Memory };
-
-    fn from(_: AllocError) -> PlanFault {
-        PlanFault::Memory
-    }
-}
-
-impl<T: Drop> From<AllocFailed<T>> for PlanFault {
-    ghost use Rattle.std.specs.Prelude.{◌≡◌};
-    ghost use Rattle.hack_planner.specs.declared.fault.PlanFault.TheVariants.{Memory};
-
-    ghost from_gives = { λ _ e. e ≡ Memory };
-
-    fn from(_: AllocFailed<T>) -> PlanFault {
-        PlanFault::Memory
-    }
-}
-
 /// Why it isn't known which packages a call runs on.
 #[derive(Debug, Drop, Error)]
 pub enum PackagesFault {
@@ -65,28 +43,6 @@ pub enum PackagesFault {
     /// The specification of `--package` matches no member of the workspace.
     #[error("package ID specification `{0}` matched no packages")]
     Unmatched(String),
-}
-
-impl From<AllocError> for PackagesFault {
-    ghost use Rattle.std.specs.Prelude.{◌≡◌};
-    ghost use Rattle.hack_planner.specs.declared.fault.PackagesFault.TheVariants.{Memory};
-
-    ghost from_gives = { λ _ e. e ≡ Memory };
-
-    fn from(_: AllocError) -> PackagesFault {
-        PackagesFault::Memory
-    }
-}
-
-impl<T: Drop> From<AllocFailed<T>> for PackagesFault {
-    ghost use Rattle.std.specs.Prelude.{◌≡◌};
-    ghost use Rattle.hack_planner.specs.declared.fault.PackagesFault.TheVariants.{Memory};
-
-    ghost from_gives = { λ _ e. e ≡ Memory };
-
-    fn from(_: AllocFailed<T>) -> PackagesFault {
-        PackagesFault::Memory
-    }
 }
 
 /// Converts the error that the packages aren't known.
@@ -134,5 +90,49 @@ pub(crate) fn of_places(fault: PlacesFault) -> PlanFault
     match fault {
         PlacesFault::TooManyRuns => PlanFault::TooManyRuns,
         PlacesFault::Memory => PlanFault::Memory,
+    }
+}
+
+impl From<AllocError> for PlanFault {
+    ghost use Rattle.std.specs.Prelude.{◌≡◌};
+    ghost use Rattle.hack_planner.specs.declared.fault.PlanFault.TheVariants.{Memory};
+
+    ghost from_gives = { λ _ e. e ≡ Memory };
+
+    fn from(_: AllocError) -> PlanFault {
+        PlanFault::Memory
+    }
+}
+
+impl<T: Drop> From<AllocFailed<T>> for PlanFault {
+    ghost use Rattle.std.specs.Prelude.{◌≡◌};
+    ghost use Rattle.hack_planner.specs.declared.fault.PlanFault.TheVariants.{Memory};
+
+    ghost from_gives = { λ _ e. e ≡ Memory };
+
+    fn from(_: AllocFailed<T>) -> PlanFault {
+        PlanFault::Memory
+    }
+}
+
+impl From<AllocError> for PackagesFault {
+    ghost use Rattle.std.specs.Prelude.{◌≡◌};
+    ghost use Rattle.hack_planner.specs.declared.fault.PackagesFault.TheVariants.{Memory};
+
+    ghost from_gives = { λ _ e. e ≡ Memory };
+
+    fn from(_: AllocError) -> PackagesFault {
+        PackagesFault::Memory
+    }
+}
+
+impl<T: Drop> From<AllocFailed<T>> for PackagesFault {
+    ghost use Rattle.std.specs.Prelude.{◌≡◌};
+    ghost use Rattle.hack_planner.specs.declared.fault.PackagesFault.TheVariants.{Memory};
+
+    ghost from_gives = { λ _ e. e ≡ Memory };
+
+    fn from(_: AllocFailed<T>) -> PackagesFault {
+        PackagesFault::Memory
     }
 }
