@@ -33,6 +33,7 @@ use std::io::Write;
 /// anything else it restores what an interrupted call left edited, unless another call is running;
 /// and where it edits manifests and restores them itself, it keeps a journal of its edits, under a
 /// lock of its workspace's folder. `files` and `lockfiles` are the same file system.
+#[tactic(auto, using(hack_run::proofs::ReadingLemmas::some_or_refusal))]
 pub fn perform<F: Files, L: Files, K: Locks, C: Caller, O: Write, E: Write>(
     words: &[String],
     files: F,
@@ -128,6 +129,7 @@ fn guarded<F: Files, L: Files, K: Locks, C: Caller, O: Write, E: Write>(
 }
 
 /// Performs a call under its own lock, where nothing of an interrupted call is left.
+#[tactic(auto, using(hack_run::proofs::ReadingLemmas::some_or_refusal))]
 fn go_on<F: Files, L: Files, K: Locks, C: Caller, O: Write, E: Write>(
     words: &[String],
     begun: Begun,
@@ -170,6 +172,7 @@ fn go_on<F: Files, L: Files, K: Locks, C: Caller, O: Write, E: Write>(
 }
 
 /// Performs a call with a journal at this path, and warns where the journal stays.
+#[tactic(auto, using(hack_run::proofs::ReadingLemmas::some_or_refusal))]
 fn journaled<F: Files, L: Files, C: Caller, O: Write, E: Write>(
     words: &[String],
     reading: Option<Reading>,

@@ -1,5 +1,5 @@
 -- A reading of refused words is some refusal of them.
-use Rattle.std.proofs.Common.{◌≡◌, ◌⊎◌, inl, inr, List, Option, None, Some, MatchOption}
+use Rattle.std.proofs.Common.{◌≡◌, ◌⊎◌, inl, inr, IfSome, List, Option, None, Some, MatchOption}
 use Rattle.hack_base.specs.Names.{Name}
 use Rattle.hack_rules.specs.CliFaults.{Fault, fault_of}
 use Rattle.hack_words.specs.CommandLine.{Around, ComesTo, Faulty}
@@ -18,3 +18,7 @@ or_refusal around words (Refused fault) h = some_told (λ told. ComesTo around w
 
 pub early_or_refusal : (env : Env) (words : List Name) (reading : Reading) → IsEarlyReading env words reading → IsEarlyReadingOrRefusal env words reading
 early_or_refusal env words reading h = (h.0, or_refusal _ words reading h.1)
+
+pub some_or_refusal : (env : Env) (words : List Name) (reading : Option Reading) → IfSome reading (IsEarlyReading env words) → IfSome reading (IsEarlyReadingOrRefusal env words)
+some_or_refusal env words None h = tt
+some_or_refusal env words (Some reading) h = early_or_refusal env words reading h

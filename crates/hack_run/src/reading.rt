@@ -42,6 +42,7 @@ impl Reading {
 
 /// What the arguments are read into, where that isn't known already: rustup is asked for its
 /// version first, where an argument needs it.
+#[tactic(auto, using(crate::proofs::ReadingLemmas::or_refusal))]
 pub(crate) fn reading_of<C: Caller>(
     alloc: Global,
     words: &[String],
