@@ -10,10 +10,10 @@ use Rattle.hack_versions.specs.declared.version.VersionRange.{VersionRange}
 use Rattle.hack_versions.specs.declared.version.VersionFault.{VersionFault}
 use Rattle.hack_versions.specs.declared.version.VersionFault.TheVariants as fault
 use Rattle.hack_base.specs.Numbers.{IsNumber}
-use Rattle.hack_versions.specs.VersionTexts.{IsSomeNumber, IsBadNumber, HasVersionParts, HasWrongPart, IsVersionFault, IsCut, IsUncut, IsBare, IsBoundText, IsBoundFault, IsEndText, IsOpen, IsEndTextFault, IsRangeText, IsRangeTextFault}
+use Rattle.hack_versions.specs.VersionTexts.{IsBadNumber, IsVersionText, IsVersionFault, IsCut, IsUncut, IsBare, IsBoundText, IsBoundFault, IsEndText, IsOpen, IsEndTextFault, IsRangeText, IsRangeTextFault}
 use Rattle.hack_base.specs.Cuts.{front_of, rest_of}
 use Rattle.hack_versions.specs.Readings.{BadRange, BadNumber, OpenInclusive, IsRefusedBy}
-use Rattle.hack_versions.specs.Readings.{Sides, ReadRange, bad_range_of, then_read, read_as, version_part_of, with_minor, version_of, bound_of, behind_equals, end_of, is_old, at_dots, range_at, range_of}
+use Rattle.hack_versions.specs.Readings.{Sides, ReadRange, then_read, read_as, version_part_of, with_minor, version_of, bound_of, behind_equals, end_of, is_old, at_dots, range_at, range_of}
 use Rattle.std.specs.Option.{ok_or, option_transpose}
 use Rattle.hack_base.proofs.NumberLemmas.{number-read, number-unread}
 
@@ -68,7 +68,7 @@ minor-read : (o : Option (List ℕ)) (v : Version) → IsSomeAnd o (λ rest. IsN
 minor-read None v h = absurd h
 minor-read (Some text) v h = ap (then_read (λ minor. with_patch v.major minor (rest_of 46 text))) (part-read (front_of 46 text) v.minor h.0) ∙ patch-read (rest_of 46 text) v.major v.minor v.patch h.1
 
-pub version-read : (text : List ℕ) (v : Version) → HasVersionParts text v → version_of text ≡ Ok v
+pub version-read : (text : List ℕ) (v : Version) → IsVersionText text v → version_of text ≡ Ok v
 version-read text v h = ap (then_read (λ major. with_minor major (rest_of 46 text))) (part-read (front_of 46 text) v.major h.0) ∙ minor-read (rest_of 46 text) v h.1
 
 one-bad : (r : Result ℕ BadRange) (e : VersionFault) → IsRefusedBy r e → IsRefusedBy (one_more r) e
@@ -81,12 +81,12 @@ patch-bad : (o : Option (List ℕ)) (major minor : ℕ) (e : VersionFault) → I
 patch-bad None major minor e h = absurd h
 patch-bad (Some last) major minor e h = Refused-as (made major minor) (patch_of (Some last)) e (one-bad (version_part_of last) e (part-bad last e h))
 
-minor-bad : (o : Option (List ℕ)) (major : ℕ) (e : VersionFault) → MatchOption o (e ≡ fault.MissingMinor) (λ rest. IsBadNumber (front_of 46 rest) e ⊎ (IsSomeNumber (front_of 46 rest) × IsSomeAnd (rest_of 46 rest) (λ last. IsBadNumber last e))) → IsRefusedBy (with_minor major o) e
+minor-bad : (o : Option (List ℕ)) (major : ℕ) (e : VersionFault) → MatchOption o (e ≡ fault.MissingMinor) (λ rest. IsBadNumber (front_of 46 rest) e ⊎ (((n : ℕ) × IsNumber 32 (front_of 46 rest) n) × IsSomeAnd (rest_of 46 rest) (λ last. IsBadNumber last e))) → IsRefusedBy (with_minor major o) e
 minor-bad None major e h = subst (λ (e : VersionFault). IsRefusedBy (with_minor major None) e) (sym h) refl
 minor-bad (Some text) major e (inl h) = Refused-then (λ minor. with_patch major minor (rest_of 46 text)) (version_part_of (front_of 46 text)) e (part-bad (front_of 46 text) e h)
 minor-bad (Some text) major e (inr h) = Refused-next (λ minor. with_patch major minor (rest_of 46 text)) (version_part_of (front_of 46 text)) h.0.0 e (part-read (front_of 46 text) h.0.0 h.0.1) (patch-bad (rest_of 46 text) major h.0.0 e h.1)
 
-version-bad : (text : List ℕ) (e : VersionFault) → HasWrongPart text e → IsRefusedBy (version_of text) e
+version-bad : (text : List ℕ) (e : VersionFault) → IsVersionFault text e → IsRefusedBy (version_of text) e
 version-bad text e (inl h) = Refused-then (λ major. with_minor major (rest_of 46 text)) (version_part_of (front_of 46 text)) e (part-bad (front_of 46 text) e h)
 version-bad text e (inr h) = Refused-next (λ major. with_minor major (rest_of 46 text)) (version_part_of (front_of 46 text)) h.0.0 e (part-read (front_of 46 text) h.0.0 h.0.1) (minor-bad (rest_of 46 text) h.0.0 e h.1)
 
@@ -221,19 +221,9 @@ range-bad text e (inr h) = subst (λ (o : Option Sides). IsRefusedBy (range_at (
     either (inl k) = Refused-then (with_start (sides h.0 h.1)) (end_of h.0 h.1) e (end-bad h.0 h.1 e k)
     either (inr k) = start-bad h.0 h.1 k.0.0 e (end-read h.0 h.1 k.0.0 k.0.1 k.0.2) k.1
 
-version-unread : (text : List ℕ) (e : VersionFault) → (e ≡ fault.Memory) ⊎ HasWrongPart text e → IsRefusedBy (version_of text) e
+pub version-unread : (text : List ℕ) (e : VersionFault) → (e ≡ fault.Memory) ⊎ IsVersionFault text e → IsRefusedBy (version_of text) e
 version-unread text e (inl h) = subst (λ (e : VersionFault). IsRefusedBy (version_of text) e) (sym h) refl
 version-unread text e (inr h) = version-bad text e h
-
--- memory ran out, or the error gives the reason for which the text is refused
-told : (reading : Result Version BadRange) (e : VersionFault) → IsRefusedBy reading e → (e ≡ fault.Memory) ⊎ IsSomeAnd (bad_range_of e) (λ bad. reading ≡ Err bad)
-told reading fault.Memory h = inl h
-told reading fault.MissingMinor h = inr h
-told reading (fault.BadNumber s) h = inr h
-told reading (fault.OpenInclusive s) h = inr h
-
-pub version-fault : (text : List ℕ) (e : VersionFault) → (e ≡ fault.Memory) ⊎ HasWrongPart text e → (e ≡ fault.Memory) ⊎ IsVersionFault text e
-version-fault text e h = told (version_of text) e (version-unread text e h)
 
 pub range-unread : (text : List ℕ) (e : VersionFault) → (e ≡ fault.Memory) ⊎ IsRangeTextFault text e → IsRefusedBy (range_of text) e
 range-unread text e (inl h) = subst (λ (e : VersionFault). IsRefusedBy (range_of text) e) (sym h) refl
