@@ -232,9 +232,8 @@ module _ (r : Rules) where
       let s = flags n u in
       let e = length-flags n u in
       let back = sym (flags-back n u sel) in
-      let k = covers pattern few s ((listed_iff s e).1 (subst (IsListed c) back listed)) ((shown_iff s e pattern).1 (subst (SetShows c pattern) back shows)) in
-      record {
-        by = positions_of k.by;
-        chosen = Contains-map positions_of sets k.by k.chosen;
-        shows = (shown_iff k.by (All-contains (samples.IsListedMask may n required) sets k.by h.listed k.chosen).size pattern).0 k.shows;
-      }
+      let k = covers pattern few s ((listed_iff s e).1 (subst (IsListed c) back listed)) ((shown_iff s e pattern).1 (subst (SetShows c pattern) back shows)) in (
+        positions_of k.by,
+        Contains-map positions_of sets k.by k.chosen,
+        (shown_iff k.by (All-contains (samples.IsListedMask may n required) sets k.by h.listed k.chosen).size pattern).0 k.shows,
+      )

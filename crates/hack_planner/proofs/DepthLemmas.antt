@@ -61,9 +61,9 @@ strict s t b d = let r = before_trans s t s b d in r.absent r.present
 -- a set of one candidate is lean
 lean-one : (c : Choice) (p : ℕ) → IsRedundant c (p ∷ []) → ⊥
 lean-one c p r =
-    let k : r.keeper ≡ r.spared = sym (in-one p r.keeper r.kept) ∙ in-one p r.spared r.member in
-    let named : Contains (names_at c r.spared) r.spares.by = subst (λ q. Contains (names_at c q) r.spares.by) k r.spares.named in
-    (r.spares.enabled named.0 r.spares.by named.1).0 named.2
+    let k : r.0 ≡ r.1 = sym (in-one p r.0 r.2) ∙ in-one p r.1 r.3 in
+    let named : Contains (names_at c r.1) r.4.0 = subst (λ q. Contains (names_at c q) r.4.0) k r.4.1 in
+    (r.4.3 named.0 r.4.0 named.1).0 named.2
 
 -- an empty list has no item of which anything has to hold
 all-none : {X : Type 0} (P : X → Type 0) (xs : List X) → xs ≡ [] → All P xs
