@@ -434,15 +434,11 @@ module _ (c : Choice) (s : List ℕ) (hs : IsSelection (length c.candidates) s) 
   greedy_end = record {
     covers = record {
       selection = h.selection;
-      listed = record {
-        nonempty = h.wanted.nonempty;
-        permitted = record { within = h.wanted.within; lean = lean; exclusive = h.wanted.exclusive };
-        required = h.wanted.required;
-      };
+      listed = record { wanted = h.wanted; lean = lean };
       inside = h.rival.inside;
       same = h.rival.same;
     };
-    first = λ u v. first u v.selection (record { nonempty = v.listed.nonempty; inside = v.inside; same = v.same });
+    first = λ u v. first u v.selection (record { nonempty = v.listed.wanted.nonempty; inside = v.inside; same = v.same });
   }
 
 pub kept_room : (b : Bool) (kept : List ℕ) (k : ℕ) → k < length kept → (next : List ℕ) → next ≡ cond b (remove kept k) kept → k ≤ length next

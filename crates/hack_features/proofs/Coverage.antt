@@ -151,7 +151,7 @@ module _ (c : Choice) (tell : (s : List ℕ) → IsSelection (length c.candidate
     s,
     record {
       selection = sel;
-      listed = record { nonempty = h.nonempty; permitted = record { within = h.within; lean = lean; exclusive = h.exclusive }; required = h.required };
+      listed = record { wanted = h; lean = lean };
       inside = All-contains_itself s;
       same = λ y. (λ e. e, λ e. e);
     },

@@ -70,18 +70,17 @@ pub record IsPermitted (c : Choice) (s : List ℕ) : Type 0 where
   pub lean : ¬ IsRedundant c s
   pub exclusive : IsExclusive c s
 
--- the set is listed: it isn't empty, is permitted, and serves the groups
-pub record IsListed (c : Choice) (s : List ℕ) : Type 0 where
-  pub nonempty : s ≢ []
-  pub permitted : IsPermitted c s
-  pub required : IsRequired c s
-
--- the set has to be covered: it is as a listed set has to be, but may be redundant
+-- the set has to be covered: it isn't empty, keeps the depth, is exclusive, and serves the groups
 pub record IsWanted (c : Choice) (s : List ℕ) : Type 0 where
   pub nonempty : s ≢ []
   pub within : IsWithin c.depth s
   pub exclusive : IsExclusive c s
   pub required : IsRequired c s
+
+-- the set is listed: it has to be covered, and isn't redundant
+pub record IsListed (c : Choice) (s : List ℕ) : Type 0 where
+  pub wanted : IsWanted c s
+  pub lean : ¬ IsRedundant c s
 
 -- t covers s: it is listed, inside s, and enables the same names
 pub record Covers (c : Choice) (s t : List ℕ) : Type 0 where
