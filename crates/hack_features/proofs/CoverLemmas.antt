@@ -111,18 +111,17 @@ module _ (c : Choice) (names : List Name) (keys : List Bool) (marks : List (List
             let p = some_passes test s t in
             let x = some_passes (λ x. leads marks x y) (get_or all p.0 []) p.2 in
             let at = h.candidates_at.each p.0 (All-contains (λ p. p < length c.candidates) s p.0 low p.1) in
-            let lx = low_at Enabling c.map names keys marks h.routes (get_or all p.0 []) (names_at c p.0) at x.0 x.1 in
-            record {
-              by = name_at names x.0;
-              named = named_in c s p.0 (name_at names x.0) p.1 (shown_at Enabling c.map names keys marks h.routes (get_or all p.0 []) (names_at c p.0) at x.0 x.1);
-              chain = (h.routes.led x.0 y lx ly).0 x.2;
-            },
+            let lx = low_at Enabling c.map names keys marks h.routes (get_or all p.0 []) (names_at c p.0) at x.0 x.1 in (
+              name_at names x.0,
+              named_in c s p.0 (name_at names x.0) p.1 (shown_at Enabling c.map names keys marks h.routes (get_or all p.0 []) (names_at c p.0) at x.0 x.1),
+              (h.routes.led x.0 y lx ly).0 x.2,
+            ),
         λ e.
-            let p = member_of c s e.by e.named in
+            let p = member_of c s e.0 e.1 in
             let at = h.candidates_at.each p.0 (All-contains (λ p. p < length c.candidates) s p.0 low p.1) in
-            let x = placed Enabling c.map names keys marks h.routes (get_or all p.0 []) (names_at c p.0) at e.by p.2 in
+            let x = placed Enabling c.map names keys marks h.routes (get_or all p.0 []) (names_at c p.0) at e.0 p.2 in
             any_passes test s p.0 p.1 (any_passes (λ x. leads marks x y) (get_or all p.0 []) x.0 x.1
-            ((h.routes.led x.0 y x.2 ly).1 (subst (λ b. Enables c.map b (name_at names y)) (sym x.3) e.chain))),
+            ((h.routes.led x.0 y x.2 ly).1 (subst (λ b. Enables c.map b (name_at names y)) (sym x.3) e.2))),
       )
 
 -- the set is not empty and enables each of the names
@@ -203,20 +202,16 @@ bytes_tell x y = bytes_tell-by x y (bytes_eq x y) refl
 -- a set that enables the same names serves the same groups
 serves_same : (c : Choice) (s t : List ℕ) → EnableTheSame c s t → (group : List Name) → Serves c group s → Serves c group t
 serves_same c s t same group v =
-    let e = (same v.name).0 (record { by = v.name; named = v.named; chain = here }) in
-    record {
-      name = e.by;
-      named = e.named;
-      enables = record {
-        key = elim (bytes_tell e.by v.name) [
-          | inl q ↦ subst (IsKey c.map) (sym q) v.enables.key
-          | inr n ↦ key_from c.map e.chain n
-        ];
-        name = v.enables.name;
-        member = v.enables.member;
-        chain = Chain-append e.chain v.enables.chain;
-      };
-    }
+    let e = (same v.0).0 (v.0, v.1, here) in (
+      e.0,
+      e.1,
+      (
+        elim (bytes_tell e.0 v.0) [ inl q ↦ subst (IsKey c.map) (sym q) v.2.0 | inr n ↦ key_from c.map e.2 n ],
+        v.2.1,
+        v.2.2,
+        Chain-append e.2 v.2.3,
+      ),
+    )
 
 pub required_same : (c : Choice) (s t : List ℕ) → EnableTheSame c s t → IsRequired c s → IsRequired c t
 required_same c s t same r = λ k d lt key can. serves_same c s t same (get_or c.at_least_one_of k d) (r k d lt key can)
@@ -291,11 +286,11 @@ module _ (c : Choice) (s : List ℕ) (hs : IsSelection (length c.candidates) s) 
   module _ (covered : EnablesAll c (remove kept k) (names_at c (get_or s k 0))) where
     same_without : EnableTheSame c kept (remove kept k)
     same_without y = (
-      λ e. elim (name_left c kept k (get_or s k 0) at is e.by e.named) [
-        | inl w ↦ let f = All-contains (IsEnabledBy c (remove kept k)) (names_at c (get_or s k 0)) e.by covered.all w in record { by = f.by; named = f.named; chain = Chain-append f.chain e.chain }
-        | inr w ↦ record { by = e.by; named = w; chain = e.chain }
+      λ e. elim (name_left c kept k (get_or s k 0) at is e.0 e.1) [
+        | inl w ↦ let f = All-contains (IsEnabledBy c (remove kept k)) (names_at c (get_or s k 0)) e.0 covered.all w in (f.0, f.1, Chain-append f.2 e.2)
+        | inr w ↦ (e.0, w, e.2)
       ],
-      λ e. record { by = e.by; named = name_kept c kept k (get_or s k 0) at is e.by e.named; chain = e.chain },
+      λ e. (e.0, name_kept c kept k (get_or s k 0) at is e.0 e.1, e.2),
     )
 
     before_without : (u : List ℕ) → All (Contains s) u → Contains u (get_or s k 0) → ((q : ℕ) → get_or s k 0 < q → Contains kept q ↔ Contains u q) → IsBefore (remove kept k) u
@@ -374,9 +369,9 @@ module _ (c : Choice) (s : List ℕ) (hs : IsSelection (length c.candidates) s) 
       all = λ i d lt.
           let y = get_or (names_at c (get_or s k 0)) i d in
           let named = named_in c kept (get_or s k 0) y (k, at, sym is) (Contains-get_or (names_at c (get_or s k 0)) i d lt) in
-          let e = (r.same y).0 ((h.rival.same y).1 (record { by = y; named = named; chain = here })) in
-          let q = member_of c u e.by e.named in
-          record { by = e.by; named = named_in c (remove kept k) q.0 e.by (inside_rest u r agree n q.0 q.1) q.2; chain = e.chain };
+          let e = (r.same y).0 ((h.rival.same y).1 (y, named, here)) in
+          let q = member_of c u e.0 e.1 in
+          (e.0, named_in c (remove kept k) q.0 e.0 (inside_rest u r agree n q.0 q.1) q.2, e.2);
     }
 
     agree_on : (u : List ℕ) → IsRival c s u → AgreeFrom (k + 1) s kept u → Contains u (get_or s k 0) ⊎ (¬ Contains u (get_or s k 0)) → AgreeFrom k s kept u
@@ -420,17 +415,17 @@ module _ (c : Choice) (s : List ℕ) (hs : IsSelection (length c.candidates) s) 
   -- nothing in it is redundant
   lean : ¬ IsRedundant c kept
   lean r =
-      let i = r.member.0 in
-      let at : i < length kept = r.member.1 in
-      let is : r.spared ≡ get_or kept i r.spared = sym r.member.2 in
-      let named = named_in c kept r.keeper r.spares.by r.kept r.spares.named in
+      let i = r.3.0 in
+      let at : i < length kept = r.3.1 in
+      let is : r.1 ≡ get_or kept i r.1 = sym r.3.2 in
+      let named = named_in c kept r.0 r.4.0 r.2 r.4.1 in
       let u = remove kept i in
       let rival : IsRival c s u = record {
-        nonempty = nonempty_left c kept i r.spared at is r.spares.by named r.spares.key r.spares.enabled;
+        nonempty = nonempty_left c kept i r.1 at is r.4.0 named r.4.2 r.4.3;
         inside = λ k d lt. All-contains (Contains s) kept (get_or u k d) h.rival.inside (removed_member kept i _ (Contains-get_or u k d lt));
-        same = λ y. let one = enables_left c kept i r.spared at is r.spares.by named r.spares.key r.spares.enabled y in let two = h.rival.same y in (λ e. one.0 (two.0 e), λ e. two.1 (one.1 e));
+        same = λ y. let one = enables_left c kept i r.1 at is r.4.0 named r.4.2 r.4.3 y in let two = h.rival.same y in (λ e. one.0 (two.0 e), λ e. two.1 (one.1 e));
       } in
-      elim (first u (selection_left c kept i r.spared at is (length c.candidates) h.selection) rival) [
+      elim (first u (selection_left c kept i r.1 at is (length c.candidates) h.selection) rival) [
         | inl b ↦ b.absent (removed_member kept i b.greatest b.present)
         | inr e ↦ (let fewer = length-remove kept i at in let longer : length kept ≡ length u = ap length e in omega arith)
       ]
@@ -439,15 +434,11 @@ module _ (c : Choice) (s : List ℕ) (hs : IsSelection (length c.candidates) s) 
   greedy_end = record {
     covers = record {
       selection = h.selection;
-      listed = record {
-        nonempty = h.wanted.nonempty;
-        permitted = record { within = h.wanted.within; lean = lean; exclusive = h.wanted.exclusive };
-        required = h.wanted.required;
-      };
+      listed = record { wanted = h.wanted; lean = lean };
       inside = h.rival.inside;
       same = h.rival.same;
     };
-    first = λ u v. first u v.selection (record { nonempty = v.listed.nonempty; inside = v.inside; same = v.same });
+    first = λ u v. first u v.selection (record { nonempty = v.listed.wanted.nonempty; inside = v.inside; same = v.same });
   }
 
 pub kept_room : (b : Bool) (kept : List ℕ) (k : ℕ) → k < length kept → (next : List ℕ) → next ≡ cond b (remove kept k) kept → k ≤ length next

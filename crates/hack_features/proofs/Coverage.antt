@@ -96,7 +96,7 @@ module _ (c : Choice) (s : List ℕ) (i p : ℕ) (at : i < length s) (is : p ≡
   within_left h = within_shorter c.depth s (remove s i) (omega (arith, length-remove s i at)) h
 
   pub redundant_kept : IsRedundant c (remove s i) → IsRedundant c s
-  redundant_kept r = record { keeper = r.keeper; spared = r.spared; kept = member_kept r.keeper r.kept; member = member_kept r.spared r.member; spares = r.spares }
+  redundant_kept r = (r.0, r.1, member_kept r.0 r.2, member_kept r.1 r.3, r.4)
 
   -- the law: a permitted set is still permitted after a position is taken out
   pub permitted_left : IsPermitted c s → IsPermitted c (remove s i)
@@ -119,27 +119,22 @@ module _ (c : Choice) (s : List ℕ) (i p : ℕ) (at : i < length s) (is : p ≡
 
     pub enables_left : (y : Name) → IsEnabledBy c s y ↔ IsEnabledBy c (remove s i) y
     enables_left y = (
-      λ e. elim (name_left e.by e.named) [
-        | inl w ↦ record { by = by; named = by_left; chain = Chain-append (All-contains (λ y. (y ≢ by) × Enables c.map by y) (names_at c p) e.by enabled w).1 e.chain }
-        | inr w ↦ record { by = e.by; named = w; chain = e.chain }
+      λ e. elim (name_left e.0 e.1) [
+        | inl w ↦ (by, by_left, Chain-append (All-contains (λ y. (y ≢ by) × Enables c.map by y) (names_at c p) e.0 enabled w).1 e.2)
+        | inr w ↦ (e.0, w, e.2)
       ],
-      λ e. record { by = e.by; named = name_kept e.by e.named; chain = e.chain },
+      λ e. (e.0, name_kept e.0 e.1, e.2),
     )
 
     pub required_left : IsRequired c s → IsRequired c (remove s i)
     required_left h = λ k d lt. λ key' can. let w = h k d lt key' can in
-        elim (name_left w.name w.named) [
-          | inl v ↦ record {
-            name = by;
-            named = by_left;
-            enables = record {
-              key = key;
-              name = w.enables.name;
-              member = w.enables.member;
-              chain = Chain-append (All-contains (λ y. (y ≢ by) × Enables c.map by y) (names_at c p) w.name enabled v).1 w.enables.chain;
-            };
-          }
-          | inr v ↦ record { name = w.name; named = v; enables = w.enables }
+        elim (name_left w.0 w.1) [
+          | inl v ↦ (
+            by,
+            by_left,
+            (key, w.2.1, w.2.2, Chain-append (All-contains (λ y. (y ≢ by) × Enables c.map by y) (names_at c p) w.0 enabled v).1 w.2.3),
+          )
+          | inr v ↦ (w.0, v, w.2)
         ]
 
     pub nonempty_left : remove s i ≢ []
@@ -156,28 +151,28 @@ module _ (c : Choice) (tell : (s : List ℕ) → IsSelection (length c.candidate
     s,
     record {
       selection = sel;
-      listed = record { nonempty = h.nonempty; permitted = record { within = h.within; lean = lean; exclusive = h.exclusive }; required = h.required };
+      listed = record { wanted = h; lean = lean };
       inside = All-contains_itself s;
       same = λ y. (λ e. e, λ e. e);
     },
   )
   covered_by fuel s le sel h again (inl r) =
-      let i = r.member.0 in
-      let at : i < length s = r.member.1 in
-      let is : r.spared ≡ get_or s i r.spared = sym r.member.2 in
-      let found = again (remove s i) (omega (arith, length-remove s i at)) (selection_left c s i r.spared at is (length c.candidates) sel)
+      let i = r.3.0 in
+      let at : i < length s = r.3.1 in
+      let is : r.1 ≡ get_or s i r.1 = sym r.3.2 in
+      let found = again (remove s i) (omega (arith, length-remove s i at)) (selection_left c s i r.1 at is (length c.candidates) sel)
       (record {
-        nonempty = nonempty_left c s i r.spared at is r.spares.by (named_in c s r.keeper r.spares.by r.kept r.spares.named) r.spares.key r.spares.enabled;
-        within = within_left c s i r.spared at is h.within;
-        exclusive = exclusive_left c s i r.spared at is h.exclusive;
-        required = required_left c s i r.spared at is r.spares.by (named_in c s r.keeper r.spares.by r.kept r.spares.named) r.spares.key r.spares.enabled h.required;
+        nonempty = nonempty_left c s i r.1 at is r.4.0 (named_in c s r.0 r.4.0 r.2 r.4.1) r.4.2 r.4.3;
+        within = within_left c s i r.1 at is h.within;
+        exclusive = exclusive_left c s i r.1 at is h.exclusive;
+        required = required_left c s i r.1 at is r.4.0 (named_in c s r.0 r.4.0 r.2 r.4.1) r.4.2 r.4.3 h.required;
       }) in (
         found.0,
         record {
           selection = found.1.selection;
           listed = found.1.listed;
-          inside = λ k d lt. member_kept c s i r.spared at is _ (found.1.inside k d lt);
-          same = λ y. let one = enables_left c s i r.spared at is r.spares.by (named_in c s r.keeper r.spares.by r.kept r.spares.named) r.spares.key r.spares.enabled y in let two = found.1.same y in
+          inside = λ k d lt. member_kept c s i r.1 at is _ (found.1.inside k d lt);
+          same = λ y. let one = enables_left c s i r.1 at is r.4.0 (named_in c s r.0 r.4.0 r.2 r.4.1) r.4.2 r.4.3 y in let two = found.1.same y in
               (λ e. two.0 (one.0 e), λ e. one.1 (two.1 e));
         },
       )

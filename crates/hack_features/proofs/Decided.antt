@@ -140,23 +140,20 @@ spares_told m names others =
     let test : Name → Type 0 = λ by. IsKey m by × All (λ y. (y ≢ by) × Enables m by y) others in
     let t : Told (Among test names) = among_told test (λ by. both_told (key_told m by) (all_told (λ y. (y ≢ by) × Enables m by y) (λ y. both_told (not_told (same_told y by)) (enables_told m by y)) others)) names in
     elim t [
-      | inl w ↦ inl (record { by = w.0; named = w.1; key = w.2.0; enabled = w.2.1 })
-      | inr n ↦ inr (λ s. n (s.by, s.named, (s.key, s.enabled)))
+      | inl w ↦ inl (w.0, w.1, w.2.0, w.2.1)
+      | inr n ↦ inr (λ s. n (s.0, s.1, (s.2, s.3)))
     ]
 
 enables_one_told : (m : FeatureMap) (group : List Name) (x : Name) → Told (EnablesOneOf m group x)
 enables_one_told m group x =
     elim (both_told (key_told m x) (among_told (λ y. Enables m x y) (λ y. enables_told m x y) group)) [
-      | inl w ↦ inl (record { key = w.0; name = w.1.0; member = w.1.1; chain = w.1.2 })
-      | inr n ↦ inr (λ e. n (e.key, (e.name, e.member, e.chain)))
+      | inl w ↦ inl (w.0, w.1.0, w.1.1, w.1.2)
+      | inr n ↦ inr (λ e. n (e.0, (e.1, e.2, e.3)))
     ]
 
 serves_told : (c : Choice) (group : List Name) (s : List ℕ) → Told (Serves c group s)
 serves_told c group s =
-    elim (among_told (λ x. EnablesOneOf c.map group x) (λ x. enables_one_told c.map group x) (names_in c s)) [
-      | inl w ↦ inl (record { name = w.0; named = w.1; enables = w.2 })
-      | inr n ↦ inr (λ v. n (v.name, v.named, v.enables))
-    ]
+    among_told (λ x. EnablesOneOf c.map group x) (λ x. enables_one_told c.map group x) (names_in c s)
 
 -- ---- what is only known to hold
 

@@ -121,16 +121,15 @@ served-enables m group x s d n member c false t = record { name = n; member = me
 -- once no entry is left, the keys are those that enable a name of the group
 pub serving-end : (group : List Name) (deps : BTreeMap (Bor Name) NameSet) (keys : NameSet) (left : List (Bor Name × NameSet)) → Serving group deps keys left → left ≡ [] → (m : FeatureMap) → AreDepsOf m deps → AreServers m group keys
 serving-end group deps keys left h e m are = λ x. (
-  λ k. let w = h.sound x k in
-      record {
-        key = (are.keys x).0 (ap is_some w.1);
-        name = w.2.name;
-        member = w.2.member;
-        chain = enables-served m group x w.0 (if_some-at (IsDepsOf m x) (get_at deps x) w.0 w.1 (are.each x)) w.2;
-      },
-  λ k. let s = some-at (get_at deps x) ((are.keys x).1 k.key) in
+  λ k. let w = h.sound x k in (
+    (are.keys x).0 (ap is_some w.1),
+    w.2.name,
+    w.2.member,
+    enables-served m group x w.0 (if_some-at (IsDepsOf m x) (get_at deps x) w.0 w.1 (are.each x)) w.2,
+  ),
+  λ k. let s = some-at (get_at deps x) ((are.keys x).1 k.0) in
       let d = if_some-at (IsDepsOf m x) (get_at deps x) s.0 s.1 (are.each x) in
-      elim (h.whole x s.0 s.1 (served-enables m group x s.0 d k.name k.member k.chain (bytes_eq k.name x) refl)) [
+      elim (h.whole x s.0 s.1 (served-enables m group x s.0 d k.1 k.2 k.3 (bytes_eq k.1 x) refl)) [
         | inl w ↦ w
         | inr w ↦ absurd (let z : None ≡ Some s.0 = sym (ap (lookup (is_at (λ (k : Bor Name). slice_cmp nat_cmp x k.now))) e) ∙ w in cc)
       ],
@@ -159,7 +158,7 @@ pub serve-kept : (deps : BTreeMap (Bor Name) NameSet) (groups : List (List Name)
     → ((m : FeatureMap) → AreDepsOf m deps → AreServers m group keys) → ¬ (length keys.keys ≡ 0) → ServeSoFar deps (groups ++ group ∷ []) (sets ++ keys ∷ [])
 serve-kept deps groups group sets keys h are more = λ m d.
     let w = has-one keys more in
-    kept keys (h m d) ((are m d w.0).0 w.1) (are m d)
+    kept group w.0 keys (h m d) ((are m d w.0).0 w.1) (are m d)
 
 empty-nil : (ks : List (Bor Name)) → length ks ≡ 0 → ks ≡ []
 empty-nil [] h = refl
@@ -168,7 +167,7 @@ empty-nil (k ∷ ks) h = absurd (omega arith)
 pub serve-dropped : (deps : BTreeMap (Bor Name) NameSet) (groups : List (List Name)) (group : List Name) (sets : List NameSet) (keys : NameSet) → ServeSoFar deps groups sets
     → ((m : FeatureMap) → AreDepsOf m deps → AreServers m group keys) → length keys.keys ≡ 0 → ServeSoFar deps (groups ++ group ∷ []) sets
 serve-dropped deps groups group sets keys h are e = λ m d.
-    dropped (h m d) (λ x w. Contains-nil x ((has_just-nil keys (empty-nil keys.keys e) x).0 ((are m d x).1 w)))
+    dropped group (h m d) (λ x w. Contains-nil x ((has_just-nil keys (empty-nil keys.keys e) x).0 ((are m d x).1 w)))
 
 pub groups-more : (features : List Feature) (k : ℕ) (f : Feature) → k < length features → f ≡ get_or features k f → take (k + 1) (groups_of features) ≡ take k (groups_of features) ++ group_of f ∷ []
 groups-more features k f h e =

@@ -1,5 +1,5 @@
 -- The search through a feature map: each step, why it ends, and what it has found then.
-use Rattle.std.proofs.Common.{◌≡◌, ◌==◌, ℕ, ◌+◌, ◌<◌, ◌≤◌, List, [], ◌∷◌, ◌++◌, length, get_or, refl, sym, ◌∙◌, ap, subst, arith, map, flat_map, Option, Some, None, Bool, true, false, cond, ◌⊎◌, inl, inr, Contains, unwrap_or, String, Vec, string_bytes, append_assoc, append-nil, length-append, nat_eq, codes}
+use Rattle.std.proofs.Common.{IsTrue, ◌≡◌, ◌==◌, ℕ, ◌+◌, ◌<◌, ◌≤◌, List, [], ◌∷◌, ◌++◌, length, get_or, refl, sym, ◌∙◌, ap, subst, arith, map, flat_map, Option, Some, None, Bool, true, false, cond, ◌⊎◌, inl, inr, Contains, unwrap_or, String, Vec, string_bytes, append_assoc, append-nil, length-append, nat_eq, codes}
 use Rattle.std.specs.List.{IsDistinct, before_first, starts_with}
 use Rattle.std.specs.Option.{option_map, option_map_or}
 use Rattle.std.specs.Cmp.Lexicographic.{nat_list_eq_equiv, slice_cmp}
@@ -15,7 +15,7 @@ use Rattle.std.proofs.lemmas.List.Elements.{Contains-append_left, Contains-appen
 use Rattle.hack_base.proofs.Members.{Contains-head, Contains-tail, Contains-nil, Contains-map, lt_or_same}
 use Rattle.hack_base.proofs.NameLemmas.{none_from, length-le_from_distinct}
 use Rattle.hack_base.specs.Names.{Name, names_of}
-use Rattle.hack_features.specs.FeatureMap.{FeatureMap, feature_map, values_at, IsDependency, Chain, here, step}
+use Rattle.hack_features.specs.FeatureMap.{FeatureMap, feature_map, values_at, Chain, here, step}
 use Rattle.hack_features.specs.Search.{edge_of}
 use Rattle.hack_features.specs.InternalSearch.{target_of, IsTarget, Adds, IsReach}
 use Rattle.hack_features.specs.declared.reach.Edges.{Edges}
@@ -33,11 +33,11 @@ Chain-kept P keeps (step {x} {y} {z} d c) h = Chain-kept P keeps c (keeps x y h 
 
 -- ---- edges, and the targets of values
 
-enabling_target : (v y : Name) (b : Bool) → starts_with nat_eq v (codes "dep:") ≡ b → cond b None (Some v) ≡ Some y → (v ≡ y) × (¬ IsDependency v)
+enabling_target : (v y : Name) (b : Bool) → starts_with nat_eq v (codes "dep:") ≡ b → cond b None (Some v) ≡ Some y → (v ≡ y) × (¬ IsTrue (starts_with nat_eq v (codes "dep:")))
 enabling_target v y true t e = absurd (let z : None ≡ Some y = e in cc)
 enabling_target v y false t e = (let z : Some v ≡ Some y = e in cc, λ d. let z : true ≡ false = sym d ∙ t in cc)
 
-no_dependency-step : (v : Name) (b : Bool) → starts_with nat_eq v (codes "dep:") ≡ b → ¬ IsDependency v → cond b None (Some v) ≡ Some v
+no_dependency-step : (v : Name) (b : Bool) → starts_with nat_eq v (codes "dep:") ≡ b → ¬ IsTrue (starts_with nat_eq v (codes "dep:")) → cond b None (Some v) ≡ Some v
 no_dependency-step v true t n = absurd (n t)
 no_dependency-step v false t n = refl
 
@@ -45,13 +45,13 @@ no_dependency-step v false t n = refl
 pub edge-from_target : (edges : Edges) (m : FeatureMap) (x y : Name) → IsTarget edges (values_at m x) y → edge_of edges m x y
 edge-from_target Enabling m x y t =
     let w = enabling_target t.value y (starts_with nat_eq t.value (codes "dep:")) refl t.leads in
-    record { value = subst (λ v. Contains (values_at m x) v) w.0 t.listed; feature = subst (λ v. ¬ IsDependency v) w.0 w.1 }
+    (subst (λ v. Contains (values_at m x) v) w.0 t.listed, subst (λ v. ¬ IsTrue (starts_with nat_eq v (codes "dep:"))) w.0 w.1)
 edge-from_target Reaching m x y t =
-    record { value = t.value; listed = t.listed; cut = let e : Some (before_first (λ b. b == 47) t.value) ≡ Some y = t.leads in cc }
+    (t.value, t.listed, let e : Some (before_first (λ b. b == 47) t.value) ≡ Some y = t.leads in cc)
 
 pub target-from_edge : (edges : Edges) (m : FeatureMap) (x y : Name) → edge_of edges m x y → IsTarget edges (values_at m x) y
-target-from_edge Enabling m x y e = record { value = y; listed = e.value; leads = no_dependency-step y (starts_with nat_eq y (codes "dep:")) refl e.feature }
-target-from_edge Reaching m x y e = record { value = e.value; listed = e.listed; leads = ap Some e.cut }
+target-from_edge Enabling m x y e = record { value = y; listed = e.0; leads = no_dependency-step y (starts_with nat_eq y (codes "dep:")) refl e.1 }
+target-from_edge Reaching m x y e = record { value = e.0; listed = e.1; leads = ap Some e.2 }
 
 -- ---- why the search ends: all that can be found is the start or a target of a value of the map
 
@@ -72,10 +72,10 @@ abbrev pub all_targets : FeatureMap → List Name
 all_targets m = all_values m ++ map (before_first (λ b. b == 47)) (all_values m)
 
 pub target_listed : (edges : Edges) (m : FeatureMap) (x y : Name) → edge_of edges m x y → Contains (all_targets m) y
-target_listed Enabling m x y e = Contains-append_left (all_values m) (map (before_first (λ b. b == 47)) (all_values m)) y (value_listed m x y e.value)
+target_listed Enabling m x y e = Contains-append_left (all_values m) (map (before_first (λ b. b == 47)) (all_values m)) y (value_listed m x y e.0)
 target_listed Reaching m x y e =
     Contains-append_right (all_values m) (map (before_first (λ b. b == 47)) (all_values m)) y
-    (subst (λ z. Contains (map (before_first (λ b. b == 47)) (all_values m)) z) e.cut (Contains-map (before_first (λ b. b == 47)) (all_values m) e.value (value_listed m x e.value e.listed)))
+    (subst (λ z. Contains (map (before_first (λ b. b == 47)) (all_values m)) z) e.2 (Contains-map (before_first (λ b. b == 47)) (all_values m) e.0 (value_listed m x e.0 e.1)))
 
 reach_listed : (edges : Edges) (m : FeatureMap) (x y : Name) → Chain (edge_of edges m) x y → Contains (x ∷ all_targets m) y
 reach_listed edges m x y c =

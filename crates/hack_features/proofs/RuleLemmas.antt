@@ -1,5 +1,5 @@
 -- What the answers of the rules say, and the sets that an enumeration by them lists.
-use Rattle.std.proofs.Common.{◌≡◌, ℕ, List, length, refl, sym, ◌∙◌, subst, Bool, true, false, inl, inr, ◌↔◌, IsTrue, Contains, map, Option, Some, None}
+use Rattle.std.proofs.Common.{[], ◌≢◌, ◌≡◌, ℕ, List, length, refl, sym, ◌∙◌, subst, Bool, true, false, inl, inr, ◌↔◌, IsTrue, Contains, map, Option, Some, None}
 use Rattle.std.specs.Prelude.{◌==◌, not}
 use Rattle.std.proofs.lemmas.Bool.{and_parts, and_from, leb-true, le-leb}
 use Rattle.hack_features.specs.declared.rules.Rules.{Rules}
@@ -35,6 +35,16 @@ pub depth_iff : (depth : Option ℕ) (s : List ℕ) → (keeps_depth depth s ≡
 depth_iff None s = (λ e. tt, λ h. refl)
 depth_iff (Some most) s = (leb-true (length s) most, le-leb (length s) most)
 
+-- a set is listed if it isn't empty, is permitted and serves the groups
+pub listed_by : (c : Choice) (s : List ℕ) → s ≢ [] → IsPermitted c s → IsRequired c s → IsListed c s
+listed_by c s nonempty p required = record {
+  wanted = record { nonempty = nonempty; within = p.within; exclusive = p.exclusive; required = required };
+  lean = p.lean;
+}
+
+pub listed_permitted : (c : Choice) (s : List ℕ) → IsListed c s → IsPermitted c s
+listed_permitted c s l = record { within = l.wanted.within; lean = l.lean; exclusive = l.wanted.exclusive }
+
 module _ (r : Rules) (h : AreTablesOf (choice_of r) r) where
   all_of : length (choice_of r).candidates ≡ size_of r
   all_of = length-candidates_of r.given.features.now
@@ -62,8 +72,8 @@ module _ (r : Rules) (h : AreTablesOf (choice_of r) r) where
 
   listed_iff : (s : List ℕ) → IsSelection (size_of r) s → IsWholeSet (may_of r) (whole_of r) s ↔ IsListed (choice_of r) s
   listed_iff s sel = (
-    λ w. record { nonempty = w.nonempty; permitted = (permitted_iff s sel).0 w.allowed; required = (required_iff_whole s sel).0 w.completed },
-    λ l. record { nonempty = l.nonempty; allowed = (permitted_iff s sel).1 l.permitted; completed = (required_iff_whole s sel).1 l.required },
+    λ w. listed_by (choice_of r) s w.nonempty ((permitted_iff s sel).0 w.allowed) ((required_iff_whole s sel).0 w.completed),
+    λ l. record { nonempty = l.wanted.nonempty; allowed = (permitted_iff s sel).1 (listed_permitted (choice_of r) s l); completed = (required_iff_whole s sel).1 l.wanted.required },
   )
 
   -- what the enumeration lists are the listed sets
@@ -130,9 +140,9 @@ module _ (c : Choice) (h : AreSingle c) where
   pub one_each : (s t : List ℕ) → IsSelection (length c.candidates) s → IsSelection (length c.candidates) t → IsListed c s → IsListed c t → EnableTheSame c s t → s ≡ t
   one_each s t hs ht ls lt same =
       elim (ordered (length c.candidates) s t hs ht) [
-        | inl b ↦ absurd (b.absent (single_inside c h t s ht hs lt.permitted.lean (λ y. ((same y).1, (same y).0)) b.greatest b.present))
+        | inl b ↦ absurd (b.absent (single_inside c h t s ht hs lt.lean (λ y. ((same y).1, (same y).0)) b.greatest b.present))
         | inr w ↦ elim w [
           | inl e ↦ e
-          | inr b ↦ absurd (b.absent (single_inside c h s t hs ht ls.permitted.lean same b.greatest b.present))
+          | inr b ↦ absurd (b.absent (single_inside c h s t hs ht ls.lean same b.greatest b.present))
         ]
       ]

@@ -32,7 +32,7 @@ use Rattle.hack_features.proofs.CandidateLemmas.{length-candidates_of}
 use Rattle.hack_features.proofs.Listing.{selection_none, selection_push, selection_up}
 use Rattle.hack_features.proofs.CoverLemmas.{ordered, set_enables_iff}
 use Rattle.hack_features.proofs.MemberLemmas.{seen-hit, seen-missed, member_iff, meet-either, both_told}
-use Rattle.hack_features.proofs.RuleLemmas.{tables_of, placed_of, permitted_iff, required_iff_whole}
+use Rattle.hack_features.proofs.RuleLemmas.{tables_of, placed_of, listed_by, listed_permitted, permitted_iff, required_iff_whole}
 use Rattle.hack_features.proofs.SettingLemmas.{at_any}
 
 selection-by : (s : List Bool) (k : ℕ) → k < length s → (b : Bool) → has s k ≡ b → IsSelection k (positions_of (take k s)) → IsSelection (suc k) (positions_of (take (k + 1) s))
@@ -196,16 +196,14 @@ module _ (r : Rules) where
       let parts : has_each s required ≡ (has_each s groups && (has_one_of s last && true)) = list_all-append (has_one_of s) groups (last ∷ []) in (
         λ h.
             let w = and_parts (has_each s groups) _ (sym parts ∙ h.met) in
-            record {
-              nonempty = some_member n s (and_parts (has_one_of s last) true w.1).0;
-              permitted = (permitted_iff r (tables_of r) (positions_of s) sel).0 h.allowed;
-              required = (required_iff_whole r (tables_of r) (positions_of s) sel).0 (sym (groups-same s) ∙ w.0);
-            },
+            listed_by c (positions_of s) (some_member n s (and_parts (has_one_of s last) true w.1).0)
+            ((permitted_iff r (tables_of r) (positions_of s) sel).0 h.allowed)
+            ((required_iff_whole r (tables_of r) (positions_of s) sel).0 (sym (groups-same s) ∙ w.0)),
         λ h. record {
           size = e;
-          allowed = (permitted_iff r (tables_of r) (positions_of s) sel).1 h.permitted;
-          met = parts ∙ and_from (has_each s groups) _ (groups-same s ∙ (required_iff_whole r (tables_of r) (positions_of s) sel).1 h.required)
-              (and_from (has_one_of s last) true (meet-either s (replicate n true) ∙ first_member n (positions_of s) sel.below h.nonempty) refl);
+          allowed = (permitted_iff r (tables_of r) (positions_of s) sel).1 (listed_permitted c (positions_of s) h);
+          met = parts ∙ and_from (has_each s groups) _ (groups-same s ∙ (required_iff_whole r (tables_of r) (positions_of s) sel).1 h.wanted.required)
+              (and_from (has_one_of s last) true (meet-either s (replicate n true) ∙ first_member n (positions_of s) sel.below h.wanted.nonempty) refl);
         },
       )
 
@@ -232,9 +230,8 @@ module _ (r : Rules) where
       let s = flags n u in
       let e = length-flags n u in
       let back = sym (flags-back n u sel) in
-      let k = covers pattern few s ((listed_iff s e).1 (subst (IsListed c) back listed)) ((shown_iff s e pattern).1 (subst (SetShows c pattern) back shows)) in
-      record {
-        by = positions_of k.by;
-        chosen = Contains-map positions_of sets k.by k.chosen;
-        shows = (shown_iff k.by (All-contains (samples.IsListedMask may n required) sets k.by h.listed k.chosen).size pattern).0 k.shows;
-      }
+      let k = covers pattern few s ((listed_iff s e).1 (subst (IsListed c) back listed)) ((shown_iff s e pattern).1 (subst (SetShows c pattern) back shows)) in (
+        positions_of k.by,
+        Contains-map positions_of sets k.by k.chosen,
+        (shown_iff k.by (All-contains (samples.IsListedMask may n required) sets k.by h.listed k.chosen).size pattern).0 k.shows,
+      )

@@ -87,14 +87,14 @@ module _ (c : Choice) (names : List Name) (keys : List Bool) (marks : List (List
   enabled_iff s y ly =
       let from : List ℕ = flat_map (λ p. get_or all p []) s in
       let at : AreAt names from (names_in c s) = at_members names all c.candidates h.candidates_at s in (
-        λ t. let x = some_passes (λ x. leads marks x y) from t in record {
-          by = name_at names x.0;
-          named = shown_at Enabling c.map names keys marks h.routes from (names_in c s) at x.0 x.1;
-          chain = (h.routes.led x.0 y (low_at Enabling c.map names keys marks h.routes from (names_in c s) at x.0 x.1) ly).0 x.2;
-        },
+        λ t. let x = some_passes (λ x. leads marks x y) from t in (
+          name_at names x.0,
+          shown_at Enabling c.map names keys marks h.routes from (names_in c s) at x.0 x.1,
+          (h.routes.led x.0 y (low_at Enabling c.map names keys marks h.routes from (names_in c s) at x.0 x.1) ly).0 x.2,
+        ),
         λ e.
-            let x = placed Enabling c.map names keys marks h.routes from (names_in c s) at e.by e.named in
-            any_passes (λ x. leads marks x y) from x.0 x.1 ((h.routes.led x.0 y x.2 ly).1 (subst (λ b. Enables c.map b (name_at names y)) (sym x.3) e.chain)),
+            let x = placed Enabling c.map names keys marks h.routes from (names_in c s) at e.0 e.1 in
+            any_passes (λ x. leads marks x y) from x.0 x.1 ((h.routes.led x.0 y x.2 ly).1 (subst (λ b. Enables c.map b (name_at names y)) (sym x.3) e.2)),
       )
 
   -- the keys lead to what some key enables
@@ -103,16 +103,12 @@ module _ (c : Choice) (names : List Name) (keys : List Bool) (marks : List (List
     λ t.
         let x = some_passes (λ x. leads marks x y) places t in
         let k = (are x.0).0 x.1 in
-        record {
-          by = name_at names x.0;
-          key = key_of Enabling c.map names keys marks h.routes x.0 k.0 k.1;
-          chain = (h.routes.led x.0 y k.0 ly).0 x.2;
-        },
+        (name_at names x.0, key_of Enabling c.map names keys marks h.routes x.0 k.0 k.1, (h.routes.led x.0 y k.0 ly).0 x.2),
     λ e.
-        let x = h.routes.known e.by e.key in
-        let is : name_at names x.0 ≡ e.by = get_or_default names x.0 [] e.by x.1 ∙ x.2 in
-        let key = of_key Enabling c.map names keys marks h.routes x.0 x.1 (subst (IsKey c.map) (sym is) e.key) in
-        any_passes (λ x. leads marks x y) places x.0 ((are x.0).1 (x.1, key)) ((h.routes.led x.0 y x.1 ly).1 (subst (λ b. Enables c.map b (name_at names y)) (sym is) e.chain)),
+        let x = h.routes.known e.0 e.1 in
+        let is : name_at names x.0 ≡ e.0 = get_or_default names x.0 [] e.0 x.1 ∙ x.2 in
+        let key = of_key Enabling c.map names keys marks h.routes x.0 x.1 (subst (IsKey c.map) (sym is) e.1) in
+        any_passes (λ x. leads marks x y) places x.0 ((are x.0).1 (x.1, key)) ((h.routes.led x.0 y x.1 ly).1 (subst (λ b. Enables c.map b (name_at names y)) (sym is) e.2)),
   )
 
   module _ (from : List ℕ) (P : Name → Type 0) (led : (y : ℕ) → y < length names → (one_leads marks y from ≡ true) ↔ P (name_at names y)) where

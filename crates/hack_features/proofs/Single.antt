@@ -26,7 +26,7 @@ key-go m x v (Some vs) e h = refl
 -- what enables another name is a key
 pub key_from : (m : FeatureMap) {x y : Name} → Enables m x y → x ≢ y → IsKey m x
 key_from m here ne = absurd (ne refl)
-key_from m (step {x} {y} {z} e c) ne = key-go m x y (lookup (bytes_eq x) m) refl e.value
+key_from m (step {x} {y} {z} e c) ne = key-go m x y (lookup (bytes_eq x) m) refl e.0
 
 -- the one name of each candidate, and that two with names that enable each other are the same
 record Named (c : Choice) : Type 0 where
@@ -67,31 +67,31 @@ module _ (c : Choice) (h : Named c) (s t : List ℕ) (hs : IsSelection (length c
   inside : (p : ℕ) → Contains s p → Contains t p
   inside p ps =
       let pl : p < length c.candidates = All-contains (λ p. p < length c.candidates) s p hs.below ps in
-      let e = (same (h.name p)).0 (record { by = h.name p; named = named_in c s p (h.name p) ps (has p pl); chain = here }) in
-      let q = member_of c t e.by e.named in
+      let e = (same (h.name p)).0 (h.name p, named_in c s p (h.name p) ps (has p pl), here) in
+      let q = member_of c t e.0 e.1 in
       let ql : q.0 < length c.candidates = All-contains (λ p. p < length c.candidates) t q.0 ht.below q.1 in
-      let f = (same e.by).1 (record { by = e.by; named = e.named; chain = here }) in
-      let r = member_of c s f.by f.named in
+      let f = (same e.0).1 (e.0, e.1, here) in
+      let r = member_of c s f.0 f.1 in
       let rl : r.0 < length c.candidates = All-contains (λ p. p < length c.candidates) s r.0 hs.below r.1 in
-      let qp : Enables c.map (h.name q.0) (h.name p) = subst (λ y. Enables c.map y (h.name p)) (sym (named q.0 e.by ql q.2)) e.chain in
-      let rq : Enables c.map (h.name r.0) (h.name q.0) = subst (λ z. Enables c.map z (h.name q.0)) (sym (named r.0 f.by rl r.2)) (subst (λ y. Enables c.map f.by y) (sym (named q.0 e.by ql q.2)) f.chain) in
+      let qp : Enables c.map (h.name q.0) (h.name p) = subst (λ y. Enables c.map y (h.name p)) (sym (named q.0 e.0 ql q.2)) e.2 in
+      let rq : Enables c.map (h.name r.0) (h.name q.0) = subst (λ z. Enables c.map z (h.name q.0)) (sym (named r.0 f.0 rl r.2)) (subst (λ y. Enables c.map f.0 y) (sym (named q.0 e.0 ql q.2)) f.2) in
       elim (eqb_tells r.0 p) [
         | inl w ↦ subst (λ i. Contains t i) (h.apart q.0 p ql pl qp (subst (λ i. Enables c.map (h.name i) (h.name q.0)) w.1 rq)) q.1
         | inr w ↦
             let rp = Chain-append rq qp in
             let ne : h.name p ≢ h.name r.0 = λ e. w.1 (h.apart r.0 p rl pl rp (subst (λ y. Enables c.map (h.name p) y) e here)) in
-            absurd (lean (record {
-              keeper = r.0;
-              spared = p;
-              kept = r.1;
-              member = ps;
-              spares = record {
-                by = h.name r.0;
-                named = has r.0 rl;
-                key = key_from c.map rp (λ e. ne (sym e));
-                enabled = subst (λ l. All (λ y. (y ≢ h.name r.0) × Enables c.map (h.name r.0) y) l) (sym (h.one p pl)) (All-cons (λ y. (y ≢ h.name r.0) × Enables c.map (h.name r.0) y) (h.name p) [] (ne, rp) (All-nil (λ y. (y ≢ h.name r.0) × Enables c.map (h.name r.0) y)));
-              };
-            }))
+            absurd (lean (
+              r.0,
+              p,
+              r.1,
+              ps,
+              (
+                h.name r.0,
+                has r.0 rl,
+                key_from c.map rp (λ e. ne (sym e)),
+                subst (λ l. All (λ y. (y ≢ h.name r.0) × Enables c.map (h.name r.0) y) l) (sym (h.one p pl)) (All-cons (λ y. (y ≢ h.name r.0) × Enables c.map (h.name r.0) y) (h.name p) [] (ne, rp) (All-nil (λ y. (y ≢ h.name r.0) × Enables c.map (h.name r.0) y))),
+              ),
+            ))
       ]
 
 -- each position of the first is one of the second

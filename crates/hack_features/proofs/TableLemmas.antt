@@ -118,19 +118,18 @@ module _ (m : FeatureMap) (names : List Name) (keys : List Bool) (marks : List (
     λ t.
         let x = some_passes (λ x. bit keys x && list_all (λ y. not (x == y) && cell marks x y) qs) ps t in
         let lt = low_at Enabling m names keys marks h ps xs ap' x.0 x.1 in
-        let w = and_parts (bit keys x.0) (list_all (λ y. not (x.0 == y) && cell marks x.0 y) qs) x.2 in
-        record {
-          by = name_at names x.0;
-          named = shown_at Enabling m names keys marks h ps xs ap' x.0 x.1;
-          key = key_of Enabling m names keys marks h x.0 lt w.0;
-          enabled = (spares_one x.0 lt qs ys aq).0 w.1;
-        },
+        let w = and_parts (bit keys x.0) (list_all (λ y. not (x.0 == y) && cell marks x.0 y) qs) x.2 in (
+          name_at names x.0,
+          shown_at Enabling m names keys marks h ps xs ap' x.0 x.1,
+          key_of Enabling m names keys marks h x.0 lt w.0,
+          (spares_one x.0 lt qs ys aq).0 w.1,
+        ),
     λ s.
-        let x = placed Enabling m names keys marks h ps xs ap' s.by s.named in
+        let x = placed Enabling m names keys marks h ps xs ap' s.0 s.1 in
         any_passes (λ x. bit keys x && list_all (λ y. not (x == y) && cell marks x y) qs) ps x.0 x.1
         (and_from (bit keys x.0) (list_all (λ y. not (x.0 == y) && cell marks x.0 y) qs)
-        (of_key Enabling m names keys marks h x.0 x.2 (subst (IsKey m) (sym x.3) s.key))
-        ((spares_one x.0 x.2 qs ys aq).1 (subst (λ b. All (λ y. (y ≢ b) × Enables m b y) ys) (sym x.3) s.enabled))),
+        (of_key Enabling m names keys marks h x.0 x.2 (subst (IsKey m) (sym x.3) s.2))
+        ((spares_one x.0 x.2 qs ys aq).1 (subst (λ b. All (λ y. (y ≢ b) × Enables m b y) ys) (sym x.3) s.3))),
   )
 
   pub serves_iff : (group : List ℕ) (gs : List Name) → AreAt names group gs → (x : ℕ) → x < length names → IsTrue (serves_test keys marks group x) ↔ EnablesOneOf m gs (name_at names x)
@@ -138,8 +137,8 @@ module _ (m : FeatureMap) (names : List Name) (keys : List Bool) (marks : List (
     λ t.
         let w = and_parts (bit keys x) (list_any (leads marks x) group) t in
         let y = (leads_one Enabling m names keys marks h group gs at x lt).0 w.1 in
-        record { key = key_of Enabling m names keys marks h x lt w.0; name = y.0; member = y.1; chain = y.2 },
-    λ e. and_from (bit keys x) (list_any (leads marks x) group) (of_key Enabling m names keys marks h x lt e.key) ((leads_one Enabling m names keys marks h group gs at x lt).1 (e.name, e.member, e.chain)),
+        (key_of Enabling m names keys marks h x lt w.0, y.0, y.1, y.2),
+    λ e. and_from (bit keys x) (list_any (leads marks x) group) (of_key Enabling m names keys marks h x lt e.0) ((leads_one Enabling m names keys marks h group gs at x lt).1 (e.1, e.2, e.3)),
   )
 
   -- the names at places of which one serves the group
@@ -155,7 +154,7 @@ module _ (m : FeatureMap) (names : List Name) (keys : List Bool) (marks : List (
   -- where no name in the table serves the group, no key does
   pub is_dropped_by : (group : List ℕ) (gs : List Name) → AreAt names group gs → ((x : ℕ) → x < length names → serves_test keys marks group x ≡ false) → IsDropped m gs
   is_dropped_by group gs at none x e =
-      let c = h.known x e.key in
+      let c = h.known x e.0 in
       let is : name_at names c.0 ≡ x = get_or_default names c.0 [] x c.1 ∙ c.2 in
       let t = (serves_iff group gs at c.0 c.1).1 (subst (EnablesOneOf m gs) (sym is) e) in
       let z : true ≡ false = sym t ∙ none c.0 c.1 in cc
@@ -298,10 +297,7 @@ counts-map f P Q same (table.no_more {xs} {x} {n} h p) =
 pub reaches_iff : (m : FeatureMap) (names : List Name) (keys : List Bool) (marks : List (List Bool)) → AreRoutes Reaching m names keys marks → (group : List ℕ) (gs : List Name) → AreAt names group gs
     → (x : ℕ) → x < length names → IsTrue (list_any (leads marks x) group) ↔ Reaches m gs (name_at names x)
 reaches_iff m names keys marks h group gs at x lt =
-    let one = leads_one Reaching m names keys marks h group gs at x lt in (
-      λ t. let y = one.0 t in record { name = y.0; member = y.1; chain = y.2 },
-      λ r. one.1 (r.name, r.member, r.chain),
-    )
+    leads_one Reaching m names keys marks h group gs at x lt
 
 -- a row of counts for a group
 pub hits_of : (m : FeatureMap) (candidates groups : List (List Name)) (names : List Name) (keys : List Bool) (marks : List (List Bool)) (all each : List (List ℕ)) → ArePlaced Reaching m candidates groups names keys marks all each
@@ -329,7 +325,7 @@ module _ (m : FeatureMap) (candidates groups : List (List Name)) (names : List N
   rows-kept row h group is x says =
       let at = there group is in
       subst (λ gs. RowsServe m candidates gs (rows ++ row ∷ [])) (sym (take_more groups place [] lt))
-      (table.kept_row row h ((serves_iff m names keys marks p.routes group (get_or groups place []) at x.0 x.1).0 x.2)
+      (table.kept_row (get_or groups place []) (name_at names x.0) row h ((serves_iff m names keys marks p.routes group (get_or groups place []) at x.0 x.1).0 x.2)
       (λ q lq.
       let one = some_serve m names keys marks p.routes group (get_or groups place []) at (get_or all q []) (get_or candidates q []) (p.candidates_at.each q lq) in
       let same = says q (omega (arith, p.candidates_at.count)) in
@@ -339,14 +335,14 @@ module _ (m : FeatureMap) (candidates groups : List (List Name)) (names : List N
   pub rows-dropped : RowsServe m candidates (take place groups) rows → (group : List ℕ) → get_or each place [] ≡ group → ((x : ℕ) → x < length names → serves_test keys marks group x ≡ false) → RowsServe m candidates (take (place + 1) groups) rows
   rows-dropped h group is none =
       subst (λ gs. RowsServe m candidates gs rows) (sym (take_more groups place [] lt))
-      (table.dropped_row h (is_dropped_by m names keys marks p.routes group (get_or groups place []) (there group is) none))
+      (table.dropped_row (get_or groups place []) h (is_dropped_by m names keys marks p.routes group (get_or groups place []) (there group is) none))
 
 rows_left : {m : FeatureMap} {candidates groups : List (List Name)} {rows : List (List Bool)} → RowsServe m candidates groups rows → (group : List Name) → Contains groups group
     → IsDropped m group ⊎ ((row : List Bool) × Contains rows row × SaysServers m candidates group row)
 rows_left table.no_rows group c = absurd (Contains-nil group c)
-rows_left {m} (table.dropped_row {group} {groups} {rows} h d) g c =
+rows_left {m} (table.dropped_row group {groups} {rows} h d) g c =
     elim (Contains-push_cases groups group g c) [ inl w ↦ rows_left h g w | inr e ↦ inl (subst (IsDropped m) e d) ]
-rows_left {m} {candidates} (table.kept_row {group} {groups} {rows} {server} row h can says) g c =
+rows_left {m} {candidates} (table.kept_row group {groups} {rows} server row h can says) g c =
     elim (Contains-push_cases groups group g c) [
       | inl w ↦ elim (rows_left h g w) [ inl d ↦ inl d | inr v ↦ inr (v.0, Contains-append_left rows (row ∷ []) v.0 v.1, v.2) ]
       | inr e ↦ inr (row, Contains-push rows row, subst (λ u. SaysServers m candidates u row) e says)
@@ -355,8 +351,8 @@ rows_left {m} {candidates} (table.kept_row {group} {groups} {rows} {server} row 
 rows_right : {m : FeatureMap} {candidates groups : List (List Name)} {rows : List (List Bool)} → RowsServe m candidates groups rows → (row : List Bool) → Contains rows row
     → (group : List Name) × Contains groups group × SaysServers m candidates group row × ((server : Name) × EnablesOneOf m group server)
 rows_right table.no_rows row c = absurd (Contains-nil row c)
-rows_right (table.dropped_row {group} {groups} {rows} h d) row c = let r = rows_right h row c in (r.0, Contains-append_left groups (group ∷ []) r.0 r.1, r.2, r.3)
-rows_right {m} {candidates} (table.kept_row {group} {groups} {rows} {server} row h can says) other c =
+rows_right (table.dropped_row group {groups} {rows} h d) row c = let r = rows_right h row c in (r.0, Contains-append_left groups (group ∷ []) r.0 r.1, r.2, r.3)
+rows_right {m} {candidates} (table.kept_row group {groups} {rows} server row h can says) other c =
     elim (Contains-push_cases rows row other c) [
       | inl w ↦ let r = rows_right h other w in (r.0, Contains-append_left groups (group ∷ []) r.0 r.1, r.2, r.3)
       | inr e ↦ (group, Contains-push groups group, subst (SaysServers m candidates group) e says, (server, can))
@@ -372,14 +368,14 @@ required_iff c rows serve s sel = (
             let member = some_passes (bit row.0) s (each_passes (λ row. list_any (bit row) s) rows t row.0 row.1) in
             let low = All-contains (λ p. p < length c.candidates) s member.0 sel.below member.1 in
             let name = (row.2 member.0 low).0 member.2 in
-            record { name = name.0; named = named_in c s member.0 name.0 member.1 name.1; enables = name.2 }
+            (name.0, named_in c s member.0 name.0 member.1 name.1, name.2)
       ],
   λ r. all_pass (λ row. list_any (bit row) s) rows (λ row in'.
       let group = rows_right serve row in' in
       let serves : Serves c group.0 s = All-contains (λ group. (key : Name) → EnablesOneOf c.map group key → Serves c group s) c.at_least_one_of group.0 r group.1 group.3.0 group.3.1 in
-      let member = member_of c s serves.name serves.named in
+      let member = member_of c s serves.0 serves.1 in
       let low = All-contains (λ p. p < length c.candidates) s member.0 sel.below member.1 in
-      any_passes (bit row) s member.0 member.1 ((group.2 member.0 low).1 (serves.name, member.2, serves.enables))),
+      any_passes (bit row) s member.0 member.1 ((group.2 member.0 low).1 (serves.0, member.2, serves.2))),
 )
 
 -- lifted groups
@@ -427,13 +423,13 @@ module _ (c : Choice) (rows : List (List Bool)) (h : (p q : ℕ) → p < length 
   redundant_from e =
       let p = some_fails (λ p. list_all (λ q. not (cell rows p q)) s) s e in
       let q = some_fails (λ q. not (cell rows p.0 q)) s p.2 in
-      record { keeper = p.0; spared = q.0; kept = p.1; member = q.1; spares = (h p.0 q.0 (low p.0 p.1) (low q.0 q.1)).0 (not_false (cell rows p.0 q.0) q.2) }
+      (p.0, q.0, p.1, q.1, (h p.0 q.0 (low p.0 p.1) (low q.0 q.1)).0 (not_false (cell rows p.0 q.0) q.2))
 
   pub lean_from : is_lean rows s ≡ true → ¬ IsRedundant c s
   lean_from e r =
-      let t : cell rows r.keeper r.spared ≡ true = (h r.keeper r.spared (low r.keeper r.kept) (low r.spared r.member)).1 r.spares in
-      let f : not (cell rows r.keeper r.spared) ≡ true = each_passes (λ q. not (cell rows r.keeper q)) s (each_passes (λ p. list_all (λ q. not (cell rows p q)) s) s e r.keeper r.kept) r.spared r.member in
-      let g : cell rows r.keeper r.spared ≡ false = not_true (cell rows r.keeper r.spared) f in
+      let t : cell rows r.0 r.1 ≡ true = (h r.0 r.1 (low r.0 r.2) (low r.1 r.3)).1 r.4 in
+      let f : not (cell rows r.0 r.1) ≡ true = each_passes (λ q. not (cell rows r.0 q)) s (each_passes (λ p. list_all (λ q. not (cell rows p q)) s) s e r.0 r.2) r.1 r.3 in
+      let g : cell rows r.0 r.1 ≡ false = not_true (cell rows r.0 r.1) f in
       let z : true ≡ false = sym t ∙ g in cc
 
   tell_by : (b : Bool) → is_lean rows s ≡ b → IsRedundant c s ⊎ (¬ IsRedundant c s)

@@ -40,7 +40,7 @@ IsDropped m group = (x : Name) → ¬ EnablesOneOf m group x
 -- for each group that isn't dropped, in their order, the set of its keys, which is not empty
 pub data ServeGroups (m : FeatureMap) : List (List Name) → List NameSet → Type 0 where
   none : ServeGroups m [] []
-  dropped : {group : List Name} {groups : List (List Name)} {sets : List NameSet}
+  dropped : (group : List Name) {groups : List (List Name)} {sets : List NameSet}
       → ServeGroups m groups sets → IsDropped m group → ServeGroups m (groups ++ group ∷ []) sets
-  kept : {group : List Name} {groups : List (List Name)} {sets : List NameSet} {server : Name} (set : NameSet)
+  kept : (group : List Name) {groups : List (List Name)} {sets : List NameSet} (server : Name) (set : NameSet)
       → ServeGroups m groups sets → EnablesOneOf m group server → AreServers m group set → ServeGroups m (groups ++ group ∷ []) (sets ++ set ∷ [])

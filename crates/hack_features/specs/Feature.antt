@@ -14,9 +14,8 @@ name_of (Path name slash) = string_bytes name
 
 -- the names of a feature: those in the list of a group, else its own
 abbrev pub group_of : Feature → List Name
-group_of (Normal name) = string_bytes name ∷ []
 group_of (Group name list) = names_of list.items
-group_of (Path name slash) = string_bytes name ∷ []
+group_of feature = name_of feature ∷ []
 
 -- for each of these features its names
 abbrev pub groups_of : List Feature → List (List Name)
@@ -28,24 +27,20 @@ candidates_of features = map (λ feature. group_of feature.now) features
 
 -- a feature as `Debug` shows it: a group in brackets
 abbrev pub shown_as : Feature → List ℕ
-shown_as (Normal name) = string_bytes name
 shown_as (Group name list) = (91 ∷ string_bytes name) ++ 93 ∷ []
-shown_as (Path name slash) = string_bytes name
+shown_as feature = name_of feature
 
 -- a feature of that name
 abbrev pub IsNormal : Name → Feature → Type 0
 IsNormal text (Normal name) = string_bytes name ≡ text
-IsNormal text (Group name list) = ⊥
-IsNormal text (Path name slash) = ⊥
+IsNormal text feature = ⊥
 
 -- a group of these names, whose text is the names joined by commas
 abbrev pub IsGroup : List Name → Feature → Type 0
-IsGroup names (Normal name) = ⊥
 IsGroup names (Group name list) = (string_bytes name ≡ join_with_byte 44 names) × (names_of list.items ≡ names)
-IsGroup names (Path name slash) = ⊥
+IsGroup names feature = ⊥
 
 -- the feature of a dependency, whose text joins both names by a slash at the stated place
 abbrev pub IsPath : Name → Name → Feature → Type 0
-IsPath parent text (Normal name) = ⊥
-IsPath parent text (Group name list) = ⊥
 IsPath parent text (Path name slash) = (string_bytes name ≡ parent ++ (47 ∷ text)) × (slash ≡ length parent)
+IsPath parent text feature = ⊥

@@ -22,39 +22,27 @@ values_at m x = unwrap_or (lookup (bytes_eq x) m) []
 abbrev pub IsKey : FeatureMap → Name → Type 0
 IsKey m x = IsTrue (is_some (lookup (bytes_eq x) m))
 
--- the value begins with `dep:`, so that it names a dependency and no feature
-abbrev pub IsDependency : Name → Type 0
-IsDependency v = IsTrue (starts_with nat_eq v (codes "dep:"))
-
 -- a chain of edges from one to another; the empty chain leads from each to itself
 pub data Chain {X : Type 0} (edge : X → X → Type 0) : X → X → Type 0 where
   here : {x : X} → Chain edge x x
   step : {x y z : X} → edge x y → Chain edge y z → Chain edge x z
 
--- v is a value of x, taken whole, and no dependency
-pub record HasEdge (m : FeatureMap) (x v : Name) : Type 0 where
-  pub value : Contains (values_at m x) v
-  pub feature : ¬ IsDependency v
+-- v is a value of x, taken whole, and doesn't begin with `dep:`, as the name of a dependency does
+abbrev pub HasEdge : FeatureMap → Name → Name → Type 0
+HasEdge m x v = Contains (values_at m x) v × ¬ IsTrue (starts_with nat_eq v (codes "dep:"))
 
 -- x enables y: y is x, or a chain of values leads from x to y
 abbrev pub Enables : FeatureMap → Name → Name → Type 0
 Enables m x y = Chain (HasEdge m) x y
 
 -- v is a value of x, cut before its first slash; a dependency is one too
-pub record HasCutEdge (m : FeatureMap) (x v : Name) : Type 0 where
-  pub value : Name
-  pub listed : Contains (values_at m x) value
-  pub cut : before_first (λ b. b == 47) value ≡ v
+abbrev pub HasCutEdge : FeatureMap → Name → Name → Type 0
+HasCutEdge m x v = (value : Name) × Contains (values_at m x) value × (before_first (λ b. b == 47) value ≡ v)
 
 -- x reaches the group: a chain of cut values, maybe empty, leads from x to a name of the group
-pub record Reaches (m : FeatureMap) (group : List Name) (x : Name) : Type 0 where
-  pub name : Name
-  pub member : Contains group name
-  pub chain : Chain (HasCutEdge m) x name
+abbrev pub Reaches : FeatureMap → List Name → Name → Type 0
+Reaches m group x = (name : Name) × Contains group name × Chain (HasCutEdge m) x name
 
 -- x is a key that enables a name of the group
-pub record EnablesOneOf (m : FeatureMap) (group : List Name) (x : Name) : Type 0 where
-  pub key : IsKey m x
-  pub name : Name
-  pub member : Contains group name
-  pub chain : Enables m x name
+abbrev pub EnablesOneOf : FeatureMap → List Name → Name → Type 0
+EnablesOneOf m group x = IsKey m x × (name : Name) × Contains group name × Enables m x name

@@ -1,5 +1,5 @@
 -- What only private functions of the crate promise each other.
-use Rattle.std.specs.Prelude.{◌<◌, ◌+◌, ℕ, List, [], ◌∷◌, ◌++◌, Bool, not, length, Option, IsTrue, Contains, ◌↔◌, ◌&&◌, ◌||◌, ◌==◌}
+use Rattle.std.specs.Prelude.{◌<◌, ◌+◌, ℕ, List, [], ◌∷◌, ◌++◌, Bool, not, length, Option, IsTrue, Contains, ◌↔◌, ◌&&◌, ◌==◌}
 use Rattle.std.specs.List.{slice_index_or, list_all, list_any}
 use Rattle.hack_base.specs.Names.{Name}
 use Rattle.hack_features.specs.FeatureMap.{FeatureMap, Reaches, EnablesOneOf}
@@ -40,7 +40,7 @@ SaysServers m candidates group row = (q : ℕ) → q < length candidates → IsT
 -- for each group that a key serves, in their order, a row that says which candidates serve it
 pub data RowsServe (m : FeatureMap) (candidates : List (List Name)) : List (List Name) → List (List Bool) → Type 0 where
   no_rows : RowsServe m candidates [] []
-  dropped_row : {group : List Name} {groups : List (List Name)} {rows : List (List Bool)}
+  dropped_row : (group : List Name) {groups : List (List Name)} {rows : List (List Bool)}
       → RowsServe m candidates groups rows → IsDropped m group → RowsServe m candidates (groups ++ group ∷ []) rows
-  kept_row : {group : List Name} {groups : List (List Name)} {rows : List (List Bool)} {server : Name} (row : List Bool)
+  kept_row : (group : List Name) {groups : List (List Name)} {rows : List (List Bool)} (server : Name) (row : List Bool)
       → RowsServe m candidates groups rows → EnablesOneOf m group server → SaysServers m candidates group row → RowsServe m candidates (groups ++ group ∷ []) (rows ++ row ∷ [])

@@ -28,33 +28,25 @@ abbrev pub names_in : Choice → List ℕ → List Name
 names_in c s = flat_map (names_at c) s
 
 -- some name of the set enables y
-pub record IsEnabledBy (c : Choice) (s : List ℕ) (y : Name) : Type 0 where
-  pub by : Name
-  pub named : Contains (names_in c s) by
-  pub chain : Enables c.map by y
+abbrev pub IsEnabledBy : Choice → List ℕ → Name → Type 0
+IsEnabledBy c s y = (by : Name) × Contains (names_in c s) by × Enables c.map by y
 
 -- both sets enable the same names
 abbrev pub EnableTheSame : Choice → List ℕ → List ℕ → Type 0
 EnableTheSame c s t = (y : Name) → IsEnabledBy c s y ↔ IsEnabledBy c t y
 
 -- a name of the first candidate is a key that differs from every name of the second and enables each of them
-pub record SparesNames (m : FeatureMap) (names others : List Name) : Type 0 where
-  pub by : Name
-  pub named : Contains names by
-  pub key : IsKey m by
-  pub enabled : All (λ y. (y ≢ by) × Enables m by y) others
+abbrev pub SparesNames : FeatureMap → List Name → List Name → Type 0
+SparesNames m names others =
+    (by : Name) × Contains names by × IsKey m by × All (λ y. (y ≢ by) × Enables m by y) others
 
 -- the candidate at p spares the one at q
 abbrev pub Spares : Choice → ℕ → ℕ → Type 0
 Spares c p q = SparesNames c.map (names_at c p) (names_at c q)
 
 -- the set is redundant: a member spares a member
-pub record IsRedundant (c : Choice) (s : List ℕ) : Type 0 where
-  pub keeper : ℕ
-  pub spared : ℕ
-  pub kept : Contains s keeper
-  pub member : Contains s spared
-  pub spares : Spares c keeper spared
+abbrev pub IsRedundant : Choice → List ℕ → Type 0
+IsRedundant c s = (p : ℕ) × (q : ℕ) × Contains s p × Contains s q × Spares c p q
 
 -- not both names reach the group
 abbrev pub NotBothReach : FeatureMap → List Name → Name → Name → Type 0
@@ -65,10 +57,8 @@ abbrev pub IsExclusive : Choice → List ℕ → Type 0
 IsExclusive c s = All (λ group. Pairwise (NotBothReach c.map group) (names_in c s)) c.exclusive
 
 -- some name of the set is a key that enables a name of the group
-pub record Serves (c : Choice) (group : List Name) (s : List ℕ) : Type 0 where
-  pub name : Name
-  pub named : Contains (names_in c s) name
-  pub enables : EnablesOneOf c.map group name
+abbrev pub Serves : Choice → List Name → List ℕ → Type 0
+Serves c group s = (name : Name) × Contains (names_in c s) name × EnablesOneOf c.map group name
 
 -- the set is required to serve each at-least-one group that some key serves
 abbrev pub IsRequired : Choice → List ℕ → Type 0
@@ -80,18 +70,17 @@ pub record IsPermitted (c : Choice) (s : List ℕ) : Type 0 where
   pub lean : ¬ IsRedundant c s
   pub exclusive : IsExclusive c s
 
--- the set is listed: it isn't empty, is permitted, and serves the groups
-pub record IsListed (c : Choice) (s : List ℕ) : Type 0 where
-  pub nonempty : s ≢ []
-  pub permitted : IsPermitted c s
-  pub required : IsRequired c s
-
--- the set has to be covered: it is as a listed set has to be, but may be redundant
+-- the set has to be covered: it isn't empty, keeps the depth, is exclusive, and serves the groups
 pub record IsWanted (c : Choice) (s : List ℕ) : Type 0 where
   pub nonempty : s ≢ []
   pub within : IsWithin c.depth s
   pub exclusive : IsExclusive c s
   pub required : IsRequired c s
+
+-- the set is listed: it has to be covered, and isn't redundant
+pub record IsListed (c : Choice) (s : List ℕ) : Type 0 where
+  pub wanted : IsWanted c s
+  pub lean : ¬ IsRedundant c s
 
 -- t covers s: it is listed, inside s, and enables the same names
 pub record Covers (c : Choice) (s t : List ℕ) : Type 0 where

@@ -15,10 +15,8 @@ abbrev pub SetShows : Choice → List Setting → List ℕ → Type 0
 SetShows c pattern s = All (λ setting. IsOn c s setting.candidate ↔ IsTrue setting.on) pattern
 
 -- one of the sets shows the pattern
-pub record SomeSetShows (c : Choice) (pattern : List Setting) (sets : List (List ℕ)) : Type 0 where
-  pub by : List ℕ
-  pub chosen : Contains sets by
-  pub shows : SetShows c pattern by
+abbrev pub SomeSetShows : Choice → List Setting → List (List ℕ) → Type 0
+SomeSetShows c pattern sets = (by : List ℕ) × Contains sets by × SetShows c pattern by
 
 -- each pattern of at most t candidates that some listed set shows is shown by one of the sets
 abbrev pub CoversPatterns : Choice → ℕ → ℕ → List (List ℕ) → Type 0

@@ -8,10 +8,8 @@ use Rattle.hack_features.specs.Rules.{Choice, names_at}
 use Rattle.hack_features.specs.Samples.{IsOn}
 
 -- some key of the map enables y; a key enables itself
-pub record IsEnabledByKey (m : FeatureMap) (y : Name) : Type 0 where
-  pub by : Name
-  pub key : IsKey m by
-  pub chain : Enables m by y
+abbrev pub IsEnabledByKey : FeatureMap → Name → Type 0
+IsEnabledByKey m y = (by : Name) × IsKey m by × Enables m by y
 
 -- the candidate is on where all features of the package are: each of its names is enabled by a key
 abbrev pub IsOnWithAll : Choice → ℕ → Type 0

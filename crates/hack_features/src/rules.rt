@@ -44,7 +44,7 @@ impl<'a> Rules<'a> {
     ghost use Rattle.hack_features.specs.InternalQuestions.{AreLimits, IsFree};
     ghost use Rattle.hack_features.specs.View.{choice_of, size_of, questions_asked, may_of};
     ghost use Rattle.hack_features.specs.View.{whole_of};
-    ghost use Rattle.hack_features.specs.Samples.{positions_of};
+    ghost use Rattle.hack_features.specs.Samples.{positions_of, IsSame};
 
     /// Makes the rules for the candidates `features` of a package with the feature map `map`. A set
     /// has at most `depth` candidates. For each group of `at_least_one_of` that some key of the map
@@ -142,10 +142,7 @@ impl<'a> Rules<'a> {
         ensures answer { result ≡ may_of self.old (positions.now ++ next ∷ []) }
         ensures counted { questions_asked self.new
             ≡ min (questions_asked self.old + 1) (2 ^ 128 - 1) }
-        ensures same_choice { choice_of self.new ≡ choice_of self.old }
-        ensures same_size { size_of self.new ≡ size_of self.old }
-        ensures same_may { may_of self.new ≡ may_of self.old }
-        ensures same_whole { whole_of self.new ≡ whole_of self.old }
+        ensures same { IsSame self.old self.new }
     {
         self.asked = self.asked.saturating_add(1);
         if !keeps_depth(self.given.depth, positions.len() + 1) {
@@ -164,10 +161,7 @@ impl<'a> Rules<'a> {
         ensures answer { result ≡ may_of self.old (positions_of set.now ++ position ∷ []) }
         ensures counted { questions_asked self.new
             ≡ min (questions_asked self.old + 1) (2 ^ 128 - 1) }
-        ensures same_choice { choice_of self.new ≡ choice_of self.old }
-        ensures same_size { size_of self.new ≡ size_of self.old }
-        ensures same_may { may_of self.new ≡ may_of self.old }
-        ensures same_whole { whole_of self.new ≡ whole_of self.old }
+        ensures same { IsSame self.old self.new }
     {
         self.asked = self.asked.saturating_add(1);
         if !keeps_depth(self.given.depth, count_members(set) + 1) {

@@ -61,9 +61,9 @@ strict s t b d = let r = before_trans s t s b d in r.absent r.present
 -- a set of one candidate is lean
 lean-one : (c : Choice) (p : ℕ) → IsRedundant c (p ∷ []) → ⊥
 lean-one c p r =
-    let k : r.keeper ≡ r.spared = sym (in-one p r.keeper r.kept) ∙ in-one p r.spared r.member in
-    let named : Contains (names_at c r.spared) r.spares.by = subst (λ q. Contains (names_at c q) r.spares.by) k r.spares.named in
-    (r.spares.enabled named.0 r.spares.by named.1).0 named.2
+    let k : r.0 ≡ r.1 = sym (in-one p r.0 r.2) ∙ in-one p r.1 r.3 in
+    let named : Contains (names_at c r.1) r.4.0 = subst (λ q. Contains (names_at c q) r.4.0) k r.4.1 in
+    (r.4.3 named.0 r.4.0 named.1).0 named.2
 
 -- an empty list has no item of which anything has to hold
 all-none : {X : Type 0} (P : X → Type 0) (xs : List X) → xs ≡ [] → All P xs
@@ -72,13 +72,13 @@ all-none P xs e = subst (λ l. All P l) (sym e) (λ k d lt. absurd (omega (arith
 -- each candidate alone is listed, if the depth is 1 and there are no groups
 listed-one : (c : Choice) (p : ℕ) → c.depth ≡ Some 1 → c.exclusive ≡ [] → c.at_least_one_of ≡ [] → IsListed c (p ∷ [])
 listed-one c p depth exclusive wanted = record {
-  nonempty = λ e. cc;
-  permitted = record {
+  wanted = record {
+    nonempty = λ e. cc;
     within = subst (λ d. IsWithin d (p ∷ [])) (sym depth) (omega arith);
-    lean = lean-one c p;
     exclusive = all-none (λ group. Pairwise (NotBothReach c.map group) (names_in c (p ∷ []))) c.exclusive exclusive;
+    required = all-none (λ group. (key : Name) → EnablesOneOf c.map group key → Serves c group (p ∷ [])) c.at_least_one_of wanted;
   };
-  required = all-none (λ group. (key : Name) → EnablesOneOf c.map group key → Serves c group (p ∷ [])) c.at_least_one_of wanted;
+  lean = lean-one c p;
 }
 
 -- a nonempty set within a depth of 1 is one candidate alone
@@ -93,7 +93,7 @@ singles-listing n c depth exclusive wanted = record {
   exact = λ s. (
     λ h. let w = single-from n s h in
         (subst (IsSelection n) w.2 (selection-one n w.0 w.1), subst (IsListed c) w.2 (listed-one c w.0 depth exclusive wanted)),
-    λ w. one-listed n s w.1.nonempty (subst (λ d. IsWithin d s) depth w.1.permitted.within) w.0,
+    λ w. one-listed n s w.1.wanted.nonempty (subst (λ d. IsWithin d s) depth w.1.wanted.within) w.0,
   );
 }
 

@@ -86,7 +86,7 @@ sample w p strength runs is given made =
       once = subst (Pairwise (λ s t. s ≢ t)) (sym same) (apart-turned sets.0 h.sets (apart h.sets both.0.ordered));
       covers = λ pattern few s selection listed shows.
           let by = both.1 pattern few s selection listed shows in
-          record { by = by.by; chosen = subst (λ (l : List (List ℕ)). Contains l by.by) (sym same) (in-turned sets.0 h.sets by.by by.chosen); shows = by.shows };
+          (by.0, subst (λ (l : List (List ℕ)). Contains l by.0) (sym same) (in-turned sets.0 h.sets by.0 by.1), by.2);
     }
 
 -- with a strength each chosen package of a plan has a sample
@@ -150,5 +150,5 @@ patterns cx latest plan strength h is given each = record {
       let same_f = same_some m.2.features features (sym m.2.loaded ∙ loaded) in
       let runs = subst (λ q. AreRuns (wishes cx.args) (known_as q features) m.0.runs) same_p (subst (λ f. AreRuns (wishes cx.args) (known_as m.2.pkg f) m.0.runs) same_f m.2.runs) in
       let by = (sample (wishes cx.args) (known_as p features) strength m.0.runs is given runs).covers pattern few s selection listed shows in
-      pattern-at cx latest plan h (not-all h.input.as_cargo _ h.of_call.as_cargo each) place p features version slot pattern uses within m.0 m.1 by.by by.chosen by.shows;
+      pattern-at cx latest plan h (not-all h.input.as_cargo _ h.of_call.as_cargo each) place p features version slot pattern uses within m.0 m.1 by.0 by.1 by.2;
 }

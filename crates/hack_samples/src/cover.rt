@@ -91,7 +91,7 @@ fn show<A: Allowed>(
     if some_shows(wanted.providers, chosen.sets.as_slice(), pattern) {
         return Ok(true);
     }
-    let picked = pick(alloc, allowed, wanted, &mut chosen.columns, pattern, None)?;
+    let picked = pick(alloc, allowed, wanted, &mut chosen.columns, pattern)?;
     let Some(set) = picked else {
         return Ok(false);
     };
@@ -100,17 +100,23 @@ fn show<A: Allowed>(
     Ok(true)
 }
 
-/// Adds sets until the chosen sets show the pattern and each pattern that continues it by up to
-/// `more` settings, of candidates below `limit` in descending order. It passes over patterns that
-/// no listed set shows.
+/// How a pattern may be continued: by up to `more` settings, of candidates below `limit` in
+/// descending order.
+#[derive(Clone, Copy)]
+struct Further {
+    limit: usize,
+    more: usize,
+}
+
+/// Adds sets until the chosen sets show the pattern and each pattern that continues it further. It
+/// passes over patterns that no listed set shows.
 fn cover<A: Allowed>(
     alloc: Global,
     allowed: &mut A,
     wanted: &Wanted<'_>,
     chosen: &mut Chosen,
     pattern: &[Setting],
-    limit: usize,
-    more: usize,
+    further: Further,
 ) -> Result<(), SampleFault>
     requires { IsMaskSample (A.may allowed.old) (A.size allowed.old)
         (rows_of wanted.now.required.now) (rows_of chosen.old.sets.items) }
@@ -119,8 +125,8 @@ fn cover<A: Allowed>(
     ensures kept { OnOk result (AreKept (rows_of chosen.old.sets.items)
         (rows_of chosen.new.sets.items)) }
     ensures covered { OnOk result (CoversBelow (A.may allowed.old) (A.size allowed.old)
-        (rows_of wanted.now.required.now) (tables_of wanted.now.providers.now) pattern.now limit
-        more (rows_of chosen.new.sets.items)) }
+        (rows_of wanted.now.required.now) (tables_of wanted.now.providers.now) pattern.now
+        further.limit further.more (rows_of chosen.new.sets.items)) }
     ensures tired { IfErr result (IsTired wanted.now.end (A.count allowed.new)) }
     ensures within { StaysWithin wanted.now.end (A.count allowed.old) (A.count allowed.new) }
     ensures same_size { A.size allowed.new ≡ A.size allowed.old }
@@ -131,10 +137,14 @@ fn cover<A: Allowed>(
     if !possible {
         return Ok(());
     }
-    if more == 0 {
+    if further.more == 0 {
         return Ok(());
     }
-    for candidate in 0..limit {
+    for candidate in 0..further.limit {
+        let narrower = Further {
+            limit: candidate,
+            more: further.more - 1,
+        };
         let on = with(
             alloc,
             pattern,
@@ -144,7 +154,7 @@ fn cover<A: Allowed>(
             },
         )?;
         let next = on.as_slice();
-        cover(alloc, allowed, wanted, chosen, next, candidate, more - 1)?;
+        cover(alloc, allowed, wanted, chosen, next, narrower)?;
         let off = with(
             alloc,
             pattern,
@@ -154,7 +164,7 @@ fn cover<A: Allowed>(
             },
         )?;
         let next = off.as_slice();
-        cover(alloc, allowed, wanted, chosen, next, candidate, more - 1)?;
+        cover(alloc, allowed, wanted, chosen, next, narrower)?;
     }
     Ok(())
 }
@@ -194,7 +204,9 @@ fn follow<A: Allowed>(
     ensures same_may { A.may allowed.new ≡ A.may allowed.old }
     ensures stays { (first : A) → A.stays first allowed.old → A.stays first allowed.new }
 {
-    let picked = pick(alloc, allowed, wanted, &mut chosen.columns, &[], Some(row))?;
+    chosen.columns.follow(Some(row));
+    let picked = pick(alloc, allowed, wanted, &mut chosen.columns, &[])?;
+    chosen.columns.follow(None);
     let Some(set) = picked else {
         return Ok(());
     };
@@ -240,17 +252,11 @@ fn sample_by<A: Allowed>(
     for row in 0..rows {
         follow(alloc, allowed, wanted, &mut chosen, row)?;
     }
-    let none = [];
-    let strength = wanted.strength;
-    cover(
-        alloc,
-        allowed,
-        wanted,
-        &mut chosen,
-        &none,
-        candidates,
-        strength,
-    )?;
+    let further = Further {
+        limit: candidates,
+        more: wanted.strength,
+    };
+    cover(alloc, allowed, wanted, &mut chosen, &[], further)?;
     Ok(chosen.sets)
 }
 

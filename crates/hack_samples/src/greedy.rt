@@ -28,6 +28,8 @@ pub(crate) struct Columns {
     bit: u128,
     random: u64,
     guide: Guide,
+    /// The row of the guide that the next set follows, if it follows one.
+    row: Option<u32>,
 }
 
 impl Columns {
@@ -42,6 +44,7 @@ impl Columns {
             bit: 1,
             random: 0x9e37_79b9_7f4a_7c15,
             guide: Guide::new(alloc, candidates, strength)?,
+            row: None,
         })
     }
 
@@ -72,11 +75,16 @@ impl Columns {
         self.guide.rows()
     }
 
+    /// Makes the next sets follow a row of the guide, or none.
+    pub(crate) fn follow(&mut self, row: Option<u32>) {
+        self.row = row;
+    }
+
     /// Whether to turn the candidate on. With a row the guide decides. Without one the greater gain
     /// decides, where the candidate gains `on` if it is on and `off` if it is off; for equal gains
     /// the fixed sequence of numbers does.
-    fn asks(&mut self, candidate: usize, row: Option<u32>, on: usize, off: usize) -> bool {
-        match row {
+    fn asks(&mut self, candidate: usize, on: usize, off: usize) -> bool {
+        match self.row {
             Some(row) => self.guide.is_on(candidate, row),
             None => on > off || on == off && self.random() % 2 == 0,
         }
@@ -90,13 +98,12 @@ impl Columns {
         alloc: Global,
         providers: &[Vec<Vec<usize>>],
         positions: usize,
-        row: Option<u32>,
     ) -> Result<Vec<bool>, AllocError> {
         let mut liked = Vec::new(alloc);
         for _ in 0..positions {
-            liked.push(row.is_some() || self.random() % 2 == 0)?;
+            liked.push(self.row.is_some() || self.random() % 2 == 0)?;
         }
-        let Some(row) = row else {
+        let Some(row) = self.row else {
             return Ok(liked);
         };
         for (candidate, rows) in providers.iter().enumerate() {
@@ -307,7 +314,7 @@ struct Packed {
 }
 
 /// Turns each candidate on or off, where that is possible, in an order that the fixed sequence of
-/// numbers gives. With a row of the guide it follows the row; without one it chooses what shows
+/// numbers gives. If the columns follow a row of the guide it does too; else it chooses what shows
 /// more new patterns together with the candidates before.
 fn pack_once<A: Allowed>(
     alloc: Global,
@@ -316,7 +323,6 @@ fn pack_once<A: Allowed>(
     columns: &mut Columns,
     banned: &[bool],
     set: &[bool],
-    row: Option<u32>,
 ) -> Result<Packed, SampleFault>
     requires size { length banned.now ≡ A.size allowed.old }
     requires suited { IsSuited (A.may allowed.old) (A.size allowed.old) banned.now set.now }
@@ -346,7 +352,7 @@ fn pack_once<A: Allowed>(
             columns.column(*candidate, false),
             wanted.strength,
         );
-        let asked = columns.asks(*candidate, row, on, off);
+        let asked = columns.asks(*candidate, on, off);
         turn(allowed, wanted.end, &mut held, &mut set, rows, asked)?;
         let is_on = has_each(set.as_slice(), rows);
         gain = gain.saturating_add(gained(is_on, on, off));
@@ -363,8 +369,8 @@ fn gained(is_on: bool, on: usize, off: usize) -> usize {
 /// How many sets are tried for each that is taken, where no row of the guide decides.
 const TRIES: usize = 30;
 
-/// Returns this set with more members: with a row of the guide those that the row leads to, without
-/// one the best of several sets that a greedy rule finds.
+/// Returns this set with more members: those that the row of the guide leads to, if the columns
+/// follow one, else the best of several sets that a greedy rule finds.
 pub(crate) fn pack<A: Allowed>(
     alloc: Global,
     allowed: &mut A,
@@ -372,7 +378,6 @@ pub(crate) fn pack<A: Allowed>(
     columns: &mut Columns,
     banned: &[bool],
     set: &[bool],
-    row: Option<u32>,
 ) -> Result<Vec<bool>, SampleFault>
     requires size { length banned.now ≡ A.size allowed.old }
     requires suited { IsSuited (A.may allowed.old) (A.size allowed.old) banned.now set.now }
@@ -385,10 +390,10 @@ pub(crate) fn pack<A: Allowed>(
     ensures same_may { A.may allowed.new ≡ A.may allowed.old }
     ensures stays { (first : A) → A.stays first allowed.old → A.stays first allowed.new }
 {
-    let mut best = pack_once(alloc, allowed, wanted, columns, banned, set, row)?;
-    let tries = if row.is_some() { 1 } else { TRIES };
+    let mut best = pack_once(alloc, allowed, wanted, columns, banned, set)?;
+    let tries = if columns.row.is_some() { 1 } else { TRIES };
     for _ in 1..tries {
-        let next = pack_once(alloc, allowed, wanted, columns, banned, set, row)?;
+        let next = pack_once(alloc, allowed, wanted, columns, banned, set)?;
         if next.gain > best.gain {
             best = next;
         }

@@ -154,14 +154,14 @@ fn hold_setting(wanted: &Wanted<'_>, held: &mut Vec<bool>, set: &[bool], setting
 }
 
 /// Returns a listed set that shows the pattern, and as many new patterns as a greedy rule finds, or
-/// with a row of the guide what the row leads to; None if no listed set shows the pattern.
+/// what a row of the guide leads to, if the columns follow one; None if no listed set shows the
+/// pattern.
 pub(crate) fn pick<A: Allowed>(
     alloc: Global,
     allowed: &mut A,
     wanted: &Wanted<'_>,
     columns: &mut Columns,
     pattern: &[Setting],
-    row: Option<u32>,
 ) -> Result<Option<Vec<bool>>, SampleFault>
     ensures none { IfOk result (λ found. IfNone found ((s : List Bool)
         → IsListedMask (A.may allowed.old) (A.size allowed.old) (rows_of wanted.now.required.now) s
@@ -177,7 +177,7 @@ pub(crate) fn pick<A: Allowed>(
     ensures stays { (first : A) → A.stays first allowed.old → A.stays first allowed.new }
 {
     let positions = allowed.positions();
-    let liked = columns.liked(alloc, wanted.providers, positions, row)?;
+    let liked = columns.liked(alloc, wanted.providers, positions)?;
     let groups = copies(alloc, wanted.required, liked.as_slice())?;
     let free = vec![in alloc; false; positions]?;
     let Some(set) = find(
@@ -199,7 +199,6 @@ pub(crate) fn pick<A: Allowed>(
         columns,
         held.as_slice(),
         set.as_slice(),
-        row,
     )?;
     Ok(Some(set))
 }

@@ -27,8 +27,7 @@ pub record PieceNumbers : Type 0 where
 abbrev pub piece_if : Option ℕ → Option ℕ → Option PieceNumbers
 piece_if (Some m) (Some n) =
     if nat_lt 0 m && not (nat_lt n m) then Some (record { piece = m; count = n }) else None
-piece_if (Some m) None = None
-piece_if None n = None
+piece_if m n = None
 
 -- the piece that a text names, if it names one: m/n, split at the first slash
 abbrev pub piece_of : List ℕ → Option PieceNumbers

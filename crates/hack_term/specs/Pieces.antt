@@ -15,10 +15,9 @@ InPiece Turn m count total place = place % count ≡ m - 1
 abbrev pub InJustOnePiece : PartitionKind → ℕ → ℕ → ℕ → Type 0
 InJustOnePiece kind count total place = (m : ℕ) × (0 < m) × (m ≤ count) × InPiece kind m count total place × ((k : ℕ) → 0 < k → k ≤ count → InPiece kind k count total place → k ≡ m)
 
--- block m of count: the slice of the plan at the places of piece m, cut off at the plan's end
-abbrev pub block : {A : Type 0} → ℕ → ℕ → List A → List A
-block m count plan = slice_range plan ((m - 1) * div_ceil (length plan) count) (m * div_ceil (length plan) count)
-
--- the blocks from the first to the last, concatenated
+-- the blocks from the first to the last, concatenated: block m of count is the slice of the plan at the
+-- places of piece m, cut off at the plan's end
 abbrev pub joined_blocks : {A : Type 0} → ℕ → List A → List A
-joined_blocks count plan = flat_map (λ m. block m count plan) (range_with_len 1 count)
+joined_blocks count plan =
+    flat_map (λ m. slice_range plan ((m - 1) * div_ceil (length plan) count)
+    (m * div_ceil (length plan) count)) (range_with_len 1 count)

@@ -1,5 +1,5 @@
 -- How the texts of versions and ranges are read, where a contract says how they are written.
-use Rattle.std.proofs.Common.{◌≡◌, ◌≢◌, ◌⊎◌, inl, inr, ℕ, ◌==◌, ◌++◌, List, [], ◌∷◌, Bool, true, false, drop, nat_eq, codes, Option, Some, None, Result, Ok, Err, IsTrue, IsSomeAnd, MatchOption, option_map, arith, refl, ap, sym, subst, ◌∙◌}
+use Rattle.std.proofs.Common.{◌≡◌, ◌≢◌, ◌⊎◌, inl, inr, ℕ, ◌==◌, ◌++◌, List, [], ◌∷◌, Bool, true, false, drop, nat_eq, codes, Option, Some, None, Result, Ok, Err, IsTrue, IsSomeAnd, MatchOption, option_map, unwrap_or, arith, refl, ap, sym, subst, ◌∙◌}
 use Rattle.std.specs.List.{starts_with}
 use Rattle.std.proofs.lemmas.Bool.Decides.{nat_tests, Decides-eqb}
 use Rattle.std.proofs.lemmas.Slice.Eq.{starts_is}
@@ -10,10 +10,11 @@ use Rattle.hack_versions.specs.declared.version.VersionRange.{VersionRange}
 use Rattle.hack_versions.specs.declared.version.VersionFault.{VersionFault}
 use Rattle.hack_versions.specs.declared.version.VersionFault.TheVariants as fault
 use Rattle.hack_base.specs.Numbers.{IsNumber}
-use Rattle.hack_versions.specs.VersionTexts.{IsSomeNumber, IsBadNumber, IsVersionText, IsVersionFault, IsCut, IsUncut, IsBare, IsBoundText, IsBoundFault, IsEndText, IsOpen, IsEndTextFault, IsRangeText, IsRangeTextFault}
+use Rattle.hack_versions.specs.VersionTexts.{IsBadNumber, IsVersionText, IsVersionFault, IsCut, IsUncut, IsBare, IsBoundText, IsBoundFault, IsEndText, IsOpen, IsEndTextFault, IsRangeText, IsRangeTextFault}
 use Rattle.hack_base.specs.Cuts.{front_of, rest_of}
 use Rattle.hack_versions.specs.Readings.{BadRange, BadNumber, OpenInclusive, IsRefusedBy}
-use Rattle.hack_versions.specs.Readings.{End, Sides, ReadRange, then_read, read_as, or_bad, version_part_of, with_patch, with_minor, version_of, bound_of, behind_equals, end_of, at_dots, with_end, range_at, range_of}
+use Rattle.hack_versions.specs.Readings.{Sides, ReadRange, then_read, read_as, version_part_of, with_minor, version_of, bound_of, behind_equals, end_of, is_old, at_dots, range_at, range_of}
+use Rattle.std.specs.Option.{ok_or, option_transpose}
 use Rattle.hack_base.proofs.NumberLemmas.{number-read, number-unread}
 
 Refused-then : {A B : Type 0} (f : A → Result B BadRange) (r : Result A BadRange) (e : VersionFault) → IsRefusedBy r e → IsRefusedBy (then_read f r) e
@@ -35,20 +36,33 @@ Refused-next {A} f r a e h k = subst (λ (x : Result A BadRange). IsRefusedBy (t
 -- parts
 
 part-read : (text : List ℕ) (n : ℕ) → IsNumber 32 text n → version_part_of text ≡ Ok n
-part-read text n h = ap (or_bad text) (number-read 32 n text h)
+part-read text n h = ap (λ o. ok_or o (BadNumber text)) (number-read 32 n text h)
 
 part-bad : (text : List ℕ) (e : VersionFault) → IsBadNumber text e → IsRefusedBy (version_part_of text) e
-part-bad text (fault.BadNumber s) h = ap (or_bad text) (number-unread 32 text h.1) ∙ ap (λ t. Err (BadNumber t)) (sym h.0)
+part-bad text (fault.BadNumber s) h = ap (λ o. ok_or o (BadNumber text)) (number-unread 32 text h.1) ∙ ap (λ t. Err (BadNumber t)) (sym h.0)
 part-bad text fault.MissingMinor h = absurd h
 part-bad text (fault.OpenInclusive s) h = absurd h
 part-bad text fault.Memory h = absurd h
 
 -- versions
 
-patch-read : (o : Option (List ℕ)) (major minor : ℕ) (patch : Option ℕ) → MatchOption o (patch ≡ None) (λ last. IsSomeAnd patch (IsNumber 32 last)) → with_patch major minor o ≡ Ok (record { major = major; minor = minor; patch = patch })
-patch-read None major minor patch h = ap (λ (p : Option ℕ). Ok (record { major = major; minor = minor; patch = p })) (sym h)
+-- a version with these parts, given the text after the second dot
+abbrev patch_of : Option (List ℕ) → Result (Option ℕ) BadRange
+patch_of o = option_transpose (option_map version_part_of o)
+
+abbrev made : ℕ → ℕ → Option ℕ → Version
+made major minor patch = record { major = major; minor = minor; patch = patch }
+
+abbrev with_patch : ℕ → ℕ → Option (List ℕ) → Result Version BadRange
+with_patch major minor o = read_as (made major minor) (patch_of o)
+
+abbrev one_more : Result ℕ BadRange → Result (Option ℕ) BadRange
+one_more r = option_transpose (Some r)
+
+patch-read : (o : Option (List ℕ)) (major minor : ℕ) (patch : Option ℕ) → MatchOption o (patch ≡ None) (λ last. IsSomeAnd patch (IsNumber 32 last)) → with_patch major minor o ≡ Ok (made major minor patch)
+patch-read None major minor patch h = ap (λ (p : Option ℕ). Ok (made major minor p)) (sym h)
 patch-read (Some last) major minor None h = absurd h
-patch-read (Some last) major minor (Some n) h = ap (read_as (λ p. record { major = major; minor = minor; patch = Some p })) (part-read last n h)
+patch-read (Some last) major minor (Some n) h = ap (λ r. read_as (made major minor) (one_more r)) (part-read last n h)
 
 minor-read : (o : Option (List ℕ)) (v : Version) → IsSomeAnd o (λ rest. IsNumber 32 (front_of 46 rest) v.minor × MatchOption (rest_of 46 rest) (v.patch ≡ None) (λ last. IsSomeAnd v.patch (IsNumber 32 last))) → with_minor v.major o ≡ Ok v
 minor-read None v h = absurd h
@@ -57,11 +71,17 @@ minor-read (Some text) v h = ap (then_read (λ minor. with_patch v.major minor (
 pub version-read : (text : List ℕ) (v : Version) → IsVersionText text v → version_of text ≡ Ok v
 version-read text v h = ap (then_read (λ major. with_minor major (rest_of 46 text))) (part-read (front_of 46 text) v.major h.0) ∙ minor-read (rest_of 46 text) v h.1
 
+one-bad : (r : Result ℕ BadRange) (e : VersionFault) → IsRefusedBy r e → IsRefusedBy (one_more r) e
+one-bad r fault.Memory h = h
+one-bad r fault.MissingMinor h = ap one_more h
+one-bad r (fault.BadNumber s) h = ap one_more h
+one-bad r (fault.OpenInclusive s) h = ap one_more h
+
 patch-bad : (o : Option (List ℕ)) (major minor : ℕ) (e : VersionFault) → IsSomeAnd o (λ last. IsBadNumber last e) → IsRefusedBy (with_patch major minor o) e
 patch-bad None major minor e h = absurd h
-patch-bad (Some last) major minor e h = Refused-as (λ p. record { major = major; minor = minor; patch = Some p }) (version_part_of last) e (part-bad last e h)
+patch-bad (Some last) major minor e h = Refused-as (made major minor) (patch_of (Some last)) e (one-bad (version_part_of last) e (part-bad last e h))
 
-minor-bad : (o : Option (List ℕ)) (major : ℕ) (e : VersionFault) → MatchOption o (e ≡ fault.MissingMinor) (λ rest. IsBadNumber (front_of 46 rest) e ⊎ (IsSomeNumber (front_of 46 rest) × IsSomeAnd (rest_of 46 rest) (λ last. IsBadNumber last e))) → IsRefusedBy (with_minor major o) e
+minor-bad : (o : Option (List ℕ)) (major : ℕ) (e : VersionFault) → MatchOption o (e ≡ fault.MissingMinor) (λ rest. IsBadNumber (front_of 46 rest) e ⊎ (((n : ℕ) × IsNumber 32 (front_of 46 rest) n) × IsSomeAnd (rest_of 46 rest) (λ last. IsBadNumber last e))) → IsRefusedBy (with_minor major o) e
 minor-bad None major e h = subst (λ (e : VersionFault). IsRefusedBy (with_minor major None) e) (sym h) refl
 minor-bad (Some text) major e (inl h) = Refused-then (λ minor. with_patch major minor (rest_of 46 text)) (version_part_of (front_of 46 text)) e (part-bad (front_of 46 text) e h)
 minor-bad (Some text) major e (inr h) = Refused-next (λ minor. with_patch major minor (rest_of 46 text)) (version_part_of (front_of 46 text)) h.0.0 e (part-read (front_of 46 text) h.0.0 h.0.1) (patch-bad (rest_of 46 text) major h.0.0 e h.1)
@@ -87,12 +107,9 @@ bound-bad empty (b ∷ bs) e h = Refused-as Given (version_of (b ∷ bs)) e (ver
 
 -- ends
 
-abbrev ends : Bool → MaybeVersion → End
-ends old bound = record { bound = bound; old = old }
-
-equals-read : (front back : List ℕ) (end : MaybeVersion) → back ≢ [] → IsBoundText Stable back end → behind_equals front back ≡ Ok (ends false end)
+equals-read : (front back : List ℕ) (end : MaybeVersion) → back ≢ [] → IsBoundText Stable back end → behind_equals front back ≡ Ok end
 equals-read front [] end n h = absurd (n refl)
-equals-read front (c ∷ cs) end n h = ap (read_as (ends false)) (bound-read Stable (c ∷ cs) end h)
+equals-read front (c ∷ cs) end n h = bound-read Stable (c ∷ cs) end h
 
 not-equals : (b : ℕ) (bs : List ℕ) → IsBare (b ∷ bs) → (b == 61) ≡ false
 not-equals b bs h =
@@ -103,14 +120,15 @@ is-false : (b : Bool) → (IsTrue b → ⊥) → b ≡ false
 is-false true h = absurd (h refl)
 is-false false h = refl
 
-end-read : (front back : List ℕ) (end : MaybeVersion) (old : Bool) → IsEndText back end old → end_of front back ≡ Ok (ends old end)
-end-read front back end old (inl h) = ap (end_of front) h.1 ∙ equals-read front h.0 end h.2 h.3 ∙ ap (λ b. Ok (ends b end)) (sym h.4)
-end-read front [] end old (inr h) =
-    let plain : old ≡ false = is-false old (λ t. h.2.0 t refl) in
-    ap (read_as (ends false)) (bound-read Stable [] end h.1) ∙ ap (λ b. Ok (ends b end)) (sym plain)
-end-read front (b ∷ bs) end old (inr h) =
-    let is_old : old ≡ true = h.2.1 (not-empty b bs) in
-    rw (not-equals b bs h.0) (ap (read_as (ends true)) (bound-read Stable (b ∷ bs) end h.1) ∙ ap (λ b. Ok (ends b end)) (sym is_old))
+end-read : (front back : List ℕ) (end : MaybeVersion) (old : Bool) → IsEndText back end old → end_of front back ≡ Ok end
+end-read front back end old (inl h) = ap (end_of front) h.1 ∙ equals-read front h.0 end h.2 h.3
+end-read front [] end old (inr h) = bound-read Stable [] end h.1
+end-read front (b ∷ bs) end old (inr h) = rw (not-equals b bs h.0) (bound-read Stable (b ∷ bs) end h.1)
+
+old-read : (back : List ℕ) (end : MaybeVersion) (old : Bool) → IsEndText back end old → old ≡ is_old back
+old-read back end old (inl h) = h.4 ∙ ap is_old (sym h.1)
+old-read [] end old (inr h) = is-false old (λ t. h.2.0 t refl)
+old-read (b ∷ bs) end old (inr h) = rw (not-equals b bs h.0) (h.2.1 (not-empty b bs))
 
 open-bad : (front : List ℕ) (e : VersionFault) → IsOpen front e → IsRefusedBy (behind_equals front []) e
 open-bad front (fault.OpenInclusive s) h = ap (λ t. Err (OpenInclusive t)) (sym h)
@@ -120,13 +138,13 @@ open-bad front fault.Memory h = absurd h
 
 equals-bad : (front back : List ℕ) (e : VersionFault) → IsBoundFault back e → IsRefusedBy (behind_equals front back) e
 equals-bad front [] e h = absurd (h.0 refl)
-equals-bad front (c ∷ cs) e h = Refused-as (ends false) (bound_of Stable (c ∷ cs)) e (bound-bad Stable (c ∷ cs) e h)
+equals-bad front (c ∷ cs) e h = bound-bad Stable (c ∷ cs) e h
 
 end-bad : (front back : List ℕ) (e : VersionFault) → IsEndTextFault front back e → IsRefusedBy (end_of front back) e
 end-bad front back e (inl h) = subst (λ (t : List ℕ). IsRefusedBy (end_of front t) e) (sym h.0) (open-bad front e h.1)
 end-bad front back e (inr (inl h)) = subst (λ (t : List ℕ). IsRefusedBy (end_of front t) e) (sym h.1) (equals-bad front h.0 e h.2)
 end-bad front [] e (inr (inr h)) = absurd (h.1.0 refl)
-end-bad front (b ∷ bs) e (inr (inr h)) = rw (not-equals b bs h.0) (Refused-as (ends true) (bound_of Stable (b ∷ bs)) e (bound-bad Stable (b ∷ bs) e h.1))
+end-bad front (b ∷ bs) e (inr (inr h)) = rw (not-equals b bs h.0) (bound-bad Stable (b ∷ bs) e h.1)
 
 -- splits
 
@@ -163,27 +181,45 @@ cut-read (b ∷ bs) (f ∷ fs) back h =
 
 -- ranges
 
+-- the whole text is the start, unless it is cut
+abbrev sides_or : List ℕ → Option Sides → Sides
+sides_or text o = unwrap_or o (record { front = text; back = [] })
+
+abbrev from_ends : MaybeVersion → Bool → MaybeVersion → ReadRange
+from_ends end old start = record { range = record { start_inclusive = start; end_inclusive = end }; old = old }
+
+abbrev with_start : Sides → MaybeVersion → Result ReadRange BadRange
+with_start sides end = read_as (from_ends end (is_old sides.back)) (bound_of Msrv sides.front)
+
+abbrev sides : List ℕ → List ℕ → Sides
+sides front back = record { front = front; back = back }
+
+at-read : (front back : List ℕ) (range : VersionRange) (old : Bool) → end_of front back ≡ Ok range.end_inclusive → old ≡ is_old back → IsBoundText Msrv front range.start_inclusive → range_at (sides front back) ≡ Ok (record { range = range; old = old })
+at-read front back range old e o h =
+    ap (then_read (with_start (sides front back))) e
+    ∙ ap (read_as (from_ends range.end_inclusive (is_old back))) (bound-read Msrv front range.start_inclusive h)
+    ∙ ap (λ (b : Bool). Ok (from_ends range.end_inclusive b range.start_inclusive)) (sym o)
+
 pub range-read : (text : List ℕ) (range : VersionRange) (old : Bool) → IsRangeText text range old → range_of text ≡ Ok (record { range = range; old = old })
 range-read text range old (inl h) =
-    ap (range_at text) (uncut-read text h.0)
-    ∙ ap (read_as (with_end (ends false Stable))) (bound-read Msrv text range.start_inclusive h.1)
-    ∙ ap (λ (m : MaybeVersion). Ok (with_end (ends false m) range.start_inclusive)) (sym h.2)
-    ∙ ap (λ (b : Bool). Ok (with_end (ends b range.end_inclusive) range.start_inclusive)) (sym h.3)
+    ap (λ o. range_at (sides_or text o)) (uncut-read text h.0)
+    ∙ at-read text [] range old (ap Ok (sym h.2)) h.3 h.1
 range-read text range old (inr h) =
-    ap (range_at text) (cut-read text h.0 h.1 h.2)
-    ∙ ap (then_read (λ end. read_as (with_end end) (bound_of Msrv h.0))) (end-read h.0 h.1 range.end_inclusive old h.3)
-    ∙ ap (read_as (with_end (ends old range.end_inclusive))) (bound-read Msrv h.0 range.start_inclusive h.4)
+    ap (λ o. range_at (sides_or text o)) (cut-read text h.0 h.1 h.2)
+    ∙ at-read h.0 h.1 range old (end-read h.0 h.1 range.end_inclusive old h.3) (old-read h.1 range.end_inclusive old h.3) h.4
 
-abbrev with_start : List ℕ → End → Result ReadRange BadRange
-with_start front end = read_as (with_end end) (bound_of Msrv front)
+start-bad : (front back : List ℕ) (end : MaybeVersion) (e : VersionFault) → end_of front back ≡ Ok end → IsBoundFault front e → IsRefusedBy (range_at (sides front back)) e
+start-bad front back end e o h =
+    Refused-next (with_start (sides front back)) (end_of front back) end e o
+    (Refused-as (from_ends end (is_old back)) (bound_of Msrv front) e (bound-bad Msrv front e h))
 
 range-bad : (text : List ℕ) (e : VersionFault) → IsRangeTextFault text e → IsRefusedBy (range_of text) e
-range-bad text e (inl h) = subst (λ (o : Option Sides). IsRefusedBy (range_at text o) e) (sym (uncut-read text h.0)) (Refused-as (with_end (ends false Stable)) (bound_of Msrv text) e (bound-bad Msrv text e h.1))
-range-bad text e (inr h) = subst (λ (o : Option Sides). IsRefusedBy (range_at text o) e) (sym (cut-read text h.0 h.1 h.2)) (sides h.3)
+range-bad text e (inl h) = subst (λ (o : Option Sides). IsRefusedBy (range_at (sides_or text o)) e) (sym (uncut-read text h.0)) (start-bad text [] Stable e refl h.1)
+range-bad text e (inr h) = subst (λ (o : Option Sides). IsRefusedBy (range_at (sides_or text o)) e) (sym (cut-read text h.0 h.1 h.2)) (either h.3)
   where
-    sides : IsEndTextFault h.0 h.1 e ⊎ (((end : MaybeVersion) × (old : Bool) × IsEndText h.1 end old) × IsBoundFault h.0 e) → IsRefusedBy (then_read (with_start h.0) (end_of h.0 h.1)) e
-    sides (inl k) = Refused-then (with_start h.0) (end_of h.0 h.1) e (end-bad h.0 h.1 e k)
-    sides (inr k) = Refused-next (with_start h.0) (end_of h.0 h.1) (ends k.0.1 k.0.0) e (end-read h.0 h.1 k.0.0 k.0.1 k.0.2) (Refused-as (with_end (ends k.0.1 k.0.0)) (bound_of Msrv h.0) e (bound-bad Msrv h.0 e k.1))
+    either : IsEndTextFault h.0 h.1 e ⊎ (((end : MaybeVersion) × (old : Bool) × IsEndText h.1 end old) × IsBoundFault h.0 e) → IsRefusedBy (range_at (sides h.0 h.1)) e
+    either (inl k) = Refused-then (with_start (sides h.0 h.1)) (end_of h.0 h.1) e (end-bad h.0 h.1 e k)
+    either (inr k) = start-bad h.0 h.1 k.0.0 e (end-read h.0 h.1 k.0.0 k.0.1 k.0.2) k.1
 
 pub version-unread : (text : List ℕ) (e : VersionFault) → (e ≡ fault.Memory) ⊎ IsVersionFault text e → IsRefusedBy (version_of text) e
 version-unread text e (inl h) = subst (λ (e : VersionFault). IsRefusedBy (version_of text) e) (sym h) refl

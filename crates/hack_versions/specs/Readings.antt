@@ -1,7 +1,9 @@
 -- How texts are read as versions and as ranges of versions.
-use Rattle.std.specs.Prelude.{◌≡◌, ℕ, ◌==◌, List, [], ◌∷◌, Bool, true, false, if◌then◌else◌}
-use Rattle.std.specs.Prelude.{Option, Some, None, Result, Ok, Err, MatchOption, option_map}
+use Rattle.std.specs.Prelude.{◌≡◌, ℕ, ◌==◌, List, [], ◌∷◌, Bool, false, not, if◌then◌else◌}
+use Rattle.std.specs.Prelude.{Option, Some, None, Result, Ok, Err, MatchOption, option_map, unwrap_or, ok_or}
 use Rattle.std.specs.Prelude.{codes, drop, nat_eq, string_bytes}
+use Rattle.std.specs.Option.{option_transpose}
+use Rattle.std.specs.Result.{result_map_both, result_flatten}
 use Rattle.std.specs.List.{starts_with}
 use Rattle.hack_base.specs.Numbers.{number_of}
 use Rattle.hack_base.specs.Cuts.{front_of, rest_of}
@@ -30,37 +32,24 @@ bad_range_of (fault.OpenInclusive text) = Some (OpenInclusive (string_bytes text
 abbrev pub IsRefusedBy : {A : Type 0} → Result A BadRange → VersionFault → Type 0
 IsRefusedBy reading e = MatchOption (bad_range_of e) (e ≡ fault.Memory) (λ bad. reading ≡ Err bad)
 
--- the next reading, applied to what was read so far unless that was refused
-abbrev pub then_read : {A B : Type 0} →
-    (A → Result B BadRange) → Result A BadRange → Result B BadRange
-then_read f (Ok a) = f a
-then_read f (Err bad) = Err bad
-
 -- what was read, converted to another value
 abbrev pub read_as : {A B : Type 0} → (A → B) → Result A BadRange → Result B BadRange
-read_as f (Ok a) = Ok (f a)
-read_as f (Err bad) = Err bad
+read_as f r = result_map_both f (λ bad. bad) r
 
--- a number, or the text that is none
-abbrev pub or_bad : List ℕ → Option ℕ → Result ℕ BadRange
-or_bad text (Some n) = Ok n
-or_bad text None = Err (BadNumber text)
+-- the next reading, applied to what was read so far unless that was refused
+abbrev pub then_read : {A B : Type 0} → (A → Result B BadRange) → Result A BadRange → Result B BadRange
+then_read f r = result_flatten (read_as f r)
 
 -- a part of a version, a number below 2^32
 abbrev pub version_part_of : List ℕ → Result ℕ BadRange
-version_part_of text = or_bad text (number_of 32 text)
-
--- a version with these parts, given the text after the second dot
-abbrev pub with_patch : ℕ → ℕ → Option (List ℕ) → Result Version BadRange
-with_patch major minor None = Ok (record { major = major; minor = minor; patch = None })
-with_patch major minor (Some text) =
-    read_as (λ patch. record { major = major; minor = minor; patch = Some patch }) (version_part_of text)
+version_part_of text = ok_or (number_of 32 text) (BadNumber text)
 
 -- a version with this major part, given the text after the first dot
 abbrev pub with_minor : ℕ → Option (List ℕ) → Result Version BadRange
 with_minor major None = Err MissingMinor
 with_minor major (Some text) =
-    then_read (λ minor. with_patch major minor (rest_of 46 text)) (version_part_of (front_of 46 text))
+    then_read (λ minor. read_as (λ patch. record { major = major; minor = minor; patch = patch })
+    (option_transpose (option_map version_part_of (rest_of 46 text)))) (version_part_of (front_of 46 text))
 
 -- a version, split at its first two dots
 abbrev pub version_of : List ℕ → Result Version BadRange
@@ -70,25 +59,22 @@ version_of text =
 -- a bound of a range: a version, or the bound that an empty text means
 abbrev pub bound_of : MaybeVersion → List ℕ → Result MaybeVersion BadRange
 bound_of empty [] = Ok empty
-bound_of empty (b ∷ bs) = read_as Given (version_of (b ∷ bs))
-
--- the end of a range, and whether it has the old form
-pub record End : Type 0 where
-  pub bound : MaybeVersion
-  pub old : Bool
+bound_of empty text = read_as Given (version_of text)
 
 -- the text after `..=`: a version
-abbrev pub behind_equals : List ℕ → List ℕ → Result End BadRange
+abbrev pub behind_equals : List ℕ → List ℕ → Result MaybeVersion BadRange
 behind_equals front [] = Err (OpenInclusive front)
-behind_equals front (c ∷ cs) =
-    read_as (λ bound. record { bound = bound; old = false }) (bound_of Stable (c ∷ cs))
+behind_equals front text = bound_of Stable text
 
--- the text after `..`: nothing, `=` and a version, or a version alone, which is the old form
-abbrev pub end_of : List ℕ → List ℕ → Result End BadRange
-end_of front [] = Ok (record { bound = Stable; old = false })
-end_of front (b ∷ bs) =
-    if b == 61 then behind_equals front bs
-    else read_as (λ bound. record { bound = bound; old = true }) (bound_of Stable (b ∷ bs))
+-- the text after `..`: nothing, `=` and a version, or a version alone
+abbrev pub end_of : List ℕ → List ℕ → Result MaybeVersion BadRange
+end_of front [] = Ok Stable
+end_of front (b ∷ bs) = if b == 61 then behind_equals front bs else bound_of Stable (b ∷ bs)
+
+-- whether a version alone is the text after `..`, which is the old form
+abbrev pub is_old : List ℕ → Bool
+is_old [] = false
+is_old (b ∷ bs) = not (b == 61)
 
 -- both sides of a split
 pub record Sides : Type 0 where
@@ -108,22 +94,13 @@ pub record ReadRange : Type 0 where
   pub range : VersionRange
   pub old : Bool
 
--- a range with this start and end
-abbrev pub with_end : End → MaybeVersion → ReadRange
-with_end end start = record {
-  range = record { start_inclusive = start; end_inclusive = end.bound };
-  old = end.old;
-}
+-- a range with these sides: its end is read before its start
+abbrev pub range_at : Sides → Result ReadRange BadRange
+range_at sides =
+    then_read (λ end. read_as (λ start.
+    record { range = record { start_inclusive = start; end_inclusive = end }; old = is_old sides.back })
+    (bound_of Msrv sides.front)) (end_of sides.front sides.back)
 
--- a range with these sides: its end is read before its start, and without `..` the whole text is
--- its start
-abbrev pub range_at : List ℕ → Option Sides → Result ReadRange BadRange
-range_at text None =
-    read_as (with_end (record { bound = Stable; old = false })) (bound_of Msrv text)
-range_at text (Some sides) =
-    then_read (λ end. read_as (with_end end) (bound_of Msrv sides.front))
-    (end_of sides.front sides.back)
-
--- a range, split at its first `..`
+-- a range, split at its first `..`; a text without one is its start
 abbrev pub range_of : List ℕ → Result ReadRange BadRange
-range_of text = range_at text (at_dots text)
+range_of text = range_at (unwrap_or (at_dots text) (record { front = text; back = [] }))

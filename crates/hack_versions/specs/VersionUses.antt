@@ -1,5 +1,6 @@
 -- Which package uses which version.
 use Rattle.std.specs.Prelude.{◌≡◌, ◌≢◌, ℕ, ◌<◌, List, [], ◌∷◌, ◌++◌, Option, Some, None, All, AllPairs, Contains, IfSome, IsSomeAnd, ◌⊎◌, ◌↔◌, slice_get, take, option_map, codes, string_bytes}
+use Rattle.std.specs.Option.{option_map_or}
 use Rattle.hack_versions.specs.declared.version.Version.{Version}
 use Rattle.hack_versions.specs.declared.version.MaybeVersion.{MaybeVersion}
 use Rattle.hack_versions.specs.declared.version.MaybeVersion.TheVariants.{Msrv}
@@ -72,8 +73,7 @@ IsSkipped range steps member = ¬ IsOwnOnly range × IsSomeAnd (own_of member) (
 
 -- the text of an own version
 abbrev pub own_text : Option Version → List ℕ
-own_text None = []
-own_text (Some v) = version_text v
+own_text own = option_map_or version_text own []
 
 -- the notice on a package that is skipped
 abbrev pub skip_note : VersionRange → PackageVersion → Note

@@ -13,7 +13,7 @@ in_front front more all k d lt is = ap (λ l. get_or l k d) is ∙ get_or-append
 
 pub extend_one-requires-clause-below : goal.extend_one-requires-clause-below
 extend_one-requires-clause-below g c =
-    let old : List (List ℕ) = sets_of c.args.sets.now in
+    let old : List (List ℕ) = sets_of c.args.found.now.sets in
     let places : List ℕ = c.args.places.now.items in
     let k : ℕ = c.loop-rank.rank in
     let place : ℕ = c.index-place.result.now in
@@ -21,14 +21,14 @@ extend_one-requires-clause-below g c =
     let lt : k < length places = omega (arith, c.loop-rank-test.true, c.len-rank-end.ensures) in
     let here : place ≡ get_or places k place = c.index-place.ensures ∙ in_front places more.0 c.loop-rank.places.items k place lt more.1 in
     let inside : place < length old = subst (λ p. p < length old) (sym here) (c.requires.places.inside k place lt) in
-    let set : c.read.new.set.items ≡ at old place = c.in_ok-read.ensures ∙ in_front old _ (sets_of c.loop-rank.sets) place [] inside c.loop-rank.invariant.sets in
+    let set : c.read.new.set.items ≡ at old place = c.in_ok-read.ensures ∙ in_front old _ (sets_of c.loop-rank.found.sets) place [] inside c.loop-rank.invariant.sets in
     subst (IsSelection c.args.next) (sym set) (c.requires.below place [] inside)
 
 pub loop-rank-preserved : goal.loop-rank-preserved
 loop-rank-preserved g c =
     let may : List ℕ → Bool = g.Q.Questions.may c.args.questions.now in
-    let old : List (List ℕ) = sets_of c.args.sets.now in
-    let sets : List (List ℕ) = sets_of c.loop-rank.sets in
+    let old : List (List ℕ) = sets_of c.args.found.now.sets in
+    let sets : List (List ℕ) = sets_of c.loop-rank.found.sets in
     let new : List (List ℕ) = sets_of c.extend_one.new.sets in
     let places : List ℕ = c.args.places.now.items in
     let all : List ℕ = c.loop-rank.places.items in
@@ -42,7 +42,7 @@ loop-rank-preserved g c =
     let inside : place < length old = subst (λ p. p < length old) (sym here) (c.requires.places.inside k place lt) in
     let set : s ≡ at old place = c.in_ok-read.ensures ∙ in_front old _ sets place [] inside c.loop-rank.invariant.sets in
     let pushed : new ≡ sets ++ with_next may next (s ∷ []) =
-    c.in_ok-all.ensures.sets ∙ ap (λ m. sets ++ with_next m next (s ∷ [])) c.loop-rank.invariant.same_may in
+    c.in_ok-found.ensures.sets ∙ ap (λ m. sets ++ with_next m next (s ∷ [])) c.loop-rank.invariant.same_may in
     record {
       sets = next-place may old sets new next places k place s lt here set c.loop-rank.invariant.sets pushed;
       kept = elim c.if-has_room.branch [
@@ -68,11 +68,11 @@ loop-rank-preserved g c =
       ];
       complete = λ before now.
           subst (λ w. AreComplete w new) c.loop-rank.invariant.same_whole
-          (c.in_ok-all.ensures.complete (λ yes'. subst (λ w. AreComplete w sets) (sym c.loop-rank.invariant.same_whole) (c.loop-rank.invariant.complete before yes')) now);
-      counted = omega (arith, c.in_ok-all.ensures.counted, c.loop-rank.invariant.counted);
-      risen = omega (arith, c.in_ok-all.ensures.risen, c.loop-rank.invariant.risen);
-      same_choice = c.in_ok-all.ensures.same_choice ∙ c.loop-rank.invariant.same_choice;
-      same_size = c.in_ok-all.ensures.same_size ∙ c.loop-rank.invariant.same_size;
-      same_may = c.in_ok-all.ensures.same_may ∙ c.loop-rank.invariant.same_may;
-      same_whole = c.in_ok-all.ensures.same_whole ∙ c.loop-rank.invariant.same_whole;
+          (c.in_ok-found.ensures.complete (λ yes'. subst (λ w. AreComplete w sets) (sym c.loop-rank.invariant.same_whole) (c.loop-rank.invariant.complete before yes')) now);
+      counted = omega (arith, c.in_ok-found.ensures.counted, c.loop-rank.invariant.counted);
+      risen = omega (arith, c.in_ok-found.ensures.risen, c.loop-rank.invariant.risen);
+      same_choice = c.in_ok-found.ensures.same_choice ∙ c.loop-rank.invariant.same_choice;
+      same_size = c.in_ok-found.ensures.same_size ∙ c.loop-rank.invariant.same_size;
+      same_may = c.in_ok-found.ensures.same_may ∙ c.loop-rank.invariant.same_may;
+      same_whole = c.in_ok-found.ensures.same_whole ∙ c.loop-rank.invariant.same_whole;
     }

@@ -15,7 +15,7 @@ loop-candidate-preserved g t c =
     let required : List (List ℕ) = rows_of c.args.wanted.now.required.now in
     let providers : List (List (List ℕ)) = tables_of c.args.wanted.now.providers.now in
     let pattern : List Setting = c.args.pattern.now in
-    let more : ℕ = c.args.more - 1 in
+    let more : ℕ = c.args.further.more - 1 in
     let f : ℕ = c.loop-candidate.candidate in
     let first : List (List Bool) = rows_of c.loop-candidate.chosen.sets.items in
     let second : List (List Bool) = rows_of c.cover.new.chosen.sets.items in
@@ -45,7 +45,7 @@ loop-candidate-preserved g t c =
 
 pub returns-clause-covered : goal.returns-clause-covered
 returns-clause-covered g t c =
-    covers-all (g.A.Allowed.may c.args.allowed.now) (g.A.Allowed.size c.args.allowed.now) (rows_of c.args.wanted.now.required.now) (tables_of c.args.wanted.now.providers.now) c.args.pattern.now c.args.limit c.args.more
+    covers-all (g.A.Allowed.may c.args.allowed.now) (g.A.Allowed.size c.args.allowed.now) (rows_of c.args.wanted.now.required.now) (tables_of c.args.wanted.now.providers.now) c.args.pattern.now c.args.further.limit c.args.further.more
     (rows_of c.loop-candidate.chosen.sets.items) c.loop-candidate.invariant.shown
     (λ x lt pos. let below : x.candidate < c.loop-candidate.candidate = omega (arith, c.loop-candidate-test.false) in c.loop-candidate.invariant.covered x below)
 

@@ -9,6 +9,6 @@ returns c =
     let found : IsTrue c.matches_one_of.result ↔ Any (λ ref. Contains group ref.now) c.in_ok-found.found.items =
     subst (λ refs. IsTrue c.matches_one_of.result ↔ Any (λ ref. Contains group ref.now) refs) c.as_slice.ensures.value c.matches_one_of.ensures in (
       λ t. let w = shown-any (λ n. Contains group n) c.in_ok-found.found.items (found.0 t) in
-          record { name = w.0; member = w.2; chain = (c.in_ok-found.ensures.exact w.0).0 w.1 },
-      λ r. found.1 (any-shown (λ n. Contains group n) c.in_ok-found.found.items r.name ((c.in_ok-found.ensures.exact r.name).1 r.chain) r.member),
+          (w.0, w.2, (c.in_ok-found.ensures.exact w.0).0 w.1),
+      λ r. found.1 (any-shown (λ n. Contains group n) c.in_ok-found.found.items r.0 ((c.in_ok-found.ensures.exact r.0).1 r.2) r.1),
     )
