@@ -1,5 +1,6 @@
 -- Which members of a workspace are removed, and which paths have to be excluded.
-use Rattle.std.specs.Prelude.{◌||◌, Bool, false, if◌then◌else◌, List, [], ◌∷◌, codes, fold, map, Option, Some}
+use Rattle.std.specs.Prelude.{◌||◌, Bool, false, not, if◌then◌else◌, List, [], codes, filter, fold, map, Option, Some}
+use Rattle.std.specs.List.{list_any}
 use Rattle.std.specs.BTreeSet.{insert_key}
 use Rattle.std.specs.Cmp.Lexicographic.{slice_cmp}
 use Rattle.std.specs.Ordering.{nat_cmp}
@@ -21,24 +22,14 @@ led_manifest root m = normal_of (join_of (join_of root m) (codes "Cargo.toml"))
 unfoldable pub leads : Name → Name → Name → Bool
 leads root m path = bytes_eq (led_manifest root m) (normal_of path)
 
--- the text leads to some path
-abbrev pub is_led : Name → Name → List Name → Bool
-is_led root m [] = false
-is_led root m (p ∷ ps) = leads root m p || is_led root m ps
-
--- the paths to which the text doesn't lead
-abbrev pub paths_not_led_to : Name → Name → List Name → List Name
-paths_not_led_to root m [] = []
-paths_not_led_to root m (p ∷ ps) = if leads root m p then paths_not_led_to root m ps else p ∷ paths_not_led_to root m ps
-
 -- the item is a text that leads to some path
 abbrev pub item_led : Name → List Name → Data → Bool
-item_led root ps (string m) = is_led root m ps
+item_led root ps (string m) = list_any (leads root m) ps
 item_led root ps _ = false
 
 -- the paths to which the item doesn't lead
 abbrev pub unled_by : Name → List Name → Data → List Name
-unled_by root ps (string m) = paths_not_led_to root m ps
+unled_by root ps (string m) = filter (λ p. not (leads root m p)) ps
 unled_by root ps _ = ps
 
 -- the items that stay: for each path the first text that leads there is removed
@@ -66,6 +57,6 @@ items_of_array _ = no_items
 abbrev pub array_items_at : Name → Members → Items
 array_items_at k ms = items_of_array (get_member k ms)
 
--- the excluded_folders that have to be excluded
+-- the folders that have to be excluded
 abbrev pub excluded_folders : Name → List Name → Members → List Name
 excluded_folders root ps ws = map parent_of (paths_left root ps (array_items_at members_key ws))
