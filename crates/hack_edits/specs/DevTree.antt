@@ -46,7 +46,8 @@ targets_kept drops kept (member x d ms) = targets_kept drops (put_kept x (stripp
 
 -- with what stays of `target`, where there is one
 abbrev pub with_target : Bool → Option Data → Members → Members
-with_target drops o ms = option_map_or (λ d. put_kept target_key (in_table (targets_kept drops no_members) d) ms) o ms
+with_target drops o ms =
+    option_map_or (λ d. put_kept target_key (in_table (targets_kept drops no_members) d) ms) o ms
 
 -- a tree without empty tables at and under `target`, and with `drops` without dev-dependencies
 abbrev pub tidied_tree : Bool → Members → Members

@@ -1,8 +1,8 @@
 -- What the tables of a manifest's tree hold.
-use Rattle.std.specs.Prelude.{◌==◌, Bool, false, not, ◌&&◌, ◌||◌, length, codes, Option, Some, is_some, option_and_then}
+use Rattle.std.specs.Prelude.{◌==◌, Bool, false, not, ◌&&◌, ◌||◌, length, codes, Option, is_some, option_and_then}
 use Rattle.std.specs.Option.{option_map_or}
 use Rattle.std.specs.List.{before_first, position_or_len}
-use Rattle.toml.specs.Data.{Data, string, array, Items, no_items, item, Members, no_members, member, get_member, as_table}
+use Rattle.toml.specs.Data.{Data, Items, no_items, item, Members, no_members, member, get_member, as_str, as_array, as_table}
 use Rattle.hack_base.specs.Names.{Name}
 use Rattle.hack_manifest.specs.Manifest.{table_at, features_key}
 use Rattle.hack_edits.specs.KeyPaths.{dev_key, target_key}
@@ -23,7 +23,8 @@ lists section key ms = option_map_or (has_key key) (table_at section ms) false
 
 -- the table of that name, at the top or under some `target.X`, has the key
 abbrev pub depends : Name → Name → Members → Bool
-depends section key ms = lists section key ms || option_map_or (some_table (lists section key)) (table_at target_key ms) false
+depends section key ms =
+    lists section key ms || option_map_or (some_table (lists section key)) (table_at target_key ms) false
 
 -- some `target.X` has development dependencies
 abbrev pub has_target_dev : Members → Bool
@@ -39,8 +40,8 @@ has_dev ms = has_key dev_key ms || has_target_dev ms
 
 -- the name is that of a dependency for development alone
 abbrev pub is_dev_only : Name → Members → Bool
-is_dev_only name ms =
-    depends dev_key name ms && not (depends (codes "dependencies") name ms || depends (codes "build-dependencies") name ms)
+is_dev_only name ms = depends dev_key name ms
+    && not (depends (codes "dependencies") name ms || depends (codes "build-dependencies") name ms)
 
 -- a feature's text is removed: before its first `/` it names a dependency for development alone
 abbrev pub is_dropped_text : Members → Name → Bool
@@ -48,8 +49,7 @@ is_dropped_text ms text = not (position_or_len is_slash text == length text) && 
 
 -- an array's item is a text that is removed
 abbrev pub item_goes : Members → Data → Bool
-item_goes old (string s) = is_dropped_text old s
-item_goes old _ = false
+item_goes old d = option_map_or (is_dropped_text old) (as_str d) false
 
 -- some item of an array is a text that is removed
 abbrev pub some_goes : Members → Items → Bool
@@ -58,8 +58,7 @@ some_goes old (item d ds) = item_goes old d || some_goes old ds
 
 -- texts are removed from the array of that feature
 abbrev pub loses_texts_at : Members → Option Data → Bool
-loses_texts_at old (Some (array ds)) = some_goes old ds
-loses_texts_at old _ = false
+loses_texts_at old o = option_map_or (some_goes old) (option_and_then as_array o) false
 
 -- the value of a feature
 abbrev pub feature : Name → Members → Option Data

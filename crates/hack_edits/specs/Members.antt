@@ -1,11 +1,11 @@
 -- Which members of a workspace are removed, and which paths have to be excluded.
-use Rattle.std.specs.Prelude.{◌||◌, Bool, false, not, if◌then◌else◌, List, [], codes, filter, fold, map, Option, Some}
+use Rattle.std.specs.Prelude.{◌||◌, Bool, false, not, if◌then◌else◌, List, [], codes, filter, fold, map, option_and_then, unwrap_or}
 use Rattle.std.specs.List.{list_any}
 use Rattle.std.specs.BTreeSet.{insert_key}
 use Rattle.std.specs.Cmp.Lexicographic.{slice_cmp}
 use Rattle.std.specs.Ordering.{nat_cmp}
 use Rattle.std.specs.Str.{bytes_eq}
-use Rattle.toml.specs.Data.{Data, string, array, Items, no_items, item, Members, get_member}
+use Rattle.toml.specs.Data.{Data, string, Items, no_items, item, Members, get_member, as_array}
 use Rattle.hack_base.specs.Names.{Name}
 use Rattle.hack_base.specs.PathTexts.{join_of, parent_of, normal_of}
 use Rattle.hack_edits.specs.KeyPaths.{members_key}
@@ -48,14 +48,9 @@ abbrev pub paths_left : Name → List Name → Items → List Name
 paths_left root ps no_items = ps
 paths_left root ps (item d ds) = paths_left root (unled_by root ps d) ds
 
--- the items of the array at a key, none where there is no array
-abbrev pub items_of_array : Option Data → Items
-items_of_array (Some (array ds)) = ds
-items_of_array _ = no_items
-
--- the items of the array at a key of a workspace
+-- the items of the array at a key of a workspace, none where there is no array
 abbrev pub array_items_at : Name → Members → Items
-array_items_at k ms = items_of_array (get_member k ms)
+array_items_at k ms = unwrap_or (option_and_then as_array (get_member k ms)) no_items
 
 -- the folders that have to be excluded
 abbrev pub excluded_folders : Name → List Name → Members → List Name

@@ -1,12 +1,14 @@
 //! The tree of a manifest whose workspace is without private crates, and whether a text is read as
 //! that.
 
-ghost use Rattle.std.specs.Prelude.{◌≡◌, map, IfOk, OnOk, option_map};
+ghost use Rattle.std.specs.Prelude.{◌≡◌, map, IfOk, OnOk, option_and_then, option_map};
+ghost use Rattle.std.specs.Prelude.{unwrap_or};
+ghost use Rattle.toml.specs.Data.{as_array, no_items};
 ghost use Rattle.toml.specs.Parse.{parse_document};
 ghost use Rattle.toml.specs.View.{view, table_view, array_view};
 ghost use Rattle.hack_base.specs.PathTexts.{parent_of};
 ghost use Rattle.hack_base.specs.Names.{names_behind};
-ghost use Rattle.hack_edits.specs.Members.{members_left, items_of_array};
+ghost use Rattle.hack_edits.specs.Members.{members_left};
 ghost use Rattle.hack_edits.specs.KeyPaths.{workspace_key, members_key};
 ghost use Rattle.hack_edits.specs.Tables.{with_value, with_changed, in_table, in_array};
 ghost use Rattle.hack_edits.specs.WorkspaceTree.{with_texts, with_exclude, workspace_left};
@@ -193,7 +195,8 @@ fn put_exclude(alloc: Global, paths: &[&str], workspace: Table) -> Result<Table,
 
 /// The items of a value that is an array, else none.
 fn into_items(alloc: Global, value: Option<Value>) -> Array
-    ensures { array_view result ≡ items_of_array (option_map view value) }
+    ensures { array_view result
+        ≡ unwrap_or (option_and_then as_array (option_map view value)) no_items }
 {
     match value {
         Some(found) => match found {
