@@ -5,16 +5,17 @@ use Rattle.std.proofs.lemmas.Map.Text.{is_eq-slice_cmp}
 use Rattle.std.proofs.lemmas.Slice.Eq.{bytes_eq-Decides}
 use Rattle.std.specs.Cmp.Lexicographic.{slice_cmp}
 use Rattle.std.specs.Ordering.{match_ordering}
-use Rattle.std.specs.Prelude.{◌==◌, length, option_and_then}
+use Rattle.std.specs.Prelude.{◌==◌, codes, length, option_and_then}
+use Rattle.std.specs.Option.{option_map_or}
 use Rattle.std.specs.List.{before_first, position_or_len}
 use Rattle.toml.specs.Data.{Data, string, integer, float, boolean, datetime, array, table, Items, no_items, item, Members, no_members, member, get_member, as_table, same_key}
 use Rattle.hack_base.specs.Names.{Name}
 use Rattle.hack_manifest.specs.Manifest.{table_at, features_key}
 use Rattle.hack_edits.specs.KeyPaths.{dev_key, target_key}
-use Rattle.hack_edits.specs.Lookup.{normal_key, build_key, has_key, passes, some_table, lists, depends, is_dev_only, item_goes}
+use Rattle.hack_edits.specs.Lookup.{has_key, some_table, lists, depends, is_dev_only, item_goes}
 use Rattle.hack_base.specs.PathTexts.{is_slash}
-use Rattle.hack_edits.specs.DevTree.{items_left, array_left, arrays_left, features_left, with_features}
-use Rattle.hack_edits.specs.Tables.{remove_member, with_member}
+use Rattle.hack_edits.specs.DevTree.{items_left, arrays_left}
+use Rattle.hack_edits.specs.Tables.{remove_member, with_member, with_value, in_table, in_array}
 
 -- a key that differs from another one, which is passed over
 passed : {X : Type 0} (o : Ordering) (x y : X) → is_eq o ≡ false → x ≡ match_ordering o x y x
@@ -41,14 +42,14 @@ table-aside j k other ms = ap (λ o. option_and_then as_table o) (get-aside j k 
 
 depends-aside : (j section key : Name) → same_key section j ≡ false → same_key target_key j ≡ false → (ms : Members) → depends section key (remove_member j ms) ≡ depends section key ms
 depends-aside j section key other apart_too ms =
-    ap (λ o. passes (has_key key) o || passes (some_table (lists section key)) (table_at target_key (remove_member j ms))) (table-aside j section other ms)
-    ∙ ap (λ o. lists section key ms || passes (some_table (lists section key)) o) (table-aside j target_key apart_too ms)
+    ap (λ o. option_map_or (has_key key) o false || option_map_or (some_table (lists section key)) (table_at target_key (remove_member j ms)) false) (table-aside j section other ms)
+    ∙ ap (λ o. lists section key ms || option_map_or (some_table (lists section key)) o false) (table-aside j target_key apart_too ms)
 
 dev_only-aside : (name : Name) (ms : Members) → is_dev_only name (remove_member features_key ms) ≡ is_dev_only name ms
 dev_only-aside name ms =
-    ap (λ b. b && not (depends normal_key name (remove_member features_key ms) || depends build_key name (remove_member features_key ms))) (depends-aside features_key dev_key name refl refl ms)
-    ∙ ap (λ b. depends dev_key name ms && not (b || depends build_key name (remove_member features_key ms))) (depends-aside features_key normal_key name refl refl ms)
-    ∙ ap (λ b. depends dev_key name ms && not (depends normal_key name ms || b)) (depends-aside features_key build_key name refl refl ms)
+    ap (λ b. b && not (depends (codes "dependencies") name (remove_member features_key ms) || depends (codes "build-dependencies") name (remove_member features_key ms))) (depends-aside features_key dev_key name refl refl ms)
+    ∙ ap (λ b. depends dev_key name ms && not (b || depends (codes "build-dependencies") name (remove_member features_key ms))) (depends-aside features_key (codes "dependencies") name refl refl ms)
+    ∙ ap (λ b. depends dev_key name ms && not (depends (codes "dependencies") name ms || b)) (depends-aside features_key (codes "build-dependencies") name refl refl ms)
 
 goes-aside : (ms : Members) (d : Data) → item_goes (remove_member features_key ms) d ≡ item_goes ms d
 goes-aside ms (string s) = ap (λ b. not (position_or_len is_slash s == length s) && b) (dev_only-aside (before_first is_slash s) ms)
@@ -63,7 +64,7 @@ items-aside : (old : Members) (ds : Items) → items_left (remove_member feature
 items-aside old no_items = refl
 items-aside old (item d ds) = rw (goes-aside old d, items-aside old ds) refl
 
-array-aside : (old : Members) (d : Data) → array_left (remove_member features_key old) d ≡ array_left old d
+array-aside : (old : Members) (d : Data) → in_array (items_left (remove_member features_key old)) d ≡ in_array (items_left old) d
 array-aside old (array ds) = ap array (items-aside old ds)
 array-aside old (string s) = refl
 array-aside old (integer z) = refl
@@ -75,9 +76,9 @@ array-aside old (table ts) = refl
 arrays-aside : (old kept ms : Members) → arrays_left (remove_member features_key old) kept ms ≡ arrays_left old kept ms
 arrays-aside old kept no_members = refl
 arrays-aside old kept (member x d ms) =
-    ap (λ a. arrays_left (remove_member features_key old) (with_member x a kept) ms) (array-aside old d) ∙ arrays-aside old (with_member x (array_left old d) kept) ms
+    ap (λ a. arrays_left (remove_member features_key old) (with_member x a kept) ms) (array-aside old d) ∙ arrays-aside old (with_member x (in_array (items_left old) d) kept) ms
 
-features-aside : (old : Members) (d : Data) → features_left (remove_member features_key old) d ≡ features_left old d
+features-aside : (old : Members) (d : Data) → in_table (arrays_left (remove_member features_key old) no_members) d ≡ in_table (arrays_left old no_members) d
 features-aside old (table ms) = ap table (arrays-aside old no_members ms)
 features-aside old (string s) = refl
 features-aside old (integer z) = refl
@@ -87,6 +88,7 @@ features-aside old (datetime t) = refl
 features-aside old (array ds) = refl
 
 -- what stays of the features, by the tree without them
-pub with_features-aside : (old : Members) (o : Option Data) (ms : Members) → with_features (remove_member features_key old) o ms ≡ with_features old o ms
+pub with_features-aside : (old : Members) (o : Option Data) (ms : Members)
+    → with_value features_key (in_table (arrays_left (remove_member features_key old) no_members)) o ms ≡ with_value features_key (in_table (arrays_left old no_members)) o ms
 with_features-aside old None ms = refl
 with_features-aside old (Some d) ms = ap (λ f. with_member features_key f ms) (features-aside old d)

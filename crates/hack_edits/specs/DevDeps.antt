@@ -15,13 +15,9 @@ use Rattle.hack_edits.specs.Lookup.{has_dev, has_target_dev, has_dev_under, feat
 
 -- ---- the pieces
 
--- the piece is one of development dependencies
-abbrev pub is_dev_piece : View → Bool
-is_dev_piece p = is_dev p.path
-
--- some piece is
+-- some piece is one of development dependencies
 abbrev pub some_dev : List View → Bool
-some_dev ps = list_any is_dev_piece ps
+some_dev ps = list_any (λ p. is_dev p.path) ps
 
 -- the path is that of a feature from whose array texts are removed
 abbrev pub loses_texts : Members → List Name → Bool
@@ -48,10 +44,6 @@ some_inline old ps = list_any (holds_inline old) ps
 abbrev pub IsLeft : Members → View → List ℕ → Type 0
 IsLeft old p part = MatchBool (is_dev p.path) (part ≡ []) (MatchBool (loses_texts old p.path) (IsCutInside p.text part) (part ≡ p.text))
 
--- what is left of the pieces, in order, and the tail
-abbrev pub AreLeft : Members → List View → List ℕ → List ℕ → Type 0
-AreLeft old ps tail new = AreParts (IsLeft old) ps tail new
-
 -- the pieces that stay, whole and in order, and the tail
 abbrev pub kept_text : List View → List ℕ → List ℕ
 kept_text [] tail = tail
@@ -73,7 +65,7 @@ pub record HasNoDevPiece (text : List ℕ) : Type 0 where
 -- What is left of the pieces, which `toml` reads as what stays of the tree, and which has no piece
 -- of development dependencies.
 pub record IsEdit (old : Members) (ps : List View) (tail new : List ℕ) : Type 0 where
-  pub left : AreLeft old ps tail new
+  pub left : AreParts (IsLeft old) ps tail new
   pub tree : reads_as_left old (parse_document new) ≡ true
   pub done : HasNoDevPiece new
 

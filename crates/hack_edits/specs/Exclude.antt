@@ -1,6 +1,6 @@
 -- The folders that are added to `workspace.exclude`.
-use Rattle.std.specs.Prelude.{◌≡◌, ◌==◌, ℕ, ◌-◌, ◌≤◌, ◌<◌, ◌&&◌, ◌||◌, Bool, true, false, not, Option, Some, if◌then◌else◌, List, [], ◌∷◌, ◌++◌, length, take, drop, slice_index, codes}
-use Rattle.toml.specs.Data.{Members}
+use Rattle.std.specs.Prelude.{◌≡◌, ◌==◌, ℕ, ◌-◌, ◌≤◌, ◌<◌, ◌&&◌, ◌||◌, Bool, true, false, not, if◌then◌else◌, List, [], ◌∷◌, ◌++◌, length, take, drop, slice_index, codes}
+use Rattle.std.specs.Option.{option_map_or}
 use Rattle.toml.specs.Parse.{parse_document}
 use Rattle.hack_base.specs.Names.{Name}
 use Rattle.hack_edits.specs.Arrays.{IsArray}
@@ -41,14 +41,10 @@ is_quote b = b == 34 || b == 39
 abbrev pub ends_in_quote : List ℕ → Bool
 ends_in_quote text = not (length text == 0) && is_quote (slice_index text (length text - 1))
 
--- there are both trees, and they are the same
-abbrev pub are_alike : Option Members → Option Members → Bool
-are_alike (Some a) (Some b) = same_members a b
-are_alike _ _ = false
-
 -- two texts are read as the same tree
 abbrev pub reads_alike : List ℕ → List ℕ → Bool
-reads_alike a b = are_alike (parse_document a) (parse_document b)
+reads_alike a b =
+    option_map_or (λ old. option_map_or (same_members old) (parse_document b) false) (parse_document a) false
 
 -- The last value of the array that closes with the first m bytes ends with the first k: these end
 -- in the quote of a text, and with a bracket after them they are read as the whole array. (In a

@@ -1,10 +1,11 @@
 -- Which members of a workspace are removed, and which paths have to be excluded.
-use Rattle.std.specs.Prelude.{◌||◌, Bool, false, if◌then◌else◌, List, [], ◌∷◌, codes, fold, map, Option, Some}
+use Rattle.std.specs.Prelude.{◌||◌, Bool, false, not, if◌then◌else◌, List, [], codes, filter, fold, map, option_and_then, unwrap_or}
+use Rattle.std.specs.List.{list_any}
 use Rattle.std.specs.BTreeSet.{insert_key}
 use Rattle.std.specs.Cmp.Lexicographic.{slice_cmp}
 use Rattle.std.specs.Ordering.{nat_cmp}
 use Rattle.std.specs.Str.{bytes_eq}
-use Rattle.toml.specs.Data.{Data, string, array, Items, no_items, item, Members, get_member}
+use Rattle.toml.specs.Data.{Data, string, Items, no_items, item, Members, get_member, as_array}
 use Rattle.hack_base.specs.Names.{Name}
 use Rattle.hack_base.specs.PathTexts.{join_of, parent_of, normal_of}
 use Rattle.hack_edits.specs.KeyPaths.{members_key}
@@ -21,24 +22,14 @@ led_manifest root m = normal_of (join_of (join_of root m) (codes "Cargo.toml"))
 unfoldable pub leads : Name → Name → Name → Bool
 leads root m path = bytes_eq (led_manifest root m) (normal_of path)
 
--- the text leads to some path
-abbrev pub is_led : Name → Name → List Name → Bool
-is_led root m [] = false
-is_led root m (p ∷ ps) = leads root m p || is_led root m ps
-
--- the paths to which the text doesn't lead
-abbrev pub paths_not_led_to : Name → Name → List Name → List Name
-paths_not_led_to root m [] = []
-paths_not_led_to root m (p ∷ ps) = if leads root m p then paths_not_led_to root m ps else p ∷ paths_not_led_to root m ps
-
 -- the item is a text that leads to some path
 abbrev pub item_led : Name → List Name → Data → Bool
-item_led root ps (string m) = is_led root m ps
+item_led root ps (string m) = list_any (leads root m) ps
 item_led root ps _ = false
 
 -- the paths to which the item doesn't lead
 abbrev pub unled_by : Name → List Name → Data → List Name
-unled_by root ps (string m) = paths_not_led_to root m ps
+unled_by root ps (string m) = filter (λ p. not (leads root m p)) ps
 unled_by root ps _ = ps
 
 -- the items that stay: for each path the first text that leads there is removed
@@ -57,15 +48,10 @@ abbrev pub paths_left : Name → List Name → Items → List Name
 paths_left root ps no_items = ps
 paths_left root ps (item d ds) = paths_left root (unled_by root ps d) ds
 
--- the items of the array at a key, none where there is no array
-abbrev pub items_of_array : Option Data → Items
-items_of_array (Some (array ds)) = ds
-items_of_array _ = no_items
-
--- the items of the array at a key of a workspace
+-- the items of the array at a key of a workspace, none where there is no array
 abbrev pub array_items_at : Name → Members → Items
-array_items_at k ms = items_of_array (get_member k ms)
+array_items_at k ms = unwrap_or (option_and_then as_array (get_member k ms)) no_items
 
--- the excluded_folders that have to be excluded
+-- the folders that have to be excluded
 abbrev pub excluded_folders : Name → List Name → Members → List Name
 excluded_folders root ps ws = map parent_of (paths_left root ps (array_items_at members_key ws))

@@ -1,5 +1,5 @@
 -- A manifest without private crates.
-use Rattle.std.specs.Prelude.{◌≡◌, ◌==◌, ℕ, ◌&&◌, ◌||◌, Bool, true, false, not, nat_lt, MatchBool, List, Option, Some, None, is_some}
+use Rattle.std.specs.Prelude.{◌≡◌, ◌==◌, ℕ, ◌&&◌, ◌||◌, Bool, true, false, not, nat_lt, MatchBool, MatchOption, List, Option, Some, None, is_some}
 use Rattle.std.specs.List.{list_any}
 use Rattle.toml.specs.Data.{Data, array, Members, get_member}
 use Rattle.toml.specs.Parse.{parse_document}
@@ -23,29 +23,21 @@ IsMade takes ts ws p part =
     (MatchBool (is_pair workspace_key exclude_key p.path && adds ts) (IsAddedInside (has_items (array_items_at exclude_key ws)) ts p.text part)
     (MatchBool ((is_header_of workspace_key p && not (is_some (get_member exclude_key ws))) && adds ts) (part ≡ with_line ts p.text) (part ≡ p.text)))
 
--- what is made of the pieces, in order, and the tail
-abbrev pub AreMade : Bool → List Name → Members → List View → List ℕ → List ℕ → Type 0
-AreMade takes ts ws pieces tail new = AreParts (IsMade takes ts ws) pieces tail new
-
 -- What is made of the pieces, which `toml` reads as the tree with the workspace that is expected.
 pub record IsWorkspaceEdit (root : Name) (ps : List Name) (text : List ℕ) (old ws : Members) (new : List ℕ) : Type 0 where
   pub pieces : List View
   pub tail : List ℕ
   pub cut : AreCut text pieces tail
-  pub made : AreMade (takes root ps ws) (excluded_folders root ps ws) ws pieces tail new
+  pub made : AreParts (IsMade (takes root ps ws) (excluded_folders root ps ws) ws) pieces tail new
   pub tree : reads_without root ps old (parse_document new) ≡ true
-
--- what is made of a text, by its workspace
-abbrev pub IsMadeOf : Name → List Name → List ℕ → Members → Option Members → List ℕ → Type 0
-IsMadeOf root ps text old None new = new ≡ text
-IsMadeOf root ps text old (Some ws) new = MatchBool (has_work root ps ws) (IsWorkspaceEdit root ps text old ws new) (new ≡ text)
 
 -- What removing private crates gives: the text where there is no workspace, or nothing to take out
 -- or add, else an edit of it.
 pub record IsWithoutPrivate (root : Name) (ps : List Name) (text new : List ℕ) : Type 0 where
   pub old : Members
   pub read : parse_document text ≡ Some old
-  pub edit : IsMadeOf root ps text old (table_at workspace_key old) new
+  pub edit : MatchOption (table_at workspace_key old) (new ≡ text)
+      (λ ws. MatchBool (has_work root ps ws) (IsWorkspaceEdit root ps text old ws new) (new ≡ text))
 
 -- ---- the refusals
 
@@ -70,16 +62,16 @@ abbrev pub is_array_data : Data → Bool
 is_array_data (array ds) = true
 is_array_data d = false
 
--- excluded_folders can't be excluded: `exclude` isn't an array, or there is none and no header `[workspace]`
+-- folders can't be excluded: `exclude` isn't an array, or there is none and no header `[workspace]`
 abbrev pub no_place : Option Data → List View → Bool
 no_place (Some d) pieces = not (is_array_data d)
 no_place None pieces = not (some_header pieces)
 
--- there is no place for excluded_folders to exclude in this workspace
+-- there is no place for folders to exclude in this workspace
 abbrev pub has_no_place : Members → List View → Bool
 has_no_place ws pieces = no_place (get_member exclude_key ws) pieces
 
--- a form that isn't supported: an inline workspace, or no place for excluded_folders to exclude
+-- a form that isn't supported: an inline workspace, or no place for folders to exclude
 abbrev pub is_bad_form : Name → List Name → Members → List View → Bool
 is_bad_form root ps ws pieces = is_inline workspace_key pieces || (adds (excluded_folders root ps ws) && has_no_place ws pieces)
 

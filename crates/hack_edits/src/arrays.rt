@@ -4,7 +4,7 @@
 ghost use Rattle.std.specs.Prelude.{true, false, ◌≡◌, ◌≤◌, ◌<◌, length};
 ghost use Rattle.std.specs.Prelude.{IfOk, IfSome, string_bytes};
 ghost use Rattle.hack_manifest.specs.PieceFronts.{IsFrontTo, IsFirstFrontTo};
-ghost use Rattle.hack_edits.specs.Arrays.{IsThinned, IsCutInside};
+ghost use Rattle.hack_edits.specs.Arrays.{IsArray, IsThinned, IsCutInside};
 
 use hack_manifest::runs::stands_alone;
 use std::alloc::{AllocError, Global};
@@ -19,15 +19,9 @@ pub fn without_elements(
 ) -> Result<Option<String>, AllocError>
     ensures { IfOk result (λ o. IfSome o (λ s. IsCutInside piece.now (string_bytes s))) }
 {
-    let Some(n) = first_front(alloc, piece, b'[', "]")? else {
+    let Some((n, m)) = brackets(alloc, piece)? else {
         return Ok(None);
     };
-    let Some(m) = first_front(alloc, piece, b']', "")? else {
-        return Ok(None);
-    };
-    if m <= n {
-        return Ok(None);
-    }
     let bytes = piece.as_bytes();
     let inside = &bytes[n..m - 1];
     let gone = gone_bytes(alloc, inside, goes)?;
@@ -42,9 +36,22 @@ pub fn without_elements(
     }
 }
 
+/// Where the array of a piece begins, behind its bracket, and where it ends, behind the other one.
+pub fn brackets(alloc: Global, piece: &str) -> Result<Option<(usize, usize)>, AllocError>
+    ensures { IfOk result (λ o. IfSome o (λ at. IsArray piece.now at.0 at.1)) }
+{
+    let Some(n) = first_front(alloc, piece, b'[', "]")? else {
+        return Ok(None);
+    };
+    let Some(m) = first_front(alloc, piece, b']', "")? else {
+        return Ok(None);
+    };
+    if n < m { Ok(Some((n, m))) } else { Ok(None) }
+}
+
 /// Returns the length of the shortest prefix that ends in the byte, and parses alone when followed
 /// by `more`.
-pub fn first_front(
+fn first_front(
     alloc: Global,
     piece: &str,
     byte: u8,

@@ -8,8 +8,9 @@ ghost use Rattle.hack_base.specs.Names.{names_of};
 ghost use Rattle.hack_manifest.specs.Paths.{AreCut};
 ghost use Rattle.hack_manifest.specs.PieceView.{piece_view, slice_view, pieces_view};
 ghost use Rattle.hack_edits.specs.Arrays.{IsCutInside};
+ghost use Rattle.hack_edits.specs.Parts.{AreParts};
 ghost use Rattle.hack_edits.specs.DevDeps.{some_dev, loses_texts, cuts_arrays, is_cut, some_inline};
-ghost use Rattle.hack_edits.specs.DevDeps.{holds_inline, AreLeft, kept_text};
+ghost use Rattle.hack_edits.specs.DevDeps.{holds_inline, IsLeft, kept_text};
 ghost use Rattle.hack_edits.specs.DevDeps.{has_dev_work, HasNoDevPiece, IsEdit, IsWithoutDev};
 ghost use Rattle.hack_edits.specs.DevDeps.{HasNoDev, HasInlineTarget, IsMisread};
 ghost use Rattle.hack_edits.specs.DevTree.{reads_as_left};
@@ -132,7 +133,7 @@ fn join_pieces(
     tail: &str,
 ) -> Result<Option<Left>, AllocError>
     ensures left { IfOk result (λ o. IfSome o (λ j.
-        AreLeft (table_view old.now) (slice_view pieces.now) tail.now (string_bytes j.text))) }
+        AreParts (IsLeft (table_view old.now)) (slice_view pieces.now) tail.now (string_bytes j.text))) }
     ensures known { IfOk result (λ o. IfSome o (λ j. j.known ≡ true
         → AreRecut (slice_view pieces.now) tail.now (string_bytes j.text))) }
     ensures unknown { IfOk result (λ o. IfSome o (λ j. j.known ≡ false

@@ -5,12 +5,12 @@ ghost use Rattle.std.specs.Prelude.{◌≡◌, Some, if◌then◌else◌, IfOk, 
 ghost use Rattle.toml.specs.Data.{no_members};
 ghost use Rattle.toml.specs.Parse.{parse_document};
 ghost use Rattle.toml.specs.View.{view, table_view, array_view};
-ghost use Rattle.hack_edits.specs.DevTree.{items_left, array_left, arrays_left, features_left};
-ghost use Rattle.hack_edits.specs.DevTree.{with_features, without_texts, is_empty_table, put_kept};
-ghost use Rattle.hack_edits.specs.DevTree.{stripped_target, targets_kept, target_kept, with_target};
+ghost use Rattle.hack_manifest.specs.Manifest.{features_key};
+ghost use Rattle.hack_edits.specs.DevTree.{items_left, arrays_left, without_texts, is_empty_table};
+ghost use Rattle.hack_edits.specs.DevTree.{put_kept, stripped_target, targets_kept, with_target};
 ghost use Rattle.hack_edits.specs.DevTree.{tidied_tree, reads_as_left};
 ghost use Rattle.hack_edits.specs.KeyPaths.{dev_key};
-ghost use Rattle.hack_edits.specs.Tables.{remove_member};
+ghost use Rattle.hack_edits.specs.Tables.{remove_member, with_value, in_table, in_array};
 
 use crate::lookup::{DEV, FEATURES, TARGET, holds_dev, value_goes};
 use crate::same::same_table;
@@ -55,8 +55,9 @@ fn drop_texts(alloc: Global, old: Table) -> Result<Table, AllocError>
 
 /// Puts back what stays of the features.
 fn put_features(alloc: Global, top: &mut Table, features: Option<Value>) -> Result<(), AllocError>
-    ensures { OnOk result (table_view top.new ≡ with_features (table_view top.old)
-        (option_map view features) (table_view top.old)) }
+    ensures { OnOk result (table_view top.new ≡ with_value features_key
+        (in_table (arrays_left (table_view top.old) no_members)) (option_map view features)
+        (table_view top.old)) }
 {
     match features {
         Some(value) => {
@@ -69,7 +70,8 @@ fn put_features(alloc: Global, top: &mut Table, features: Option<Value>) -> Resu
 }
 
 fn strip_features(alloc: Global, old: &Table, features: Value) -> Result<Value, AllocError>
-    ensures { IfOk result (λ v. view v ≡ features_left (table_view old.now) (view features)) }
+    ensures { IfOk result (λ v. view v
+        ≡ in_table (arrays_left (table_view old.now) no_members) (view features)) }
 {
     match features {
         Value::Table(table) => {
@@ -94,7 +96,8 @@ fn strip_arrays(alloc: Global, old: &Table, features: Table) -> Result<Table, Al
 }
 
 fn strip_array(alloc: Global, old: &Table, value: Value) -> Result<Value, AllocError>
-    ensures { IfOk result (λ v. view v ≡ array_left (table_view old.now) (view value)) }
+    ensures { IfOk result (λ v. view v
+        ≡ in_array (items_left (table_view old.now)) (view value)) }
 {
     match value {
         Value::Array(items) => {
@@ -158,7 +161,8 @@ fn put_target(
 }
 
 fn strip_target(alloc: Global, target: Value, drops: bool) -> Result<Value, AllocError>
-    ensures { IfOk result (λ v. view v ≡ target_kept drops (view target)) }
+    ensures { IfOk result (λ v. view v
+        ≡ in_table (targets_kept drops no_members) (view target)) }
 {
     match target {
         Value::Table(targets) => {

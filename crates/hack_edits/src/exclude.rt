@@ -9,7 +9,7 @@ ghost use Rattle.hack_edits.specs.Exclude.{escaped_text, quoted_text, each_behin
 ghost use Rattle.hack_edits.specs.Exclude.{with_line, ends_in_feed, IsAddedInside, adds};
 ghost use Rattle.hack_edits.specs.Exclude.{EndsLast, ends_in_quote, is_quote, reads_alike};
 
-use crate::arrays::{comma_behind, first_front, text_len};
+use crate::arrays::{brackets, comma_behind, text_len};
 use crate::same::same_table;
 use crate::tables::tree_of;
 use hack_base::paths::parent;
@@ -25,15 +25,9 @@ pub fn added_inside(
     ensures { IfOk result (λ o. IfSome o (λ v.
         IsAddedInside filled (map parent_of (names_behind paths.now)) piece.now v.items)) }
 {
-    let Some(n) = first_front(alloc, piece, b'[', "]")? else {
+    let Some((n, m)) = brackets(alloc, piece)? else {
         return Ok(None);
     };
-    let Some(m) = first_front(alloc, piece, b']', "")? else {
-        return Ok(None);
-    };
-    if m <= n {
-        return Ok(None);
-    }
     let bytes = piece.as_bytes();
     let mut new = Vec::new(alloc);
     if !filled {

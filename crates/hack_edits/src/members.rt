@@ -1,7 +1,8 @@
 //! Which members of a workspace are private crates, and which private crates no member's text leads
 //! to.
 
-ghost use Rattle.std.specs.Prelude.{◌≡◌, false, IfOk, OnOk, string_bytes};
+ghost use Rattle.std.specs.Prelude.{◌≡◌, false, not, filter, IfOk, OnOk, string_bytes};
+ghost use Rattle.std.specs.List.{list_any};
 ghost use Rattle.hack_base.specs.Names.{Name};
 ghost use Rattle.std.specs.BTreeSet.{insert_key};
 ghost use Rattle.std.specs.Cmp.Lexicographic.{slice_cmp};
@@ -9,7 +10,7 @@ ghost use Rattle.std.specs.Ordering.{nat_cmp};
 ghost use Rattle.toml.specs.View.{view, table_view, array_view};
 ghost use Rattle.hack_base.specs.Names.{names_behind};
 ghost use Rattle.hack_edits.specs.KeyPaths.{members_key};
-ghost use Rattle.hack_edits.specs.Members.{in_order, leads, led_manifest, is_led, paths_not_led_to};
+ghost use Rattle.hack_edits.specs.Members.{in_order, leads, led_manifest};
 ghost use Rattle.hack_edits.specs.Members.{item_led};
 ghost use Rattle.hack_edits.specs.Members.{unled_by, some_led, paths_left, array_items_at};
 
@@ -55,6 +56,15 @@ fn put_sorted<'a>(set: &mut BTreeSet<&'a str>, path: &'a str) -> Result<(), Allo
     Ok(())
 }
 
+/// The private crates of a workspace.
+#[derive(Drop)]
+pub struct Private<'a> {
+    /// The folder of the workspace.
+    pub root: &'a str,
+    /// The paths of their manifests.
+    pub paths: &'a [&'a str],
+}
+
 /// Which members are removed, and which paths have to be excluded.
 #[derive(Drop)]
 pub struct Choice<'a> {
@@ -69,46 +79,40 @@ pub struct Choice<'a> {
 /// Returns which members of a workspace are removed, and which paths have to be excluded.
 pub fn chosen<'a>(
     alloc: Global,
-    root: &str,
-    paths: &[&'a str],
+    private: &Private<'a>,
     workspace: &Table,
 ) -> Result<Choice<'a>, AllocError>
     ensures some { IfOk result (λ c. c.some
-        ≡ some_led root.now (names_behind paths.now)
+        ≡ some_led private.now.root.now (names_behind private.now.paths.now)
         (array_items_at members_key (table_view workspace.now))) }
     ensures paths { IfOk result (λ c. names_behind c.paths.items
-        ≡ paths_left root.now (names_behind paths.now)
+        ≡ paths_left private.now.root.now (names_behind private.now.paths.now)
         (array_items_at members_key (table_view workspace.now))) }
 {
     match value_at(workspace, MEMBERS) {
         Some(value) => match value {
-            Value::Array(items) => choose(alloc, root, paths, items),
-            _ => no_choice(alloc, paths),
+            Value::Array(items) => choose(alloc, private, items),
+            _ => no_choice(alloc, private.paths),
         },
-        None => no_choice(alloc, paths),
+        None => no_choice(alloc, private.paths),
     }
 }
 
 /// Returns the same for the items of the members.
-fn choose<'a>(
-    alloc: Global,
-    root: &str,
-    paths: &[&'a str],
-    items: &Array,
-) -> Result<Choice<'a>, AllocError>
-    ensures some { IfOk result (λ c. c.some
-        ≡ some_led root.now (names_behind paths.now) (array_view items.now)) }
-    ensures paths { IfOk result (λ c. names_behind c.paths.items
-        ≡ paths_left root.now (names_behind paths.now) (array_view items.now)) }
+fn choose<'a>(alloc: Global, private: &Private<'a>, items: &Array) -> Result<Choice<'a>, AllocError>
+    ensures some { IfOk result (λ c. c.some ≡ some_led private.now.root.now
+        (names_behind private.now.paths.now) (array_view items.now)) }
+    ensures paths { IfOk result (λ c. names_behind c.paths.items ≡ paths_left private.now.root.now
+        (names_behind private.now.paths.now) (array_view items.now)) }
 {
     let mut goes = Vec::new(alloc);
     let mut some = false;
-    let mut left = Vec::from_slice(alloc, paths)?;
+    let mut left = Vec::from_slice(alloc, private.paths)?;
     'items: for item in items {
-        let led = value_led(alloc, root, item, left.as_slice())?;
+        let led = value_led(alloc, private.root, item, left.as_slice())?;
         goes.push(led)?;
         some |= led;
-        left = value_unled(alloc, root, item, left.as_slice())?;
+        left = value_unled(alloc, private.root, item, left.as_slice())?;
     }
     Ok(Choice {
         goes,
@@ -163,7 +167,7 @@ pub fn value_unled<'a>(
 
 /// Whether a member's text leads to some path.
 fn leads_to_any(alloc: Global, root: &str, member: &str, paths: &[&str]) -> Result<bool, AllocError>
-    ensures { IfOk result (λ b. b ≡ is_led root.now member.now (names_behind paths.now)) }
+    ensures { IfOk result (λ b. b ≡ list_any (leads root.now member.now) (names_behind paths.now)) }
 {
     if paths.is_empty() {
         return Ok(false);
@@ -184,8 +188,8 @@ fn not_led<'a>(
     member: &str,
     paths: &[&'a str],
 ) -> Result<Vec<&'a str>, AllocError>
-    ensures { IfOk result (λ left. names_behind left.items ≡ paths_not_led_to root.now member.now
-        (names_behind paths.now)) }
+    ensures { IfOk result (λ left. names_behind left.items
+        ≡ filter (λ path. not (leads root.now member.now path)) (names_behind paths.now)) }
 {
     let mut left = Vec::new(alloc);
     if paths.is_empty() {

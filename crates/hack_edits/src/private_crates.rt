@@ -11,7 +11,8 @@ ghost use Rattle.hack_manifest.specs.Manifest.{table_at};
 ghost use Rattle.hack_manifest.specs.PieceView.{piece_view, slice_view};
 ghost use Rattle.hack_edits.specs.KeyPaths.{workspace_key, exclude_key};
 ghost use Rattle.hack_edits.specs.Members.{in_order, array_items_at, excluded_folders};
-ghost use Rattle.hack_edits.specs.PrivateCrates.{IsMade, AreMade, IsWorkspaceEdit};
+ghost use Rattle.hack_edits.specs.Parts.{AreParts};
+ghost use Rattle.hack_edits.specs.PrivateCrates.{IsMade, IsWorkspaceEdit};
 ghost use Rattle.hack_edits.specs.PrivateCrates.{IsWithoutPrivate};
 ghost use Rattle.hack_edits.specs.PrivateCrates.{some_control, some_path_control, some_header};
 ghost use Rattle.hack_edits.specs.PrivateCrates.{is_array_data, has_no_place};
@@ -22,7 +23,7 @@ use crate::arrays::without_elements;
 use crate::exclude::{added_inside, has_paths, with_exclude_line};
 use crate::fault::ManifestFault;
 use crate::key_paths::{is_header_of, is_pair};
-use crate::members::{Choice, MEMBERS, chosen, in_order};
+use crate::members::{Choice, MEMBERS, Private, chosen, in_order};
 use crate::tables::{copy_of, tree_of};
 use crate::workspace_tree::{EXCLUDE, WORKSPACE, reads_as_expected};
 use hack_manifest::lookup::{find_table, has_values, value_at};
@@ -55,28 +56,32 @@ pub fn remove_private_crates(
     ensures inline { result ≢ Err ManifestFault.InlineTarget }
 {
     let ordered = in_order(alloc, private)?;
-    without_ordered(alloc, text, root, ordered.as_slice())
+    let sorted = Private {
+        root,
+        paths: ordered.as_slice(),
+    };
+    without_ordered(alloc, text, &sorted)
 }
 
 /// Returns the manifest without private crates, whose paths are in order.
 fn without_ordered(
     alloc: Global,
     text: &str,
-    root: &str,
-    private: &[&str],
+    private: &Private<'_>,
 ) -> Result<String, ManifestFault>
-    ensures ok { IfOk result (λ s. IsWithoutPrivate root.now (names_behind private.now) text.now
+    ensures ok { IfOk result (λ s. IsWithoutPrivate private.now.root.now
+        (names_behind private.now.paths.now) text.now
         (string_bytes s)) }
-    ensures unchanged { HasNoWork root.now (names_behind private.now) text.now
+    ensures unchanged { HasNoWork private.now.root.now (names_behind private.now.paths.now) text.now
         → MatchResult result (λ s. string_bytes s ≡ text.now) (λ e. e ≡ ManifestFault.Memory) }
     ensures toml { result ≡ Err ManifestFault.Toml → parse_document text.now ≡ None }
     ensures form { result ≡ Err ManifestFault.WorkspaceForm
-        → HasBadForm root.now (names_behind private.now) text.now }
+        → HasBadForm private.now.root.now (names_behind private.now.paths.now) text.now }
     ensures path { result ≡ Err ManifestFault.PathText
-        → (HasWork root.now (names_behind private.now) text.now)
-        × (some_path_control (names_behind private.now) ≡ true) }
+        → (HasWork private.now.root.now (names_behind private.now.paths.now) text.now)
+        × (some_path_control (names_behind private.now.paths.now) ≡ true) }
     ensures read_back { result ≡ Err ManifestFault.ReadBack
-        → HasWork root.now (names_behind private.now) text.now }
+        → HasWork private.now.root.now (names_behind private.now.paths.now) text.now }
     ensures inline { result ≢ Err ManifestFault.InlineTarget }
 {
     let Some(old) = tree_of(alloc, text)? else {
@@ -86,24 +91,23 @@ fn without_ordered(
         let same = String::from_str(alloc, text)?;
         return Ok(same);
     };
-    let choice = chosen(alloc, root, private, workspace)?;
+    let choice = chosen(alloc, private, workspace)?;
     if !choice.some && !has_paths(choice.paths.as_slice()) {
         let same = String::from_str(alloc, text)?;
         return Ok(same);
     }
-    if any_control(private) {
+    if any_control(private.paths) {
         return Err(ManifestFault::PathText);
     }
     let copy = copy_of(&old)?;
-    without_private(alloc, text, root, private, workspace, &choice, copy)
+    without_private(alloc, text, private, workspace, &choice, copy)
 }
 
 /// Edits a manifest that has something to take out or add.
 fn without_private(
     alloc: Global,
     text: &str,
-    root: &str,
-    private: &[&str],
+    private: &Private<'_>,
     workspace: &Table,
     choice: &Choice<'_>,
     old: Table,
@@ -111,16 +115,20 @@ fn without_private(
     requires read { parse_document text.now ≡ Some (table_view old) }
     requires workspace { table_at workspace_key (table_view old) ≡ Some (table_view workspace.now) }
     requires takes { choice.now.some
-        ≡ takes root.now (names_behind private.now) (table_view workspace.now) }
+        ≡ takes private.now.root.now
+        (names_behind private.now.paths.now) (table_view workspace.now) }
     requires adds { map parent_of (names_behind choice.now.paths.items)
-        ≡ excluded_folders root.now (names_behind private.now) (table_view workspace.now) }
-    requires work { has_work root.now (names_behind private.now) (table_view workspace.now) ≡ true }
-    ensures ok { IfOk result (λ s. IsWorkspaceEdit root.now (names_behind private.now) text.now
+        ≡ excluded_folders private.now.root.now
+        (names_behind private.now.paths.now) (table_view workspace.now) }
+    requires work { has_work private.now.root.now
+        (names_behind private.now.paths.now) (table_view workspace.now) ≡ true }
+    ensures ok { IfOk result (λ s. IsWorkspaceEdit private.now.root.now
+        (names_behind private.now.paths.now) text.now
         (table_view old) (table_view workspace.now) (string_bytes s)) }
     ensures form { result ≡ Err ManifestFault.WorkspaceForm
-        → HasBadForm root.now (names_behind private.now) text.now }
+        → HasBadForm private.now.root.now (names_behind private.now.paths.now) text.now }
     ensures read_back { result ≡ Err ManifestFault.ReadBack
-        → HasWork root.now (names_behind private.now) text.now }
+        → HasWork private.now.root.now (names_behind private.now.paths.now) text.now }
     ensures toml { result ≢ Err ManifestFault.Toml }
     ensures inline { result ≢ Err ManifestFault.InlineTarget }
     ensures path { result ≢ Err ManifestFault.PathText }
@@ -137,7 +145,7 @@ fn without_private(
     let Ok(new) = String::from_utf8(bytes) else {
         return Err(ManifestFault::ReadBack);
     };
-    if !reads_as_expected(alloc, root, private, old, new.as_str())? {
+    if !reads_as_expected(alloc, private, old, new.as_str())? {
         return Err(ManifestFault::ReadBack);
     }
     Ok(new)
@@ -152,8 +160,8 @@ fn joined_parts(
     tail: &str,
 ) -> Result<Option<Vec<u8>>, AllocError>
     ensures { IfOk result (λ o. IfSome o (λ v.
-        AreMade choice.now.some (map parent_of (names_behind choice.now.paths.items))
-        (table_view workspace.now) (slice_view pieces.now) tail.now v.items)) }
+        AreParts (IsMade choice.now.some (map parent_of (names_behind choice.now.paths.items))
+        (table_view workspace.now)) (slice_view pieces.now) tail.now v.items)) }
 {
     let mut new = Vec::new(alloc);
     for piece in pieces {

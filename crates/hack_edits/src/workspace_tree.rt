@@ -1,19 +1,21 @@
 //! The tree of a manifest whose workspace is without private crates, and whether a text is read as
 //! that.
 
-ghost use Rattle.std.specs.Prelude.{◌≡◌, map, IfOk, OnOk, option_map};
+ghost use Rattle.std.specs.Prelude.{◌≡◌, map, IfOk, OnOk, option_and_then, option_map};
+ghost use Rattle.std.specs.Prelude.{unwrap_or};
+ghost use Rattle.toml.specs.Data.{as_array, no_items};
 ghost use Rattle.toml.specs.Parse.{parse_document};
 ghost use Rattle.toml.specs.View.{view, table_view, array_view};
 ghost use Rattle.hack_base.specs.PathTexts.{parent_of};
 ghost use Rattle.hack_base.specs.Names.{names_behind};
-ghost use Rattle.hack_edits.specs.Members.{members_left, items_of_array};
-ghost use Rattle.hack_edits.specs.WorkspaceTree.{array_of_members, members_put, with_members_left};
+ghost use Rattle.hack_edits.specs.Members.{members_left};
+ghost use Rattle.hack_edits.specs.KeyPaths.{workspace_key, members_key};
+ghost use Rattle.hack_edits.specs.Tables.{with_value, with_changed, in_table, in_array};
 ghost use Rattle.hack_edits.specs.WorkspaceTree.{with_texts, with_exclude, workspace_left};
-ghost use Rattle.hack_edits.specs.WorkspaceTree.{workspace_value, with_workspace, tree_left};
-ghost use Rattle.hack_edits.specs.WorkspaceTree.{reads_without};
+ghost use Rattle.hack_edits.specs.WorkspaceTree.{tree_left, reads_without};
 
 use crate::exclude::has_paths;
-use crate::members::{MEMBERS, chosen, value_led, value_unled};
+use crate::members::{MEMBERS, Private, chosen, value_led, value_unled};
 use crate::same::same_table;
 use crate::tables::{put_at, tree_of};
 use hack_base::paths::parent;
@@ -30,18 +32,18 @@ pub const EXCLUDE: &str = "exclude";
 /// Whether a text is read as the tree that is expected.
 pub fn reads_as_expected(
     alloc: Global,
-    root: &str,
-    private: &[&str],
+    private: &Private<'_>,
     old: Table,
     new: &str,
 ) -> Result<bool, AllocError>
-    ensures { IfOk result (λ b. b ≡ reads_without root.now (names_behind private.now)
+    ensures { IfOk result (λ b. b ≡ reads_without private.now.root.now
+        (names_behind private.now.paths.now)
         (table_view old)
         (parse_document new.now)) }
 {
     match tree_of(alloc, new)? {
         Some(tree) => {
-            let expected = expected_tree(alloc, root, private, old)?;
+            let expected = expected_tree(alloc, private, old)?;
             Ok(same_table(&expected, &tree))
         }
         None => Ok(false),
@@ -49,36 +51,30 @@ pub fn reads_as_expected(
 }
 
 /// The tree that is expected.
-fn expected_tree(
-    alloc: Global,
-    root: &str,
-    private: &[&str],
-    table: Table,
-) -> Result<Table, AllocError>
+fn expected_tree(alloc: Global, private: &Private<'_>, table: Table) -> Result<Table, AllocError>
     ensures { IfOk result (λ t. table_view t
-        ≡ tree_left root.now (names_behind private.now) (table_view table)) }
+        ≡ tree_left private.now.root.now (names_behind private.now.paths.now) (table_view table)) }
 {
     let mut top = table;
     let workspace = top.remove(WORKSPACE);
-    put_workspace(alloc, root, private, &mut top, workspace)?;
+    put_workspace(alloc, private, &mut top, workspace)?;
     Ok(top)
 }
 
 /// Puts back what is expected at `workspace`.
 fn put_workspace(
     alloc: Global,
-    root: &str,
-    private: &[&str],
+    private: &Private<'_>,
     top: &mut Table,
     workspace: Option<Value>,
 ) -> Result<(), AllocError>
-    ensures { OnOk result (table_view top.new
-        ≡ with_workspace root.now (names_behind private.now) (option_map view workspace)
-        (table_view top.old)) }
+    ensures { OnOk result (table_view top.new ≡ with_value workspace_key
+        (in_table (workspace_left private.now.root.now (names_behind private.now.paths.now)))
+        (option_map view workspace) (table_view top.old)) }
 {
     match workspace {
         Some(value) => {
-            let left = expected_value(alloc, root, private, value)?;
+            let left = expected_value(alloc, private, value)?;
             let key = String::from_str(alloc, WORKSPACE)?;
             put_at(top, key, left)
         }
@@ -87,18 +83,14 @@ fn put_workspace(
 }
 
 /// The table that is expected at `workspace`.
-fn expected_value(
-    alloc: Global,
-    root: &str,
-    private: &[&str],
-    value: Value,
-) -> Result<Value, AllocError>
+fn expected_value(alloc: Global, private: &Private<'_>, value: Value) -> Result<Value, AllocError>
     ensures { IfOk result (λ v. view v
-        ≡ workspace_value root.now (names_behind private.now) (view value)) }
+        ≡ in_table (workspace_left private.now.root.now (names_behind private.now.paths.now))
+        (view value)) }
 {
     match value {
         Value::Table(workspace) => {
-            let left = expected_workspace(alloc, root, private, workspace)?;
+            let left = expected_workspace(alloc, private, workspace)?;
             Ok(Value::Table(left))
         }
         other => Ok(other),
@@ -108,49 +100,44 @@ fn expected_value(
 /// The workspace that is expected.
 fn expected_workspace(
     alloc: Global,
-    root: &str,
-    private: &[&str],
+    private: &Private<'_>,
     workspace: Table,
 ) -> Result<Table, AllocError>
     ensures { IfOk result (λ t. table_view t
-        ≡ workspace_left root.now (names_behind private.now) (table_view workspace)) }
+        ≡ workspace_left private.now.root.now
+        (names_behind private.now.paths.now) (table_view workspace)) }
 {
-    let choice = chosen(alloc, root, private, &workspace)?;
-    let kept = keep_members(alloc, root, private, workspace)?;
+    let choice = chosen(alloc, private, &workspace)?;
+    let kept = keep_members(alloc, private, workspace)?;
     put_exclude(alloc, choice.paths.as_slice(), kept)
 }
 
 /// A workspace with the members that stay.
-fn keep_members(
-    alloc: Global,
-    root: &str,
-    paths: &[&str],
-    workspace: Table,
-) -> Result<Table, AllocError>
-    ensures { IfOk result (λ t. table_view t
-        ≡ with_members_left root.now (names_behind paths.now) (table_view workspace)) }
+fn keep_members(alloc: Global, private: &Private<'_>, workspace: Table) -> Result<Table, AllocError>
+    ensures { IfOk result (λ t. table_view t ≡ with_changed members_key
+        (in_array (members_left private.now.root.now (names_behind private.now.paths.now)))
+        (table_view workspace)) }
 {
     let mut all = workspace;
     let members = all.remove(MEMBERS);
-    put_members(alloc, root, paths, &mut all, members)?;
+    put_members(alloc, private, &mut all, members)?;
     Ok(all)
 }
 
 /// Puts back what stays of the members.
 fn put_members(
     alloc: Global,
-    root: &str,
-    paths: &[&str],
+    private: &Private<'_>,
     top: &mut Table,
     members: Option<Value>,
 ) -> Result<(), AllocError>
-    ensures { OnOk result (table_view top.new
-        ≡ members_put root.now (names_behind paths.now) (option_map view members)
-        (table_view top.old)) }
+    ensures { OnOk result (table_view top.new ≡ with_value members_key
+        (in_array (members_left private.now.root.now (names_behind private.now.paths.now)))
+        (option_map view members) (table_view top.old)) }
 {
     match members {
         Some(value) => {
-            let kept = members_of(alloc, root, paths, value)?;
+            let kept = members_of(alloc, private, value)?;
             let key = String::from_str(alloc, MEMBERS)?;
             put_at(top, key, kept)
         }
@@ -158,13 +145,14 @@ fn put_members(
     }
 }
 
-fn members_of(alloc: Global, root: &str, paths: &[&str], value: Value) -> Result<Value, AllocError>
-    ensures { IfOk result (λ v. view v ≡ array_of_members root.now (names_behind paths.now)
+fn members_of(alloc: Global, private: &Private<'_>, value: Value) -> Result<Value, AllocError>
+    ensures { IfOk result (λ v. view v
+        ≡ in_array (members_left private.now.root.now (names_behind private.now.paths.now))
         (view value)) }
 {
     match value {
         Value::Array(items) => {
-            let kept = kept_members(alloc, root, paths, items)?;
+            let kept = kept_members(alloc, private, items)?;
             Ok(Value::Array(kept))
         }
         other => Ok(other),
@@ -172,20 +160,16 @@ fn members_of(alloc: Global, root: &str, paths: &[&str], value: Value) -> Result
 }
 
 /// The members that stay.
-fn kept_members(
-    alloc: Global,
-    root: &str,
-    paths: &[&str],
-    items: Array,
-) -> Result<Array, AllocError>
+fn kept_members(alloc: Global, private: &Private<'_>, items: Array) -> Result<Array, AllocError>
     ensures { IfOk result (λ v. array_view v
-        ≡ members_left root.now (names_behind paths.now) (array_view items)) }
+        ≡ members_left private.now.root.now
+        (names_behind private.now.paths.now) (array_view items)) }
 {
-    let mut left = Vec::from_slice(alloc, paths)?;
+    let mut left = Vec::from_slice(alloc, private.paths)?;
     let mut kept = Array::new(alloc);
     for item in items {
-        let led = value_led(alloc, root, &item, left.as_slice())?;
-        left = value_unled(alloc, root, &item, left.as_slice())?;
+        let led = value_led(alloc, private.root, &item, left.as_slice())?;
+        left = value_unled(alloc, private.root, &item, left.as_slice())?;
         if !led {
             kept.push(item)?;
         }
@@ -211,7 +195,8 @@ fn put_exclude(alloc: Global, paths: &[&str], workspace: Table) -> Result<Table,
 
 /// The items of a value that is an array, else none.
 fn into_items(alloc: Global, value: Option<Value>) -> Array
-    ensures { array_view result ≡ items_of_array (option_map view value) }
+    ensures { array_view result
+        ≡ unwrap_or (option_and_then as_array (option_map view value)) no_items }
 {
     match value {
         Some(found) => match found {

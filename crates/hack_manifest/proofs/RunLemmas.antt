@@ -1,6 +1,7 @@
 -- Runs of whole lines, and what the table that was read from a text implies.
 use Rattle.std.proofs.Common.{◌≡◌, ℕ, ◌+◌, ◌-◌, ◌<◌, ◌≤◌, List, [], ◌∷◌, ◌++◌, length, map, take, drop, get_or, Bool, true, false, not, Some, Option, None, String, Global, IsTrue, sym, refl, ap, subst, inl, inr, arith}
 use Rattle.std.specs.Prelude.{IsUtf8, ◌↔◌}
+use Rattle.std.specs.Option.{option_map_or}
 use Rattle.std.specs.Str.{IsCharBoundary}
 use Rattle.std.proofs.lemmas.Str.{IsCharBoundary-end, IsCharBoundary-after_ascii}
 use Rattle.std.proofs.lemmas.List.{length-take-le, take-append-drop}
@@ -9,7 +10,7 @@ use Rattle.toml.specs.View.{members_view}
 use Rattle.toml.specs.declared.value.Value.{Value}
 use Rattle.hack_base.specs.Names.{Name}
 use Rattle.hack_manifest.specs.LineRuns.{IsLines, IsFirstRun, IsCutInto, has_keys}
-use Rattle.hack_manifest.specs.Paths.{chain_of_tree, IsPathOfPiece, View, HavePaths, next_header}
+use Rattle.hack_manifest.specs.Paths.{chain, IsPathOfPiece, View, HavePaths, next_header}
 
 abbrev pub Entry : Type 0
 Entry = String Global × Value
@@ -42,7 +43,7 @@ last_header header [] = header
 last_header header (p ∷ ps) = last_header (next_header header p) ps
 
 -- where there are no keys, there are no names
-pub chain-no_keys : (o : Option Members) → has_keys o ≡ false → chain_of_tree o ≡ []
+pub chain-no_keys : (o : Option Members) → has_keys o ≡ false → option_map_or chain o [] ≡ []
 chain-no_keys None h = refl
 chain-no_keys (Some no_members) h = refl
 chain-no_keys (Some (member k d ms)) h = cc

@@ -1,13 +1,12 @@
 -- How a text is cut: into runs of whole lines that `toml` reads.
-use Rattle.std.specs.Prelude.{◌≡◌, ℕ, ◌-◌, ◌<◌, ◌≤◌, ◌⊎◌, Bool, true, false, List, [], ◌∷◌, ◌++◌, length, take, slice_index, Option, Some, None}
-use Rattle.toml.specs.Data.{Members, no_members, member}
+use Rattle.std.specs.Prelude.{◌≡◌, ℕ, ◌-◌, ◌<◌, ◌≤◌, ◌⊎◌, Bool, true, false, List, [], ◌∷◌, ◌++◌, length, take, slice_index, Option, Some}
+use Rattle.toml.specs.Data.{Members, member}
 use Rattle.toml.specs.Parse.{parse_document}
 
 -- a document with at least one key
 abbrev pub has_keys : Option Members → Bool
-has_keys None = false
-has_keys (Some no_members) = false
 has_keys (Some (member k d ms)) = true
+has_keys _ = false
 
 -- the text parses alone: `toml` reads it as a document with a nonempty tree
 abbrev pub stands : List ℕ → Bool

@@ -12,24 +12,14 @@ use Rattle.hack_base.specs.Names.{Name}
 use Rattle.hack_features.specs.FeatureMap.{FeatureMap}
 use Rattle.hack_manifest.specs.Paths.{View, is_header, AreCut}
 
--- the names of the fields that are read
-abbrev pub package_key : Name
-package_key = codes "package"
-
-abbrev pub publish_key : Name
-publish_key = codes "publish"
-
-abbrev pub rust_version_key : Name
-rust_version_key = codes "rust-version"
-
+-- the key of the table of features
 abbrev pub features_key : Name
 features_key = codes "features"
 
 -- the path is just this one name
 abbrev pub is_just : Name → List Name → Bool
-is_just name [] = false
 is_just name (x ∷ []) = bytes_eq x name
-is_just name (x ∷ y ∷ more) = false
+is_just name _ = false
 
 -- the piece is a key of just this name with its value, not a header
 abbrev pub is_value_of : Name → View → Bool
@@ -46,28 +36,29 @@ table_at key ms = option_and_then as_table (get_member key ms)
 
 -- the table `package`, which must not be inline
 abbrev pub package_in : Bool → Members → FieldReading Members
-package_in inline tree = if inline then Err package_key else ok_or (table_at package_key tree) package_key
+package_in inline tree = ok_or (if inline then None else table_at (codes "package") tree) (codes "package")
 
 -- whether a package may be published: it may without the field, and with an array that isn't empty
 abbrev pub publish_from : Option Data → FieldReading (Option Bool)
 publish_from None = Ok (Some true)
 publish_from (Some (boolean b)) = Ok (Some b)
 publish_from (Some (array ds)) = Ok (Some (has_items ds))
-publish_from (Some _) = Err publish_key
+publish_from (Some _) = Err (codes "publish")
 
 -- read only below cargo 1.39, whose metadata don't contain it
 abbrev pub publish_field : ℕ → Members → FieldReading (Option Bool)
-publish_field minor ms = if nat_lt minor 39 then publish_from (get_member publish_key ms) else Ok None
+publish_field minor ms = if nat_lt minor 39 then publish_from (get_member (codes "publish") ms) else Ok None
 
 -- the package's own `rust-version`, a string or absent
 abbrev pub rust_version_from : Option Data → FieldReading (Option (Option Name))
 rust_version_from None = Ok (Some None)
 rust_version_from (Some (string text)) = Ok (Some (Some text))
-rust_version_from (Some _) = Err rust_version_key
+rust_version_from (Some _) = Err (codes "rust-version")
 
 -- read only below cargo 1.58
 abbrev pub rust_version_field : ℕ → Members → FieldReading (Option (Option Name))
-rust_version_field minor ms = if nat_lt minor 58 then rust_version_from (get_member rust_version_key ms) else Ok None
+rust_version_field minor ms =
+    if nat_lt minor 58 then rust_version_from (get_member (codes "rust-version") ms) else Ok None
 
 -- what the table `package` says
 pub record PackageFacts : Type 0 where
@@ -111,7 +102,7 @@ pub record Facts : Type 0 where
 -- the content of a manifest with this tree and these pieces, or its first field that can't be read
 abbrev pub read_manifest : ℕ → List View → Members → FieldReading Facts
 read_manifest minor ps tree =
-    package_in (is_inline package_key ps) tree >>= λ ms.
+    package_in (is_inline (codes "package") ps) tree >>= λ ms.
     package_facts minor ms >>= λ of_package.
     features_field (is_inline features_key ps) tree >>= λ features.
     Ok (record { of_package = of_package; features = features })

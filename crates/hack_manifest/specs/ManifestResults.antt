@@ -1,8 +1,7 @@
 -- What is read of a manifest as contracts see it, and its errors.
-use Rattle.std.specs.Prelude.{◌≡◌, ℕ, List, Option, None, option_map, String, Result, Ok, Err, string_bytes}
-use Rattle.std.specs.declared.alloc.Global.{Global}
+use Rattle.std.specs.Prelude.{◌≡◌, ℕ, List, None, option_map, Result, Ok, Err, string_bytes}
 use Rattle.toml.specs.Parse.{parse_document}
-use Rattle.hack_base.specs.Names.{Name, optional_text}
+use Rattle.hack_base.specs.Names.{optional_text}
 use Rattle.hack_features.specs.FeatureMap.{feature_map}
 use Rattle.hack_manifest.specs.Manifest.{PackageFacts, Facts, IsReadAs}
 use Rattle.hack_base.specs.FieldReadings.{FieldReading}
@@ -13,13 +12,9 @@ use Rattle.hack_manifest.specs.declared.manifest.Manifest.{Manifest}
 use Rattle.hack_manifest.specs.declared.manifest.ManifestFault.{ManifestFault}
 use Rattle.hack_manifest.specs.declared.manifest.ManifestFault.TheVariants as faults
 
--- a version, as its bytes
-abbrev pub rust_version_view : Option (Option (String Global)) → Option (Option Name)
-rust_version_view v = option_map optional_text v
-
 -- what a `Package` says
 abbrev pub package_facts_view : Package → PackageFacts
-package_facts_view p = record { publish = p.publish; rust_version = rust_version_view p.rust_version }
+package_facts_view p = record { publish = p.publish; rust_version = option_map optional_text p.rust_version }
 
 -- what a `Manifest` says
 abbrev pub manifest_view : Manifest → Facts

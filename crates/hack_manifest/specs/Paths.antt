@@ -1,11 +1,12 @@
 -- The key paths of pieces.
-use Rattle.std.specs.Prelude.{◌≡◌, ◌==◌, ℕ, Bool, true, false, if◌then◌else◌, map, List, [], ◌∷◌, ◌++◌, take, slice_index, Option, Some, None}
+use Rattle.std.specs.Prelude.{◌≡◌, ◌==◌, ℕ, Bool, true, false, if◌then◌else◌, map, List, [], ◌∷◌, ◌++◌, take, slice_index}
+use Rattle.std.specs.Option.{option_map_or}
 use Rattle.toml.specs.Data.{Data, table, Members, no_members, member}
 use Rattle.toml.specs.Parse.{parse_document, skip_bom}
 use Rattle.toml_parser.specs.Lexical.{skip_blank}
 use Rattle.hack_base.specs.Names.{Name}
 use Rattle.hack_manifest.specs.LineRuns.{IsCutInto}
-use Rattle.hack_manifest.specs.PieceFronts.{IsFirstFrontTo, HasNoFrontTo}
+use Rattle.hack_manifest.specs.PieceFronts.{IsFrontTo, IsFirstFrontTo}
 
 -- the names along a tree, taking the first member of each table
 abbrev mutual
@@ -18,13 +19,8 @@ abbrev mutual
   chain (member k d ms) = k ∷ chain_of_data d
 
 -- the chain of names in the tree of a text, if there is a tree
-abbrev pub chain_of_tree : Option Members → List Name
-chain_of_tree None = []
-chain_of_tree (Some ms) = chain ms
-
--- the chain of names in the tree of a text
 abbrev pub chain_at : List ℕ → List Name
-chain_at text = chain_of_tree (parse_document text)
+chain_at text = option_map_or chain (parse_document text) []
 
 -- the first line that is neither blank nor a comment begins with a bracket
 abbrev pub is_header : List ℕ → Bool
@@ -34,7 +30,7 @@ is_header piece = slice_index (skip_blank (skip_bom piece)) 0 == 91
 -- empty where there is none
 pub data IsOwnKey (piece : List ℕ) (key : List Name) : Type 0 where
   at_front : (n : ℕ) → IsFirstFrontTo 61 (48 ∷ []) piece n → key ≡ chain_at (take n piece ++ 48 ∷ []) → IsOwnKey piece key
-  no_front : HasNoFrontTo 61 (48 ∷ []) piece → key ≡ [] → IsOwnKey piece key
+  no_front : ((n : ℕ) → ¬ IsFrontTo 61 (48 ∷ []) piece n) → key ≡ [] → IsOwnKey piece key
 
 -- a piece after the last header's path has this path: a header has its own, a key is appended to
 -- the header's

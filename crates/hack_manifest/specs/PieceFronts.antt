@@ -13,7 +13,3 @@ pub record IsFrontTo (byte : ℕ) (more piece : List ℕ) (n : ℕ) : Type 0 whe
 pub record IsFirstFrontTo (byte : ℕ) (more piece : List ℕ) (n : ℕ) : Type 0 where
   pub front : IsFrontTo byte more piece n
   pub shortest : (m : ℕ) → m < n → IsFrontTo byte more piece m → ⊥
-
--- there is no such prefix
-abbrev pub HasNoFrontTo : ℕ → List ℕ → List ℕ → Type 0
-HasNoFrontTo byte more piece = (m : ℕ) → IsFrontTo byte more piece m → ⊥

@@ -1,9 +1,11 @@
 //! What a manifest says about its package.
 
+ghost use Rattle.std.specs.Prelude.{option_map};
 ghost use Rattle.toml.specs.View.{table_view};
+ghost use Rattle.hack_base.specs.Names.{optional_text};
 ghost use Rattle.hack_manifest.specs.Manifest.{package_in, publish_field, rust_version_field};
 ghost use Rattle.hack_manifest.specs.Manifest.{package_facts};
-ghost use Rattle.hack_manifest.specs.ManifestResults.{ReturnsReading, rust_version_view};
+ghost use Rattle.hack_manifest.specs.ManifestResults.{ReturnsReading};
 ghost use Rattle.hack_manifest.specs.ManifestResults.{package_facts_view};
 
 use crate::fault::ReadFault;
@@ -56,7 +58,7 @@ fn rust_version(
     table: &Table,
     cargo_version: u32,
 ) -> Result<Option<Option<String>>, ReadFault>
-    ensures { ReturnsReading rust_version_view result (rust_version_field cargo_version
+    ensures { ReturnsReading (option_map optional_text) result (rust_version_field cargo_version
         (table_view table.now)) }
 {
     if cargo_version >= 58 {

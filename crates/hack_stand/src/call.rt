@@ -34,22 +34,31 @@ impl From<AllocError> for CallFault {
     }
 }
 
+/// How a stand-in is started.
+#[derive(Drop)]
+pub struct Start {
+    /// The program that it replaces.
+    pub tool: Tool,
+    /// What `env::var` returned for the variable `STAND_DIR`.
+    pub dir: Result<String, VarError>,
+    /// What `env::args` returned.
+    pub arguments: io::Result<Args>,
+}
+
 /// What a stand-in does, and its exit status: that of `stand` for the arguments after the first
-/// one, or 2 where it can't answer, which is reported on `err`. `dir` is what `env::var` returned
-/// for the variable `STAND_DIR`, and `arguments` what `env::args` did.
+/// one, or 2 where it can't answer, which is reported on `err`.
 pub fn call<F: Files, O: Write, E: Write>(
     alloc: Global,
-    tool: Tool,
+    start: Start,
     files: &mut F,
-    dir: Result<String, VarError>,
-    arguments: io::Result<Args>,
     out: &mut O,
     err: &mut E,
 ) -> u8
-    ensures { result ≢ 2 → AnswersArguments tool F.tells dir arguments (F.bytes_at files.old)
-        (F.bytes_at files.new) (O.contents out.old) (O.contents out.new) result }
+    ensures { result ≢ 2 → AnswersArguments start.tool F.tells start.dir start.arguments
+        (F.bytes_at files.old) (F.bytes_at files.new) (O.contents out.old) (O.contents out.new)
+        result }
 {
-    match answer(alloc, tool, files, dir, arguments, out) {
+    match answer(alloc, start, files, out) {
         Ok(status) => status,
         Err(fault) => {
             let _ = writeln!(err, "error: {fault}");
@@ -61,15 +70,19 @@ pub fn call<F: Files, O: Write, E: Write>(
 /// The status of a call that could be answered.
 fn answer<F: Files, O: Write>(
     alloc: Global,
-    tool: Tool,
+    start: Start,
     files: &mut F,
-    dir: Result<String, VarError>,
-    arguments: io::Result<Args>,
     out: &mut O,
 ) -> Result<u8, CallFault>
-    ensures { IfOk result (AnswersArguments tool F.tells dir arguments (F.bytes_at files.old)
-        (F.bytes_at files.new) (O.contents out.old) (O.contents out.new)) }
+    ensures { IfOk result (AnswersArguments start.tool F.tells start.dir start.arguments
+        (F.bytes_at files.old) (F.bytes_at files.new) (O.contents out.old)
+        (O.contents out.new)) }
 {
+    let Start {
+        tool,
+        dir,
+        arguments,
+    } = start;
     let Ok(dir) = dir else {
         return Err(CallFault::NoFolder);
     };

@@ -2,7 +2,7 @@
 #![tactic(auto)]
 
 use hack_files::fs::Disk;
-use hack_stand::call::call;
+use hack_stand::call::{Start, call};
 use hack_stand::stand::Tool;
 use std::process::ExitCode;
 use std::{env, io};
@@ -10,10 +10,12 @@ use std::{env, io};
 fn main(rt: HostRuntime) -> ExitCode {
     let status = call(
         rt.alloc(),
-        Tool::Cargo,
+        Start {
+            tool: Tool::Cargo,
+            dir: env::var(&rt, "STAND_DIR"),
+            arguments: env::args(&rt),
+        },
         &mut Disk::new(&rt),
-        env::var(&rt, "STAND_DIR"),
-        env::args(&rt),
         &mut io::writer(&rt),
         &mut rt.stderr(),
     );

@@ -2,7 +2,8 @@ use Rattle.std.proofs.Common.{◌≡◌, ◌⊎◌, ◌++◌, ℕ, List, ap, sym
 use Rattle.std.proofs.lemmas.Bool.{false≢true}
 use Rattle.toml.specs.View.{table_view}
 use Rattle.hack_manifest.specs.PieceView.{piece_view}
-use Rattle.hack_edits.specs.DevDeps.{IsLeft, AreLeft}
+use Rattle.hack_edits.specs.Parts.{AreParts}
+use Rattle.hack_edits.specs.DevDeps.{IsLeft}
 use Rattle.hack_edits.specs.Internal.{IsRecut, AreRecut, AppendsWhatIsLeft}
 use Rattle.hack_edits.proofs.LeftLemmas.{parts-more, cuts_arrays-more, cuts_arrays-here}
 use Rattle.hack_edits.proofs.dev_deps.join_pieces.Goals.{then-known, else-known}
@@ -28,7 +29,7 @@ loop-piece-preserved c =
       | then-known w ↦ inr (sym w.known-is ∙ h)
       | else-known w ↦ inl w.if-known.false
     ] in
-    let P : List ℕ → Type 0 = λ t. AreLeft old ps tail t in
+    let P : List ℕ → Type 0 = λ t. AreParts (IsLeft old) ps tail t in
     let Q : List ℕ → Type 0 = λ t. AreRecut ps tail t in
     let behind : (more : List ℕ) → string_bytes c.push_left.new.text ++ more ≡ (before ++ left.part) ++ more = λ more. ap (λ t. t ++ more) left.whole in
     record {

@@ -3,7 +3,8 @@ use Rattle.std.proofs.lemmas.Bool.{cases_Bool}
 use Rattle.toml.specs.View.{table_view}
 use Rattle.toml.specs.Parse.{parse_document}
 use Rattle.hack_manifest.specs.PieceView.{pieces_view}
-use Rattle.hack_edits.specs.DevDeps.{AreLeft, cuts_arrays}
+use Rattle.hack_edits.specs.Parts.{AreParts}
+use Rattle.hack_edits.specs.DevDeps.{IsLeft, cuts_arrays}
 use Rattle.hack_edits.specs.DevTree.{reads_as_left}
 use Rattle.hack_edits.specs.Internal.{AreRecut}
 use Rattle.hack_edits.proofs.LeftLemmas.{left-whole}
@@ -16,7 +17,7 @@ returns-then-not-branch-clause-read_back c _ =
     let ps = pieces_view c.args.cut.now in
     let tail = c.args.cut.now.tail.now in
     let new = string_bytes c.in-Some.field-0.text in
-    let left : AreLeft old ps tail new = rw (c.in-Some.is, c.deref-2.ensures.value) at c.in_ok-text.ensures.left in
+    let left : AreParts (IsLeft old) ps tail new = rw (c.in-Some.is, c.deref-2.ensures.value) at c.in_ok-text.ensures.left in
     let misread : reads_as_left old (parse_document new) ≡ false =
     ap (λ t. reads_as_left old (parse_document t)) (sym c.as_str.ensures.value) ∙ sym c.in_ok-reads_as.ensures ∙ c.if-not-branch.true in
     elim (cases_Bool (cuts_arrays old ps)) [

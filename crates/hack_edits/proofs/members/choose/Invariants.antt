@@ -7,6 +7,6 @@ use Rattle.hack_edits.proofs.members.choose.Given as goal
 
 abbrev pub invariant-items : goal.invariant-items
 invariant-items l = record {
-  some : (l.some || some_led l.root (names_behind l.left.items) (items_view (drop l.item-index l.item-items))) ≡ some_led l.root (names_behind l.paths) (items_view l.item-items);
-  paths : paths_left l.root (names_behind l.left.items) (items_view (drop l.item-index l.item-items)) ≡ paths_left l.root (names_behind l.paths) (items_view l.item-items);
+  some : (l.some || some_led l.private.root.now (names_behind l.left.items) (items_view (drop l.item-index l.item-items))) ≡ some_led l.private.root.now (names_behind l.private.paths.now) (items_view l.item-items);
+  paths : paths_left l.private.root.now (names_behind l.left.items) (items_view (drop l.item-index l.item-items)) ≡ paths_left l.private.root.now (names_behind l.private.paths.now) (items_view l.item-items);
 }

@@ -7,5 +7,5 @@ use Rattle.hack_edits.proofs.ItemLemmas.{append_items}
 use Rattle.hack_edits.proofs.workspace_tree.kept_members.Given as goal
 
 abbrev pub invariant-loop-item : goal.invariant-loop-item
-invariant-loop-item l = append_items (items_view l.kept.items) (members_left l.root (names_behind l.left.items) (items_view (into_iter_items l.item-iterator)))
-    ≡ members_left l.root (names_behind l.paths) (items_view l.fn.items.items)
+invariant-loop-item l = append_items (items_view l.kept.items) (members_left l.private.root.now (names_behind l.left.items) (items_view (into_iter_items l.item-iterator)))
+    ≡ members_left l.private.root.now (names_behind l.private.paths.now) (items_view l.fn.items.items)
