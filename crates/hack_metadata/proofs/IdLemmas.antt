@@ -1,6 +1,7 @@
 -- Which package an id means, and ids each once.
 use Rattle.std.proofs.Common.{◌≡◌, ◌==◌, ◌&&◌, ◌||◌, not, ℕ, suc, ◌+◌, ◌<◌, ◌≤◌, Bool, true, false, cond, List, [], ◌∷◌, ◌++◌, map, length, take, drop, get_or, String, BTreeMap, BTreeSet, Global, Option, Some, None, option_map, string_bytes, nat_cmp, append_assoc, append-nil, arith, refl, sym, ap, ◌∙◌, inl, inr}
 use Rattle.std.specs.List.{filter, list_any}
+use Rattle.std.specs.Option.{option_or}
 use Rattle.std.specs.Str.{bytes_eq}
 use Rattle.std.specs.BTreeMap.{get_by_text}
 use Rattle.std.specs.BTreeSet.{contains}
@@ -14,7 +15,7 @@ use Rattle.std.proofs.Math.Path.{fun_ext}
 use Rattle.std.proofs.Math.Seq.{drop-cons}
 use Rattle.hack_base.specs.Names.{Name}
 use Rattle.hack_base.proofs.Steps.{seen-next}
-use Rattle.hack_metadata.specs.MetadataReading.{later, place_from, place_of, ids_of, distinct}
+use Rattle.hack_metadata.specs.MetadataReading.{place_from, place_of, ids_of, distinct}
 use Rattle.hack_metadata.specs.RecordViews.{package_view, place_at}
 use Rattle.hack_metadata.specs.Internal.{place_in}
 use Rattle.hack_metadata.specs.declared.metadata.package.Package.{Package}
@@ -22,7 +23,7 @@ use Rattle.hack_metadata.specs.declared.metadata.resolve.PackageId.{PackageId}
 
 -- ---- the last package with an id
 
-later-cond : (b : Bool) (n m : ℕ) (o earlier : Option ℕ) → n ≡ m → later (cond b (Some n) o) earlier ≡ cond b (Some m) (later o earlier)
+later-cond : (b : Bool) (n m : ℕ) (o earlier : Option ℕ) → n ≡ m → option_or (cond b (Some n) o) earlier ≡ cond b (Some m) (option_or o earlier)
 later-cond true n m o earlier e = ap Some e
 later-cond false n m o earlier e = refl
 
@@ -30,7 +31,7 @@ later-cond false n m o earlier e = refl
 place-next : (k : ℕ) (ids : List Name) (x id : Name) → place_from k (ids ++ x ∷ []) id ≡ cond (bytes_eq x id) (Some (k + length ids)) (place_from k ids id)
 place-next k [] x id = ap (λ n. cond (bytes_eq x id) (Some n) None) (let e : k ≡ k + 0 = omega arith in e)
 place-next k (y ∷ ids) x id =
-    ap (λ o. later o (cond (bytes_eq y id) (Some k) None)) (place-next (k + 1) ids x id)
+    ap (λ o. option_or o (cond (bytes_eq y id) (Some k) None)) (place-next (k + 1) ids x id)
     ∙ later-cond (bytes_eq x id) ((k + 1) + length ids) (k + length (y ∷ ids)) (place_from (k + 1) ids id) (cond (bytes_eq y id) (Some k) None) (let e : (k + 1) + length ids ≡ k + suc (length ids) = omega arith in e)
 
 -- the ids of packages, in one step
@@ -101,20 +102,20 @@ neither false true = refl
 neither false false = refl
 
 -- a number that was kept before adds nothing
-distinct-old : (kept rest : List ℕ) (x : ℕ) → has kept x ≡ true → filter (absent kept) (distinct (x ∷ rest)) ≡ filter (absent kept) (distinct rest)
+distinct-old : (kept rest : List ℕ) (x : ℕ) → has kept x ≡ true → filter (absent kept) (distinct ◌==◌ (x ∷ rest)) ≡ filter (absent kept) (distinct ◌==◌ rest)
 distinct-old kept rest x old =
-    ap (λ b. cond (not b) (x ∷ filter (absent kept) (filter (differs x) (distinct rest))) (filter (absent kept) (filter (differs x) (distinct rest)))) old
-    ∙ filter-both (absent kept) (differs x) (absent kept) (distinct rest) (λ y. elim (cases_Bool (y == x)) [
+    ap (λ b. cond (not b) (x ∷ filter (absent kept) (filter (differs x) (distinct ◌==◌ rest))) (filter (absent kept) (filter (differs x) (distinct ◌==◌ rest)))) old
+    ∙ filter-both (absent kept) (differs x) (absent kept) (distinct ◌==◌ rest) (λ y. elim (cases_Bool (y == x)) [
       | inl t ↦ ap (λ b. not b && absent kept y) t ∙ sym (ap not (ap (has kept) (eqb-true y x t) ∙ old))
       | inr f ↦ ap (λ b. not b && absent kept y) f
     ])
 
 -- a new one is kept
-distinct-new : (kept rest : List ℕ) (x : ℕ) → has kept x ≡ false → kept ++ filter (absent kept) (distinct (x ∷ rest)) ≡ (kept ++ x ∷ []) ++ filter (absent (kept ++ x ∷ [])) (distinct rest)
+distinct-new : (kept rest : List ℕ) (x : ℕ) → has kept x ≡ false → kept ++ filter (absent kept) (distinct ◌==◌ (x ∷ rest)) ≡ (kept ++ x ∷ []) ++ filter (absent (kept ++ x ∷ [])) (distinct ◌==◌ rest)
 distinct-new kept rest x new =
-    ap (λ b. kept ++ cond (not b) (x ∷ filter (absent kept) (filter (differs x) (distinct rest))) (filter (absent kept) (filter (differs x) (distinct rest)))) new
-    ∙ ap (λ l. kept ++ x ∷ l) (filter-both (absent kept) (differs x) (absent (kept ++ x ∷ [])) (distinct rest) (λ y. neither (has kept y) (y == x) ∙ ap not (sym (list_any-append (λ k. y == k) kept (x ∷ [])))))
-    ∙ sym (append_assoc kept (x ∷ []) (filter (absent (kept ++ x ∷ [])) (distinct rest)))
+    ap (λ b. kept ++ cond (not b) (x ∷ filter (absent kept) (filter (differs x) (distinct ◌==◌ rest))) (filter (absent kept) (filter (differs x) (distinct ◌==◌ rest)))) new
+    ∙ ap (λ l. kept ++ x ∷ l) (filter-both (absent kept) (differs x) (absent (kept ++ x ∷ [])) (distinct ◌==◌ rest) (λ y. neither (has kept y) (y == x) ∙ ap not (sym (list_any-append (λ k. y == k) kept (x ∷ [])))))
+    ∙ sym (append_assoc kept (x ∷ []) (filter (absent (kept ++ x ∷ [])) (distinct ◌==◌ rest)))
 
 pub cmp-eq : (k q : ℕ) → is_eq (nat_cmp k q) ≡ (k == q)
 cmp-eq k q = grind (arith, nat_tests)
@@ -124,15 +125,15 @@ eq-turned k q = grind (arith, nat_tests)
 
 -- the first k numbers are kept, each once, and the set has the kept ones
 pub record AreKept (all : List ℕ) (k : ℕ) (kept : List ℕ) (seen : BTreeSet ℕ) : Type 0 where
-  pub whole : kept ++ filter (absent kept) (distinct (drop k all)) ≡ distinct all
+  pub whole : kept ++ filter (absent kept) (distinct ◌==◌ (drop k all)) ≡ distinct ◌==◌ all
   pub same : (y : ℕ) → contains nat_cmp seen y ≡ has kept y
 
 pub kept-none : (all : List ℕ) (seen : BTreeSet ℕ) → ((y : ℕ) → contains nat_cmp seen y ≡ false) → AreKept all 0 [] seen
-kept-none all seen empty = record { whole = filter-all (distinct all); same = empty }
+kept-none all seen empty = record { whole = filter-all (distinct ◌==◌ all); same = empty }
 
-turn-at : (b : Bool) (x : ℕ) (rest kept new all : List ℕ) → has kept x ≡ b → new ≡ cond b kept (kept ++ x ∷ []) → kept ++ filter (absent kept) (distinct (x ∷ rest)) ≡ distinct all → new ++ filter (absent new) (distinct rest) ≡ distinct all
-turn-at true x rest kept new all is e h = ap (λ l. l ++ filter (absent l) (distinct rest)) e ∙ ap (λ l. kept ++ l) (sym (distinct-old kept rest x is)) ∙ h
-turn-at false x rest kept new all is e h = ap (λ l. l ++ filter (absent l) (distinct rest)) e ∙ sym (distinct-new kept rest x is) ∙ h
+turn-at : (b : Bool) (x : ℕ) (rest kept new all : List ℕ) → has kept x ≡ b → new ≡ cond b kept (kept ++ x ∷ []) → kept ++ filter (absent kept) (distinct ◌==◌ (x ∷ rest)) ≡ distinct ◌==◌ all → new ++ filter (absent new) (distinct ◌==◌ rest) ≡ distinct ◌==◌ all
+turn-at true x rest kept new all is e h = ap (λ l. l ++ filter (absent l) (distinct ◌==◌ rest)) e ∙ ap (λ l. kept ++ l) (sym (distinct-old kept rest x is)) ∙ h
+turn-at false x rest kept new all is e h = ap (λ l. l ++ filter (absent l) (distinct ◌==◌ rest)) e ∙ sym (distinct-new kept rest x is) ∙ h
 
 same-at : (b c : Bool) (x y : ℕ) (kept new : List ℕ) → has kept x ≡ b → new ≡ cond b kept (kept ++ x ∷ []) → (x == y) ≡ c → cond c true (has kept y) ≡ has new y
 same-at true true x y kept new is e eq = sym (ap (λ l. has l y) e ∙ ap (has kept) (sym (eqb-true x y eq)) ∙ is)
@@ -153,11 +154,11 @@ kept-turn all k x kept new seen grown lt is pushed grows before =
     let here : drop k all ≡ x ∷ drop (k + 1) all = drop-cons all k x lt ∙ ap (λ h. h ∷ drop (suc k) all) (sym is) ∙ ap (λ n. x ∷ drop n all) (let e : suc k ≡ k + 1 = omega arith in e) in
     let pushed' : new ≡ cond (has kept x) kept (kept ++ x ∷ []) = pushed ∙ ap (λ b. cond b kept (kept ++ x ∷ [])) (before.same x) in
     record {
-      whole = turn-at (has kept x) x (drop (k + 1) all) kept new all refl pushed' (ap (λ l. kept ++ filter (absent kept) (distinct l)) (sym here) ∙ before.whole);
+      whole = turn-at (has kept x) x (drop (k + 1) all) kept new all refl pushed' (ap (λ l. kept ++ filter (absent kept) (distinct ◌==◌ l)) (sym here) ∙ before.whole);
       same = λ y. grows y ∙ ap (λ b. cond (x == y) true b) (before.same y) ∙ same-at (has kept x) (x == y) x y kept new refl pushed' refl;
     }
 
 -- at the end all are kept
-pub kept-end : (all : List ℕ) (k : ℕ) (kept : List ℕ) (seen : BTreeSet ℕ) → length all ≤ k → AreKept all k kept seen → kept ≡ distinct all
+pub kept-end : (all : List ℕ) (k : ℕ) (kept : List ℕ) (seen : BTreeSet ℕ) → length all ≤ k → AreKept all k kept seen → kept ≡ distinct ◌==◌ all
 kept-end all k kept seen past done =
-    sym (append-nil kept) ∙ ap (λ l. kept ++ filter (absent kept) (distinct l)) (sym (drop_all k all past)) ∙ done.whole
+    sym (append-nil kept) ∙ ap (λ l. kept ++ filter (absent kept) (distinct ◌==◌ l)) (sym (drop_all k all past)) ∙ done.whole

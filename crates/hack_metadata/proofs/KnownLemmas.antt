@@ -1,6 +1,7 @@
 -- Ids that are read are places of packages.
 use Rattle.std.proofs.Common.{◌≡◌, ◌==◌, ◌&&◌, not, ℕ, zero, suc, ◌+◌, ◌<◌, nat_lt, Bool, true, false, cond, List, [], ◌∷◌, map, length, get_or, Option, Some, None, Ok, Err, Ordering, Less, Equal, Greater, option_and_then, nat_cmp, codes, arith, refl, sym, ap, subst, ◌∙◌}
 use Rattle.std.specs.List.{list_all, filter}
+use Rattle.std.specs.Option.{ok_or, option_or}
 use Rattle.std.specs.Str.{bytes_eq}
 use Rattle.std.specs.Ordering.{match_ordering}
 use Rattle.std.specs.BTreeMap.{insert_entry}
@@ -10,11 +11,11 @@ use Rattle.std.proofs.lemmas.Bool.Decides.{nat_tests}
 use Rattle.serde_json.specs.Data.{Data, Items, no_items, item, Members}
 use Rattle.serde_json.specs.Find.{as_str}
 use Rattle.hack_base.specs.Names.{Name}
-use Rattle.hack_metadata.specs.Fields.{or_name, string_in, array_in, nullable_in, element_of, read_all}
+use Rattle.hack_metadata.specs.Fields.{string_in, array_in, nullable_in, element_of, read_all}
 use Rattle.hack_base.specs.FieldReadings.{◌>>=◌, FieldReading}
 use Rattle.hack_metadata.specs.KnownIds.{is_known_node, are_known}
 use Rattle.hack_metadata.specs.Internal.{Bounds}
-use Rattle.hack_metadata.specs.MetadataReading.{later, place_from, place_of, distinct, read_member, workspace_members_in, kinds_in, read_node_dep, deps_in, read_node, with_nodes, read_resolve, resolve_in, ids_of}
+use Rattle.hack_metadata.specs.MetadataReading.{place_from, place_of, distinct, read_member, workspace_members_in, kinds_in, read_node_dep, deps_in, read_node, with_nodes, read_resolve, resolve_in, ids_of}
 use Rattle.hack_metadata.specs.Records.{PackageRecord, NodeDepRecord, NodeRecord, Nodes}
 use Rattle.hack_metadata.specs.RecordViews.{package_view, place_at}
 use Rattle.hack_metadata.specs.declared.metadata.package.Package.{Package}
@@ -30,7 +31,7 @@ behind : {A B : Type 0} (r : FieldReading A) (g : A → FieldReading B) (y : B) 
 behind (Ok x) g y e = record { value = x; read = refl; then = e }
 behind (Err name) g y e = absurd (cc)
 
-named-some : {A : Type 0} (key : Name) (o : Option A) (x : A) → or_name key o ≡ Ok x → o ≡ Some x
+named-some : {A : Type 0} (key : Name) (o : Option A) (x : A) → ok_or o key ≡ Ok x → o ≡ Some x
 named-some key None x e = absurd (cc)
 named-some key (Some y) x e = let q : y ≡ x = cc in ap Some q
 
@@ -62,12 +63,12 @@ all-filter : (p q : ℕ → Bool) (xs : List ℕ) → list_all p xs ≡ true →
 all-filter p q [] h = h
 all-filter p q (x ∷ xs) h = kept-go (q x) p x (filter q xs) (and-first (p x) (list_all p xs) h) (all-filter p q xs (and-second (p x) (list_all p xs) h))
 
-all-distinct : (p : ℕ → Bool) (xs : List ℕ) → list_all p xs ≡ true → list_all p (distinct xs) ≡ true
+all-distinct : (p : ℕ → Bool) (xs : List ℕ) → list_all p xs ≡ true → list_all p (distinct ◌==◌ xs) ≡ true
 all-distinct p [] h = h
 all-distinct p (x ∷ xs) h =
-    and-intro (p x) _ (and-first (p x) (list_all p xs) h) (all-filter p (λ y. not (y == x)) (distinct xs) (all-distinct p xs (and-second (p x) (list_all p xs) h)))
+    and-intro (p x) _ (and-first (p x) (list_all p xs) h) (all-filter p (λ y. not (y == x)) (distinct ◌==◌ xs) (all-distinct p xs (and-second (p x) (list_all p xs) h)))
 
-below-go : (first : Option ℕ) (b : Bool) (k0 n k : ℕ) → ((j : ℕ) → first ≡ Some j → j < (k0 + 1) + n) → later first (cond b (Some k0) None) ≡ Some k → k < k0 + suc n
+below-go : (first : Option ℕ) (b : Bool) (k0 n k : ℕ) → ((j : ℕ) → first ≡ Some j → j < (k0 + 1) + n) → option_or first (cond b (Some k0) None) ≡ Some k → k < k0 + suc n
 below-go (Some j) b k0 n k h e = let q : j ≡ k = cc in let l = h j refl in omega (arith, l, q)
 below-go None true k0 n k h e = let q : k0 ≡ k = cc in omega (arith, q)
 below-go None false k0 n k h e = absurd (cc)
@@ -91,7 +92,7 @@ module _ (place : Name → Option ℕ) (n : ℕ) (bounds : Bounds place n) where
   members-known ms xs e =
       let all = behind (array_in (codes "workspace_members") ms >>= read_all (read_member place)) _ xs e in
       let list = behind (array_in (codes "workspace_members") ms) _ all.value all.read in
-      let same : xs ≡ distinct all.value = (let q : Ok (distinct all.value) ≡ Ok xs = all.then in cc) in
+      let same : xs ≡ distinct ◌==◌ all.value = (let q : Ok (distinct ◌==◌ all.value) ≡ Ok xs = all.then in cc) in
       ap (list_all (λ m. nat_lt m n)) same ∙ all-distinct (λ m. nat_lt m n) all.value (all-read (read_member place) (λ m. nat_lt m n) member-known list.value all.value list.then)
 
   module _ (minor : ℕ) where
@@ -99,7 +100,7 @@ module _ (place : Name → Option ℕ) (n : ℕ) (bounds : Bounds place n) where
     dep-known d r e =
         let ms = behind (element_of (codes "deps") d) _ r e in
         let id = behind (string_in (codes "pkg") ms.value) _ r ms.then in
-        let pkg = behind (or_name (codes "pkg") (place id.value)) _ r id.then in
+        let pkg = behind (ok_or (place id.value) (codes "pkg")) _ r id.then in
         let kinds = behind (kinds_in minor ms.value) _ r pkg.then in
         let same : pkg.value ≡ r.pkg = (let q : Ok (record { pkg = pkg.value; dep_kinds = kinds.value }) ≡ Ok r = kinds.then in cc) in
         subst (λ k. nat_lt k n ≡ true) same (bounds id.value pkg.value (named-some (codes "pkg") (place id.value) pkg.value pkg.read))
@@ -118,7 +119,7 @@ module _ (place : Name → Option ℕ) (n : ℕ) (bounds : Bounds place n) where
         let ms = behind (element_of (codes "nodes") d) _ r e in
         let id = behind (string_in (codes "id") ms.value) _ r ms.then in
         let deps = behind (deps_in place minor ms.value) _ r id.then in
-        let at = behind (or_name (codes "id") (place id.value)) _ r deps.then in
+        let at = behind (ok_or (place id.value) (codes "id")) _ r deps.then in
         let same : (at.value, record { deps = deps.value }) ≡ r = (let q : Ok (at.value, record { deps = deps.value }) ≡ Ok r = at.then in cc) in
         subst (λ x. known_entry x ≡ true) same
         (and-intro (nat_lt at.value n) _ (bounds id.value at.value (named-some (codes "id") (place id.value) at.value at.read)) (deps-go (nat_le 30 minor) ms.value deps.value deps.read))

@@ -6,7 +6,7 @@ use Rattle.std.specs.Cmp.Lexicographic.{bytes_decides}
 use Rattle.std.proofs.lemmas.Bool.{cases_Bool}
 use Rattle.std.proofs.lemmas.List.{append_cancel_left}
 use Rattle.hack_base.specs.Names.{Name}
-use Rattle.hack_metadata.specs.PackageSpecs.{BeginsWith, is_byte, unless_empty, Url, IsUrl, Identity, AreUrls, IsPlace, AsksVersion, of_name, of_fragment, alone, Matches, named, placed, name_at, versioned, HasBadId, HasBadVersion, has_byte, behind_first_byte, separates, begins_with_digit, trimmed_end}
+use Rattle.hack_metadata.specs.PackageSpecs.{BeginsWith, is_byte, unless_empty, Url, IsUrl, Identity, IsPlace, AsksVersion, of_name, of_fragment, alone, Matches, named, placed, name_at, versioned, HasBadId, HasBadVersion, has_byte, behind_first_byte, separates, begins_with_digit, trimmed_end}
 use Rattle.hack_metadata.specs.InternalSpecAnswers.{MatchAnswer, fits, parts_at_separator, behind_name, with_version, alone_in, in_fragment, of_fragments, is_same_place, of_urls, IsUrlOrNone, IsBehind}
 use Rattle.hack_metadata.specs.declared.cargo.SpecFault.TheVariants.{BadId, BadVersion}
 use Rattle.hack_metadata.proofs.TextLemmas.{scheme-same}
@@ -26,13 +26,13 @@ module _ (p : Identity) (spec : Name) where
   name-asks : (rest given full : Name) → spec ≡ p.name ++ rest → AsksVersion p spec given full → behind_name p.version rest ≡ fits given full
   name-asks rest given full e (of_name by sep eq v) =
       ap (behind_name p.version) (append_cancel_left p.name rest (by ∷ given) (sym e ∙ eq)) ∙ ap (λ b. cond b (fits given p.version) (Ok false)) sep ∙ ap (fits given) v
-  name-asks rest given full e (of_fragment url own text id_text place e1 e2 names b1 b2) = absurd (place.urls.unnamed (rest, e))
-  name-asks rest given full e (alone url own place e1 some none differs digit v) = absurd (place.urls.unnamed (rest, e))
+  name-asks rest given full e (of_fragment url own text id_text place e1 e2 names b1 b2) = absurd (place.unnamed (rest, e))
+  name-asks rest given full e (alone url own place e1 some none differs digit v) = absurd (place.unnamed (rest, e))
 
   name-matches : (rest : Name) → spec ≡ p.name ++ rest → Matches p spec → behind_name p.version rest ≡ Ok true
   name-matches rest e (named eq) = ap (behind_name p.version) (append_cancel_left p.name rest [] (sym e ∙ eq ∙ sym (append-nil p.name)))
-  name-matches rest e (placed url own place none) = absurd (place.urls.unnamed (rest, e))
-  name-matches rest e (name_at url own place is some none) = absurd (place.urls.unnamed (rest, e))
+  name-matches rest e (placed url own place none) = absurd (place.unnamed (rest, e))
+  name-matches rest e (name_at url own place is some none) = absurd (place.unnamed (rest, e))
   name-matches rest e (versioned given full asks h) = name-asks rest given full e asks ∙ fits-tested given full h
 
 -- ---- URLs
@@ -104,23 +104,23 @@ module _ (p : Identity) (spec : Name) where
   fragments-go g o place (Some text) None eg eo = no refl
   fragments-go g o place (Some text) (Some own) eg eo = fragment-go g o place text own eg eo (has_byte separates text) refl
 
-  place-go : (g o : Url) → AreUrls p spec g o → (b : Bool) → is_same_place g o ≡ b → Comes p spec (cond b (of_fragments p g.fragment o.fragment) (Ok false))
-  place-go g o urls true e =
+  place-go : (g o : Url) → ¬ BeginsWith spec p.name → IsUrl (trimmed_end spec) g → IsUrl p.id o → (b : Bool) → is_same_place g o ≡ b → Comes p spec (cond b (of_fragments p g.fragment o.fragment) (Ok false))
+  place-go g o unnamed hg ho true e =
       let same = place-holds g o e in
-      fragments-go g o (record { urls = urls; protocol = same.0; path = same.1; query = same.2 }) g.fragment o.fragment refl refl
-  place-go g o urls false e = no refl
+      fragments-go g o (record { unnamed = unnamed; spec_is = hg; id_is = ho; protocol = same.0; path = same.1; query = same.2 }) g.fragment o.fragment refl refl
+  place-go g o unnamed hg ho false e = no refl
 
   module _ (unnamed : ¬ BeginsWith spec p.name) where
     url-comes : (g o : Option Url) → IsUrlOrNone (trimmed_end spec) g → IsUrlOrNone p.id o → Comes p spec (of_urls p g o)
     url-comes None o hg ho = no refl
     url-comes (Some g) None hg ho = no_id (record { unnamed = unnamed; url = g; spec_is = hg; id_is = ho }) refl
-    url-comes (Some g) (Some o) hg ho = place-go g o (record { unnamed = unnamed; spec_is = hg; id_is = ho }) (is_same_place g o) refl
+    url-comes (Some g) (Some o) hg ho = place-go g o unnamed hg ho (is_same_place g o) refl
 
     module _ (g o : Option Url) (hg : IsUrlOrNone (trimmed_end spec) g) (ho : IsUrlOrNone p.id o) where
       place-answer : (url own : Url) → IsPlace p spec url own → of_urls p g o ≡ of_fragments p url.fragment own.fragment
       place-answer url own place =
-          ap (λ x. of_urls p x o) (read-same (trimmed_end spec) g url hg place.urls.spec_is)
-          ∙ ap (of_urls p (Some url)) (read-same p.id o own ho place.urls.id_is)
+          ap (λ x. of_urls p x o) (read-same (trimmed_end spec) g url hg place.spec_is)
+          ∙ ap (of_urls p (Some url)) (read-same p.id o own ho place.id_is)
           ∙ ap (λ b. cond b (of_fragments p url.fragment own.fragment) (Ok false)) (place-tested url own place.protocol place.path place.query)
 
       alone-answer : (text : Name) (own : Option Name) → is_some own ≡ true → has_byte separates text ≡ false → of_fragments p (Some text) own ≡ alone_in p text

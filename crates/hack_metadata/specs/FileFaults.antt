@@ -7,13 +7,9 @@ use Rattle.hack_files.specs.declared.fs.FsFault.TheVariants as fs
 -- the path can't be read
 abbrev pub IsUnread : Name → FsFault → Type 0
 IsUnread path (fs.Read p) = string_bytes p ≡ path
-IsUnread path (fs.Write p) = ⊥
-IsUnread path (fs.NotText p) = ⊥
-IsUnread path fs.Memory = ⊥
+IsUnread path _ = ⊥
 
 -- the path can't be written
 abbrev pub IsUnwritten : Name → FsFault → Type 0
-IsUnwritten path (fs.Read p) = ⊥
 IsUnwritten path (fs.Write p) = string_bytes p ≡ path
-IsUnwritten path (fs.NotText p) = ⊥
-IsUnwritten path fs.Memory = ⊥
+IsUnwritten path _ = ⊥

@@ -18,10 +18,7 @@ Spoilt path tells old new before now = GrowsBy 1 before now × (tells → KeepsO
 abbrev pub LeftBy : Name → Type 0 → Contents → Contents → ℕ → ℕ → AskFault → Type 0
 LeftBy path tells old new before now fault.Memory = Whole tells old new before now ⊎ Spoilt path tells old new before now
 LeftBy path tells old new before now (fault.Files e) = Spoilt path tells old new before now
-LeftBy path tells old new before now fault.NoHost = Whole tells old new before now
-LeftBy path tells old new before now (fault.Process e) = Whole tells old new before now
-LeftBy path tells old new before now (fault.Output text) = Whole tells old new before now
-LeftBy path tells old new before now (fault.Field name) = Whole tells old new before now
+LeftBy path tells old new before now _ = Whole tells old new before now
 
 -- what a result leaves: each path as it was, or what its error leaves
 abbrev pub LeavesFiles : {X : Type 0} → Name → Type 0 → Contents → Contents → ℕ → ℕ → Result X AskFault → Type 0

@@ -27,28 +27,18 @@ use Rattle.hack_metadata.specs.declared.cargo.UrlParts.{UrlParts}
 abbrev pub IsFileFault : (FsFault → Type 0) → AskFault → Type 0
 IsFileFault P fault.Memory = Unit {0}
 IsFileFault P (fault.Files f) = P f
-IsFileFault P fault.NoHost = ⊥
-IsFileFault P (fault.Process p) = ⊥
-IsFileFault P (fault.Output text) = ⊥
-IsFileFault P (fault.Field name) = ⊥
+IsFileFault P _ = ⊥
 
 -- the error is not one of the files
 abbrev pub IsNoFileFault : AskFault → Type 0
-IsNoFileFault fault.Memory = Unit {0}
-IsNoFileFault fault.NoHost = Unit {0}
-IsNoFileFault (fault.Process p) = Unit {0}
 IsNoFileFault (fault.Files f) = ⊥
-IsNoFileFault (fault.Output text) = Unit {0}
-IsNoFileFault (fault.Field name) = Unit {0}
+IsNoFileFault _ = Unit {0}
 
 -- `still`, and the path can't be read; or `done`, and it can't be written, or memory was refused
 abbrev pub FailsOver : Name → Type 0 → Type 0 → AskFault → Type 0
 FailsOver path still done fault.Memory = done
 FailsOver path still done (fault.Files f) = (still × IsUnread path f) ⊎ (done × IsUnwritten path f)
-FailsOver path still done fault.NoHost = ⊥
-FailsOver path still done (fault.Process p) = ⊥
-FailsOver path still done (fault.Output text) = ⊥
-FailsOver path still done (fault.Field name) = ⊥
+FailsOver path still done _ = ⊥
 
 -- one more path is kept, with what it holds
 abbrev pub KeepsOneMore : Name → Type 0 → Contents → List Kept → List Kept → Type 0
@@ -62,9 +52,7 @@ RestoresFile file tells old new before now (Err e) = IsFileFault (IsUnwritten fi
 -- an error of a file as an error of the question
 abbrev pub IsAskFaultOfFile : FsFault → AskFault → Type 0
 IsAskFaultOfFile fs.Memory e = e ≡ fault.Memory
-IsAskFaultOfFile (fs.Read path) e = e ≡ fault.Files (fs.Read path)
-IsAskFaultOfFile (fs.Write path) e = e ≡ fault.Files (fs.Write path)
-IsAskFaultOfFile (fs.NotText path) e = e ≡ fault.Files (fs.NotText path)
+IsAskFaultOfFile f e = e ≡ fault.Files f
 
 -- a write of the path, of which P holds, has what it held, where the files say what they hold
 abbrev pub PutsHeld : Type 0 → Contents → Name → (Change → Type 0) → Type 0

@@ -36,26 +36,18 @@ FailsFirst q minor old new e = StopsQuestion q (newer minor) old new e ⊎ ((tex
 -- why f can't be read from a text
 abbrev pub IsTextFault : {A : Type 0} → (Members → FieldReading A) → Name → Name → AskFault → Type 0
 IsTextFault f text shown fault.Memory = Unit {0}
-IsTextFault f text shown fault.NoHost = ⊥
-IsTextFault f text shown (fault.Process p) = ⊥
-IsTextFault f text shown (fault.Files e) = ⊥
 IsTextFault f text shown (fault.Output told) = (object_in_text text ≡ None) × (string_bytes told ≡ shown)
 IsTextFault f text shown (fault.Field name) = (ms : Members) × (object_in_text text ≡ Some ms) × (f ms ≡ Err name.now)
+IsTextFault f text shown _ = ⊥
 
 -- why a text can't be read as an object
 abbrev pub IsObjectFault : Name → Name → AskFault → Type 0
 IsObjectFault text shown fault.Memory = Unit {0}
-IsObjectFault text shown fault.NoHost = ⊥
-IsObjectFault text shown (fault.Process p) = ⊥
-IsObjectFault text shown (fault.Files e) = ⊥
 IsObjectFault text shown (fault.Output told) = (object_in_text text ≡ None) × (string_bytes told ≡ shown)
-IsObjectFault text shown (fault.Field name) = ⊥
+IsObjectFault text shown _ = ⊥
 
 -- memory was refused and M holds, or a command failed by an error of which P holds
 abbrev pub FailsAs : Type 0 → (ProcessFault → Type 0) → AskFault → Type 0
 FailsAs M P fault.Memory = M
-FailsAs M P fault.NoHost = ⊥
 FailsAs M P (fault.Process p) = P p
-FailsAs M P (fault.Files e) = ⊥
-FailsAs M P (fault.Output text) = ⊥
-FailsAs M P (fault.Field name) = ⊥
+FailsAs M P _ = ⊥

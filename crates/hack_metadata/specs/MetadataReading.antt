@@ -2,6 +2,7 @@
 -- or has the wrong type, in this order of fields. `minor` is the minor version of the cargo that
 -- wrote the data: some fields came with a later one.
 use Rattle.std.specs.Prelude.{ℕ, ◌+◌, ◌==◌, Bool, true, false, not, List, [], ◌∷◌, Option, Some, None, Ok, codes, filter, map, nat_le, option_map, option_and_then, if◌then◌else◌}
+use Rattle.std.specs.Option.{ok_or, option_map_or, option_or}
 use Rattle.std.specs.Ordering.{nat_cmp}
 use Rattle.std.specs.Str.{bytes_eq}
 use Rattle.std.specs.BTreeMap.{insert_entry}
@@ -9,7 +10,7 @@ use Rattle.serde_json.specs.Data.{Data, Items, no_items, item, Members, no_membe
 use Rattle.serde_json.specs.Find.{as_str, as_array}
 use Rattle.hack_base.specs.Names.{Name}
 use Rattle.hack_features.specs.FeatureMap.{FeatureMap}
-use Rattle.hack_metadata.specs.Fields.{or_name, string_in, bool_in, array_in, object_in, nullable_in, optional_text_in, element_of, read_all}
+use Rattle.hack_metadata.specs.Fields.{string_in, bool_in, array_in, object_in, nullable_in, optional_text_in, element_of, read_all}
 use Rattle.hack_base.specs.FieldReadings.{◌>>=◌, FieldReading}
 use Rattle.hack_metadata.specs.Records.{DependencyRecord, PackageRecord, KindRecord, NodeDepRecord, NodeRecord, Nodes, MetadataRecord}
 
@@ -36,7 +37,7 @@ features_of (member name d ms) = option_and_then (λ values. option_map (λ feat
 
 -- `features`, an object of arrays of texts
 abbrev pub features_in : Members → FieldReading FeatureMap
-features_in ms = object_in (codes "features") ms >>= λ features. or_name (codes "features") (features_of features)
+features_in ms = object_in (codes "features") ms >>= λ ms. ok_or (features_of ms) (codes "features")
 
 -- there is an item
 abbrev pub has_items : Items → Bool
@@ -45,8 +46,7 @@ has_items (item d ds) = true
 
 -- whether a package may be published, by what `publish` holds: null, or a list with a registry
 abbrev pub may_publish : Option Data → FieldReading Bool
-may_publish None = Ok true
-may_publish (Some d) = or_name (codes "publish") (option_map has_items (as_array d))
+may_publish o = option_map_or (λ d. ok_or (option_map has_items (as_array d)) (codes "publish")) o (Ok true)
 
 -- `publish`, from cargo 1.39 on
 abbrev pub publish_in : ℕ → Members → FieldReading Bool
@@ -72,34 +72,30 @@ read_package minor d =
 
 -- ---- package ids
 
--- of two places that a name may have, the later one
-abbrev pub later : Option ℕ → Option ℕ → Option ℕ
-later (Some place) earlier = Some place
-later None earlier = earlier
-
 -- the place of the last package with the id, where the first of the ids has the place k
 abbrev pub place_from : ℕ → List Name → Name → Option ℕ
 place_from k [] id = None
-place_from k (x ∷ ids) id = later (place_from (k + 1) ids id) (if bytes_eq x id then Some k else None)
+place_from k (x ∷ ids) id = option_or (place_from (k + 1) ids id) (if bytes_eq x id then Some k else None)
 
 -- the place of the last package with the id, none where no package has it
 abbrev pub place_of : List Name → Name → Option ℕ
 place_of ids id = place_from 0 ids id
 
--- the numbers, each once, at its first place
-abbrev pub distinct : List ℕ → List ℕ
-distinct [] = []
-distinct (x ∷ xs) = x ∷ filter (λ y. not (y == x)) (distinct xs)
+-- the elements, each once, at its first place; `same` tells which are the same
+abbrev pub distinct : {A : Type 0} → (A → A → Bool) → List A → List A
+distinct same [] = []
+distinct same (x ∷ xs) = x ∷ filter (λ y. not (same y x)) (distinct same xs)
 
 -- `place` says which package an id means
 module _ (place : Name → Option ℕ) where
   -- an element of `workspace_members`: the id of a package
   abbrev pub read_member : Data → FieldReading ℕ
-  read_member d = or_name (codes "workspace_members") (option_and_then place (as_str d))
+  read_member d = ok_or (option_and_then place (as_str d)) (codes "workspace_members")
 
   -- `workspace_members`
   abbrev pub workspace_members_in : Members → FieldReading (List ℕ)
-  workspace_members_in ms = (array_in (codes "workspace_members") ms >>= read_all read_member) >>= λ members. Ok (distinct members)
+  workspace_members_in ms =
+      (array_in (codes "workspace_members") ms >>= read_all read_member) >>= λ members. Ok (distinct ◌==◌ members)
 
 -- ---- the graph of dependencies
 
@@ -126,7 +122,7 @@ module _ (place : Name → Option ℕ) (minor : ℕ) where
   read_node_dep d =
       element_of (codes "deps") d >>= λ ms.
       string_in (codes "pkg") ms >>= λ id.
-      or_name (codes "pkg") (place id) >>= λ pkg.
+      ok_or (place id) (codes "pkg") >>= λ pkg.
       kinds_in minor ms >>= λ kinds.
       Ok (record { pkg = pkg; dep_kinds = kinds })
 
@@ -140,7 +136,7 @@ module _ (place : Name → Option ℕ) (minor : ℕ) where
       element_of (codes "nodes") d >>= λ ms.
       string_in (codes "id") ms >>= λ id.
       deps_in ms >>= λ deps.
-      or_name (codes "id") (place id) >>= λ at.
+      ok_or (place id) (codes "id") >>= λ at.
       Ok (at, record { deps = deps })
 
   -- `nodes`

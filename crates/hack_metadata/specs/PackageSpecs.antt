@@ -115,15 +115,12 @@ begins_with_digit [] = false
 begins_with_digit (x ∷ xs) = nat_le 48 x && nat_le x 57
 
 module _ (p : Identity) (spec : Name) where
-  -- the specification is a URL, white space at its end aside, and the id is one
-  pub record AreUrls (given own : Url) : Type 0 where
+  -- the specification is a URL, white space at its end aside, and the id is one, of the same place:
+  -- protocol and path, and the query where it is given
+  pub record IsPlace (given own : Url) : Type 0 where
     pub unnamed : ¬ BeginsWith spec p.name
     pub spec_is : IsUrl (trimmed_end spec) given
     pub id_is : IsUrl p.id own
-
-  -- the same place: protocol and path, and the query where it is given
-  pub record IsPlace (given own : Url) : Type 0 where
-    pub urls : AreUrls given own
     pub protocol : given.protocol ≡ own.protocol
     pub path : given.path ≡ own.path
     pub query : AgreesIfGiven given.query own.query

@@ -4,7 +4,6 @@ use Rattle.std.specs.Str.{IsUtf8}
 use Rattle.serde_json.specs.Data.{Members}
 use Rattle.hack_base.specs.Names.{Name}
 use Rattle.hack_files.specs.Files.{Change, Contents, Makes, puts}
-use Rattle.hack_files.specs.declared.fs.FsFault.{FsFault}
 use Rattle.hack_metadata.specs.FileFaults.{IsUnread, IsUnwritten}
 use Rattle.hack_versions.specs.declared.version.Version.{Version}
 use Rattle.hack_versions.specs.declared.rustup.VersionTextFault.{VersionTextFault}
@@ -104,12 +103,11 @@ module _ (tells : Type 0) (q : Question) (held : Contents) (old : List Call) whe
 -- the command that may be called at a stage
 abbrev pub IsNextCommand : Question → Stage → Command → Type 0
 IsNextCommand q begun c = c ≡ version_command q.rustup
-IsNextCommand q (versioned minor) c = ⊥
 IsNextCommand q to_cargo c = (words : List Name) × (q.full ≡ Some words) × (c ≡ command_line q.cargo words)
 IsNextCommand q (newer minor) c = c ≡ first_command q
 IsNextCommand q (first minor text) c = c ≡ lock_command q
 IsNextCommand q (locked minor text) c = (words : List Name) × (q.full ≡ Some words) × (c ≡ by_stable q words)
-IsNextCommand q (taken c minor text) next = ⊥
+IsNextCommand q _ c = ⊥
 
 -- nothing more was called, or just the next command
 abbrev pub MayAsk : Question → Stage → List Call → List Call → Type 0
@@ -117,58 +115,42 @@ MayAsk q stage mid new = (new ≡ mid) ⊎ ((c : Command) × IsNextCommand q sta
 
 -- the answer that is read at a stage is this text, of this command
 abbrev pub IsAnswer : Question → Stage → Command → Name → Type 0
-IsAnswer q begun c text = ⊥
-IsAnswer q (versioned minor) c text = ⊥
-IsAnswer q to_cargo c text = ⊥
-IsAnswer q (newer minor) c text = ⊥
 IsAnswer q (first minor told) c text = (c ≡ first_command q) × (text ≡ told)
-IsAnswer q (locked minor told) c text = ⊥
 IsAnswer q (taken by told minor) c text = (c ≡ by) × (text ≡ told)
+IsAnswer q _ c text = ⊥
 
 -- the answer of a stage can't be read at this field: the workspace's folder, or any of the metadata
 abbrev pub Lacks : Stage → Name → Type 0
-Lacks begun name = ⊥
-Lacks (versioned minor) name = ⊥
-Lacks to_cargo name = ⊥
-Lacks (newer minor) name = ⊥
 Lacks (first minor text) name = (ms : Members) × (object_in_text text ≡ Some ms) × (root_of ms ≡ Err name)
-Lacks (locked minor text) name = ⊥
 Lacks (taken c text minor) name = (ms : Members) × (object_in_text text ≡ Some ms) × (read_metadata minor ms ≡ Err name)
+Lacks _ name = ⊥
 
 -- a command that fails at this stage ends the question; stable's cargo may fail
 abbrev pub IsNeeded : Stage → Type 0
-IsNeeded begun = ⊥
-IsNeeded (versioned minor) = ⊥
 IsNeeded to_cargo = Unit {0}
 IsNeeded (newer minor) = Unit {0}
 IsNeeded (first minor text) = Unit {0}
-IsNeeded (locked minor text) = ⊥
-IsNeeded (taken c text minor) = ⊥
+IsNeeded _ = ⊥
 
--- the lockfile can't be looked for or read before stable's cargo runs, or not be put back after it
-abbrev pub StopsAtFile : Question → Stage → List Call → List Call → FsFault → Type 0
-StopsAtFile q stage mid new f = (minor : ℕ) × (text : Name) × (path : Name) × IsLockfile text path
-    × (((new ≡ mid) × IsUnread path f × ((stage ≡ first minor text) ⊎ (stage ≡ locked minor text)))
-    ⊎ (MayAsk q stage mid new × IsUnwritten path f × (stage ≡ locked minor text)))
-
--- why a question ends after a stage; at most one more call was made
+-- why a question ends after a stage; at most one more call was made. The lockfile can't be looked
+-- for or read before stable's cargo runs, or not be put back after it.
 abbrev pub StopsQuestion : Question → Stage → List Call → List Call → AskFault → Type 0
 StopsQuestion q stage mid new fault.Memory = MayAsk q stage mid new
 StopsQuestion q stage mid new fault.NoHost = (minor : ℕ) × (stage ≡ versioned minor) × (new ≡ mid) × (q.full ≡ None)
 StopsQuestion q stage mid new (fault.Process p) = IsNeeded stage × ((c : Command) × IsNextCommand q stage c × IsReadFault (Unit {0}) (asked_of true c) (text_of true q.dir c) mid new p)
-StopsQuestion q stage mid new (fault.Files f) = StopsAtFile q stage mid new f
+StopsQuestion q stage mid new (fault.Files f) = (minor : ℕ) × (text path : Name) × IsLockfile text path
+    × (((new ≡ mid) × IsUnread path f × ((stage ≡ first minor text) ⊎ (stage ≡ locked minor text)))
+    ⊎ (MayAsk q stage mid new × IsUnwritten path f × (stage ≡ locked minor text)))
 StopsQuestion q stage mid new (fault.Output shown) = (new ≡ mid) × ((c : Command) × (text : Name) × IsAnswer q stage c text × (object_in_text text ≡ None) × (string_bytes shown ≡ text_of q.verbose q.dir c))
 StopsQuestion q stage mid new (fault.Field name) = (new ≡ mid) × Lacks stage name.now
 
 module _ (tells : Type 0) (q : Question) (held : Contents) (old new : List Call) where
-  -- calls and writes led to a stage where this error ends the question, and `W` holds of the writes
-  abbrev pub Halts : (Stage → List Change → Type 0) → AskFault → Type 0
-  Halts W e = (stage : Stage) × (mid : List Call) × (made : List Change) × LeadsToStage tells q held old stage mid made × StopsQuestion q stage mid new e × W stage made
-
-  -- the metadata are those of the answer that is used, or the error ended the question
+  -- the metadata are those of the answer that is used, or calls and writes led to a stage where
+  -- this error ends the question; and `W` holds of the writes
   abbrev pub EndsSo : (Stage → List Change → Type 0) → Result Metadata AskFault → Type 0
   EndsSo W (Ok m) = (c : Command) × (text : Name) × (minor : ℕ) × (made : List Change) × LeadsToStage tells q held old (taken c text minor) new made × W (taken c text minor) made × TellsAs (read_metadata minor) text (metadata_view m)
-  EndsSo W (Err e) = Halts W e
+  EndsSo W (Err e) = (stage : Stage) × (mid : List Call) × (made : List Change)
+      × LeadsToStage tells q held old stage mid made × StopsQuestion q stage mid new e × W stage made
 
   -- how a question ended, whatever was written
   abbrev pub QuestionEndsWith : Result Metadata AskFault → Type 0
@@ -176,13 +158,8 @@ module _ (tells : Type 0) (q : Question) (held : Contents) (old new : List Call)
 
 -- just the writes that led to a stage were made; at `locked` the lockfile may be put back too
 abbrev pub Wrote : Type 0 → Contents → (List Change → Type 0) → Stage → List Change → Type 0
-Wrote tells held Made begun made = Made made
-Wrote tells held Made (versioned minor) made = Made made
-Wrote tells held Made to_cargo made = Made made
-Wrote tells held Made (newer minor) made = Made made
-Wrote tells held Made (first minor text) made = Made made
 Wrote tells held Made (locked minor text) made = Made made ⊎ ((put : Change) × PutsBack tells held text put × Made (made ++ put ∷ []))
-Wrote tells held Made (taken c text minor) made = Made made
+Wrote tells held Made _ made = Made made
 
 -- where the files say which changes were made, these are all of them
 abbrev pub WroteWhereKnown : Type 0 → Type 0 → List Change → List Change → Contents → Contents → Stage → List Change → Type 0

@@ -1,5 +1,6 @@
 -- The commands that ask cargo for the metadata of a workspace, argument by argument.
 use Rattle.std.specs.Prelude.{ℕ, Bool, true, false, List, [], ◌∷◌, ◌++◌, Option, Some, None, codes, map, option_map, string_bytes}
+use Rattle.std.specs.Option.{option_map_or}
 use Rattle.std.specs.List.{flat_map}
 use Rattle.hack_base.specs.Names.{Name, optional_text}
 use Rattle.hack_process.specs.CommandTexts.{Command}
@@ -12,23 +13,18 @@ command_line program words = record { program = program; strip_program_path = fa
 
 -- `--manifest-path` and its value, where it is given
 abbrev pub path_words : Option Name → List Name
-path_words None = []
-path_words (Some path) = codes "--manifest-path" ∷ path ∷ []
+path_words o = option_map_or (λ path. codes "--manifest-path" ∷ path ∷ []) o []
 
 -- `--filter-platform` and its value, for each platform
 abbrev pub platform_words : List Name → List Name
 platform_words ps = flat_map (λ p. codes "--filter-platform" ∷ p ∷ []) ps
 
--- the arguments for dependencies on these targets, or else on the host; none where it isn't known
-abbrev pub platform_target_words : List Name → Option Name → Option (List Name)
-platform_target_words [] None = None
-platform_target_words [] (Some host) = Some (platform_words (host ∷ []))
-platform_target_words (t ∷ ts) host = Some (platform_words (t ∷ ts))
-
--- the arguments that say which dependencies are wanted: none, or those for targets
+-- the arguments that say which dependencies are wanted: none, or those for targets, or else for the
+-- host; none where it isn't known
 abbrev pub scope_words : Bool → List Name → Option Name → Option (List Name)
 scope_words false targets host = Some (codes "--no-deps" ∷ [])
-scope_words true targets host = platform_target_words targets host
+scope_words true [] host = option_map (λ h. platform_words (h ∷ [])) host
+scope_words true targets host = Some (platform_words targets)
 
 -- the arguments of the full request, with these for the dependencies
 abbrev pub full_with : Option Name → List Name → List Name

@@ -90,6 +90,13 @@ struct First<'a> {
     lockfile: String,
 }
 
+/// A request to stable's cargo, and the path of the lockfile, which it may change.
+#[derive(Drop)]
+struct OverLockfile<'a> {
+    asked: &'a ProcessBuilder<'a>,
+    lockfile: &'a str,
+}
+
 impl<'a> Question<'a> {
     fn new(
         alloc: Global,
@@ -157,7 +164,11 @@ impl<'a> Question<'a> {
         let words = ["run", "stable", "cargo"];
         let asked = command(alloc, self.env.rustup.as_str(), &words, &self.full)?;
         let lockfile = first.lockfile.as_str();
-        let told = self.read_over(alloc, &asked, lockfile, caller, files, manager)?;
+        let over = OverLockfile {
+            asked: &asked,
+            lockfile,
+        };
+        let told = self.read_over(alloc, &over, caller, files, manager)?;
         match told {
             Some(text) => metadata_in(alloc, text.as_str(), minor, &asked, self.args, self.env),
             None => self.fall_back(alloc, &first, caller),
@@ -228,37 +239,37 @@ impl<'a> Question<'a> {
     fn read_over<C: Caller, F: Files>(
         &self,
         alloc: Global,
-        asked: &ProcessBuilder<'_>,
-        lockfile: &str,
+        over: &OverLockfile<'_>,
         caller: &mut C,
         files: &mut F,
         manager: &mut Manager,
     ) -> Result<Option<String>, AskFault>
         ensures stays { F.stays files.old files.new }
-        ensures left { LeavesFiles lockfile.now F.tells (F.bytes_at files.old)
+        ensures left { LeavesFiles over.now.lockfile.now F.tells (F.bytes_at files.old)
             (F.bytes_at files.new)
             (F.failed files.old) (F.failed files.new) result }
         ensures kept { registered_files manager.new ≡ registered_files manager.old }
         ensures needs { manager.new.needs_restore ≡ manager.old.needs_restore }
         ensures ok { IfOk result (λ told. C.tells → MatchOption told
-            (FailsToRead (command_of asked.now) (C.calls caller.old) (C.calls caller.new))
-            (λ text. ReadsOutput (command_of asked.now) (string_bytes text)
+            (FailsToRead (command_of over.now.asked.now) (C.calls caller.old)
+            (C.calls caller.new))
+            (λ text. ReadsOutput (command_of over.now.asked.now) (string_bytes text)
             (C.calls caller.old) (C.calls caller.new))) }
-        ensures err { IfErr result (FailsOver lockfile.now
+        ensures err { IfErr result (FailsOver over.now.lockfile.now
             (C.tells → C.calls caller.new ≡ C.calls caller.old)
-            (C.tells → MayAdd (asked_of true (command_of asked.now))
+            (C.tells → MayAdd (asked_of true (command_of over.now.asked.now))
             (C.calls caller.old) (C.calls caller.new))) }
-        ensures back { OnOk result (PutsHeld F.tells (F.bytes_at files.old) lockfile.now
+        ensures back { OnOk result (PutsHeld F.tells (F.bytes_at files.old) over.now.lockfile.now
             (λ put. F.whole → Makes (put ∷ []) (F.trace files.old) (F.trace files.new)
             (F.bytes_at files.old) (F.bytes_at files.new))) }
         ensures refused { OnErr result (F.whole → Makes [] (F.trace files.old)
             (F.trace files.new) (F.bytes_at files.old) (F.bytes_at files.new)
-            ⊎ PutsHeld F.tells (F.bytes_at files.old) lockfile.now
+            ⊎ PutsHeld F.tells (F.bytes_at files.old) over.now.lockfile.now
             (λ put. Makes (put ∷ []) (F.trace files.old) (F.trace files.new)
             (F.bytes_at files.old) (F.bytes_at files.new))) }
     {
-        keep(alloc, lockfile, files, manager)?;
-        let told = try_read(alloc, asked, self.env, caller);
+        keep(alloc, over.lockfile, files, manager)?;
+        let told = try_read(alloc, over.asked, self.env, caller);
         put_back(files, manager)?;
         match told {
             Ok(told) => Ok(told),

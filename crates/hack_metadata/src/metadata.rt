@@ -7,8 +7,7 @@ ghost use Rattle.std.specs.BTreeSet.{contains};
 ghost use Rattle.std.specs.Ordering.{nat_cmp};
 ghost use Rattle.serde_json.specs.View.{view, items_view, members_view};
 ghost use Rattle.hack_metadata.specs.Fields.{read_all};
-ghost use Rattle.hack_metadata.specs.Internal.{KeepsOtherFields};
-ghost use Rattle.hack_metadata.specs.FieldResults.{ReturnsField};
+ghost use Rattle.hack_metadata.specs.FieldResults.{KeepsOtherFields, ReturnsField};
 ghost use Rattle.hack_metadata.specs.MetadataReading.{read_metadata, read_behind, read_member};
 ghost use Rattle.hack_metadata.specs.MetadataReading.{workspace_members_in, resolve_in, ids_of};
 ghost use Rattle.hack_metadata.specs.MetadataReading.{place_of, distinct};
@@ -191,7 +190,7 @@ fn member_of(value: Value, ids: &BTreeMap<String, PackageId>) -> Result<PackageI
 
 /// Returns the ids, each once, at its first place.
 fn distinct(alloc: Global, ids: &[PackageId]) -> Result<Vec<PackageId>, AllocError>
-    ensures { IfOk result (λ kept. map place_at kept.items ≡ distinct (map place_at ids.now)) }
+    ensures { IfOk result (λ kept. map place_at kept.items ≡ distinct ◌==◌ (map place_at ids.now)) }
 {
     let mut seen = BTreeSet::new(alloc);
     let mut kept = Vec::new(alloc);

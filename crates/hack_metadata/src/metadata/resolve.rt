@@ -3,9 +3,10 @@
 ghost use Rattle.std.specs.Prelude.{◌≡◌, ◌<◌, ◌↔◌, map, fold, option_map};
 ghost use Rattle.std.specs.declared.cmp.Ordering.{Ordering};
 ghost use Rattle.std.specs.declared.cmp.Ordering.TheVariants.{Less, Equal, Greater};
+ghost use Rattle.std.specs.Option.{ok_or};
 ghost use Rattle.hack_metadata.specs.RecordViews.{place_bytes};
 ghost use Rattle.serde_json.specs.View.{view, items_view, members_view};
-ghost use Rattle.hack_metadata.specs.Fields.{or_name, read_all};
+ghost use Rattle.hack_metadata.specs.Fields.{read_all};
 ghost use Rattle.hack_metadata.specs.FieldResults.{ReturnsField};
 ghost use Rattle.hack_metadata.specs.MetadataReading.{kinds_in, read_kind, read_node_dep, deps_in};
 ghost use Rattle.hack_metadata.specs.MetadataReading.{read_node, read_nodes, read_resolve};
@@ -52,7 +53,7 @@ pub(crate) fn known_package(
     id: &str,
     field: &'static str,
 ) -> Result<PackageId, MetadataFault>
-    ensures { ReturnsField place_at result (or_name field.now (place_in ids.now id.now)) }
+    ensures { ReturnsField place_at result (ok_or (place_in ids.now id.now) field.now) }
 {
     match ids.get(id) {
         Some(id) => Ok(*id),

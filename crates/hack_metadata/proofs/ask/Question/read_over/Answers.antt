@@ -7,19 +7,19 @@ use Rattle.hack_metadata.proofs.ask.Question.read_over.Goals as goal
 pub returns-in_err-keep-clause-err : goal.returns-in_err-keep-clause-err
 returns-in_err-keep-clause-err g c =
     let p = err_from_is_err_and c.from_residual.result c.from_residual.ensures.1 in
-    rw (p.1, p.2) (unread-over c.args.lockfile.now _ _ c.in_err-keep.field-0.0 (λ told. refl) (λ told. inl refl) c.in_err-keep.ensures.fault)
+    rw (p.1, p.2) (unread-over c.args.over.now.lockfile.now _ _ c.in_err-keep.field-0.0 (λ told. refl) (λ told. inl refl) c.in_err-keep.ensures.fault)
 
 pub returns-in-Ok-clause-left : goal.returns-in-Ok-clause-left
 returns-in-Ok-clause-left g c =
-    restored c.args.lockfile.now g.F.Files.tells (g.F.Files.bytes_at c.args.files.now) (g.F.Files.bytes_at c.keep.new.files) (g.F.Files.bytes_at c.put_back.new.files) (g.F.Files.failed c.args.files.now) (g.F.Files.failed c.keep.new.files) (g.F.Files.failed c.put_back.new.files)
+    restored c.args.over.now.lockfile.now g.F.Files.tells (g.F.Files.bytes_at c.args.files.now) (g.F.Files.bytes_at c.keep.new.files) (g.F.Files.bytes_at c.put_back.new.files) (g.F.Files.failed c.args.files.now) (g.F.Files.failed c.keep.new.files) (g.F.Files.failed c.put_back.new.files)
     (registered_files c.args.manager.now) (registered_files c.keep.new.manager) c.in_ok-keep.ensures.left c.in_ok-keep.ensures.ok c.in_ok-put_back.ensures.back
 
 pub returns-in-Ok-clause-back : goal.returns-in-Ok-clause-back
 returns-in-Ok-clause-back g c =
-    held-back g.F.Files.tells g.F.Files.whole c.args.lockfile.now (g.F.Files.bytes_at c.args.files.now) (g.F.Files.bytes_at c.keep.new.files) (g.F.Files.bytes_at c.put_back.new.files) (g.F.Files.trace c.args.files.now) (g.F.Files.trace c.keep.new.files) (g.F.Files.trace c.put_back.new.files)
+    held-back g.F.Files.tells g.F.Files.whole c.args.over.now.lockfile.now (g.F.Files.bytes_at c.args.files.now) (g.F.Files.bytes_at c.keep.new.files) (g.F.Files.bytes_at c.put_back.new.files) (g.F.Files.trace c.args.files.now) (g.F.Files.trace c.keep.new.files) (g.F.Files.trace c.put_back.new.files)
     (registered_files c.args.manager.now) (registered_files c.keep.new.manager) c.in_ok-keep.ensures.ok c.in_ok-keep.ensures.untraced c.in_ok-put_back.ensures.traced
 
 pub returns-in-Err-clause-left : goal.returns-in-Err-clause-left
 returns-in-Err-clause-left g c =
-    inl (restored c.args.lockfile.now g.F.Files.tells (g.F.Files.bytes_at c.args.files.now) (g.F.Files.bytes_at c.keep.new.files) (g.F.Files.bytes_at c.put_back.new.files) (g.F.Files.failed c.args.files.now) (g.F.Files.failed c.keep.new.files) (g.F.Files.failed c.put_back.new.files)
+    inl (restored c.args.over.now.lockfile.now g.F.Files.tells (g.F.Files.bytes_at c.args.files.now) (g.F.Files.bytes_at c.keep.new.files) (g.F.Files.bytes_at c.put_back.new.files) (g.F.Files.failed c.args.files.now) (g.F.Files.failed c.keep.new.files) (g.F.Files.failed c.put_back.new.files)
     (registered_files c.args.manager.now) (registered_files c.keep.new.manager) c.in_ok-keep.ensures.left c.in_ok-keep.ensures.ok c.in_ok-put_back.ensures.back)
