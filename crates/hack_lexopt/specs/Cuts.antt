@@ -1,7 +1,7 @@
 -- How a list of arguments is split into options, apart from the parser that does it.
 use Rattle.std.specs.Prelude.{ℕ, List, [], ◌∷◌, ◌++◌, ◌==◌, ◌&&◌, not, length, drop, take, Bool, Option, Some, None, Result, Ok, Err, slice_get, nat_lt, nat_eq, encode_utf8, codes, if◌then◌else◌}
 use Rattle.std.specs.List.{after_first, before_first, find, position_or_len, starts_with}
-use Rattle.std.specs.Option.{is_some, option_or, unwrap_or}
+use Rattle.std.specs.Option.{is_none, is_some, option_or, unwrap_or}
 use Rattle.std.specs.Str.{chars}
 use Rattle.hack_lexopt.specs.declared.fault.LexFault.{LexFault}
 use Rattle.hack_lexopt.specs.declared.fault.LexFault.TheVariants.{UnexpectedValue}
@@ -115,8 +115,8 @@ after_cut left = go left.untaken left.words
     go : Untaken → List (List ℕ) → LeftArguments
     go (Chain letters) words =
         if begins_with_equals letters then after_attached left
-        else record { option = Some (ShortFlag (first_letter letters)); untaken = after_letter letters; words = words }
-    go Nothing (word ∷ words) = record { option = option_in (cut_of word); untaken = untaken_of word; words = words }
+        else record left { option = Some (ShortFlag (first_letter letters)); untaken = after_letter letters }
+    go Nothing (w ∷ ws) = record { option = option_in (cut_of w); untaken = untaken_of w; words = ws }
     go untaken words = after_attached left
 
 -- the part of the argument that serves as a value: the text after an =, or the rest of a chain
@@ -137,7 +137,7 @@ optional_of left = option_or (attached_value left.untaken) (find is_plain_word (
 -- what remains after this value, or none: an argument goes with a value that wasn't attached
 abbrev pub after_value : Option (List ℕ) → LeftArguments → LeftArguments
 after_value value left = record (after_attached left) {
-  words = if is_some value && not (is_some (attached_value left.untaken)) then drop 1 left.words else left.words;
+  words = if is_some value && is_none (attached_value left.untaken) then drop 1 left.words else left.words;
 }
 
 -- a value that nobody took, because of which the next item is refused

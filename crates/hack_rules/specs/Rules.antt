@@ -1,7 +1,8 @@
 -- The parts that rules on uses of options are made of, each with the error that it gives, if any;
 -- and the verdict of rules.
-use Rattle.std.specs.Prelude.{ℕ, ◌&&◌, not, List, [], ◌∷◌, Bool, Option, Some, None, length, nat_lt, bytes_eq, option_and_then, if◌then◌else◌}
+use Rattle.std.specs.Prelude.{ℕ, ◌&&◌, not, List, [], ◌∷◌, Bool, Option, Some, None, length, nat_lt, bytes_eq, if◌then◌else◌}
 use Rattle.std.specs.List.{list_any}
+use Rattle.std.specs.Option.{option_map_or, option_or}
 use Rattle.hack_options.specs.declared.opt.Opt.{Opt}
 use Rattle.hack_rules.specs.Uses.{Use, is_given}
 use Rattle.hack_rules.specs.declared.fault.Beside.{Beside}
@@ -14,12 +15,7 @@ fault_if b fault = if b then Some fault else None
 -- the first of some errors
 abbrev pub first_of : List (Option Fault) → Option Fault
 first_of [] = None
-first_of (Some fault ∷ faults) = Some fault
-first_of (None ∷ faults) = first_of faults
-
--- the error of a value, where there is a value
-abbrev pub of_value : (List ℕ → Option Fault) → Option (List ℕ) → Option Fault
-of_value rule value = option_and_then rule value
+first_of (fault ∷ faults) = option_or fault (first_of faults)
 
 -- the error of an option that is given without any of those that it needs
 abbrev pub needs : Bool → Opt → Beside → Bool → Option Fault
@@ -45,10 +41,4 @@ pub data Verdict : Type 0 where
 
 -- refused with the error, if there is one
 abbrev pub refused_by : Option Fault → Verdict → Verdict
-refused_by (Some fault) verdict = Refused fault
-refused_by None verdict = verdict
-
--- that verdict, if there is one
-abbrev pub verdict_or : Option Verdict → Verdict → Verdict
-verdict_or (Some verdict) other = verdict
-verdict_or None other = other
+refused_by fault verdict = option_map_or Refused fault verdict

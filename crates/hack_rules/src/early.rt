@@ -1,23 +1,26 @@
 //! The rules that are checked before the one on a missing subcommand. They are checked in order,
 //! and the first that is broken gives the error.
 
-ghost use Rattle.std.specs.Prelude.{◌≡◌, IfOk, option_map};
+ghost use Rattle.std.specs.Prelude.{◌≡◌, ◌||◌, [], IfOk, option_and_then, option_map};
+ghost use Rattle.std.specs.List.{find};
+ghost use Rattle.std.specs.Option.{unwrap_or};
 ghost use Rattle.hack_features.specs.Feature.{groups_of};
 ghost use Rattle.hack_base.specs.Names.{names_of, optional_text_ref};
 ghost use Rattle.hack_rules.specs.PassedWords.{leading_of};
 ghost use Rattle.hack_rules.specs.Uses.{views, is_given, subcommand_of};
 ghost use Rattle.hack_rules.specs.Values.{value_given};
 ghost use Rattle.hack_rules.specs.AskedFields.{coloring_asked, depth_asked};
-ghost use Rattle.hack_rules.specs.CliFaults.{Checks};
-ghost use Rattle.hack_rules.specs.CliValues.{depth_fault};
+ghost use Rattle.hack_rules.specs.CliFaults.{Checks, Number};
+ghost use Rattle.hack_rules.specs.CliValues.{unless_read};
+ghost use Rattle.hack_base.specs.Numbers.{number_of};
 ghost use Rattle.hack_rules.specs.ListsView.{listed_view};
-ghost use Rattle.hack_rules.specs.Rules.{needs as needs_rule, first_of, of_value};
-ghost use Rattle.hack_rules.specs.EarlyRules.{is_in_group, is_optional};
+ghost use Rattle.hack_rules.specs.Rules.{needs as needs_rule, first_of, is_among};
+ghost use Rattle.hack_rules.specs.EarlyRules.{is_in_group};
 ghost use Rattle.hack_rules.specs.EarlyRules.{color_rule, unknown_rule, each_rules, powerset_rules};
 ghost use Rattle.hack_rules.specs.EarlyRules.{single_rule, single_rules, subcommand_rule};
-ghost use Rattle.hack_rules.specs.EarlyRules.{cargo_rule};
+ghost use Rattle.hack_rules.specs.EarlyRules.{cargo_rule, without_dev_deps as dev_deps_option};
 ghost use Rattle.hack_rules.specs.EarlyRules.{is_target_flag as target_flag};
-ghost use Rattle.hack_rules.specs.EarlyRules.{is_target_name as target_name, first_target_word};
+ghost use Rattle.hack_rules.specs.EarlyRules.{is_target_name as target_name};
 ghost use Rattle.hack_rules.specs.EarlyRules.{target_rule, include_rules, pair_rules};
 ghost use Rattle.hack_rules.specs.EarlyRules.{option_naming as naming_option, excluded_rule};
 ghost use Rattle.hack_rules.specs.EarlyRules.{early_rules};
@@ -135,7 +138,9 @@ fn beside_powerset(uses: &[Use]) -> Result<(), CliFault>
 
 /// The depth, where one is given.
 fn depth(alloc: Global, uses: &[Use]) -> Result<Option<usize>, CliFault>
-    ensures rule { Checks result (of_value depth_fault (value_given Opt.Depth (views uses.now))) }
+    ensures rule { Checks result (option_and_then
+        (λ text. unless_read (Number text) (number_of 64 text))
+        (value_given Opt.Depth (views uses.now))) }
     ensures value { IfOk result (λ depth. depth ≡ depth_asked (views uses.now)) }
 {
     match value(Opt::Depth, uses) {
@@ -149,12 +154,7 @@ fn lists_two(option: Opt, uses: &[Use]) -> Result<(), CliFault>
     ensures { Checks result (single_rule option (views uses.now)) }
 {
     for one in uses {
-        if let Use::Known {
-            option: used,
-            value: Some(value),
-            ..
-        } = one
-            && used.is(option)
+        if let Some(value) = one.value_of(option)
             && !has_separator(value.as_str())
         {
             return Err(CliFault::Single { option });
@@ -171,6 +171,19 @@ fn groups_list_two(uses: &[Use]) -> Result<(), CliFault>
     lists_two(Opt::AtLeastOneOf, uses)
 }
 
+/// The option that leaves dev-dependencies out, if one is given.
+fn without_dev_deps(uses: &[Use]) -> Option<Opt>
+    ensures { result ≡ dev_deps_option (views uses.now) }
+{
+    if given(Opt::RemoveDevDeps, uses) {
+        Some(Opt::RemoveDevDeps)
+    } else if given(Opt::NoDevDeps, uses) {
+        Some(Opt::NoDevDeps)
+    } else {
+        None
+    }
+}
+
 /// Subcommands that exclude some options, and `install`, which is refused.
 fn beside_subcommand(uses: &[Use]) -> Result<(), CliFault>
     ensures { Checks result (subcommand_rule (subcommand_of (views uses.now)) (views uses.now)) }
@@ -179,15 +192,9 @@ fn beside_subcommand(uses: &[Use]) -> Result<(), CliFault>
         return Ok(());
     };
     if word.as_str() == "test" || word.as_str() == "bench" {
-        if given(Opt::RemoveDevDeps, uses) {
+        if let Some(option) = without_dev_deps(uses) {
             return Err(CliFault::BesideSubcommand {
-                option: Opt::RemoveDevDeps,
-                subcommand: word.clone()?,
-            });
-        }
-        if given(Opt::NoDevDeps, uses) {
-            return Err(CliFault::BesideSubcommand {
-                option: Opt::NoDevDeps,
+                option,
                 subcommand: word.clone()?,
             });
         }
@@ -231,7 +238,7 @@ fn is_target_name(word: &str) -> bool
 /// The first argument for cargo that selects targets which need dev-dependencies.
 fn target_choice(leading: &[String]) -> Option<&String>
     ensures { optional_text_ref result
-        ≡ first_target_word (names_of leading.now) }
+        ≡ find (λ w. target_flag w || target_name w) (names_of leading.now) }
 {
     for word in leading {
         if is_target_flag(word.as_str()) || is_target_name(word.as_str()) {
@@ -244,20 +251,14 @@ fn target_choice(leading: &[String]) -> Option<&String>
 /// Dev-dependencies can't be left out beside an argument that selects targets which need them.
 fn beside_targets(leading: &[String], uses: &[Use]) -> Result<(), CliFault>
     ensures { Checks result (target_rule (views uses.now)
-        (first_target_word (names_of leading.now))) }
+        (find (λ w. target_flag w || target_name w) (names_of leading.now))) }
 {
     let Some(word) = target_choice(leading) else {
         return Ok(());
     };
-    if given(Opt::RemoveDevDeps, uses) {
+    if let Some(option) = without_dev_deps(uses) {
         return Err(CliFault::ClashWord {
-            option: Opt::RemoveDevDeps,
-            word: word.clone()?,
-        });
-    }
-    if given(Opt::NoDevDeps, uses) {
-        return Err(CliFault::ClashWord {
-            option: Opt::NoDevDeps,
+            option,
             word: word.clone()?,
         });
     }
@@ -301,8 +302,8 @@ fn check_pairs(uses: &[Use]) -> Result<(), CliFault>
 
 /// Whether the name is one of the optional dependencies, where these are named.
 fn optional_has(names: Option<&Vec<String>>, name: &str) -> bool
-    ensures { result ≡ is_optional (option_map
-        (λ names. names_of names.now.items) names.entry) name.now }
+    ensures { result ≡ is_among (unwrap_or (option_map
+        (λ names. names_of names.now.items) names.entry) []) name.now }
 {
     match names {
         Some(names) => has(names.as_slice(), name),

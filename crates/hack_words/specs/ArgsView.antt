@@ -1,12 +1,12 @@
 -- What the fields of `Args` hold, one by one.
-use Rattle.std.specs.Prelude.{ℕ, ◌≡◌, List, Bool, Option, IfSome, option_map}
+use Rattle.std.specs.Prelude.{ℕ, ◌≡◌, ◌||◌, List, Bool, Option, IfSome, option_map}
 use Rattle.hack_base.specs.Names.{names_of, optional_text}
 use Rattle.hack_options.specs.declared.opt.Opt.TheVariants as opt
 use Rattle.hack_rules.specs.declared.uses.behavior.WorkspaceBehavior.{WorkspaceBehavior}
 use Rattle.hack_rules.specs.Uses.{Use, is_given, subcommand_of}
 use Rattle.hack_rules.specs.Values.{value_given, values_given}
 use Rattle.hack_words.specs.declared.cli.args.Args.{Args}
-use Rattle.hack_rules.specs.AskedFields.{coloring_asked, depth_asked, strength_asked, range_asked, step_asked, log_group_asked, piece_asked, kind_asked, leading_asked, excluded_asked, excludes_no_default, excludes_all, ignores_private}
+use Rattle.hack_rules.specs.AskedFields.{coloring_asked, depth_asked, strength_asked, range_asked, step_asked, log_group_asked, piece_asked, kind_asked, leading_asked, excluded_asked, excludes_no_default, excludes_all}
 use Rattle.hack_rules.specs.CliGroups.{AreGroupsOf, AreNormalsOf, AreLifts}
 use Rattle.hack_rules.specs.CliLists.{names_given, optional_given, lifts_given}
 use Rattle.hack_rules.specs.ListedFeatures.{listed_by}
@@ -22,7 +22,7 @@ pub record HasFlags (us : List Use) (args : Args) : Type 0 where
   pub no_dev_deps : args.no_dev_deps ≡ is_given opt.NoDevDeps us
   pub remove_dev_deps : args.remove_dev_deps ≡ is_given opt.RemoveDevDeps us
   pub no_private : args.no_private ≡ is_given opt.NoPrivate us
-  pub ignore_private : args.ignore_private ≡ ignores_private us
+  pub ignore_private : args.ignore_private ≡ (is_given opt.IgnorePrivate us || is_given opt.NoPrivate us)
   pub ignore_unknown_features : args.ignore_unknown_features ≡ is_given opt.IgnoreUnknownFeatures us
   pub clean_per_run : args.clean_per_run ≡ is_given opt.CleanPerRun us
   pub clean_per_version : args.clean_per_version ≡ is_given opt.CleanPerVersion us

@@ -1,6 +1,7 @@
 -- The outcome of a command line in its environment: an error, a text to print, cargo's list, or
 -- arguments.
-use Rattle.std.specs.Prelude.{ℕ, ◌≡◌, ◌++◌, ◌&&◌, ◌||◌, List, [], ◌∷◌, Bool, true, false, Option, Some, None, codes, if◌then◌else◌}
+use Rattle.std.specs.Prelude.{ℕ, ◌≡◌, ◌++◌, ◌&&◌, ◌||◌, List, [], ◌∷◌, Bool, true, false, Option, Some, None, codes}
+use Rattle.std.specs.Option.{option_map_or}
 use Rattle.hack_options.specs.declared.opt.Opt.TheVariants as opt
 use Rattle.hack_rules.specs.declared.uses.behavior.WorkspaceBehavior.{WorkspaceBehavior}
 use Rattle.hack_rules.specs.declared.uses.cut.Print.{Print}
@@ -8,12 +9,12 @@ use Rattle.hack_rules.specs.UseReading.{Reading, Met, End, Prints as Questions, 
 use Rattle.hack_rules.specs.Uses.{Use, is_given}
 use Rattle.hack_rules.specs.Values.{value_given}
 use Rattle.hack_base.specs.Notes.{Note, note_if}
-use Rattle.hack_versions.specs.Readings.{Sides, at_dots}
+use Rattle.hack_versions.specs.Readings.{at_dots}
 use Rattle.hack_base.specs.declared.notice.NoticeKind.{NoticeKind}
 use Rattle.hack_base.specs.declared.notice.NoticeKind.TheVariants.{Info, Warn, QuietWarn}
 use Rattle.hack_rules.specs.AskedFields.{is_old_asked}
 use Rattle.hack_rules.specs.CliFaults.{Fault, Cut}
-use Rattle.hack_rules.specs.ListedFeatures.{Listed, listed_by}
+use Rattle.hack_rules.specs.ListedFeatures.{listed_by}
 use Rattle.hack_rules.specs.Rules.{Verdict, Accepted, Lists, Refused, is_nonempty}
 use Rattle.hack_rules.specs.LateRules.{is_ranged}
 use Rattle.hack_rules.specs.Verdicts.{verdict_of}
@@ -64,13 +65,11 @@ ComesTo around words outcome = ComesFrom around (start_of words) outcome
 abbrev pub unknown_words : List ℕ
 unknown_words = codes "--ignore-unknown-features for --include-features is not fully implemented and may not work as intended"
 
--- unknown features are to be ignored where they can't be
-abbrev pub in_vain : Listed → List Use → Bool
-in_vain l us = is_given opt.IgnoreUnknownFeatures us && is_nonempty l.includes
-
--- the notice that unknown features are not ignored everywhere
+-- the notice that unknown features are not ignored everywhere, where they are to be ignored
 abbrev pub unknown_notes : List Use → List Note
-unknown_notes us = note_if (in_vain (listed_by us) us) QuietWarn unknown_words
+unknown_notes us =
+    note_if (is_given opt.IgnoreUnknownFeatures us && is_nonempty (listed_by us).includes)
+    QuietWarn unknown_words
 
 -- the text of the notice on rustup
 abbrev pub rustup_words : List ℕ → List ℕ
@@ -83,11 +82,7 @@ rustup_notes ranged (Some why) = note_if ranged Warn (rustup_words why)
 
 -- a range rewritten in its new form
 abbrev pub new_form : List ℕ → List ℕ
-new_form text = of_sides (at_dots text)
-  where
-    of_sides : Option Sides → List ℕ
-    of_sides None = text
-    of_sides (Some sides) = sides.front ++ codes "..=" ++ sides.back
+new_form text = option_map_or (λ sides. sides.front ++ codes "..=" ++ sides.back) (at_dots text) text
 
 -- the text of the notice on a range in the old form
 abbrev pub old_words : List ℕ → List ℕ

@@ -3,7 +3,8 @@ use Rattle.std.specs.Prelude.{◌≡◌, ℕ, List, [], Result, Ok, Err, MatchOp
 use Rattle.hack_words.specs.declared.cli.args.Args.{Args}
 use Rattle.hack_words.specs.declared.cli.args.Read.{Read}
 use Rattle.hack_rules.specs.declared.uses.behavior.WorkspaceBehavior.{WorkspaceBehavior}
-use Rattle.hack_rules.specs.Faults.{ArgumentFault as CutFault, LongFlag, Repeat}
+use Rattle.hack_lexopt.specs.Cuts.{LongFlag}
+use Rattle.hack_rules.specs.Faults.{ArgumentFault as CutFault, Repeat}
 use Rattle.hack_rules.specs.UseReading.{ReadsUsesThen, End, Prints, Fails}
 use Rattle.hack_rules.specs.Uses.{Use, views}
 use Rattle.hack_rules.specs.declared.uses.cut.Cuts.{Cuts}

@@ -39,6 +39,37 @@ pub enum Use {
     Word(String),
 }
 
+impl Use {
+    ghost use Rattle.std.specs.Prelude.{◌≡◌};
+    ghost use Rattle.hack_base.specs.Names.{optional_text_ref};
+    ghost use Rattle.hack_rules.specs.Uses.{is_use_of, view};
+    ghost use Rattle.hack_rules.specs.Values.{value_in};
+
+    /// Whether this is a use of the option.
+    pub(crate) fn is_of(&self, option: Opt) -> bool
+        ensures { result ≡ is_use_of option (view self.now) }
+    {
+        match self {
+            Use::Known { option: used, .. } => used.is(option),
+            _ => false,
+        }
+    }
+
+    /// The value that this use gives to the option.
+    pub(crate) fn value_of(&self, option: Opt) -> Option<&String>
+        ensures { optional_text_ref result ≡ value_in option (view self.now) }
+    {
+        match self {
+            Use::Known {
+                option: used,
+                value: Some(value),
+                ..
+            } if used.is(option) => Some(value),
+            _ => None,
+        }
+    }
+}
+
 /// What is read next.
 #[derive(Drop)]
 pub(crate) enum Step {

@@ -4,14 +4,13 @@ ghost use Rattle.std.specs.Prelude.{◌≡◌, ◌&&◌, IfOk, string_bytes};
 ghost use Rattle.hack_base.specs.Names.{optional_text};
 ghost use Rattle.hack_lexopt.specs.Parsers.{left_in};
 ghost use Rattle.hack_rules.specs.Faults.{flag_seen};
-ghost use Rattle.hack_lexopt.specs.Cuts.{value_of, after_value, optional_of, after_optional};
+ghost use Rattle.hack_lexopt.specs.Cuts.{value_of, optional_of};
 ghost use Rattle.hack_rules.specs.UseReading.{known_option as known_reading};
 ghost use Rattle.hack_rules.specs.Internal.{ReturnsStep};
 ghost use Rattle.hack_rules.specs.UseReading.{unknown_option as unknown_reading};
-ghost use Rattle.hack_rules.specs.UseReading.{other_name as other_reading};
+ghost use Rattle.hack_rules.specs.UseReading.{other as other_reading};
 ghost use Rattle.hack_rules.specs.UseReading.{option_with_value as value_reading};
-ghost use Rattle.hack_rules.specs.UseReading.{option_with_names as names_reading};
-ghost use Rattle.hack_rules.specs.UseReading.{with_names_or_none as optional_reading};
+ghost use Rattle.hack_rules.specs.UseReading.{option_or_value as optional_reading, unless_quote};
 ghost use Rattle.hack_rules.specs.UseReading.{by_kind as kind_reading};
 ghost use Rattle.hack_rules.specs.UseReading.{print_request as question_reading};
 ghost use Rattle.hack_rules.specs.UseReading.{is_lone_quote as quote, help_of, removed_of};
@@ -110,7 +109,7 @@ fn with_value(
 ) -> Result<Step, CutFault>
     ensures { ReturnsStep result (left_in parser.new)
         (value_reading option (flag_seen flag) (value_of (left_in parser.old))
-        (after_value (left_in parser.old))) }
+        (left_in parser.old)) }
 {
     match parser.value(alloc) {
         Ok(value) => Ok(meet(option.means(), flag, Some(value))),
@@ -127,8 +126,9 @@ fn with_names(
     flag: OwnedFlag,
 ) -> Result<Step, CutFault>
     ensures { ReturnsStep result (left_in parser.new)
-        (names_reading option (flag_seen flag) (value_of (left_in parser.old))
-        (after_value (left_in parser.old))) }
+        (unless_quote (flag_seen flag) (value_of (left_in parser.old))
+        (value_reading option (flag_seen flag) (value_of (left_in parser.old))
+        (left_in parser.old))) }
 {
     match parser.value(alloc) {
         Ok(value) if is_quote(&value) => Err(CutFault::LoneQuote { flag }),
@@ -146,8 +146,9 @@ fn with_names_or_none(
     flag: OwnedFlag,
 ) -> Result<Step, CutFault>
     ensures { ReturnsStep result (left_in parser.new)
+        (unless_quote (flag_seen flag) (optional_of (left_in parser.old))
         (optional_reading option (flag_seen flag) (optional_of (left_in parser.old))
-        (after_optional (left_in parser.old))) }
+        (left_in parser.old))) }
 {
     match parser.value_or_none(alloc)? {
         Some(value) if is_quote(&value) => Err(CutFault::LoneQuote { flag }),
@@ -249,7 +250,8 @@ pub(crate) fn other_name(
     name: String,
 ) -> Result<Step, CutFault>
     ensures { ReturnsStep result (left_in parser.new)
-        (other_reading (views uses.now) (string_bytes name) (left_in parser.old)) }
+        (other_reading (removed_of (string_bytes name)) (similar_of (string_bytes name))
+        (views uses.now) (string_bytes name) (left_in parser.old)) }
 {
     if let Some(option) = replacement_of(&name) {
         return Err(CutFault::Removed {

@@ -1,10 +1,11 @@
 //! A command line into arguments, or the first error.
 
-ghost use Rattle.std.specs.Prelude.{List, ◌≡◌, IfOk, IfErr, MatchOption, OnOk, map};
+ghost use Rattle.std.specs.Prelude.{List, ◌≡◌, ◌&&◌, IfOk, IfErr, MatchOption, OnOk, map};
 ghost use Rattle.std.specs.Prelude.{string_bytes};
 ghost use Rattle.hack_base.specs.Names.{names_of};
 ghost use Rattle.hack_rules.specs.PassedWords.{leading_of};
-ghost use Rattle.hack_rules.specs.Uses.{views};
+ghost use Rattle.hack_rules.specs.Rules.{is_nonempty};
+ghost use Rattle.hack_rules.specs.Uses.{is_given, views};
 ghost use Rattle.hack_base.specs.Notes.{note_of, AddsNotes};
 ghost use Rattle.hack_words.specs.ParseAnswers.{IsText};
 ghost use Rattle.hack_words.specs.Internal.{Judges, IsJudged, IsPrinted};
@@ -13,7 +14,7 @@ ghost use Rattle.hack_words.specs.ParseAnswers.{Refuses};
 ghost use Rattle.hack_words.specs.Internal.{GivesCuts, around_in};
 ghost use Rattle.hack_rules.specs.AskedFields.{is_old_asked};
 ghost use Rattle.hack_words.specs.CommandLine.{ComesFrom, ComesTo, Faulty, outcome_of};
-ghost use Rattle.hack_words.specs.CommandLine.{later_notes, in_vain};
+ghost use Rattle.hack_words.specs.CommandLine.{later_notes};
 ghost use Rattle.hack_rules.specs.CliFaults.{fault_of};
 ghost use Rattle.hack_rules.specs.ListedFeatures.{listed_by};
 ghost use Rattle.hack_rules.specs.ListsView.{listed_view};
@@ -117,7 +118,8 @@ fn tell(
 
 /// Whether unknown features are to be ignored where they can't be.
 fn ignores_in_vain(lists: &Lists, uses: &[Use]) -> bool
-    ensures { result ≡ in_vain (listed_view lists.now) (views uses.now) }
+    ensures { result ≡ (is_given Opt.IgnoreUnknownFeatures (views uses.now)
+        && is_nonempty (listed_view lists.now).includes) }
 {
     given(Opt::IgnoreUnknownFeatures, uses) && has_some(lists.include_features.as_slice())
 }
