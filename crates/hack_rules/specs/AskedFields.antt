@@ -5,6 +5,7 @@ use Rattle.std.specs.Prelude.{codes, nat_lt, bytes_eq}
 use Rattle.std.specs.List.{filter, list_any, repeat}
 use Rattle.std.specs.Option.{option_map_or, option_or, unwrap_or}
 use Rattle.std.specs.Result.{result_ok}
+use Rattle.hack_options.specs.declared.opt.Opt.{Opt}
 use Rattle.hack_options.specs.declared.opt.Opt.TheVariants as opt
 use Rattle.hack_rules.specs.declared.uses.behavior.WorkspaceBehavior.{WorkspaceBehavior}
 use Rattle.hack_lexopt.specs.Cuts.{LongFlag}
@@ -33,13 +34,9 @@ abbrev pub coloring_asked : Option (List ℕ) → List Use → Coloring
 coloring_asked term_color us =
     unwrap_or (option_and_then coloring_of (option_or (value_given opt.Color us) term_color)) Auto
 
--- the depth
-abbrev pub depth_asked : List Use → Option ℕ
-depth_asked us = option_and_then (number_of 64) (value_given opt.Depth us)
-
--- the strength of the sample
-abbrev pub strength_asked : List Use → Option ℕ
-strength_asked us = option_and_then (number_of 64) (value_given opt.Strength us)
+-- the number that an option gives, as the depth and the strength of a sample
+abbrev pub number_asked : Opt → List Use → Option ℕ
+number_asked option us = option_and_then (number_of 64) (value_given option us)
 
 -- the step between versions, 1 where none is given
 abbrev pub step_asked : List Use → ℕ
@@ -57,7 +54,8 @@ range_asked us =
 
 -- the given range is in the old form
 abbrev pub is_old_asked : List Use → Bool
-is_old_asked us = option_map_or (λ read. read.old) (option_and_then read_range (value_given opt.VersionRange us)) false
+is_old_asked us =
+    option_map_or (λ read. read.old) (option_and_then read_range (value_given opt.VersionRange us)) false
 
 -- an option --message-format, which belongs to cargo
 abbrev pub is_message_format : Use → Bool
@@ -86,7 +84,8 @@ verbose_words count = if nat_lt 1 count then (codes "-" ++ repeat (count - 1) (c
 
 -- the arguments that are passed on to cargo before --
 abbrev pub leading_asked : WorkspaceBehavior → List Use → List (List ℕ)
-leading_asked behavior us = leading_of behavior us ++ verbose_words (length (filter (is_use_of opt.Verbose) us))
+leading_asked behavior us =
+    leading_of behavior us ++ verbose_words (length (filter (is_use_of opt.Verbose) us))
 
 -- the features excluded from combinations: those of --features are enabled anyway
 abbrev pub excluded_asked : List Use → List (List ℕ)

@@ -49,7 +49,7 @@ same_names xs ys = pointwise bytes_eq xs ys
 
 -- a text lifts a group whose names are those of one of these groups
 abbrev pub lifts_one_of : List (List (List ℕ)) → List ℕ → Bool
-lifts_one_of groups text = option_map_or (λ lift. list_any (same_names lift.group) groups) (lift_of text) false
+lifts_one_of groups text = option_map_or (λ l. list_any (same_names l.group) groups) (lift_of text) false
 
 -- the error of the first value that isn't PACKAGE=FEATURES
 abbrev pub lift_form : List Use → Option Fault
@@ -58,4 +58,4 @@ lift_form us = option_map LiftForm (find (λ text. is_none (lift_of text)) (valu
 -- the error of the first value whose names are those of none of these groups
 abbrev pub lift_group : List (List (List ℕ)) → List Use → Option Fault
 lift_group exclusive us =
-    option_map LiftGroup (find (λ text. not (lifts_one_of exclusive text)) (values_given opt.AllowTogether us))
+    option_map LiftGroup (find (λ t. not (lifts_one_of exclusive t)) (values_given opt.AllowTogether us))

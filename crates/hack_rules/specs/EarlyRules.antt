@@ -1,6 +1,6 @@
 -- The rules that are checked before the one on a missing subcommand.
 use Rattle.std.specs.Prelude.{ℕ, ◌&&◌, ◌||◌, not, List, [], ◌∷◌, map, Bool, Option, Some, None, codes, nat_eq, bytes_eq, option_map, option_and_then, if◌then◌else◌}
-use Rattle.std.specs.List.{find, list_any, starts_with}
+use Rattle.std.specs.List.{find, flat_map, list_any, starts_with}
 use Rattle.std.specs.Option.{unwrap_or}
 use Rattle.hack_options.specs.declared.opt.Opt.{Opt}
 use Rattle.hack_options.specs.declared.opt.Opt.TheVariants as opt
@@ -16,7 +16,7 @@ use Rattle.hack_base.specs.Numbers.{number_of}
 use Rattle.hack_term.specs.Lines.{coloring_of}
 use Rattle.hack_base.specs.Lists.{is_list}
 use Rattle.hack_rules.specs.ListedFeatures.{Listed}
-use Rattle.hack_rules.specs.Rules.{fault_if, first_of, needs, clash, is_nonempty, is_among}
+use Rattle.hack_rules.specs.Rules.{fault_if, first_of, value_rule, needs, clash, is_nonempty, is_among}
 
 -- colour: that of the command line, else that of the environment
 abbrev pub color_rule : Option (List ℕ) → Option (List ℕ) → Option Fault
@@ -57,7 +57,8 @@ single_rule option us = fault_if (list_any (λ text. not (is_list text)) (values
 -- the same of the three options that take groups
 abbrev pub single_rules : List Use → List (Option Fault)
 single_rules us =
-    single_rule opt.GroupFeatures us ∷ single_rule opt.MutuallyExclusiveFeatures us ∷ single_rule opt.AtLeastOneOf us ∷ []
+    map (λ option. single_rule option us)
+    (opt.GroupFeatures ∷ opt.MutuallyExclusiveFeatures ∷ opt.AtLeastOneOf ∷ [])
 
 -- the option that leaves dev-dependencies out, if one is given
 abbrev pub without_dev_deps : List Use → Option Opt
@@ -101,11 +102,8 @@ abbrev pub pair_rules : List Use → List (Option Fault)
 pair_rules us =
     clash opt.NoDevDeps opt.RemoveDevDeps us
     ∷ clash opt.EachFeature opt.FeaturePowerset us
-    ∷ clash opt.AllFeatures opt.EachFeature us
-    ∷ clash opt.AllFeatures opt.FeaturePowerset us
-    ∷ clash opt.NoDefaultFeatures opt.EachFeature us
-    ∷ clash opt.NoDefaultFeatures opt.FeaturePowerset us
-    ∷ []
+    ∷ flat_map (λ option. clash option opt.EachFeature us ∷ clash option opt.FeaturePowerset us ∷ [])
+    (opt.AllFeatures ∷ opt.NoDefaultFeatures ∷ [])
 
 -- one of the groups has this name
 abbrev pub is_in_group : List (List (List ℕ)) → List ℕ → Bool
@@ -132,7 +130,7 @@ early_rules term_color l us =
     ∷ unknown_rule l us
     ∷ first_of (each_rules l us)
     ∷ first_of (powerset_rules us)
-    ∷ option_and_then (λ text. unless_read (Number text) (number_of 64 text)) (value_given opt.Depth us)
+    ∷ value_rule opt.Depth (λ text. unless_read (Number text) (number_of 64 text)) us
     ∷ []
 
 -- the rules on groups, and on options that exclude each other

@@ -1,10 +1,11 @@
 -- The parts that rules on uses of options are made of, each with the error that it gives, if any;
 -- and the verdict of rules.
-use Rattle.std.specs.Prelude.{ℕ, ◌&&◌, not, List, [], ◌∷◌, Bool, Option, Some, None, length, nat_lt, bytes_eq, if◌then◌else◌}
+use Rattle.std.specs.Prelude.{ℕ, ◌&&◌, not, List, [], ◌∷◌, Bool, Option, Some, None, length, nat_lt, bytes_eq, option_and_then, if◌then◌else◌}
 use Rattle.std.specs.List.{list_any}
 use Rattle.std.specs.Option.{option_map_or, option_or}
 use Rattle.hack_options.specs.declared.opt.Opt.{Opt}
 use Rattle.hack_rules.specs.Uses.{Use, is_given}
+use Rattle.hack_rules.specs.Values.{value_given}
 use Rattle.hack_rules.specs.declared.fault.Beside.{Beside}
 use Rattle.hack_rules.specs.CliFaults.{Fault, Needs, Clash}
 
@@ -16,6 +17,10 @@ fault_if b fault = if b then Some fault else None
 abbrev pub first_of : List (Option Fault) → Option Fault
 first_of [] = None
 first_of (fault ∷ faults) = option_or fault (first_of faults)
+
+-- the error of the value that is given to an option, if there is one
+abbrev pub value_rule : Opt → (List ℕ → Option Fault) → List Use → Option Fault
+value_rule option rule us = option_and_then rule (value_given option us)
 
 -- the error of an option that is given without any of those that it needs
 abbrev pub needs : Bool → Opt → Beside → Bool → Option Fault

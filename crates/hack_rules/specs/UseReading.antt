@@ -52,7 +52,8 @@ option_with_value o flag value left = option_or_value o flag value left
 
 -- the reading of an option with this list of names, which may not be a lone quote sign
 abbrev pub unless_quote : Flag → Option (List ℕ) → Reading → Reading
-unless_quote flag value read = if option_map_or is_lone_quote value false then Fails (LoneQuote flag) else read
+unless_quote flag value read =
+    if option_map_or is_lone_quote value false then Fails (LoneQuote flag) else read
 
 -- a request to print a text, if no subcommand came before it; else an option like one that is not
 -- in the table

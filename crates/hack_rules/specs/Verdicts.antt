@@ -13,4 +13,5 @@ use Rattle.hack_rules.specs.LateRules.{rules_after}
 abbrev pub verdict_of : WorkspaceBehavior → Option (List ℕ) → Option ℕ → List Use → Verdict
 verdict_of behavior term_color rustup us =
     refused_by (first_of (rules_before behavior term_color (listed_by us) us))
-    (unwrap_or (bare_verdict behavior (subcommand_of us) us) (refused_by (first_of (rules_after rustup (listed_by us) us)) Accepted))
+    (unwrap_or (bare_verdict behavior (subcommand_of us) us)
+    (refused_by (first_of (rules_after rustup (listed_by us) us)) Accepted))

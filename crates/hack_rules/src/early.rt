@@ -1,7 +1,7 @@
 //! The rules that are checked before the one on a missing subcommand. They are checked in order,
 //! and the first that is broken gives the error.
 
-ghost use Rattle.std.specs.Prelude.{◌≡◌, ◌||◌, [], IfOk, option_and_then, option_map};
+ghost use Rattle.std.specs.Prelude.{◌≡◌, ◌||◌, [], IfOk, option_map};
 ghost use Rattle.std.specs.List.{find};
 ghost use Rattle.std.specs.Option.{unwrap_or};
 ghost use Rattle.hack_features.specs.Feature.{groups_of};
@@ -9,12 +9,12 @@ ghost use Rattle.hack_base.specs.Names.{names_of, optional_text_ref};
 ghost use Rattle.hack_rules.specs.PassedWords.{leading_of};
 ghost use Rattle.hack_rules.specs.Uses.{views, is_given, subcommand_of};
 ghost use Rattle.hack_rules.specs.Values.{value_given};
-ghost use Rattle.hack_rules.specs.AskedFields.{coloring_asked, depth_asked};
+ghost use Rattle.hack_rules.specs.AskedFields.{coloring_asked, number_asked};
 ghost use Rattle.hack_rules.specs.CliFaults.{Checks, Number};
 ghost use Rattle.hack_rules.specs.CliValues.{unless_read};
 ghost use Rattle.hack_base.specs.Numbers.{number_of};
 ghost use Rattle.hack_rules.specs.ListsView.{listed_view};
-ghost use Rattle.hack_rules.specs.Rules.{needs as needs_rule, first_of, is_among};
+ghost use Rattle.hack_rules.specs.Rules.{needs as needs_rule, first_of, value_rule, is_among};
 ghost use Rattle.hack_rules.specs.EarlyRules.{is_in_group};
 ghost use Rattle.hack_rules.specs.EarlyRules.{color_rule, unknown_rule, each_rules, powerset_rules};
 ghost use Rattle.hack_rules.specs.EarlyRules.{single_rule, single_rules, subcommand_rule};
@@ -138,10 +138,9 @@ fn beside_powerset(uses: &[Use]) -> Result<(), CliFault>
 
 /// The depth, where one is given.
 fn depth(alloc: Global, uses: &[Use]) -> Result<Option<usize>, CliFault>
-    ensures rule { Checks result (option_and_then
-        (λ text. unless_read (Number text) (number_of 64 text))
-        (value_given Opt.Depth (views uses.now))) }
-    ensures value { IfOk result (λ depth. depth ≡ depth_asked (views uses.now)) }
+    ensures rule { Checks result (value_rule Opt.Depth
+        (λ text. unless_read (Number text) (number_of 64 text)) (views uses.now)) }
+    ensures value { IfOk result (λ depth. depth ≡ number_asked Opt.Depth (views uses.now)) }
 {
     match value(Opt::Depth, uses) {
         Some(text) => Ok(Some(values::depth(alloc, text.as_str())?)),
@@ -388,7 +387,7 @@ fn check_lists(
     ensures coloring { IfOk result (λ early. early.coloring
         ≡ coloring_asked (optional_text_ref term_color.entry)
         (views uses.now)) }
-    ensures depth { IfOk result (λ early. early.depth ≡ depth_asked (views uses.now)) }
+    ensures depth { IfOk result (λ early. early.depth ≡ number_asked Opt.Depth (views uses.now)) }
 {
     let coloring = coloring(term_color, uses)?;
     beside_lists(lists, uses)?;
@@ -414,7 +413,7 @@ pub fn check(
     ensures coloring { IfOk result (λ early. early.coloring
         ≡ coloring_asked (optional_text_ref term_color.entry)
         (views uses.now)) }
-    ensures depth { IfOk result (λ early. early.depth ≡ depth_asked (views uses.now)) }
+    ensures depth { IfOk result (λ early. early.depth ≡ number_asked Opt.Depth (views uses.now)) }
 {
     let early = check_lists(alloc, term_color, lists, uses)?;
     check_together(behavior, lists, leading, uses)?;

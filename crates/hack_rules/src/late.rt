@@ -12,14 +12,14 @@ ghost use Rattle.hack_rules.specs.Values.{value_given};
 ghost use Rattle.hack_rules.specs.AskedFields.{read_range, range_asked, is_old_asked, step_asked};
 ghost use Rattle.hack_rules.specs.AskedFields.{is_message_format as message_format};
 ghost use Rattle.hack_rules.specs.AskedFields.{log_group_asked};
-ghost use Rattle.hack_rules.specs.AskedFields.{piece_asked, kind_asked, strength_asked};
+ghost use Rattle.hack_rules.specs.AskedFields.{piece_asked, kind_asked, number_asked};
 ghost use Rattle.hack_rules.specs.CliFaults.{Checks, LogGroup as WrongLogGroup, Range};
 ghost use Rattle.hack_rules.specs.CliGroups.{AreLifts};
 ghost use Rattle.hack_rules.specs.CliLists.{lifts_given};
 ghost use Rattle.hack_rules.specs.CliValues.{unless_counted, unless_read};
 ghost use Rattle.hack_rules.specs.LateView.{IsLate};
 ghost use Rattle.hack_rules.specs.ListsView.{listed_view};
-ghost use Rattle.hack_rules.specs.Rules.{first_of, needs as needs_rule};
+ghost use Rattle.hack_rules.specs.Rules.{first_of, value_rule, needs as needs_rule};
 ghost use Rattle.hack_rules.specs.LateRules.{rustup_rule, is_ranged as ranged, range_rules};
 ghost use Rattle.hack_rules.specs.LateRules.{piece_rules};
 ghost use Rattle.hack_rules.specs.LateRules.{lift_rules, rules_after};
@@ -70,9 +70,8 @@ pub struct Versions {
 
 /// The given range, and whether it has the old form.
 fn said_range(alloc: Global, uses: &[Use]) -> Result<Option<(VersionRange, bool)>, CliFault>
-    ensures rule { Checks result (option_and_then
-        (λ text. option_map Range (result_err (range_of text)))
-        (value_given Opt.VersionRange (views uses.now))) }
+    ensures rule { Checks result (value_rule Opt.VersionRange
+        (λ text. option_map Range (result_err (range_of text))) (views uses.now)) }
     ensures value { IfOk result (λ said.
         option_map (λ read. record { range = read.0; old = read.1 }) said
         ≡ option_and_then read_range (value_given Opt.VersionRange (views uses.now))) }
@@ -85,9 +84,8 @@ fn said_range(alloc: Global, uses: &[Use]) -> Result<Option<(VersionRange, bool)
 
 /// The step between versions.
 fn step(alloc: Global, uses: &[Use]) -> Result<u16, CliFault>
-    ensures rule { Checks result (option_and_then
-        (λ text. unless_counted Opt.VersionStep text (number_of 16 text))
-        (value_given Opt.VersionStep (views uses.now))) }
+    ensures rule { Checks result (value_rule Opt.VersionStep
+        (λ text. unless_counted Opt.VersionStep text (number_of 16 text)) (views uses.now)) }
     ensures value { IfOk result (λ step. step ≡ step_asked (views uses.now)) }
 {
     match value(Opt::VersionStep, uses) {
@@ -155,9 +153,8 @@ fn formats_messages(uses: &[Use]) -> bool
 
 /// How the lines of a run are grouped.
 fn log_group(alloc: Global, github_actions: bool, uses: &[Use]) -> Result<LogGroup, CliFault>
-    ensures rule { Checks result (option_and_then
-        (λ text. unless_read (WrongLogGroup text) (log_group_of text))
-        (value_given Opt.LogGroup (views uses.now))) }
+    ensures rule { Checks result (value_rule Opt.LogGroup
+        (λ text. unless_read (WrongLogGroup text) (log_group_of text)) (views uses.now)) }
     ensures value { IfOk result (λ group. group ≡ log_group_asked github_actions (views uses.now)) }
 {
     let group = match value(Opt::LogGroup, uses) {
@@ -214,10 +211,9 @@ fn lifts(alloc: Global, lists: &Lists, uses: &[Use]) -> Result<Vec<(String, Feat
 
 /// The number that the option gives.
 fn given_strength(alloc: Global, uses: &[Use]) -> Result<Option<usize>, CliFault>
-    ensures rule { Checks result (option_and_then
-        (λ text. unless_counted Opt.Strength text (number_of 64 text))
-        (value_given Opt.Strength (views uses.now))) }
-    ensures value { IfOk result (λ strength. strength ≡ strength_asked (views uses.now)) }
+    ensures rule { Checks result (value_rule Opt.Strength
+        (λ text. unless_counted Opt.Strength text (number_of 64 text)) (views uses.now)) }
+    ensures value { IfOk result (λ strength. strength ≡ number_asked Opt.Strength (views uses.now)) }
 {
     match value(Opt::Strength, uses) {
         Some(text) => Ok(Some(values::strength(alloc, text.as_str())?)),
@@ -230,10 +226,10 @@ fn strength(alloc: Global, uses: &[Use]) -> Result<Option<usize>, CliFault>
     ensures rules { Checks result (first_of
         (needs_rule (is_given Opt.Strength (views uses.now)) Opt.Strength Beside.Powerset
         (is_given Opt.FeaturePowerset (views uses.now))
-        ∷ option_and_then (λ text. unless_counted Opt.Strength text (number_of 64 text))
-        (value_given Opt.Strength (views uses.now))
+        ∷ value_rule Opt.Strength (λ text. unless_counted Opt.Strength text (number_of 64 text))
+        (views uses.now)
         ∷ [])) }
-    ensures value { IfOk result (λ strength. strength ≡ strength_asked (views uses.now)) }
+    ensures value { IfOk result (λ strength. strength ≡ number_asked Opt.Strength (views uses.now)) }
 {
     let option = Opt::Strength;
     let there = given(Opt::FeaturePowerset, uses);

@@ -6,7 +6,7 @@ use Rattle.hack_rules.specs.declared.uses.behavior.WorkspaceBehavior.{WorkspaceB
 use Rattle.hack_rules.specs.Uses.{Use, is_given, subcommand_of}
 use Rattle.hack_rules.specs.Values.{value_given, values_given}
 use Rattle.hack_words.specs.declared.cli.args.Args.{Args}
-use Rattle.hack_rules.specs.AskedFields.{coloring_asked, depth_asked, strength_asked, range_asked, step_asked, log_group_asked, piece_asked, kind_asked, leading_asked, excluded_asked, excludes_no_default, excludes_all}
+use Rattle.hack_rules.specs.AskedFields.{coloring_asked, number_asked, range_asked, step_asked, log_group_asked, piece_asked, kind_asked, leading_asked, excluded_asked, excludes_no_default, excludes_all}
 use Rattle.hack_rules.specs.CliGroups.{AreGroupsOf, AreNormalsOf, AreLifts}
 use Rattle.hack_rules.specs.CliLists.{names_given, optional_given, lifts_given}
 use Rattle.hack_rules.specs.ListedFeatures.{listed_by}
@@ -59,14 +59,14 @@ pub record HasValues (term_color : Option (List ℕ)) (github_actions : Bool) (b
   pub trailing_args : names_of args.trailing_args.items ≡ trailing
   pub workspace_behavior : args.workspace_behavior ≡ behavior
   pub coloring : args.coloring ≡ coloring_asked term_color us
-  pub depth : args.depth ≡ depth_asked us
+  pub depth : args.depth ≡ number_asked opt.Depth us
   pub version_range : args.version_range ≡ range_asked us
   pub version_step : args.version_step ≡ step_asked us
   pub log_group : args.log_group ≡ log_group_asked github_actions us
   pub piece : option_map (λ p. record { piece = p.piece; count = p.count }) args.partition ≡ piece_asked us
   pub kind : IfSome args.partition (λ p. p.kind ≡ kind_asked us)
   pub allow_together : AreLifts (lifts_given us) args.allow_together.items
-  pub strength : args.strength ≡ strength_asked us
+  pub strength : args.strength ≡ number_asked opt.Strength us
 
 -- all fields
 pub record IsAsked (term_color : Option (List ℕ)) (github_actions : Bool) (behavior : WorkspaceBehavior) (trailing : List (List ℕ)) (us : List Use) (args : Args) : Type 0 where

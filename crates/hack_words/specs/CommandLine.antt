@@ -77,8 +77,7 @@ rustup_words why = codes "unable to determine rustup version; assuming latest st
 
 -- the notice where a range is given and rustup's version isn't known
 abbrev pub rustup_notes : Bool → Option (List ℕ) → List Note
-rustup_notes ranged None = []
-rustup_notes ranged (Some why) = note_if ranged Warn (rustup_words why)
+rustup_notes ranged unknown = option_map_or (λ why. note_if ranged Warn (rustup_words why)) unknown []
 
 -- a range rewritten in its new form
 abbrev pub new_form : List ℕ → List ℕ
@@ -90,8 +89,7 @@ old_words newer = codes "using `..` for inclusive range is deprecated; consider 
 
 -- the notice where a range is in the old form
 abbrev pub old_notes : Bool → Option (List ℕ) → List Note
-old_notes old None = []
-old_notes old (Some text) = note_if old Warn (old_words (new_form text))
+old_notes old range = option_map_or (λ text. note_if old Warn (old_words (new_form text))) range []
 
 -- the options that edit manifests while commands run
 abbrev pub editing_words : Bool → Bool → List ℕ
@@ -108,13 +106,10 @@ abbrev pub editing_notes : Bool → Bool → List Note
 editing_notes no_dev_deps no_private =
     note_if (no_dev_deps || no_private) Info (edits_words (editing_words no_dev_deps no_private))
 
--- the notices after that on unknown features; `unknown` is why rustup's version isn't known
-abbrev pub later_notes : Option (List ℕ) → List Use → List Note
-later_notes unknown us =
-    rustup_notes (is_ranged us) unknown
-    ++ old_notes (is_old_asked us) (value_given opt.VersionRange us)
-    ++ editing_notes (is_given opt.NoDevDeps us) (is_given opt.NoPrivate us)
-
 -- the notices on an accepted command line, in order
 abbrev pub notes_on : Around → List Use → List Note
-notes_on around us = unknown_notes us ++ later_notes around.unknown us
+notes_on around us =
+    unknown_notes us
+    ++ rustup_notes (is_ranged us) around.unknown
+    ++ old_notes (is_old_asked us) (value_given opt.VersionRange us)
+    ++ editing_notes (is_given opt.NoDevDeps us) (is_given opt.NoPrivate us)
