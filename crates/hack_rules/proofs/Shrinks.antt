@@ -1,6 +1,7 @@
 -- Reading a use leaves less to read than before.
 use Rattle.std.proofs.Common.{◌≡◌, ◌+◌, ◌<◌, ◌≤◌, ℕ, List, [], ◌∷◌, ◌&&◌, ◌++◌, append-nil, append_assoc, Ok, Some, ◌∙◌, true, false, length, ap, sym, refl, Err, None, Option, Result, zero, suc, cond, codes, nat_lt, nat_eq, subst, drop, encode_utf8, length-drop, arith}
 use Rattle.std.specs.List.{starts_with, position_or_len, after_first}
+use Rattle.std.specs.Option.{option_map_or}
 use Rattle.std.proofs.lemmas.Str.{length-encode, len_utf8_bounds}
 use Rattle.hack_lexopt.specs.declared.fault.LexFault.{LexFault}
 use Rattle.hack_lexopt.specs.declared.fault.LexFault.TheVariants.{UnexpectedValue}
@@ -13,8 +14,8 @@ use Rattle.hack_options.specs.Find.{long_option, short_option}
 use Rattle.hack_rules.specs.declared.uses.cut.Print.{Print}
 use Rattle.hack_rules.specs.declared.uses.cut.Print.TheVariants as print
 use Rattle.hack_rules.specs.Faults.{Repeat, LoneQuote}
-use Rattle.hack_rules.specs.Uses.{Use, Known, Unknown, is_given, subcommand_of}
-use Rattle.hack_rules.specs.UseReading.{Reading, Met, End, Prints, Fails, is_lone_quote, is_bare_letter, unknown_option, option_or_value, option_with_value, unless_quote, print_request, help_of, by_kind, known_option, removed_of, similar_of, other, by_name, by_letter, of_cut, refused_value, of_next, read_of, Reads}
+use Rattle.hack_rules.specs.Uses.{Use, Unknown, is_given, subcommand_of}
+use Rattle.hack_rules.specs.UseReading.{Reading, Met, End, Prints, Fails, is_lone_quote, is_bare_letter, unknown_option, option_or_value, option_with_value, unless_quote, print_request, help_of, by_kind, known_option, removed_of, similar_of, other, of_cut, refused_value, of_next, read_of, Reads}
 
 -- a measure of how much is left to read
 abbrev pub weight_of : Untaken → ℕ
@@ -107,17 +108,13 @@ leaves-other P k (Some o) s us name l p = tt
 leaves-other P k None (Some o) us name l p = tt
 leaves-other P k None None us name l p = leaves-unknown P k (LongFlag name) l p
 
-leaves-name : (P : LeftArguments → Type 0) (k : Kept P) (o : Option Opt) (us : List Use) (name : List ℕ) (l : LeftArguments) → P l → Leaves P (by_name o us name l)
-leaves-name P k (Some o) us name l p = leaves-known P k us o (LongFlag name) l p
-leaves-name P k None us name l p = leaves-other P k (removed_of name) (similar_of name) us name l p
-
-leaves-letter : (P : LeftArguments → Type 0) (k : Kept P) (o : Option Opt) (us : List Use) (c : ℕ) (l : LeftArguments) → P l → Leaves P (by_letter o us c l)
-leaves-letter P k (Some o) us c l p = leaves-known P k us o (ShortFlag c) l p
-leaves-letter P k None us c l p = leaves-unknown P k (ShortFlag c) l p
+leaves-table : (P : LeftArguments → Type 0) (k : Kept P) (o : Option Opt) (us : List Use) (flag : Flag) (r : Reading) (l : LeftArguments) → P l → Leaves P r → Leaves P (option_map_or (λ o. known_option us o flag l) o r)
+leaves-table P k (Some o) us flag r l p q = leaves-known P k us o flag l p
+leaves-table P k None us flag r l p q = q
 
 leaves-cut : (P : LeftArguments → Type 0) (k : Kept P) (us : List Use) (cut : Cut) (l : LeftArguments) → P l → Leaves P (of_cut us cut l)
-leaves-cut P k us (FlagCut (LongFlag name)) l p = leaves-name P k (long_option name) us name l p
-leaves-cut P k us (FlagCut (ShortFlag c)) l p = leaves-letter P k (short_option c) us c l p
+leaves-cut P k us (FlagCut (LongFlag name)) l p = leaves-table P k (long_option name) us (LongFlag name) (other (removed_of name) (similar_of name) us name l) l p (leaves-other P k (removed_of name) (similar_of name) us name l p)
+leaves-cut P k us (FlagCut (ShortFlag c)) l p = leaves-table P k (short_option c) us (ShortFlag c) (unknown_option (ShortFlag c) l) l p (leaves-unknown P k (ShortFlag c) l p)
 leaves-cut P k us (ValueCut word) l p = p
 
 refused-no_use : (option : Option Flag) (v : Option (List ℕ)) (u : Use) (l : LeftArguments) → refused_value option v ≡ Met u l → ⊥

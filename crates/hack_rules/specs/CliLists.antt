@@ -1,5 +1,5 @@
 -- The lists that uses of options give.
-use Rattle.std.specs.Prelude.{ℕ, List, [], ◌&&◌, not, Bool, false, Option, Some, None, length, map, nat_lt, bytes_eq, option_map, if◌then◌else◌}
+use Rattle.std.specs.Prelude.{ℕ, List, [], ◌&&◌, not, Bool, false, Option, Some, None, length, nat_lt, bytes_eq, option_and_then, option_map, if◌then◌else◌}
 use Rattle.std.specs.Cmp.Lexicographic.{pointwise}
 use Rattle.std.specs.List.{find, flat_map, filter_map, list_any}
 use Rattle.std.specs.Option.{is_none, option_map_or}
@@ -15,16 +15,11 @@ use Rattle.hack_base.specs.Lists.{is_list, group_names, list_names, without_quot
 abbrev pub names_given : Opt → List Use → List (List ℕ)
 names_given o us = flat_map list_names (values_given o us)
 
--- the names in each group of an option
-abbrev pub groups_given : Opt → List Use → List (List (List ℕ))
-groups_given o us = map group_names (values_given o us)
-
 -- the names of the optional dependencies, where the option is used; empty names count
 abbrev pub optional_given : List Use → Option (List (List ℕ))
 optional_given us =
     if is_given opt.OptionalDeps us
-    then Some (option_map_or (λ text. group_names (without_quotes text)) (value_given opt.OptionalDeps us) [])
-    else None
+    then Some (option_map_or (λ t. group_names (without_quotes t)) (value_given opt.OptionalDeps us) []) else None
 
 -- an exclusion group that is lifted for a package
 pub record Lift : Type 0 where
@@ -33,11 +28,9 @@ pub record Lift : Type 0 where
 
 -- PACKAGE=FEATURES, split at its first `=`, with a package and two features or more
 abbrev pub lift_of : List ℕ → Option Lift
-lift_of text = of_rest (front_of 61 text) (rest_of 61 text)
-  where
-    of_rest : List ℕ → Option (List ℕ) → Option Lift
-    of_rest owner None = None
-    of_rest owner (Some features) = if nat_lt 0 (length owner) && is_list features then Some (record { owner = owner; group = group_names features }) else None
+lift_of text =
+    option_and_then (λ features. if nat_lt 0 (length (front_of 61 text)) && is_list features
+    then Some (record { owner = front_of 61 text; group = group_names features }) else None) (rest_of 61 text)
 
 -- the groups that are lifted
 abbrev pub lifts_given : List Use → List Lift

@@ -86,11 +86,6 @@ is_target_flag w =
 abbrev pub is_target_name : List ℕ → Bool
 is_target_name w = starts_with nat_eq w (codes "--example=") || starts_with nat_eq w (codes "--test=") || starts_with nat_eq w (codes "--bench=")
 
--- dev-dependencies can't be left out beside such an argument
-abbrev pub target_rule : List Use → Option (List ℕ) → Option Fault
-target_rule us None = None
-target_rule us (Some word) = option_map (λ option. ClashWord option word) (without_dev_deps us)
-
 -- a list of features to include excludes some options
 abbrev pub include_rules : Listed → List Use → List (Option Fault)
 include_rules l us =
@@ -140,7 +135,8 @@ together_rules behavior l us =
     ∷ subcommand_rule (subcommand_of us) us
     ∷ cargo_rule behavior opt.EachFeature us
     ∷ cargo_rule behavior opt.FeaturePowerset us
-    ∷ target_rule us (find (λ w. is_target_flag w || is_target_name w) (leading_of behavior us))
+    ∷ option_and_then (λ word. option_map (λ option. ClashWord option word) (without_dev_deps us))
+    (find (λ w. is_target_flag w || is_target_name w) (leading_of behavior us))
     ∷ first_of (include_rules l us)
     ∷ first_of (pair_rules us)
     ∷ excluded_rule l l.excludes

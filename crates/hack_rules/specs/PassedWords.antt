@@ -8,7 +8,7 @@ use Rattle.hack_options.specs.declared.opt.Opt.TheVariants as opt
 use Rattle.hack_options.specs.Table.{is_same_option}
 use Rattle.hack_rules.specs.declared.uses.behavior.WorkspaceBehavior.{WorkspaceBehavior}
 use Rattle.hack_rules.specs.Behavior.{is_cargo}
-use Rattle.hack_rules.specs.Uses.{Use, Known, Unknown, Word, is_use_of}
+use Rattle.hack_rules.specs.Uses.{Use, Known, Unknown, Word}
 
 -- an option of the table that is also passed on to cargo; some are only where cargo handles the
 -- workspace

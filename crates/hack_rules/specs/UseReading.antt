@@ -107,20 +107,14 @@ other (Some instead) meant us name left = Fails (Removed name instead)
 other None (Some meant) us name left = Fails (Similar name meant (subcommand_of us))
 other None None us name left = unknown_option (LongFlag name) left
 
--- a long option, given its option of the table
-abbrev pub by_name : Option Opt → List Use → List ℕ → LeftArguments → Reading
-by_name (Some o) us name left = known_option us o (LongFlag name) left
-by_name None us name left = other (removed_of name) (similar_of name) us name left
-
--- a letter, given its option of the table
-abbrev pub by_letter : Option Opt → List Use → ℕ → LeftArguments → Reading
-by_letter (Some o) us letter left = known_option us o (ShortFlag letter) left
-by_letter None us letter left = unknown_option (ShortFlag letter) left
-
 -- the result of an item after these uses
 abbrev pub of_cut : List Use → Cut → LeftArguments → Reading
-of_cut us (FlagCut (LongFlag name)) left = by_name (long_option name) us name left
-of_cut us (FlagCut (ShortFlag letter)) left = by_letter (short_option letter) us letter left
+of_cut us (FlagCut (LongFlag name)) left =
+    option_map_or (λ o. known_option us o (LongFlag name) left) (long_option name)
+    (other (removed_of name) (similar_of name) us name left)
+of_cut us (FlagCut (ShortFlag letter)) left =
+    option_map_or (λ o. known_option us o (ShortFlag letter) left) (short_option letter)
+    (unknown_option (ShortFlag letter) left)
 of_cut us (ValueCut word) left = Met (Word word) left
 
 -- a value that the option before it did not take

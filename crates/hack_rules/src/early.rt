@@ -1,7 +1,7 @@
 //! The rules that are checked before the one on a missing subcommand. They are checked in order,
 //! and the first that is broken gives the error.
 
-ghost use Rattle.std.specs.Prelude.{◌≡◌, ◌||◌, [], IfOk, option_map};
+ghost use Rattle.std.specs.Prelude.{◌≡◌, ◌||◌, [], IfOk, option_and_then, option_map};
 ghost use Rattle.std.specs.List.{find};
 ghost use Rattle.std.specs.Option.{unwrap_or};
 ghost use Rattle.hack_features.specs.Feature.{groups_of};
@@ -10,7 +10,7 @@ ghost use Rattle.hack_rules.specs.PassedWords.{leading_of};
 ghost use Rattle.hack_rules.specs.Uses.{views, is_given, subcommand_of};
 ghost use Rattle.hack_rules.specs.Values.{value_given};
 ghost use Rattle.hack_rules.specs.AskedFields.{coloring_asked, number_asked};
-ghost use Rattle.hack_rules.specs.CliFaults.{Checks, Number};
+ghost use Rattle.hack_rules.specs.CliFaults.{Checks, ClashWord, Number};
 ghost use Rattle.hack_rules.specs.CliValues.{unless_read};
 ghost use Rattle.hack_base.specs.Numbers.{number_of};
 ghost use Rattle.hack_rules.specs.ListsView.{listed_view};
@@ -21,7 +21,7 @@ ghost use Rattle.hack_rules.specs.EarlyRules.{single_rule, single_rules, subcomm
 ghost use Rattle.hack_rules.specs.EarlyRules.{cargo_rule, without_dev_deps as dev_deps_option};
 ghost use Rattle.hack_rules.specs.EarlyRules.{is_target_flag as target_flag};
 ghost use Rattle.hack_rules.specs.EarlyRules.{is_target_name as target_name};
-ghost use Rattle.hack_rules.specs.EarlyRules.{target_rule, include_rules, pair_rules};
+ghost use Rattle.hack_rules.specs.EarlyRules.{include_rules, pair_rules};
 ghost use Rattle.hack_rules.specs.EarlyRules.{option_naming as naming_option, excluded_rule};
 ghost use Rattle.hack_rules.specs.EarlyRules.{early_rules};
 ghost use Rattle.hack_rules.specs.EarlyRules.{together_rules, rules_before, is_each as each};
@@ -249,7 +249,8 @@ fn target_choice(leading: &[String]) -> Option<&String>
 
 /// Dev-dependencies can't be left out beside an argument that selects targets which need them.
 fn beside_targets(leading: &[String], uses: &[Use]) -> Result<(), CliFault>
-    ensures { Checks result (target_rule (views uses.now)
+    ensures { Checks result (option_and_then
+        (λ word. option_map (λ option. ClashWord option word) (dev_deps_option (views uses.now)))
         (find (λ w. target_flag w || target_name w) (names_of leading.now))) }
 {
     let Some(word) = target_choice(leading) else {

@@ -34,7 +34,7 @@ pub record HasFlags (us : List Use) (args : Args) : Type 0 where
   pub exclude_no_default_features : args.exclude_no_default_features ≡ excludes_no_default (listed_by us) us
   pub exclude_all_features : args.exclude_all_features ≡ excludes_all (listed_by us) us
 
--- the arguments for cargo, and the lists of texts
+-- the arguments for cargo, the lists of texts, and the features with their groups
 pub record HasTexts (behavior : WorkspaceBehavior) (us : List Use) (args : Args) : Type 0 where
   pub leading_args : names_of args.leading_args.items ≡ leading_asked behavior us
   pub subcommand : optional_text args.subcommand ≡ subcommand_of us
@@ -46,9 +46,6 @@ pub record HasTexts (behavior : WorkspaceBehavior) (us : List Use) (args : Args)
   pub optional_deps : option_map (λ names. names_of names.items) args.optional_deps ≡ optional_given us
   pub target_rising : AreRising (names_of args.target.items)
   pub target_same : HaveSameTexts (names_of args.target.items) (values_given opt.Target us)
-
--- the features and their groups
-pub record HasFeatures (us : List Use) (args : Args) : Type 0 where
   pub include_features : AreNormalsOf (names_given opt.IncludeFeatures us) args.include_features.items
   pub group_features : AreGroupsOf (values_given opt.GroupFeatures us) args.group_features.items
   pub mutually_exclusive_features : AreGroupsOf (values_given opt.MutuallyExclusiveFeatures us) args.mutually_exclusive_features.items
@@ -72,5 +69,4 @@ pub record HasValues (term_color : Option (List ℕ)) (github_actions : Bool) (b
 pub record IsAsked (term_color : Option (List ℕ)) (github_actions : Bool) (behavior : WorkspaceBehavior) (trailing : List (List ℕ)) (us : List Use) (args : Args) : Type 0 where
   pub flags : HasFlags us args
   pub texts : HasTexts behavior us args
-  pub features : HasFeatures us args
   pub values : HasValues term_color github_actions behavior trailing us args

@@ -78,8 +78,11 @@ pub(crate) enum Step {
     Asks(Print),
 }
 
+/// What is read next, or the parse error that comes instead.
+pub(crate) type Found = Result<Step, CutFault>;
+
 /// The next use after the uses so far, or what comes instead of one.
-fn read(alloc: Global, parser: &mut Parser, uses: &[Use]) -> Result<Step, CutFault>
+fn read(alloc: Global, parser: &mut Parser, uses: &[Use]) -> Found
     ensures { ReturnsStep result (left_in parser.new)
         (read_of (views uses.now) (left_in parser.old)) }
 {

@@ -18,7 +18,7 @@ ghost use Rattle.hack_rules.specs.UseReading.{similar_of};
 ghost use Rattle.hack_options.specs.Table.{entry_of, meaning_of};
 ghost use Rattle.hack_rules.specs.Uses.{views, is_given, subcommand_of};
 
-use crate::uses::cut::Step;
+use crate::uses::cut::{Found, Step};
 use crate::uses::fault::{CutFault, OwnedFlag};
 use crate::uses::seen::{given, subcommand};
 use crate::uses::{Print, Use};
@@ -56,11 +56,7 @@ fn meet(option: Opt, flag: OwnedFlag, value: Option<String>) -> Step
 
 /// An option that is not in the table, and the rest of its argument. Cargo's `-n`, `-q` and `-r`
 /// take no value, so the letters after them are read as options.
-pub(crate) fn cut_unknown(
-    alloc: Global,
-    parser: &mut Parser,
-    flag: OwnedFlag,
-) -> Result<Step, CutFault>
+pub(crate) fn cut_unknown(alloc: Global, parser: &mut Parser, flag: OwnedFlag) -> Found
     ensures { ReturnsStep result (left_in parser.new)
         (unknown_reading (flag_seen flag) (left_in parser.old)) }
 {
@@ -73,13 +69,7 @@ pub(crate) fn cut_unknown(
 
 /// A request to print a text, if no subcommand came before it; else the request is passed on to the
 /// subcommand.
-fn question(
-    alloc: Global,
-    parser: &mut Parser,
-    uses: &[Use],
-    flag: OwnedFlag,
-    print: Print,
-) -> Result<Step, CutFault>
+fn request(alloc: Global, parser: &mut Parser, uses: &[Use], flag: OwnedFlag, print: Print) -> Found
     ensures { ReturnsStep result (left_in parser.new)
         (question_reading print (subcommand_of (views uses.now)) (flag_seen flag)
         (left_in parser.old)) }
@@ -101,12 +91,7 @@ fn help(flag: &OwnedFlag) -> Print
 }
 
 /// An option that takes a value, with the value that comes next.
-fn with_value(
-    alloc: Global,
-    parser: &mut Parser,
-    option: Opt,
-    flag: OwnedFlag,
-) -> Result<Step, CutFault>
+fn with_value(alloc: Global, parser: &mut Parser, option: Opt, flag: OwnedFlag) -> Found
     ensures { ReturnsStep result (left_in parser.new)
         (value_reading option (flag_seen flag) (value_of (left_in parser.old))
         (left_in parser.old)) }
@@ -119,12 +104,7 @@ fn with_value(
 }
 
 /// An option that takes a list of names, with the list that comes next.
-fn with_names(
-    alloc: Global,
-    parser: &mut Parser,
-    option: Opt,
-    flag: OwnedFlag,
-) -> Result<Step, CutFault>
+fn with_names(alloc: Global, parser: &mut Parser, option: Opt, flag: OwnedFlag) -> Found
     ensures { ReturnsStep result (left_in parser.new)
         (unless_quote (flag_seen flag) (value_of (left_in parser.old))
         (value_reading option (flag_seen flag) (value_of (left_in parser.old))
@@ -139,12 +119,7 @@ fn with_names(
 }
 
 /// An option whose list of names may be left out, with the list if one comes next.
-fn with_names_or_none(
-    alloc: Global,
-    parser: &mut Parser,
-    option: Opt,
-    flag: OwnedFlag,
-) -> Result<Step, CutFault>
+fn optional_names(alloc: Global, parser: &mut Parser, option: Opt, flag: OwnedFlag) -> Found
     ensures { ReturnsStep result (left_in parser.new)
         (unless_quote (flag_seen flag) (optional_of (left_in parser.old))
         (optional_reading option (flag_seen flag) (optional_of (left_in parser.old))
@@ -157,13 +132,7 @@ fn with_names_or_none(
 }
 
 /// An option of the table that is no repeat, with its value if it takes one.
-fn by_kind(
-    alloc: Global,
-    parser: &mut Parser,
-    uses: &[Use],
-    option: Opt,
-    flag: OwnedFlag,
-) -> Result<Step, CutFault>
+fn by_kind(alloc: Global, parser: &mut Parser, uses: &[Use], option: Opt, flag: OwnedFlag) -> Found
     ensures { ReturnsStep result (left_in parser.new)
         (kind_reading (entry_of option).kind (views uses.now) option (flag_seen flag)
         (left_in parser.old)) }
@@ -172,12 +141,12 @@ fn by_kind(
         Kind::Flag => Ok(meet(option.means(), flag, None)),
         Kind::Value => with_value(alloc, parser, option, flag),
         Kind::Names => with_names(alloc, parser, option, flag),
-        Kind::OptionalNames => with_names_or_none(alloc, parser, option, flag),
+        Kind::OptionalNames => optional_names(alloc, parser, option, flag),
         Kind::Help => {
             let print = help(&flag);
-            question(alloc, parser, uses, flag, print)
+            request(alloc, parser, uses, flag, print)
         }
-        Kind::Version => question(alloc, parser, uses, flag, Print::Version),
+        Kind::Version => request(alloc, parser, uses, flag, Print::Version),
         Kind::Refused => Err(CutFault::BehaviorForm),
     }
 }
@@ -196,7 +165,7 @@ pub(crate) fn cut_known(
     uses: &[Use],
     option: Opt,
     flag: OwnedFlag,
-) -> Result<Step, CutFault>
+) -> Found
     ensures { ReturnsStep result (left_in parser.new)
         (known_reading (views uses.now) option (flag_seen flag) (left_in parser.old)) }
 {
@@ -243,12 +212,7 @@ fn similar(name: &str) -> Option<Opt>
 }
 
 /// A long name that is not in the table.
-pub(crate) fn other_name(
-    alloc: Global,
-    parser: &mut Parser,
-    uses: &[Use],
-    name: String,
-) -> Result<Step, CutFault>
+pub(crate) fn other_name(alloc: Global, parser: &mut Parser, uses: &[Use], name: String) -> Found
     ensures { ReturnsStep result (left_in parser.new)
         (other_reading (removed_of (string_bytes name)) (similar_of (string_bytes name))
         (views uses.now) (string_bytes name) (left_in parser.old)) }

@@ -193,7 +193,7 @@ pub struct Read {
 }
 
 impl Args {
-    ghost use Rattle.hack_words.specs.ArgsView.{HasFlags, HasTexts, HasFeatures};
+    ghost use Rattle.hack_words.specs.ArgsView.{HasFlags, HasTexts};
     ghost use Rattle.hack_words.specs.Internal.{Carries};
     ghost use Rattle.hack_rules.specs.CliGroups.{AreGroupsOf};
     ghost use Rattle.hack_rules.specs.ListedFeatures.{listed_by};
@@ -210,7 +210,6 @@ impl Args {
             (views uses.now)) read.call.lists.mutually_exclusive_features.items }
         ensures flags { IfOk result (HasFlags (views uses.now)) }
         ensures texts { IfOk result (HasTexts read.call.behavior (views uses.now)) }
-        ensures features { IfOk result (HasFeatures (views uses.now)) }
         ensures carries { IfOk result (Carries read) }
     {
         let Read { call, early, late } = read;

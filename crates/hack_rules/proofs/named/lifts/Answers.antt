@@ -1,13 +1,11 @@
-use Rattle.std.proofs.Common.{rules, ◌≡◌, None, Some, Option, MatchOption, map, string_bytes}
+use Rattle.std.proofs.Common.{rules, ◌≡◌, None, Some, Option, MatchOption, map}
 use Rattle.std.specs.Option.{option_or}
 use Rattle.std.proofs.lemmas.Result.{err_from_is_err_and}
-use Rattle.hack_options.specs.declared.opt.Opt.TheVariants as opt
 use Rattle.hack_features.specs.Feature.{group_of}
 use Rattle.hack_rules.specs.CliFaults.{Fault, fault_of}
 use Rattle.hack_rules.specs.declared.fault.CliFault.TheVariants as fault
 use Rattle.hack_rules.specs.CliLists.{lift_form, lift_group}
 use Rattle.hack_rules.specs.Uses.{views}
-use Rattle.hack_rules.specs.Values.{values_given}
 use Rattle.hack_rules.proofs.named.lifts.Goals as goal
 
 later-fault : (o : Option Fault) (Q : Type 0) (a b : Option Fault) → a ≡ None → MatchOption o Q (λ told. b ≡ Some told) → MatchOption o Q (λ told. option_or a b ≡ Some told)
