@@ -28,8 +28,8 @@ pub record IsEnv (vars : List Variable) (current_dir : List ℕ) (env : Env) : T
   pub github_actions : env.github_actions ≡ is_set (codes "GITHUB_ACTIONS") vars
   pub deny_warnings : env.deny_warnings ≡ is_set (codes "CARGO_HACK_DENY_WARNINGS") vars
   pub cargo : string_bytes env.cargo
-    ≡ unwrap_or (option_or (variable (codes "CARGO_HACK_CARGO_SRC") vars) (variable (codes "CARGO") vars))
-    (codes "cargo")
+      ≡ unwrap_or (option_or (variable (codes "CARGO_HACK_CARGO_SRC") vars) (variable (codes "CARGO") vars))
+      (codes "cargo")
   pub rustup : string_bytes env.rustup
-    ≡ unwrap_or (variable (codes "CARGO_HACK_RUSTUP") vars) (codes "rustup")
+      ≡ unwrap_or (variable (codes "CARGO_HACK_RUSTUP") vars) (codes "rustup")
   pub folder : string_bytes env.current_dir ≡ current_dir
