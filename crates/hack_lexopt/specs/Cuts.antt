@@ -98,8 +98,7 @@ next_cut left = go left.untaken left.words
   where
     go : Untaken → List (List ℕ) → Result (Option Cut) LexFault
     go (Pending value) words = Err UnexpectedValue
-    go (Chain letters) words =
-        if begins_with_equals letters then Err UnexpectedValue
+    go (Chain letters) words = if begins_with_equals letters then Err UnexpectedValue
         else Ok (Some (FlagCut (ShortFlag (first_letter letters))))
     go Nothing [] = Ok None
     go Nothing (word ∷ words) = Ok (Some (cut_of word))

@@ -1,13 +1,14 @@
 -- An option is found by its own name and letter, and by no other.
-use Rattle.std.specs.Prelude.{ℕ, List, [], ◌∷◌, Bool, true, false, Option, Some, None, IfSome, ◌≡◌, if◌then◌else◌}
+use Rattle.std.specs.Prelude.{ℕ, List, [], ◌∷◌, Bool, true, false, Option, Some, None, IfSome, ◌≡◌, ◌==◌, if◌then◌else◌}
 use Rattle.std.specs.List.{find}
+use Rattle.std.specs.Option.{option_map_or}
 use Rattle.std.specs.Str.{bytes_eq}
 use Rattle.std.proofs.Common.{refl, ap}
 use Rattle.std.proofs.lemmas.Bool.Decides.{Decides-eqb}
 use Rattle.std.proofs.lemmas.Slice.Eq.{bytes_eq-Decides}
 use Rattle.hack_options.specs.declared.opt.Opt.{Opt}
 use Rattle.hack_options.specs.declared.opt.Opt.TheVariants as opt
-use Rattle.hack_options.specs.Table.{entry_of, is_letter}
+use Rattle.hack_options.specs.Table.{entry_of}
 use Rattle.hack_options.specs.Find.{long_option, short_option}
 
 pub long_option-name : (o : Opt) → long_option (entry_of o).name ≡ Some o
@@ -115,6 +116,10 @@ found P o behind false is rest = rest
 pub named-name : (name : List ℕ) (os : List Opt) → IfSome (find (λ o. bytes_eq (entry_of o).name name) os) (λ o. (entry_of o).name ≡ name)
 named-name name [] = tt
 named-name name (o ∷ os) = found (λ o. (entry_of o).name ≡ name) o (find (λ o. bytes_eq (entry_of o).name name) os) (bytes_eq (entry_of o).name name) (bytes_eq-Decides (entry_of o).name name).0 (named-name name os)
+
+-- whether the letter is there and is this one
+abbrev is_letter : ℕ → Option ℕ → Bool
+is_letter c letter = option_map_or (λ l. l == c) letter false
 
 is_letter-Some : (c : ℕ) (letter : Option ℕ) → is_letter c letter ≡ true → letter ≡ Some c
 is_letter-Some c (Some l) is = ap Some ((Decides-eqb l c).0 is)

@@ -1,5 +1,5 @@
 -- The table of options: how each is written and parsed, and how the help shows it.
-use Rattle.std.specs.Prelude.{ℕ, List, [], ◌∷◌, ◌==◌, Bool, true, false, Option, Some, None, codes, slice_get, is_some}
+use Rattle.std.specs.Prelude.{ℕ, List, [], Bool, true, false, Option, None, codes, slice_get, is_some}
 use denote.Enum.Bare.{sameb}
 use Rattle.hack_options.specs.contracts.opt.Opt.{the_type}
 use Rattle.hack_options.specs.declared.opt.Opt.{Opt}
@@ -105,8 +105,3 @@ meaning_of o = o
 -- `==` on options
 abbrev pub is_same_option : Opt → Opt → Bool
 is_same_option = sameb the_type
-
--- whether the letter is there and is this one
-abbrev pub is_letter : ℕ → Option ℕ → Bool
-is_letter c (Some l) = l == c
-is_letter c None = false

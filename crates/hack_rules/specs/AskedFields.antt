@@ -25,7 +25,6 @@ use Rattle.hack_term.specs.declared.log_group.LogGroup.{LogGroup}
 use Rattle.hack_term.specs.declared.log_group.LogGroup.TheVariants as group
 use Rattle.hack_term.specs.declared.partition.PartitionKind.{PartitionKind}
 use Rattle.hack_term.specs.declared.partition.PartitionKind.TheVariants.{Block}
-use Rattle.hack_rules.specs.CliLists.{names_given}
 use Rattle.hack_rules.specs.ListedFeatures.{Listed}
 use Rattle.hack_rules.specs.Rules.{is_nonempty}
 
@@ -86,10 +85,6 @@ verbose_words count = if nat_lt 1 count then (codes "-" ++ repeat (count - 1) (c
 abbrev pub leading_asked : WorkspaceBehavior → List Use → List (List ℕ)
 leading_asked behavior us =
     leading_of behavior us ++ verbose_words (length (filter (is_use_of opt.Verbose) us))
-
--- the features excluded from combinations: those of --features are enabled anyway
-abbrev pub excluded_asked : List Use → List (List ℕ)
-excluded_asked us = names_given opt.ExcludeFeatures us ++ names_given opt.Features us
 
 -- the run without default features is left out
 abbrev pub excludes_no_default : Listed → List Use → Bool

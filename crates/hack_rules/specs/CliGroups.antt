@@ -2,17 +2,13 @@
 use Rattle.std.specs.Prelude.{◌≡◌, ℕ, List, String, string_bytes}
 use Rattle.std.specs.List.{AllZip}
 use Rattle.hack_features.specs.declared.feature.Feature.{Feature}
-use Rattle.hack_features.specs.Feature.{IsGroup, IsNormal}
+use Rattle.hack_features.specs.Feature.{IsGroup}
 use Rattle.hack_rules.specs.CliLists.{Lift}
 use Rattle.hack_base.specs.Lists.{group_names}
 
 -- one group for each text, with the names in it
 abbrev pub AreGroupsOf : List (List ℕ) → List Feature → Type 0
 AreGroupsOf texts features = AllZip (λ text feature. IsGroup (group_names text) feature) texts features
-
--- one feature for each name, called by it
-abbrev pub AreNormalsOf : List (List ℕ) → List Feature → Type 0
-AreNormalsOf names features = AllZip IsNormal names features
 
 -- each package with the group that is lifted for it
 abbrev pub AreLifts : {Y : Type 0} → List Lift → List (String Y × Feature) → Type 0

@@ -44,21 +44,9 @@ each_rules l us =
     ∷ needs (is_given opt.IncludeDepsFeatures us) opt.IncludeDepsFeatures beside.EachOrPowerset (is_each us)
     ∷ []
 
--- options that need --feature-powerset
-abbrev pub powerset_rules : List Use → List (Option Fault)
-powerset_rules us =
-    map (λ option. needs (is_given option us) option beside.Powerset (is_given opt.FeaturePowerset us))
-    (opt.Depth ∷ opt.GroupFeatures ∷ opt.MutuallyExclusiveFeatures ∷ opt.AtLeastOneOf ∷ [])
-
 -- each use of a group has a comma or a space
 abbrev pub single_rule : Opt → List Use → Option Fault
 single_rule option us = fault_if (list_any (λ text. not (is_list text)) (values_given option us)) (Single option)
-
--- the same of the three options that take groups
-abbrev pub single_rules : List Use → List (Option Fault)
-single_rules us =
-    map (λ option. single_rule option us)
-    (opt.GroupFeatures ∷ opt.MutuallyExclusiveFeatures ∷ opt.AtLeastOneOf ∷ [])
 
 -- the option that leaves dev-dependencies out, if one is given
 abbrev pub without_dev_deps : List Use → Option Opt
@@ -124,14 +112,16 @@ early_rules term_color l us =
     color_rule (value_given opt.Color us) term_color
     ∷ unknown_rule l us
     ∷ first_of (each_rules l us)
-    ∷ first_of (powerset_rules us)
+    ∷ first_of (map (λ option. needs (is_given option us) option beside.Powerset (is_given opt.FeaturePowerset us))
+    (opt.Depth ∷ opt.GroupFeatures ∷ opt.MutuallyExclusiveFeatures ∷ opt.AtLeastOneOf ∷ []))
     ∷ value_rule opt.Depth (λ text. unless_read (Number text) (number_of 64 text)) us
     ∷ []
 
 -- the rules on groups, and on options that exclude each other
 abbrev pub together_rules : WorkspaceBehavior → Listed → List Use → List (Option Fault)
 together_rules behavior l us =
-    first_of (single_rules us)
+    first_of (map (λ option. single_rule option us)
+    (opt.GroupFeatures ∷ opt.MutuallyExclusiveFeatures ∷ opt.AtLeastOneOf ∷ []))
     ∷ subcommand_rule (subcommand_of us) us
     ∷ cargo_rule behavior opt.EachFeature us
     ∷ cargo_rule behavior opt.FeaturePowerset us

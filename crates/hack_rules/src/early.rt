@@ -16,8 +16,8 @@ ghost use Rattle.hack_base.specs.Numbers.{number_of};
 ghost use Rattle.hack_rules.specs.ListsView.{listed_view};
 ghost use Rattle.hack_rules.specs.Rules.{needs as needs_rule, first_of, value_rule, is_among};
 ghost use Rattle.hack_rules.specs.EarlyRules.{is_in_group};
-ghost use Rattle.hack_rules.specs.EarlyRules.{color_rule, unknown_rule, each_rules, powerset_rules};
-ghost use Rattle.hack_rules.specs.EarlyRules.{single_rule, single_rules, subcommand_rule};
+ghost use Rattle.hack_rules.specs.EarlyRules.{color_rule, unknown_rule, each_rules};
+ghost use Rattle.hack_rules.specs.EarlyRules.{single_rule, subcommand_rule};
 ghost use Rattle.hack_rules.specs.EarlyRules.{cargo_rule, without_dev_deps as dev_deps_option};
 ghost use Rattle.hack_rules.specs.EarlyRules.{is_target_flag as target_flag};
 ghost use Rattle.hack_rules.specs.EarlyRules.{is_target_name as target_name};
@@ -126,16 +126,6 @@ fn needs_powerset(option: Opt, uses: &[Use]) -> Result<(), CliFault>
     needs(given(option, uses), option, Beside::Powerset, there)
 }
 
-/// Options that need `--feature-powerset`.
-fn beside_powerset(uses: &[Use]) -> Result<(), CliFault>
-    ensures { Checks result (first_of (powerset_rules (views uses.now))) }
-{
-    needs_powerset(Opt::Depth, uses)?;
-    needs_powerset(Opt::GroupFeatures, uses)?;
-    needs_powerset(Opt::MutuallyExclusiveFeatures, uses)?;
-    needs_powerset(Opt::AtLeastOneOf, uses)
-}
-
 /// The depth, where one is given.
 fn depth(alloc: Global, uses: &[Use]) -> Result<Option<usize>, CliFault>
     ensures rule { Checks result (value_rule Opt.Depth
@@ -160,14 +150,6 @@ fn lists_two(option: Opt, uses: &[Use]) -> Result<(), CliFault>
         }
     }
     Ok(())
-}
-
-fn groups_list_two(uses: &[Use]) -> Result<(), CliFault>
-    ensures { Checks result (first_of (single_rules (views uses.now))) }
-{
-    lists_two(Opt::GroupFeatures, uses)?;
-    lists_two(Opt::MutuallyExclusiveFeatures, uses)?;
-    lists_two(Opt::AtLeastOneOf, uses)
 }
 
 /// The option that leaves dev-dependencies out, if one is given.
@@ -358,7 +340,9 @@ fn check_together(
     ensures { Checks result (first_of
         (together_rules behavior (listed_view lists.now) (views uses.now))) }
 {
-    groups_list_two(uses)?;
+    lists_two(Opt::GroupFeatures, uses)?;
+    lists_two(Opt::MutuallyExclusiveFeatures, uses)?;
+    lists_two(Opt::AtLeastOneOf, uses)?;
     beside_subcommand(uses)?;
     beside_cargo(behavior, Opt::EachFeature, uses)?;
     beside_cargo(behavior, Opt::FeaturePowerset, uses)?;
@@ -393,7 +377,10 @@ fn check_lists(
     let coloring = coloring(term_color, uses)?;
     beside_lists(lists, uses)?;
     beside_each(lists, uses)?;
-    beside_powerset(uses)?;
+    needs_powerset(Opt::Depth, uses)?;
+    needs_powerset(Opt::GroupFeatures, uses)?;
+    needs_powerset(Opt::MutuallyExclusiveFeatures, uses)?;
+    needs_powerset(Opt::AtLeastOneOf, uses)?;
     let depth = depth(alloc, uses)?;
     Ok(Early { coloring, depth })
 }

@@ -1,7 +1,7 @@
 //! The lists that the uses of options give.
 
 ghost use Rattle.std.specs.Prelude.{◌≡◌, [], not, IfOk, Some, map, string_bytes};
-ghost use Rattle.std.specs.List.{filter_map, find, list_any};
+ghost use Rattle.std.specs.List.{AllZip, filter_map, find, list_any};
 ghost use Rattle.std.specs.Option.{is_none, option_map, option_map_or, option_or};
 ghost use Rattle.hack_base.specs.Names.{names_of, optional_text_ref};
 ghost use Rattle.hack_rules.specs.Uses.{views};
@@ -12,9 +12,9 @@ ghost use Rattle.hack_rules.specs.CliLists.{lifts_given, lifts_one_of, same_name
 ghost use Rattle.hack_rules.specs.CliLists.{lift_form, lift_group};
 ghost use Rattle.hack_rules.specs.CliTargets.{AreRising, HaveSameTexts};
 ghost use Rattle.hack_rules.specs.Internal.{put_all};
-ghost use Rattle.hack_features.specs.Feature.{IsGroup, group_of};
+ghost use Rattle.hack_features.specs.Feature.{IsGroup, IsNormal, group_of};
 ghost use Rattle.hack_base.specs.Lists.{group_names, without_quotes};
-ghost use Rattle.hack_rules.specs.CliGroups.{AreGroupsOf, AreNormalsOf, AreLifts};
+ghost use Rattle.hack_rules.specs.CliGroups.{AreGroupsOf, AreLifts};
 ghost use Rattle.hack_rules.specs.Internal.{AreReadAs};
 
 use crate::fault::CliFault;
@@ -86,7 +86,7 @@ pub fn groups(alloc: Global, option: Opt, uses: &[Use]) -> Result<Vec<Feature>, 
 
 /// A feature for each name.
 pub fn normals(alloc: Global, names: &[String]) -> Result<Vec<Feature>, AllocError>
-    ensures { IfOk result (λ features. AreNormalsOf (names_of names.now) features.items) }
+    ensures { IfOk result (λ features. AllZip IsNormal (names_of names.now) features.items) }
 {
     let mut features = Vec::new(alloc);
     for name in names {

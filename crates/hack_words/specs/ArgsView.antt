@@ -1,13 +1,15 @@
 -- What the fields of `Args` hold, one by one.
-use Rattle.std.specs.Prelude.{ℕ, ◌≡◌, ◌||◌, List, Bool, Option, IfSome, option_map}
+use Rattle.std.specs.Prelude.{ℕ, ◌≡◌, ◌||◌, ◌++◌, List, Bool, Option, IfSome, option_map}
+use Rattle.std.specs.List.{AllZip}
 use Rattle.hack_base.specs.Names.{names_of, optional_text}
+use Rattle.hack_features.specs.Feature.{IsNormal}
 use Rattle.hack_options.specs.declared.opt.Opt.TheVariants as opt
 use Rattle.hack_rules.specs.declared.uses.behavior.WorkspaceBehavior.{WorkspaceBehavior}
 use Rattle.hack_rules.specs.Uses.{Use, is_given, subcommand_of}
 use Rattle.hack_rules.specs.Values.{value_given, values_given}
 use Rattle.hack_words.specs.declared.cli.args.Args.{Args}
-use Rattle.hack_rules.specs.AskedFields.{coloring_asked, number_asked, range_asked, step_asked, log_group_asked, piece_asked, kind_asked, leading_asked, excluded_asked, excludes_no_default, excludes_all}
-use Rattle.hack_rules.specs.CliGroups.{AreGroupsOf, AreNormalsOf, AreLifts}
+use Rattle.hack_rules.specs.AskedFields.{coloring_asked, number_asked, range_asked, step_asked, log_group_asked, piece_asked, kind_asked, leading_asked, excludes_no_default, excludes_all}
+use Rattle.hack_rules.specs.CliGroups.{AreGroupsOf, AreLifts}
 use Rattle.hack_rules.specs.CliLists.{names_given, optional_given, lifts_given}
 use Rattle.hack_rules.specs.ListedFeatures.{listed_by}
 use Rattle.hack_rules.specs.CliTargets.{AreRising, HaveSameTexts}
@@ -42,11 +44,12 @@ pub record HasTexts (behavior : WorkspaceBehavior) (us : List Use) (args : Args)
   pub packages : names_of args.«package».items ≡ values_given opt.Package us
   pub exclude : names_of args.exclude.items ≡ values_given opt.Exclude us
   pub features : names_of args.features.items ≡ names_given opt.Features us
-  pub exclude_features : names_of args.exclude_features.items ≡ excluded_asked us
+  pub exclude_features : names_of args.exclude_features.items
+    ≡ names_given opt.ExcludeFeatures us ++ names_given opt.Features us
   pub optional_deps : option_map (λ names. names_of names.items) args.optional_deps ≡ optional_given us
   pub target_rising : AreRising (names_of args.target.items)
   pub target_same : HaveSameTexts (names_of args.target.items) (values_given opt.Target us)
-  pub include_features : AreNormalsOf (names_given opt.IncludeFeatures us) args.include_features.items
+  pub include_features : AllZip IsNormal (names_given opt.IncludeFeatures us) args.include_features.items
   pub group_features : AreGroupsOf (values_given opt.GroupFeatures us) args.group_features.items
   pub mutually_exclusive_features : AreGroupsOf (values_given opt.MutuallyExclusiveFeatures us) args.mutually_exclusive_features.items
   pub at_least_one_of : AreGroupsOf (values_given opt.AtLeastOneOf us) args.at_least_one_of.items
