@@ -19,7 +19,8 @@ names_given o us = flat_map list_names (values_given o us)
 abbrev pub optional_given : List Use → Option (List (List ℕ))
 optional_given us =
     if is_given opt.OptionalDeps us
-    then Some (option_map_or (λ t. group_names (without_quotes t)) (value_given opt.OptionalDeps us) []) else None
+    then Some (option_map_or (λ text. group_names (without_quotes text)) (value_given opt.OptionalDeps us) [])
+    else None
 
 -- an exclusion group that is lifted for a package
 pub record Lift : Type 0 where

@@ -112,7 +112,7 @@ early_rules term_color l us =
     color_rule (value_given opt.Color us) term_color
     ∷ unknown_rule l us
     ∷ first_of (each_rules l us)
-    ∷ first_of (map (λ option. needs (is_given option us) option beside.Powerset (is_given opt.FeaturePowerset us))
+    ∷ first_of (map (λ o. needs (is_given o us) o beside.Powerset (is_given opt.FeaturePowerset us))
     (opt.Depth ∷ opt.GroupFeatures ∷ opt.MutuallyExclusiveFeatures ∷ opt.AtLeastOneOf ∷ []))
     ∷ value_rule opt.Depth (λ text. unless_read (Number text) (number_of 64 text)) us
     ∷ []

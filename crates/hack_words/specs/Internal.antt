@@ -56,7 +56,8 @@ verdict_around behavior around us = verdict_of behavior around.term_color around
 abbrev pub Judges : Result Checked CliFault → WorkspaceBehavior → Around → List Use → Type 0
 Judges (Ok checked.List) behavior around us = verdict_around behavior around us ≡ Lists
 Judges (Ok (checked.Accepted early late)) behavior around us =
-    (verdict_around behavior around us ≡ Accepted) × (early.coloring ≡ coloring_asked around.term_color us) × (early.depth ≡ number_asked opt.Depth us) × IsLate around.github_actions us late
+    (verdict_around behavior around us ≡ Accepted) × (early.coloring ≡ coloring_asked around.term_color us)
+    × (early.depth ≡ number_asked opt.Depth us) × IsLate around.github_actions us late
 Judges (Err e) behavior around us = MatchOption (fault_of e) (e ≡ fault.Memory) (λ told. verdict_around behavior around us ≡ Refused told)
 
 -- the answer to uses that are judged, with its notices
