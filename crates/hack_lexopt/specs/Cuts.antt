@@ -1,8 +1,9 @@
 -- How a list of arguments is split into options, apart from the parser that does it.
-use Rattle.std.specs.Prelude.{ℕ, List, [], ◌∷◌, ◌++◌, ◌==◌, ◌&&◌, not, length, drop, take, Bool, Option, Some, None, Result, Ok, Err, slice_get, nat_lt, nat_eq, encode_utf8, codes, if◌then◌else◌}
-use Rattle.std.specs.List.{after_first, before_first, find, position_or_len, starts_with}
-use Rattle.std.specs.Option.{is_none, is_some, option_or, unwrap_or}
+use Rattle.std.specs.Prelude.{ℕ, List, [], ◌∷◌, ◌++◌, ◌&&◌, not, length, drop, take, Bool, Option, Some, None, Result, Ok, Err, slice_get, nat_lt, nat_eq, encode_utf8, codes, if◌then◌else◌}
+use Rattle.std.specs.List.{find, starts_with}
+use Rattle.std.specs.Option.{is_none, is_some, option_map_or, option_or, unwrap_or}
 use Rattle.std.specs.Str.{chars}
+use Rattle.hack_base.specs.Cuts.{front_of, rest_of}
 use Rattle.hack_lexopt.specs.declared.fault.LexFault.{LexFault}
 use Rattle.hack_lexopt.specs.declared.fault.LexFault.TheVariants.{UnexpectedValue}
 
@@ -44,17 +45,9 @@ abbrev pub option_in : Cut → Option Flag
 option_in (FlagCut flag) = Some flag
 option_in (ValueCut word) = None
 
--- the sign =
-abbrev pub is_equals : ℕ → Bool
-is_equals b = b == 61
-
 -- the remaining letters of a chain begin with =
 abbrev pub begins_with_equals : List ℕ → Bool
 begins_with_equals letters = starts_with nat_eq letters (codes "=")
-
--- the value after the first =, if there is one
-abbrev pub pending_of : List ℕ → Untaken
-pending_of body = if nat_lt (position_or_len is_equals body) (length body) then Pending (after_first is_equals body) else Nothing
 
 -- the letters after the first letter
 abbrev pub chain_of : List ℕ → Untaken
@@ -81,15 +74,17 @@ is_chain word = starts_with nat_eq word (codes "-") && nat_lt 1 (length word)
 abbrev pub is_plain_word : List ℕ → Bool
 is_plain_word word = not (is_long word) && not (is_chain word)
 
--- the first item of an argument
+-- the first item of an argument; the name of a long option ends before its first = (61)
 abbrev pub cut_of : List ℕ → Cut
 cut_of word =
-    if is_long word then FlagCut (LongFlag (before_first is_equals (drop 2 word)))
+    if is_long word then FlagCut (LongFlag (front_of 61 (drop 2 word)))
     else if is_chain word then FlagCut (ShortFlag (first_letter (drop 1 word))) else ValueCut word
 
 -- what the first item leaves unread of an argument
 abbrev pub untaken_of : List ℕ → Untaken
-untaken_of word = if is_long word then pending_of (drop 2 word) else (if is_chain word then after_letter (drop 1 word) else Nothing)
+untaken_of word =
+    if is_long word then option_map_or Pending (rest_of 61 (drop 2 word)) Nothing
+    else if is_chain word then after_letter (drop 1 word) else Nothing
 
 -- the next item: a letter of the chain, or the first of the next argument; a value that nobody took
 -- is refused

@@ -3,11 +3,11 @@
 
 ghost use Rattle.std.specs.Prelude.{◌≡◌, ◌≢◌, ◌↔◌, ◌<◌, None, Some, true, IsSome, IsTrue};
 ghost use Rattle.std.specs.Prelude.{length, drop};
-ghost use Rattle.std.specs.List.{before_first};
 ghost use Rattle.std.specs.Str.{IsCharBoundary};
+ghost use Rattle.hack_base.specs.Cuts.{front_of};
 ghost use Rattle.hack_lexopt.specs.Cuts.{FlagCut, ShortFlag, cut_of, untaken_of};
 ghost use Rattle.hack_lexopt.specs.Cuts.{first_letter, after_letter, attached_value, unexpected_of};
-ghost use Rattle.hack_lexopt.specs.Cuts.{is_plain_word as plain, is_long, is_equals};
+ghost use Rattle.hack_lexopt.specs.Cuts.{is_plain_word as plain, is_long};
 ghost use Rattle.hack_lexopt.specs.Parsers.{cut_in, flag_in, option_at};
 ghost use Rattle.hack_lexopt.specs.Internal.{letter_in};
 ghost use Rattle.hack_lexopt.specs.Parsers.{untaken_at, untaken_rest};
@@ -134,7 +134,7 @@ pub(crate) fn value_of(place: Place, rest: &str) -> &str
 /// The name of a long option.
 fn long_name(word: &str) -> &str
     requires { is_long word.now ≡ true }
-    ensures { result.now ≡ before_first is_equals (drop 2 word.now) }
+    ensures { result.now ≡ front_of 61 (drop 2 word.now) }
 {
     let body = word.strip_prefix("--").unwrap_or(word);
     match body.split_once('=') {

@@ -1,11 +1,12 @@
 -- Reading a use leaves less to read than before.
 use Rattle.std.proofs.Common.{◌≡◌, ◌+◌, ◌<◌, ◌≤◌, ℕ, List, [], ◌∷◌, ◌&&◌, ◌++◌, append-nil, append_assoc, Ok, Some, ◌∙◌, true, false, length, ap, sym, refl, Err, None, Option, Result, zero, suc, cond, codes, nat_lt, nat_eq, subst, drop, encode_utf8, length-drop, arith}
-use Rattle.std.specs.List.{starts_with, position_or_len, after_first}
-use Rattle.std.specs.Option.{option_map_or}
+use Rattle.std.specs.List.{starts_with}
+use Rattle.std.specs.Option.{option_map_or, option_zip}
 use Rattle.std.proofs.lemmas.Str.{length-encode, len_utf8_bounds}
 use Rattle.hack_lexopt.specs.declared.fault.LexFault.{LexFault}
 use Rattle.hack_lexopt.specs.declared.fault.LexFault.TheVariants.{UnexpectedValue}
-use Rattle.hack_lexopt.specs.Cuts.{LeftArguments, Untaken, Nothing, Pending, Chain, Flag, LongFlag, ShortFlag, Cut, FlagCut, ValueCut, is_long, is_chain, is_equals, pending_of, first_letter, after_letter, chain_of, untaken_of, next_cut, after_cut, after_value, after_attached, value_of, optional_of, attached_value, unexpected_of}
+use Rattle.hack_lexopt.specs.Cuts.{LeftArguments, Untaken, Nothing, Pending, Chain, Flag, LongFlag, ShortFlag, Cut, FlagCut, ValueCut, is_long, is_chain, first_letter, after_letter, chain_of, untaken_of, next_cut, after_cut, after_value, after_attached, value_of, optional_of, attached_value, unexpected_of}
+use Rattle.hack_base.specs.Cuts.{rest_of}
 use Rattle.hack_options.specs.declared.opt.Opt.{Opt}
 use Rattle.hack_options.specs.declared.table.Kind.{Kind}
 use Rattle.hack_options.specs.declared.table.Kind.TheVariants as kind
@@ -13,9 +14,9 @@ use Rattle.hack_options.specs.Table.{entry_of, meaning_of}
 use Rattle.hack_options.specs.Find.{long_option, short_option}
 use Rattle.hack_rules.specs.declared.uses.cut.Print.{Print}
 use Rattle.hack_rules.specs.declared.uses.cut.Print.TheVariants as print
-use Rattle.hack_rules.specs.Faults.{Repeat, LoneQuote}
+use Rattle.hack_rules.specs.Faults.{Unexpected, Repeat, LoneQuote}
 use Rattle.hack_rules.specs.Uses.{Use, Unknown, is_given, subcommand_of}
-use Rattle.hack_rules.specs.UseReading.{Reading, Met, End, Prints, Fails, is_lone_quote, is_bare_letter, unknown_option, option_or_value, option_with_value, unless_quote, print_request, help_of, by_kind, known_option, removed_of, similar_of, other, of_cut, refused_value, of_next, read_of, Reads}
+use Rattle.hack_rules.specs.UseReading.{Reading, Met, End, Prints, Fails, is_lone_quote, is_bare_letter, unknown_option, option_or_value, option_with_value, unless_quote, print_request, help_of, by_kind, known_option, removed_of, similar_of, other, of_cut, of_next, read_of, Reads}
 
 -- a measure of how much is left to read
 abbrev pub weight_of : Untaken → ℕ
@@ -42,9 +43,13 @@ letter_weight : (c : ℕ) (xs : List ℕ) → weight_of (chain_of (drop (length 
 letter_weight c [] = rw (drop_none (length (encode_utf8 c))) (omega arith)
 letter_weight c (x ∷ xs) = omega (arith, chain_weight (drop (length (encode_utf8 c)) (x ∷ xs)), length-drop (length (encode_utf8 c)) (x ∷ xs), length-encode c, (len_utf8_bounds c).0)
 
+pending_weight : (value : Option (List ℕ)) (n : ℕ) → weight_of (option_map_or Pending value Nothing) < n + 2
+pending_weight None n = omega arith
+pending_weight (Some value) n = omega arith
+
 word_weight : (w : List ℕ) → weight_of (untaken_of w) < length w + 2
-word_weight w = elim (is_long w) as (λ b. weight_of (cond b (pending_of (drop 2 w)) (cond (is_chain w) (after_letter (drop 1 w)) Nothing)) < length w + 2) [
-  | true ↦ elim (nat_lt (position_or_len is_equals (drop 2 w)) (length (drop 2 w))) as (λ b. weight_of (cond b (Pending (after_first is_equals (drop 2 w))) Nothing) < length w + 2) [ true ↦ omega arith | false ↦ omega arith ]
+word_weight w = elim (is_long w) as (λ b. weight_of (cond b (option_map_or Pending (rest_of 61 (drop 2 w)) Nothing) (cond (is_chain w) (after_letter (drop 1 w)) Nothing)) < length w + 2) [
+  | true ↦ pending_weight (rest_of 61 (drop 2 w)) (length w)
   | false ↦ elim (is_chain w) as (λ b. weight_of (cond b (after_letter (drop 1 w)) Nothing) < length w + 2) [ true ↦ omega (arith, letter_weight (first_letter (drop 1 w)) (drop 1 w), length-drop 1 w) | false ↦ omega arith ]
 ]
 
@@ -117,7 +122,7 @@ leaves-cut P k us (FlagCut (LongFlag name)) l p = leaves-table P k (long_option 
 leaves-cut P k us (FlagCut (ShortFlag c)) l p = leaves-table P k (short_option c) us (ShortFlag c) (unknown_option (ShortFlag c) l) l p (leaves-unknown P k (ShortFlag c) l p)
 leaves-cut P k us (ValueCut word) l p = p
 
-refused-no_use : (option : Option Flag) (v : Option (List ℕ)) (u : Use) (l : LeftArguments) → refused_value option v ≡ Met u l → ⊥
+refused-no_use : (option : Option Flag) (v : Option (List ℕ)) (u : Use) (l : LeftArguments) → option_map_or (λ p. Fails (Unexpected p.0 p.1)) (option_zip option v) End ≡ Met u l → ⊥
 refused-no_use (Some flag) (Some v) u l h = cc
 refused-no_use (Some flag) None u l h = cc
 refused-no_use None v u l h = cc

@@ -1,6 +1,6 @@
 -- How arguments are read as uses of options, one after the other.
 use Rattle.std.specs.Prelude.{ℕ, ◌≡◌, List, [], ◌∷◌, ◌++◌, ◌==◌, ◌&&◌, ◌||◌, Bool, false, Option, Some, None, Result, Ok, Err, codes, if◌then◌else◌, IfSome}
-use Rattle.std.specs.Option.{option_map_or}
+use Rattle.std.specs.Option.{option_map_or, option_zip}
 use Rattle.std.specs.Str.{bytes_eq}
 use Rattle.hack_lexopt.specs.Cuts.{Flag, LongFlag, ShortFlag, Cut, FlagCut, ValueCut, LeftArguments, next_cut, after_cut, attached_value, after_attached, value_of, after_value, optional_of, unexpected_of}
 use Rattle.hack_lexopt.specs.Parsers.{start}
@@ -117,14 +117,10 @@ of_cut us (FlagCut (ShortFlag letter)) left =
     (unknown_option (ShortFlag letter) left)
 of_cut us (ValueCut word) left = Met (Word word) left
 
--- a value that the option before it did not take
-abbrev pub refused_value : Option Flag → Option (List ℕ) → Reading
-refused_value (Some flag) (Some value) = Fails (Unexpected flag value)
-refused_value flag value = End
-
--- the result of the next item, or of its refusal
+-- the result of the next item, or of its refusal where the option before it did not take a value
 abbrev pub of_next : Result (Option Cut) LexFault → List Use → LeftArguments → Reading
-of_next (Err fault) us left = refused_value left.option (unexpected_of left.untaken)
+of_next (Err fault) us left =
+    option_map_or (λ p. Fails (Unexpected p.0 p.1)) (option_zip left.option (unexpected_of left.untaken)) End
 of_next (Ok None) us left = End
 of_next (Ok (Some cut)) us left = of_cut us cut (after_cut left)
 

@@ -45,7 +45,7 @@ pub record HasTexts (behavior : WorkspaceBehavior) (us : List Use) (args : Args)
   pub exclude : names_of args.exclude.items ≡ values_given opt.Exclude us
   pub features : names_of args.features.items ≡ names_given opt.Features us
   pub exclude_features : names_of args.exclude_features.items
-    ≡ names_given opt.ExcludeFeatures us ++ names_given opt.Features us
+      ≡ names_given opt.ExcludeFeatures us ++ names_given opt.Features us
   pub optional_deps : option_map (λ names. names_of names.items) args.optional_deps ≡ optional_given us
   pub target_rising : AreRising (names_of args.target.items)
   pub target_same : HaveSameTexts (names_of args.target.items) (values_given opt.Target us)
