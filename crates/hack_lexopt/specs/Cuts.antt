@@ -1,5 +1,5 @@
 -- How a list of arguments is split into options, apart from the parser that does it.
-use Rattle.std.specs.Prelude.{ℕ, List, [], ◌∷◌, ◌++◌, ◌&&◌, not, length, drop, take, Bool, Option, Some, None, Result, Ok, Err, slice_get, nat_lt, nat_eq, encode_utf8, codes, if◌then◌else◌}
+use Rattle.std.specs.Prelude.{ℕ, List, [], ◌∷◌, ◌++◌, ◌&&◌, not, length, drop, take, Bool, Option, Some, None, Result, Ok, Err, option_map, slice_get, nat_lt, nat_eq, encode_utf8, codes, if◌then◌else◌}
 use Rattle.std.specs.List.{find, starts_with}
 use Rattle.std.specs.Option.{is_none, is_some, option_map_or, option_or, unwrap_or}
 use Rattle.std.specs.Str.{chars}
@@ -86,17 +86,21 @@ untaken_of word =
     if is_long word then option_map_or Pending (rest_of 61 (drop 2 word)) Nothing
     else if is_chain word then after_letter (drop 1 word) else Nothing
 
+-- a value that nobody took, because of which the next item is refused
+abbrev pub unexpected_of : Untaken → Option (List ℕ)
+unexpected_of (Pending value) = Some value
+unexpected_of (Chain letters) = if begins_with_equals letters then Some (drop 1 letters) else None
+unexpected_of Nothing = None
+
 -- the next item: a letter of the chain, or the first of the next argument; a value that nobody took
 -- is refused
 abbrev pub next_cut : LeftArguments → Result (Option Cut) LexFault
-next_cut left = go left.untaken left.words
+next_cut left =
+    if is_some (unexpected_of left.untaken) then Err UnexpectedValue else Ok (go left.untaken left.words)
   where
-    go : Untaken → List (List ℕ) → Result (Option Cut) LexFault
-    go (Pending value) words = Err UnexpectedValue
-    go (Chain letters) words = if begins_with_equals letters then Err UnexpectedValue
-        else Ok (Some (FlagCut (ShortFlag (first_letter letters))))
-    go Nothing [] = Ok None
-    go Nothing (word ∷ words) = Ok (Some (cut_of word))
+    go : Untaken → List (List ℕ) → Option Cut
+    go (Chain letters) words = Some (FlagCut (ShortFlag (first_letter letters)))
+    go untaken words = option_map cut_of (slice_get words 0)
 
 -- what remains once no more of the argument is read
 abbrev pub after_attached : LeftArguments → LeftArguments
@@ -104,14 +108,13 @@ after_attached left = record { option = left.option; untaken = Nothing; words = 
 
 -- what the next item leaves; after a refusal, the parser is at the next argument
 abbrev pub after_cut : LeftArguments → LeftArguments
-after_cut left = go left.untaken left.words
+after_cut left = if is_some (unexpected_of left.untaken) then after_attached left else go left.untaken left.words
   where
     go : Untaken → List (List ℕ) → LeftArguments
     go (Chain letters) words =
-        if begins_with_equals letters then after_attached left
-        else record left { option = Some (ShortFlag (first_letter letters)); untaken = after_letter letters }
-    go Nothing (w ∷ ws) = record { option = option_in (cut_of w); untaken = untaken_of w; words = ws }
-    go untaken words = after_attached left
+        record left { option = Some (ShortFlag (first_letter letters)); untaken = after_letter letters }
+    go untaken [] = after_attached left
+    go untaken (w ∷ ws) = record { option = option_in (cut_of w); untaken = untaken_of w; words = ws }
 
 -- the part of the argument that serves as a value: the text after an =, or the rest of a chain
 -- without one leading =
@@ -133,9 +136,3 @@ abbrev pub after_value : Option (List ℕ) → LeftArguments → LeftArguments
 after_value value left = record (after_attached left) {
   words = if is_some value && is_none (attached_value left.untaken) then drop 1 left.words else left.words;
 }
-
--- a value that nobody took, because of which the next item is refused
-abbrev pub unexpected_of : Untaken → Option (List ℕ)
-unexpected_of (Pending value) = Some value
-unexpected_of (Chain letters) = if begins_with_equals letters then Some (drop 1 letters) else None
-unexpected_of Nothing = None

@@ -1,7 +1,7 @@
 -- Reading a use leaves less to read than before.
-use Rattle.std.proofs.Common.{◌≡◌, ◌+◌, ◌<◌, ◌≤◌, ℕ, List, [], ◌∷◌, ◌&&◌, ◌++◌, append-nil, append_assoc, Ok, Some, ◌∙◌, true, false, length, ap, sym, refl, Err, None, Option, Result, zero, suc, cond, codes, nat_lt, nat_eq, subst, drop, encode_utf8, length-drop, arith}
+use Rattle.std.proofs.Common.{◌≡◌, ◌+◌, ◌<◌, ◌≤◌, ℕ, List, [], ◌∷◌, ◌&&◌, ◌++◌, append-nil, append_assoc, Ok, Some, ◌∙◌, true, false, length, ap, sym, refl, Err, None, Option, Result, zero, suc, cond, codes, nat_eq, subst, drop, encode_utf8, length-drop, arith}
 use Rattle.std.specs.List.{starts_with}
-use Rattle.std.specs.Option.{option_map_or, option_zip}
+use Rattle.std.specs.Option.{is_some, option_map_or, option_zip}
 use Rattle.std.proofs.lemmas.Str.{length-encode, len_utf8_bounds}
 use Rattle.hack_lexopt.specs.declared.fault.LexFault.{LexFault}
 use Rattle.hack_lexopt.specs.declared.fault.LexFault.TheVariants.{UnexpectedValue}
@@ -57,7 +57,7 @@ word_weight w = elim (is_long w) as (λ b. weight_of (cond b (option_map_or Pend
 after_cut-smaller : (o : Option Flag) (t : Untaken) (ws : List (List ℕ)) (cut : Cut) → next_cut (record { option = o; untaken = t; words = ws }) ≡ Ok (Some cut) → weight (after_cut (record { option = o; untaken = t; words = ws })) < weight (record { option = o; untaken = t; words = ws })
 after_cut-smaller o (Pending v) ws cut h = cc
 after_cut-smaller o (Chain letters) ws cut h =
-    elim (starts_with nat_eq letters (codes "=")) as (λ b. cond b (Err UnexpectedValue) (Ok (Some (FlagCut (ShortFlag (first_letter letters))))) ≡ Ok (Some cut) → weight (cond b (record { option = o; untaken = Nothing; words = ws }) (record { option = Some (ShortFlag (first_letter letters)); untaken = after_letter letters; words = ws })) < (length letters + 1) + words_weight ws)
+    elim (starts_with nat_eq letters (codes "=")) as (λ b. cond (is_some (cond b (Some (drop 1 letters)) None)) (Err UnexpectedValue) (Ok (Some (FlagCut (ShortFlag (first_letter letters))))) ≡ Ok (Some cut) → weight (cond (is_some (cond b (Some (drop 1 letters)) None)) (record { option = o; untaken = Nothing; words = ws }) (record { option = Some (ShortFlag (first_letter letters)); untaken = after_letter letters; words = ws })) < (length letters + 1) + words_weight ws)
     [ true ↦ λ e. cc | false ↦ λ e. omega (arith, letter_weight (first_letter letters) letters) ] h
 after_cut-smaller o Nothing [] cut h = cc
 after_cut-smaller o Nothing (w ∷ ws) cut h = omega (arith, word_weight w)

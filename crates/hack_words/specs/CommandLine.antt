@@ -1,6 +1,6 @@
 -- The outcome of a command line in its environment: an error, a text to print, cargo's list, or
 -- arguments.
-use Rattle.std.specs.Prelude.{ℕ, ◌≡◌, ◌++◌, ◌&&◌, ◌||◌, List, [], ◌∷◌, Bool, true, false, Option, Some, None, codes}
+use Rattle.std.specs.Prelude.{ℕ, ◌≡◌, ◌++◌, ◌&&◌, ◌||◌, List, [], Bool, true, false, Option, codes}
 use Rattle.std.specs.Option.{option_map_or}
 use Rattle.hack_options.specs.declared.opt.Opt.TheVariants as opt
 use Rattle.hack_rules.specs.declared.uses.behavior.WorkspaceBehavior.{WorkspaceBehavior}
@@ -10,7 +10,6 @@ use Rattle.hack_rules.specs.Uses.{Use, is_given}
 use Rattle.hack_rules.specs.Values.{value_given}
 use Rattle.hack_base.specs.Notes.{Note, note_if}
 use Rattle.hack_versions.specs.Readings.{at_dots}
-use Rattle.hack_base.specs.declared.notice.NoticeKind.{NoticeKind}
 use Rattle.hack_base.specs.declared.notice.NoticeKind.TheVariants.{Info, Warn, QuietWarn}
 use Rattle.hack_rules.specs.AskedFields.{is_old_asked}
 use Rattle.hack_rules.specs.CliFaults.{Fault, Cut}
