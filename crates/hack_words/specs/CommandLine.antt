@@ -70,13 +70,11 @@ unknown_notes us =
     note_if (is_given opt.IgnoreUnknownFeatures us && is_nonempty (listed_by us).includes)
     QuietWarn unknown_words
 
--- the text of the notice on rustup
-abbrev pub rustup_words : List ℕ → List ℕ
-rustup_words why = codes "unable to determine rustup version; assuming latest stable rustup: " ++ why
-
 -- the notice where a range is given and rustup's version isn't known
 abbrev pub rustup_notes : Bool → Option (List ℕ) → List Note
-rustup_notes ranged unknown = option_map_or (λ why. note_if ranged Warn (rustup_words why)) unknown []
+rustup_notes ranged unknown =
+    option_map_or (λ why. note_if ranged Warn
+    (codes "unable to determine rustup version; assuming latest stable rustup: " ++ why)) unknown []
 
 -- a range rewritten in its new form
 abbrev pub new_form : List ℕ → List ℕ
@@ -96,14 +94,11 @@ editing_words false no_private = codes "--no-private modifies"
 editing_words true false = codes "--no-dev-deps modifies"
 editing_words true true = codes "--no-dev-deps and --no-private modify"
 
--- the text of the notice on edits
-abbrev pub edits_words : List ℕ → List ℕ
-edits_words flags = flags ++ codes " real `Cargo.toml` while cargo-hack is running and restores it when finished"
-
 -- the notice where manifests are edited while commands run
 abbrev pub editing_notes : Bool → Bool → List Note
 editing_notes no_dev_deps no_private =
-    note_if (no_dev_deps || no_private) Info (edits_words (editing_words no_dev_deps no_private))
+    note_if (no_dev_deps || no_private) Info (editing_words no_dev_deps no_private
+    ++ codes " real `Cargo.toml` while cargo-hack is running and restores it when finished")
 
 -- the notices on an accepted command line, in order
 abbrev pub notes_on : Around → List Use → List Note
