@@ -1,7 +1,7 @@
 //! The items that an argument is split into.
 
-ghost use Rattle.hack_lexopt.specs.Cuts.{as_written};
-ghost use Rattle.hack_lexopt.specs.Parsers.{cut_in, flag_cut};
+ghost use Rattle.hack_lexopt.specs.Cuts.{as_written, flag_text};
+ghost use Rattle.hack_lexopt.specs.Parsers.{cut_in, flag_in};
 
 use std::fmt;
 
@@ -40,7 +40,7 @@ pub enum Flag<'a> {
 impl fmt::Display for Flag<'_> {
     ghost use Rattle.std.specs.Prelude.{Some};
 
-    ghost output = { λ flag. Some (as_written (flag_cut flag)) };
+    ghost output = { λ flag. Some (flag_text (flag_in flag)) };
 
     fn fmt<W: fmt::Write>(&self, f: &mut fmt::Formatter<W>) -> fmt::Result {
         match self {

@@ -3,12 +3,12 @@
 
 ghost use Rattle.std.specs.Prelude.{◌≡◌, ◌≢◌, ◌↔◌, ◌<◌, None, Some, true, IsSome, IsTrue};
 ghost use Rattle.std.specs.Prelude.{length, drop};
-ghost use Rattle.std.specs.List.{before_first};
 ghost use Rattle.std.specs.Str.{IsCharBoundary};
-ghost use Rattle.hack_lexopt.specs.Cuts.{ShortCut, cut_of, untaken_of, first_letter, after_letter};
-ghost use Rattle.hack_lexopt.specs.Cuts.{attached_value, unexpected_of};
-ghost use Rattle.hack_lexopt.specs.Cuts.{is_plain_word as plain, is_long, is_equals};
-ghost use Rattle.hack_lexopt.specs.Parsers.{cut_in, flag_cut, option_at};
+ghost use Rattle.hack_base.specs.Cuts.{front_of};
+ghost use Rattle.hack_lexopt.specs.Cuts.{FlagCut, ShortFlag, cut_of, untaken_of};
+ghost use Rattle.hack_lexopt.specs.Cuts.{first_letter, after_letter, attached_value, unexpected_of};
+ghost use Rattle.hack_lexopt.specs.Cuts.{is_plain_word as plain, is_long};
+ghost use Rattle.hack_lexopt.specs.Parsers.{cut_in, flag_in, option_at};
 ghost use Rattle.hack_lexopt.specs.Internal.{letter_in};
 ghost use Rattle.hack_lexopt.specs.Parsers.{untaken_at, untaken_rest};
 
@@ -46,7 +46,8 @@ pub(crate) struct Head<'a> {
 pub(crate) fn letter_cut(word: &str, at: usize) -> Head<'_>
     requires boundary { IsCharBoundary word.now at }
     requires letters { at < length word.now }
-    ensures cut { cut_in result.arg ≡ ShortCut (first_letter (drop at word.now)) }
+    ensures cut { cut_in result.arg
+        ≡ FlagCut (ShortFlag (first_letter (drop at word.now))) }
     ensures letter { result.spot.letter ≡ letter_in (cut_in result.arg) }
     ensures untaken { untaken_at result.spot word.now ≡ after_letter (drop at word.now) }
     ensures boundary { IsCharBoundary word.now result.spot.at }
@@ -133,7 +134,7 @@ pub(crate) fn value_of(place: Place, rest: &str) -> &str
 /// The name of a long option.
 fn long_name(word: &str) -> &str
     requires { is_long word.now ≡ true }
-    ensures { result.now ≡ before_first is_equals (drop 2 word.now) }
+    ensures { result.now ≡ front_of 61 (drop 2 word.now) }
 {
     let body = word.strip_prefix("--").unwrap_or(word);
     match body.split_once('=') {
@@ -145,7 +146,7 @@ fn long_name(word: &str) -> &str
 /// The last option that was read of an argument: a letter of a chain, else the long name.
 pub(crate) fn flag_of(letter: Option<char>, word: &str) -> Flag<'_>
     requires { letter ≡ None → is_long word.now ≡ true }
-    ensures { option_at letter word.now ≡ Some (flag_cut result) }
+    ensures { option_at letter word.now ≡ Some (flag_in result) }
 {
     match letter {
         Some(letter) => Flag::Short(letter),

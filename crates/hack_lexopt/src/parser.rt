@@ -6,8 +6,7 @@ ghost use Rattle.std.specs.Borrow.{sem};
 ghost use Rattle.std.specs.Str.{IsCharBoundary};
 ghost use Rattle.hack_base.specs.Names.{optional_text};
 ghost use Rattle.hack_lexopt.specs.Cuts.{is_long, next_cut, after_cut, attached_value};
-ghost use Rattle.hack_lexopt.specs.Cuts.{after_attached, value_of, after_value, optional_of};
-ghost use Rattle.hack_lexopt.specs.Cuts.{after_optional};
+ghost use Rattle.hack_lexopt.specs.Cuts.{after_attached, value_of, optional_of, after_value};
 ghost use Rattle.hack_lexopt.specs.declared.cuts.Place.TheVariants.{Closed, Letters};
 
 use crate::arg::{Arg, Flag};
@@ -124,7 +123,8 @@ impl Parser {
             (λ value. value_of (left_in self.old) ≡ Some (string_bytes value)) }
         ensures missing { result ≡ Err LexFault.MissingValue → value_of (left_in self.old) ≡ None }
         ensures expected { result ≢ Err LexFault.UnexpectedValue }
-        ensures ok { OnOk result (left_in self.new ≡ after_value (left_in self.old)) }
+        ensures ok { OnOk result (left_in self.new
+            ≡ after_value (value_of (left_in self.old)) (left_in self.old)) }
         ensures err { OnErr result (left_in self.new ≡ left_in self.old) }
     {
         match self.optional_value(alloc)? {
@@ -138,7 +138,8 @@ impl Parser {
     pub fn value_or_none(&mut self, alloc: Global) -> Result<Option<String>, AllocError>
         ensures value { IfOk result
             (λ value. optional_text value ≡ optional_of (left_in self.old)) }
-        ensures ok { OnOk result (left_in self.new ≡ after_optional (left_in self.old)) }
+        ensures ok { OnOk result (left_in self.new
+            ≡ after_value (optional_of (left_in self.old)) (left_in self.old)) }
         ensures err { OnErr result (left_in self.new ≡ left_in self.old) }
     {
         if let Some(value) = self.optional_value(alloc)? {

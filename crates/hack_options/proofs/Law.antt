@@ -1,12 +1,14 @@
 -- An option is found by its own name and letter, and by no other.
-use Rattle.std.specs.Prelude.{ℕ, List, [], ◌∷◌, Bool, true, false, Option, Some, None, IfSome, ◌≡◌, if◌then◌else◌}
+use Rattle.std.specs.Prelude.{ℕ, List, [], ◌∷◌, Bool, true, false, Option, Some, None, IfSome, ◌≡◌, ◌==◌, if◌then◌else◌}
+use Rattle.std.specs.List.{find}
+use Rattle.std.specs.Option.{option_map_or}
 use Rattle.std.specs.Str.{bytes_eq}
 use Rattle.std.proofs.Common.{refl, ap}
 use Rattle.std.proofs.lemmas.Bool.Decides.{Decides-eqb}
 use Rattle.std.proofs.lemmas.Slice.Eq.{bytes_eq-Decides}
 use Rattle.hack_options.specs.declared.opt.Opt.{Opt}
 use Rattle.hack_options.specs.declared.opt.Opt.TheVariants as opt
-use Rattle.hack_options.specs.Table.{entry_of, option_named, option_lettered, is_letter}
+use Rattle.hack_options.specs.Table.{entry_of}
 use Rattle.hack_options.specs.Find.{long_option, short_option}
 
 pub long_option-name : (o : Opt) → long_option (entry_of o).name ≡ Some o
@@ -111,14 +113,18 @@ found : (P : Opt → Type 0) (o : Opt) (behind : Option Opt) (b : Bool) → (b �
 found P o behind true is rest = is refl
 found P o behind false is rest = rest
 
-pub named-name : (name : List ℕ) (os : List Opt) → IfSome (option_named name os) (λ o. (entry_of o).name ≡ name)
+pub named-name : (name : List ℕ) (os : List Opt) → IfSome (find (λ o. bytes_eq (entry_of o).name name) os) (λ o. (entry_of o).name ≡ name)
 named-name name [] = tt
-named-name name (o ∷ os) = found (λ o. (entry_of o).name ≡ name) o (option_named name os) (bytes_eq (entry_of o).name name) (bytes_eq-Decides (entry_of o).name name).0 (named-name name os)
+named-name name (o ∷ os) = found (λ o. (entry_of o).name ≡ name) o (find (λ o. bytes_eq (entry_of o).name name) os) (bytes_eq (entry_of o).name name) (bytes_eq-Decides (entry_of o).name name).0 (named-name name os)
+
+-- whether the letter is there and is this one
+abbrev is_letter : ℕ → Option ℕ → Bool
+is_letter c letter = option_map_or (λ l. l == c) letter false
 
 is_letter-Some : (c : ℕ) (letter : Option ℕ) → is_letter c letter ≡ true → letter ≡ Some c
 is_letter-Some c (Some l) is = ap Some ((Decides-eqb l c).0 is)
 is_letter-Some c None is = absurd (let z : false ≡ true = is in cc)
 
-pub lettered-letter : (c : ℕ) (os : List Opt) → IfSome (option_lettered c os) (λ o. (entry_of o).letter ≡ Some c)
+pub lettered-letter : (c : ℕ) (os : List Opt) → IfSome (find (λ o. is_letter c (entry_of o).letter) os) (λ o. (entry_of o).letter ≡ Some c)
 lettered-letter c [] = tt
-lettered-letter c (o ∷ os) = found (λ o. (entry_of o).letter ≡ Some c) o (option_lettered c os) (is_letter c (entry_of o).letter) (is_letter-Some c (entry_of o).letter) (lettered-letter c os)
+lettered-letter c (o ∷ os) = found (λ o. (entry_of o).letter ≡ Some c) o (find (λ o. is_letter c (entry_of o).letter) os) (is_letter c (entry_of o).letter) (is_letter-Some c (entry_of o).letter) (lettered-letter c os)

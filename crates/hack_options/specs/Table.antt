@@ -1,6 +1,5 @@
 -- The table of options: how each is written and parsed, and how the help shows it.
-use Rattle.std.specs.Prelude.{ℕ, List, [], ◌∷◌, ◌==◌, Bool, true, false, Option, Some, None, codes, slice_get, is_some, if◌then◌else◌}
-use Rattle.std.specs.Str.{bytes_eq}
+use Rattle.std.specs.Prelude.{ℕ, List, [], Bool, true, false, Option, None, codes, slice_get, is_some}
 use denote.Enum.Bare.{sameb}
 use Rattle.hack_options.specs.contracts.opt.Opt.{the_type}
 use Rattle.hack_options.specs.declared.opt.Opt.{Opt}
@@ -106,18 +105,3 @@ meaning_of o = o
 -- `==` on options
 abbrev pub is_same_option : Opt → Opt → Bool
 is_same_option = sameb the_type
-
--- the first option with this name
-abbrev pub option_named : List ℕ → List Opt → Option Opt
-option_named name [] = None
-option_named name (o ∷ os) = if bytes_eq (entry_of o).name name then Some o else option_named name os
-
--- whether the letter is there and is this one
-abbrev pub is_letter : ℕ → Option ℕ → Bool
-is_letter c (Some l) = l == c
-is_letter c None = false
-
--- the first option with this letter
-abbrev pub option_lettered : ℕ → List Opt → Option Opt
-option_lettered c [] = None
-option_lettered c (o ∷ os) = if is_letter c (entry_of o).letter then Some o else option_lettered c os

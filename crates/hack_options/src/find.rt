@@ -1,15 +1,18 @@
 //! Finds an option by its name or letter.
 
-ghost use Rattle.std.specs.Prelude.{◌≡◌, Some};
+ghost use Rattle.std.specs.Prelude.{◌≡◌, ◌==◌, false, Some};
+ghost use Rattle.std.specs.List.{find};
+ghost use Rattle.std.specs.Option.{option_map_or};
+ghost use Rattle.std.specs.Str.{bytes_eq};
 ghost use Rattle.hack_options.specs.Find.{FindsOption, long_option, short_option};
-ghost use Rattle.hack_options.specs.Table.{entry_of, option_named, option_lettered};
+ghost use Rattle.hack_options.specs.Table.{entry_of};
 
 use crate::opt::Opt;
 use crate::table::ALL;
 
 /// The first option with this name.
 fn find_name(options: &[Opt], name: &str) -> Option<Opt>
-    ensures { result ≡ option_named name.now options.now }
+    ensures { result ≡ find (λ o. bytes_eq (entry_of o).name name.now) options.now }
 {
     for option in options {
         if option.row().name == name {
@@ -21,7 +24,8 @@ fn find_name(options: &[Opt], name: &str) -> Option<Opt>
 
 /// The first option with this letter.
 fn find_letter(options: &[Opt], letter: char) -> Option<Opt>
-    ensures { result ≡ option_lettered letter options.now }
+    ensures { result ≡ find (λ o. option_map_or (λ l. l == letter) (entry_of o).letter false)
+        options.now }
 {
     for option in options {
         if option.row().letter == Some(letter) {

@@ -61,8 +61,8 @@ impl fmt::Display for Help {
         write!(f, "{HEAD}")?;
         for &option in &ALL {
             match option.row().told {
-                Some(told) if self.long => write!(f, "{}", LongRow { option, told })?,
-                Some(told) => write!(f, "{}", ShortRow { option, told })?,
+                Some(told) if self.long => HelpRow { option, told }.write_long(f)?,
+                Some(told) => HelpRow { option, told }.write_short(f)?,
                 None => {}
             }
         }
@@ -73,15 +73,16 @@ impl fmt::Display for Help {
     }
 }
 
-/// A row in the short form.
+/// A row of the help.
 #[derive(Clone, Copy)]
-struct ShortRow {
+struct HelpRow {
     option: Opt,
     told: HelpText,
 }
 
-impl fmt::Display for ShortRow {
-    fn fmt<W: fmt::Write>(&self, f: &mut fmt::Formatter<W>) -> fmt::Result {
+impl HelpRow {
+    /// In one line, as `-h` shows it.
+    fn write_short<W: fmt::Write>(&self, f: &mut fmt::Formatter<W>) -> fmt::Result {
         let name = Name {
             option: self.option,
         };
@@ -94,17 +95,9 @@ impl fmt::Display for ShortRow {
         };
         writeln!(f, "    {name}{pad} {text}")
     }
-}
 
-/// A row in the long form.
-#[derive(Clone, Copy)]
-struct LongRow {
-    option: Opt,
-    told: HelpText,
-}
-
-impl fmt::Display for LongRow {
-    fn fmt<W: fmt::Write>(&self, f: &mut fmt::Formatter<W>) -> fmt::Result {
+    /// With its paragraphs, as `--help` shows it.
+    fn write_long<W: fmt::Write>(&self, f: &mut fmt::Formatter<W>) -> fmt::Result {
         let name = Name {
             option: self.option,
         };

@@ -1,36 +1,26 @@
 -- One more text, and the feature made of it.
 use Rattle.std.proofs.Common.{◌≡◌, ◌∙◌, ◌&&◌, refl, ap, sym, subst, Some, ℕ, List, [], ◌∷◌, ◌++◌, map, String, string_bytes, string_eq}
 use Rattle.std.specs.Cmp.Lexicographic.{pointwise}
-use Rattle.std.specs.List.{filter_map}
+use Rattle.std.specs.List.{AllZip, filter_map, find}
+use Rattle.std.specs.Option.{is_none}
 use Rattle.std.specs.Str.{bytes_eq}
 use Rattle.std.proofs.lemmas.List.{map-append}
 use Rattle.std.proofs.lemmas.List.Elements.{filter_map-append}
 use Rattle.hack_features.specs.declared.feature.Feature.{Feature}
 use Rattle.hack_features.specs.declared.feature.Feature.TheVariants.{Normal, Group, Path}
-use Rattle.hack_features.specs.Feature.{IsGroup, IsNormal, group_of}
+use Rattle.hack_features.specs.Feature.{IsGroup, group_of}
 use Rattle.hack_base.specs.Names.{names_of}
 use Rattle.hack_base.specs.Lists.{group_names}
-use Rattle.hack_rules.specs.CliGroups.{AreGroupsOf, AreNormalsOf, AreLifts}
+use Rattle.hack_rules.specs.CliGroups.{AreGroupsOf, AreLifts}
 use Rattle.hack_rules.specs.Internal.{AreReadAs, lift_in}
-use Rattle.hack_rules.specs.CliLists.{Lift, first_failing, is_lift, lift_of, same_names}
+use Rattle.hack_rules.specs.CliLists.{Lift, lift_of, same_names}
 
-pub AreGroupsOf-more : (texts : List (List ℕ)) (features : List Feature) (text : List ℕ) (feature : Feature) → AreGroupsOf texts features → IsGroup (group_names text) feature → AreGroupsOf (texts ++ text ∷ []) (features ++ feature ∷ [])
-AreGroupsOf-more [] [] text feature h k = (k, tt)
-AreGroupsOf-more [] (f ∷ fs) text feature h k = absurd h
-AreGroupsOf-more (t ∷ ts) [] text feature h k = absurd h
-AreGroupsOf-more (t ∷ ts) (f ∷ fs) text feature h k = (h.0, AreGroupsOf-more ts fs text feature h.1 k)
-
-pub AreNormalsOf-more : (texts : List (List ℕ)) (features : List Feature) (text : List ℕ) (feature : Feature) → AreNormalsOf texts features → IsNormal text feature → AreNormalsOf (texts ++ text ∷ []) (features ++ feature ∷ [])
-AreNormalsOf-more [] [] text feature h k = (k, tt)
-AreNormalsOf-more [] (f ∷ fs) text feature h k = absurd h
-AreNormalsOf-more (t ∷ ts) [] text feature h k = absurd h
-AreNormalsOf-more (t ∷ ts) (f ∷ fs) text feature h k = (h.0, AreNormalsOf-more ts fs text feature h.1 k)
-
-pub AreLifts-more : {Y : Type 0} (lifts : List Lift) (pairs : List (String Y × Feature)) (lift : Lift) (pair : String Y × Feature) → AreLifts lifts pairs → string_bytes pair.0 ≡ lift.owner → IsGroup lift.group pair.1 → AreLifts (lifts ++ lift ∷ []) (pairs ++ pair ∷ [])
-AreLifts-more [] [] lift pair h k l = (k, l, tt)
-AreLifts-more [] (p ∷ ps) lift pair h k l = absurd h
-AreLifts-more (t ∷ ts) [] lift pair h k l = absurd h
-AreLifts-more (t ∷ ts) (p ∷ ps) lift pair h k l = (h.0, h.1, AreLifts-more ts ps lift pair h.2 k l)
+-- one more pair of items for which R holds
+pub AllZip-more : {A B : Type 0} (R : A → B → Type 0) (xs : List A) (ys : List B) (x : A) (y : B) → AllZip R xs ys → R x y → AllZip R (xs ++ x ∷ []) (ys ++ y ∷ [])
+AllZip-more R [] [] x y h r = (r, tt)
+AllZip-more R [] (b ∷ bs) x y h r = absurd h
+AllZip-more R (a ∷ others) [] x y h r = absurd h
+AllZip-more R (a ∷ others) (b ∷ bs) x y h r = (h.0, AllZip-more R others bs x y h.1 r)
 
 IsGroup-names : (names : List (List ℕ)) (feature : Feature) → IsGroup names feature → group_of feature ≡ names
 IsGroup-names names (Normal name) h = absurd h
@@ -59,7 +49,7 @@ one-lift : (text : List ℕ) (lift : Lift) → lift_of text ≡ Some lift → fi
 one-lift text lift e = rw e refl
 
 pub lift-some : {Y : Type 0} (texts : List (String Y)) (pairs : List (String Y × Feature)) (text : String Y) (lift : Lift) (pair : String Y × Feature) → AreLifts (filter_map lift_of (map string_bytes texts)) pairs → lift_of (string_bytes text) ≡ Some lift → string_bytes pair.0 ≡ lift.owner → IsGroup lift.group pair.1 → AreLifts (filter_map lift_of (map string_bytes (texts ++ text ∷ []))) (pairs ++ pair ∷ [])
-lift-some texts pairs text lift pair h e k l = subst (λ (ls : List Lift). AreLifts ls (pairs ++ pair ∷ [])) (sym (taken-lifts texts text ∙ ap (λ ls. filter_map lift_of (map string_bytes texts) ++ ls) (one-lift (string_bytes text) lift e))) (AreLifts-more (filter_map lift_of (map string_bytes texts)) pairs lift pair h k l)
+lift-some texts pairs text lift pair h e k l = subst (λ (ls : List Lift). AreLifts ls (pairs ++ pair ∷ [])) (sym (taken-lifts texts text ∙ ap (λ ls. filter_map lift_of (map string_bytes texts) ++ ls) (one-lift (string_bytes text) lift e))) (AllZip-more _ (filter_map lift_of (map string_bytes texts)) pairs lift pair h (k, l))
 
 -- the lift that a text is read as, by the parts that were made of it
 pub lift-read : {Y : Type 0} (text owner : List ℕ) (group : List (List ℕ)) (pair : String Y × Feature) → lift_of text ≡ Some (record { owner = owner; group = group }) → string_bytes pair.0 ≡ owner → IsGroup group pair.1 → lift_of text ≡ Some (lift_in pair)
@@ -73,5 +63,5 @@ read-more texts pairs text pair h e =
     ∙ sym (map-append (λ p. Some (lift_in p)) pairs (pair ∷ []))
 
 -- a text that lifts a group is not the first that fails
-pub lift-passes : {Y : Type 0} (text : String Y) (rest : List (String Y)) (lift : Lift) → lift_of (string_bytes text) ≡ Some lift → first_failing is_lift (map string_bytes (text ∷ rest)) ≡ first_failing is_lift (map string_bytes rest)
+pub lift-passes : {Y : Type 0} (text : String Y) (rest : List (String Y)) (lift : Lift) → lift_of (string_bytes text) ≡ Some lift → find (λ t. is_none (lift_of t)) (map string_bytes (text ∷ rest)) ≡ find (λ t. is_none (lift_of t)) (map string_bytes rest)
 lift-passes text rest lift e = rw e refl

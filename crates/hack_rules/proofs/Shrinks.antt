@@ -1,10 +1,12 @@
 -- Reading a use leaves less to read than before.
-use Rattle.std.proofs.Common.{◌≡◌, ◌+◌, ◌<◌, ◌≤◌, ℕ, List, [], ◌∷◌, ◌&&◌, ◌++◌, append-nil, append_assoc, Ok, Some, ◌∙◌, true, false, length, ap, sym, refl, Err, None, Option, Result, zero, suc, cond, codes, nat_lt, nat_eq, subst, drop, encode_utf8, length-drop, arith}
-use Rattle.std.specs.List.{starts_with, position_or_len, after_first}
+use Rattle.std.proofs.Common.{◌≡◌, ◌+◌, ◌<◌, ◌≤◌, ℕ, List, [], ◌∷◌, ◌&&◌, ◌++◌, append-nil, append_assoc, Ok, Some, ◌∙◌, true, false, length, ap, sym, refl, Err, None, Option, Result, zero, suc, cond, codes, nat_eq, subst, drop, encode_utf8, length-drop, arith}
+use Rattle.std.specs.List.{starts_with}
+use Rattle.std.specs.Option.{is_some, option_map_or, option_zip}
 use Rattle.std.proofs.lemmas.Str.{length-encode, len_utf8_bounds}
 use Rattle.hack_lexopt.specs.declared.fault.LexFault.{LexFault}
 use Rattle.hack_lexopt.specs.declared.fault.LexFault.TheVariants.{UnexpectedValue}
-use Rattle.hack_lexopt.specs.Cuts.{LeftArguments, Untaken, Nothing, Pending, Chain, Cut, LongCut, ShortCut, ValueCut, is_long, is_chain, is_equals, is_plain_word, pending_of, first_letter, after_letter, chain_of, untaken_of, next_cut, after_cut, after_value, after_attached, after_optional, value_of, optional_of, attached_value, unexpected_of}
+use Rattle.hack_lexopt.specs.Cuts.{LeftArguments, Untaken, Nothing, Pending, Chain, Flag, LongFlag, ShortFlag, Cut, FlagCut, ValueCut, is_long, is_chain, first_letter, after_letter, chain_of, untaken_of, next_cut, after_cut, after_value, after_attached, value_of, optional_of, attached_value, unexpected_of}
+use Rattle.hack_base.specs.Cuts.{rest_of}
 use Rattle.hack_options.specs.declared.opt.Opt.{Opt}
 use Rattle.hack_options.specs.declared.table.Kind.{Kind}
 use Rattle.hack_options.specs.declared.table.Kind.TheVariants as kind
@@ -12,9 +14,9 @@ use Rattle.hack_options.specs.Table.{entry_of, meaning_of}
 use Rattle.hack_options.specs.Find.{long_option, short_option}
 use Rattle.hack_rules.specs.declared.uses.cut.Print.{Print}
 use Rattle.hack_rules.specs.declared.uses.cut.Print.TheVariants as print
-use Rattle.hack_rules.specs.Faults.{Flag, LongFlag, ShortFlag, Repeat, LoneQuote}
-use Rattle.hack_rules.specs.Uses.{Use, Known, Unknown, is_given, subcommand_of}
-use Rattle.hack_rules.specs.UseReading.{Reading, Met, End, Prints, Fails, is_lone_quote, is_bare_letter, unknown_option, option_with_value, option_with_names, with_names_or_none, print_request, help_of, by_kind, known_option, removed_of, similar_of, other, by_name, by_letter, of_cut, refused_value, of_next, read_of, Reads, flag_left}
+use Rattle.hack_rules.specs.Faults.{Unexpected, Repeat, LoneQuote}
+use Rattle.hack_rules.specs.Uses.{Use, Unknown, is_given, subcommand_of}
+use Rattle.hack_rules.specs.UseReading.{Reading, Met, End, Prints, Fails, is_lone_quote, is_bare_letter, unknown_option, option_or_value, option_with_value, unless_quote, print_request, help_of, by_kind, known_option, removed_of, similar_of, other, of_cut, of_next, read_of, Reads}
 
 -- a measure of how much is left to read
 abbrev pub weight_of : Untaken → ℕ
@@ -41,32 +43,31 @@ letter_weight : (c : ℕ) (xs : List ℕ) → weight_of (chain_of (drop (length 
 letter_weight c [] = rw (drop_none (length (encode_utf8 c))) (omega arith)
 letter_weight c (x ∷ xs) = omega (arith, chain_weight (drop (length (encode_utf8 c)) (x ∷ xs)), length-drop (length (encode_utf8 c)) (x ∷ xs), length-encode c, (len_utf8_bounds c).0)
 
+pending_weight : (value : Option (List ℕ)) (n : ℕ) → weight_of (option_map_or Pending value Nothing) < n + 2
+pending_weight None n = omega arith
+pending_weight (Some value) n = omega arith
+
 word_weight : (w : List ℕ) → weight_of (untaken_of w) < length w + 2
-word_weight w = elim (is_long w) as (λ b. weight_of (cond b (pending_of (drop 2 w)) (cond (is_chain w) (after_letter (drop 1 w)) Nothing)) < length w + 2) [
-  | true ↦ elim (nat_lt (position_or_len is_equals (drop 2 w)) (length (drop 2 w))) as (λ b. weight_of (cond b (Pending (after_first is_equals (drop 2 w))) Nothing) < length w + 2) [ true ↦ omega arith | false ↦ omega arith ]
+word_weight w = elim (is_long w) as (λ b. weight_of (cond b (option_map_or Pending (rest_of 61 (drop 2 w)) Nothing) (cond (is_chain w) (after_letter (drop 1 w)) Nothing)) < length w + 2) [
+  | true ↦ pending_weight (rest_of 61 (drop 2 w)) (length w)
   | false ↦ elim (is_chain w) as (λ b. weight_of (cond b (after_letter (drop 1 w)) Nothing) < length w + 2) [ true ↦ omega (arith, letter_weight (first_letter (drop 1 w)) (drop 1 w), length-drop 1 w) | false ↦ omega arith ]
 ]
 
 -- reading an item leaves less
-after_cut-smaller : (o : Option Cut) (t : Untaken) (ws : List (List ℕ)) (cut : Cut) → next_cut (record { option = o; untaken = t; words = ws }) ≡ Ok (Some cut) → weight (after_cut (record { option = o; untaken = t; words = ws })) < weight (record { option = o; untaken = t; words = ws })
+after_cut-smaller : (o : Option Flag) (t : Untaken) (ws : List (List ℕ)) (cut : Cut) → next_cut (record { option = o; untaken = t; words = ws }) ≡ Ok (Some cut) → weight (after_cut (record { option = o; untaken = t; words = ws })) < weight (record { option = o; untaken = t; words = ws })
 after_cut-smaller o (Pending v) ws cut h = cc
 after_cut-smaller o (Chain letters) ws cut h =
-    elim (starts_with nat_eq letters (codes "=")) as (λ b. cond b (Err UnexpectedValue) (Ok (Some (ShortCut (first_letter letters)))) ≡ Ok (Some cut) → weight (cond b (record { option = o; untaken = Nothing; words = ws }) (record { option = Some (ShortCut (first_letter letters)); untaken = after_letter letters; words = ws })) < (length letters + 1) + words_weight ws)
+    elim (starts_with nat_eq letters (codes "=")) as (λ b. cond (is_some (cond b (Some (drop 1 letters)) None)) (Err UnexpectedValue) (Ok (Some (FlagCut (ShortFlag (first_letter letters))))) ≡ Ok (Some cut) → weight (cond (is_some (cond b (Some (drop 1 letters)) None)) (record { option = o; untaken = Nothing; words = ws }) (record { option = Some (ShortFlag (first_letter letters)); untaken = after_letter letters; words = ws })) < (length letters + 1) + words_weight ws)
     [ true ↦ λ e. cc | false ↦ λ e. omega (arith, letter_weight (first_letter letters) letters) ] h
 after_cut-smaller o Nothing [] cut h = cc
 after_cut-smaller o Nothing (w ∷ ws) cut h = omega (arith, word_weight w)
 
-after_value-le : (o : Option Cut) (t : Untaken) (ws : List (List ℕ)) → weight (after_value (record { option = o; untaken = t; words = ws })) ≤ weight (record { option = o; untaken = t; words = ws })
-after_value-le o (Pending v) ws = omega arith
-after_value-le o (Chain letters) ws = omega arith
-after_value-le o Nothing [] = omega arith
-after_value-le o Nothing (w ∷ ws) = omega arith
-
-after_optional-le : (o : Option Cut) (t : Untaken) (ws : List (List ℕ)) → weight (after_optional (record { option = o; untaken = t; words = ws })) ≤ weight (record { option = o; untaken = t; words = ws })
-after_optional-le o (Pending v) ws = omega arith
-after_optional-le o (Chain letters) ws = omega arith
-after_optional-le o Nothing [] = omega arith
-after_optional-le o Nothing (w ∷ ws) = elim (is_plain_word w) as (λ b. 0 + words_weight (cond b ws (w ∷ ws)) ≤ 0 + words_weight (w ∷ ws)) [ true ↦ omega arith | false ↦ omega arith ]
+after_value-le : (value : Option (List ℕ)) (o : Option Flag) (t : Untaken) (ws : List (List ℕ)) → weight (after_value value (record { option = o; untaken = t; words = ws })) ≤ weight (record { option = o; untaken = t; words = ws })
+after_value-le None o t ws = omega arith
+after_value-le (Some value) o (Pending v) ws = omega arith
+after_value-le (Some value) o (Chain letters) ws = omega arith
+after_value-le (Some value) o Nothing [] = omega arith
+after_value-le (Some value) o Nothing (w ∷ ws) = omega arith
 
 -- where a use was read, P holds for what is left
 abbrev Leaves : (LeftArguments → Type 0) → Reading → Type 0
@@ -77,23 +78,19 @@ Leaves P (Fails fault) = Unit {0}
 
 -- P still holds for what is left, whatever is taken as a value
 abbrev Kept : (LeftArguments → Type 0) → Type 0
-Kept P = (l : LeftArguments) → P l → P (after_attached l) × P (after_value l) × P (after_optional l)
+Kept P = (l : LeftArguments) → P l → P (after_attached l) × ((value : Option (List ℕ)) → P (after_value value l))
 
 leaves-unknown : (P : LeftArguments → Type 0) (k : Kept P) (flag : Flag) (l : LeftArguments) → P l → Leaves P (unknown_option flag l)
 leaves-unknown P k (LongFlag name) l p = (k l p).0
 leaves-unknown P k (ShortFlag c) l p = elim (is_bare_letter c) as (λ b. Leaves P (cond b (Met (Unknown (ShortFlag c) None) l) (Met (Unknown (ShortFlag c) (attached_value l.untaken)) (after_attached l)))) [ true ↦ p | false ↦ (k l p).0 ]
 
-leaves-value : (P : LeftArguments → Type 0) (o : Opt) (flag : Flag) (v : Option (List ℕ)) (l : LeftArguments) → P l → Leaves P (option_with_value o flag v l)
-leaves-value P o flag (Some v) l p = p
-leaves-value P o flag None l p = tt
+leaves-value : (P : LeftArguments → Type 0) (k : Kept P) (o : Opt) (flag : Flag) (v : Option (List ℕ)) (l : LeftArguments) → P l → Leaves P (option_with_value o flag v l)
+leaves-value P k o flag (Some v) l p = (k l p).1 (Some v)
+leaves-value P k o flag None l p = tt
 
-leaves-names : (P : LeftArguments → Type 0) (o : Opt) (flag : Flag) (v : Option (List ℕ)) (l : LeftArguments) → P l → Leaves P (option_with_names o flag v l)
-leaves-names P o flag (Some v) l p = elim (is_lone_quote v) as (λ b. Leaves P (cond b (Fails (LoneQuote flag)) (Met (Known (meaning_of o) flag (Some v)) l))) [ true ↦ tt | false ↦ p ]
-leaves-names P o flag None l p = tt
-
-leaves-optional : (P : LeftArguments → Type 0) (o : Opt) (flag : Flag) (v : Option (List ℕ)) (l : LeftArguments) → P l → Leaves P (with_names_or_none o flag v l)
-leaves-optional P o flag (Some v) l p = elim (is_lone_quote v) as (λ b. Leaves P (cond b (Fails (LoneQuote flag)) (Met (Known (meaning_of o) flag (Some v)) l))) [ true ↦ tt | false ↦ p ]
-leaves-optional P o flag None l p = p
+leaves-names : (P : LeftArguments → Type 0) (flag : Flag) (v : Option (List ℕ)) (r : Reading) → Leaves P r → Leaves P (unless_quote flag v r)
+leaves-names P flag (Some v) r p = elim (is_lone_quote v) as (λ b. Leaves P (cond b (Fails (LoneQuote flag)) r)) [ true ↦ tt | false ↦ p ]
+leaves-names P flag None r p = p
 
 leaves-question : (P : LeftArguments → Type 0) (k : Kept P) (print : Print) (sub : Option (List ℕ)) (flag : Flag) (l : LeftArguments) → P l → Leaves P (print_request print sub flag l)
 leaves-question P k print (Some sub) flag l p = leaves-unknown P k flag l p
@@ -101,9 +98,9 @@ leaves-question P k print None flag l p = tt
 
 leaves-kind : (P : LeftArguments → Type 0) (k : Kept P) (takes : Kind) (us : List Use) (o : Opt) (flag : Flag) (l : LeftArguments) → P l → Leaves P (by_kind takes us o flag l)
 leaves-kind P k kind.Flag us o flag l p = p
-leaves-kind P k kind.Value us o flag l p = leaves-value P o flag (value_of l) (after_value l) (k l p).1
-leaves-kind P k kind.Names us o flag l p = leaves-names P o flag (value_of l) (after_value l) (k l p).1
-leaves-kind P k kind.OptionalNames us o flag l p = leaves-optional P o flag (optional_of l) (after_optional l) (k l p).2
+leaves-kind P k kind.Value us o flag l p = leaves-value P k o flag (value_of l) l p
+leaves-kind P k kind.Names us o flag l p = leaves-names P flag (value_of l) (option_with_value o flag (value_of l) l) (leaves-value P k o flag (value_of l) l p)
+leaves-kind P k kind.OptionalNames us o flag l p = leaves-names P flag (optional_of l) (option_or_value o flag (optional_of l) l) ((k l p).1 (optional_of l))
 leaves-kind P k kind.Help us o flag l p = leaves-question P k (help_of flag) (subcommand_of us) flag l p
 leaves-kind P k kind.Version us o flag l p = leaves-question P k print.Version (subcommand_of us) flag l p
 leaves-kind P k kind.Refused us o flag l p = tt
@@ -116,20 +113,16 @@ leaves-other P k (Some o) s us name l p = tt
 leaves-other P k None (Some o) us name l p = tt
 leaves-other P k None None us name l p = leaves-unknown P k (LongFlag name) l p
 
-leaves-name : (P : LeftArguments → Type 0) (k : Kept P) (o : Option Opt) (us : List Use) (name : List ℕ) (l : LeftArguments) → P l → Leaves P (by_name o us name l)
-leaves-name P k (Some o) us name l p = leaves-known P k us o (LongFlag name) l p
-leaves-name P k None us name l p = leaves-other P k (removed_of name) (similar_of name) us name l p
-
-leaves-letter : (P : LeftArguments → Type 0) (k : Kept P) (o : Option Opt) (us : List Use) (c : ℕ) (l : LeftArguments) → P l → Leaves P (by_letter o us c l)
-leaves-letter P k (Some o) us c l p = leaves-known P k us o (ShortFlag c) l p
-leaves-letter P k None us c l p = leaves-unknown P k (ShortFlag c) l p
+leaves-table : (P : LeftArguments → Type 0) (k : Kept P) (o : Option Opt) (us : List Use) (flag : Flag) (r : Reading) (l : LeftArguments) → P l → Leaves P r → Leaves P (option_map_or (λ o. known_option us o flag l) o r)
+leaves-table P k (Some o) us flag r l p q = leaves-known P k us o flag l p
+leaves-table P k None us flag r l p q = q
 
 leaves-cut : (P : LeftArguments → Type 0) (k : Kept P) (us : List Use) (cut : Cut) (l : LeftArguments) → P l → Leaves P (of_cut us cut l)
-leaves-cut P k us (LongCut name) l p = leaves-name P k (long_option name) us name l p
-leaves-cut P k us (ShortCut c) l p = leaves-letter P k (short_option c) us c l p
+leaves-cut P k us (FlagCut (LongFlag name)) l p = leaves-table P k (long_option name) us (LongFlag name) (other (removed_of name) (similar_of name) us name l) l p (leaves-other P k (removed_of name) (similar_of name) us name l p)
+leaves-cut P k us (FlagCut (ShortFlag c)) l p = leaves-table P k (short_option c) us (ShortFlag c) (unknown_option (ShortFlag c) l) l p (leaves-unknown P k (ShortFlag c) l p)
 leaves-cut P k us (ValueCut word) l p = p
 
-refused-no_use : (option : Option Flag) (v : Option (List ℕ)) (u : Use) (l : LeftArguments) → refused_value option v ≡ Met u l → ⊥
+refused-no_use : (option : Option Flag) (v : Option (List ℕ)) (u : Use) (l : LeftArguments) → option_map_or (λ p. Fails (Unexpected p.0 p.1)) (option_zip option v) End ≡ Met u l → ⊥
 refused-no_use (Some flag) (Some v) u l h = cc
 refused-no_use (Some flag) None u l h = cc
 refused-no_use None v u l h = cc
@@ -141,14 +134,14 @@ read-leaves P k us l u new behind h = cases (next_cut l) refl
     cases : (r : Result (Option Cut) LexFault) → next_cut l ≡ r → P new
     cases (Ok (Some cut)) e = subst (λ r. Leaves P r) (sym (ap (λ r. of_next r us l) e) ∙ h) (leaves-cut P k us cut (after_cut l) (behind cut e))
     cases (Ok None) e = let none = sym (ap (λ r. of_next r us l) e) ∙ h in cc
-    cases (Err fault) e = absurd (refused-no_use (flag_left l.option) (unexpected_of l.untaken) u new (sym (ap (λ r. of_next r us l) e) ∙ h))
+    cases (Err fault) e = absurd (refused-no_use l.option (unexpected_of l.untaken) u new (sym (ap (λ r. of_next r us l) e) ∙ h))
 
 -- the measure of what is left is below n
 abbrev Below : ℕ → LeftArguments → Type 0
 Below n l = weight l < n
 
 kept-below : (n : ℕ) → Kept (Below n)
-kept-below n l p = (omega arith, omega (arith, after_value-le l.option l.untaken l.words), omega (arith, after_optional-le l.option l.untaken l.words))
+kept-below n l p = (omega arith, λ value. omega (arith, after_value-le value l.option l.untaken l.words))
 
 -- reading a use leaves less
 pub read-smaller : (us : List Use) (l : LeftArguments) (u : Use) (new : LeftArguments) → read_of us l ≡ Met u new → weight new < weight l

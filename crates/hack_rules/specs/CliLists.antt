@@ -1,6 +1,8 @@
 -- The lists that uses of options give.
-use Rattle.std.specs.Prelude.{ℕ, List, [], ◌∷◌, ◌&&◌, Bool, true, false, Option, Some, None, length, map, nat_lt, bytes_eq, option_map, if◌then◌else◌}
-use Rattle.std.specs.List.{flat_map, filter_map, list_any}
+use Rattle.std.specs.Prelude.{ℕ, List, [], ◌&&◌, not, Bool, false, Option, Some, None, length, nat_lt, bytes_eq, option_and_then, option_map, if◌then◌else◌}
+use Rattle.std.specs.Cmp.Lexicographic.{pointwise}
+use Rattle.std.specs.List.{find, flat_map, filter_map, list_any}
+use Rattle.std.specs.Option.{is_none, option_map_or}
 use Rattle.hack_options.specs.declared.opt.Opt.{Opt}
 use Rattle.hack_options.specs.declared.opt.Opt.TheVariants as opt
 use Rattle.hack_rules.specs.Uses.{Use, is_given}
@@ -13,18 +15,12 @@ use Rattle.hack_base.specs.Lists.{is_list, group_names, list_names, without_quot
 abbrev pub names_given : Opt → List Use → List (List ℕ)
 names_given o us = flat_map list_names (values_given o us)
 
--- the names in each group of an option
-abbrev pub groups_given : Opt → List Use → List (List (List ℕ))
-groups_given o us = map group_names (values_given o us)
-
--- the names of a value that may be left out; empty names count
-abbrev pub names_or_none : Option (List ℕ) → List (List ℕ)
-names_or_none None = []
-names_or_none (Some text) = group_names (without_quotes text)
-
--- the names of the optional dependencies, where the option is used
+-- the names of the optional dependencies, where the option is used; empty names count
 abbrev pub optional_given : List Use → Option (List (List ℕ))
-optional_given us = if is_given opt.OptionalDeps us then Some (names_or_none (value_given opt.OptionalDeps us)) else None
+optional_given us =
+    if is_given opt.OptionalDeps us
+    then Some (option_map_or (λ text. group_names (without_quotes text)) (value_given opt.OptionalDeps us) [])
+    else None
 
 -- an exclusion group that is lifted for a package
 pub record Lift : Type 0 where
@@ -33,11 +29,9 @@ pub record Lift : Type 0 where
 
 -- PACKAGE=FEATURES, split at its first `=`, with a package and two features or more
 abbrev pub lift_of : List ℕ → Option Lift
-lift_of text = of_rest (front_of 61 text) (rest_of 61 text)
-  where
-    of_rest : List ℕ → Option (List ℕ) → Option Lift
-    of_rest owner None = None
-    of_rest owner (Some features) = if nat_lt 0 (length owner) && is_list features then Some (record { owner = owner; group = group_names features }) else None
+lift_of text =
+    option_and_then (λ features. if nat_lt 0 (length (front_of 61 text)) && is_list features
+    then Some (record { owner = front_of 61 text; group = group_names features }) else None) (rest_of 61 text)
 
 -- the groups that are lifted
 abbrev pub lifts_given : List Use → List Lift
@@ -45,41 +39,17 @@ lifts_given us = filter_map lift_of (values_given opt.AllowTogether us)
 
 -- the same names in the same order
 abbrev pub same_names : List (List ℕ) → List (List ℕ) → Bool
-same_names [] [] = true
-same_names [] (n ∷ ns) = false
-same_names (n ∷ ns) [] = false
-same_names (n ∷ ns) (m ∷ ms) = bytes_eq n m && same_names ns ms
-
--- the first text that fails a test
-abbrev pub first_failing : (List ℕ → Bool) → List (List ℕ) → Option (List ℕ)
-first_failing test [] = None
-first_failing test (text ∷ texts) = if test text then first_failing test texts else Some text
-
--- a text lifts a group, as PACKAGE=FEATURES
-abbrev pub is_lift : List ℕ → Bool
-is_lift text = is_some (lift_of text)
-  where
-    is_some : Option Lift → Bool
-    is_some (Some lift) = true
-    is_some None = false
+same_names xs ys = pointwise bytes_eq xs ys
 
 -- a text lifts a group whose names are those of one of these groups
 abbrev pub lifts_one_of : List (List (List ℕ)) → List ℕ → Bool
-lifts_one_of groups text = is_one (lift_of text)
-  where
-    is_one : Option Lift → Bool
-    is_one (Some lift) = list_any (same_names lift.group) groups
-    is_one None = false
+lifts_one_of groups text = option_map_or (λ l. list_any (same_names l.group) groups) (lift_of text) false
 
 -- the error of the first value that isn't PACKAGE=FEATURES
 abbrev pub lift_form : List Use → Option Fault
-lift_form us = option_map LiftForm (first_failing is_lift (values_given opt.AllowTogether us))
+lift_form us = option_map LiftForm (find (λ text. is_none (lift_of text)) (values_given opt.AllowTogether us))
 
 -- the error of the first value whose names are those of none of these groups
 abbrev pub lift_group : List (List (List ℕ)) → List Use → Option Fault
-lift_group exclusive us = option_map LiftGroup (first_failing (lifts_one_of exclusive) (values_given opt.AllowTogether us))
-
--- the first of two errors
-abbrev pub first_fault_of : Option Fault → Option Fault → Option Fault
-first_fault_of (Some fault) later = Some fault
-first_fault_of None later = later
+lift_group exclusive us =
+    option_map LiftGroup (find (λ t. not (lifts_one_of exclusive t)) (values_given opt.AllowTogether us))

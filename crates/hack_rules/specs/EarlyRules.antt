@@ -1,6 +1,7 @@
 -- The rules that are checked before the one on a missing subcommand.
-use Rattle.std.specs.Prelude.{ℕ, ◌&&◌, ◌||◌, not, List, [], ◌∷◌, Bool, false, Option, Some, None, codes, nat_eq, bytes_eq, option_map, if◌then◌else◌}
-use Rattle.std.specs.List.{list_any, starts_with}
+use Rattle.std.specs.Prelude.{ℕ, ◌&&◌, ◌||◌, not, List, [], ◌∷◌, map, Bool, Option, Some, None, codes, nat_eq, bytes_eq, option_map, option_and_then, if◌then◌else◌}
+use Rattle.std.specs.List.{find, flat_map, list_any, starts_with}
+use Rattle.std.specs.Option.{unwrap_or}
 use Rattle.hack_options.specs.declared.opt.Opt.{Opt}
 use Rattle.hack_options.specs.declared.opt.Opt.TheVariants as opt
 use Rattle.hack_rules.specs.declared.uses.behavior.WorkspaceBehavior.{WorkspaceBehavior}
@@ -9,22 +10,18 @@ use Rattle.hack_rules.specs.PassedWords.{leading_of}
 use Rattle.hack_rules.specs.Uses.{Use, is_given, subcommand_of}
 use Rattle.hack_rules.specs.Values.{value_given, values_given}
 use Rattle.hack_rules.specs.declared.fault.Beside.TheVariants as beside
-use Rattle.hack_rules.specs.CliFaults.{Fault, Color, TermColor, Single, BesideSubcommand, Install, Clash, ClashWord, Excluded}
-use Rattle.hack_rules.specs.CliLists.{first_fault_of}
-use Rattle.hack_rules.specs.CliValues.{unless_read, depth_fault}
+use Rattle.hack_rules.specs.CliFaults.{Fault, Color, TermColor, Number, Single, BesideSubcommand, Install, Clash, ClashWord, Excluded}
+use Rattle.hack_rules.specs.CliValues.{unless_read}
+use Rattle.hack_base.specs.Numbers.{number_of}
 use Rattle.hack_term.specs.Lines.{coloring_of}
 use Rattle.hack_base.specs.Lists.{is_list}
 use Rattle.hack_rules.specs.ListedFeatures.{Listed}
-use Rattle.hack_rules.specs.Rules.{fault_if, first_of, of_value, needs, clash, is_nonempty, is_among}
-
--- the error of a text that names no colouring
-abbrev pub coloring_fault : (List ℕ → Fault) → List ℕ → Option Fault
-coloring_fault fault text = unless_read (fault text) (coloring_of text)
+use Rattle.hack_rules.specs.Rules.{fault_if, first_of, value_rule, needs, clash, is_nonempty, is_among}
 
 -- colour: that of the command line, else that of the environment
 abbrev pub color_rule : Option (List ℕ) → Option (List ℕ) → Option Fault
-color_rule (Some said) env = coloring_fault Color said
-color_rule None env = of_value (coloring_fault TermColor) env
+color_rule (Some said) env = unless_read (Color said) (coloring_of said)
+color_rule None env = option_and_then (λ found. unless_read (TermColor found) (coloring_of found)) env
 
 -- --ignore-unknown-features needs a list of features
 abbrev pub unknown_rule : Listed → List Use → Option Fault
@@ -47,29 +44,20 @@ each_rules l us =
     ∷ needs (is_given opt.IncludeDepsFeatures us) opt.IncludeDepsFeatures beside.EachOrPowerset (is_each us)
     ∷ []
 
--- options that need --feature-powerset
-abbrev pub powerset_rules : List Use → List (Option Fault)
-powerset_rules us =
-    needs (is_given opt.Depth us) opt.Depth beside.Powerset (is_given opt.FeaturePowerset us)
-    ∷ needs (is_given opt.GroupFeatures us) opt.GroupFeatures beside.Powerset (is_given opt.FeaturePowerset us)
-    ∷ needs (is_given opt.MutuallyExclusiveFeatures us) opt.MutuallyExclusiveFeatures beside.Powerset (is_given opt.FeaturePowerset us)
-    ∷ needs (is_given opt.AtLeastOneOf us) opt.AtLeastOneOf beside.Powerset (is_given opt.FeaturePowerset us)
-    ∷ []
-
 -- each use of a group has a comma or a space
 abbrev pub single_rule : Opt → List Use → Option Fault
 single_rule option us = fault_if (list_any (λ text. not (is_list text)) (values_given option us)) (Single option)
 
--- the same of the three options that take groups
-abbrev pub single_rules : List Use → List (Option Fault)
-single_rules us = single_rule opt.GroupFeatures us ∷ single_rule opt.MutuallyExclusiveFeatures us ∷ single_rule opt.AtLeastOneOf us ∷ []
+-- the option that leaves dev-dependencies out, if one is given
+abbrev pub without_dev_deps : List Use → Option Opt
+without_dev_deps us = find (λ option. is_given option us) (opt.RemoveDevDeps ∷ opt.NoDevDeps ∷ [])
 
 -- test and bench need dev-dependencies, and the subcommand install is refused
 abbrev pub subcommand_rule : Option (List ℕ) → List Use → Option Fault
 subcommand_rule None us = None
 subcommand_rule (Some word) us =
-    if bytes_eq word (codes "test") || bytes_eq word (codes "bench") then
-    (if is_given opt.RemoveDevDeps us then Some (BesideSubcommand opt.RemoveDevDeps word) else fault_if (is_given opt.NoDevDeps us) (BesideSubcommand opt.NoDevDeps word))
+    if bytes_eq word (codes "test") || bytes_eq word (codes "bench")
+    then option_map (λ option. BesideSubcommand option word) (without_dev_deps us)
     else fault_if (bytes_eq word (codes "install")) Install
 
 -- no runs by features where Cargo handles workspaces
@@ -86,52 +74,29 @@ is_target_flag w =
 abbrev pub is_target_name : List ℕ → Bool
 is_target_name w = starts_with nat_eq w (codes "--example=") || starts_with nat_eq w (codes "--test=") || starts_with nat_eq w (codes "--bench=")
 
--- either of the two
-abbrev pub is_target_word : List ℕ → Bool
-is_target_word w = is_target_flag w || is_target_name w
-
--- the first such argument
-abbrev pub first_target_word : List (List ℕ) → Option (List ℕ)
-first_target_word [] = None
-first_target_word (w ∷ ws) = if is_target_word w then Some w else first_target_word ws
-
--- dev-dependencies can't be left out beside such an argument
-abbrev pub target_rule : List Use → Option (List ℕ) → Option Fault
-target_rule us None = None
-target_rule us (Some word) = if is_given opt.RemoveDevDeps us then Some (ClashWord opt.RemoveDevDeps word) else fault_if (is_given opt.NoDevDeps us) (ClashWord opt.NoDevDeps word)
-
 -- a list of features to include excludes some options
 abbrev pub include_rules : Listed → List Use → List (Option Fault)
 include_rules l us =
-    fault_if (is_nonempty l.includes && is_given opt.OptionalDeps us) (Clash opt.IncludeFeatures opt.OptionalDeps)
-    ∷ fault_if (is_nonempty l.includes && is_given opt.IncludeDepsFeatures us) (Clash opt.IncludeFeatures opt.IncludeDepsFeatures)
-    ∷ []
+    map (λ other. fault_if (is_nonempty l.includes && is_given other us) (Clash opt.IncludeFeatures other))
+    (opt.OptionalDeps ∷ opt.IncludeDepsFeatures ∷ [])
 
 -- pairs of options that exclude each other
 abbrev pub pair_rules : List Use → List (Option Fault)
 pair_rules us =
     clash opt.NoDevDeps opt.RemoveDevDeps us
     ∷ clash opt.EachFeature opt.FeaturePowerset us
-    ∷ clash opt.AllFeatures opt.EachFeature us
-    ∷ clash opt.AllFeatures opt.FeaturePowerset us
-    ∷ clash opt.NoDefaultFeatures opt.EachFeature us
-    ∷ clash opt.NoDefaultFeatures opt.FeaturePowerset us
-    ∷ []
+    ∷ flat_map (λ option. clash option opt.EachFeature us ∷ clash option opt.FeaturePowerset us ∷ [])
+    (opt.AllFeatures ∷ opt.NoDefaultFeatures ∷ [])
 
 -- one of the groups has this name
 abbrev pub is_in_group : List (List (List ℕ)) → List ℕ → Bool
 is_in_group groups name = list_any (λ group. is_among group name) groups
 
--- one of the optional dependencies has this name
-abbrev pub is_optional : Option (List (List ℕ)) → List ℕ → Bool
-is_optional (Some names) name = is_among names name
-is_optional None name = false
-
 -- the first option that names this feature
 abbrev pub option_naming : Listed → List ℕ → Option Opt
 option_naming l name =
     if is_among l.features name then Some opt.Features
-    else if is_optional l.optional name then Some opt.OptionalDeps
+    else if is_among (unwrap_or l.optional []) name then Some opt.OptionalDeps
     else if is_in_group l.groups name then Some opt.GroupFeatures
     else if is_in_group l.exclusive name then Some opt.MutuallyExclusiveFeatures
     else if is_among l.includes name then Some opt.IncludeFeatures
@@ -139,8 +104,7 @@ option_naming l name =
 
 -- no option names a feature that is excluded
 abbrev pub excluded_rule : Listed → List (List ℕ) → Option Fault
-excluded_rule l [] = None
-excluded_rule l (name ∷ names) = first_fault_of (option_map (Excluded name) (option_naming l name)) (excluded_rule l names)
+excluded_rule l names = first_of (map (λ name. option_map (Excluded name) (option_naming l name)) names)
 
 -- the rules on colour, on options that need lists or runs by features, and on the depth
 abbrev pub early_rules : Option (List ℕ) → Listed → List Use → List (Option Fault)
@@ -148,18 +112,21 @@ early_rules term_color l us =
     color_rule (value_given opt.Color us) term_color
     ∷ unknown_rule l us
     ∷ first_of (each_rules l us)
-    ∷ first_of (powerset_rules us)
-    ∷ of_value depth_fault (value_given opt.Depth us)
+    ∷ first_of (map (λ o. needs (is_given o us) o beside.Powerset (is_given opt.FeaturePowerset us))
+    (opt.Depth ∷ opt.GroupFeatures ∷ opt.MutuallyExclusiveFeatures ∷ opt.AtLeastOneOf ∷ []))
+    ∷ value_rule opt.Depth (λ text. unless_read (Number text) (number_of 64 text)) us
     ∷ []
 
 -- the rules on groups, and on options that exclude each other
 abbrev pub together_rules : WorkspaceBehavior → Listed → List Use → List (Option Fault)
 together_rules behavior l us =
-    first_of (single_rules us)
+    first_of (map (λ option. single_rule option us)
+    (opt.GroupFeatures ∷ opt.MutuallyExclusiveFeatures ∷ opt.AtLeastOneOf ∷ []))
     ∷ subcommand_rule (subcommand_of us) us
     ∷ cargo_rule behavior opt.EachFeature us
     ∷ cargo_rule behavior opt.FeaturePowerset us
-    ∷ target_rule us (first_target_word (leading_of behavior us))
+    ∷ option_and_then (λ word. option_map (λ option. ClashWord option word) (without_dev_deps us))
+    (find (λ w. is_target_flag w || is_target_name w) (leading_of behavior us))
     ∷ first_of (include_rules l us)
     ∷ first_of (pair_rules us)
     ∷ excluded_rule l l.excludes

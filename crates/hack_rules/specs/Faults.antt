@@ -1,37 +1,17 @@
 -- Options as they were written, and why arguments can't be parsed into them.
 use Rattle.std.specs.Prelude.{ℕ, List, Option, Some, None, string_bytes}
 use Rattle.hack_base.specs.Names.{optional_text}
-use Rattle.hack_lexopt.specs.Cuts.{Cut, LongCut, ShortCut, ValueCut, as_written}
+use Rattle.hack_lexopt.specs.Cuts.{Flag, LongFlag, ShortFlag}
 use Rattle.hack_options.specs.declared.opt.Opt.{Opt}
 use Rattle.hack_rules.specs.declared.uses.fault.OwnedFlag.{OwnedFlag}
 use Rattle.hack_rules.specs.declared.uses.fault.OwnedFlag.TheVariants as owned
 use Rattle.hack_rules.specs.declared.uses.fault.CutFault.{CutFault}
 use Rattle.hack_rules.specs.declared.uses.fault.CutFault.TheVariants as code
 
--- an option as it was written: the name after its --, or the letter after its -
-pub data Flag : Type 0 where
-  LongFlag : List ℕ → Flag
-  ShortFlag : ℕ → Flag
-
 -- the option that an `OwnedFlag` holds
 abbrev pub flag_seen : OwnedFlag → Flag
 flag_seen (owned.Long name) = LongFlag (string_bytes name)
 flag_seen (owned.Short letter) = ShortFlag letter
-
--- the option that an item is; none for a value
-abbrev pub flag_in : Cut → Option Flag
-flag_in (LongCut name) = Some (LongFlag name)
-flag_in (ShortCut letter) = Some (ShortFlag letter)
-flag_in (ValueCut word) = None
-
--- the item that an option comes from
-abbrev pub cut_of_flag : Flag → Cut
-cut_of_flag (LongFlag name) = LongCut name
-cut_of_flag (ShortFlag letter) = ShortCut letter
-
--- an option with its dashes
-abbrev pub flag_text : Flag → List ℕ
-flag_text flag = as_written (cut_of_flag flag)
 
 -- why an argument is refused: a value is missing, or not expected; an option is repeated (after
 -- this subcommand); a list of names is a lone quote sign; --workspace-behavior has another form; a

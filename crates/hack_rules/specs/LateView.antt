@@ -1,7 +1,8 @@
 -- What the later rules read.
 use Rattle.std.specs.Prelude.{◌≡◌, Bool, List, IfSome, option_map}
+use Rattle.hack_options.specs.declared.opt.Opt.TheVariants as opt
 use Rattle.hack_rules.specs.Uses.{Use}
-use Rattle.hack_rules.specs.AskedFields.{range_asked, is_old_asked, step_asked, log_group_asked, piece_asked, kind_asked, strength_asked}
+use Rattle.hack_rules.specs.AskedFields.{range_asked, is_old_asked, step_asked, log_group_asked, piece_asked, kind_asked, number_asked}
 use Rattle.hack_rules.specs.CliGroups.{AreLifts}
 use Rattle.hack_rules.specs.CliLists.{lifts_given}
 use Rattle.hack_rules.specs.declared.late.Late.{Late}
@@ -15,4 +16,4 @@ pub record IsLate (github_actions : Bool) (us : List Use) (late : Late) : Type 0
   pub piece : option_map (λ p. record { piece = p.piece; count = p.count }) late.partition ≡ piece_asked us
   pub kind : IfSome late.partition (λ p. p.kind ≡ kind_asked us)
   pub lifts : AreLifts (lifts_given us) late.lifts.items
-  pub strength : late.strength ≡ strength_asked us
+  pub strength : late.strength ≡ number_asked opt.Strength us

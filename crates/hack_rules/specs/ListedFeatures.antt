@@ -1,8 +1,10 @@
 -- The lists of features that the rules need.
-use Rattle.std.specs.Prelude.{ℕ, List, Option}
+use Rattle.std.specs.Prelude.{ℕ, List, map, Option}
+use Rattle.hack_base.specs.Lists.{group_names}
 use Rattle.hack_options.specs.declared.opt.Opt.TheVariants as opt
 use Rattle.hack_rules.specs.Uses.{Use}
-use Rattle.hack_rules.specs.CliLists.{names_given, groups_given, optional_given}
+use Rattle.hack_rules.specs.CliLists.{names_given, optional_given}
+use Rattle.hack_rules.specs.Values.{values_given}
 
 -- the names in the lists of some options, and in each of their groups
 pub record Listed : Type 0 where
@@ -20,6 +22,6 @@ listed_by us = record {
   includes = names_given opt.IncludeFeatures us;
   excludes = names_given opt.ExcludeFeatures us;
   optional = optional_given us;
-  groups = groups_given opt.GroupFeatures us;
-  exclusive = groups_given opt.MutuallyExclusiveFeatures us;
+  groups = map group_names (values_given opt.GroupFeatures us);
+  exclusive = map group_names (values_given opt.MutuallyExclusiveFeatures us);
 }

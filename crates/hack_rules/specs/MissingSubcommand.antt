@@ -4,7 +4,7 @@ use Rattle.hack_options.specs.declared.opt.Opt.TheVariants as opt
 use Rattle.hack_rules.specs.declared.uses.behavior.WorkspaceBehavior.{WorkspaceBehavior}
 use Rattle.hack_rules.specs.PassedWords.{leading_of}
 use Rattle.hack_rules.specs.Uses.{Use, is_given}
-use Rattle.hack_rules.specs.CliFaults.{Fault, NoSubcommand}
+use Rattle.hack_rules.specs.CliFaults.{NoSubcommand}
 use Rattle.std.specs.Prelude.{◌≡◌, true, Result, Ok, Err, MatchOption}
 use Rattle.hack_rules.specs.declared.fault.CliFault.{CliFault}
 use Rattle.hack_rules.specs.declared.fault.CliFault.TheVariants as fault

@@ -2,8 +2,10 @@
 -- and the verdict of rules.
 use Rattle.std.specs.Prelude.{ℕ, ◌&&◌, not, List, [], ◌∷◌, Bool, Option, Some, None, length, nat_lt, bytes_eq, option_and_then, if◌then◌else◌}
 use Rattle.std.specs.List.{list_any}
+use Rattle.std.specs.Option.{option_map_or, option_or}
 use Rattle.hack_options.specs.declared.opt.Opt.{Opt}
 use Rattle.hack_rules.specs.Uses.{Use, is_given}
+use Rattle.hack_rules.specs.Values.{value_given}
 use Rattle.hack_rules.specs.declared.fault.Beside.{Beside}
 use Rattle.hack_rules.specs.CliFaults.{Fault, Needs, Clash}
 
@@ -14,12 +16,11 @@ fault_if b fault = if b then Some fault else None
 -- the first of some errors
 abbrev pub first_of : List (Option Fault) → Option Fault
 first_of [] = None
-first_of (Some fault ∷ faults) = Some fault
-first_of (None ∷ faults) = first_of faults
+first_of (fault ∷ faults) = option_or fault (first_of faults)
 
--- the error of a value, where there is a value
-abbrev pub of_value : (List ℕ → Option Fault) → Option (List ℕ) → Option Fault
-of_value rule value = option_and_then rule value
+-- the error of the value that is given to an option, if there is one
+abbrev pub value_rule : Opt → (List ℕ → Option Fault) → List Use → Option Fault
+value_rule option rule us = option_and_then rule (value_given option us)
 
 -- the error of an option that is given without any of those that it needs
 abbrev pub needs : Bool → Opt → Beside → Bool → Option Fault
@@ -45,10 +46,4 @@ pub data Verdict : Type 0 where
 
 -- refused with the error, if there is one
 abbrev pub refused_by : Option Fault → Verdict → Verdict
-refused_by (Some fault) verdict = Refused fault
-refused_by None verdict = verdict
-
--- that verdict, if there is one
-abbrev pub verdict_or : Option Verdict → Verdict → Verdict
-verdict_or (Some verdict) other = verdict
-verdict_or None other = other
+refused_by fault verdict = option_map_or Refused fault verdict

@@ -1,7 +1,8 @@
 -- How arguments are read as uses of options, one after the other.
-use Rattle.std.specs.Prelude.{ℕ, ◌≡◌, List, [], ◌∷◌, ◌++◌, ◌==◌, ◌&&◌, ◌||◌, Bool, Option, Some, None, Result, Ok, Err, codes, if◌then◌else◌, IfSome}
+use Rattle.std.specs.Prelude.{ℕ, ◌≡◌, List, [], ◌∷◌, ◌++◌, ◌==◌, ◌&&◌, ◌||◌, Bool, false, Option, Some, None, Result, Ok, Err, codes, if◌then◌else◌, IfSome}
+use Rattle.std.specs.Option.{option_map_or, option_zip}
 use Rattle.std.specs.Str.{bytes_eq}
-use Rattle.hack_lexopt.specs.Cuts.{Cut, LongCut, ShortCut, ValueCut, LeftArguments, next_cut, after_cut, attached_value, after_attached, value_of, after_value, optional_of, after_optional, unexpected_of}
+use Rattle.hack_lexopt.specs.Cuts.{Flag, LongFlag, ShortFlag, Cut, FlagCut, ValueCut, LeftArguments, next_cut, after_cut, attached_value, after_attached, value_of, after_value, optional_of, unexpected_of}
 use Rattle.hack_lexopt.specs.Parsers.{start}
 use Rattle.hack_lexopt.specs.declared.fault.LexFault.{LexFault}
 use Rattle.hack_options.specs.declared.opt.Opt.{Opt}
@@ -15,7 +16,7 @@ use Rattle.hack_rules.specs.declared.uses.cut.Print.TheVariants.{ShortHelp, Long
 use Rattle.hack_rules.specs.declared.uses.cut.Cuts.{Cuts}
 use Rattle.hack_rules.specs.declared.uses.cut.Cuts.TheVariants as cuts
 use Rattle.hack_rules.specs.declared.uses.fault.CutFault.{CutFault}
-use Rattle.hack_rules.specs.Faults.{Flag, LongFlag, ShortFlag, ArgumentFault, Missing, Unexpected, Repeat, LoneQuote, BehaviorForm, Removed, Similar, argument_fault_of, flag_in}
+use Rattle.hack_rules.specs.Faults.{ArgumentFault, Missing, Unexpected, Repeat, LoneQuote, BehaviorForm, Removed, Similar, argument_fault_of}
 use Rattle.hack_rules.specs.Uses.{Use, Known, Unknown, Word, views, is_given, subcommand_of}
 
 -- the result of reading: a use and what is left after it, the end of the arguments, a request to
@@ -40,20 +41,19 @@ unknown_option (LongFlag name) left = Met (Unknown (LongFlag name) (attached_val
 unknown_option (ShortFlag letter) left =
     if is_bare_letter letter then Met (Unknown (ShortFlag letter) None) left else Met (Unknown (ShortFlag letter) (attached_value left.untaken)) (after_attached left)
 
--- an option that takes a value, with the value that comes next
+-- an option with this value, which may be left out
+abbrev pub option_or_value : Opt → Flag → Option (List ℕ) → LeftArguments → Reading
+option_or_value o flag value left = Met (Known (meaning_of o) flag value) (after_value value left)
+
+-- an option with this value, which may not be left out
 abbrev pub option_with_value : Opt → Flag → Option (List ℕ) → LeftArguments → Reading
-option_with_value o flag (Some value) left = Met (Known (meaning_of o) flag (Some value)) left
 option_with_value o flag None left = Fails (Missing flag)
+option_with_value o flag value left = option_or_value o flag value left
 
--- an option that takes a list of names
-abbrev pub option_with_names : Opt → Flag → Option (List ℕ) → LeftArguments → Reading
-option_with_names o flag (Some value) left = if is_lone_quote value then Fails (LoneQuote flag) else Met (Known (meaning_of o) flag (Some value)) left
-option_with_names o flag None left = Fails (Missing flag)
-
--- an option whose list of names may be left out
-abbrev pub with_names_or_none : Opt → Flag → Option (List ℕ) → LeftArguments → Reading
-with_names_or_none o flag (Some value) left = if is_lone_quote value then Fails (LoneQuote flag) else Met (Known (meaning_of o) flag (Some value)) left
-with_names_or_none o flag None left = Met (Known (meaning_of o) flag None) left
+-- the reading of an option with this list of names, which may not be a lone quote sign
+abbrev pub unless_quote : Flag → Option (List ℕ) → Reading → Reading
+unless_quote flag value read =
+    if option_map_or is_lone_quote value false then Fails (LoneQuote flag) else read
 
 -- a request to print a text, if no subcommand came before it; else an option like one that is not
 -- in the table
@@ -69,9 +69,11 @@ help_of (ShortFlag letter) = ShortHelp
 -- an option of the table, read by the value that it takes
 abbrev pub by_kind : Kind → List Use → Opt → Flag → LeftArguments → Reading
 by_kind kind.Flag us o flag left = Met (Known (meaning_of o) flag None) left
-by_kind kind.Value us o flag left = option_with_value o flag (value_of left) (after_value left)
-by_kind kind.Names us o flag left = option_with_names o flag (value_of left) (after_value left)
-by_kind kind.OptionalNames us o flag left = with_names_or_none o flag (optional_of left) (after_optional left)
+by_kind kind.Value us o flag left = option_with_value o flag (value_of left) left
+by_kind kind.Names us o flag left =
+    unless_quote flag (value_of left) (option_with_value o flag (value_of left) left)
+by_kind kind.OptionalNames us o flag left =
+    unless_quote flag (optional_of left) (option_or_value o flag (optional_of left) left)
 by_kind kind.Help us o flag left = print_request (help_of flag) (subcommand_of us) flag left
 by_kind kind.Version us o flag left = print_request Version (subcommand_of us) flag left
 by_kind kind.Refused us o flag left = Fails BehaviorForm
@@ -105,40 +107,20 @@ other (Some instead) meant us name left = Fails (Removed name instead)
 other None (Some meant) us name left = Fails (Similar name meant (subcommand_of us))
 other None None us name left = unknown_option (LongFlag name) left
 
--- a name that is not in the table
-abbrev pub other_name : List Use → List ℕ → LeftArguments → Reading
-other_name us name left = other (removed_of name) (similar_of name) us name left
-
--- a long option, given its option of the table
-abbrev pub by_name : Option Opt → List Use → List ℕ → LeftArguments → Reading
-by_name (Some o) us name left = known_option us o (LongFlag name) left
-by_name None us name left = other_name us name left
-
--- a letter, given its option of the table
-abbrev pub by_letter : Option Opt → List Use → ℕ → LeftArguments → Reading
-by_letter (Some o) us letter left = known_option us o (ShortFlag letter) left
-by_letter None us letter left = unknown_option (ShortFlag letter) left
-
 -- the result of an item after these uses
 abbrev pub of_cut : List Use → Cut → LeftArguments → Reading
-of_cut us (LongCut name) left = by_name (long_option name) us name left
-of_cut us (ShortCut letter) left = by_letter (short_option letter) us letter left
+of_cut us (FlagCut (LongFlag name)) left =
+    option_map_or (λ o. known_option us o (LongFlag name) left) (long_option name)
+    (other (removed_of name) (similar_of name) us name left)
+of_cut us (FlagCut (ShortFlag letter)) left =
+    option_map_or (λ o. known_option us o (ShortFlag letter) left) (short_option letter)
+    (unknown_option (ShortFlag letter) left)
 of_cut us (ValueCut word) left = Met (Word word) left
 
--- the last option that was read, if any
-abbrev pub flag_left : Option Cut → Option Flag
-flag_left (Some cut) = flag_in cut
-flag_left None = None
-
--- a value that the option before it did not take
-abbrev pub refused_value : Option Flag → Option (List ℕ) → Reading
-refused_value (Some flag) (Some value) = Fails (Unexpected flag value)
-refused_value (Some flag) None = End
-refused_value None value = End
-
--- the result of the next item, or of its refusal
+-- the result of the next item, or of its refusal where the option before it did not take a value
 abbrev pub of_next : Result (Option Cut) LexFault → List Use → LeftArguments → Reading
-of_next (Err fault) us left = refused_value (flag_left left.option) (unexpected_of left.untaken)
+of_next (Err fault) us left =
+    option_map_or (λ p. Fails (Unexpected p.0 p.1)) (option_zip left.option (unexpected_of left.untaken)) End
 of_next (Ok None) us left = End
 of_next (Ok (Some cut)) us left = of_cut us cut (after_cut left)
 

@@ -6,7 +6,8 @@ use Rattle.hack_options.specs.declared.opt.Opt.{Opt}
 use Rattle.hack_options.specs.Table.{is_same_option}
 use Rattle.hack_rules.specs.declared.uses.cut.Use.{Use as CodeUse}
 use Rattle.hack_rules.specs.declared.uses.cut.Use.TheVariants as code
-use Rattle.hack_rules.specs.Faults.{Flag, flag_seen}
+use Rattle.hack_lexopt.specs.Cuts.{Flag}
+use Rattle.hack_rules.specs.Faults.{flag_seen}
 
 -- a known option as written with its value, an unknown option with the rest of its argument, or an
 -- argument that no option takes
@@ -28,8 +29,7 @@ views us = map view us
 -- this is a use of the option
 abbrev pub is_use_of : Opt → Use → Bool
 is_use_of o (Known p flag value) = is_same_option p o
-is_use_of o (Unknown flag value) = false
-is_use_of o (Word word) = false
+is_use_of o u = false
 
 -- the option was used
 abbrev pub is_given : Opt → List Use → Bool
@@ -39,5 +39,4 @@ is_given o us = list_any (is_use_of o) us
 abbrev pub subcommand_of : List Use → Option (List ℕ)
 subcommand_of [] = None
 subcommand_of (Word word ∷ us) = Some word
-subcommand_of (Known o flag value ∷ us) = subcommand_of us
-subcommand_of (Unknown flag value ∷ us) = subcommand_of us
+subcommand_of (u ∷ us) = subcommand_of us

@@ -1,24 +1,27 @@
 //! The rules that are checked before the one on a missing subcommand. They are checked in order,
 //! and the first that is broken gives the error.
 
-ghost use Rattle.std.specs.Prelude.{◌≡◌, IfOk, option_map};
+ghost use Rattle.std.specs.Prelude.{◌≡◌, ◌||◌, [], IfOk, option_and_then, option_map};
+ghost use Rattle.std.specs.List.{find};
+ghost use Rattle.std.specs.Option.{unwrap_or};
 ghost use Rattle.hack_features.specs.Feature.{groups_of};
 ghost use Rattle.hack_base.specs.Names.{names_of, optional_text_ref};
 ghost use Rattle.hack_rules.specs.PassedWords.{leading_of};
 ghost use Rattle.hack_rules.specs.Uses.{views, is_given, subcommand_of};
 ghost use Rattle.hack_rules.specs.Values.{value_given};
-ghost use Rattle.hack_rules.specs.AskedFields.{coloring_asked, depth_asked};
-ghost use Rattle.hack_rules.specs.CliFaults.{Checks};
-ghost use Rattle.hack_rules.specs.CliValues.{depth_fault};
+ghost use Rattle.hack_rules.specs.AskedFields.{coloring_asked, number_asked};
+ghost use Rattle.hack_rules.specs.CliFaults.{Checks, ClashWord, Number};
+ghost use Rattle.hack_rules.specs.CliValues.{unless_read};
+ghost use Rattle.hack_base.specs.Numbers.{number_of};
 ghost use Rattle.hack_rules.specs.ListsView.{listed_view};
-ghost use Rattle.hack_rules.specs.Rules.{needs as needs_rule, first_of, of_value};
-ghost use Rattle.hack_rules.specs.EarlyRules.{is_in_group, is_optional};
-ghost use Rattle.hack_rules.specs.EarlyRules.{color_rule, unknown_rule, each_rules, powerset_rules};
-ghost use Rattle.hack_rules.specs.EarlyRules.{single_rule, single_rules, subcommand_rule};
-ghost use Rattle.hack_rules.specs.EarlyRules.{cargo_rule};
+ghost use Rattle.hack_rules.specs.Rules.{needs as needs_rule, first_of, value_rule, is_among};
+ghost use Rattle.hack_rules.specs.EarlyRules.{is_in_group};
+ghost use Rattle.hack_rules.specs.EarlyRules.{color_rule, unknown_rule, each_rules};
+ghost use Rattle.hack_rules.specs.EarlyRules.{single_rule, subcommand_rule};
+ghost use Rattle.hack_rules.specs.EarlyRules.{cargo_rule, without_dev_deps as dev_deps_option};
 ghost use Rattle.hack_rules.specs.EarlyRules.{is_target_flag as target_flag};
-ghost use Rattle.hack_rules.specs.EarlyRules.{is_target_name as target_name, first_target_word};
-ghost use Rattle.hack_rules.specs.EarlyRules.{target_rule, include_rules, pair_rules};
+ghost use Rattle.hack_rules.specs.EarlyRules.{is_target_name as target_name};
+ghost use Rattle.hack_rules.specs.EarlyRules.{include_rules, pair_rules};
 ghost use Rattle.hack_rules.specs.EarlyRules.{option_naming as naming_option, excluded_rule};
 ghost use Rattle.hack_rules.specs.EarlyRules.{early_rules};
 ghost use Rattle.hack_rules.specs.EarlyRules.{together_rules, rules_before, is_each as each};
@@ -123,20 +126,11 @@ fn needs_powerset(option: Opt, uses: &[Use]) -> Result<(), CliFault>
     needs(given(option, uses), option, Beside::Powerset, there)
 }
 
-/// Options that need `--feature-powerset`.
-fn beside_powerset(uses: &[Use]) -> Result<(), CliFault>
-    ensures { Checks result (first_of (powerset_rules (views uses.now))) }
-{
-    needs_powerset(Opt::Depth, uses)?;
-    needs_powerset(Opt::GroupFeatures, uses)?;
-    needs_powerset(Opt::MutuallyExclusiveFeatures, uses)?;
-    needs_powerset(Opt::AtLeastOneOf, uses)
-}
-
 /// The depth, where one is given.
 fn depth(alloc: Global, uses: &[Use]) -> Result<Option<usize>, CliFault>
-    ensures rule { Checks result (of_value depth_fault (value_given Opt.Depth (views uses.now))) }
-    ensures value { IfOk result (λ depth. depth ≡ depth_asked (views uses.now)) }
+    ensures rule { Checks result (value_rule Opt.Depth
+        (λ text. unless_read (Number text) (number_of 64 text)) (views uses.now)) }
+    ensures value { IfOk result (λ depth. depth ≡ number_asked Opt.Depth (views uses.now)) }
 {
     match value(Opt::Depth, uses) {
         Some(text) => Ok(Some(values::depth(alloc, text.as_str())?)),
@@ -149,12 +143,7 @@ fn lists_two(option: Opt, uses: &[Use]) -> Result<(), CliFault>
     ensures { Checks result (single_rule option (views uses.now)) }
 {
     for one in uses {
-        if let Use::Known {
-            option: used,
-            value: Some(value),
-            ..
-        } = one
-            && used.is(option)
+        if let Some(value) = one.value_of(option)
             && !has_separator(value.as_str())
         {
             return Err(CliFault::Single { option });
@@ -163,12 +152,17 @@ fn lists_two(option: Opt, uses: &[Use]) -> Result<(), CliFault>
     Ok(())
 }
 
-fn groups_list_two(uses: &[Use]) -> Result<(), CliFault>
-    ensures { Checks result (first_of (single_rules (views uses.now))) }
+/// The option that leaves dev-dependencies out, if one is given.
+fn without_dev_deps(uses: &[Use]) -> Option<Opt>
+    ensures { result ≡ dev_deps_option (views uses.now) }
 {
-    lists_two(Opt::GroupFeatures, uses)?;
-    lists_two(Opt::MutuallyExclusiveFeatures, uses)?;
-    lists_two(Opt::AtLeastOneOf, uses)
+    if given(Opt::RemoveDevDeps, uses) {
+        Some(Opt::RemoveDevDeps)
+    } else if given(Opt::NoDevDeps, uses) {
+        Some(Opt::NoDevDeps)
+    } else {
+        None
+    }
 }
 
 /// Subcommands that exclude some options, and `install`, which is refused.
@@ -179,15 +173,9 @@ fn beside_subcommand(uses: &[Use]) -> Result<(), CliFault>
         return Ok(());
     };
     if word.as_str() == "test" || word.as_str() == "bench" {
-        if given(Opt::RemoveDevDeps, uses) {
+        if let Some(option) = without_dev_deps(uses) {
             return Err(CliFault::BesideSubcommand {
-                option: Opt::RemoveDevDeps,
-                subcommand: word.clone()?,
-            });
-        }
-        if given(Opt::NoDevDeps, uses) {
-            return Err(CliFault::BesideSubcommand {
-                option: Opt::NoDevDeps,
+                option,
                 subcommand: word.clone()?,
             });
         }
@@ -231,7 +219,7 @@ fn is_target_name(word: &str) -> bool
 /// The first argument for cargo that selects targets which need dev-dependencies.
 fn target_choice(leading: &[String]) -> Option<&String>
     ensures { optional_text_ref result
-        ≡ first_target_word (names_of leading.now) }
+        ≡ find (λ w. target_flag w || target_name w) (names_of leading.now) }
 {
     for word in leading {
         if is_target_flag(word.as_str()) || is_target_name(word.as_str()) {
@@ -243,21 +231,16 @@ fn target_choice(leading: &[String]) -> Option<&String>
 
 /// Dev-dependencies can't be left out beside an argument that selects targets which need them.
 fn beside_targets(leading: &[String], uses: &[Use]) -> Result<(), CliFault>
-    ensures { Checks result (target_rule (views uses.now)
-        (first_target_word (names_of leading.now))) }
+    ensures { Checks result (option_and_then
+        (λ word. option_map (λ option. ClashWord option word) (dev_deps_option (views uses.now)))
+        (find (λ w. target_flag w || target_name w) (names_of leading.now))) }
 {
     let Some(word) = target_choice(leading) else {
         return Ok(());
     };
-    if given(Opt::RemoveDevDeps, uses) {
+    if let Some(option) = without_dev_deps(uses) {
         return Err(CliFault::ClashWord {
-            option: Opt::RemoveDevDeps,
-            word: word.clone()?,
-        });
-    }
-    if given(Opt::NoDevDeps, uses) {
-        return Err(CliFault::ClashWord {
-            option: Opt::NoDevDeps,
+            option,
             word: word.clone()?,
         });
     }
@@ -301,8 +284,8 @@ fn check_pairs(uses: &[Use]) -> Result<(), CliFault>
 
 /// Whether the name is one of the optional dependencies, where these are named.
 fn optional_has(names: Option<&Vec<String>>, name: &str) -> bool
-    ensures { result ≡ is_optional (option_map
-        (λ names. names_of names.now.items) names.entry) name.now }
+    ensures { result ≡ is_among (unwrap_or (option_map
+        (λ names. names_of names.now.items) names.entry) []) name.now }
 {
     match names {
         Some(names) => has(names.as_slice(), name),
@@ -357,7 +340,9 @@ fn check_together(
     ensures { Checks result (first_of
         (together_rules behavior (listed_view lists.now) (views uses.now))) }
 {
-    groups_list_two(uses)?;
+    lists_two(Opt::GroupFeatures, uses)?;
+    lists_two(Opt::MutuallyExclusiveFeatures, uses)?;
+    lists_two(Opt::AtLeastOneOf, uses)?;
     beside_subcommand(uses)?;
     beside_cargo(behavior, Opt::EachFeature, uses)?;
     beside_cargo(behavior, Opt::FeaturePowerset, uses)?;
@@ -387,12 +372,15 @@ fn check_lists(
     ensures coloring { IfOk result (λ early. early.coloring
         ≡ coloring_asked (optional_text_ref term_color.entry)
         (views uses.now)) }
-    ensures depth { IfOk result (λ early. early.depth ≡ depth_asked (views uses.now)) }
+    ensures depth { IfOk result (λ early. early.depth ≡ number_asked Opt.Depth (views uses.now)) }
 {
     let coloring = coloring(term_color, uses)?;
     beside_lists(lists, uses)?;
     beside_each(lists, uses)?;
-    beside_powerset(uses)?;
+    needs_powerset(Opt::Depth, uses)?;
+    needs_powerset(Opt::GroupFeatures, uses)?;
+    needs_powerset(Opt::MutuallyExclusiveFeatures, uses)?;
+    needs_powerset(Opt::AtLeastOneOf, uses)?;
     let depth = depth(alloc, uses)?;
     Ok(Early { coloring, depth })
 }
@@ -413,7 +401,7 @@ pub fn check(
     ensures coloring { IfOk result (λ early. early.coloring
         ≡ coloring_asked (optional_text_ref term_color.entry)
         (views uses.now)) }
-    ensures depth { IfOk result (λ early. early.depth ≡ depth_asked (views uses.now)) }
+    ensures depth { IfOk result (λ early. early.depth ≡ number_asked Opt.Depth (views uses.now)) }
 {
     let early = check_lists(alloc, term_color, lists, uses)?;
     check_together(behavior, lists, leading, uses)?;

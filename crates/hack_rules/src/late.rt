@@ -1,25 +1,28 @@
 //! The rules that are checked after the one on a missing subcommand: on ranges of versions, log
 //! groups, pieces of a plan, lifted groups and the strength of a sample.
 
-ghost use Rattle.std.specs.Prelude.{◌≡◌, IfOk, IfSome, option_map, option_and_then};
+ghost use Rattle.std.specs.Prelude.{◌≡◌, [], ◌∷◌, IfOk, IfSome, option_map, option_and_then};
 ghost use Rattle.std.specs.List.{list_any};
-ghost use Rattle.hack_rules.specs.Uses.{view, views};
+ghost use Rattle.std.specs.Result.{result_err};
+ghost use Rattle.hack_base.specs.Numbers.{number_of};
+ghost use Rattle.hack_term.specs.Groups.{log_group_of};
+ghost use Rattle.hack_versions.specs.Readings.{range_of};
+ghost use Rattle.hack_rules.specs.Uses.{is_given, view, views};
 ghost use Rattle.hack_rules.specs.Values.{value_given};
 ghost use Rattle.hack_rules.specs.AskedFields.{read_range, range_asked, is_old_asked, step_asked};
 ghost use Rattle.hack_rules.specs.AskedFields.{is_message_format as message_format};
 ghost use Rattle.hack_rules.specs.AskedFields.{log_group_asked};
-ghost use Rattle.hack_rules.specs.AskedFields.{piece_asked, kind_asked, strength_asked};
-ghost use Rattle.hack_rules.specs.CliFaults.{Checks};
+ghost use Rattle.hack_rules.specs.AskedFields.{piece_asked, kind_asked, number_asked};
+ghost use Rattle.hack_rules.specs.CliFaults.{Checks, LogGroup as WrongLogGroup, Range};
 ghost use Rattle.hack_rules.specs.CliGroups.{AreLifts};
 ghost use Rattle.hack_rules.specs.CliLists.{lifts_given};
-ghost use Rattle.hack_rules.specs.CliValues.{range_fault, step_fault, log_group_fault};
-ghost use Rattle.hack_rules.specs.CliValues.{strength_fault};
+ghost use Rattle.hack_rules.specs.CliValues.{unless_counted, unless_read};
 ghost use Rattle.hack_rules.specs.LateView.{IsLate};
 ghost use Rattle.hack_rules.specs.ListsView.{listed_view};
-ghost use Rattle.hack_rules.specs.Rules.{first_of, of_value};
+ghost use Rattle.hack_rules.specs.Rules.{first_of, value_rule, needs as needs_rule};
 ghost use Rattle.hack_rules.specs.LateRules.{rustup_rule, is_ranged as ranged, range_rules};
 ghost use Rattle.hack_rules.specs.LateRules.{piece_rules};
-ghost use Rattle.hack_rules.specs.LateRules.{lift_rules, strength_rules, rules_after};
+ghost use Rattle.hack_rules.specs.LateRules.{lift_rules, rules_after};
 
 use crate::checks::{clash, needs};
 use crate::fault::{Beside, CliFault};
@@ -67,8 +70,8 @@ pub struct Versions {
 
 /// The given range, and whether it has the old form.
 fn said_range(alloc: Global, uses: &[Use]) -> Result<Option<(VersionRange, bool)>, CliFault>
-    ensures rule { Checks result (of_value range_fault
-        (value_given Opt.VersionRange (views uses.now))) }
+    ensures rule { Checks result (value_rule Opt.VersionRange
+        (λ text. option_map Range (result_err (range_of text))) (views uses.now)) }
     ensures value { IfOk result (λ said.
         option_map (λ read. record { range = read.0; old = read.1 }) said
         ≡ option_and_then read_range (value_given Opt.VersionRange (views uses.now))) }
@@ -81,8 +84,8 @@ fn said_range(alloc: Global, uses: &[Use]) -> Result<Option<(VersionRange, bool)
 
 /// The step between versions.
 fn step(alloc: Global, uses: &[Use]) -> Result<u16, CliFault>
-    ensures rule { Checks result (of_value step_fault
-        (value_given Opt.VersionStep (views uses.now))) }
+    ensures rule { Checks result (value_rule Opt.VersionStep
+        (λ text. unless_counted Opt.VersionStep text (number_of 16 text)) (views uses.now)) }
     ensures value { IfOk result (λ step. step ≡ step_asked (views uses.now)) }
 {
     match value(Opt::VersionStep, uses) {
@@ -150,8 +153,8 @@ fn formats_messages(uses: &[Use]) -> bool
 
 /// How the lines of a run are grouped.
 fn log_group(alloc: Global, github_actions: bool, uses: &[Use]) -> Result<LogGroup, CliFault>
-    ensures rule { Checks result (of_value log_group_fault
-        (value_given Opt.LogGroup (views uses.now))) }
+    ensures rule { Checks result (value_rule Opt.LogGroup
+        (λ text. unless_read (WrongLogGroup text) (log_group_of text)) (views uses.now)) }
     ensures value { IfOk result (λ group. group ≡ log_group_asked github_actions (views uses.now)) }
 {
     let group = match value(Opt::LogGroup, uses) {
@@ -208,9 +211,9 @@ fn lifts(alloc: Global, lists: &Lists, uses: &[Use]) -> Result<Vec<(String, Feat
 
 /// The number that the option gives.
 fn given_strength(alloc: Global, uses: &[Use]) -> Result<Option<usize>, CliFault>
-    ensures rule { Checks result (of_value strength_fault
-        (value_given Opt.Strength (views uses.now))) }
-    ensures value { IfOk result (λ strength. strength ≡ strength_asked (views uses.now)) }
+    ensures rule { Checks result (value_rule Opt.Strength
+        (λ text. unless_counted Opt.Strength text (number_of 64 text)) (views uses.now)) }
+    ensures value { IfOk result (λ strength. strength ≡ number_asked Opt.Strength (views uses.now)) }
 {
     match value(Opt::Strength, uses) {
         Some(text) => Ok(Some(values::strength(alloc, text.as_str())?)),
@@ -220,8 +223,13 @@ fn given_strength(alloc: Global, uses: &[Use]) -> Result<Option<usize>, CliFault
 
 /// The strength of a sample, which needs a powerset.
 fn strength(alloc: Global, uses: &[Use]) -> Result<Option<usize>, CliFault>
-    ensures rules { Checks result (first_of (strength_rules (views uses.now))) }
-    ensures value { IfOk result (λ strength. strength ≡ strength_asked (views uses.now)) }
+    ensures rules { Checks result (first_of
+        (needs_rule (is_given Opt.Strength (views uses.now)) Opt.Strength Beside.Powerset
+        (is_given Opt.FeaturePowerset (views uses.now))
+        ∷ value_rule Opt.Strength (λ text. unless_counted Opt.Strength text (number_of 64 text))
+        (views uses.now)
+        ∷ [])) }
+    ensures value { IfOk result (λ strength. strength ≡ number_asked Opt.Strength (views uses.now)) }
 {
     let option = Opt::Strength;
     let there = given(Opt::FeaturePowerset, uses);

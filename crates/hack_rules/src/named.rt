@@ -1,20 +1,20 @@
 //! The lists that the uses of options give.
 
-ghost use Rattle.std.specs.Prelude.{◌≡◌, [], IfOk, Some, map, string_bytes};
-ghost use Rattle.std.specs.List.{filter_map, list_any};
-ghost use Rattle.std.specs.Option.{option_map};
+ghost use Rattle.std.specs.Prelude.{◌≡◌, [], not, IfOk, Some, map, string_bytes};
+ghost use Rattle.std.specs.List.{AllZip, filter_map, find, list_any};
+ghost use Rattle.std.specs.Option.{is_none, option_map, option_map_or, option_or};
 ghost use Rattle.hack_base.specs.Names.{names_of, optional_text_ref};
 ghost use Rattle.hack_rules.specs.Uses.{views};
 ghost use Rattle.hack_rules.specs.Values.{values_given};
 ghost use Rattle.hack_rules.specs.CliFaults.{Checks, LiftForm, LiftGroup};
-ghost use Rattle.hack_rules.specs.CliLists.{names_given, names_or_none, optional_given, lift_of};
-ghost use Rattle.hack_rules.specs.CliLists.{lifts_given, is_lift, lifts_one_of, same_names};
-ghost use Rattle.hack_rules.specs.CliLists.{first_failing, first_fault_of, lift_form, lift_group};
+ghost use Rattle.hack_rules.specs.CliLists.{names_given, optional_given, lift_of};
+ghost use Rattle.hack_rules.specs.CliLists.{lifts_given, lifts_one_of, same_names};
+ghost use Rattle.hack_rules.specs.CliLists.{lift_form, lift_group};
 ghost use Rattle.hack_rules.specs.CliTargets.{AreRising, HaveSameTexts};
 ghost use Rattle.hack_rules.specs.Internal.{put_all};
-ghost use Rattle.hack_features.specs.Feature.{IsGroup, group_of};
-ghost use Rattle.hack_base.specs.Lists.{group_names};
-ghost use Rattle.hack_rules.specs.CliGroups.{AreGroupsOf, AreNormalsOf, AreLifts};
+ghost use Rattle.hack_features.specs.Feature.{IsGroup, IsNormal, group_of};
+ghost use Rattle.hack_base.specs.Lists.{group_names, without_quotes};
+ghost use Rattle.hack_rules.specs.CliGroups.{AreGroupsOf, AreLifts};
 ghost use Rattle.hack_rules.specs.Internal.{AreReadAs};
 
 use crate::fault::CliFault;
@@ -41,7 +41,8 @@ pub fn names(alloc: Global, option: Opt, uses: &[Use]) -> Result<Vec<String>, Al
 /// The names of a value that may be left out.
 fn names_or_empty(alloc: Global, text: Option<&String>) -> Result<Vec<String>, AllocError>
     ensures { IfOk result (λ names. map string_bytes names.items
-        ≡ names_or_none (optional_text_ref text.entry)) }
+        ≡ option_map_or (λ text. group_names (without_quotes text))
+        (optional_text_ref text.entry) []) }
 {
     match text {
         Some(text) => split_group(alloc, unquoted(text.as_str())),
@@ -85,7 +86,7 @@ pub fn groups(alloc: Global, option: Opt, uses: &[Use]) -> Result<Vec<Feature>, 
 
 /// A feature for each name.
 pub fn normals(alloc: Global, names: &[String]) -> Result<Vec<Feature>, AllocError>
-    ensures { IfOk result (λ features. AreNormalsOf (names_of names.now) features.items) }
+    ensures { IfOk result (λ features. AllZip IsNormal (names_of names.now) features.items) }
 {
     let mut features = Vec::new(alloc);
     for name in names {
@@ -147,7 +148,7 @@ fn lifts_of(alloc: Global, texts: &[String]) -> Result<Vec<(String, Feature)>, C
         AreLifts (filter_map lift_of (map string_bytes texts.now)) lifts.items) }
     ensures each { IfOk result (λ lifts. AreReadAs texts.now lifts.items) }
     ensures checks { Checks result (option_map LiftForm
-        (first_failing is_lift (map string_bytes texts.now))) }
+        (find (λ text. is_none (lift_of text)) (map string_bytes texts.now))) }
 {
     let mut lifts = Vec::new(alloc);
     for text in texts {
@@ -190,7 +191,8 @@ fn check_groups(
 ) -> Result<(), CliFault>
     requires { AreReadAs texts.now lifts.now }
     ensures { Checks result (option_map LiftGroup
-        (first_failing (lifts_one_of (map group_of groups.now)) (map string_bytes texts.now))) }
+        (find (λ text. not (lifts_one_of (map group_of groups.now) text))
+        (map string_bytes texts.now))) }
 {
     for (text, (_, group)) in texts.iter().zip(lifts) {
         if !has_names(groups, group.as_group()) {
@@ -210,7 +212,7 @@ pub fn lifts(
     uses: &[Use],
 ) -> Result<Vec<(String, Feature)>, CliFault>
     ensures lifts { IfOk result (λ lifts. AreLifts (lifts_given (views uses.now)) lifts.items) }
-    ensures checks { Checks result (first_fault_of (lift_form (views uses.now))
+    ensures checks { Checks result (option_or (lift_form (views uses.now))
         (lift_group (map group_of exclusive.now) (views uses.now))) }
 {
     let texts = values(alloc, Opt::AllowTogether, uses)?;

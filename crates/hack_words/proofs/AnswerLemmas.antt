@@ -1,5 +1,6 @@
 -- What a command line leads to once its uses of options are judged.
 use Rattle.std.proofs.Common.{◌≡◌, ℕ, List, Option, Some, None, Err, IfSome, MatchOption, ap, refl, sym, subst, ◌∙◌}
+use Rattle.std.specs.Option.{unwrap_or}
 use Rattle.hack_rules.specs.declared.uses.behavior.WorkspaceBehavior.{WorkspaceBehavior}
 use Rattle.hack_rules.specs.Faults.{ArgumentFault as WrongCut, argument_fault_of as cut_fault_of}
 use Rattle.hack_rules.specs.declared.uses.fault.CutFault.{CutFault}
@@ -16,7 +17,7 @@ use Rattle.hack_rules.specs.declared.fault.CliFault.{CliFault}
 use Rattle.hack_rules.specs.declared.fault.CliFault.TheVariants as fault
 use Rattle.hack_words.specs.Start.{Start, Refuses as Begun, Cuts, start_of}
 use Rattle.hack_rules.proofs.One.{ends-one}
-use Rattle.hack_rules.specs.Rules.{Verdict, Refused, refused_by, verdict_or}
+use Rattle.hack_rules.specs.Rules.{Verdict, Refused, refused_by}
 use Rattle.hack_words.specs.declared.cli.parse.Parsed.{Parsed}
 use Rattle.hack_words.specs.declared.cli.parse.Parsed.TheVariants as code
 
@@ -53,8 +54,8 @@ pub fault-refuses : (around : Around) (behavior : WorkspaceBehavior) (cut traili
 fault-refuses around behavior cut trailing us e ends h = judged-refuses around behavior cut trailing us (e ≡ fault.Memory) (fault_of e) ends h
 
 -- where no earlier rule is broken, a refusal for a missing subcommand is the verdict
-pub bare-refused : (o : Option Fault) (Q : Type 0) (early : Option Fault) (bare : Option Verdict) (after : Verdict) → early ≡ None → MatchOption o Q (λ told. bare ≡ Some (Refused told)) → MatchOption o Q (λ told. refused_by early (verdict_or bare after) ≡ Refused told)
-bare-refused (Some told) Q early bare after e h = ap (λ x. refused_by x (verdict_or bare after)) e ∙ ap (λ b. refused_by None (verdict_or b after)) h
+pub bare-refused : (o : Option Fault) (Q : Type 0) (early : Option Fault) (bare : Option Verdict) (after : Verdict) → early ≡ None → MatchOption o Q (λ told. bare ≡ Some (Refused told)) → MatchOption o Q (λ told. refused_by early (unwrap_or bare after) ≡ Refused told)
+bare-refused (Some told) Q early bare after e h = ap (λ x. refused_by x (unwrap_or bare after)) e ∙ ap (λ b. refused_by None (unwrap_or b after)) h
 bare-refused None Q early bare after e h = h
 
 -- a command line has one outcome

@@ -1,13 +1,15 @@
 -- What the fields of `Args` hold, one by one.
-use Rattle.std.specs.Prelude.{ℕ, ◌≡◌, List, Bool, Option, IfSome, option_map}
+use Rattle.std.specs.Prelude.{ℕ, ◌≡◌, ◌||◌, ◌++◌, List, Bool, Option, IfSome, option_map}
+use Rattle.std.specs.List.{AllZip}
 use Rattle.hack_base.specs.Names.{names_of, optional_text}
+use Rattle.hack_features.specs.Feature.{IsNormal}
 use Rattle.hack_options.specs.declared.opt.Opt.TheVariants as opt
 use Rattle.hack_rules.specs.declared.uses.behavior.WorkspaceBehavior.{WorkspaceBehavior}
 use Rattle.hack_rules.specs.Uses.{Use, is_given, subcommand_of}
 use Rattle.hack_rules.specs.Values.{value_given, values_given}
 use Rattle.hack_words.specs.declared.cli.args.Args.{Args}
-use Rattle.hack_rules.specs.AskedFields.{coloring_asked, depth_asked, strength_asked, range_asked, step_asked, log_group_asked, piece_asked, kind_asked, leading_asked, excluded_asked, excludes_no_default, excludes_all, ignores_private}
-use Rattle.hack_rules.specs.CliGroups.{AreGroupsOf, AreNormalsOf, AreLifts}
+use Rattle.hack_rules.specs.AskedFields.{coloring_asked, number_asked, range_asked, step_asked, log_group_asked, piece_asked, kind_asked, leading_asked, excludes_no_default, excludes_all}
+use Rattle.hack_rules.specs.CliGroups.{AreGroupsOf, AreLifts}
 use Rattle.hack_rules.specs.CliLists.{names_given, optional_given, lifts_given}
 use Rattle.hack_rules.specs.ListedFeatures.{listed_by}
 use Rattle.hack_rules.specs.CliTargets.{AreRising, HaveSameTexts}
@@ -22,7 +24,7 @@ pub record HasFlags (us : List Use) (args : Args) : Type 0 where
   pub no_dev_deps : args.no_dev_deps ≡ is_given opt.NoDevDeps us
   pub remove_dev_deps : args.remove_dev_deps ≡ is_given opt.RemoveDevDeps us
   pub no_private : args.no_private ≡ is_given opt.NoPrivate us
-  pub ignore_private : args.ignore_private ≡ ignores_private us
+  pub ignore_private : args.ignore_private ≡ (is_given opt.IgnorePrivate us || is_given opt.NoPrivate us)
   pub ignore_unknown_features : args.ignore_unknown_features ≡ is_given opt.IgnoreUnknownFeatures us
   pub clean_per_run : args.clean_per_run ≡ is_given opt.CleanPerRun us
   pub clean_per_version : args.clean_per_version ≡ is_given opt.CleanPerVersion us
@@ -34,7 +36,7 @@ pub record HasFlags (us : List Use) (args : Args) : Type 0 where
   pub exclude_no_default_features : args.exclude_no_default_features ≡ excludes_no_default (listed_by us) us
   pub exclude_all_features : args.exclude_all_features ≡ excludes_all (listed_by us) us
 
--- the arguments for cargo, and the lists of texts
+-- the arguments for cargo, the lists of texts, and the features with their groups
 pub record HasTexts (behavior : WorkspaceBehavior) (us : List Use) (args : Args) : Type 0 where
   pub leading_args : names_of args.leading_args.items ≡ leading_asked behavior us
   pub subcommand : optional_text args.subcommand ≡ subcommand_of us
@@ -42,14 +44,12 @@ pub record HasTexts (behavior : WorkspaceBehavior) (us : List Use) (args : Args)
   pub packages : names_of args.«package».items ≡ values_given opt.Package us
   pub exclude : names_of args.exclude.items ≡ values_given opt.Exclude us
   pub features : names_of args.features.items ≡ names_given opt.Features us
-  pub exclude_features : names_of args.exclude_features.items ≡ excluded_asked us
+  pub exclude_features : names_of args.exclude_features.items
+      ≡ names_given opt.ExcludeFeatures us ++ names_given opt.Features us
   pub optional_deps : option_map (λ names. names_of names.items) args.optional_deps ≡ optional_given us
   pub target_rising : AreRising (names_of args.target.items)
   pub target_same : HaveSameTexts (names_of args.target.items) (values_given opt.Target us)
-
--- the features and their groups
-pub record HasFeatures (us : List Use) (args : Args) : Type 0 where
-  pub include_features : AreNormalsOf (names_given opt.IncludeFeatures us) args.include_features.items
+  pub include_features : AllZip IsNormal (names_given opt.IncludeFeatures us) args.include_features.items
   pub group_features : AreGroupsOf (values_given opt.GroupFeatures us) args.group_features.items
   pub mutually_exclusive_features : AreGroupsOf (values_given opt.MutuallyExclusiveFeatures us) args.mutually_exclusive_features.items
   pub at_least_one_of : AreGroupsOf (values_given opt.AtLeastOneOf us) args.at_least_one_of.items
@@ -59,18 +59,17 @@ pub record HasValues (term_color : Option (List ℕ)) (github_actions : Bool) (b
   pub trailing_args : names_of args.trailing_args.items ≡ trailing
   pub workspace_behavior : args.workspace_behavior ≡ behavior
   pub coloring : args.coloring ≡ coloring_asked term_color us
-  pub depth : args.depth ≡ depth_asked us
+  pub depth : args.depth ≡ number_asked opt.Depth us
   pub version_range : args.version_range ≡ range_asked us
   pub version_step : args.version_step ≡ step_asked us
   pub log_group : args.log_group ≡ log_group_asked github_actions us
   pub piece : option_map (λ p. record { piece = p.piece; count = p.count }) args.partition ≡ piece_asked us
   pub kind : IfSome args.partition (λ p. p.kind ≡ kind_asked us)
   pub allow_together : AreLifts (lifts_given us) args.allow_together.items
-  pub strength : args.strength ≡ strength_asked us
+  pub strength : args.strength ≡ number_asked opt.Strength us
 
 -- all fields
 pub record IsAsked (term_color : Option (List ℕ)) (github_actions : Bool) (behavior : WorkspaceBehavior) (trailing : List (List ℕ)) (us : List Use) (args : Args) : Type 0 where
   pub flags : HasFlags us args
   pub texts : HasTexts behavior us args
-  pub features : HasFeatures us args
   pub values : HasValues term_color github_actions behavior trailing us args

@@ -1,6 +1,7 @@
 -- The outcome of a command line in its environment: an error, a text to print, cargo's list, or
 -- arguments.
-use Rattle.std.specs.Prelude.{ℕ, ◌≡◌, ◌++◌, ◌&&◌, ◌||◌, List, [], ◌∷◌, Bool, true, false, Option, Some, None, codes, if◌then◌else◌}
+use Rattle.std.specs.Prelude.{ℕ, ◌≡◌, ◌++◌, ◌&&◌, ◌||◌, List, [], Bool, true, false, Option, codes}
+use Rattle.std.specs.Option.{option_map_or}
 use Rattle.hack_options.specs.declared.opt.Opt.TheVariants as opt
 use Rattle.hack_rules.specs.declared.uses.behavior.WorkspaceBehavior.{WorkspaceBehavior}
 use Rattle.hack_rules.specs.declared.uses.cut.Print.{Print}
@@ -8,12 +9,11 @@ use Rattle.hack_rules.specs.UseReading.{Reading, Met, End, Prints as Questions, 
 use Rattle.hack_rules.specs.Uses.{Use, is_given}
 use Rattle.hack_rules.specs.Values.{value_given}
 use Rattle.hack_base.specs.Notes.{Note, note_if}
-use Rattle.hack_versions.specs.Readings.{Sides, at_dots}
-use Rattle.hack_base.specs.declared.notice.NoticeKind.{NoticeKind}
+use Rattle.hack_versions.specs.Readings.{at_dots}
 use Rattle.hack_base.specs.declared.notice.NoticeKind.TheVariants.{Info, Warn, QuietWarn}
 use Rattle.hack_rules.specs.AskedFields.{is_old_asked}
 use Rattle.hack_rules.specs.CliFaults.{Fault, Cut}
-use Rattle.hack_rules.specs.ListedFeatures.{Listed, listed_by}
+use Rattle.hack_rules.specs.ListedFeatures.{listed_by}
 use Rattle.hack_rules.specs.Rules.{Verdict, Accepted, Lists, Refused, is_nonempty}
 use Rattle.hack_rules.specs.LateRules.{is_ranged}
 use Rattle.hack_rules.specs.Verdicts.{verdict_of}
@@ -64,30 +64,21 @@ ComesTo around words outcome = ComesFrom around (start_of words) outcome
 abbrev pub unknown_words : List ℕ
 unknown_words = codes "--ignore-unknown-features for --include-features is not fully implemented and may not work as intended"
 
--- unknown features are to be ignored where they can't be
-abbrev pub in_vain : Listed → List Use → Bool
-in_vain l us = is_given opt.IgnoreUnknownFeatures us && is_nonempty l.includes
-
--- the notice that unknown features are not ignored everywhere
+-- the notice that unknown features are not ignored everywhere, where they are to be ignored
 abbrev pub unknown_notes : List Use → List Note
-unknown_notes us = note_if (in_vain (listed_by us) us) QuietWarn unknown_words
-
--- the text of the notice on rustup
-abbrev pub rustup_words : List ℕ → List ℕ
-rustup_words why = codes "unable to determine rustup version; assuming latest stable rustup: " ++ why
+unknown_notes us =
+    note_if (is_given opt.IgnoreUnknownFeatures us && is_nonempty (listed_by us).includes)
+    QuietWarn unknown_words
 
 -- the notice where a range is given and rustup's version isn't known
 abbrev pub rustup_notes : Bool → Option (List ℕ) → List Note
-rustup_notes ranged None = []
-rustup_notes ranged (Some why) = note_if ranged Warn (rustup_words why)
+rustup_notes ranged unknown =
+    option_map_or (λ why. note_if ranged Warn
+    (codes "unable to determine rustup version; assuming latest stable rustup: " ++ why)) unknown []
 
 -- a range rewritten in its new form
 abbrev pub new_form : List ℕ → List ℕ
-new_form text = of_sides (at_dots text)
-  where
-    of_sides : Option Sides → List ℕ
-    of_sides None = text
-    of_sides (Some sides) = sides.front ++ codes "..=" ++ sides.back
+new_form text = option_map_or (λ sides. sides.front ++ codes "..=" ++ sides.back) (at_dots text) text
 
 -- the text of the notice on a range in the old form
 abbrev pub old_words : List ℕ → List ℕ
@@ -95,8 +86,7 @@ old_words newer = codes "using `..` for inclusive range is deprecated; consider 
 
 -- the notice where a range is in the old form
 abbrev pub old_notes : Bool → Option (List ℕ) → List Note
-old_notes old None = []
-old_notes old (Some text) = note_if old Warn (old_words (new_form text))
+old_notes old range = option_map_or (λ text. note_if old Warn (old_words (new_form text))) range []
 
 -- the options that edit manifests while commands run
 abbrev pub editing_words : Bool → Bool → List ℕ
@@ -104,22 +94,16 @@ editing_words false no_private = codes "--no-private modifies"
 editing_words true false = codes "--no-dev-deps modifies"
 editing_words true true = codes "--no-dev-deps and --no-private modify"
 
--- the text of the notice on edits
-abbrev pub edits_words : List ℕ → List ℕ
-edits_words flags = flags ++ codes " real `Cargo.toml` while cargo-hack is running and restores it when finished"
-
 -- the notice where manifests are edited while commands run
 abbrev pub editing_notes : Bool → Bool → List Note
 editing_notes no_dev_deps no_private =
-    note_if (no_dev_deps || no_private) Info (edits_words (editing_words no_dev_deps no_private))
-
--- the notices after that on unknown features; `unknown` is why rustup's version isn't known
-abbrev pub later_notes : Option (List ℕ) → List Use → List Note
-later_notes unknown us =
-    rustup_notes (is_ranged us) unknown
-    ++ old_notes (is_old_asked us) (value_given opt.VersionRange us)
-    ++ editing_notes (is_given opt.NoDevDeps us) (is_given opt.NoPrivate us)
+    note_if (no_dev_deps || no_private) Info (editing_words no_dev_deps no_private
+    ++ codes " real `Cargo.toml` while cargo-hack is running and restores it when finished")
 
 -- the notices on an accepted command line, in order
 abbrev pub notes_on : Around → List Use → List Note
-notes_on around us = unknown_notes us ++ later_notes around.unknown us
+notes_on around us =
+    unknown_notes us
+    ++ rustup_notes (is_ranged us) around.unknown
+    ++ old_notes (is_old_asked us) (value_given opt.VersionRange us)
+    ++ editing_notes (is_given opt.NoDevDeps us) (is_given opt.NoPrivate us)

@@ -1,7 +1,7 @@
 -- What a call reads from its environment.
-use Rattle.std.specs.Prelude.{◌≡◌, ℕ, List, [], ◌∷◌, Bool, true, false, Option, Some, None, String, string_bytes, codes, map, bytes_eq, if◌then◌else◌}
+use Rattle.std.specs.Prelude.{◌≡◌, ℕ, List, [], ◌∷◌, Bool, Option, Some, None, String, string_bytes, codes, map, bytes_eq, if◌then◌else◌}
 use Rattle.hack_base.specs.Names.{optional_text}
-use Rattle.hack_rules.specs.AskedFields.{or_else, or_next}
+use Rattle.std.specs.Option.{is_some, option_or, unwrap_or}
 use Rattle.hack_words.specs.declared.cli.env.Env.{Env}
 
 -- an environment variable
@@ -21,16 +21,15 @@ variable name (v ∷ vars) = if bytes_eq v.name name then Some v.value else vari
 -- a variable of this name is set
 abbrev pub is_set : List ℕ → List Variable → Bool
 is_set name vars = is_some (variable name vars)
-  where
-    is_some : Option (List ℕ) → Bool
-    is_some (Some value) = true
-    is_some None = false
 
 -- the environment read from these variables and the current folder
 pub record IsEnv (vars : List Variable) (current_dir : List ℕ) (env : Env) : Type 0 where
   pub term_color : optional_text env.term_color ≡ variable (codes "CARGO_TERM_COLOR") vars
   pub github_actions : env.github_actions ≡ is_set (codes "GITHUB_ACTIONS") vars
   pub deny_warnings : env.deny_warnings ≡ is_set (codes "CARGO_HACK_DENY_WARNINGS") vars
-  pub cargo : string_bytes env.cargo ≡ or_else (codes "cargo") (or_next (variable (codes "CARGO_HACK_CARGO_SRC") vars) (variable (codes "CARGO") vars))
-  pub rustup : string_bytes env.rustup ≡ or_else (codes "rustup") (variable (codes "CARGO_HACK_RUSTUP") vars)
+  pub cargo : string_bytes env.cargo
+      ≡ unwrap_or (option_or (variable (codes "CARGO_HACK_CARGO_SRC") vars) (variable (codes "CARGO") vars))
+      (codes "cargo")
+  pub rustup : string_bytes env.rustup
+      ≡ unwrap_or (variable (codes "CARGO_HACK_RUSTUP") vars) (codes "rustup")
   pub folder : string_bytes env.current_dir ≡ current_dir

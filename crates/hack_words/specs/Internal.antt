@@ -3,7 +3,8 @@ use Rattle.std.specs.Prelude.{◌≡◌, ℕ, List, [], Result, Ok, Err, MatchOp
 use Rattle.hack_words.specs.declared.cli.args.Args.{Args}
 use Rattle.hack_words.specs.declared.cli.args.Read.{Read}
 use Rattle.hack_rules.specs.declared.uses.behavior.WorkspaceBehavior.{WorkspaceBehavior}
-use Rattle.hack_rules.specs.Faults.{ArgumentFault as CutFault, LongFlag, Repeat}
+use Rattle.hack_lexopt.specs.Cuts.{LongFlag}
+use Rattle.hack_rules.specs.Faults.{ArgumentFault as CutFault, Repeat}
 use Rattle.hack_rules.specs.UseReading.{ReadsUsesThen, End, Prints, Fails}
 use Rattle.hack_rules.specs.Uses.{Use, views}
 use Rattle.hack_rules.specs.declared.uses.cut.Cuts.{Cuts}
@@ -18,7 +19,7 @@ use Rattle.hack_words.specs.declared.cli.parse.Surroundings.{Surroundings}
 use Rattle.hack_words.specs.declared.cli.parse.Parsed.{Parsed as CodeParsed}
 use Rattle.hack_words.specs.declared.cli.parse.Parsed.TheVariants as code
 use Rattle.hack_words.specs.ArgsView.{IsAsked}
-use Rattle.hack_rules.specs.AskedFields.{coloring_asked, depth_asked}
+use Rattle.hack_rules.specs.AskedFields.{coloring_asked, number_asked}
 use Rattle.hack_words.specs.CommandLine.{Around, Listing, Parsed, outcome_of, unknown_notes, notes_on}
 use Rattle.hack_rules.specs.CliFaults.{fault_of, Cut}
 use Rattle.hack_rules.specs.LateView.{IsLate}
@@ -55,7 +56,8 @@ verdict_around behavior around us = verdict_of behavior around.term_color around
 abbrev pub Judges : Result Checked CliFault → WorkspaceBehavior → Around → List Use → Type 0
 Judges (Ok checked.List) behavior around us = verdict_around behavior around us ≡ Lists
 Judges (Ok (checked.Accepted early late)) behavior around us =
-    (verdict_around behavior around us ≡ Accepted) × (early.coloring ≡ coloring_asked around.term_color us) × (early.depth ≡ depth_asked us) × IsLate around.github_actions us late
+    (verdict_around behavior around us ≡ Accepted) × (early.coloring ≡ coloring_asked around.term_color us)
+    × (early.depth ≡ number_asked opt.Depth us) × IsLate around.github_actions us late
 Judges (Err e) behavior around us = MatchOption (fault_of e) (e ≡ fault.Memory) (λ told. verdict_around behavior around us ≡ Refused told)
 
 -- the answer to uses that are judged, with its notices

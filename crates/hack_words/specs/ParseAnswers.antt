@@ -4,7 +4,7 @@ use Rattle.hack_base.specs.Names.{optional_text}
 use Rattle.hack_rules.specs.declared.uses.behavior.WorkspaceBehavior.{WorkspaceBehavior}
 use Rattle.hack_rules.specs.Uses.{Use}
 use Rattle.hack_rules.specs.declared.uses.cut.Print.{Print}
-use Rattle.hack_rules.specs.declared.uses.cut.Print.TheVariants.{ShortHelp, LongHelp, Version}
+use Rattle.hack_rules.specs.declared.uses.cut.Print.TheVariants.{Version}
 use Rattle.hack_base.specs.Notes.{Note}
 use Rattle.hack_versions.specs.declared.rustup.Rustup.{Rustup}
 use Rattle.hack_words.specs.declared.cli.env.Env.{Env}
@@ -24,8 +24,7 @@ around_of env rustup = record { term_color = optional_text env.term_color; githu
 -- the text printed for the version; tests check those of the help
 abbrev pub IsText : Print → List ℕ → Type 0
 IsText Version text = text ≡ codes "cargo-hack 0.6.46\n"
-IsText ShortHelp text = Unit {0}
-IsText LongHelp text = Unit {0}
+IsText print text = Unit {0}
 
 -- the answer, with its notices, to a command line whose outcome `Comes` says
 abbrev pub AnswersCommandLine : Around → (CommandLineOutcome → Type 0) → CodeParsed → List Note → Type 0

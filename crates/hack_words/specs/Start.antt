@@ -4,7 +4,8 @@ use Rattle.std.specs.List.{filter, list_any, starts_with}
 use Rattle.hack_options.specs.declared.opt.Opt.TheVariants as opt
 use Rattle.hack_rules.specs.declared.uses.behavior.WorkspaceBehavior.{WorkspaceBehavior}
 use Rattle.hack_rules.specs.declared.uses.behavior.WorkspaceBehavior.TheVariants.{Cargo, Default}
-use Rattle.hack_rules.specs.Faults.{LongFlag, Repeat}
+use Rattle.hack_lexopt.specs.Cuts.{LongFlag}
+use Rattle.hack_rules.specs.Faults.{Repeat}
 use Rattle.hack_rules.specs.CliFaults.{Fault, NoWord, NotHack, Cut}
 
 -- the arguments before the first --
@@ -50,17 +51,11 @@ abbrev pub start_of : List (List ℕ) → Start
 start_of [] = Refuses NoWord
 start_of (w ∷ ws) = if bytes_eq w (codes "hack") then start_with (front_words ws) (trailing_words ws) else Refuses (NotHack w)
 
--- an option that asks for a range of versions
-abbrev pub is_range_option : List ℕ → Bool
-is_range_option w = bytes_eq w (codes "--rust-version") || bytes_eq w (codes "--version-range")
-
--- the same with the range attached
-abbrev pub has_range : List ℕ → Bool
-has_range w = starts_with nat_eq w (codes "--version-range=")
-
--- either of the two
+-- an option that asks for a range of versions, which may be attached
 abbrev pub is_range_word : List ℕ → Bool
-is_range_word w = is_range_option w || has_range w
+is_range_word w =
+    (bytes_eq w (codes "--rust-version") || bytes_eq w (codes "--version-range"))
+    || starts_with nat_eq w (codes "--version-range=")
 
 -- an argument before the first -- asks for a range of versions
 abbrev pub wants_rustup : List (List ℕ) → Bool

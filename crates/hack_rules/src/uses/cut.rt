@@ -39,6 +39,37 @@ pub enum Use {
     Word(String),
 }
 
+impl Use {
+    ghost use Rattle.std.specs.Prelude.{◌≡◌};
+    ghost use Rattle.hack_base.specs.Names.{optional_text_ref};
+    ghost use Rattle.hack_rules.specs.Uses.{is_use_of, view};
+    ghost use Rattle.hack_rules.specs.Values.{value_in};
+
+    /// Whether this is a use of the option.
+    pub(crate) fn is_of(&self, option: Opt) -> bool
+        ensures { result ≡ is_use_of option (view self.now) }
+    {
+        match self {
+            Use::Known { option: used, .. } => used.is(option),
+            _ => false,
+        }
+    }
+
+    /// The value that this use gives to the option.
+    pub(crate) fn value_of(&self, option: Opt) -> Option<&String>
+        ensures { optional_text_ref result ≡ value_in option (view self.now) }
+    {
+        match self {
+            Use::Known {
+                option: used,
+                value: Some(value),
+                ..
+            } if used.is(option) => Some(value),
+            _ => None,
+        }
+    }
+}
+
 /// What is read next.
 #[derive(Drop)]
 pub(crate) enum Step {
@@ -47,8 +78,11 @@ pub(crate) enum Step {
     Asks(Print),
 }
 
+/// What is read next, or the parse error that comes instead.
+pub(crate) type Found = Result<Step, CutFault>;
+
 /// The next use after the uses so far, or what comes instead of one.
-fn read(alloc: Global, parser: &mut Parser, uses: &[Use]) -> Result<Step, CutFault>
+fn read(alloc: Global, parser: &mut Parser, uses: &[Use]) -> Found
     ensures { ReturnsStep result (left_in parser.new)
         (read_of (views uses.now) (left_in parser.old)) }
 {

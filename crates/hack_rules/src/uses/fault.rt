@@ -1,8 +1,9 @@
 //! Options as they were written, and why arguments can't be parsed into them.
 
-ghost use Rattle.std.specs.Prelude.{◌≡◌, IfOk, Some, option_map};
-ghost use Rattle.hack_lexopt.specs.Parsers.{cut_in, flag_cut};
-ghost use Rattle.hack_rules.specs.Faults.{flag_seen, flag_in, cut_of_flag, flag_text};
+ghost use Rattle.std.specs.Prelude.{◌≡◌, IfOk, option_map};
+ghost use Rattle.hack_lexopt.specs.Cuts.{FlagCut, flag_text, option_in};
+ghost use Rattle.hack_lexopt.specs.Parsers.{cut_in, flag_in};
+ghost use Rattle.hack_rules.specs.Faults.{flag_seen};
 
 use hack_lexopt::{Arg, Flag};
 use hack_options::{Opt, Usage};
@@ -21,7 +22,7 @@ pub enum OwnedFlag {
 impl OwnedFlag {
     /// The option that an item is; none for a value.
     pub fn new(alloc: Global, arg: Arg<'_>) -> Result<Option<OwnedFlag>, AllocError>
-        ensures { IfOk result (λ flag. option_map flag_seen flag ≡ flag_in (cut_in arg.entry)) }
+        ensures { IfOk result (λ flag. option_map flag_seen flag ≡ option_in (cut_in arg.entry)) }
     {
         match arg {
             Arg::Long(name) => Ok(Some(OwnedFlag::Long(String::from_str(alloc, name)?))),
@@ -32,7 +33,7 @@ impl OwnedFlag {
 
     /// The option of a refused value.
     pub(crate) fn of(alloc: Global, option: Flag<'_>) -> Result<OwnedFlag, AllocError>
-        ensures { IfOk result (λ flag. Some (flag_seen flag) ≡ flag_in (flag_cut option.entry)) }
+        ensures { IfOk result (λ flag. flag_seen flag ≡ flag_in option.entry) }
     {
         match option {
             Flag::Long(name) => Ok(OwnedFlag::Long(String::from_str(alloc, name)?)),
@@ -42,7 +43,7 @@ impl OwnedFlag {
 
     /// The item that the option comes from.
     pub fn as_arg(&self) -> Arg<'_>
-        ensures { cut_in result ≡ cut_of_flag (flag_seen self.now) }
+        ensures { cut_in result ≡ FlagCut (flag_seen self.now) }
     {
         match self {
             OwnedFlag::Long(name) => Arg::Long(name.as_str()),

@@ -4,14 +4,13 @@ ghost use Rattle.std.specs.Prelude.{◌≡◌, ◌&&◌, IfOk, string_bytes};
 ghost use Rattle.hack_base.specs.Names.{optional_text};
 ghost use Rattle.hack_lexopt.specs.Parsers.{left_in};
 ghost use Rattle.hack_rules.specs.Faults.{flag_seen};
-ghost use Rattle.hack_lexopt.specs.Cuts.{value_of, after_value, optional_of, after_optional};
+ghost use Rattle.hack_lexopt.specs.Cuts.{value_of, optional_of};
 ghost use Rattle.hack_rules.specs.UseReading.{known_option as known_reading};
 ghost use Rattle.hack_rules.specs.Internal.{ReturnsStep};
 ghost use Rattle.hack_rules.specs.UseReading.{unknown_option as unknown_reading};
-ghost use Rattle.hack_rules.specs.UseReading.{other_name as other_reading};
+ghost use Rattle.hack_rules.specs.UseReading.{other as other_reading};
 ghost use Rattle.hack_rules.specs.UseReading.{option_with_value as value_reading};
-ghost use Rattle.hack_rules.specs.UseReading.{option_with_names as names_reading};
-ghost use Rattle.hack_rules.specs.UseReading.{with_names_or_none as optional_reading};
+ghost use Rattle.hack_rules.specs.UseReading.{option_or_value as optional_reading, unless_quote};
 ghost use Rattle.hack_rules.specs.UseReading.{by_kind as kind_reading};
 ghost use Rattle.hack_rules.specs.UseReading.{print_request as question_reading};
 ghost use Rattle.hack_rules.specs.UseReading.{is_lone_quote as quote, help_of, removed_of};
@@ -19,7 +18,7 @@ ghost use Rattle.hack_rules.specs.UseReading.{similar_of};
 ghost use Rattle.hack_options.specs.Table.{entry_of, meaning_of};
 ghost use Rattle.hack_rules.specs.Uses.{views, is_given, subcommand_of};
 
-use crate::uses::cut::Step;
+use crate::uses::cut::{Found, Step};
 use crate::uses::fault::{CutFault, OwnedFlag};
 use crate::uses::seen::{given, subcommand};
 use crate::uses::{Print, Use};
@@ -57,11 +56,7 @@ fn meet(option: Opt, flag: OwnedFlag, value: Option<String>) -> Step
 
 /// An option that is not in the table, and the rest of its argument. Cargo's `-n`, `-q` and `-r`
 /// take no value, so the letters after them are read as options.
-pub(crate) fn cut_unknown(
-    alloc: Global,
-    parser: &mut Parser,
-    flag: OwnedFlag,
-) -> Result<Step, CutFault>
+pub(crate) fn cut_unknown(alloc: Global, parser: &mut Parser, flag: OwnedFlag) -> Found
     ensures { ReturnsStep result (left_in parser.new)
         (unknown_reading (flag_seen flag) (left_in parser.old)) }
 {
@@ -74,13 +69,7 @@ pub(crate) fn cut_unknown(
 
 /// A request to print a text, if no subcommand came before it; else the request is passed on to the
 /// subcommand.
-fn question(
-    alloc: Global,
-    parser: &mut Parser,
-    uses: &[Use],
-    flag: OwnedFlag,
-    print: Print,
-) -> Result<Step, CutFault>
+fn request(alloc: Global, parser: &mut Parser, uses: &[Use], flag: OwnedFlag, print: Print) -> Found
     ensures { ReturnsStep result (left_in parser.new)
         (question_reading print (subcommand_of (views uses.now)) (flag_seen flag)
         (left_in parser.old)) }
@@ -102,15 +91,10 @@ fn help(flag: &OwnedFlag) -> Print
 }
 
 /// An option that takes a value, with the value that comes next.
-fn with_value(
-    alloc: Global,
-    parser: &mut Parser,
-    option: Opt,
-    flag: OwnedFlag,
-) -> Result<Step, CutFault>
+fn with_value(alloc: Global, parser: &mut Parser, option: Opt, flag: OwnedFlag) -> Found
     ensures { ReturnsStep result (left_in parser.new)
         (value_reading option (flag_seen flag) (value_of (left_in parser.old))
-        (after_value (left_in parser.old))) }
+        (left_in parser.old)) }
 {
     match parser.value(alloc) {
         Ok(value) => Ok(meet(option.means(), flag, Some(value))),
@@ -120,15 +104,11 @@ fn with_value(
 }
 
 /// An option that takes a list of names, with the list that comes next.
-fn with_names(
-    alloc: Global,
-    parser: &mut Parser,
-    option: Opt,
-    flag: OwnedFlag,
-) -> Result<Step, CutFault>
+fn with_names(alloc: Global, parser: &mut Parser, option: Opt, flag: OwnedFlag) -> Found
     ensures { ReturnsStep result (left_in parser.new)
-        (names_reading option (flag_seen flag) (value_of (left_in parser.old))
-        (after_value (left_in parser.old))) }
+        (unless_quote (flag_seen flag) (value_of (left_in parser.old))
+        (value_reading option (flag_seen flag) (value_of (left_in parser.old))
+        (left_in parser.old))) }
 {
     match parser.value(alloc) {
         Ok(value) if is_quote(&value) => Err(CutFault::LoneQuote { flag }),
@@ -139,15 +119,11 @@ fn with_names(
 }
 
 /// An option whose list of names may be left out, with the list if one comes next.
-fn with_names_or_none(
-    alloc: Global,
-    parser: &mut Parser,
-    option: Opt,
-    flag: OwnedFlag,
-) -> Result<Step, CutFault>
+fn optional_names(alloc: Global, parser: &mut Parser, option: Opt, flag: OwnedFlag) -> Found
     ensures { ReturnsStep result (left_in parser.new)
+        (unless_quote (flag_seen flag) (optional_of (left_in parser.old))
         (optional_reading option (flag_seen flag) (optional_of (left_in parser.old))
-        (after_optional (left_in parser.old))) }
+        (left_in parser.old))) }
 {
     match parser.value_or_none(alloc)? {
         Some(value) if is_quote(&value) => Err(CutFault::LoneQuote { flag }),
@@ -156,13 +132,7 @@ fn with_names_or_none(
 }
 
 /// An option of the table that is no repeat, with its value if it takes one.
-fn by_kind(
-    alloc: Global,
-    parser: &mut Parser,
-    uses: &[Use],
-    option: Opt,
-    flag: OwnedFlag,
-) -> Result<Step, CutFault>
+fn by_kind(alloc: Global, parser: &mut Parser, uses: &[Use], option: Opt, flag: OwnedFlag) -> Found
     ensures { ReturnsStep result (left_in parser.new)
         (kind_reading (entry_of option).kind (views uses.now) option (flag_seen flag)
         (left_in parser.old)) }
@@ -171,12 +141,12 @@ fn by_kind(
         Kind::Flag => Ok(meet(option.means(), flag, None)),
         Kind::Value => with_value(alloc, parser, option, flag),
         Kind::Names => with_names(alloc, parser, option, flag),
-        Kind::OptionalNames => with_names_or_none(alloc, parser, option, flag),
+        Kind::OptionalNames => optional_names(alloc, parser, option, flag),
         Kind::Help => {
             let print = help(&flag);
-            question(alloc, parser, uses, flag, print)
+            request(alloc, parser, uses, flag, print)
         }
-        Kind::Version => question(alloc, parser, uses, flag, Print::Version),
+        Kind::Version => request(alloc, parser, uses, flag, Print::Version),
         Kind::Refused => Err(CutFault::BehaviorForm),
     }
 }
@@ -195,7 +165,7 @@ pub(crate) fn cut_known(
     uses: &[Use],
     option: Opt,
     flag: OwnedFlag,
-) -> Result<Step, CutFault>
+) -> Found
     ensures { ReturnsStep result (left_in parser.new)
         (known_reading (views uses.now) option (flag_seen flag) (left_in parser.old)) }
 {
@@ -242,14 +212,10 @@ fn similar(name: &str) -> Option<Opt>
 }
 
 /// A long name that is not in the table.
-pub(crate) fn other_name(
-    alloc: Global,
-    parser: &mut Parser,
-    uses: &[Use],
-    name: String,
-) -> Result<Step, CutFault>
+pub(crate) fn other_name(alloc: Global, parser: &mut Parser, uses: &[Use], name: String) -> Found
     ensures { ReturnsStep result (left_in parser.new)
-        (other_reading (views uses.now) (string_bytes name) (left_in parser.old)) }
+        (other_reading (removed_of (string_bytes name)) (similar_of (string_bytes name))
+        (views uses.now) (string_bytes name) (left_in parser.old)) }
 {
     if let Some(option) = replacement_of(&name) {
         return Err(CutFault::Removed {

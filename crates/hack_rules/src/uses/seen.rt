@@ -1,10 +1,10 @@
 //! What uses say about an option.
 
-ghost use Rattle.std.specs.Prelude.{◌≡◌, IfOk, map, string_bytes};
+ghost use Rattle.std.specs.Prelude.{◌≡◌, IfOk, length, map, string_bytes};
+ghost use Rattle.std.specs.List.{filter};
 ghost use Rattle.hack_base.specs.Names.{optional_text_ref};
-ghost use Rattle.hack_rules.specs.PassedWords.{count_of};
 ghost use Rattle.hack_rules.specs.Values.{value_given, values_given};
-ghost use Rattle.hack_rules.specs.Uses.{is_given, views, subcommand_of};
+ghost use Rattle.hack_rules.specs.Uses.{is_given, is_use_of, views, subcommand_of};
 
 use crate::uses::Use;
 use hack_options::Opt;
@@ -15,10 +15,8 @@ pub fn given(option: Opt, uses: &[Use]) -> bool
     ensures { result ≡ is_given option (views uses.now) }
 {
     for one in uses {
-        if let Use::Known { option: used, .. } = one {
-            if used.is(option) {
-                return true;
-            }
+        if one.is_of(option) {
+            return true;
         }
     }
     false
@@ -42,13 +40,7 @@ pub fn value(option: Opt, uses: &[Use]) -> Option<&String>
         ≡ value_given option (views uses.now) }
 {
     for one in uses {
-        if let Use::Known {
-            option: used,
-            value: Some(value),
-            ..
-        } = one
-            && used.is(option)
-        {
+        if let Some(value) = one.value_of(option) {
             return Some(value);
         }
     }
@@ -62,13 +54,7 @@ pub fn values(alloc: Global, option: Opt, uses: &[Use]) -> Result<Vec<String>, A
 {
     let mut values = Vec::new(alloc);
     for one in uses {
-        if let Use::Known {
-            option: used,
-            value: Some(value),
-            ..
-        } = one
-            && used.is(option)
-        {
+        if let Some(value) = one.value_of(option) {
             values.push(value.clone()?)?;
         }
     }
@@ -77,13 +63,11 @@ pub fn values(alloc: Global, option: Opt, uses: &[Use]) -> Result<Vec<String>, A
 
 /// How often the option was used.
 pub fn count(option: Opt, uses: &[Use]) -> usize
-    ensures { result ≡ count_of option (views uses.now) }
+    ensures { result ≡ length (filter (is_use_of option) (views uses.now)) }
 {
     let mut count = 0;
     for one in uses {
-        if let Use::Known { option: used, .. } = one
-            && used.is(option)
-        {
+        if one.is_of(option) {
             count += 1;
         }
     }

@@ -1,14 +1,13 @@
 //! The parsed arguments of a call.
 
-ghost use Rattle.std.specs.Prelude.{◌≡◌, ◌++◌, IfErr, IfOk, OnOk, codes, map, string_bytes};
+ghost use Rattle.std.specs.Prelude.{◌≡◌, ◌++◌, ◌||◌, IfErr, IfOk, OnOk, codes, map, string_bytes};
 ghost use Rattle.std.specs.List.{repeat};
 ghost use Rattle.hack_base.specs.Names.{names_of, optional_text_ref, optional_text};
 ghost use Rattle.hack_base.specs.Notes.{note_of};
 ghost use Rattle.hack_rules.specs.PassedWords.{leading_of};
-ghost use Rattle.hack_rules.specs.Uses.{views};
+ghost use Rattle.hack_rules.specs.Uses.{is_given, views};
 ghost use Rattle.hack_rules.specs.Values.{values_given};
 ghost use Rattle.hack_rules.specs.AskedFields.{verbose_words, excludes_no_default, excludes_all};
-ghost use Rattle.hack_rules.specs.AskedFields.{ignores_private as private_ignored};
 ghost use Rattle.hack_rules.specs.ListsView.{listed_view};
 ghost use Rattle.hack_words.specs.CommandLine.{ComesTo};
 ghost use Rattle.hack_words.specs.ParseAnswers.{AnswersCommandLine, BreakNoRule, Refuses};
@@ -168,7 +167,8 @@ fn leaves_all(lists: &Lists, uses: &[Use]) -> bool
 }
 
 fn ignores_private(uses: &[Use]) -> bool
-    ensures { result ≡ private_ignored (views uses.now) }
+    ensures { result ≡ (is_given Opt.IgnorePrivate (views uses.now)
+        || is_given Opt.NoPrivate (views uses.now)) }
 {
     given(Opt::IgnorePrivate, uses) || given(Opt::NoPrivate, uses)
 }
@@ -193,7 +193,7 @@ pub struct Read {
 }
 
 impl Args {
-    ghost use Rattle.hack_words.specs.ArgsView.{HasFlags, HasTexts, HasFeatures};
+    ghost use Rattle.hack_words.specs.ArgsView.{HasFlags, HasTexts};
     ghost use Rattle.hack_words.specs.Internal.{Carries};
     ghost use Rattle.hack_rules.specs.CliGroups.{AreGroupsOf};
     ghost use Rattle.hack_rules.specs.ListedFeatures.{listed_by};
@@ -210,7 +210,6 @@ impl Args {
             (views uses.now)) read.call.lists.mutually_exclusive_features.items }
         ensures flags { IfOk result (HasFlags (views uses.now)) }
         ensures texts { IfOk result (HasTexts read.call.behavior (views uses.now)) }
-        ensures features { IfOk result (HasFeatures (views uses.now)) }
         ensures carries { IfOk result (Carries read) }
     {
         let Read { call, early, late } = read;

@@ -2,7 +2,7 @@
 
 ghost use Rattle.std.specs.Prelude.{◌≡◌, IfOk, string_bytes};
 ghost use Rattle.hack_base.specs.Names.{optional_text_ref};
-ghost use Rattle.hack_rules.specs.AskedFields.{or_else};
+ghost use Rattle.std.specs.Option.{unwrap_or};
 ghost use Rattle.hack_words.specs.EnvView.{IsEnv, variable as variable_named, is_set as set};
 ghost use Rattle.hack_words.specs.EnvView.{vars_of};
 
@@ -47,7 +47,7 @@ fn is_set(vars: &[(String, String)], name: &str) -> bool
 
 fn value_or(alloc: Global, value: Option<&String>, other: &str) -> Result<String, AllocError>
     ensures { IfOk result (λ text. string_bytes text
-        ≡ or_else other.now (optional_text_ref value.entry)) }
+        ≡ unwrap_or (optional_text_ref value.entry) other.now) }
 {
     match value {
         Some(value) => value.clone(),

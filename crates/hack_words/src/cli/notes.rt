@@ -4,8 +4,8 @@ ghost use Rattle.std.specs.Prelude.{◌≡◌, ◌++◌, IfOk, OnOk, true, codes
 ghost use Rattle.hack_base.specs.Names.{optional_text_ref};
 ghost use Rattle.hack_base.specs.Notes.{AddsNotes};
 ghost use Rattle.hack_base.specs.Notes.{note_if};
-ghost use Rattle.hack_words.specs.CommandLine.{unknown_words, rustup_words, rustup_notes};
-ghost use Rattle.hack_words.specs.CommandLine.{old_words, old_notes, editing_words, edits_words};
+ghost use Rattle.hack_words.specs.CommandLine.{unknown_words, rustup_notes};
+ghost use Rattle.hack_words.specs.CommandLine.{old_words, old_notes, editing_words};
 ghost use Rattle.hack_words.specs.CommandLine.{editing_notes, new_form as newer_form};
 ghost use Rattle.hack_words.specs.RustupView.{unknown_of};
 
@@ -34,7 +34,8 @@ pub fn tell_unknown(alloc: Global, notices: &mut Vec<Notice>, told: bool) -> Res
 }
 
 fn rustup_text(alloc: Global, why: &str) -> Result<String, AllocError>
-    ensures { IfOk result (λ text. string_bytes text ≡ rustup_words why.now) }
+    ensures { IfOk result (λ text. string_bytes text
+        ≡ codes "unable to determine rustup version; assuming latest stable rustup: " ++ why.now) }
 {
     format!(in alloc; "unable to determine rustup version; assuming latest stable rustup: {why}")
 }
@@ -115,7 +116,8 @@ fn editing_options(no_dev_deps: bool, no_private: bool) -> &'static str
 }
 
 fn edits_text(alloc: Global, flags: &str) -> Result<String, AllocError>
-    ensures { IfOk result (λ text. string_bytes text ≡ edits_words flags.now) }
+    ensures { IfOk result (λ text. string_bytes text ≡ flags.now
+        ++ codes " real `Cargo.toml` while cargo-hack is running and restores it when finished") }
 {
     format!(in alloc;
         "{flags} real `Cargo.toml` while cargo-hack is running and restores it when finished"

@@ -1,10 +1,13 @@
 //! A command line into arguments, or the first error.
 
-ghost use Rattle.std.specs.Prelude.{List, ◌≡◌, IfOk, IfErr, MatchOption, OnOk, map};
+ghost use Rattle.std.specs.Prelude.{List, ◌≡◌, ◌++◌, ◌&&◌, IfOk, IfErr, MatchOption, OnOk, map};
 ghost use Rattle.std.specs.Prelude.{string_bytes};
 ghost use Rattle.hack_base.specs.Names.{names_of};
 ghost use Rattle.hack_rules.specs.PassedWords.{leading_of};
-ghost use Rattle.hack_rules.specs.Uses.{views};
+ghost use Rattle.hack_rules.specs.LateRules.{is_ranged as ranged};
+ghost use Rattle.hack_rules.specs.Rules.{is_nonempty};
+ghost use Rattle.hack_rules.specs.Uses.{is_given, views};
+ghost use Rattle.hack_rules.specs.Values.{value_given};
 ghost use Rattle.hack_base.specs.Notes.{note_of, AddsNotes};
 ghost use Rattle.hack_words.specs.ParseAnswers.{IsText};
 ghost use Rattle.hack_words.specs.Internal.{Judges, IsJudged, IsPrinted};
@@ -13,7 +16,7 @@ ghost use Rattle.hack_words.specs.ParseAnswers.{Refuses};
 ghost use Rattle.hack_words.specs.Internal.{GivesCuts, around_in};
 ghost use Rattle.hack_rules.specs.AskedFields.{is_old_asked};
 ghost use Rattle.hack_words.specs.CommandLine.{ComesFrom, ComesTo, Faulty, outcome_of};
-ghost use Rattle.hack_words.specs.CommandLine.{later_notes, in_vain};
+ghost use Rattle.hack_words.specs.CommandLine.{rustup_notes, old_notes, editing_notes};
 ghost use Rattle.hack_rules.specs.CliFaults.{fault_of};
 ghost use Rattle.hack_rules.specs.ListedFeatures.{listed_by};
 ghost use Rattle.hack_rules.specs.ListsView.{listed_view};
@@ -107,7 +110,10 @@ fn tell(
 ) -> Result<(), AllocError>
     requires { is_old ≡ is_old_asked (views uses.now) }
     ensures { OnOk result (AddsNotes notices.old notices.new
-        (later_notes (unknown_of rustup.now) (views uses.now))) }
+        (rustup_notes (ranged (views uses.now)) (unknown_of rustup.now)
+        ++ old_notes (is_old_asked (views uses.now)) (value_given Opt.VersionRange (views uses.now))
+        ++ editing_notes (is_given Opt.NoDevDeps (views uses.now))
+        (is_given Opt.NoPrivate (views uses.now)))) }
 {
     tell_rustup(alloc, notices, is_ranged(uses), rustup)?;
     tell_old(alloc, notices, is_old, value(Opt::VersionRange, uses))?;
@@ -117,7 +123,8 @@ fn tell(
 
 /// Whether unknown features are to be ignored where they can't be.
 fn ignores_in_vain(lists: &Lists, uses: &[Use]) -> bool
-    ensures { result ≡ in_vain (listed_view lists.now) (views uses.now) }
+    ensures { result ≡ (is_given Opt.IgnoreUnknownFeatures (views uses.now)
+        && is_nonempty (listed_view lists.now).includes) }
 {
     given(Opt::IgnoreUnknownFeatures, uses) && has_some(lists.include_features.as_slice())
 }

@@ -1,10 +1,9 @@
 //! The start of a command line, before options are parsed.
 
-ghost use Rattle.std.specs.Prelude.{◌≡◌, IfOk};
+ghost use Rattle.std.specs.Prelude.{◌≡◌, ◌||◌, IfOk, codes, nat_eq, bytes_eq};
+ghost use Rattle.std.specs.List.{starts_with};
 ghost use Rattle.hack_base.specs.Names.{names_of};
 ghost use Rattle.hack_words.specs.Start.{front_words, trailing_words, is_behavior as behavior};
-ghost use Rattle.hack_words.specs.Start.{is_range_option as range_option};
-ghost use Rattle.hack_words.specs.Start.{has_range as range_with_value};
 ghost use Rattle.hack_words.specs.Start.{wants_rustup as rustup_wanted};
 ghost use Rattle.hack_words.specs.StartView.{ReturnsStart};
 ghost use Rattle.hack_words.specs.Internal.{TakesOut};
@@ -29,13 +28,14 @@ fn split_at_dashes(words: &[String]) -> (&[String], &[String])
 }
 
 fn is_range_option(word: &str) -> bool
-    ensures { result ≡ range_option word.now }
+    ensures { result ≡ (bytes_eq word.now (codes "--rust-version")
+        || bytes_eq word.now (codes "--version-range")) }
 {
     word == "--rust-version" || word == "--version-range"
 }
 
 fn has_range(word: &str) -> bool
-    ensures { result ≡ range_with_value word.now }
+    ensures { result ≡ starts_with nat_eq word.now (codes "--version-range=") }
 {
     word.starts_with("--version-range=")
 }

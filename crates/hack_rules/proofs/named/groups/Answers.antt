@@ -4,7 +4,7 @@ use Rattle.hack_features.specs.declared.feature.Feature.{Feature}
 use Rattle.hack_features.specs.Feature.{IsGroup}
 use Rattle.hack_base.specs.Lists.{group_names}
 use Rattle.hack_rules.specs.CliGroups.{AreGroupsOf}
-use Rattle.hack_rules.proofs.GroupLemmas.{AreGroupsOf-more}
+use Rattle.hack_rules.proofs.GroupLemmas.{AllZip-more}
 use Rattle.hack_rules.proofs.named.groups.Goals as goal
 
 pub loop-text-preserved : goal.loop-text-preserved
@@ -17,5 +17,5 @@ loop-text-preserved c =
     let is : IsGroup (group_names (string_bytes text)) feature = search rules in
     let items : c.push.new.self.items ≡ groups ++ feature ∷ [] = search rules in
     let taken = ap (λ xs. map string_bytes xs) (take_more texts i text c.loop-text-test.true ∙ ap (λ x. take i texts ++ x ∷ []) (sym c.text-item.is)) ∙ map-append string_bytes (take i texts) (text ∷ []) in
-    let more = AreGroupsOf-more (map string_bytes (take i texts)) groups (string_bytes text) feature c.loop-text.invariant.0 is in
+    let more = AllZip-more (λ text group. IsGroup (group_names text) group) (map string_bytes (take i texts)) groups (string_bytes text) feature c.loop-text.invariant.0 is in
     (subst (λ (xs : List (List ℕ)). AreGroupsOf xs c.push.new.self.items) (sym taken) (subst (λ (fs : List Feature). AreGroupsOf (map string_bytes (take i texts) ++ string_bytes text ∷ []) fs) (sym items) more), c.loop-text.invariant.1)

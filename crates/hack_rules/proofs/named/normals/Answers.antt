@@ -3,8 +3,8 @@ use Rattle.std.proofs.lemmas.List.{map-append, take_more}
 use Rattle.hack_base.specs.Names.{Name, names_of}
 use Rattle.hack_features.specs.declared.feature.Feature.{Feature}
 use Rattle.hack_features.specs.Feature.{IsNormal}
-use Rattle.hack_rules.specs.CliGroups.{AreNormalsOf}
-use Rattle.hack_rules.proofs.GroupLemmas.{AreNormalsOf-more}
+use Rattle.std.specs.List.{AllZip}
+use Rattle.hack_rules.proofs.GroupLemmas.{AllZip-more}
 use Rattle.hack_rules.proofs.named.normals.Goals as goal
 
 pub loop-name-preserved : goal.loop-name-preserved
@@ -17,5 +17,5 @@ loop-name-preserved c =
     let is : IsNormal (string_bytes name) feature = search rules in
     let items : c.push.new.self.items ≡ features ++ feature ∷ [] = search rules in
     let taken = ap (λ xs. names_of xs) (take_more names i name c.loop-name-test.true ∙ ap (λ x. take i names ++ x ∷ []) (sym c.name-item.is)) ∙ map-append (λ t. string_bytes t) (take i names) (name ∷ []) in
-    let more = AreNormalsOf-more (names_of (take i names)) features (string_bytes name) feature c.loop-name.invariant is in
-    subst (λ (xs : List Name). AreNormalsOf xs c.push.new.self.items) (sym taken) (subst (λ (fs : List Feature). AreNormalsOf (names_of (take i names) ++ string_bytes name ∷ []) fs) (sym items) more)
+    let more = AllZip-more IsNormal (names_of (take i names)) features (string_bytes name) feature c.loop-name.invariant is in
+    subst (λ (xs : List Name). AllZip IsNormal xs c.push.new.self.items) (sym taken) (subst (λ (fs : List Feature). AllZip IsNormal (names_of (take i names) ++ string_bytes name ∷ []) fs) (sym items) more)
