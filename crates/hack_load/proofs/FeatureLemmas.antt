@@ -24,7 +24,8 @@ use Rattle.hack_metadata.specs.RecordViews.{dependency_view, kind_view, node_dep
 use Rattle.hack_metadata.specs.declared.metadata.package.Dependency.{Dependency}
 use Rattle.hack_metadata.specs.declared.metadata.package.Package.{Package}
 use Rattle.hack_metadata.specs.declared.metadata.resolve.NodeDep.{NodeDep}
-use Rattle.hack_load.specs.Candidates.{Path as Way, firsts, names_dep, is_implicit, is_normal, optional_names, paths_to, paths_in, node_paths}
+use Rattle.hack_metadata.specs.MetadataReading.{distinct}
+use Rattle.hack_load.specs.Candidates.{Path as Way, names_dep, is_implicit, is_normal, optional_names, paths_to, paths_in, node_paths}
 use Rattle.hack_load.specs.Features.{AreNormals, ArePaths, IsRising, texts_of}
 use Rattle.hack_load.specs.Internal.{AddsPaths}
 
@@ -106,7 +107,7 @@ is_new names x = not (list_any (bytes_eq x) names)
 
 -- the names that are none of these, each once, at its first place
 abbrev pub picked : List Name → List Name → List Name
-picked names xs = filter (is_new names) (firsts xs)
+picked names xs = filter (is_new names) (distinct bytes_eq xs)
 
 -- the features so far, and what is picked of the dependencies left, make up the whole
 pub record Picked (m : FeatureMap) (all left : List DependencyRecord) (fs : List Feature) : Type 0 where
@@ -149,14 +150,14 @@ or_false false false = refl
 new-push : (names : List Name) (x y : Name) → is_new (names ++ x ∷ []) y ≡ (not (bytes_eq y x) && is_new names y)
 new-push names x y = ap not (list_any-append (bytes_eq y) names (x ∷ [])) ∙ or_false (list_any (bytes_eq y) names) (bytes_eq y x)
 
-picked-head : (names : List Name) (x : Name) (xs : List Name) (b : Bool) → list_any (bytes_eq x) names ≡ b → picked names (x ∷ xs) ≡ cond (not b) (x ∷ filter (is_new names) (filter (λ y. not (bytes_eq y x)) (firsts xs))) (filter (is_new names) (filter (λ y. not (bytes_eq y x)) (firsts xs)))
-picked-head names x xs b e = ap (λ t. cond (not t) (x ∷ filter (is_new names) (filter (λ y. not (bytes_eq y x)) (firsts xs))) (filter (is_new names) (filter (λ y. not (bytes_eq y x)) (firsts xs)))) e
+picked-head : (names : List Name) (x : Name) (xs : List Name) (b : Bool) → list_any (bytes_eq x) names ≡ b → picked names (x ∷ xs) ≡ cond (not b) (x ∷ filter (is_new names) (filter (λ y. not (bytes_eq y x)) (distinct bytes_eq xs))) (filter (is_new names) (filter (λ y. not (bytes_eq y x)) (distinct bytes_eq xs)))
+picked-head names x xs b e = ap (λ t. cond (not t) (x ∷ filter (is_new names) (filter (λ y. not (bytes_eq y x)) (distinct bytes_eq xs))) (filter (is_new names) (filter (λ y. not (bytes_eq y x)) (distinct bytes_eq xs)))) e
 
 picked-old : (names : List Name) (x : Name) (xs : List Name) → list_any (bytes_eq x) names ≡ true → picked names (x ∷ xs) ≡ picked names xs
-picked-old names x xs e = picked-head names x xs true e ∙ filter-both (is_new names) (λ y. not (bytes_eq y x)) (is_new names) (not_new names x e) (firsts xs)
+picked-old names x xs e = picked-head names x xs true e ∙ filter-both (is_new names) (λ y. not (bytes_eq y x)) (is_new names) (not_new names x e) (distinct bytes_eq xs)
 
 picked-new : (names : List Name) (x : Name) (xs : List Name) → list_any (bytes_eq x) names ≡ false → picked names (x ∷ xs) ≡ x ∷ picked (names ++ x ∷ []) xs
-picked-new names x xs e = picked-head names x xs false e ∙ ap (λ l. x ∷ l) (filter-both (is_new names) (λ y. not (bytes_eq y x)) (is_new (names ++ x ∷ [])) (new-push names x) (firsts xs))
+picked-new names x xs e = picked-head names x xs false e ∙ ap (λ l. x ∷ l) (filter-both (is_new names) (λ y. not (bytes_eq y x)) (is_new (names ++ x ∷ [])) (new-push names x) (distinct bytes_eq xs))
 
 -- the names that are left for picking
 abbrev names_left : FeatureMap → List DependencyRecord → List Name
@@ -165,7 +166,7 @@ names_left m ds = filter (is_implicit m) (optional_in ds)
 pub picked-start : (m : FeatureMap) (all : List DependencyRecord) (fs : List Feature) → fs ≡ [] → Picked m all all fs
 picked-start m all fs e =
     let P : List Feature → Type 0 = λ l. Picked m all all l in
-    subst P (sym e) (record { are = tt; whole = filter-all (firsts (names_left m all)) })
+    subst P (sym e) (record { are = tt; whole = filter-all (distinct bytes_eq (names_left m all)) })
 
 -- a dependency by which nothing is picked
 pub picked-pass : (m : FeatureMap) (all left rest : List DependencyRecord) (fs : List Feature) → picked (texts_of fs) (names_left m left) ≡ picked (texts_of fs) (names_left m rest) → Picked m all left fs → Picked m all rest fs

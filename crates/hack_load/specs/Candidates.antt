@@ -1,11 +1,12 @@
 -- The candidates of a package: its features, its optional dependencies, and the features of its
 -- dependencies.
-use Rattle.std.specs.Prelude.{◌≡◌, ℕ, Bool, true, not, ◌&&◌, List, [], ◌∷◌, ◌++◌, map, filter, Option, None, codes, is_some, is_none, option_map, slice_get, unwrap_or, if◌then◌else◌}
+use Rattle.std.specs.Prelude.{◌≡◌, ℕ, Bool, true, not, ◌&&◌, List, [], ◌++◌, map, filter, Option, None, codes, is_some, is_none, option_map, slice_get, unwrap_or, if◌then◌else◌}
 use Rattle.std.specs.List.{find, flat_map, list_any}
 use Rattle.std.specs.Map.{keys_of, lookup}
 use Rattle.std.specs.Str.{bytes_eq}
 use Rattle.hack_base.specs.Names.{Name}
 use Rattle.hack_features.specs.FeatureMap.{FeatureMap}
+use Rattle.hack_metadata.specs.MetadataReading.{distinct}
 use Rattle.hack_metadata.specs.Optional.{optional_in}
 use Rattle.hack_metadata.specs.Records.{DependencyRecord, PackageRecord, KindRecord, NodeDepRecord, NodeRecord, MetadataRecord, node_at}
 
@@ -23,14 +24,9 @@ is_named m dep = list_any (λ e. list_any (names_dep dep) e.1) m
 abbrev pub is_implicit : FeatureMap → Name → Bool
 is_implicit m dep = not (is_some (lookup (bytes_eq dep) m)) && not (is_named m dep)
 
--- the names, each once, at its first place
-abbrev pub firsts : List Name → List Name
-firsts [] = []
-firsts (x ∷ xs) = x ∷ filter (λ y. not (bytes_eq y x)) (firsts xs)
-
 -- the optional dependencies that are features by themselves, in their order
 abbrev pub optional_names : FeatureMap → List DependencyRecord → List Name
-optional_names m ds = firsts (filter (is_implicit m) (optional_in ds))
+optional_names m ds = distinct bytes_eq (filter (is_implicit m) (optional_in ds))
 
 -- ---- features of dependencies
 

@@ -45,11 +45,6 @@ abbrev pub told_version : Result ℕ (String Global) → Result ℕ Name
 told_version (Ok minor) = Ok minor
 told_version (Err warning) = Err (string_bytes warning)
 
--- a minor version, or 0 where there is a warning
-abbrev pub minor_told : Result ℕ Name → ℕ
-minor_told (Ok minor) = minor
-minor_told (Err warning) = 0
-
 -- the minor version in an answer, or the warning, which shows the command as `shown`
 abbrev pub TellsVersion : Name → Name → Result ℕ Name → Type 0
 TellsVersion shown text (Ok minor) = (v : Version) × TellsRelease (release_part text) v × (minor ≡ v.minor)
@@ -110,12 +105,7 @@ abbrev pub IsPackageFault : Type 0 → Contents → MetadataRecord → ℕ → �
 IsPackageFault tells held m id before now faults.Memory = Unit {0}
 IsPackageFault tells held m id before now (faults.Files e) = CantRead tells held m id before now e
 IsPackageFault tells held m id before now (faults.Manifest e) = IsIllFormed tells held m id e
-IsPackageFault tells held m id before now (faults.Asked e) = ⊥
-IsPackageFault tells held m id before now (faults.Process e) = ⊥
-IsPackageFault tells held m id before now faults.OldCargo = ⊥
-IsPackageFault tells held m id before now (faults.Metadata e) = ⊥
-IsPackageFault tells held m id before now (faults.NotJson text) = ⊥
-IsPackageFault tells held m id before now faults.Root = ⊥
+IsPackageFault tells held m id before now _ = ⊥
 
 -- why the manifest of some member can't be read; or memory was refused
 abbrev pub IsMemberFault : Type 0 → Contents → MetadataRecord → ℕ → ℕ → ContextFault → Type 0
@@ -124,24 +114,15 @@ IsMemberFault tells held m before now e = (e ≡ faults.Memory) ⊎ ((id : ℕ) 
 -- ---- the current manifest
 
 -- the command that asks cargo for the current manifest
-abbrev pub locate_command : Name → Option Name → Command
-locate_command cargo path = command_line cargo (codes "locate-project" ∷ path_words path)
-
--- the same for these arguments
 abbrev pub locate : Args → Env → Command
-locate args env = locate_command (string_bytes env.cargo) (optional_text args.manifest_path)
+locate args env = command_line (string_bytes env.cargo)
+    (codes "locate-project" ∷ path_words (optional_text args.manifest_path))
 
 -- asking cargo for the current manifest failed; or memory was refused
 abbrev pub FailsLocate : Type 0 → Command → Name → List Call → List Call → ContextFault → Type 0
 FailsLocate tells c dir old new faults.Memory = tells → MayAdd (asked_of true c) old new
 FailsLocate tells c dir old new (faults.Process e) = IsReadFault tells (asked_of true c) (text_of true dir c) old new e × (e ≢ process.Memory)
-FailsLocate tells c dir old new (faults.Asked e) = ⊥
-FailsLocate tells c dir old new (faults.Files e) = ⊥
-FailsLocate tells c dir old new (faults.Manifest e) = ⊥
-FailsLocate tells c dir old new faults.OldCargo = ⊥
-FailsLocate tells c dir old new (faults.Metadata e) = ⊥
-FailsLocate tells c dir old new (faults.NotJson text) = ⊥
-FailsLocate tells c dir old new faults.Root = ⊥
+FailsLocate tells c dir old new _ = ⊥
 
 -- the answer of cargo, with the command as it is shown
 pub record IsLocated (args : Args) (env : Env) (old new : List Call) (l : Located) : Type 0 where

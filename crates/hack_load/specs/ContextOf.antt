@@ -1,5 +1,6 @@
 -- The context that is made of answers, and why none can be made.
 use Rattle.std.specs.Prelude.{◌≡◌, ◌≢◌, ◌⊎◌, ◌<◌, ◌∷◌, [], ℕ, Bool, true, List, Some, None, Result, Ok, Err, Contains, string_bytes}
+use Rattle.std.specs.Result.{result_unwrap_or}
 use Rattle.hack_base.specs.Names.{Name}
 use Rattle.hack_features.specs.FeatureMap.{feature_map}
 use Rattle.hack_base.specs.Notes.{Note}
@@ -13,7 +14,6 @@ use Rattle.hack_manifest.specs.declared.manifest.Manifest.{Manifest}
 use Rattle.hack_words.specs.declared.cli.args.Args.{Args}
 use Rattle.hack_load.specs.Contexts.{ContextRecord}
 use Rattle.hack_load.specs.Features.{AreCandidates, IsNodeRefusal}
-use Rattle.hack_load.specs.CargoQuestions.{minor_told, told_version}
 use Rattle.hack_load.specs.Located.{root_in, current_of}
 use Rattle.hack_load.specs.RootFaults.{LacksRoot}
 use Rattle.hack_load.specs.declared.answers.Answers.{Answers}
@@ -28,13 +28,8 @@ AreFeatures m asked [] [] [] = Unit {0}
 AreFeatures m asked (id ∷ ids) (x ∷ xs) (f ∷ fs) = AreCandidates m (feature_map x.features) id asked f × AreFeatures m asked ids xs fs
 AreFeatures m asked ids xs fs = ⊥
 
--- the current package is the first member at the manifest that cargo reported
-pub record IsCurrent (l : Loaded) (cx : ContextRecord) : Type 0 where
-  pub root : Name
-  pub told : root_in (string_bytes l.located.text) ≡ Some root
-  pub is : cx.current_package ≡ current_of (metadata_view l.metadata) root
-
--- the context has what was loaded for these arguments, and cargo's own minor version
+-- the context has what was loaded for these arguments, and cargo's own minor version; the current
+-- package is the first member at the manifest that cargo reported
 pub record IsContextOf (given : Args) (minor : ℕ) (l : Loaded) (cx : ContextRecord) : Type 0 where
   pub args : cx.args ≡ given
   pub metadata : cx.metadata ≡ metadata_view l.metadata
@@ -43,11 +38,14 @@ pub record IsContextOf (given : Args) (minor : ℕ) (l : Loaded) (cx : ContextRe
   pub cargo : cx.cargo ≡ string_bytes l.cargo
   pub cargo_minor : cx.cargo_minor ≡ minor
   pub current_dir : cx.current_dir ≡ string_bytes l.current_dir
-  pub current_package : IsCurrent l cx
+  pub root : Name
+  pub told : root_in (string_bytes l.located.text) ≡ Some root
+  pub current_package : cx.current_package ≡ current_of (metadata_view l.metadata) root
 
--- nothing ended the questions, and the context has what they loaded
+-- nothing ended the questions, and the context has what they loaded, and 0 for an unknown version
 abbrev pub IsContextFrom : Args → Answers → ContextRecord → Type 0
-IsContextFrom args a cx = (l : Loaded) × (a.loaded ≡ Ok l) × IsContextOf args (minor_told (told_version a.cargo_version)) l cx
+IsContextFrom args a cx =
+    (l : Loaded) × (a.loaded ≡ Ok l) × IsContextOf args (result_unwrap_or a.cargo_version 0) l cx
 
 -- the node of some member is asked for and missing, and the error names that
 abbrev pub IsNodeFault : MetadataRecord → Bool → MetadataFault → Type 0
@@ -63,11 +61,7 @@ IsLoadCause args l faults.OldCargo = IsTooOld args.include_deps_features l.metad
 IsLoadCause args l (faults.Metadata e) = IsNodeFault (metadata_view l.metadata) args.include_deps_features e
 IsLoadCause args l (faults.NotJson shown) = (string_bytes shown ≡ string_bytes l.located.command) × (object_in_text (string_bytes l.located.text) ≡ None)
 IsLoadCause args l faults.Root = LacksRoot (string_bytes l.located.text)
-IsLoadCause args l faults.Memory = ⊥
-IsLoadCause args l (faults.Asked e) = ⊥
-IsLoadCause args l (faults.Files e) = ⊥
-IsLoadCause args l (faults.Manifest e) = ⊥
-IsLoadCause args l (faults.Process e) = ⊥
+IsLoadCause args l _ = ⊥
 
 -- why no context is made of answers: an error ended the questions, or what was loaded makes none
 abbrev pub IsContextCause : Args → Answers → ContextFault → Type 0

@@ -1,5 +1,6 @@
 -- All that is loaded for one call, as callers see it.
 use Rattle.std.specs.Prelude.{ℕ, ◌≡◌, ◌<◌, ◌==◌, ◌++◌, Bool, true, false, not, List, Option, Some, None, codes, length, Contains, IfSome, nat_lt, option_map, option_and_then, slice_get, if◌then◌else◌}
+use Rattle.std.specs.Option.{option_map_or}
 use Rattle.std.specs.List.{position_or_len}
 use Rattle.hack_base.specs.Names.{Name, optional_text}
 use Rattle.hack_words.specs.declared.cli.args.Args.{Args}
@@ -59,18 +60,13 @@ manifest_publish m = m.package.publish
 abbrev pub manifest_rust_version : Manifest → Option Name
 manifest_rust_version m = option_and_then (λ v. optional_text v) m.package.rust_version
 
--- publishing is stated, and denied
-abbrev pub denies : Option Bool → Bool
-denies None = false
-denies (Some publish) = not publish
-
 -- what is known of publishing: cargo reports it from 1.39 on; for an older one the manifest says it
 abbrev pub publish_at : ContextRecord → ℕ → Option Bool
 publish_at cx id = if nat_lt cx.metadata.cargo_version 39 then option_and_then manifest_publish (manifest_at cx id) else option_map (λ p. p.publish) (package_at cx id)
 
--- a member may not be published
+-- a member may not be published: this is stated, and denied
 abbrev pub is_private_at : ContextRecord → ℕ → Bool
-is_private_at cx id = denies (publish_at cx id)
+is_private_at cx id = option_map_or not (publish_at cx id) false
 
 -- a member's `rust-version`: cargo reports it from 1.58 on; for an older one the manifest says it
 abbrev pub rust_version_at : ContextRecord → ℕ → Option Name

@@ -22,29 +22,22 @@ use Rattle.hack_base.specs.Names.{Name}
 -- an error of a file as an error of the call
 abbrev pub IsCallFaultOfFile : FsFault → ContextFault → Type 0
 IsCallFaultOfFile fs.Memory e = e ≡ faults.Memory
-IsCallFaultOfFile (fs.Read path) e = e ≡ faults.Files (fs.Read path)
-IsCallFaultOfFile (fs.Write path) e = e ≡ faults.Files (fs.Write path)
-IsCallFaultOfFile (fs.NotText path) e = e ≡ faults.Files (fs.NotText path)
+IsCallFaultOfFile f e = e ≡ faults.Files f
 
 -- an error of a manifest as an error of the call
 abbrev pub IsOfManifest : ManifestFault → ContextFault → Type 0
 IsOfManifest manifest.Memory e = e ≡ faults.Memory
-IsOfManifest (manifest.Toml path) e = e ≡ faults.Manifest (manifest.Toml path)
-IsOfManifest (manifest.Field name path) e = e ≡ faults.Manifest (manifest.Field name path)
+IsOfManifest f e = e ≡ faults.Manifest f
 
 -- an error of the command as an error of the call
 abbrev pub IsOfProcess : ProcessFault → ContextFault → Type 0
 IsOfProcess process.Memory e = e ≡ faults.Memory
-IsOfProcess process.EmptyProgram e = e ≡ faults.Process process.EmptyProgram
-IsOfProcess (process.NeverExecuted text) e = e ≡ faults.Process (process.NeverExecuted text)
-IsOfProcess (process.Failed failure) e = e ≡ faults.Process (process.Failed failure)
-IsOfProcess (process.NotText text) e = e ≡ faults.Process (process.NotText text)
+IsOfProcess f e = e ≡ faults.Process f
 
 -- an error of the candidates as an error of the call
 abbrev pub IsOfNode : MetadataFault → ContextFault → Type 0
 IsOfNode metadata.Memory e = e ≡ faults.Memory
-IsOfNode (metadata.Field name) e = e ≡ faults.Metadata (metadata.Field name)
-IsOfNode metadata.Json e = e ≡ faults.Metadata metadata.Json
+IsOfNode f e = e ≡ faults.Metadata f
 
 -- features were added after others, one for each path, in order
 abbrev pub AddsPaths : List Path → List Feature → List Feature → Type 0
@@ -63,10 +56,4 @@ ReadsOnly tells old new before now (Err e) = MayFail tells old new before now
 abbrev pub IsNotJson : Name → ContextFault → Type 0
 IsNotJson command faults.Memory = Unit {0}
 IsNotJson command (faults.NotJson shown) = string_bytes shown ≡ command
-IsNotJson command (faults.Asked e) = ⊥
-IsNotJson command (faults.Files e) = ⊥
-IsNotJson command (faults.Manifest e) = ⊥
-IsNotJson command (faults.Process e) = ⊥
-IsNotJson command faults.OldCargo = ⊥
-IsNotJson command (faults.Metadata e) = ⊥
-IsNotJson command faults.Root = ⊥
+IsNotJson command _ = ⊥

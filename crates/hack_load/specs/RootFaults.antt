@@ -18,9 +18,4 @@ abbrev pub IsRootRefusal : Name → List ℕ → ContextFault → Type 0
 IsRootRefusal command text faults.Memory = Unit {0}
 IsRootRefusal command text (faults.NotJson shown) = (string_bytes shown ≡ command) × (object_in_text text ≡ None)
 IsRootRefusal command text faults.Root = LacksRoot text
-IsRootRefusal command text (faults.Asked e) = ⊥
-IsRootRefusal command text (faults.Files e) = ⊥
-IsRootRefusal command text (faults.Manifest e) = ⊥
-IsRootRefusal command text (faults.Process e) = ⊥
-IsRootRefusal command text faults.OldCargo = ⊥
-IsRootRefusal command text (faults.Metadata e) = ⊥
+IsRootRefusal command text _ = ⊥

@@ -34,10 +34,10 @@ impl Answers {
     /// Asks cargo for its version, asks it or stable's cargo for the metadata, reads the manifest
     /// of each member, and asks cargo for the current manifest. An error ends the questions, unless
     /// it is one of the version; where memory is refused, they always end.
-    pub fn ask<C: Caller, F: Files>(
+    pub fn ask<'a, C: Caller, F: Files>(
         alloc: Global,
-        args: &Args,
-        env: &Env,
+        args: &'a Args,
+        env: &'a Env,
         caller: &mut C,
         files: &mut F,
         manager: &mut Manager,
@@ -60,7 +60,13 @@ impl Answers {
         };
         let minor = minor_of(&told.version);
         let host = told.host.as_deref();
-        let loaded = load(alloc, args, env, minor, host, caller, files, manager);
+        let asker = Asker {
+            args,
+            env,
+            minor,
+            host,
+        };
+        let loaded = asker.load(alloc, caller, files, manager);
         Answers {
             cargo_version: told.version,
             loaded,
@@ -78,69 +84,78 @@ fn out_of_memory() -> Answers
     }
 }
 
-/// Asks for the rest, where cargo has this minor version and this host.
-fn load<C: Caller, F: Files>(
-    alloc: Global,
-    args: &Args,
-    env: &Env,
+/// Who asks cargo: a call, which knows cargo's minor version and host.
+#[derive(Drop)]
+struct Asker<'a, 'h> {
+    args: &'a Args,
+    env: &'a Env,
     minor: u32,
-    host: Option<&str>,
-    caller: &mut C,
-    files: &mut F,
-    manager: &mut Manager,
-) -> Result<Loaded, ContextFault>
-    ensures stays { F.stays files.old files.new }
-    ensures left { LeavesFew F.tells (F.bytes_at files.old) (F.bytes_at files.new)
-        (F.failed files.old) (F.failed files.new) }
-    ensures whole { OnOk result (Whole F.tells (F.bytes_at files.old)
-        (F.bytes_at files.new) (F.failed files.old) (F.failed files.new)) }
-    ensures kept { registered_files manager.new ≡ registered_files manager.old }
-    ensures needs { manager.new.needs_restore ≡ manager.old.needs_restore }
-    ensures read { IfOk result (IsLoaded F.tells (F.bytes_at files.new) env.now) }
-    ensures asked { C.tells → LoadsTo F.tells args.now env.now (F.bytes_at files.old)
-        (F.failed files.old) (F.failed files.new) minor (option_copied host.entry)
-        (C.calls caller.old) (C.calls caller.new) result }
-{
-    match Metadata::new(alloc, args, env, minor, host, caller, files, manager) {
-        Ok(metadata) => load_behind(alloc, args, env, metadata, caller, files),
-        Err(fault) => Err(of_question(fault)),
-    }
+    host: Option<&'h str>,
 }
 
-/// Asks for what follows the metadata.
-fn load_behind<C: Caller, F: Files>(
-    alloc: Global,
-    args: &Args,
-    env: &Env,
-    metadata: Metadata,
-    caller: &mut C,
-    files: &mut F,
-) -> Result<Loaded, ContextFault>
-    ensures stays { F.stays files.old files.new }
-    ensures left { ReadsOnly F.tells (F.bytes_at files.old) (F.bytes_at files.new)
-        (F.failed files.old) (F.failed files.new) result }
-    ensures read { IfOk result (IsLoaded F.tells (F.bytes_at files.old) env.now) }
-    ensures asked { C.tells → LoadsFromMetadata F.tells args.now env.now (F.bytes_at files.old)
-        (F.failed files.old) (F.failed files.new) metadata
-        (C.calls caller.old) (C.calls caller.new) result }
-{
-    let manifests = match manifests_of(alloc, &metadata, files) {
-        Ok(manifests) => manifests,
-        Err(fault) => return Err(fault),
-    };
-    let located = match Located::ask(alloc, args, env, caller) {
-        Ok(located) => located,
-        Err(fault) => return Err(fault),
-    };
-    let cargo = env.cargo.clone()?;
-    let current_dir = env.current_dir.clone()?;
-    Ok(Loaded {
-        cargo,
-        current_dir,
-        metadata,
-        manifests,
-        located,
-    })
+impl<'a, 'h> Asker<'a, 'h> {
+    /// Asks for all but the version.
+    fn load<C: Caller, F: Files>(
+        &self,
+        alloc: Global,
+        caller: &mut C,
+        files: &mut F,
+        manager: &mut Manager,
+    ) -> Result<Loaded, ContextFault>
+        ensures stays { F.stays files.old files.new }
+        ensures left { LeavesFew F.tells (F.bytes_at files.old) (F.bytes_at files.new)
+            (F.failed files.old) (F.failed files.new) }
+        ensures whole { OnOk result (Whole F.tells (F.bytes_at files.old)
+            (F.bytes_at files.new) (F.failed files.old) (F.failed files.new)) }
+        ensures kept { registered_files manager.new ≡ registered_files manager.old }
+        ensures needs { manager.new.needs_restore ≡ manager.old.needs_restore }
+        ensures read { IfOk result (IsLoaded F.tells (F.bytes_at files.new) self.now.env.now) }
+        ensures asked { C.tells → LoadsTo F.tells self.now.args.now self.now.env.now
+            (F.bytes_at files.old) (F.failed files.old) (F.failed files.new) self.now.minor
+            (option_copied self.now.host) (C.calls caller.old) (C.calls caller.new) result }
+    {
+        match Metadata::new(
+            alloc, self.args, self.env, self.minor, self.host, caller, files, manager,
+        ) {
+            Ok(metadata) => self.load_behind(alloc, metadata, caller, files),
+            Err(fault) => Err(of_question(fault)),
+        }
+    }
+
+    /// Asks for what follows the metadata.
+    fn load_behind<C: Caller, F: Files>(
+        &self,
+        alloc: Global,
+        metadata: Metadata,
+        caller: &mut C,
+        files: &mut F,
+    ) -> Result<Loaded, ContextFault>
+        ensures stays { F.stays files.old files.new }
+        ensures left { ReadsOnly F.tells (F.bytes_at files.old) (F.bytes_at files.new)
+            (F.failed files.old) (F.failed files.new) result }
+        ensures read { IfOk result (IsLoaded F.tells (F.bytes_at files.old) self.now.env.now) }
+        ensures asked { C.tells → LoadsFromMetadata F.tells self.now.args.now self.now.env.now
+            (F.bytes_at files.old) (F.failed files.old) (F.failed files.new) metadata
+            (C.calls caller.old) (C.calls caller.new) result }
+    {
+        let manifests = match manifests_of(alloc, &metadata, files) {
+            Ok(manifests) => manifests,
+            Err(fault) => return Err(fault),
+        };
+        let located = match Located::ask(alloc, self.args, self.env, caller) {
+            Ok(located) => located,
+            Err(fault) => return Err(fault),
+        };
+        let cargo = self.env.cargo.clone()?;
+        let current_dir = self.env.current_dir.clone()?;
+        Ok(Loaded {
+            cargo,
+            current_dir,
+            metadata,
+            manifests,
+            located,
+        })
+    }
 }
 
 fn of_question(fault: AskFault) -> ContextFault

@@ -8,7 +8,8 @@ ghost use Rattle.hack_process.specs.CommandTexts.{text_of};
 ghost use Rattle.hack_process.specs.Commands.{asked_of, command_of};
 ghost use Rattle.hack_load.specs.CargoQuestions.{FailsSelf, IsSelf, TellsSelf, TellsVersion};
 ghost use Rattle.hack_load.specs.CargoQuestions.{self_command};
-ghost use Rattle.hack_load.specs.CargoQuestions.{minor_told, told_version, unknown_version};
+ghost use Rattle.hack_load.specs.CargoQuestions.{told_version, unknown_version};
+ghost use Rattle.std.specs.Result.{result_unwrap_or};
 ghost use Rattle.hack_versions.specs.ToolTexts.{answer_fault_text};
 
 use hack_process::cargo::{host, version};
@@ -84,7 +85,7 @@ impl CargoVersion {
 
 /// Returns the version, or 0 where it isn't known.
 pub(crate) fn minor_of(version: &Result<u32, String>) -> u32
-    ensures { result ≡ minor_told (told_version version.now) }
+    ensures { result ≡ result_unwrap_or version.now 0 }
 {
     match version {
         Ok(minor) => *minor,

@@ -3,7 +3,8 @@
 
 ghost use Rattle.std.specs.Prelude.{◌≡◌, ◌<◌, ◌⊎◌, ◌↔◌, [], ℕ, true};
 ghost use Rattle.std.specs.Prelude.{Contains, Some, IfOk, IfErr, IsTrue, OnOk};
-ghost use Rattle.std.specs.Prelude.{length, map, option_copied, option_map};
+ghost use Rattle.std.specs.Prelude.{false, not, length, map, option_copied, option_map};
+ghost use Rattle.std.specs.Option.{option_map_or};
 ghost use Rattle.hack_base.specs.Names.{optional_text};
 ghost use Rattle.hack_process.specs.Commands.{command_of};
 ghost use Rattle.hack_metadata.specs.Requests.{command_line};
@@ -12,7 +13,7 @@ ghost use Rattle.hack_metadata.specs.MetadataView.{metadata_view};
 ghost use Rattle.hack_load.specs.Contexts.{IsWholeContext, is_member_or_none, place_among};
 ghost use Rattle.hack_load.specs.Contexts.{package_at, manifest_at};
 ghost use Rattle.hack_load.specs.Contexts.{features_at, is_private_at, rust_version_at};
-ghost use Rattle.hack_load.specs.Contexts.{denies, verbose_name, manifest_rust_version};
+ghost use Rattle.hack_load.specs.Contexts.{verbose_name, manifest_rust_version};
 ghost use Rattle.hack_load.specs.ContextOf.{AreFeatures, IsContextCause, IsContextFrom};
 ghost use Rattle.hack_load.specs.ContextOf.{IsContextOf};
 ghost use Rattle.hack_load.specs.ContextOf.{IsLoadCause, IsNodeFault, IsTooOld};
@@ -326,7 +327,7 @@ fn place_of(members: &[PackageId], id: PackageId) -> usize
 
 /// Returns whether publishing is stated, and denied.
 fn denies(publish: Option<bool>) -> bool
-    ensures { result ≡ denies publish }
+    ensures { result ≡ option_map_or not publish false }
 {
     match publish {
         Some(publish) => !publish,

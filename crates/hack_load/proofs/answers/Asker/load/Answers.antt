@@ -1,10 +1,10 @@
-use Rattle.std.proofs.Common.{inl, inr, refl, Ok, Err}
+use Rattle.std.proofs.Common.{refl, Ok, Err}
 use Rattle.std.specs.Prelude.{option_copied}
 use Rattle.hack_metadata.specs.QuestionCalls.{WroteWhereKnown}
 use Rattle.hack_metadata.specs.Requests.{question}
 use Rattle.hack_load.proofs.AnswerLemmas.{ends-known, follows-earlier, loaded-later}
 use Rattle.hack_load.proofs.LeaveLemmas.{few-left, few-reads}
-use Rattle.hack_load.proofs.answers.load.Goals as goal
+use Rattle.hack_load.proofs.answers.Asker.load.Goals as goal
 
 pub returns-in-Ok-clause-left : goal.returns-in-Ok-clause-left
 returns-in-Ok-clause-left g c =
@@ -13,22 +13,22 @@ returns-in-Ok-clause-left g c =
 
 pub returns-in-Ok-clause-read : goal.returns-in-Ok-clause-read
 returns-in-Ok-clause-read g c =
-    loaded-later g.F.Files.tells (g.F.Files.bytes_at c.new.new.files) (g.F.Files.bytes_at c.load_behind.new.files) (g.F.Files.failed c.new.new.files) (g.F.Files.failed c.load_behind.new.files) c.args.env.now c.load_behind.result
+    loaded-later g.F.Files.tells (g.F.Files.bytes_at c.new.new.files) (g.F.Files.bytes_at c.load_behind.new.files) (g.F.Files.failed c.new.new.files) (g.F.Files.failed c.load_behind.new.files) c.args.self.now.env.now c.load_behind.result
     c.load_behind.ensures.left c.load_behind.ensures.read
 
 pub returns-in-Ok-clause-asked : goal.returns-in-Ok-clause-asked
 returns-in-Ok-clause-asked g c =
-    let q = question c.args.args.now c.args.env.now c.args.minor (option_copied c.args.host) in
+    let q = question c.args.self.now.args.now c.args.self.now.env.now c.args.self.now.minor (option_copied c.args.self.now.host) in
     let held = g.F.Files.bytes_at c.args.files.now in
     let later = g.F.Files.bytes_at c.new.new.files in
     let mid = g.C.Caller.calls c.new.new.caller in
-    λ called. inr (record {
-      metadata = c.in-Ok.metadata;
+    λ called. record {
+      asked = Ok c.in-Ok.metadata;
       mid = mid;
       ends = ends-known g.F.Files.tells q held (g.C.Caller.calls c.args.caller.now) mid (WroteWhereKnown g.F.Files.whole g.F.Files.tells (g.F.Files.trace c.args.files.now) (g.F.Files.trace c.new.new.files) held later) (Ok c.in-Ok.metadata) (c.in-Ok.ensures.ends called);
-      follows = follows-earlier g.F.Files.tells c.args.args.now c.args.env.now held later (g.F.Files.failed c.args.files.now) (g.F.Files.failed c.new.new.files) (g.F.Files.failed c.load_behind.new.files) c.in-Ok.metadata mid (g.C.Caller.calls c.load_behind.new.caller) c.load_behind.result
+      follows = follows-earlier g.F.Files.tells c.args.self.now.args.now c.args.self.now.env.now held later (g.F.Files.failed c.args.files.now) (g.F.Files.failed c.new.new.files) (g.F.Files.failed c.load_behind.new.files) c.in-Ok.metadata mid (g.C.Caller.calls c.load_behind.new.caller) c.load_behind.result
           c.in-Ok.ensures.left.1 (c.load_behind.ensures.asked called);
-    })
+    }
 
 pub returns-in-Err-clause-left : goal.returns-in-Err-clause-left
 returns-in-Err-clause-left g c =
@@ -36,12 +36,11 @@ returns-in-Err-clause-left g c =
 
 pub returns-in-Err-clause-asked : goal.returns-in-Err-clause-asked
 returns-in-Err-clause-asked g c =
-    let q = question c.args.args.now c.args.env.now c.args.minor (option_copied c.args.host) in
+    let q = question c.args.self.now.args.now c.args.self.now.env.now c.args.self.now.minor (option_copied c.args.self.now.host) in
     let held = g.F.Files.bytes_at c.args.files.now in
-    λ called. inl (record {
-      asked = c.in-Err.fault;
-      fault = c.of_question.result;
+    λ called. record {
+      asked = Err c.in-Err.fault;
+      mid = g.C.Caller.calls c.new.new.caller;
       ends = ends-known g.F.Files.tells q held (g.C.Caller.calls c.args.caller.now) (g.C.Caller.calls c.new.new.caller) (WroteWhereKnown g.F.Files.whole g.F.Files.tells (g.F.Files.trace c.args.files.now) (g.F.Files.trace c.new.new.files) held (g.F.Files.bytes_at c.new.new.files)) (Err c.in-Err.fault) (c.in-Err.ensures.ends called);
-      of = c.of_question.ensures;
-      is = refl;
-    })
+      follows = (refl, c.of_question.result, c.of_question.ensures, refl);
+    }

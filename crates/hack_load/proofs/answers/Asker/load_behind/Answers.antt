@@ -3,7 +3,7 @@ use Rattle.std.proofs.lemmas.Result.{err_from_is_err_and}
 use Rattle.hack_load.specs.CargoQuestions.{locate}
 use Rattle.hack_load.proofs.AnswerLemmas.{members-long}
 use Rattle.hack_load.proofs.AskLemmas.{locate-told}
-use Rattle.hack_load.proofs.answers.load_behind.Goals as goal
+use Rattle.hack_load.proofs.answers.Asker.load_behind.Goals as goal
 
 pub returns-clause-asked : goal.returns-clause-asked
 returns-clause-asked g c = λ called. (
@@ -25,7 +25,7 @@ returns-in-Err-ask-clause-asked g c = λ called.
     inr (
       c.in-Ok.manifests.items,
       c.in-Ok.ensures.ok,
-      locate-told g.C.Caller.tells (locate c.args.args.now c.args.env.now) (string_bytes c.args.env.now.current_dir) (g.C.Caller.calls c.args.caller.now) (g.C.Caller.calls c.ask.new.caller) c.in-Err-ask.fault called c.in-Err-ask.ensures.err,
+      locate-told g.C.Caller.tells (locate c.args.self.now.args.now c.args.self.now.env.now) (string_bytes c.args.self.now.env.now.current_dir) (g.C.Caller.calls c.args.caller.now) (g.C.Caller.calls c.ask.new.caller) c.in-Err-ask.fault called c.in-Err-ask.ensures.err,
     )
 
 pub returns-in_err-cargo-clause-asked : goal.returns-in_err-cargo-clause-asked
