@@ -108,7 +108,8 @@ after_attached left = record { option = left.option; untaken = Nothing; words = 
 
 -- what the next item leaves; after a refusal, the parser is at the next argument
 abbrev pub after_cut : LeftArguments → LeftArguments
-after_cut left = if is_some (unexpected_of left.untaken) then after_attached left else go left.untaken left.words
+after_cut left =
+    if is_some (unexpected_of left.untaken) then after_attached left else go left.untaken left.words
   where
     go : Untaken → List (List ℕ) → LeftArguments
     go (Chain letters) words =

@@ -74,11 +74,9 @@ is_target_flag w =
 abbrev pub is_target_name : List ℕ → Bool
 is_target_name w = starts_with nat_eq w (codes "--example=") || starts_with nat_eq w (codes "--test=") || starts_with nat_eq w (codes "--bench=")
 
--- a list of features to include excludes some options
-abbrev pub include_rules : Listed → List Use → List (Option Fault)
-include_rules l us =
-    map (λ other. fault_if (is_nonempty l.includes && is_given other us) (Clash opt.IncludeFeatures other))
-    (opt.OptionalDeps ∷ opt.IncludeDepsFeatures ∷ [])
+-- a list of features to include excludes this option
+abbrev pub include_rule : Listed → Opt → List Use → Option Fault
+include_rule l o us = fault_if (is_nonempty l.includes && is_given o us) (Clash opt.IncludeFeatures o)
 
 -- pairs of options that exclude each other
 abbrev pub pair_rules : List Use → List (Option Fault)
@@ -127,7 +125,8 @@ together_rules behavior l us =
     ∷ cargo_rule behavior opt.FeaturePowerset us
     ∷ option_and_then (λ word. option_map (λ option. ClashWord option word) (without_dev_deps us))
     (find (λ w. is_target_flag w || is_target_name w) (leading_of behavior us))
-    ∷ first_of (include_rules l us)
+    ∷ include_rule l opt.OptionalDeps us
+    ∷ include_rule l opt.IncludeDepsFeatures us
     ∷ first_of (pair_rules us)
     ∷ excluded_rule l l.excludes
     ∷ []

@@ -45,21 +45,16 @@ piece_rules us =
     ∷ value_rule opt.PartitionKind (λ text. unless_read (PartitionKind text) (kind_of text)) us
     ∷ []
 
--- the rules on lifted groups
-abbrev pub lift_rules : Listed → List Use → List (Option Fault)
-lift_rules l us =
-    needs (is_given opt.AllowTogether us) opt.AllowTogether beside.MutuallyExclusive (is_given opt.MutuallyExclusiveFeatures us)
-    ∷ option_or (lift_form us) (lift_group l.exclusive us)
-    ∷ []
-
--- the rules that are checked after the one on a missing subcommand; the last two are on the strength
--- of a sample
+-- the rules that are checked after the one on a missing subcommand: on ranges, the log group, pieces,
+-- lifted groups, and the strength of a sample
 abbrev pub rules_after : Option ℕ → Listed → List Use → List (Option Fault)
 rules_after rustup l us =
     first_of (range_rules rustup us)
     ∷ value_rule opt.LogGroup (λ text. unless_read (LogGroup text) (log_group_of text)) us
     ∷ first_of (piece_rules us)
-    ∷ first_of (lift_rules l us)
+    ∷ needs (is_given opt.AllowTogether us) opt.AllowTogether beside.MutuallyExclusive
+    (is_given opt.MutuallyExclusiveFeatures us)
+    ∷ option_or (lift_form us) (lift_group l.exclusive us)
     ∷ needs (is_given opt.Strength us) opt.Strength beside.Powerset (is_given opt.FeaturePowerset us)
     ∷ value_rule opt.Strength (λ text. unless_counted opt.Strength text (number_of 64 text)) us
     ∷ []

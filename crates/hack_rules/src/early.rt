@@ -21,7 +21,7 @@ ghost use Rattle.hack_rules.specs.EarlyRules.{single_rule, subcommand_rule};
 ghost use Rattle.hack_rules.specs.EarlyRules.{cargo_rule, without_dev_deps as dev_deps_option};
 ghost use Rattle.hack_rules.specs.EarlyRules.{is_target_flag as target_flag};
 ghost use Rattle.hack_rules.specs.EarlyRules.{is_target_name as target_name};
-ghost use Rattle.hack_rules.specs.EarlyRules.{include_rules, pair_rules};
+ghost use Rattle.hack_rules.specs.EarlyRules.{include_rule, pair_rules};
 ghost use Rattle.hack_rules.specs.EarlyRules.{option_naming as naming_option, excluded_rule};
 ghost use Rattle.hack_rules.specs.EarlyRules.{early_rules};
 ghost use Rattle.hack_rules.specs.EarlyRules.{together_rules, rules_before, is_each as each};
@@ -247,24 +247,14 @@ fn beside_targets(leading: &[String], uses: &[Use]) -> Result<(), CliFault>
     Ok(())
 }
 
-/// A list of features to include excludes some options.
-fn beside_includes(lists: &Lists, uses: &[Use]) -> Result<(), CliFault>
-    ensures { Checks result (first_of (include_rules (listed_view lists.now) (views uses.now))) }
+/// Refuses the option beside a list of features to include.
+fn beside_includes(lists: &Lists, option: Opt, uses: &[Use]) -> Result<(), CliFault>
+    ensures { Checks result (include_rule (listed_view lists.now) option (views uses.now)) }
 {
-    let option = Opt::IncludeFeatures;
-    if !has_some(lists.include_features.as_slice()) {
-        return Ok(());
-    }
-    if given(Opt::OptionalDeps, uses) {
+    if has_some(lists.include_features.as_slice()) && given(option, uses) {
         return Err(CliFault::Clash {
-            option,
-            other: Opt::OptionalDeps,
-        });
-    }
-    if given(Opt::IncludeDepsFeatures, uses) {
-        return Err(CliFault::Clash {
-            option,
-            other: Opt::IncludeDepsFeatures,
+            option: Opt::IncludeFeatures,
+            other: option,
         });
     }
     Ok(())
@@ -347,7 +337,8 @@ fn check_together(
     beside_cargo(behavior, Opt::EachFeature, uses)?;
     beside_cargo(behavior, Opt::FeaturePowerset, uses)?;
     beside_targets(leading, uses)?;
-    beside_includes(lists, uses)?;
+    beside_includes(lists, Opt::OptionalDeps, uses)?;
+    beside_includes(lists, Opt::IncludeDepsFeatures, uses)?;
     check_pairs(uses)?;
     check_excluded(lists)
 }

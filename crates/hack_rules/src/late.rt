@@ -1,28 +1,26 @@
 //! The rules that are checked after the one on a missing subcommand: on ranges of versions, log
 //! groups, pieces of a plan, lifted groups and the strength of a sample.
 
-ghost use Rattle.std.specs.Prelude.{◌≡◌, [], ◌∷◌, IfOk, IfSome, option_map, option_and_then};
+ghost use Rattle.std.specs.Prelude.{◌≡◌, IfOk, IfSome, option_map, option_and_then};
 ghost use Rattle.std.specs.List.{list_any};
 ghost use Rattle.std.specs.Result.{result_err};
 ghost use Rattle.hack_base.specs.Numbers.{number_of};
 ghost use Rattle.hack_term.specs.Groups.{log_group_of};
 ghost use Rattle.hack_versions.specs.Readings.{range_of};
-ghost use Rattle.hack_rules.specs.Uses.{is_given, view, views};
+ghost use Rattle.hack_rules.specs.Uses.{view, views};
 ghost use Rattle.hack_rules.specs.Values.{value_given};
 ghost use Rattle.hack_rules.specs.AskedFields.{read_range, range_asked, is_old_asked, step_asked};
 ghost use Rattle.hack_rules.specs.AskedFields.{is_message_format as message_format};
 ghost use Rattle.hack_rules.specs.AskedFields.{log_group_asked};
 ghost use Rattle.hack_rules.specs.AskedFields.{piece_asked, kind_asked, number_asked};
 ghost use Rattle.hack_rules.specs.CliFaults.{Checks, LogGroup as WrongLogGroup, Range};
-ghost use Rattle.hack_rules.specs.CliGroups.{AreLifts};
-ghost use Rattle.hack_rules.specs.CliLists.{lifts_given};
 ghost use Rattle.hack_rules.specs.CliValues.{unless_counted, unless_read};
 ghost use Rattle.hack_rules.specs.LateView.{IsLate};
 ghost use Rattle.hack_rules.specs.ListsView.{listed_view};
-ghost use Rattle.hack_rules.specs.Rules.{first_of, value_rule, needs as needs_rule};
+ghost use Rattle.hack_rules.specs.Rules.{first_of, value_rule};
 ghost use Rattle.hack_rules.specs.LateRules.{rustup_rule, is_ranged as ranged, range_rules};
 ghost use Rattle.hack_rules.specs.LateRules.{piece_rules};
-ghost use Rattle.hack_rules.specs.LateRules.{lift_rules, rules_after};
+ghost use Rattle.hack_rules.specs.LateRules.{rules_after};
 
 use crate::checks::{clash, needs};
 use crate::fault::{Beside, CliFault};
@@ -193,24 +191,8 @@ fn partition(alloc: Global, uses: &[Use]) -> Result<Option<Partition>, CliFault>
     }
 }
 
-/// The exclusion groups that are lifted for a package.
-fn lifts(alloc: Global, lists: &Lists, uses: &[Use]) -> Result<Vec<(String, Feature)>, CliFault>
-    ensures rules { Checks result (first_of (lift_rules (listed_view lists.now) (views uses.now))) }
-    ensures lifts { IfOk result (λ lifts. AreLifts (lifts_given (views uses.now)) lifts.items) }
-{
-    let option = Opt::AllowTogether;
-    let there = given(Opt::MutuallyExclusiveFeatures, uses);
-    needs(
-        given(option, uses),
-        option,
-        Beside::MutuallyExclusive,
-        there,
-    )?;
-    named::lifts(alloc, lists.mutually_exclusive_features.as_slice(), uses)
-}
-
-/// The number that the option gives.
-fn given_strength(alloc: Global, uses: &[Use]) -> Result<Option<usize>, CliFault>
+/// The strength of a sample.
+fn strength(alloc: Global, uses: &[Use]) -> Result<Option<usize>, CliFault>
     ensures rule { Checks result (value_rule Opt.Strength
         (λ text. unless_counted Opt.Strength text (number_of 64 text)) (views uses.now)) }
     ensures value { IfOk result (λ strength. strength ≡ number_asked Opt.Strength (views uses.now)) }
@@ -219,22 +201,6 @@ fn given_strength(alloc: Global, uses: &[Use]) -> Result<Option<usize>, CliFault
         Some(text) => Ok(Some(values::strength(alloc, text.as_str())?)),
         None => Ok(None),
     }
-}
-
-/// The strength of a sample, which needs a powerset.
-fn strength(alloc: Global, uses: &[Use]) -> Result<Option<usize>, CliFault>
-    ensures rules { Checks result (first_of
-        (needs_rule (is_given Opt.Strength (views uses.now)) Opt.Strength Beside.Powerset
-        (is_given Opt.FeaturePowerset (views uses.now))
-        ∷ value_rule Opt.Strength (λ text. unless_counted Opt.Strength text (number_of 64 text))
-        (views uses.now)
-        ∷ [])) }
-    ensures value { IfOk result (λ strength. strength ≡ number_asked Opt.Strength (views uses.now)) }
-{
-    let option = Opt::Strength;
-    let there = given(Opt::FeaturePowerset, uses);
-    needs(given(option, uses), option, Beside::Powerset, there)?;
-    given_strength(alloc, uses)
 }
 
 /// What these rules read while they check.
@@ -264,7 +230,18 @@ pub fn check(
     let versions = check_versions(alloc, rustup, uses)?;
     let log_group = log_group(alloc, github_actions, uses)?;
     let partition = partition(alloc, uses)?;
-    let lifts = lifts(alloc, lists, uses)?;
+    let option = Opt::AllowTogether;
+    let there = given(Opt::MutuallyExclusiveFeatures, uses);
+    needs(
+        given(option, uses),
+        option,
+        Beside::MutuallyExclusive,
+        there,
+    )?;
+    let lifts = named::lifts(alloc, lists.mutually_exclusive_features.as_slice(), uses)?;
+    let option = Opt::Strength;
+    let there = given(Opt::FeaturePowerset, uses);
+    needs(given(option, uses), option, Beside::Powerset, there)?;
     let strength = strength(alloc, uses)?;
     Ok(Late {
         versions,
