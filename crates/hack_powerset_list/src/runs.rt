@@ -18,7 +18,7 @@ ghost use Rattle.hack_powerset_list.specs.Streams.{CountsUnlessMemory};
 
 use crate::lines::{Texts, empty_page, print_line};
 use crate::room::SetRoom;
-use crate::walk::{SetLines, last_below, print_below, print_whole};
+use crate::walk::{SetEnd, SetLines, last_below, print_below, print_whole};
 use crate::wishes::Wishes;
 use hack_base::writes::{Sink, write_front};
 use hack_features::{Feature, Rules};
@@ -57,7 +57,6 @@ fn print_front<W: Sink>(
 /// Prints the lines of the listed sets; the line of the last set comes before the others or after
 /// them.
 fn print_sets<W: Sink>(
-    alloc: Global,
     lines: &SetLines<'_>,
     rules: &mut Rules<'_>,
     last_first: bool,
@@ -79,12 +78,16 @@ fn print_sets<W: Sink>(
         (with_last_first last_first (listed_in rules.old)))) }
     ensures counted { CountsUnlessMemory (W.failed out.old) (W.failed out.new) result }
 {
-    let n = lines.features.len();
+    let alloc = lines.alloc;
+    let end = SetEnd {
+        limit: lines.features.len(),
+        names: "",
+    };
     if last_first {
         print_whole(alloc, lines.features, lines.texts, lines.last, page, out)?;
-        print_below(alloc, lines, rules, room, "", n, page, out)
+        print_below(lines, rules, room, end, page, out)
     } else {
-        print_below(alloc, lines, rules, room, "", n, page, out)?;
+        print_below(lines, rules, room, end, page, out)?;
         print_whole(alloc, lines.features, lines.texts, lines.last, page, out)
     }
 }
@@ -116,12 +119,13 @@ fn print_runs<W: Sink>(
     };
     print_front(features, &texts, false, bare, page, out)?;
     let lines = SetLines {
+        alloc,
         features,
         texts: &texts,
         last: last.as_slice(),
     };
     let last_first = fits_two(wishes.depth);
-    print_sets(alloc, &lines, rules, last_first, &mut room, page, out)
+    print_sets(&lines, rules, last_first, &mut room, page, out)
 }
 
 /// Writes the lines of all runs, one after the other, or a front of them if memory is refused or a

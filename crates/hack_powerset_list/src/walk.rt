@@ -81,6 +81,7 @@ pub fn last_below(
 /// What the lines of sets are printed from.
 #[derive(Drop)]
 pub struct SetLines<'a> {
+    pub alloc: Global,
     pub features: &'a [Feature],
     pub texts: &'a Texts,
     /// The last listed set, whose line is printed apart from the others.
@@ -116,27 +117,26 @@ fn print_set<W: Sink>(
     )
 }
 
-/// Prints the line of `set`, if it is listed and isn't the last one. Its positions are `least` and
-/// others, whose names are in `others`.
+/// Prints the line of `set`, if it is listed and isn't the last one. The names of its positions but
+/// the least are in `others`.
 fn print_other<W: Sink>(
     lines: &SetLines<'_>,
     rules: &Rules<'_>,
     set: &[usize],
-    least: usize,
     others: &str,
     page: &mut String,
     out: &mut W,
 ) -> io::Result<()>
     requires texts { AreTexts (map name_of lines.now.features.now) lines.now.texts.now }
-    requires least { least < length lines.now.features.now }
+    requires below { All (λ p. p < length lines.now.features.now) set.now }
     requires set { IsSelection (size_of rules.now) set.now }
-    ensures ok { (s : List ℕ) → set.now ≡ least ∷ s
+    ensures ok { (p : ℕ) (s : List ℕ) → set.now ≡ p ∷ s
         → others.now ≡ others_text (items_at (map name_of lines.now.features.now) s)
         → OnOk result (PrintsText (W.contents out.old) (W.contents out.new)
         (string_bytes page.old) (string_bytes page.new)
         (set_lines (map name_of lines.now.features.now)
         (filter (is_other rules.now lines.now.last.now) (set.now ∷ [])))) }
-    ensures err { (s : List ℕ) → set.now ≡ least ∷ s
+    ensures err { (p : ℕ) (s : List ℕ) → set.now ≡ p ∷ s
         → others.now ≡ others_text (items_at (map name_of lines.now.features.now) s)
         → OnErr result (AppendsFront (W.contents out.old) (W.contents out.new)
         (string_bytes page.old ++ set_lines (map name_of lines.now.features.now)
@@ -144,7 +144,10 @@ fn print_other<W: Sink>(
     ensures counted { CountsUnlessMemory (W.failed out.old) (W.failed out.new) result }
 {
     if rules.complete(set) && set != lines.last {
-        print_set(lines.features, lines.texts, least, others, page, out)
+        let Some(least) = set.first() else {
+            return Ok(());
+        };
+        print_set(lines.features, lines.texts, *least, others, page, out)
     } else {
         Ok(())
     }
@@ -171,15 +174,21 @@ fn longer(
     Ok(longer)
 }
 
+/// What sets end with: the names of some positions, none of which is below `limit`.
+#[derive(Clone, Copy)]
+pub struct SetEnd<'a> {
+    pub limit: usize,
+    pub names: &'a str,
+}
+
 /// Prints the lines of the listed sets, except of the last one, that consist of the set in the room
-/// and one or more positions below `limit`. `others` has the names of the set in the room.
+/// and one or more positions below the limit of the end, which has the names of the set in the
+/// room.
 pub fn print_below<W: Sink>(
-    alloc: Global,
     lines: &SetLines<'_>,
     rules: &mut Rules<'_>,
     room: &mut SetRoom,
-    others: &str,
-    limit: usize,
+    end: SetEnd<'_>,
     page: &mut String,
     out: &mut W,
 ) -> io::Result<()>
@@ -187,19 +196,19 @@ pub fn print_below<W: Sink>(
     requires size { size_of rules.old ≡ length lines.now.features.now }
     requires room { most_in room.old ≡ size_of rules.old }
     requires set { IsSelection (size_of rules.old) (set_in room.old) }
-    requires above { All (λ p. limit ≤ p) (set_in room.old) }
-    requires limit { limit ≤ size_of rules.old }
-    requires others { others.now
+    requires above { All (λ p. end.limit ≤ p) (set_in room.old) }
+    requires limit { end.limit ≤ size_of rules.old }
+    requires names { end.names.now
         ≡ others_text (items_at (map name_of lines.now.features.now) (set_in room.old)) }
     ensures ok { OnOk result (PrintsText (W.contents out.old) (W.contents out.new)
         (string_bytes page.old) (string_bytes page.new)
         (set_lines (map name_of lines.now.features.now)
         (filter (is_other rules.old lines.now.last.now)
-        (below (may_of rules.old) limit (set_in room.old))))) }
+        (below (may_of rules.old) end.entry.limit (set_in room.old))))) }
     ensures err { OnErr result (AppendsFront (W.contents out.old) (W.contents out.new)
         (string_bytes page.old ++ set_lines (map name_of lines.now.features.now)
         (filter (is_other rules.old lines.now.last.now)
-        (below (may_of rules.old) limit (set_in room.old))))) }
+        (below (may_of rules.old) end.entry.limit (set_in room.old))))) }
     ensures kept { OnOk result (set_in room.new ≡ set_in room.old) }
     ensures room { most_in room.new ≡ most_in room.old }
     ensures same_size { size_of rules.new ≡ size_of rules.old }
@@ -207,15 +216,19 @@ pub fn print_below<W: Sink>(
     ensures same_whole { whole_of rules.new ≡ whole_of rules.old }
     ensures counted { CountsUnlessMemory (W.failed out.old) (W.failed out.new) result }
 {
-    for p in 0..limit {
+    for p in 0..end.limit {
         if !rules.may_begin(p, room.set()) {
             continue;
         }
         room.put(p);
-        print_other(lines, rules, room.set(), p, others, page, out)?;
+        print_other(lines, rules, room.set(), end.names, page, out)?;
         if p > 0 && !is_full(rules, room.set().len()) {
-            let longer = longer(alloc, lines.features, lines.texts, p, others)?;
-            print_below(alloc, lines, rules, room, longer.as_str(), p, page, out)?;
+            let longer = longer(lines.alloc, lines.features, lines.texts, p, end.names)?;
+            let end = SetEnd {
+                limit: p,
+                names: longer.as_str(),
+            };
+            print_below(lines, rules, room, end, page, out)?;
         }
         room.take();
     }

@@ -226,31 +226,6 @@ fn add_one_of<A: Allowed>(
     Ok(())
 }
 
-/// Adds, for each row of which the set has no member, the first position that may join, if there is
-/// one.
-fn add_one_of_each<A: Allowed>(
-    allowed: &mut A,
-    end: u128,
-    banned: &[bool],
-    set: &mut Vec<bool>,
-    rows: &[Vec<usize>],
-) -> Result<(), SampleFault>
-    requires { IsSuited (A.may allowed.old) (A.size allowed.old) banned.now set.old.items }
-    ensures suited { OnOk result (IsSuited (A.may allowed.old) (A.size allowed.old) banned.now
-        set.new.items) }
-    ensures inside { OnOk result (IsInside set.old.items set.new.items) }
-    ensures tired { IfErr result (IsTired end (A.count allowed.new)) }
-    ensures within { StaysWithin end (A.count allowed.old) (A.count allowed.new) }
-    ensures same_size { A.size allowed.new ≡ A.size allowed.old }
-    ensures same_may { A.may allowed.new ≡ A.may allowed.old }
-    ensures stays { (first : A) → A.stays first allowed.old → A.stays first allowed.new }
-{
-    for row in rows {
-        add_one_of(allowed, end, banned, set, row.as_slice())?;
-    }
-    Ok(())
-}
-
 /// Bans the first row of which the set has no member, if there is one, so that no larger set
 /// without banned positions has a member of each row.
 pub(crate) fn hold_off(held: &mut Vec<bool>, set: &[bool], rows: &[Vec<usize>])
@@ -271,7 +246,8 @@ pub(crate) fn hold_off(held: &mut Vec<bool>, set: &[bool], rows: &[Vec<usize>])
     }
 }
 
-/// Turns the candidate of these rows on, if `on` is true and that is allowed. If the candidate
+/// Turns the candidate of these rows on, if `on` is true and that is allowed: adds, for each row of
+/// which the set has no member, the first position that may join, if there is one. If the candidate
 /// isn't on then, bans one of its rows, so that no later member turns it on.
 fn turn<A: Allowed>(
     allowed: &mut A,
@@ -300,7 +276,9 @@ fn turn<A: Allowed>(
         hold_off(held, set.as_slice(), rows);
         return Ok(());
     }
-    add_one_of_each(allowed, end, held.as_slice(), set, rows)?;
+    for row in rows {
+        add_one_of(allowed, end, held.as_slice(), set, row.as_slice())?;
+    }
     hold_off(held, set.as_slice(), rows);
     Ok(())
 }

@@ -18,7 +18,7 @@ use Rattle.hack_powerset_list.proofs.walk.+print_below.Goals.{then-p-gt0+then-no
 
 pub may_begin-requires : goal.may_begin-requires
 may_begin-requires g t c =
-    let asked = c.requires.1.1.1 in
+    let asked = c.requires in
     let r = c.args.rules.now in
     let n : ℕ = size_of r in
     let may : List ℕ → Bool = may_of r in
@@ -26,14 +26,14 @@ may_begin-requires g t c =
     let names : List Name = map name_of c.args.lines.now.features.now in
     let s : List ℕ = set_in c.args.room.now in
     let p : ℕ = c.loop-p.p in
-    let lt : p < c.args.limit = c.loop-p-test.true in
+    let lt : p < c.args.end.limit = c.loop-p-test.true in
     let selection : IsSelection n (p ∷ s) =
-    selection-front n p s (omega (arith, lt, asked.1.1.1.1.1.0)) (above-front c.args.limit p s lt asked.1.1.1.1.0) asked.1.1.1.0 in
+    selection-front n p s (omega (arith, lt, asked.limit)) (above-front c.args.end.limit p s lt asked.above) asked.set in
     subst (λ m. IsSelection m (p ∷ c.set.result.now)) (sym c.loop-p.invariant.same_size) (subst (λ l. IsSelection n (p ∷ l)) (sym (c.set.ensures ∙ c.loop-p.invariant.kept)) selection)
 
 pub loop-p-preserved-then-not-may_begin : goal.loop-p-preserved-then-not-may_begin
 loop-p-preserved-then-not-may_begin g t c =
-    let asked = c.requires.1.1.1 in
+    let asked = c.requires in
     let r = c.args.rules.now in
     let n : ℕ = size_of r in
     let may : List ℕ → Bool = may_of r in
@@ -56,7 +56,7 @@ loop-p-preserved-then-not-may_begin g t c =
 
 pub put-requires : goal.put-requires
 put-requires g t c =
-    let asked = c.requires.1.1.1 in
+    let asked = c.requires in
     let r = c.args.rules.now in
     let n : ℕ = size_of r in
     let may : List ℕ → Bool = may_of r in
@@ -64,14 +64,14 @@ put-requires g t c =
     let names : List Name = map name_of c.args.lines.now.features.now in
     let s : List ℕ = set_in c.args.room.now in
     let p : ℕ = c.loop-p.p in
-    let lt : p < c.args.limit = c.loop-p-test.true in
+    let lt : p < c.args.end.limit = c.loop-p-test.true in
     let selection : IsSelection n (p ∷ s) =
-    selection-front n p s (omega (arith, lt, asked.1.1.1.1.1.0)) (above-front c.args.limit p s lt asked.1.1.1.1.0) asked.1.1.1.0 in
-    omega (arith, selection-short n (p ∷ s) selection, ap length c.loop-p.invariant.kept, c.loop-p.invariant.room, asked.1.1.0)
+    selection-front n p s (omega (arith, lt, asked.limit)) (above-front c.args.end.limit p s lt asked.above) asked.set in
+    omega (arith, selection-short n (p ∷ s) selection, ap length c.loop-p.invariant.kept, c.loop-p.invariant.room, asked.room)
 
 pub print_other-requires-clause-set : goal.print_other-requires-clause-set
 print_other-requires-clause-set g t c =
-    let asked = c.requires.1.1.1 in
+    let asked = c.requires in
     let r = c.args.rules.now in
     let n : ℕ = size_of r in
     let may : List ℕ → Bool = may_of r in
@@ -79,14 +79,14 @@ print_other-requires-clause-set g t c =
     let names : List Name = map name_of c.args.lines.now.features.now in
     let s : List ℕ = set_in c.args.room.now in
     let p : ℕ = c.loop-p.p in
-    let lt : p < c.args.limit = c.loop-p-test.true in
+    let lt : p < c.args.end.limit = c.loop-p-test.true in
     let selection : IsSelection n (p ∷ s) =
-    selection-front n p s (omega (arith, lt, asked.1.1.1.1.1.0)) (above-front c.args.limit p s lt asked.1.1.1.1.0) asked.1.1.1.0 in
+    selection-front n p s (omega (arith, lt, asked.limit)) (above-front c.args.end.limit p s lt asked.above) asked.set in
     subst (λ m. IsSelection m c.set-in-loop-p.result.now) (sym (c.may_begin.ensures.same_size ∙ c.loop-p.invariant.same_size)) (subst (IsSelection n) (sym (c.set-in-loop-p.ensures ∙ c.put.ensures.set ∙ ap (λ l. p ∷ l) c.loop-p.invariant.kept)) selection)
 
 pub returns-in_err-print_other-clause-err : goal.returns-in_err-print_other-clause-err
 returns-in_err-print_other-clause-err g t c =
-    let asked = c.requires.1.1.1 in
+    let asked = c.requires in
     let r = c.args.rules.now in
     let n : ℕ = size_of r in
     let may : List ℕ → Bool = may_of r in
@@ -94,26 +94,26 @@ returns-in_err-print_other-clause-err g t c =
     let names : List Name = map name_of c.args.lines.now.features.now in
     let s : List ℕ = set_in c.args.room.now in
     let p : ℕ = c.loop-p.p in
-    let lt : p < c.args.limit = c.loop-p-test.true in
+    let lt : p < c.args.end.limit = c.loop-p-test.true in
     let selection : IsSelection n (p ∷ s) =
-    selection-front n p s (omega (arith, lt, asked.1.1.1.1.1.0)) (above-front c.args.limit p s lt asked.1.1.1.1.0) asked.1.1.1.0 in
+    selection-front n p s (omega (arith, lt, asked.limit)) (above-front c.args.end.limit p s lt asked.above) asked.set in
     let permitted : may (p ∷ s) ≡ true =
     ap (λ l. may (p ∷ l)) (sym (c.set.ensures ∙ c.loop-p.invariant.kept)) ∙ sym (c.may_begin.ensures.answer ∙ ap (λ f. f (p ∷ c.set.result.now)) c.loop-p.invariant.same_may) ∙ c.if-not-may_begin.false in
     let stood : set_in c.put.new.self ≡ p ∷ s = c.put.ensures.set ∙ ap (λ l. p ∷ l) c.loop-p.invariant.kept in
     let set : c.set-in-loop-p.result.now ≡ p ∷ s = c.set-in-loop-p.ensures ∙ stood in
     let back : is_other c.may_begin.new.self c.args.lines.now.last.now ≡ test = other-same r c.may_begin.new.self c.args.lines.now.last.now (c.may_begin.ensures.same_whole ∙ c.loop-p.invariant.same_whole) in
-    let others : c.args.others.now ≡ others_text (items_at names s) = asked.1.1.1.1.1.1 in
-    let all = text-all names test may s p c.args.limit lt permitted in
+    let others : c.args.end.names.now ≡ others_text (items_at names s) = asked.names in
+    let all = text-all names test may s p c.args.end.limit lt permitted in
     let stopped : AppendsFront (g.W.Sink.contents c.loop-p.out) (g.W.Sink.contents c.print_other.new.out) (string_bytes c.loop-p.page ++ line_at names test may s p) =
     subst (λ x. AppendsFront (g.W.Sink.contents c.loop-p.out) (g.W.Sink.contents c.print_other.new.out) (string_bytes c.loop-p.page ++ set_lines names (filter test (x ∷ []))))
-    set (subst (λ f. AppendsFront (g.W.Sink.contents c.loop-p.out) (g.W.Sink.contents c.print_other.new.out) (string_bytes c.loop-p.page ++ set_lines names (filter f (c.set-in-loop-p.result.now ∷ [])))) back (c.in_err-print_other.ensures.err s set others)) in
+    set (subst (λ f. AppendsFront (g.W.Sink.contents c.loop-p.out) (g.W.Sink.contents c.print_other.new.out) (string_bytes c.loop-p.page ++ set_lines names (filter f (c.set-in-loop-p.result.now ∷ [])))) back (c.in_err-print_other.ensures.err p s set others)) in
     on_err-any c.from_residual.result _
-    (prints-stopped _ _ _ (string_bytes c.args.page.now) (string_bytes c.loop-p.page) (lines_below names test may s p) (line_at names test may s p) (lines_under names test may s p ++ all.0) (lines_below names test may s c.args.limit)
+    (prints-stopped _ _ _ (string_bytes c.args.page.now) (string_bytes c.loop-p.page) (lines_below names test may s p) (line_at names test may s p) (lines_under names test may s p ++ all.0) (lines_below names test may s c.args.end.limit)
     c.loop-p.invariant.printed stopped all.1)
 
 pub returns-in_err-longer-clause-err : goal.returns-in_err-longer-clause-err
 returns-in_err-longer-clause-err g t c =
-    let asked = c.requires.1.1.1 in
+    let asked = c.requires in
     let r = c.args.rules.now in
     let n : ℕ = size_of r in
     let may : List ℕ → Bool = may_of r in
@@ -121,28 +121,28 @@ returns-in_err-longer-clause-err g t c =
     let names : List Name = map name_of c.args.lines.now.features.now in
     let s : List ℕ = set_in c.args.room.now in
     let p : ℕ = c.loop-p.p in
-    let lt : p < c.args.limit = c.loop-p-test.true in
+    let lt : p < c.args.end.limit = c.loop-p-test.true in
     let selection : IsSelection n (p ∷ s) =
-    selection-front n p s (omega (arith, lt, asked.1.1.1.1.1.0)) (above-front c.args.limit p s lt asked.1.1.1.1.0) asked.1.1.1.0 in
+    selection-front n p s (omega (arith, lt, asked.limit)) (above-front c.args.end.limit p s lt asked.above) asked.set in
     let permitted : may (p ∷ s) ≡ true =
     ap (λ l. may (p ∷ l)) (sym (c.set.ensures ∙ c.loop-p.invariant.kept)) ∙ sym (c.may_begin.ensures.answer ∙ ap (λ f. f (p ∷ c.set.result.now)) c.loop-p.invariant.same_may) ∙ c.if-not-may_begin.false in
     let stood : set_in c.put.new.self ≡ p ∷ s = c.put.ensures.set ∙ ap (λ l. p ∷ l) c.loop-p.invariant.kept in
     let set : c.set-in-loop-p.result.now ≡ p ∷ s = c.set-in-loop-p.ensures ∙ stood in
     let back : is_other c.may_begin.new.self c.args.lines.now.last.now ≡ test = other-same r c.may_begin.new.self c.args.lines.now.last.now (c.may_begin.ensures.same_whole ∙ c.loop-p.invariant.same_whole) in
-    let others : c.args.others.now ≡ others_text (items_at names s) = asked.1.1.1.1.1.1 in
-    let all = text-all names test may s p c.args.limit lt permitted in
+    let others : c.args.end.names.now ≡ others_text (items_at names s) = asked.names in
+    let all = text-all names test may s p c.args.end.limit lt permitted in
     let line : PrintsText (g.W.Sink.contents c.loop-p.out) (g.W.Sink.contents c.print_other.new.out) (string_bytes c.loop-p.page) (string_bytes c.print_other.new.page) (line_at names test may s p) =
     subst (λ x. PrintsText (g.W.Sink.contents c.loop-p.out) (g.W.Sink.contents c.print_other.new.out) (string_bytes c.loop-p.page) (string_bytes c.print_other.new.page) (set_lines names (filter test (x ∷ []))))
-    set (subst (λ f. PrintsText (g.W.Sink.contents c.loop-p.out) (g.W.Sink.contents c.print_other.new.out) (string_bytes c.loop-p.page) (string_bytes c.print_other.new.page) (set_lines names (filter f (c.set-in-loop-p.result.now ∷ [])))) back (c.in_ok-print_other.ensures.ok s set others)) in
+    set (subst (λ f. PrintsText (g.W.Sink.contents c.loop-p.out) (g.W.Sink.contents c.print_other.new.out) (string_bytes c.loop-p.page) (string_bytes c.print_other.new.page) (set_lines names (filter f (c.set-in-loop-p.result.now ∷ [])))) back (c.in_ok-print_other.ensures.ok p s set others)) in
     let so_far : PrintsText (g.W.Sink.contents c.args.out.now) (g.W.Sink.contents c.print_other.new.out) (string_bytes c.args.page.now) (string_bytes c.print_other.new.page) (lines_below names test may s p ++ line_at names test may s p) =
     prints-then _ _ _ (string_bytes c.args.page.now) (string_bytes c.loop-p.page) (string_bytes c.print_other.new.page) (lines_below names test may s p) (line_at names test may s p) c.loop-p.invariant.printed line in
     on_err-any c.from_residual-in_err-longer.result _
-    (prints-front _ _ (string_bytes c.args.page.now) (string_bytes c.print_other.new.page) (lines_below names test may s p ++ line_at names test may s p) (lines_under names test may s p ++ all.0) (lines_below names test may s c.args.limit)
+    (prints-front _ _ (string_bytes c.args.page.now) (string_bytes c.print_other.new.page) (lines_below names test may s p ++ line_at names test may s p) (lines_under names test may s p ++ all.0) (lines_below names test may s c.args.end.limit)
     so_far (all.1 ∙ sym (append_assoc (lines_below names test may s p) (line_at names test may s p) (lines_under names test may s p ++ all.0))))
 
 pub print_below-requires : goal.print_below-requires
 print_below-requires g t c κs within =
-    let asked = c.requires.1.1.1 in
+    let asked = c.requires in
     let r = c.args.rules.now in
     let n : ℕ = size_of r in
     let may : List ℕ → Bool = may_of r in
@@ -150,26 +150,26 @@ print_below-requires g t c κs within =
     let names : List Name = map name_of c.args.lines.now.features.now in
     let s : List ℕ = set_in c.args.room.now in
     let p : ℕ = c.loop-p.p in
-    let lt : p < c.args.limit = c.loop-p-test.true in
+    let lt : p < c.args.end.limit = c.loop-p-test.true in
     let selection : IsSelection n (p ∷ s) =
-    selection-front n p s (omega (arith, lt, asked.1.1.1.1.1.0)) (above-front c.args.limit p s lt asked.1.1.1.1.0) asked.1.1.1.0 in
+    selection-front n p s (omega (arith, lt, asked.limit)) (above-front c.args.end.limit p s lt asked.above) asked.set in
     let stood : set_in c.put.new.self ≡ p ∷ s = c.put.ensures.set ∙ ap (λ l. p ∷ l) c.loop-p.invariant.kept in
-    let others : c.args.others.now ≡ others_text (items_at names s) = asked.1.1.1.1.1.1 in (
+    let others : c.args.end.names.now ≡ others_text (items_at names s) = asked.names in (
       omega (arith, lt),
       (
         within,
         (
-          asked.0,
+          asked.texts,
           (
-            c.may_begin.ensures.same_size ∙ c.loop-p.invariant.same_size ∙ asked.1.0,
+            c.may_begin.ensures.same_size ∙ c.loop-p.invariant.same_size ∙ asked.size,
             (
-              c.put.ensures.most ∙ c.loop-p.invariant.room ∙ asked.1.1.0 ∙ sym (c.may_begin.ensures.same_size ∙ c.loop-p.invariant.same_size),
+              c.put.ensures.most ∙ c.loop-p.invariant.room ∙ asked.room ∙ sym (c.may_begin.ensures.same_size ∙ c.loop-p.invariant.same_size),
               (
                 subst (λ m. IsSelection m (set_in c.put.new.self)) (sym (c.may_begin.ensures.same_size ∙ c.loop-p.invariant.same_size)) (subst (IsSelection n) (sym stood) selection),
                 (
-                  subst (All (λ q. p ≤ q)) (sym stood) (above-cons p s (above-front c.args.limit p s lt asked.1.1.1.1.0)),
+                  subst (All (λ q. p ≤ q)) (sym stood) (above-cons p s (above-front c.args.end.limit p s lt asked.above)),
                   (
-                    omega (arith, lt, asked.1.1.1.1.1.0, c.may_begin.ensures.same_size ∙ c.loop-p.invariant.same_size),
+                    omega (arith, lt, asked.limit, c.may_begin.ensures.same_size ∙ c.loop-p.invariant.same_size),
                     c.as_str.ensures.value ∙ c.in_ok-longer.ensures s others ∙ ap (λ l. others_text (items_at names l)) (sym stood),
                   ),
                 ),
@@ -182,7 +182,7 @@ print_below-requires g t c κs within =
 
 pub returns-in_err-print_below-clause-err : goal.returns-in_err-print_below-clause-err
 returns-in_err-print_below-clause-err g t c =
-    let asked = c.requires.1.1.1 in
+    let asked = c.requires in
     let r = c.args.rules.now in
     let n : ℕ = size_of r in
     let may : List ℕ → Bool = may_of r in
@@ -190,19 +190,19 @@ returns-in_err-print_below-clause-err g t c =
     let names : List Name = map name_of c.args.lines.now.features.now in
     let s : List ℕ = set_in c.args.room.now in
     let p : ℕ = c.loop-p.p in
-    let lt : p < c.args.limit = c.loop-p-test.true in
+    let lt : p < c.args.end.limit = c.loop-p-test.true in
     let selection : IsSelection n (p ∷ s) =
-    selection-front n p s (omega (arith, lt, asked.1.1.1.1.1.0)) (above-front c.args.limit p s lt asked.1.1.1.1.0) asked.1.1.1.0 in
+    selection-front n p s (omega (arith, lt, asked.limit)) (above-front c.args.end.limit p s lt asked.above) asked.set in
     let permitted : may (p ∷ s) ≡ true =
     ap (λ l. may (p ∷ l)) (sym (c.set.ensures ∙ c.loop-p.invariant.kept)) ∙ sym (c.may_begin.ensures.answer ∙ ap (λ f. f (p ∷ c.set.result.now)) c.loop-p.invariant.same_may) ∙ c.if-not-may_begin.false in
     let stood : set_in c.put.new.self ≡ p ∷ s = c.put.ensures.set ∙ ap (λ l. p ∷ l) c.loop-p.invariant.kept in
     let set : c.set-in-loop-p.result.now ≡ p ∷ s = c.set-in-loop-p.ensures ∙ stood in
     let back : is_other c.may_begin.new.self c.args.lines.now.last.now ≡ test = other-same r c.may_begin.new.self c.args.lines.now.last.now (c.may_begin.ensures.same_whole ∙ c.loop-p.invariant.same_whole) in
-    let others : c.args.others.now ≡ others_text (items_at names s) = asked.1.1.1.1.1.1 in
-    let all = text-all names test may s p c.args.limit lt permitted in
+    let others : c.args.end.names.now ≡ others_text (items_at names s) = asked.names in
+    let all = text-all names test may s p c.args.end.limit lt permitted in
     let line : PrintsText (g.W.Sink.contents c.loop-p.out) (g.W.Sink.contents c.print_other.new.out) (string_bytes c.loop-p.page) (string_bytes c.print_other.new.page) (line_at names test may s p) =
     subst (λ x. PrintsText (g.W.Sink.contents c.loop-p.out) (g.W.Sink.contents c.print_other.new.out) (string_bytes c.loop-p.page) (string_bytes c.print_other.new.page) (set_lines names (filter test (x ∷ []))))
-    set (subst (λ f. PrintsText (g.W.Sink.contents c.loop-p.out) (g.W.Sink.contents c.print_other.new.out) (string_bytes c.loop-p.page) (string_bytes c.print_other.new.page) (set_lines names (filter f (c.set-in-loop-p.result.now ∷ [])))) back (c.in_ok-print_other.ensures.ok s set others)) in
+    set (subst (λ f. PrintsText (g.W.Sink.contents c.loop-p.out) (g.W.Sink.contents c.print_other.new.out) (string_bytes c.loop-p.page) (string_bytes c.print_other.new.page) (set_lines names (filter f (c.set-in-loop-p.result.now ∷ [])))) back (c.in_ok-print_other.ensures.ok p s set others)) in
     let so_far : PrintsText (g.W.Sink.contents c.args.out.now) (g.W.Sink.contents c.print_other.new.out) (string_bytes c.args.page.now) (string_bytes c.print_other.new.page) (lines_below names test may s p ++ line_at names test may s p) =
     prints-then _ _ _ (string_bytes c.args.page.now) (string_bytes c.loop-p.page) (string_bytes c.print_other.new.page) (lines_below names test may s p) (line_at names test may s p) c.loop-p.invariant.printed line in
     let put : List ℕ = set_in c.put.new.self in
@@ -212,12 +212,12 @@ returns-in_err-print_below-clause-err g t c =
     let stopped : AppendsFront (g.W.Sink.contents c.print_other.new.out) (g.W.Sink.contents c.print_below.new.out) (string_bytes c.print_other.new.page ++ lines_under names test may s p) =
     subst (λ l. AppendsFront (g.W.Sink.contents c.print_other.new.out) (g.W.Sink.contents c.print_below.new.out) (string_bytes c.print_other.new.page ++ l)) (sym under) c.in_err-print_below.ensures.err in
     on_err-any c.from_residual-in_err-print_below.result _
-    (prints-stopped _ _ _ (string_bytes c.args.page.now) (string_bytes c.print_other.new.page) (lines_below names test may s p ++ line_at names test may s p) (lines_under names test may s p) all.0 (lines_below names test may s c.args.limit)
+    (prints-stopped _ _ _ (string_bytes c.args.page.now) (string_bytes c.print_other.new.page) (lines_below names test may s p ++ line_at names test may s p) (lines_under names test may s p) all.0 (lines_below names test may s c.args.end.limit)
     so_far stopped (all.1 ∙ sym (append_assoc (lines_below names test may s p) (line_at names test may s p) (lines_under names test may s p ++ all.0))))
 
 pub loop-p-preserved : goal.loop-p-preserved
 loop-p-preserved g t c =
-    let asked = c.requires.1.1.1 in
+    let asked = c.requires in
     let r = c.args.rules.now in
     let n : ℕ = size_of r in
     let may : List ℕ → Bool = may_of r in
@@ -225,19 +225,19 @@ loop-p-preserved g t c =
     let names : List Name = map name_of c.args.lines.now.features.now in
     let s : List ℕ = set_in c.args.room.now in
     let p : ℕ = c.loop-p.p in
-    let lt : p < c.args.limit = c.loop-p-test.true in
+    let lt : p < c.args.end.limit = c.loop-p-test.true in
     let selection : IsSelection n (p ∷ s) =
-    selection-front n p s (omega (arith, lt, asked.1.1.1.1.1.0)) (above-front c.args.limit p s lt asked.1.1.1.1.0) asked.1.1.1.0 in
+    selection-front n p s (omega (arith, lt, asked.limit)) (above-front c.args.end.limit p s lt asked.above) asked.set in
     let permitted : may (p ∷ s) ≡ true =
     ap (λ l. may (p ∷ l)) (sym (c.set.ensures ∙ c.loop-p.invariant.kept)) ∙ sym (c.may_begin.ensures.answer ∙ ap (λ f. f (p ∷ c.set.result.now)) c.loop-p.invariant.same_may) ∙ c.if-not-may_begin.false in
     let stood : set_in c.put.new.self ≡ p ∷ s = c.put.ensures.set ∙ ap (λ l. p ∷ l) c.loop-p.invariant.kept in
     let set : c.set-in-loop-p.result.now ≡ p ∷ s = c.set-in-loop-p.ensures ∙ stood in
     let back : is_other c.may_begin.new.self c.args.lines.now.last.now ≡ test = other-same r c.may_begin.new.self c.args.lines.now.last.now (c.may_begin.ensures.same_whole ∙ c.loop-p.invariant.same_whole) in
-    let others : c.args.others.now ≡ others_text (items_at names s) = asked.1.1.1.1.1.1 in
-    let all = text-all names test may s p c.args.limit lt permitted in
+    let others : c.args.end.names.now ≡ others_text (items_at names s) = asked.names in
+    let all = text-all names test may s p c.args.end.limit lt permitted in
     let line : PrintsText (g.W.Sink.contents c.loop-p.out) (g.W.Sink.contents c.print_other.new.out) (string_bytes c.loop-p.page) (string_bytes c.print_other.new.page) (line_at names test may s p) =
     subst (λ x. PrintsText (g.W.Sink.contents c.loop-p.out) (g.W.Sink.contents c.print_other.new.out) (string_bytes c.loop-p.page) (string_bytes c.print_other.new.page) (set_lines names (filter test (x ∷ []))))
-    set (subst (λ f. PrintsText (g.W.Sink.contents c.loop-p.out) (g.W.Sink.contents c.print_other.new.out) (string_bytes c.loop-p.page) (string_bytes c.print_other.new.page) (set_lines names (filter f (c.set-in-loop-p.result.now ∷ [])))) back (c.in_ok-print_other.ensures.ok s set others)) in
+    set (subst (λ f. PrintsText (g.W.Sink.contents c.loop-p.out) (g.W.Sink.contents c.print_other.new.out) (string_bytes c.loop-p.page) (string_bytes c.print_other.new.page) (set_lines names (filter f (c.set-in-loop-p.result.now ∷ [])))) back (c.in_ok-print_other.ensures.ok p s set others)) in
     let so_far : PrintsText (g.W.Sink.contents c.args.out.now) (g.W.Sink.contents c.print_other.new.out) (string_bytes c.args.page.now) (string_bytes c.print_other.new.page) (lines_below names test may s p ++ line_at names test may s p) =
     prints-then _ _ _ (string_bytes c.args.page.now) (string_bytes c.loop-p.page) (string_bytes c.print_other.new.page) (lines_below names test may s p) (line_at names test may s p) c.loop-p.invariant.printed line in
     let put : List ℕ = set_in c.put.new.self in
@@ -313,12 +313,12 @@ returns-in_err-print_below-clause-counted g t c =
 
 pub returns-clause-ok : goal.returns-clause-ok
 returns-clause-ok g t c =
-    let asked = c.requires.1.1.1 in
+    let asked = c.requires in
     let r = c.args.rules.now in
     let n : ℕ = size_of r in
     let may : List ℕ → Bool = may_of r in
     let test : List ℕ → Bool = is_other r c.args.lines.now.last.now in
     let names : List Name = map name_of c.args.lines.now.features.now in
     let s : List ℕ = set_in c.args.room.now in
-    let ended : c.loop-p.p ≡ c.args.limit = omega (arith, c.loop-p-test.false) in
+    let ended : c.loop-p.p ≡ c.args.end.limit = omega (arith, c.loop-p-test.false) in
     subst (λ k. PrintsText (g.W.Sink.contents c.args.out.now) (g.W.Sink.contents c.loop-p.out) (string_bytes c.args.page.now) (string_bytes c.loop-p.page) (lines_below names test may s k)) ended c.loop-p.invariant.printed

@@ -9,7 +9,7 @@ use Rattle.hack_powerset_list.specs.Walks.{is_other, set_lines}
 use Rattle.hack_powerset_list.proofs.walk.+print_below.Given as goal
 
 abbrev pub decreases-print_below : goal.decreases-print_below
-decreases-print_below g l = l.limit
+decreases-print_below g l = l.end.limit
 
 abbrev pub invariant-loop-p : goal.invariant-loop-p
 invariant-loop-p g l = record {
