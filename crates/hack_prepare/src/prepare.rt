@@ -29,7 +29,7 @@ ghost use Rattle.hack_prepare.specs.Writes.{AreWrites, BeginWrites, MakesSome};
 use crate::fault::PrepareFault;
 use crate::lockfile::keep_lockfile;
 use crate::members::edit_members;
-use crate::root::edit_root;
+use crate::root::{Members, edit_root};
 use crate::wanted::{Member, Wanted, members_of};
 use hack_base::notice::Notice;
 use hack_base::paths::join;
@@ -202,15 +202,11 @@ fn edit<F: Files>(
 {
     let mut notices = Vec::new(alloc);
     let gone = edit_members(alloc, wanted, members, files, manager, &mut notices)?;
-    edit_root(
-        alloc,
-        wanted,
-        members,
-        gone.as_slice(),
-        files,
-        manager,
-        &mut notices,
-    )?;
+    let workspace = Members {
+        all: members,
+        gone: gone.as_slice(),
+    };
+    edit_root(alloc, wanted, &workspace, files, manager, &mut notices)?;
     keep_lockfile(alloc, wanted.lockfile, files, manager)?;
     Ok(notices)
 }

@@ -36,76 +36,92 @@ use crate::wanted::{Member, Wanted};
 use hack_base::notice::Notice;
 use hack_files::fs::{Files, read_to_string};
 use hack_files::restore::Manager;
-use std::alloc::{AllocError, Global};
+use std::alloc::Global;
 
-/// Edits the manifest in the folder of the workspace, where that is wanted: `private` has the
-/// manifests of the members that are removed.
+/// The members of a workspace.
+#[derive(Drop)]
+pub(crate) struct Members<'s, 'g, 'm> {
+    pub(crate) all: &'s [Member<'m>],
+    /// The manifests of those that are removed.
+    pub(crate) gone: &'g [&'m str],
+}
+
+/// What the manifest holds, and how it is edited.
+#[derive(Drop)]
+struct Held<'t, 'g, 'm> {
+    text: &'t str,
+    drops_dev: bool,
+    /// The manifests of the members that are removed.
+    gone: &'g [&'m str],
+}
+
+/// Edits the manifest in the folder of the workspace, where that is wanted.
 #[tactic(auto, using(crate::proofs::StepLemmas::keeps_none))]
 pub(crate) fn edit_root<F: Files>(
     alloc: Global,
     wanted: &Wanted<'_>,
-    members: &[Member<'_>],
-    private: &[&str],
+    members: &Members<'_, '_, '_>,
     files: &mut F,
     manager: &mut Manager,
     notices: &mut Vec<Notice>,
 ) -> Result<(), PrepareFault>
-    requires { names_behind private.now ≡ gone_manifests (wanted_view wanted.now)
-        (members_view members.now) }
+    requires { names_behind members.now.gone.now ≡ gone_manifests (wanted_view wanted.now)
+        (members_view members.now.all.now) }
     ensures stays { F.stays files.old files.new }
     ensures counted { CountsCalls (F.failed files.old) (F.failed files.new) result }
-    ensures step { IsStep F.tells (λ start. HoldTexts start (members_view members.now))
-        (OnlyIf (edits_root (wanted_view wanted.now) (members_view members.now))
+    ensures step { IsStep F.tells (λ start. HoldTexts start (members_view members.now.all.now))
+        (OnlyIf (edits_root (wanted_view wanted.now) (members_view members.now.all.now))
         wanted.now.root.now)
         manager.old manager.new (F.bytes_at files.old) (F.bytes_at files.new) }
     ensures edited { OnOk result (F.tells
-        → edits_root (wanted_view wanted.now) (members_view members.now) ≡ true → (text : Name)
-        × IsRootText (wanted_view wanted.now) (members_view members.now) (F.bytes_at files.old) text
+        → edits_root (wanted_view wanted.now) (members_view members.now.all.now) ≡ true
+        → (text : Name)
+        × IsRootText (wanted_view wanted.now) (members_view members.now.all.now)
+        (F.bytes_at files.old) text
         × MakesRoot (wanted_view wanted.now)
-        (drops_at_root (wanted_view wanted.now) (members_view members.now))
-        (names_behind private.now) text
+        (drops_at_root (wanted_view wanted.now) (members_view members.now.all.now))
+        (names_behind members.now.gone.now) text
         (F.bytes_at files.new)) }
     ensures partly { F.tells → MakesRootOrNot (wanted_view wanted.now)
-        (drops_at_root (wanted_view wanted.now) (members_view members.now))
-        (names_behind private.now)
-        (IsRootText (wanted_view wanted.now) (members_view members.now) (F.bytes_at files.old))
+        (drops_at_root (wanted_view wanted.now) (members_view members.now.all.now))
+        (names_behind members.now.gone.now)
+        (IsRootText (wanted_view wanted.now) (members_view members.now.all.now)
+        (F.bytes_at files.old))
         (GrowsBy 1 (F.failed files.old) (F.failed files.new))
         (F.bytes_at files.old) (F.bytes_at files.new) }
     ensures others { F.tells → KeepsBut (wanted_view wanted.now)
-        (edits_root (wanted_view wanted.now) (members_view members.now))
+        (edits_root (wanted_view wanted.now) (members_view members.now.all.now))
         (F.bytes_at files.old) (F.bytes_at files.new) }
     ensures traced { OnOk result (F.whole → MakesSome (AreRootWrites F.tells
-        (wanted_view wanted.now) (members_view members.now) (F.bytes_at files.old))
+        (wanted_view wanted.now) (members_view members.now.all.now) (F.bytes_at files.old))
         (F.trace files.old) (F.trace files.new) (F.bytes_at files.old) (F.bytes_at files.new)) }
     ensures refused { OnErr result (F.whole → MakesSome (MayWriteRoot F.tells
-        (wanted_view wanted.now) (members_view members.now) (F.bytes_at files.old))
+        (wanted_view wanted.now) (members_view members.now.all.now) (F.bytes_at files.old))
         (F.trace files.old) (F.trace files.new) (F.bytes_at files.old) (F.bytes_at files.new)) }
     ensures told { OnOk result (AddsNotes notices.old notices.new
-        (root_notes (wanted_view wanted.now) (members_view members.now))) }
+        (root_notes (wanted_view wanted.now) (members_view members.now.all.now))) }
     ensures err { IfErr result (IsPathFaultOr
-        (IsReadRoot (wanted_view wanted.now) (members_view members.now))
-        (OnlyIf (edits_root (wanted_view wanted.now) (members_view members.now))
+        (IsReadRoot (wanted_view wanted.now) (members_view members.now.all.now))
+        (OnlyIf (edits_root (wanted_view wanted.now) (members_view members.now.all.now))
         wanted.now.root.now)
         (IsTextless F.tells (F.bytes_at files.old)
-        (IsReadRoot (wanted_view wanted.now) (members_view members.now)))
-        (IsRootFault (wanted_view wanted.now) (members_view members.now) F.tells
+        (IsReadRoot (wanted_view wanted.now) (members_view members.now.all.now)))
+        (IsRootFault (wanted_view wanted.now) (members_view members.now.all.now) F.tells
         (F.bytes_at files.old))) }
 {
     if !wanted.no_private {
         return Ok(());
     }
-    match root_text(wanted, members) {
-        Some(text) => edit_held(
-            alloc,
-            wanted,
-            wanted.drops_dev,
-            text,
-            private,
-            files,
-            manager,
-            notices,
-        ),
-        None => edit_virtual(alloc, wanted, private, files, manager, notices),
+    match root_text(wanted, members.all) {
+        Some(text) => {
+            let held = Held {
+                text,
+                drops_dev: wanted.drops_dev,
+                gone: members.gone,
+            };
+            edit_held(alloc, wanted, &held, files, manager, notices)
+        }
+        None => edit_virtual(alloc, wanted, members.gone, files, manager, notices),
     }
 }
 
@@ -173,16 +189,14 @@ fn edit_virtual<F: Files>(
         return Ok(());
     }
     match read_to_string(alloc, files, wanted.root) {
-        Ok(text) => edit_held(
-            alloc,
-            wanted,
-            false,
-            text.as_str(),
-            private,
-            files,
-            manager,
-            notices,
-        ),
+        Ok(text) => {
+            let held = Held {
+                text: text.as_str(),
+                drops_dev: false,
+                gone: private,
+            };
+            edit_held(alloc, wanted, &held, files, manager, notices)
+        }
         Err(fault) => Err(of_file(fault)),
     }
 }
@@ -192,51 +206,51 @@ fn edit_virtual<F: Files>(
 fn edit_held<F: Files>(
     alloc: Global,
     wanted: &Wanted<'_>,
-    drops_dev: bool,
-    held: &str,
-    private: &[&str],
+    held: &Held<'_, '_, '_>,
     files: &mut F,
     manager: &mut Manager,
     notices: &mut Vec<Notice>,
 ) -> Result<(), PrepareFault>
     ensures stays { F.stays files.old files.new }
     ensures counted { CountsCalls (F.failed files.old) (F.failed files.new) result }
-    ensures step { IsStep F.tells (HeldUnkept manager.old wanted.now.root.now held.now)
-        (OnlyIf (drops_dev || has_some (names_behind private.now)) wanted.now.root.now)
+    ensures step { IsStep F.tells (HeldUnkept manager.old wanted.now.root.now held.now.text.now)
+        (OnlyIf (held.now.drops_dev || has_some (names_behind held.now.gone.now))
+        wanted.now.root.now)
         manager.old manager.new (F.bytes_at files.old) (F.bytes_at files.new) }
-    ensures edited { OnOk result (F.tells → MakesRoot (wanted_view wanted.now) drops_dev
-        (names_behind private.now) held.now (F.bytes_at files.new)) }
-    ensures partly { F.tells → MakesRootOrNot (wanted_view wanted.now) drops_dev
-        (names_behind private.now) (Only held.now)
+    ensures edited { OnOk result (F.tells → MakesRoot (wanted_view wanted.now) held.now.drops_dev
+        (names_behind held.now.gone.now) held.now.text.now (F.bytes_at files.new)) }
+    ensures partly { F.tells → MakesRootOrNot (wanted_view wanted.now) held.now.drops_dev
+        (names_behind held.now.gone.now) (Only held.now.text.now)
         (GrowsBy 1 (F.failed files.old) (F.failed files.new))
         (F.bytes_at files.old) (F.bytes_at files.new) }
     ensures others { F.tells → KeepsBut (wanted_view wanted.now)
-        (drops_dev || has_some (names_behind private.now))
+        (held.now.drops_dev || has_some (names_behind held.now.gone.now))
         (F.bytes_at files.old) (F.bytes_at files.new) }
     ensures traced { OnOk result (F.whole → MakesSome
-        (IsOneIf (drops_dev || has_some (names_behind private.now))
-        (IsRootWrite (wanted_view wanted.now) drops_dev (names_behind private.now)
-        (Only held.now)))
+        (IsOneIf (held.now.drops_dev || has_some (names_behind held.now.gone.now))
+        (IsRootWrite (wanted_view wanted.now) held.now.drops_dev (names_behind held.now.gone.now)
+        (Only held.now.text.now)))
         (F.trace files.old) (F.trace files.new) (F.bytes_at files.old) (F.bytes_at files.new)) }
     ensures refused { OnErr result (F.whole → MakesSome (λ made. (made ≡ [])
-        ⊎ IsOneIf (drops_dev || has_some (names_behind private.now))
-        (IsRootWrite (wanted_view wanted.now) drops_dev (names_behind private.now)
-        (Only held.now)) made)
+        ⊎ IsOneIf (held.now.drops_dev || has_some (names_behind held.now.gone.now))
+        (IsRootWrite (wanted_view wanted.now) held.now.drops_dev (names_behind held.now.gone.now)
+        (Only held.now.text.now)) made)
         (F.trace files.old) (F.trace files.new) (F.bytes_at files.old) (F.bytes_at files.new)) }
     ensures told { OnOk result (AddsNotes notices.old notices.new
-        (edit_notes (wanted_view wanted.now) drops_dev (names_behind private.now))) }
+        (edit_notes (wanted_view wanted.now) held.now.drops_dev (names_behind held.now.gone.now))) }
     ensures err { IfErr result (IsPathFaultOr Nowhere
-        (OnlyIf (drops_dev || has_some (names_behind private.now)) wanted.now.root.now) Nowhere
-        (λ e. ((drops_dev || has_some (names_behind private.now)) ≡ true)
-        × IsRootTextFault (wanted_view wanted.now) drops_dev
-        (names_behind private.now) held.now e)) }
+        (OnlyIf (held.now.drops_dev || has_some (names_behind held.now.gone.now))
+        wanted.now.root.now) Nowhere
+        (λ e. ((held.now.drops_dev || has_some (names_behind held.now.gone.now)) ≡ true)
+        × IsRootTextFault (wanted_view wanted.now) held.now.drops_dev
+        (names_behind held.now.gone.now) held.now.text.now e)) }
 {
-    if !is_asked(drops_dev, private) {
+    if !is_asked(held.drops_dev, held.gone) {
         return Ok(());
     }
-    let between = dev_edit(alloc, wanted, drops_dev, held, notices)?;
-    let text = private_edit(alloc, wanted, private, between, notices)?;
-    replace(alloc, wanted.root, held, text.as_str(), files, manager)
+    let between = dev_edit(alloc, wanted, held.drops_dev, held.text, notices)?;
+    let text = private_edit(alloc, wanted, held.gone, between, notices)?;
+    replace(alloc, wanted.root, held.text, text.as_str(), files, manager)
 }
 
 /// Whether there is something to do.

@@ -10,15 +10,15 @@ use Rattle.hack_prepare.proofs.root.edit_held.Goals as goal
 
 pub returns-clause-others : goal.returns-clause-others
 returns-clause-others g c = λ t.
-    keeps-but (wanted_view c.args.wanted.now) (c.args.drops_dev || has_some (names_behind c.args.private.now)) (g.F.Files.bytes_at c.args.files.now) (g.F.Files.bytes_at c.replace.new.files)
+    keeps-but (wanted_view c.args.wanted.now) (c.args.held.now.drops_dev || has_some (names_behind c.args.held.now.gone.now)) (g.F.Files.bytes_at c.args.files.now) (g.F.Files.bytes_at c.replace.new.files)
     (sym c.if-not-is_asked.ensures) (c.replace.ensures.others t)
 
 pub returns-clause-traced : goal.returns-clause-traced
 returns-clause-traced g c =
-    root-made g.F.Files.whole c.replace.result (wanted_view c.args.wanted.now) c.args.drops_dev (names_behind c.args.private.now) c.args.held.now (string_bytes c.in_ok-between.between) (string_bytes c.in_ok-text.text) c.as_str.result.now
+    root-made g.F.Files.whole c.replace.result (wanted_view c.args.wanted.now) c.args.held.now.drops_dev (names_behind c.args.held.now.gone.now) c.args.held.now.text.now (string_bytes c.in_ok-between.between) (string_bytes c.in_ok-text.text) c.as_str.result.now
     (g.F.Files.trace c.args.files.now) (g.F.Files.trace c.replace.new.files) (g.F.Files.bytes_at c.args.files.now) (g.F.Files.bytes_at c.replace.new.files) (sym c.if-not-is_asked.ensures) c.as_str.ensures.value c.in_ok-between.ensures.ok c.in_ok-text.ensures.ok c.replace.ensures.traced
 
 pub returns-clause-refused : goal.returns-clause-refused
 returns-clause-refused g c =
-    root-or-none g.F.Files.whole c.replace.result (wanted_view c.args.wanted.now) c.args.drops_dev (names_behind c.args.private.now) c.args.held.now (string_bytes c.in_ok-between.between) (string_bytes c.in_ok-text.text) c.as_str.result.now
+    root-or-none g.F.Files.whole c.replace.result (wanted_view c.args.wanted.now) c.args.held.now.drops_dev (names_behind c.args.held.now.gone.now) c.args.held.now.text.now (string_bytes c.in_ok-between.between) (string_bytes c.in_ok-text.text) c.as_str.result.now
     (g.F.Files.trace c.args.files.now) (g.F.Files.trace c.replace.new.files) (g.F.Files.bytes_at c.args.files.now) (g.F.Files.bytes_at c.replace.new.files) (sym c.if-not-is_asked.ensures) c.as_str.ensures.value c.in_ok-between.ensures.ok c.in_ok-text.ensures.ok c.replace.ensures.refused

@@ -15,88 +15,88 @@ use Rattle.hack_prepare.proofs.root.edit_root.Goals as goal
 pub returns-in-Some-clause-step : goal.returns-in-Some-clause-step
 returns-in-Some-clause-step g c =
     let w = wanted_view c.args.wanted.now in
-    let ms = members_view c.args.members.now in
+    let ms = members_view c.args.members.now.all.now in
     step_given g.F.Files.tells (HeldUnkept c.args.manager.now w.root c.in-Some.text.now) (λ start. HoldTexts start ms)
-    (OnlyIf (w.drops_dev || has_some (names_behind c.args.private.now)) w.root) (OnlyIf (edits_root w ms) w.root) c.args.manager.now c.edit_held.new.manager
+    (OnlyIf (w.drops_dev || has_some (names_behind c.args.members.now.gone.now)) w.root) (OnlyIf (edits_root w ms) w.root) c.args.manager.now c.edit_held.new.manager
     (g.F.Files.bytes_at c.args.files.now) (g.F.Files.bytes_at c.edit_held.new.files)
     (λ start holds _. root-held w ms c.in-Some.text.now start holds c.in-Some.ensures)
-    (λ q h. (edits-is w ms w.drops_dev (names_behind c.args.private.now) c.if-not-wanted.false (drops-found w ms (root-found w ms c.in-Some.text.now c.in-Some.ensures)) c.requires ∙ h.0, h.1)) c.edit_held.ensures.step
+    (λ q h. (edits-is w ms w.drops_dev (names_behind c.args.members.now.gone.now) c.if-not-wanted.false (drops-found w ms (root-found w ms c.in-Some.text.now c.in-Some.ensures)) c.requires ∙ h.0, h.1)) c.edit_held.ensures.step
 
 pub returns-in-Some-clause-partly : goal.returns-in-Some-clause-partly
 returns-in-Some-clause-partly g c =
-    partly-found g.F.Files.tells (GrowsBy 1 (g.F.Files.failed c.args.files.now) (g.F.Files.failed c.edit_held.new.files)) (wanted_view c.args.wanted.now) (members_view c.args.members.now) (names_behind c.args.private.now)
+    partly-found g.F.Files.tells (GrowsBy 1 (g.F.Files.failed c.args.files.now) (g.F.Files.failed c.edit_held.new.files)) (wanted_view c.args.wanted.now) (members_view c.args.members.now.all.now) (names_behind c.args.members.now.gone.now)
     c.in-Some.text.now (g.F.Files.bytes_at c.args.files.now) (g.F.Files.bytes_at c.edit_held.new.files) c.in-Some.ensures c.edit_held.ensures.partly
 
 pub returns-in-Some-clause-edited : goal.returns-in-Some-clause-edited
 returns-in-Some-clause-edited g c =
-    edited-found g.F.Files.tells c.edit_held.result (wanted_view c.args.wanted.now) (members_view c.args.members.now) (names_behind c.args.private.now) c.in-Some.text.now
+    edited-found g.F.Files.tells c.edit_held.result (wanted_view c.args.wanted.now) (members_view c.args.members.now.all.now) (names_behind c.args.members.now.gone.now) c.in-Some.text.now
     (g.F.Files.bytes_at c.args.files.now) (g.F.Files.bytes_at c.edit_held.new.files) c.in-Some.ensures c.edit_held.ensures.edited
 
 pub returns-in-Some-clause-others : goal.returns-in-Some-clause-others
 returns-in-Some-clause-others g c = λ t.
     let w = wanted_view c.args.wanted.now in
-    let ms = members_view c.args.members.now in
+    let ms = members_view c.args.members.now.all.now in
     subst (λ (b : Bool). KeepsBut w b (g.F.Files.bytes_at c.args.files.now) (g.F.Files.bytes_at c.edit_held.new.files))
-    (sym (edits-is w ms w.drops_dev (names_behind c.args.private.now) c.if-not-wanted.false (drops-found w ms (root-found w ms c.in-Some.text.now c.in-Some.ensures)) c.requires)) (c.edit_held.ensures.others t)
+    (sym (edits-is w ms w.drops_dev (names_behind c.args.members.now.gone.now) c.if-not-wanted.false (drops-found w ms (root-found w ms c.in-Some.text.now c.in-Some.ensures)) c.requires)) (c.edit_held.ensures.others t)
 
 pub returns-in-Some-clause-told : goal.returns-in-Some-clause-told
 returns-in-Some-clause-told g c =
     let w = wanted_view c.args.wanted.now in
-    let ms = members_view c.args.members.now in
+    let ms = members_view c.args.members.now.all.now in
     subst (λ (l : List Note). OnOk c.edit_held.result (map note_of c.edit_held.new.notices.items ≡ map note_of c.args.notices.now.items ++ l))
-    (notes-are w ms w.drops_dev (names_behind c.args.private.now) c.if-not-wanted.false (drops-found w ms (root-found w ms c.in-Some.text.now c.in-Some.ensures)) c.requires) c.edit_held.ensures.told
+    (notes-are w ms w.drops_dev (names_behind c.args.members.now.gone.now) c.if-not-wanted.false (drops-found w ms (root-found w ms c.in-Some.text.now c.in-Some.ensures)) c.requires) c.edit_held.ensures.told
 
 pub returns-in-None-clause-step : goal.returns-in-None-clause-step
 returns-in-None-clause-step g c =
     let w = wanted_view c.args.wanted.now in
-    let ms = members_view c.args.members.now in
-    step_given g.F.Files.tells AnyStart (λ start. HoldTexts start ms) (OnlyIf (has_some (names_behind c.args.private.now)) w.root) (OnlyIf (edits_root w ms) w.root) c.args.manager.now c.edit_virtual.new.manager
+    let ms = members_view c.args.members.now.all.now in
+    step_given g.F.Files.tells AnyStart (λ start. HoldTexts start ms) (OnlyIf (has_some (names_behind c.args.members.now.gone.now)) w.root) (OnlyIf (edits_root w ms) w.root) c.args.manager.now c.edit_virtual.new.manager
     (g.F.Files.bytes_at c.args.files.now) (g.F.Files.bytes_at c.edit_virtual.new.files) (λ start holds. tt)
-    (λ q h. (edits-is w ms false (names_behind c.args.private.now) c.if-not-wanted.false (drops-missed w ms (root-missed w ms c.in-None.ensures)) c.requires ∙ h.0, h.1)) c.edit_virtual.ensures.step
+    (λ q h. (edits-is w ms false (names_behind c.args.members.now.gone.now) c.if-not-wanted.false (drops-missed w ms (root-missed w ms c.in-None.ensures)) c.requires ∙ h.0, h.1)) c.edit_virtual.ensures.step
 
 pub returns-in-None-clause-partly : goal.returns-in-None-clause-partly
 returns-in-None-clause-partly g c =
-    partly-missed g.F.Files.tells (GrowsBy 1 (g.F.Files.failed c.args.files.now) (g.F.Files.failed c.edit_virtual.new.files)) (wanted_view c.args.wanted.now) (members_view c.args.members.now) (names_behind c.args.private.now)
+    partly-missed g.F.Files.tells (GrowsBy 1 (g.F.Files.failed c.args.files.now) (g.F.Files.failed c.edit_virtual.new.files)) (wanted_view c.args.wanted.now) (members_view c.args.members.now.all.now) (names_behind c.args.members.now.gone.now)
     (g.F.Files.bytes_at c.args.files.now) (g.F.Files.bytes_at c.edit_virtual.new.files) c.in-None.ensures c.edit_virtual.ensures.partly
 
 pub returns-in-None-clause-edited : goal.returns-in-None-clause-edited
 returns-in-None-clause-edited g c =
-    edited-missed g.F.Files.tells c.edit_virtual.result (wanted_view c.args.wanted.now) (members_view c.args.members.now) (names_behind c.args.private.now)
+    edited-missed g.F.Files.tells c.edit_virtual.result (wanted_view c.args.wanted.now) (members_view c.args.members.now.all.now) (names_behind c.args.members.now.gone.now)
     (g.F.Files.bytes_at c.args.files.now) (g.F.Files.bytes_at c.edit_virtual.new.files) c.in-None.ensures c.if-not-wanted.false c.requires c.edit_virtual.ensures.edited
 
 pub returns-in-None-clause-told : goal.returns-in-None-clause-told
 returns-in-None-clause-told g c =
     let w = wanted_view c.args.wanted.now in
-    let ms = members_view c.args.members.now in
+    let ms = members_view c.args.members.now.all.now in
     subst (λ (l : List Note). OnOk c.edit_virtual.result (map note_of c.edit_virtual.new.notices.items ≡ map note_of c.args.notices.now.items ++ l))
-    (notes-are w ms false (names_behind c.args.private.now) c.if-not-wanted.false (drops-missed w ms (root-missed w ms c.in-None.ensures)) c.requires) c.edit_virtual.ensures.told
+    (notes-are w ms false (names_behind c.args.members.now.gone.now) c.if-not-wanted.false (drops-missed w ms (root-missed w ms c.in-None.ensures)) c.requires) c.edit_virtual.ensures.told
 
 pub returns-in-Some-clause-err : goal.returns-in-Some-clause-err
 returns-in-Some-clause-err g c =
-    found-fault g.F.Files.tells (wanted_view c.args.wanted.now) (members_view c.args.members.now) (names_behind c.args.private.now) c.in-Some.text.now (g.F.Files.bytes_at c.args.files.now)
+    found-fault g.F.Files.tells (wanted_view c.args.wanted.now) (members_view c.args.members.now.all.now) (names_behind c.args.members.now.gone.now) c.in-Some.text.now (g.F.Files.bytes_at c.args.files.now)
     c.edit_held.result c.in-Some.ensures c.if-not-wanted.false c.requires c.edit_held.ensures.err
 
 pub returns-in-None-clause-err : goal.returns-in-None-clause-err
 returns-in-None-clause-err g c =
-    missed-fault g.F.Files.tells (wanted_view c.args.wanted.now) (members_view c.args.members.now) (names_behind c.args.private.now) (g.F.Files.bytes_at c.args.files.now)
+    missed-fault g.F.Files.tells (wanted_view c.args.wanted.now) (members_view c.args.members.now.all.now) (names_behind c.args.members.now.gone.now) (g.F.Files.bytes_at c.args.files.now)
     c.edit_virtual.result c.in-None.ensures c.if-not-wanted.false c.requires c.edit_virtual.ensures.err
 
 pub returns-in-Some-clause-traced : goal.returns-in-Some-clause-traced
 returns-in-Some-clause-traced g c =
-    found-traced g.F.Files.tells (wanted_view c.args.wanted.now) (members_view c.args.members.now) (names_behind c.args.private.now) (g.F.Files.bytes_at c.args.files.now) c.if-not-wanted.false c.requires c.in-Some.text.now (g.F.Files.trace c.args.files.now) (g.F.Files.trace c.edit_held.new.files) (g.F.Files.bytes_at c.args.files.now) (g.F.Files.bytes_at c.edit_held.new.files) c.in-Some.ensures g.F.Files.whole c.edit_held.result c.edit_held.ensures.traced
+    found-traced g.F.Files.tells (wanted_view c.args.wanted.now) (members_view c.args.members.now.all.now) (names_behind c.args.members.now.gone.now) (g.F.Files.bytes_at c.args.files.now) c.if-not-wanted.false c.requires c.in-Some.text.now (g.F.Files.trace c.args.files.now) (g.F.Files.trace c.edit_held.new.files) (g.F.Files.bytes_at c.args.files.now) (g.F.Files.bytes_at c.edit_held.new.files) c.in-Some.ensures g.F.Files.whole c.edit_held.result c.edit_held.ensures.traced
 
 pub returns-in-Some-clause-refused : goal.returns-in-Some-clause-refused
 returns-in-Some-clause-refused g c =
-    found-refused g.F.Files.tells (wanted_view c.args.wanted.now) (members_view c.args.members.now) (names_behind c.args.private.now) (g.F.Files.bytes_at c.args.files.now) c.if-not-wanted.false c.requires c.in-Some.text.now (g.F.Files.trace c.args.files.now) (g.F.Files.trace c.edit_held.new.files) (g.F.Files.bytes_at c.args.files.now) (g.F.Files.bytes_at c.edit_held.new.files) c.in-Some.ensures g.F.Files.whole c.edit_held.result c.edit_held.ensures.refused
+    found-refused g.F.Files.tells (wanted_view c.args.wanted.now) (members_view c.args.members.now.all.now) (names_behind c.args.members.now.gone.now) (g.F.Files.bytes_at c.args.files.now) c.if-not-wanted.false c.requires c.in-Some.text.now (g.F.Files.trace c.args.files.now) (g.F.Files.trace c.edit_held.new.files) (g.F.Files.bytes_at c.args.files.now) (g.F.Files.bytes_at c.edit_held.new.files) c.in-Some.ensures g.F.Files.whole c.edit_held.result c.edit_held.ensures.refused
 
 pub returns-in-None-clause-traced : goal.returns-in-None-clause-traced
 returns-in-None-clause-traced g c =
-    missed-traced g.F.Files.tells (wanted_view c.args.wanted.now) (members_view c.args.members.now) (names_behind c.args.private.now) (g.F.Files.bytes_at c.args.files.now) c.if-not-wanted.false c.requires (g.F.Files.trace c.args.files.now) (g.F.Files.trace c.edit_virtual.new.files) (g.F.Files.bytes_at c.args.files.now) (g.F.Files.bytes_at c.edit_virtual.new.files) c.in-None.ensures g.F.Files.whole c.edit_virtual.result c.edit_virtual.ensures.traced
+    missed-traced g.F.Files.tells (wanted_view c.args.wanted.now) (members_view c.args.members.now.all.now) (names_behind c.args.members.now.gone.now) (g.F.Files.bytes_at c.args.files.now) c.if-not-wanted.false c.requires (g.F.Files.trace c.args.files.now) (g.F.Files.trace c.edit_virtual.new.files) (g.F.Files.bytes_at c.args.files.now) (g.F.Files.bytes_at c.edit_virtual.new.files) c.in-None.ensures g.F.Files.whole c.edit_virtual.result c.edit_virtual.ensures.traced
 
 pub returns-in-None-clause-refused : goal.returns-in-None-clause-refused
 returns-in-None-clause-refused g c =
-    missed-refused g.F.Files.tells (wanted_view c.args.wanted.now) (members_view c.args.members.now) (names_behind c.args.private.now) (g.F.Files.bytes_at c.args.files.now) c.if-not-wanted.false c.requires (g.F.Files.trace c.args.files.now) (g.F.Files.trace c.edit_virtual.new.files) (g.F.Files.bytes_at c.args.files.now) (g.F.Files.bytes_at c.edit_virtual.new.files) c.in-None.ensures g.F.Files.whole c.edit_virtual.result c.edit_virtual.ensures.refused
+    missed-refused g.F.Files.tells (wanted_view c.args.wanted.now) (members_view c.args.members.now.all.now) (names_behind c.args.members.now.gone.now) (g.F.Files.bytes_at c.args.files.now) c.if-not-wanted.false c.requires (g.F.Files.trace c.args.files.now) (g.F.Files.trace c.edit_virtual.new.files) (g.F.Files.bytes_at c.args.files.now) (g.F.Files.bytes_at c.edit_virtual.new.files) c.in-None.ensures g.F.Files.whole c.edit_virtual.result c.edit_virtual.ensures.refused
 
 pub returns-then-not-wanted-clause-traced : goal.returns-then-not-wanted-clause-traced
 returns-then-not-wanted-clause-traced g c = λ y.
-    unwanted g.F.Files.tells (wanted_view c.args.wanted.now) (members_view c.args.members.now) (g.F.Files.bytes_at c.args.files.now) (g.F.Files.trace c.args.files.now) (g.F.Files.bytes_at c.args.files.now) c.if-not-wanted.true
+    unwanted g.F.Files.tells (wanted_view c.args.wanted.now) (members_view c.args.members.now.all.now) (g.F.Files.bytes_at c.args.files.now) (g.F.Files.trace c.args.files.now) (g.F.Files.bytes_at c.args.files.now) c.if-not-wanted.true
