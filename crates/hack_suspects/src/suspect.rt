@@ -3,11 +3,11 @@
 
 ghost use Rattle.std.specs.Prelude.{◌≡◌, ◌<◌, ◌≤◌, ◌+◌, ◌*◌, ◌++◌, ◌∷◌, ◌-◌, ◌^◌, ℕ, []};
 ghost use Rattle.std.specs.Prelude.{false, min};
-ghost use Rattle.std.specs.Prelude.{Contains, length, remove, IfOk, IfErr, OnOk, MatchBool};
+ghost use Rattle.std.specs.Prelude.{length, remove, IfOk, IfErr, OnOk, MatchBool};
 ghost use Rattle.hack_samples.specs.Sets.{rows_of};
 ghost use Rattle.hack_suspects.specs.Suspects.{outcomes_of, choices, IsShown, Rises};
 ghost use Rattle.hack_samples.specs.Samples.{RowShows};
-ghost use Rattle.hack_suspects.specs.Suspects.{IsSuspect, AreSuspects, IsRefused};
+ghost use Rattle.hack_suspects.specs.Suspects.{AreSuspects, IsRefused};
 ghost use Rattle.hack_suspects.specs.InternalWalks.{IsFailedRow, AreSomeSuspects, FindsFrom};
 ghost use Rattle.hack_suspects.specs.InternalWalks.{PatternsAreKept};
 
@@ -140,7 +140,10 @@ fn walk(
         (rows_of found.new.items)) }
 {
     if !passed_shows(search.outcomes, pattern.as_slice(), &[]) {
-        return add(search, found, pattern);
+        if !is_minimal(search.outcomes, pattern.as_slice()) {
+            return Ok(());
+        }
+        return put(found, pattern);
     }
     if more == 0 {
         return Ok(());
@@ -154,33 +157,6 @@ fn walk(
         walk(alloc, search, found, next, candidate + 1, more - 1)?;
     }
     Ok(())
-}
-
-/// Adds the pattern if it is a suspect.
-fn add(
-    search: &Search<'_>,
-    found: &mut Vec<Vec<Setting>>,
-    pattern: Vec<Setting>,
-) -> Result<(), AllocError>
-    requires rises { Rises 0 search.now.candidates pattern.items }
-    requires small { length pattern.items ≤ search.now.strength }
-    requires row { IsFailedRow (outcomes_of search.now.outcomes.now) search.now.row.now }
-    requires shown { RowShows search.now.row.now pattern.items }
-    requires passed { IsShown false (outcomes_of search.now.outcomes.now) pattern.items → ⊥ }
-    requires sound { AreSomeSuspects (outcomes_of search.now.outcomes.now) search.now.candidates
-        search.now.strength (rows_of found.old.items) }
-    ensures sound { OnOk result (AreSomeSuspects (outcomes_of search.now.outcomes.now)
-        search.now.candidates search.now.strength (rows_of found.new.items)) }
-    ensures kept { OnOk result (PatternsAreKept (rows_of found.old.items)
-        (rows_of found.new.items)) }
-    ensures added { OnOk result (IsSuspect (outcomes_of search.now.outcomes.now)
-        search.now.candidates search.now.strength pattern.items
-        → Contains (rows_of found.new.items) pattern.items) }
-{
-    if !is_minimal(search.outcomes, pattern.as_slice()) {
-        return Ok(());
-    }
-    put(found, pattern)
 }
 
 /// The pattern with one more setting.

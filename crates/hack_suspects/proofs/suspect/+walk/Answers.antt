@@ -1,4 +1,4 @@
-use Rattle.std.proofs.Common.{◌≡◌, ◌∙◌, ◌<◌, ◌≤◌, ◌-◌, ◌+◌, ◌++◌, ◌∷◌, [], sym, ap, subst, ℕ, List, Bool, length, arith, rules, false, refl}
+use Rattle.std.proofs.Common.{◌≡◌, ◌∙◌, ◌<◌, ◌≤◌, ◌-◌, ◌+◌, ◌++◌, ◌∷◌, [], sym, ap, subst, ℕ, List, Bool, length, arith, rules, false, refl, remove}
 use Rattle.std.specs.Prelude.{slice_get, Some}
 use Rattle.std.proofs.lemmas.List.{append-nil, length_push}
 use Rattle.std.proofs.lemmas.Bool.{ltb-false}
@@ -6,24 +6,42 @@ use Rattle.std.proofs.lemmas.Option.{slice_get_within, slice_get_read}
 use Rattle.std.proofs.lemmas.Result.{on_ok_weaker}
 use Rattle.std.proofs.lemmas.List.Elements.{All-push}
 use Rattle.hack_samples.specs.Sets.{rows_of}
-use Rattle.hack_suspects.specs.Suspects.{RunOutcome, IsShown, Rises, outcomes_of}
+use Rattle.hack_suspects.specs.Suspects.{RunOutcome, IsShown, IsSuspect, Rises, outcomes_of}
 use Rattle.hack_samples.specs.Samples.{RowShows}
 use Rattle.hack_suspects.specs.InternalWalks.{FindsFrom, PatternsAreKept}
 use Rattle.hack_samples.specs.declared.sets.Setting.{Setting}
 use Rattle.hack_suspects.proofs.PatternLemmas.{rises-more, rises-wider}
-use Rattle.hack_suspects.proofs.SuspectLemmas.{finds-here, finds-all, finds-step, finds-kept}
+use Rattle.hack_suspects.proofs.SuspectLemmas.{finds-here, finds-all, finds-step, finds-kept, suspect-not, suspect-by, shown-by-row, some-more, on_ok_both}
 use Rattle.hack_suspects.proofs.suspect.+walk.Goals as goal
 
-pub add-requires-clause-rises : goal.add-requires-clause-rises
-add-requires-clause-rises t c = rises-wider 0 c.args.first c.args.search.now.candidates c.args.pattern.items c.requires.rises c.requires.first
+pub returns-then-not-is_minimal-clause-all : goal.returns-then-not-is_minimal-clause-all
+returns-then-not-is_minimal-clause-all t c =
+    let outcomes : List RunOutcome = outcomes_of c.args.search.now.outcomes.now in
+    let none = subst (λ (p : List Setting). IsShown false outcomes p → ⊥) (ap (λ (p : List Setting). p ++ []) c.as_slice.ensures.value ∙ append-nil c.args.pattern.items) c.if-not-passed_shows.ensures in
+    let without = subst (λ (p : List Setting). (place : ℕ) × (place < length p) × (IsShown false outcomes (remove p place) → ⊥)) c.as_slice-then-not-passed_shows.ensures.value c.if-not-is_minimal.ensures in
+    finds-here outcomes c.args.search.now.candidates c.args.search.now.strength c.args.search.now.row.now c.args.pattern.items c.args.first c.args.more (rows_of c.args.found.now.items) c.requires.row c.requires.shown none
+    (λ suspect. absurd (suspect-not outcomes c.args.search.now.candidates c.args.search.now.strength c.args.pattern.items without.0 without.1 without.2 suspect))
+
+pub returns-then-not-passed_shows-clause-sound : goal.returns-then-not-passed_shows-clause-sound
+returns-then-not-passed_shows-clause-sound t c =
+    let outcomes : List RunOutcome = outcomes_of c.args.search.now.outcomes.now in
+    let n : ℕ = c.args.search.now.candidates in
+    let most : ℕ = c.args.search.now.strength in
+    let none = subst (λ (p : List Setting). IsShown false outcomes p → ⊥) (ap (λ (p : List Setting). p ++ []) c.as_slice.ensures.value ∙ append-nil c.args.pattern.items) c.if-not-passed_shows.ensures in
+    let each = subst (λ (p : List Setting). (place : ℕ) → place < length p → IsShown false outcomes (remove p place)) c.as_slice-then-not-passed_shows.ensures.value c.if-not-is_minimal.ensures in
+    let suspect : IsSuspect outcomes n most c.args.pattern.items =
+    suspect-by outcomes n most c.args.pattern.items (rises-wider 0 c.args.first n c.args.pattern.items c.requires.rises c.requires.first) (omega (arith, c.requires.small))
+    (record { failed = shown-by-row outcomes c.args.search.now.row.now c.args.pattern.items c.requires.row c.requires.shown; passed = none }) each in
+    on_ok_both c.put.result (λ ordered only. some-more outcomes n most (rows_of c.args.found.now.items) (rows_of c.put.new.found.items) c.args.pattern.items c.requires.sound suspect ordered only)
+    c.put.ensures.ordered c.put.ensures.only
 
 pub returns-then-not-passed_shows-clause-all : goal.returns-then-not-passed_shows-clause-all
 returns-then-not-passed_shows-clause-all t c =
     let outcomes : List RunOutcome = outcomes_of c.args.search.now.outcomes.now in
     let none = subst (λ (p : List Setting). IsShown false outcomes p → ⊥) (ap (λ (p : List Setting). p ++ []) c.as_slice.ensures.value ∙ append-nil c.args.pattern.items) c.if-not-passed_shows.ensures in
-    on_ok_weaker c.add.result
-    (finds-here outcomes c.args.search.now.candidates c.args.search.now.strength c.args.search.now.row.now c.args.pattern.items c.args.first c.args.more (rows_of c.add.new.found.items) c.requires.row c.requires.shown none)
-    c.add.ensures.added
+    on_ok_weaker c.put.result
+    (λ added. finds-here outcomes c.args.search.now.candidates c.args.search.now.strength c.args.search.now.row.now c.args.pattern.items c.args.first c.args.more (rows_of c.put.new.found.items) c.requires.row c.requires.shown none (λ suspect. added))
+    c.put.ensures.added
 
 pub returns-in_default-clause-all : goal.returns-in_default-clause-all
 returns-in_default-clause-all t c =
