@@ -4,7 +4,6 @@ use Rattle.hack_files.specs.declared.fs.FsFault.{FsFault}
 use Rattle.hack_files.specs.declared.fs.FsFault.TheVariants as fs
 use Rattle.hack_process.specs.declared.fault.ProcessFault.{ProcessFault}
 use Rattle.hack_process.specs.declared.fault.ProcessFault.TheVariants as process
-use Rattle.hack_manifest.specs.declared.manifest.Manifest.{Manifest}
 use Rattle.hack_manifest.specs.declared.manifest.ManifestFault.{ManifestFault}
 use Rattle.hack_manifest.specs.declared.manifest.ManifestFault.TheVariants as manifest
 use Rattle.hack_load.specs.declared.fault.ContextFault.{ContextFault}
