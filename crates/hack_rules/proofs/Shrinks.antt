@@ -16,7 +16,7 @@ use Rattle.hack_rules.specs.declared.uses.cut.Print.{Print}
 use Rattle.hack_rules.specs.declared.uses.cut.Print.TheVariants as print
 use Rattle.hack_rules.specs.Faults.{Unexpected, Repeat, LoneQuote}
 use Rattle.hack_rules.specs.Uses.{Use, Unknown, is_given, subcommand_of}
-use Rattle.hack_rules.specs.UseReading.{Reading, Met, End, Prints, Fails, is_lone_quote, is_bare_letter, unknown_option, option_or_value, option_with_value, unless_quote, print_request, help_of, by_kind, known_option, removed_of, similar_of, other, of_cut, of_next, read_of, Reads}
+use Rattle.hack_rules.specs.UseReading.{Reading, Met, End, Prints, Fails, is_lone_quote, is_bare_letter, unknown_option, option_with, option_with_value, unless_quote, print_request, help_of, by_kind, known_option, removed_of, similar_of, other, of_cut, of_next, read_of, Reads}
 
 -- a measure of how much is left to read
 abbrev pub weight_of : Untaken → ℕ
@@ -100,7 +100,7 @@ leaves-kind : (P : LeftArguments → Type 0) (k : Kept P) (takes : Kind) (us : L
 leaves-kind P k kind.Flag us o flag l p = p
 leaves-kind P k kind.Value us o flag l p = leaves-value P k o flag (value_of l) l p
 leaves-kind P k kind.Names us o flag l p = leaves-names P flag (value_of l) (option_with_value o flag (value_of l) l) (leaves-value P k o flag (value_of l) l p)
-leaves-kind P k kind.OptionalNames us o flag l p = leaves-names P flag (optional_of l) (option_or_value o flag (optional_of l) l) ((k l p).1 (optional_of l))
+leaves-kind P k kind.OptionalNames us o flag l p = leaves-names P flag (optional_of l) (option_with o flag (optional_of l) l) ((k l p).1 (optional_of l))
 leaves-kind P k kind.Help us o flag l p = leaves-question P k (help_of flag) (subcommand_of us) flag l p
 leaves-kind P k kind.Version us o flag l p = leaves-question P k print.Version (subcommand_of us) flag l p
 leaves-kind P k kind.Refused us o flag l p = tt

@@ -41,14 +41,14 @@ unknown_option (LongFlag name) left = Met (Unknown (LongFlag name) (attached_val
 unknown_option (ShortFlag letter) left =
     if is_bare_letter letter then Met (Unknown (ShortFlag letter) None) left else Met (Unknown (ShortFlag letter) (attached_value left.untaken)) (after_attached left)
 
--- an option with this value, which may be left out
-abbrev pub option_or_value : Opt → Flag → Option (List ℕ) → LeftArguments → Reading
-option_or_value o flag value left = Met (Known (meaning_of o) flag value) (after_value value left)
+-- an option with this value, if it has one
+abbrev pub option_with : Opt → Flag → Option (List ℕ) → LeftArguments → Reading
+option_with o flag value left = Met (Known (meaning_of o) flag value) (after_value value left)
 
--- an option with this value, which may not be left out
+-- an option that needs its value
 abbrev pub option_with_value : Opt → Flag → Option (List ℕ) → LeftArguments → Reading
 option_with_value o flag None left = Fails (Missing flag)
-option_with_value o flag value left = option_or_value o flag value left
+option_with_value o flag value left = option_with o flag value left
 
 -- the reading of an option with this list of names, which may not be a lone quote sign
 abbrev pub unless_quote : Flag → Option (List ℕ) → Reading → Reading
@@ -73,7 +73,7 @@ by_kind kind.Value us o flag left = option_with_value o flag (value_of left) lef
 by_kind kind.Names us o flag left =
     unless_quote flag (value_of left) (option_with_value o flag (value_of left) left)
 by_kind kind.OptionalNames us o flag left =
-    unless_quote flag (optional_of left) (option_or_value o flag (optional_of left) left)
+    unless_quote flag (optional_of left) (option_with o flag (optional_of left) left)
 by_kind kind.Help us o flag left = print_request (help_of flag) (subcommand_of us) flag left
 by_kind kind.Version us o flag left = print_request Version (subcommand_of us) flag left
 by_kind kind.Refused us o flag left = Fails BehaviorForm

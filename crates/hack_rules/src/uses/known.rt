@@ -10,7 +10,7 @@ ghost use Rattle.hack_rules.specs.Internal.{ReturnsStep};
 ghost use Rattle.hack_rules.specs.UseReading.{unknown_option as unknown_reading};
 ghost use Rattle.hack_rules.specs.UseReading.{other as other_reading};
 ghost use Rattle.hack_rules.specs.UseReading.{option_with_value as value_reading};
-ghost use Rattle.hack_rules.specs.UseReading.{option_or_value as optional_reading, unless_quote};
+ghost use Rattle.hack_rules.specs.UseReading.{option_with as optional_reading, unless_quote};
 ghost use Rattle.hack_rules.specs.UseReading.{by_kind as kind_reading};
 ghost use Rattle.hack_rules.specs.UseReading.{print_request as question_reading};
 ghost use Rattle.hack_rules.specs.UseReading.{is_lone_quote as quote, help_of, removed_of};
