@@ -94,6 +94,25 @@ fn below(alloc: Global, n: usize) -> Result<Vec<usize>, AllocError>
     Ok(places)
 }
 
+/// Reports it for the packages of one version of a range.
+fn add_group(
+    alloc: Global,
+    cx: &Context,
+    ids: &[PackageId],
+    input: &PlanInput,
+    group: &VersionGroup,
+    notices: &mut Vec<Notice>,
+) -> Result<(), AllocError>
+    requires { All (λ id. Contains (context_view cx.now).metadata.workspace_members id.index)
+        ids.now }
+    ensures { OnOk result (AddsNotes notices.old notices.new
+        (version_notes (context_view cx.now) (map place_at ids.now) input.now
+        (Some group.now.version) group.now.packages.items)) }
+{
+    let count = slots(input, Some(group.version));
+    add_slots(alloc, cx, ids, count, &group.packages, notices)
+}
+
 /// Reports it for the packages of each version of a range.
 fn add_groups(
     alloc: Global,
@@ -110,8 +129,7 @@ fn add_groups(
         (Some group.version) group.packages.items) groups.now)) }
 {
     for group in groups {
-        let count = slots(input, Some(group.version));
-        add_slots(alloc, cx, ids, count, &group.packages, notices)?;
+        add_group(alloc, cx, ids, input, group, notices)?;
     }
     Ok(())
 }
