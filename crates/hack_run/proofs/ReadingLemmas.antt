@@ -2,7 +2,9 @@
 use Rattle.std.proofs.Common.{◌≡◌, ◌⊎◌, inl, inr, IfSome, List, Option, None, Some, MatchOption}
 use Rattle.hack_base.specs.Names.{Name}
 use Rattle.hack_rules.specs.CliFaults.{Fault, fault_of}
+use Rattle.hack_versions.specs.declared.rustup.Rustup.TheVariants.{Unasked}
 use Rattle.hack_words.specs.CommandLine.{Around, ComesTo, Faulty}
+use Rattle.hack_words.specs.ParseAnswers.{around_of}
 use Rattle.hack_words.specs.declared.cli.env.Env.{Env}
 use Rattle.hack_run.specs.declared.reading.Reading.{Reading}
 use Rattle.hack_run.specs.declared.reading.Reading.TheVariants.{Accepted, Refused}
@@ -17,7 +19,7 @@ or_refusal around words (Accepted parsed notices) h = h
 or_refusal around words (Refused fault) h = some_told (λ told. ComesTo around words (Faulty told)) (fault_of fault) h
 
 pub early_or_refusal : (env : Env) (words : List Name) (reading : Reading) → IsEarlyReading env words reading → IsEarlyReadingOrRefusal env words reading
-early_or_refusal env words reading h = (h.0, or_refusal _ words reading h.1)
+early_or_refusal env words reading h = (h.0, or_refusal (around_of env Unasked) words reading h.1)
 
 pub some_or_refusal : (env : Env) (words : List Name) (reading : Option Reading) → IfSome reading (IsEarlyReading env words) → IfSome reading (IsEarlyReadingOrRefusal env words)
 some_or_refusal env words None h = tt

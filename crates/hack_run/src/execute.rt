@@ -68,7 +68,7 @@ fn hand_to_starter<C: Caller, O: Write, E: Write>(
 {
     let rustup = host.env.rustup.as_str();
     let (log_group, keep_going) = manner(cx.args());
-    let starter = Starter::new(
+    let mut starter = Starter::new(
         host.alloc,
         host.caller,
         host.term,
@@ -76,7 +76,7 @@ fn hand_to_starter<C: Caller, O: Write, E: Write>(
         host.err,
         fault,
     );
-    let mut starter = starter.in_manner(log_group, keep_going);
+    starter.set_manner(log_group, keep_going);
     let session = drive_context(host.alloc, cx, rustup, stable, &mut starter)?;
     Ok(session)
 }

@@ -80,7 +80,7 @@ fn hand_to_lister<C: Caller, O: Write, E: Write>(
     let rustup = host.env.rustup.as_str();
     let mut nothing = io::sink();
     let mut fault = None;
-    let starter = Starter::new(
+    let mut starter = Starter::new(
         host.alloc,
         host.caller,
         host.term,
@@ -88,7 +88,7 @@ fn hand_to_lister<C: Caller, O: Write, E: Write>(
         host.err,
         &mut fault,
     );
-    let mut starter = starter.in_manner(LogGroup::None, cx.args().keep_going);
+    starter.set_manner(LogGroup::None, cx.args().keep_going);
     let mut line = String::new(host.alloc);
     let mut lines = gather_on(host.out, gathered, &mut line);
     let refused = list_over(host.alloc, cx, rustup, stable, &mut lines, &mut starter);

@@ -78,16 +78,13 @@ impl<'a, C: Caller, O: Sink, E: Sink> Starter<'a, C, O, E> {
         }
     }
 
-    /// The same starter, which prints lines by this kind of log groups. With `keep_going` the error
-    /// of a run doesn't stop it.
-    pub fn in_manner(self, log_group: LogGroup, keep_going: bool) -> Starter<'a, C, O, E>
-        ensures { result ≡ record self.entry { log_group = log_group; keep_going = keep_going } }
+    /// Makes the starter print lines by this kind of log groups. With `keep_going` the error of a
+    /// run doesn't stop it any more.
+    pub fn set_manner(&mut self, log_group: LogGroup, keep_going: bool)
+        ensures { self.new ≡ record self.old { log_group = log_group; keep_going = keep_going } }
     {
-        Starter {
-            log_group,
-            keep_going,
-            ..self
-        }
+        self.log_group = log_group;
+        self.keep_going = keep_going;
     }
 }
 

@@ -45,7 +45,7 @@ fn list_on<W: Write>(alloc: Global, cx: &Context, list: &mut W) -> Result<(usize
     let mut term = Term::new(Coloring::Never, false);
     let mut fault = None;
     let (mut out, mut err) = (io::sink(), io::sink());
-    let starter = Starter::new(
+    let mut starter = Starter::new(
         alloc,
         &mut caller,
         &mut term,
@@ -53,7 +53,7 @@ fn list_on<W: Write>(alloc: Global, cx: &Context, list: &mut W) -> Result<(usize
         &mut err,
         &mut fault,
     );
-    let mut starter = starter.in_manner(LogGroup::None, cx.args().keep_going);
+    starter.set_manner(LogGroup::None, cx.args().keep_going);
     let mut lines = LineWriter {
         out: list,
         failed: 0,

@@ -60,7 +60,7 @@ fn performed(
     is_whole: bool,
 ) -> Result<Left, Wrong> {
     let mut fault = None;
-    let starter = Starter::new(
+    let mut starter = Starter::new(
         alloc,
         &mut scene.caller,
         &mut scene.term,
@@ -68,7 +68,7 @@ fn performed(
         &mut scene.err,
         &mut fault,
     );
-    let mut starter = starter.in_manner(cx.args().log_group, cx.args().keep_going);
+    starter.set_manner(cx.args().log_group, cx.args().keep_going);
     let session = if is_whole {
         driven_whole(alloc, cx, &mut starter)?
     } else {

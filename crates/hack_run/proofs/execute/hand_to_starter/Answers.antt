@@ -17,7 +17,7 @@ returns-clause-done g c = λ none quiet t.
     let told = c.in_ok-session.ensures.ran.3 in
     let ran = c.in_ok-session.ensures.ran.4 in
     let last = c.drive_context.new.runner in
-    let made = c.in_manner-starter.ensures in
+    let made = c.set_manner.ensures in
     let after : HostView = record { calls = calls last.caller.now; out = g.O.Write.contents last.out.now; term = last.term.now } in
     let fault_is = c.fault-1.given.1 (sym c.new-starter.ensures.fault.0 ∙ ap (λ s. s.fault.ghost_name) (sym made) ∙ told.2 ∙ ran.2) in
     record {
@@ -26,5 +26,5 @@ returns-clause-done g c = λ none quiet t.
       planned = rw c.as_str-rustup.ensures.value at c.in_ok-session.ensures.ran.2;
       done = runs_all session.plan cx.args.partition session.schedule session.handed (host_of g.C.Caller g.O.Write c.args.host.now) after (calls mid.caller.now) mid.refused last.refused last.term.now last.fault.now
           (ap calls (told.3 ∙ ap (λ s. s.caller.now) made ∙ c.new-starter.ensures.caller.1)) headline.schedule (whole session headline.history headline.complete) (ran.3 t) ran.5 (sym fault_is ∙ none) quiet;
-      warned = warned_run c.args.host.now.term.now c.in_manner-starter.result.term.now mid.term.now last.term.now notes (ap (λ s. s.term.now) made ∙ c.new-starter.ensures.term.1) told.6 ran.6;
+      warned = warned_run c.args.host.now.term.now c.set_manner.new.self.term.now mid.term.now last.term.now notes (ap (λ s. s.term.now) made ∙ c.new-starter.ensures.term.1) told.6 ran.6;
     }

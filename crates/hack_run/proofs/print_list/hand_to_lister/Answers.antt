@@ -17,7 +17,7 @@ returns-clause-done g c = λ ok none short quiet t.
     let last = c.list_over-refused.new.runner in
     let lines = c.list_over-refused.new.out in
     let stays = c.list_over-refused.ensures.stays in
-    let made = c.in_manner-starter.ensures in
+    let made = c.set_manner.ensures in
     let before : HostView = record {
       calls = calls c.args.host.now.caller.now;
       out = append_known (contents c.gather_on-lines.result.out.now) c.gather_on-lines.result.gathered.now.items;
@@ -33,7 +33,7 @@ returns-clause-done g c = λ ok none short quiet t.
       planned = rw c.as_str-rustup.ensures.value at l.planned;
       done = sends_all l.course.plan cx.args.partition l.course.schedule l.course.handed before after (calls l.mid.caller.now) l.mid.refused last.refused last.term.now last.fault.now
           (ap calls (l.told.3 ∙ ap (λ s. s.caller.now) made ∙ c.new-starter.ensures.caller.1)) l.handed.schedule (whole l.course l.handed.history l.handed.complete) (l.ran.3 t) l.ran.5 list.listed list.written (sym fault_is ∙ none) quiet;
-      warned = warned_run c.args.host.now.term.now c.in_manner-starter.result.term.now l.mid.term.now last.term.now l.notes (ap (λ s. s.term.now) made ∙ c.new-starter.ensures.term.1) l.told.6 l.ran.6;
+      warned = warned_run c.args.host.now.term.now c.set_manner.new.self.term.now l.mid.term.now last.term.now l.notes (ap (λ s. s.term.now) made ∙ c.new-starter.ensures.term.1) l.told.6 l.ran.6;
     })
 
 pub returns-clause-made : goal.returns-clause-made
@@ -46,6 +46,6 @@ returns-clause-made g c = λ t.
     let has = append_known (contents lines.out.now) lines.gathered.now.items in
     let last = c.list_over-refused.new.runner in
     let gathered_is = c.gathered-1.given.1 (sym c.gather_on-lines.ensures.gathered.0 ∙ stays.1) in
-    rw (gathered_is, sym c.gather_on-lines.ensures.out.1, sym c.gather_on-lines.ensures.gathered.1, sym (ap (λ s. s.caller.now) c.in_manner-starter.ensures ∙ c.new-starter.ensures.caller.1), sym c.as_str-rustup.ensures.value)
+    rw (gathered_is, sym c.gather_on-lines.ensures.out.1, sym c.gather_on-lines.ensures.gathered.1, sym (ap (λ s. s.caller.now) c.set_manner.ensures ∙ c.new-starter.ensures.caller.1), sym c.as_str-rustup.ensures.value)
     (handed_makes (Unit {0}) had has _ _ (context_view c.args.cx.now) c.args.stable c.as_str-rustup.result.now _ last c.list_over-refused.ensures.made tt (λ s. calls s.caller.now) (λ s. s.refused) c.args.host.now.term.now last.term.now
     (λ notes x y told. ap calls told.3) (λ plan steps x y ran. ran.3 t))
