@@ -10,9 +10,9 @@ use Rattle.hack_journal.specs.SafeFiles.{IsSafe, StaysSafe}
 use Rattle.hack_journal.specs.declared.recover.RecoverFault.{RecoverFault}
 use Rattle.hack_process.specs.declared.caller.Caller.{Ghosts as Calling}
 use Rattle.hack_run.specs.Journals.{contents_seen, files_seen, world_seen}
-use Rattle.hack_run.specs.CallTrace.{MadeOnce}
+use Rattle.hack_run.specs.CallTrace.{IsCallTrace}
 use Rattle.hack_run.specs.TemporaryEdits.{BringsBack, IsClean, RestoresEdits}
-use Rattle.hack_run.specs.Success.{AreRefused, IsDone, Refuses}
+use Rattle.hack_run.specs.Refusals.{AreRefused, Refuses}
 use Rattle.hack_run.specs.Worlds.{FilesView, HostView, World, files_of, host_of}
 use Rattle.hack_run.specs.declared.host.Host.{Host}
 use Rattle.hack_term.specs.declared.term.Term.{Term}
@@ -130,8 +130,8 @@ pub data Restores (tells whole : Type 0) (folder journal : Name) (old new : File
 -- the call was performed without a journal: it meets what `run` promises
 pub record PerformsUnjournaled (tells talks : Type 0) (words : List Name) (env : Env) (old new : Scene) : Type 0 where
   pub refused : AreRefused env words → Refuses talks env old.host new.host
-  pub done : new.host.term.error ≡ false → talks → IsDone tells words env (world_in old) (world_in new)
-  pub made : talks → MadeOnce tells words env (world_in old) new.host
+  pub done : new.host.term.error ≡ false → talks → IsCallTrace true tells words env (world_in old) (world_in new)
+  pub made : talks → IsCallTrace false tells words env (world_in old) (world_in new)
   pub back : RestoresEdits env words → tells → BringsBack old.files new.files
   pub clean : new.host.term.error ≡ false → IsClean (RestoresEdits env words) tells old.files new.files
   pub lockfiles : new.lockfiles ≡ old.lockfiles
@@ -141,9 +141,10 @@ pub record PerformsUnjournaled (tells talks : Type 0) (words : List Name) (env :
 -- what `run_journaled` promises
 pub record Journals (tells whole locked talks : Type 0) (words : List Name) (env : Env) (journal : Name) (failed : ℕ) (old new : Scene) : Type 0 where
   pub refused : AreRefused env words → Refuses talks env old.host new.host
-  pub done : new.host.term.error ≡ false → talks → IsDone (tells × locked) words env
+  pub done : new.host.term.error ≡ false → talks → IsCallTrace true (tells × locked) words env
       (world_seen journal old.files.held old.lockfiles 0 old.host) (world_seen journal new.files.held new.lockfiles failed new.host)
-  pub made : talks → MadeOnce (tells × locked) words env (world_seen journal old.files.held old.lockfiles 0 old.host) new.host
+  pub made : talks → IsCallTrace false (tells × locked) words env
+      (world_seen journal old.files.held old.lockfiles 0 old.host) (world_seen journal new.files.held new.lockfiles failed new.host)
   pub clean : new.host.term.error ≡ false → RestoresEdits env words → tells → locked
       → KeepsAll (contents_seen journal old.files.held old.lockfiles) (contents_seen journal new.files.held new.lockfiles)
   pub back : RestoresEdits env words → tells → locked

@@ -19,11 +19,12 @@ use Rattle.hack_session.specs.declared.step.Outcome.{Outcome}
 use Rattle.hack_session.specs.declared.step.Outcome.TheVariants.{Passed}
 use Rattle.hack_versions.specs.declared.rustup.Rustup.{Rustup}
 use Rattle.hack_versions.specs.declared.rustup.Rustup.TheVariants as known
-use Rattle.hack_run.specs.Questions.{AsksRustup, AsksStable, InstallsStable, IsUnknown, ReadsStable, TellsMinor, TellsStable, rustup_command}
-use Rattle.hack_run.specs.Internal.{IsLatest}
+use Rattle.hack_run.specs.Loading.{IsMinorIn}
+use Rattle.hack_run.specs.Questions.{AsksRustup, AsksStable, InstallsStable, ReadsStable, TellsStable, rustup_command}
+use Rattle.hack_run.specs.Internal.{IsLatest, IsUnknown, TellsMinor}
 
 -- a command that failed may have been called
-fault_may : (tells : Type 0) (asked : Asked) (shown : Name) (old new : List Call) (e : ProcessFault) → IsReadFault tells asked shown old new e → tells → MayAdd asked old new
+pub fault_may : (tells : Type 0) (asked : Asked) (shown : Name) (old new : List Call) (e : ProcessFault) → IsReadFault tells asked shown old new e → tells → MayAdd asked old new
 fault_may tells asked shown old new process.Memory h t = h.1 t
 fault_may tells asked shown old new process.EmptyProgram h t = inl (h.1 t)
 fault_may tells asked shown old new (process.NeverExecuted text) h t = let had = h.2 t in inr (had.0, had.2)
@@ -87,11 +88,11 @@ is_known P (Err e) p = tt
 pub asks_rustup : {E : Type 0} (tells : Type 0) (wants : Bool) (rustup answer : Name) (c : Command) (old new : List Call) (r : Result Rustup E) → wants ≡ true → c ≡ rustup_command rustup
     → (tells → ReadsOutput c answer old new) → IfOk r (TellsMinor answer) → IfOk r (λ known. tells → AsksRustup wants rustup known old new)
 asks_rustup tells wants rustup answer c old new (Ok known) is same had told = λ t.
-    subst (λ b. AsksRustup b rustup known old new) (sym is) (inl (answer, subst (λ k. ReadsOutput k answer old new) same (had t), told))
+    subst (λ b. AsksRustup b rustup known old new) (sym is) (told.0, inl (answer, subst (λ k. ReadsOutput k answer old new) same (had t), told.1))
 asks_rustup tells wants rustup answer c old new (Err e) is same had told = tt
 
 -- an error other than out of memory comes of a command that gave no answer
-in_vain : (tells : Type 0) (c : Command) (shown : Name) (old new : List Call) (e : ProcessFault) → e ≢ process.Memory → IsReadFault tells (asked_of true c) shown old new e → tells → FailsToRead c old new
+pub in_vain : (tells : Type 0) (c : Command) (shown : Name) (old new : List Call) (e : ProcessFault) → e ≢ process.Memory → IsReadFault tells (asked_of true c) shown old new e → tells → FailsToRead c old new
 in_vain tells c shown old new process.Memory ne h t = absurd (ne refl)
 in_vain tells c shown old new process.EmptyProgram ne h t = inl (h.0, h.1 t)
 in_vain tells c shown old new (process.NeverExecuted text) ne h t = let had = h.2 t in inr (had.0, (λ s. never_started had.0.end had.1 s.0), had.2)
@@ -105,7 +106,8 @@ in_vain tells c shown old new (process.NotText text) ne h t = let had = h.2 t in
 pub asks_in_vain : {E : Type 0} (tells : Type 0) (wants : Bool) (rustup shown : Name) (c : Command) (old new : List Call) (r : Result Rustup E) (e : ProcessFault) → wants ≡ true → c ≡ rustup_command rustup
     → IsReadFault tells (asked_of true c) shown old new e → IfOk r IsUnknown → OnOk r (e ≢ process.Memory) → IfOk r (λ known. tells → AsksRustup wants rustup known old new)
 asks_in_vain tells wants rustup shown c old new (Ok known) e is same failed unknown lacks = λ t.
-    subst (λ b. AsksRustup b rustup known old new) (sym is) (inr (unknown, subst (λ k. FailsToRead k old new) same (in_vain tells c shown old new e lacks failed t)))
+    subst (λ b. AsksRustup b rustup known old new) (sym is)
+    (unknown.0, inr (subst (λ k. FailsToRead k old new) same (in_vain tells c shown old new e lacks failed t), subst (IsMinorIn None) (sym unknown.1) (λ v none. none)))
 asks_in_vain tells wants rustup shown c old new (Err x) e is same failed unknown lacks = tt
 
 -- nothing was asked

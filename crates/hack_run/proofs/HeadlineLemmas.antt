@@ -38,10 +38,12 @@ pub handed_out : (cx : ContextRecord) (stable : Result (Option Version) (String 
     → IsHandedOut cx stable t
 handed_out cx stable rustup t plan notes given args planned powersets samples patterns same goes_on schedule complete history runs = record {
   plan = subst (λ (p : PlanView). HasRunsOf cx.args.subcommand stable cx p) (sym same) (runs-of cx.args.subcommand stable cx rustup plan notes planned);
-  schedule = subst (λ (p : PlanView). IsSchedule cx.args.partition p t.schedule) (sym same) (subst (λ (a : Args). IsSchedule a.partition plan t.schedule) args schedule);
-  goes_on = goes_on;
-  history = history;
-  complete = complete;
+  driven = record {
+    schedule = subst (λ (p : PlanView). IsSchedule cx.args.partition p t.schedule) (sym same) (subst (λ (a : Args). IsSchedule a.partition plan t.schedule) args schedule);
+    goes_on = goes_on;
+    history = history;
+    complete = complete;
+  };
   runs = subst (λ (p : PlanView). HandsOut cx.args.partition (length p.entries) t) (sym same) (subst (λ (a : Args). HandsOut a.partition (length plan.entries) t) args runs);
   pieces = shared t.plan.entries;
   powersets = λ some powerset all. subst (λ (p : PlanView). HavePowersets cx p) (sym same) (powersets some powerset all);

@@ -3,8 +3,8 @@ mod CallLemmas
 mod GatherLemmas
 mod HeadlineLemmas
 mod JournalLemmas
-mod MadeLemmas
+mod LoadingLemmas
 pub mod ReadingLemmas
 mod RunLemmas
 mod ToldLemmas
-mod WholeLemmas
+mod TraceLemmas

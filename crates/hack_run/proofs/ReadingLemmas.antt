@@ -15,7 +15,7 @@ some_told C None h = inl h
 some_told C (Some told) h = inr (told, h)
 
 pub or_refusal : (around : Around) (words : List Name) (reading : Reading) → IsReading around words reading → IsReadingOrRefusal around words reading
-or_refusal around words (Accepted parsed notices) h = h
+or_refusal around words (Accepted parsed notices) h = h.0
 or_refusal around words (Refused fault) h = some_told (λ told. ComesTo around words (Faulty told)) (fault_of fault) h
 
 pub early_or_refusal : (env : Env) (words : List Name) (reading : Reading) → IsEarlyReading env words reading → IsEarlyReadingOrRefusal env words reading

@@ -1,4 +1,4 @@
--- The calls of a whole schedule.
+-- One history of a plan: its calls, and what a list writes.
 use Rattle.std.proofs.Common.{◌≡◌, ◌⊎◌, inl, inr, refl, arith, ap, zero, suc, Result, Ok, Err, OnOk, ℕ, Global, String, List, [], ◌∷◌, ◌++◌, map, filter, All, Bool, Option, Some, None, IsSome, ◌∙◌, sym, subst, append-nil, append_assoc, if◌then◌else◌, true, false}
 use Rattle.std.specs.Prelude.{◌≤◌, ◌<◌, ◌^◌, nat_lt}
 use Rattle.std.specs.List.{flat_map}
@@ -9,13 +9,11 @@ use Rattle.std.proofs.lemmas.Bool.{lt-ltb}
 use Rattle.hack_process.specs.Calls.{Call}
 use Rattle.hack_process.specs.declared.fault.ProcessFault.{ProcessFault}
 use Rattle.hack_term.specs.declared.term.Term.{Term}
-use Rattle.hack_term.specs.declared.partition.Partition.{Partition}
 use Rattle.hack_plan.specs.View.{PlanView}
-use Rattle.hack_session.specs.Histories.{HasPassed, passed_step}
+use Rattle.hack_session.specs.Histories.{Course, HasPassed}
 use Rattle.hack_session.specs.ListLines.{ListsStep, ListsAll, Page, has_failed, is_sent, is_sent_step, lines_written, step_lines}
-use Rattle.hack_session.specs.Internal.{IsListedStep, lines_listed}
-use Rattle.hack_session.specs.StepCalls.{Exactly, HasPerformed, HasTold, MakesCalls, Performs, PerformsAll}
-use Rattle.hack_session.specs.Schedules.{IsSchedule}
+use Rattle.hack_session.specs.Internal.{IsListedStep}
+use Rattle.hack_session.specs.StepCalls.{HasPerformed, HasTold, MakesCalls, PerformsAll}
 use Rattle.hack_session.specs.declared.step.Handed.{Handed}
 use Rattle.hack_plan.specs.declared.parts.Preparation.TheVariants.{Toolchain, Lockfile, Clean}
 use Rattle.hack_session.specs.declared.step.Step.{Step}
@@ -26,56 +24,24 @@ use Rattle.hack_base.specs.Names.{Name}
 use Rattle.hack_load.specs.Contexts.{ContextRecord}
 use Rattle.hack_versions.specs.declared.version.Version.{Version}
 use Rattle.hack_base.specs.Notes.{Note}
-use Rattle.hack_run.specs.Internal.{HandsOverAtMostOne, PerformsAtMostOne, DoesPlan, host_writing}
-use Rattle.hack_run.specs.ScheduleCalls.{PassesAll, RunsAll, SendsAll}
-use Rattle.hack_run.specs.Warnings.{GrowsWithin, Warned}
+use Rattle.hack_planner.specs.CallPlan.{IsPlanOf}
+use Rattle.hack_run.specs.CallTrace.{PerformsOne, Writes}
+use Rattle.hack_run.specs.Headline.{IsDriven}
+use Rattle.hack_run.specs.Internal.{HandsOverAtMostOne, ListsOver, PerformsAtMostOne, host_writing}
+use Rattle.hack_run.specs.Warnings.{Warned}
+use Rattle.hack_run.proofs.TraceLemmas.{unended}
 use Rattle.hack_run.specs.Worlds.{HostView}
 use Rattle.hack_run.proofs.GatherLemmas.{known-none}
-
--- a step that passed wasn't cut short
-exactly : (plan : PlanView) (step : Step) (calls : List Call) (cut : ℕ) → Performs plan (passed_step step) calls cut → Exactly plan step calls Passed
-exactly plan step calls cut (inl h) = h.0
-exactly plan step calls cut (inr h) = let e : Passed ≡ Failed = h.1 in absurd (cc)
-
--- steps that all passed made just their calls
-pub passes : (plan : PlanView) (steps : List Step) (calls : List Call) (cut : ℕ) → PerformsAll plan (map passed_step steps) calls cut → PassesAll plan steps calls
-passes plan [] calls cut p = p.0
-passes plan (step ∷ steps) calls cut p = (p.0, p.1, p.4, exactly plan step p.0 p.2 p.6, passes plan steps p.1 p.3 p.7)
 
 none_kept : (fault : Option ProcessFault) → fault ≡ None → IsSome fault → ⊥
 none_kept None n s = cc
 none_kept (Some e) n s = cc
 
 -- where no error is kept and none was reported, each step passed
-all_passed : (steps : List Handed) (term : Term) (fault : Option ProcessFault) → (All HasPassed steps ⊎ HasTold term fault) → fault ≡ None → term.error ≡ false → All HasPassed steps
+pub all_passed : (steps : List Handed) (term : Term) (fault : Option ProcessFault) → (All HasPassed steps ⊎ HasTold term fault) → fault ≡ None → term.error ≡ false → All HasPassed steps
 all_passed steps term fault (inl a) none quiet = a
 all_passed steps term fault (inr (inl told)) none quiet = let e : true ≡ false = sym told ∙ quiet in absurd (cc)
 all_passed steps term fault (inr (inr kept)) none quiet = absurd (none_kept fault none kept)
-
--- then the whole schedule was run
-pub runs_all : (plan : PlanView) (piece : Option Partition) (schedule : List Step) (handed : List Handed) (old new : HostView) (mid : List Call) (before now : ℕ) (term : Term) (fault : Option ProcessFault) → mid ≡ old.calls
-    → IsSchedule piece plan schedule → (All HasPassed handed → handed ≡ map passed_step schedule) → HasPerformed plan handed mid new.calls before now
-    → (All HasPassed handed ⊎ HasTold term fault) → fault ≡ None → term.error ≡ false → RunsAll plan piece old new
-runs_all plan piece schedule handed old new mid before now term fault same scheduled whole performed told none quiet = record {
-  schedule = schedule;
-  scheduled = scheduled;
-  ran = subst (λ (calls : List Call). MakesCalls (PassesAll plan schedule) calls new.calls) same (record {
-    made = performed.made;
-    grown = performed.grown;
-    such = passes plan schedule performed.made performed.cut (subst (λ hs. PerformsAll plan hs performed.made performed.cut) (whole (all_passed handed term fault told none quiet)) performed.performed);
-  });
-}
-
--- what is reported later than the runs doesn't matter, where no more is warned of
-pub runs_told : (cx : ContextRecord) (stable : Result (Option Version) (String Global)) (rustup : Name) (old new : HostView) (now : Term) → now.warn ≡ new.term.warn
-    → DoesPlan RunsAll cx stable rustup old new → DoesPlan RunsAll cx stable rustup old (record new { term = now })
-runs_told cx stable rustup old new now same h = record {
-  plan = h.plan;
-  notes = h.notes;
-  planned = h.planned;
-  done = record { schedule = h.done.schedule; scheduled = h.done.scheduled; ran = h.done.ran };
-  warned = subst (λ (b : Bool). Warned h.notes old.term.warn b) (sym same) h.warned;
-}
 
 -- a count of refusals that isn't above 0 is 0
 pub none_refused : {E : Type 0} (n : ℕ) → ◌≡◌ {A = Result Bool E} (Ok (nat_lt 0 n)) (Ok false) → n ≡ 0
@@ -113,33 +79,22 @@ sent_lines plan (Prepare (Clean v)) e = absurd (cc)
 sent_lines plan (Skip place) e = absurd (cc)
 sent_lines plan (Run place) e = absurd (cc)
 
--- steps of a list of which none failed: all are listed, and their lines are written
-pub record IsWritten (plan : PlanView) (steps : List Handed) (old new : Page) : Type 0 where
-  pub listed : All IsListedStep steps
-  pub written : Appends old.contents new.contents (flat_map (lines_listed plan) steps)
+one_listed : (whole : Type 0) (b : Bool) (plan : PlanView) (h : Handed) (old new : Page) → is_sent_step h.step ≡ b → old.failed ≡ 0 → old.refused ≡ 0 → new.failed ≡ 0 → new.refused ≡ 0 → ListsStep whole b plan h old new → IsListedStep h
+one_listed whole true plan h old new is f r g s same = rw is refl
+one_listed whole false plan h old new is f r g s (inl w) = rw is (ap has_failed w.passes)
+one_listed whole false plan h old new is f r g s (inr (inl m)) = let e = m.counted (omega (arith, f)) in absurd (omega (arith, e, f, g))
+one_listed whole false plan h old new is f r g s (inr (inr m)) = let e = m.counted (omega (arith, r)) in absurd (omega (arith, e, r, s))
 
-one_written : (whole : Type 0) (b : Bool) (plan : PlanView) (h : Handed) (old new : Page) → is_sent_step h.step ≡ b → old.failed ≡ 0 → old.refused ≡ 0 → new.failed ≡ 0 → new.refused ≡ 0 → ListsStep whole b plan h old new
-    → IsListedStep h × Appends old.contents new.contents (lines_listed plan h)
-one_written whole true plan h old new is f r g s same = (rw is refl, subst (λ (p : Page). Appends old.contents p.contents (lines_listed plan h)) (sym same) (subst (Appends old.contents old.contents) (sym (sent_lines plan h.step is)) (Appends-nil old.contents)))
-one_written whole false plan h old new is f r g s (inl w) = (rw is (ap has_failed w.passes), w.written)
-one_written whole false plan h old new is f r g s (inr (inl m)) = let e = m.counted (omega (arith, f)) in absurd (omega (arith, e, f, g))
-one_written whole false plan h old new is f r g s (inr (inr m)) = let e = m.counted (omega (arith, r)) in absurd (omega (arith, e, r, s))
-
--- where no line failed and no memory was refused, all steps of a list are listed, and their lines written
-pub all_written : (whole : Type 0) (plan : PlanView) (steps : List Handed) (old new : Page) → old.failed ≡ 0 → old.refused ≡ 0 → new.failed ≡ 0 → new.refused ≡ 0 → ListsAll whole plan steps old new → IsWritten plan steps old new
-all_written whole plan [] old new f r g s same = record { listed = λ k d lt. absurd (omega arith); written = subst (λ (p : Page). Appends old.contents p.contents []) (sym same) (Appends-nil old.contents) }
-all_written whole plan (h ∷ steps) old new f r g s l =
+-- where no line failed and no memory was refused, all steps of a list are listed
+pub all_listed : (whole : Type 0) (plan : PlanView) (steps : List Handed) (old new : Page) → old.failed ≡ 0 → old.refused ≡ 0 → new.failed ≡ 0 → new.refused ≡ 0 → ListsAll whole plan steps old new → All IsListedStep steps
+all_listed whole plan [] old new f r g s same = λ k d lt. absurd (omega arith)
+all_listed whole plan (h ∷ steps) old new f r g s l =
     let low : Small old = (omega (arith, f), omega (arith, r)) in
     let one = rises_one whole (is_sent h) plan h old l.0 low l.1 in
     let more = rises whole plan steps l.0 new one.small l.2 in
     let mf : l.0.failed ≡ 0 = omega (arith, more.failed, g) in
     let mr : l.0.refused ≡ 0 = omega (arith, more.refused, s) in
-    let here = one_written whole (is_sent h) plan h old l.0 refl f r mf mr l.1 in
-    let rest = all_written whole plan steps l.0 new mf mr g s l.2 in
-    record {
-      listed = All-cons IsListedStep h steps here.0 rest.listed;
-      written = Appends-trans old.contents l.0.contents new.contents (lines_listed plan h) (flat_map (lines_listed plan) steps) here.1 rest.written;
-    }
+    All-cons IsListedStep h steps (one_listed whole (is_sent h) plan h old l.0 refl f r mf mr l.1) (all_listed whole plan steps l.0 new mf mr g s l.2)
 
 -- what is kept grows by nothing
 kept_nothing : (a b : Option (List ℕ)) → Keeps a b → Appends a b []
@@ -176,7 +131,7 @@ passed_by h off listed = go h.outcome (rw off at listed)
     go Failed e = absurd (cc)
 
 -- where those that aren't listed passed, and the others are listed, all passed
-all_handed : (steps : List Handed) → All HasPassed (filter is_sent steps) → All IsListedStep steps → All HasPassed steps
+pub all_handed : (steps : List Handed) → All HasPassed (filter is_sent steps) → All IsListedStep steps → All HasPassed steps
 all_handed [] sent listed = λ k d lt. absurd (omega arith)
 all_handed (h ∷ steps) sent listed = go (is_sent h) refl sent (λ l. all_handed steps l (All-tail IsListedStep h steps listed))
   where
@@ -184,80 +139,65 @@ all_handed (h ∷ steps) sent listed = go (is_sent h) refl sent (λ l. all_hande
     go true is all rest = let l = rw is at all in All-cons HasPassed h steps (All-head HasPassed h (filter is_sent steps) l) (rest (All-tail HasPassed h (filter is_sent steps) l))
     go false is all rest = let l = rw is at all in All-cons HasPassed h steps (passed_by h is (All-head IsListedStep h steps listed)) (rest l)
 
-sent_passed : (steps : List Step) → filter is_sent (map passed_step steps) ≡ map passed_step (filter is_sent_step steps)
-sent_passed [] = refl
-sent_passed (step ∷ steps) = go (is_sent_step step) refl (sent_passed steps)
-  where
-    go : (b : Bool) → is_sent_step step ≡ b → filter is_sent (map passed_step steps) ≡ map passed_step (filter is_sent_step steps) → filter is_sent (map passed_step (step ∷ steps)) ≡ map passed_step (filter is_sent_step (step ∷ steps))
-    go true is rest = rw is (ap (λ (l : List Handed). passed_step step ∷ l) rest)
-    go false is rest = rw is rest
-
-lines_passed : (plan : PlanView) (steps : List Step) → flat_map (lines_listed plan) (map passed_step steps) ≡ flat_map (step_lines plan) steps
-lines_passed plan [] = refl
-lines_passed plan (step ∷ steps) = ap (λ (bytes : List ℕ). step_lines plan step ++ bytes) (lines_passed plan steps)
-
--- then just the toolchains and lockfiles of the whole schedule were made, and its lines written
-pub sends_all : (plan : PlanView) (piece : Option Partition) (schedule : List Step) (handed : List Handed) (old new : HostView) (mid : List Call) (before now : ℕ) (term : Term) (fault : Option ProcessFault) → mid ≡ old.calls
-    → IsSchedule piece plan schedule → (All HasPassed handed → handed ≡ map passed_step schedule) → HasPerformed plan (filter is_sent handed) mid new.calls before now
-    → (All HasPassed (filter is_sent handed) ⊎ HasTold term fault) → All IsListedStep handed → Appends old.out new.out (flat_map (lines_listed plan) handed) → fault ≡ None → term.error ≡ false → SendsAll plan piece old new
-sends_all plan piece schedule handed old new mid before now term fault same scheduled whole performed told listed written none quiet = record {
-  schedule = schedule;
-  scheduled = scheduled;
-  sent = subst (λ (calls : List Call). MakesCalls (PassesAll plan (filter is_sent_step schedule)) calls new.calls) same (record {
-    made = performed.made;
-    grown = performed.grown;
-    such = passes plan (filter is_sent_step schedule) performed.made performed.cut (subst (λ hs. PerformsAll plan hs performed.made performed.cut) (ap (filter is_sent) all ∙ sent_passed schedule) performed.performed);
-  });
-  written = subst (Appends old.out new.out) (ap (flat_map (lines_listed plan)) all ∙ lines_passed plan schedule) written;
-}
-  where
-    all : handed ≡ map passed_step schedule
-    all = whole (all_handed handed (all_passed (filter is_sent handed) term fault told none quiet) listed)
+-- what a list wrote to its end, where what is gathered is written after it
+wrote_end : (had has out : Option (List ℕ)) (text : List ℕ) → Writes true true had has text → Keeps has out → Writes true true had out text
+wrote_end had has out text w kept =
+    let whole : Appends had has text = subst (λ (o : Option (List ℕ)). Appends had o text) (ap (append_known has) (w.1 refl) ∙ known-none has) w.2 in
+    ([], (λ e. refl), subst (λ (o : Option (List ℕ)). Appends had o text) (sym (known-none out)) (Appends-kept had has out text whole kept))
 
 -- a list whose end was written: its output grew by its lines
-pub list_ends : {T E : Type 0} (r : Result T E) (refused none short flushed quiet tells : Type 0) (cx : ContextRecord) (stable : Result (Option Version) (String Global)) (rustup : Name) (old mid : HostView) (begun gathered : List ℕ) (out : Option (List ℕ))
-    → begun ≡ [] → OnOk r (refused × none × short × flushed) → (refused → none → short → quiet → tells → DoesPlan SendsAll cx stable rustup (host_writing begun old) (host_writing gathered mid))
-    → (flushed → Keeps (append_known mid.out gathered) out) → OnOk r (quiet → tells → DoesPlan SendsAll cx stable rustup old (record mid { out = out }))
-list_ends (Err e) refused none short flushed quiet tells cx stable rustup old mid begun gathered out empty came done kept = tt
-list_ends (Ok v) refused none short flushed quiet tells cx stable rustup old mid begun gathered out empty came done kept = λ q t.
+pub list_ends : {T E : Type 0} (r : Result T E) (refused none short flushed quiet tells : Type 0) (cx : ContextRecord) (stable : Result (Option Version) (String Global)) (rustup : Name) (warned : Bool) (old mid : HostView) (begun gathered : List ℕ) (out : Option (List ℕ))
+    → begun ≡ [] → OnOk r (refused × none × short × flushed) → (refused → none → short → quiet → tells → PerformsOne true true cx stable rustup warned (host_writing begun old) (host_writing gathered mid))
+    → (flushed → Keeps (append_known mid.out gathered) out) → OnOk r (quiet → tells → PerformsOne true true cx stable rustup warned old (record mid { out = out }))
+list_ends (Err e) refused none short flushed quiet tells cx stable rustup warned old mid begun gathered out empty came done kept = tt
+list_ends (Ok v) refused none short flushed quiet tells cx stable rustup warned old mid begun gathered out empty came done kept = λ q t.
     let d = done came.0 came.1 came.2 q t in
     let start : append_known old.out begun ≡ old.out = ap (append_known old.out) empty ∙ known-none old.out in
     record {
-      plan = d.plan;
+      course = d.course;
       notes = d.notes;
+      cut = d.cut;
       planned = d.planned;
-      done = record {
-        schedule = d.done.schedule;
-        scheduled = d.done.scheduled;
-        sent = d.done.sent;
-        written = subst (λ (x : Option (List ℕ)). Appends x out (flat_map (step_lines d.plan) d.done.schedule)) start
-            (Appends-kept (append_known old.out begun) (append_known mid.out gathered) out (flat_map (step_lines d.plan) d.done.schedule) d.done.written (kept came.3));
-      };
-      warned = d.warned;
+      driven = d.driven;
+      calls = d.calls;
+      wrote = wrote_end old.out (append_known mid.out gathered) out (flat_map (lines_written d.course.plan) d.course.handed)
+          (subst (λ (x : Option (List ℕ)). Writes true true x (append_known mid.out gathered) (flat_map (lines_written d.course.plan) d.course.handed)) start d.wrote) (kept came.3);
+      passed = d.passed;
+      warns = d.warns;
     }
 
 -- what was written stays so where what is gathered is written after it
-shown_then : (a b c : Option (List ℕ)) (left text : List ℕ) → GrowsWithin a b text → Keeps b (append_known c left) → GrowsWithin a c text
-shown_then None b c left text w k = ([], tt)
-shown_then (Some x) None c left text w k = absurd w.1
+shown_then : (a b c : Option (List ℕ)) (left text : List ℕ) → Writes false true a b text → Keeps b (append_known c left) → Writes false true a c text
+shown_then None b c left text w k = ([], (λ e. refl), tt)
+shown_then (Some x) None c left text w k = absurd w.2
 shown_then (Some x) (Some y) None left text w k = absurd k
-shown_then (Some x) (Some y) (Some z) left text w k = (left ++ w.0, sym (append_assoc z left w.0) ∙ ap (λ l. l ++ w.0) k ∙ w.1)
+shown_then (Some x) (Some y) (Some z) left text w k = (left ++ w.0, (λ e. unended e), sym (append_assoc z left w.0) ∙ ap (λ l. l ++ w.0) k ∙ w.2)
 
 -- a whole text is a front of it
-pub all_shown : (a b : Option (List ℕ)) (text : List ℕ) → Appends a b text → GrowsWithin a b text
-all_shown a b text w = ([], subst (λ (o : Option (List ℕ)). Appends a o text) (sym (known-none b)) w)
+all_shown : (done : Bool) (a b : Option (List ℕ)) (text : List ℕ) → Appends a b text → Writes done true a b text
+all_shown done a b text w = ([], (λ e. refl), subst (λ (o : Option (List ℕ)). Appends a o text) (sym (known-none b)) w)
 
 -- a list whose end was written, or a part of it
 pub list_shows : (cx : ContextRecord) (stable : Result (Option Version) (String Global)) (rustup : Name) (old mid : HostView) (begun gathered left : List ℕ) (out : Option (List ℕ))
     → begun ≡ [] → PerformsAtMostOne true cx stable rustup (host_writing begun old) (host_writing gathered mid) → Keeps (append_known mid.out gathered) (append_known out left) → PerformsAtMostOne true cx stable rustup old (record mid { out = out })
 list_shows cx stable rustup old mid begun gathered left out empty made kept = go made
   where
-    shown : (text : List ℕ) → GrowsWithin (append_known old.out begun) (append_known mid.out gathered) text → GrowsWithin old.out out text
-    shown text w = shown_then old.out (append_known mid.out gathered) out left text (subst (λ (o : Option (List ℕ)). GrowsWithin o (append_known mid.out gathered) text) (ap (append_known old.out) empty ∙ known-none old.out) w) kept
+    shown : (text : List ℕ) → Writes false true (append_known old.out begun) (append_known mid.out gathered) text → Writes false true old.out out text
+    shown text w = shown_then old.out (append_known mid.out gathered) out left text (subst (λ (o : Option (List ℕ)). Writes false true o (append_known mid.out gathered) text) (ap (append_known old.out) empty ∙ known-none old.out) w) kept
 
     go : PerformsAtMostOne true cx stable rustup (host_writing begun old) (host_writing gathered mid) → PerformsAtMostOne true cx stable rustup old (record mid { out = out })
     go (inl none) = inl (none.0, shown [] none.1)
-    go (inr one) = inr (record { course = one.course; notes = one.notes; cut = one.cut; handed = one.handed; planned = one.planned; calls = one.calls; wrote = shown (flat_map (lines_written one.course.plan) one.course.handed) one.wrote })
+    go (inr one) = inr (record {
+      course = one.course;
+      notes = one.notes;
+      cut = one.cut;
+      planned = one.planned;
+      driven = one.driven;
+      calls = one.calls;
+      wrote = shown (flat_map (lines_written one.course.plan) one.course.handed) one.wrote;
+      passed = λ e. unended e;
+      warns = λ e. unended e;
+    })
 
 -- what a runner keeps through notices and steps, it keeps where a list was handed over
 pub handed_keeps : {R N : Type 0} (whole : Type 0) (had has : Option (List ℕ)) (Told : List Note → R → R → Type 0) (Ran : PlanView → List Handed → R → R → Type 0) (cx : ContextRecord) (stable : Result (Option Version) (String Global)) (rustup : Name) (a b : R)
@@ -273,8 +213,8 @@ pub handed_makes : {R : Type 0} (whole : Type 0) (had has : Option (List ℕ)) (
     → (calls : R → List Call) (refused : R → ℕ) (was now : Term) → ((notes : List Note) (x y : R) → Told notes x y → calls y ≡ calls x)
     → ((plan : PlanView) (steps : List Handed) (x y : R) → Ran plan steps x y → HasPerformed plan steps (calls x) (calls y) (refused x) (refused y))
     → PerformsAtMostOne true cx stable rustup (record { calls = calls a; out = had; term = was }) (record { calls = calls b; out = has; term = now })
-handed_makes whole had has Told Ran cx stable rustup a b (inl (inl same, kept)) w calls refused was now told ran = inl (ap calls same, all_shown had has [] (kept_nothing had has kept))
-handed_makes whole had has Told Ran cx stable rustup a b (inl (inr some, kept)) w calls refused was now told ran = inl (told some.0 a b some.1, all_shown had has [] (kept_nothing had has kept))
+handed_makes whole had has Told Ran cx stable rustup a b (inl (inl same, kept)) w calls refused was now told ran = inl (ap calls same, all_shown false had has [] (kept_nothing had has kept))
+handed_makes whole had has Told Ran cx stable rustup a b (inl (inr some, kept)) w calls refused was now told ran = inl (told some.0 a b some.1, all_shown false had has [] (kept_nothing had has kept))
 handed_makes whole had has Told Ran cx stable rustup a b (inr l) w calls refused was now told ran =
     let steps = filter is_sent l.course.handed in
     let did = ran l.course.plan steps l.mid b l.ran in
@@ -282,8 +222,58 @@ handed_makes whole had has Told Ran cx stable rustup a b (inr l) w calls refused
       course = l.course;
       notes = l.notes;
       cut = did.cut;
-      handed = l.handed;
       planned = l.planned;
+      driven = l.driven;
       calls = subst (λ (cs : List Call). MakesCalls (λ made. PerformsAll l.course.plan steps made did.cut) cs (calls b)) (told l.notes a l.mid l.told) (record { made = did.made; grown = did.grown; such = did.performed });
-      wrote = all_shown had has (flat_map (lines_written l.course.plan) l.course.handed) (l.wrote w);
+      wrote = all_shown false had has (flat_map (lines_written l.course.plan) l.course.handed) (l.wrote w);
+      passed = λ e. unended e;
+      warns = λ e. unended e;
     })
+
+-- one history of a plan, each step of which passed where no error was reported
+pub runs_one : (cx : ContextRecord) (stable : Result (Option Version) (String Global)) (rustup : Name) (course : Course) (notes : List Note) (old new : HostView) (mid : List Call) (before now : ℕ) (term : Term) (fault : Option ProcessFault) → mid ≡ old.calls
+    → IsPlanOf cx.args.subcommand stable cx rustup course.plan notes → IsDriven cx.args.partition cx.args.keep_going course → HasPerformed course.plan course.handed mid new.calls before now
+    → (All HasPassed course.handed ⊎ HasTold term fault) → Warned notes old.term.warn new.term.warn → fault ≡ None → term.error ≡ false → PerformsOne true false cx stable rustup old.term.warn old new
+runs_one cx stable rustup course notes old new mid before now term fault same planned driven performed told warned none quiet = record {
+  course = course;
+  notes = notes;
+  cut = performed.cut;
+  planned = planned;
+  driven = driven;
+  calls = subst (λ (calls : List Call). MakesCalls (λ made. PerformsAll course.plan course.handed made performed.cut) calls new.calls) same (record { made = performed.made; grown = performed.grown; such = performed.performed });
+  wrote = tt;
+  passed = λ e. all_passed course.handed term fault told none quiet;
+  warns = λ e. warned;
+}
+
+-- the same, whatever came of its steps
+pub runs_some : (cx : ContextRecord) (stable : Result (Option Version) (String Global)) (rustup : Name) (course : Course) (notes : List Note) (old new : HostView) (mid : List Call) (before now : ℕ) → mid ≡ old.calls
+    → IsPlanOf cx.args.subcommand stable cx rustup course.plan notes → IsDriven cx.args.partition cx.args.keep_going course → HasPerformed course.plan course.handed mid new.calls before now → PerformsAtMostOne false cx stable rustup old new
+runs_some cx stable rustup course notes old new mid before now same planned driven performed = inr (record {
+  course = course;
+  notes = notes;
+  cut = performed.cut;
+  planned = planned;
+  driven = driven;
+  calls = subst (λ (calls : List Call). MakesCalls (λ made. PerformsAll course.plan course.handed made performed.cut) calls new.calls) same (record { made = performed.made; grown = performed.grown; such = performed.performed });
+  wrote = tt;
+  passed = λ e. unended e;
+  warns = λ e. unended e;
+})
+
+-- a list that was handed over, each step of which passed or was listed where no error was reported
+pub lists_one : {R : Type 0} (had has : Option (List ℕ)) (Told : List Note → R → R → Type 0) (Ran : PlanView → List Handed → R → R → Type 0) (cx : ContextRecord) (stable : Result (Option Version) (String Global)) (rustup : Name) (a b : R) (l : ListsOver (Unit {0}) had has Told Ran cx stable rustup a b)
+    → (calls : R → List Call) (before now : ℕ) (was term : Term) (fault : Option ProcessFault) → calls l.over.mid ≡ calls a → HasPerformed l.over.course.plan (filter is_sent l.over.course.handed) (calls l.over.mid) (calls b) before now
+    → (All HasPassed (filter is_sent l.over.course.handed) ⊎ HasTold term fault) → Warned l.over.notes was.warn term.warn → fault ≡ None → term.error ≡ false
+    → PerformsOne true true cx stable rustup was.warn (record { calls = calls a; out = had; term = was }) (record { calls = calls b; out = has; term = term })
+lists_one had has Told Ran cx stable rustup a b l calls before now was term fault same performed told warned none quiet = record {
+  course = l.over.course;
+  notes = l.over.notes;
+  cut = performed.cut;
+  planned = l.over.planned;
+  driven = l.over.driven;
+  calls = subst (λ (cs : List Call). MakesCalls (λ made. PerformsAll l.over.course.plan (filter is_sent l.over.course.handed) made performed.cut) cs (calls b)) same (record { made = performed.made; grown = performed.grown; such = performed.performed });
+  wrote = all_shown true had has (flat_map (lines_written l.over.course.plan) l.over.course.handed) (l.over.wrote tt);
+  passed = λ e. all_handed l.over.course.handed (all_passed (filter is_sent l.over.course.handed) term fault told none quiet) l.listed;
+  warns = λ e. warned;
+}

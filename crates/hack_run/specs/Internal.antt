@@ -1,5 +1,5 @@
 -- What only private functions of the crate promise each other.
-use Rattle.std.specs.Prelude.{ℕ, ◌≡◌, ◌⊎◌, [], Bool, List, Option, Result, Some, None, Ok, Err, string_bytes, All, filter}
+use Rattle.std.specs.Prelude.{ℕ, ◌≡◌, ◌≢◌, ◌⊎◌, [], Bool, false, List, Option, Result, Some, None, Ok, Err, string_bytes, All, filter}
 use Rattle.std.specs.Io.KnownBytes.{Keeps, Appends, append_known}
 use Rattle.std.proofs.Common.{Global, String}
 use Rattle.hack_base.specs.Names.{Name}
@@ -9,34 +9,38 @@ use Rattle.hack_session.specs.declared.step.Handed.{Handed}
 use Rattle.hack_base.specs.Notes.{Note}
 use Rattle.hack_versions.specs.declared.version.Version.{Version}
 use Rattle.hack_run.specs.Worlds.{HostView}
-use Rattle.hack_run.specs.CallTrace.{ListGrowsWithin, PerformsOne}
+use Rattle.hack_run.specs.CallTrace.{PerformsOne, Writes}
 use Rattle.hack_process.specs.Calls.{Call}
+use Rattle.hack_versions.specs.ToolTexts.{rustup_part}
 use Rattle.hack_versions.specs.declared.rustup.Rustup.{Rustup}
+use Rattle.hack_versions.specs.declared.rustup.Rustup.TheVariants.{Unasked}
+use Rattle.hack_words.specs.RustupView.{known_of}
+use Rattle.hack_run.specs.Loading.{IsMinorIn}
 use Rattle.hack_words.specs.ParseAnswers.{around_of}
 use Rattle.hack_words.specs.Start.{wants_rustup}
 use Rattle.hack_words.specs.declared.cli.env.Env.{Env}
 use Rattle.hack_run.specs.Questions.{AsksRustup}
 use Rattle.hack_run.specs.declared.reading.Reading.{Reading}
-use Rattle.hack_run.specs.Readings.{IsReadingOrRefusal}
+use Rattle.hack_words.specs.CommandLine.{Around}
 use Rattle.std.specs.List.{flat_map}
 use Rattle.hack_planner.specs.CallPlan.{IsPlanOf}
-use Rattle.hack_term.specs.declared.partition.Partition.{Partition}
 use Rattle.hack_session.specs.Histories.{Course}
 use Rattle.hack_session.specs.ListLines.{is_sent, lines_written}
-use Rattle.hack_session.specs.Internal.{IsListedStep, lines_listed}
-use Rattle.hack_run.specs.Headline.{IsHandedOut}
-use Rattle.hack_run.specs.Warnings.{Warned}
+use Rattle.hack_session.specs.Internal.{IsListedStep}
+use Rattle.hack_run.specs.Headline.{IsDriven}
 
 -- one history was performed, or nothing was called and nothing listed
 abbrev pub PerformsAtMostOne : Bool → ContextRecord → Result (Option Version) (String Global) → Name → HostView → HostView → Type 0
-PerformsAtMostOne listing cx stable rustup old new = ((new.calls ≡ old.calls) × ListGrowsWithin listing old.out new.out []) ⊎ PerformsOne listing cx stable rustup old new
+PerformsAtMostOne listing cx stable rustup old new =
+    ((new.calls ≡ old.calls) × Writes false listing old.out new.out [])
+    ⊎ PerformsOne false listing cx stable rustup old.term.warn old new
 
 -- a context's list was handed out to its end, and its steps that aren't listed to a runner,
 -- whatever came of them; where lines are written whole or not at all, the output grew by just those
 -- of the steps that passed
 pub record HandsOver {R : Type 0} (whole : Type 0) (had has : Option (List ℕ)) (Told : List Note → R → R → Type 0) (Ran : PlanView → List Handed → R → R → Type 0) (cx : ContextRecord) (stable : Result (Option Version) (String Global)) (rustup : Name) (old new : R) : Type 0 where
   pub course : Course
-  pub handed : IsHandedOut cx stable course
+  pub driven : IsDriven cx.args.partition cx.args.keep_going course
   pub notes : List Note
   pub planned : IsPlanOf cx.args.subcommand stable cx rustup course.plan notes
   pub mid : R
@@ -55,28 +59,25 @@ IsLatest P (Ok None) = ⊥
 IsLatest P (Ok (Some v)) = P v
 IsLatest P (Err text) = Unit {0}
 
--- rustup was asked where a word needs it, and with what is then known the words are read into this,
--- or are refused
-pub record ReadsAfterRustup (tells : Type 0) (words : List Name) (env : Env) (old new : List Call) (reading : Reading) : Type 0 where
+-- rustup was asked where a word needs it, and with what is then known the words are read into this
+pub record ReadsAfterRustup (IsRead : Around → List Name → Reading → Type 0) (tells : Type 0) (words : List Name) (env : Env) (old new : List Call) (reading : Reading) : Type 0 where
   pub rustup : Rustup
   pub asked : tells → AsksRustup (wants_rustup words) (string_bytes env.rustup) rustup old new
-  pub read : IsReadingOrRefusal (around_of env rustup) words reading
+  pub read : IsRead (around_of env rustup) words reading
 
--- `Done` holds of a context's plan, made with this answer on stable's version, and a warning is
--- noted just where one was before, or where a notice of the plan counts as one
-pub record DoesPlan (Done : PlanView → Option Partition → HostView → HostView → Type 0) (cx : ContextRecord) (stable : Result (Option Version) (String Global)) (rustup : Name) (old new : HostView) : Type 0 where
-  pub plan : PlanView
-  pub notes : List Note
-  pub planned : IsPlanOf cx.args.subcommand stable cx rustup plan notes
-  pub done : Done plan cx.args.partition old new
-  pub warned : Warned notes old.term.warn new.term.warn
-
--- a list was handed out to its end, no listed step failed, and the lines of all are written
+-- a list was handed out to its end, and no listed step failed
 pub record ListsOver {R : Type 0} (whole : Type 0) (before now : Option (List ℕ)) (Told : List Note → R → R → Type 0) (Ran : PlanView → List Handed → R → R → Type 0) (cx : ContextRecord) (stable : Result (Option Version) (String Global)) (rustup : Name) (old new : R) : Type 0 where
   pub over : HandsOver whole before now Told Ran cx stable rustup old new
   pub listed : All IsListedStep over.course.handed
-  pub written : Appends before now (flat_map (lines_listed over.course.plan) over.course.handed)
 
 -- a host that has yet to write these bytes
 abbrev pub host_writing : List ℕ → HostView → HostView
 host_writing bytes host = record host { out = append_known host.out bytes }
+
+-- rustup's minor version in its answer, unknown where it has none
+abbrev pub TellsMinor : Name → Rustup → Type 0
+TellsMinor answer known = (known ≢ Unasked) × IsMinorIn (rustup_part answer) (known_of known)
+
+-- rustup's version isn't known
+abbrev pub IsUnknown : Rustup → Type 0
+IsUnknown known = (known ≢ Unasked) × (known_of known ≡ None)

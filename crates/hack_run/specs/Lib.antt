@@ -3,9 +3,9 @@ pub mod Journals
 pub mod CallTrace
 pub mod Questions
 pub mod TemporaryEdits
-pub mod ScheduleCalls
+pub mod Loading
 pub mod Warnings
-pub mod Success
+pub mod Refusals
 pub mod Worlds
 pub mod Readings
 pub mod Internal

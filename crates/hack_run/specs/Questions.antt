@@ -1,24 +1,25 @@
 -- What rustup is asked before there is a plan.
-use Rattle.std.specs.Prelude.{◌≡◌, ◌⊎◌, ◌∷◌, [], Bool, List, Option, Some, None, Result, Ok, Err, IfOk, IfSome, IsSome, IsSomeAnd, codes, false, true}
+use Rattle.std.specs.Prelude.{◌≡◌, ◌≢◌, ◌⊎◌, ◌∷◌, [], Bool, List, Option, Some, None, Result, Ok, Err, IfOk, IfSome, IsSome, IsSomeAnd, codes, false, option_and_then, true}
 use Rattle.std.proofs.Common.{Global, String}
 use Rattle.hack_base.specs.Names.{Name}
-use Rattle.hack_metadata.specs.QuestionCalls.{FailsToRead, ReadsOutput}
+use Rattle.hack_metadata.specs.QuestionCalls.{ReadsOutput}
 use Rattle.hack_metadata.specs.Requests.{version_command}
-use Rattle.hack_process.specs.Calls.{Asked, Call}
+use Rattle.hack_process.specs.Calls.{Asked, Call, MayAdd}
 use Rattle.hack_process.specs.CargoTexts.{release_part}
 use Rattle.hack_process.specs.Commands.{asked_of}
 use Rattle.hack_process.specs.CommandTexts.{Command}
 use Rattle.hack_plan.specs.Commands.{plain_command}
 use Rattle.hack_versions.specs.RangeSteps.{NeedsStable}
-use Rattle.hack_versions.specs.ToolTexts.{IsAnswerFault, TellsRelease, rustup_part}
-use Rattle.hack_versions.specs.declared.rustup.VersionTextFault.{VersionTextFault}
+use Rattle.hack_versions.specs.ToolTexts.{TellsRelease, rustup_part}
 use Rattle.hack_versions.specs.declared.rustup.Rustup.{Rustup}
-use Rattle.hack_versions.specs.declared.rustup.Rustup.TheVariants.{Known, Unasked, Unknown}
+use Rattle.hack_versions.specs.declared.rustup.Rustup.TheVariants.{Unasked}
 use Rattle.hack_versions.specs.declared.version.Version.{Version}
 use Rattle.hack_words.specs.declared.cli.args.Args.{Args}
-use Rattle.hack_session.specs.StepCalls.{Installs, MakesCalls}
+use Rattle.hack_words.specs.RustupView.{known_of}
+use Rattle.hack_session.specs.StepCalls.{BreaksInstall, Installs, MakesCalls}
 use Rattle.hack_session.specs.Toolchains.{addition_of, trial_of}
-use Rattle.hack_session.specs.declared.step.Outcome.TheVariants.{Passed}
+use Rattle.hack_session.specs.declared.step.Outcome.TheVariants.{Failed, Passed}
+use Rattle.hack_run.specs.Loading.{AsksFor, IsMinorIn}
 
 -- the command that asks rustup for its version
 abbrev pub rustup_command : Name → Command
@@ -28,24 +29,13 @@ rustup_command rustup = plain_command rustup [] (codes "--version" ∷ [])
 abbrev pub rustup_asked : Name → Asked
 rustup_asked rustup = asked_of true (rustup_command rustup)
 
--- an answer has rustup's minor version; where that isn't known, the answer can't be read
-abbrev pub TellsMinor : Name → Rustup → Type 0
-TellsMinor answer (Known minor) = (v : Version) × TellsRelease (rustup_part answer) v × (minor ≡ v.minor)
-TellsMinor answer Unasked = ⊥
-TellsMinor answer (Unknown text) = (fault : VersionTextFault) × IsAnswerFault answer (rustup_part answer) fault
-
--- rustup's version isn't known
-abbrev pub IsUnknown : Rustup → Type 0
-IsUnknown (Unknown text) = Unit {0}
-IsUnknown known = ⊥
-
--- where an argument needs it, rustup was asked, and `known` is what its answer says, or unknown
--- where it gave no answer; else nothing was asked, and `known` says so
+-- where an argument needs it, rustup was asked, and `known` is the minor version in its answer, or
+-- unknown where there is none; else nothing was asked, and `known` says so
 abbrev pub AsksRustup : Bool → Name → Rustup → List Call → List Call → Type 0
 AsksRustup false rustup known old new = (known ≡ Unasked) × (new ≡ old)
 AsksRustup true rustup known old new =
-    ((answer : Name) × ReadsOutput (rustup_command rustup) answer old new × TellsMinor answer known)
-    ⊎ (IsUnknown known × FailsToRead (rustup_command rustup) old new)
+    (known ≢ Unasked) × AsksFor (λ text. IsMinorIn (option_and_then rustup_part text) (known_of known))
+    (rustup_command rustup) old new
 
 -- the toolchain `stable` is installed: it was tried, and added where that failed
 abbrev pub InstallsStable : Name → List Call → List Call → Type 0
@@ -76,3 +66,18 @@ abbrev pub AsksStable : Name → Result (Option Version) (String Global) → Lis
 AsksStable rustup (Ok None) old new = new ≡ old
 AsksStable rustup (Ok (Some v)) old new = TellsStable rustup v old new
 AsksStable rustup (Err text) old new = Unit {0}
+
+-- installing the toolchain `stable` failed: it was tried, and added where that failed, up to the
+-- command that failed or for which memory was refused
+abbrev pub FailsStable : Name → List Call → List Call → Type 0
+FailsStable rustup old new =
+    MakesCalls (λ calls. Installs [] (asked_of true (trial_of rustup (codes "stable"))) (asked_of true (addition_of rustup (codes "stable") [])) calls Failed
+    ⊎ BreaksInstall [] (asked_of true (trial_of rustup (codes "stable"))) (asked_of true (addition_of rustup (codes "stable") [])) calls) old new
+
+-- stable's version was asked for at most once: nothing was called; or the toolchain is installed,
+-- and its cargo was asked at most once; or installing it failed
+abbrev pub MayAskStable : Name → List Call → List Call → Type 0
+MayAskStable rustup old new =
+    (new ≡ old)
+    ⊎ (((mid : List Call) × InstallsStable rustup old mid × MayAdd (asked_of true (version_command rustup)) mid new)
+    ⊎ FailsStable rustup old new)

@@ -25,7 +25,8 @@ IsReading around words (Refused fault) = Refuses (ComesTo around words) fault
 
 -- the same, where it doesn't matter which error refuses them
 abbrev pub IsReadingOrRefusal : Around → List Name → Reading → Type 0
-IsReadingOrRefusal around words (Accepted parsed notices) = AreAccepted around words parsed (map note_of notices.items)
+IsReadingOrRefusal around words (Accepted parsed notices) =
+    AnswersCommandLine around (ComesTo around words) parsed (map note_of notices.items)
 IsReadingOrRefusal around words (Refused fault) =
     (fault ≡ Memory) ⊎ ((told : Fault) × ComesTo around words (Faulty told))
 

@@ -1,7 +1,6 @@
--- The warnings that notices note, and what is printed in part.
-use Rattle.std.specs.Prelude.{ℕ, ◌≡◌, ◌||◌, Bool, true, false, List, Option}
+-- The warnings that notices note.
+use Rattle.std.specs.Prelude.{◌≡◌, ◌||◌, Bool, true, false, List}
 use Rattle.std.specs.List.{list_any}
-use Rattle.std.specs.Io.KnownBytes.{Appends, append_known}
 use Rattle.hack_base.specs.Notes.{Note}
 use Rattle.hack_base.specs.declared.notice.NoticeKind.{NoticeKind}
 use Rattle.hack_base.specs.declared.notice.NoticeKind.TheVariants.{Warn}
@@ -24,7 +23,3 @@ after_notes term notes = record term { warn = have_warning notes || term.warn }
 -- a warning is noted just where one was before, or some of the notes counts as one
 abbrev pub Warned : List Note → Bool → Bool → Type 0
 Warned notes warned warn = warn ≡ (have_warning notes || warned)
-
--- an output grew by a front of a text: what it has, and some rest, is what it had, and the text
-abbrev pub GrowsWithin : Option (List ℕ) → Option (List ℕ) → List ℕ → Type 0
-GrowsWithin had has text = (rest : List ℕ) × Appends had (append_known has rest) text

@@ -11,11 +11,10 @@ ghost use Rattle.hack_process.specs.Commands.{asked_of, command_of};
 ghost use Rattle.hack_versions.specs.RangeSteps.{NeedsStable};
 ghost use Rattle.hack_versions.specs.ToolTexts.{TellsRelease};
 ghost use Rattle.hack_words.specs.Start.{wants_rustup as rustup_wanted};
-ghost use Rattle.hack_run.specs.CallTrace.{FailsStable, MayAskStable};
+ghost use Rattle.hack_run.specs.Questions.{FailsStable, MayAskStable};
 ghost use Rattle.hack_run.specs.Questions.{AsksStable, InstallsStable, NeedsAnswer};
-ghost use Rattle.hack_run.specs.Internal.{IsLatest};
-ghost use Rattle.hack_run.specs.Questions.{AsksRustup, IsAnswered, IsUnknown, ReadsStable};
-ghost use Rattle.hack_run.specs.Questions.{TellsMinor};
+ghost use Rattle.hack_run.specs.Internal.{IsLatest, IsUnknown, TellsMinor};
+ghost use Rattle.hack_run.specs.Questions.{AsksRustup, IsAnswered, ReadsStable};
 ghost use Rattle.hack_run.specs.Questions.{rustup_asked, rustup_command as asks_rustup};
 
 use hack_process::cargo::version;

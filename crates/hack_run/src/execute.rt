@@ -4,8 +4,7 @@ ghost use Rattle.std.specs.Prelude.{◌≡◌, None, OnOk, false, string_bytes};
 ghost use Rattle.hack_load.specs.ContextView.{context_view};
 ghost use Rattle.hack_run.specs.Internal.{PerformsAtMostOne};
 ghost use Rattle.hack_run.specs.Questions.{IsAnswered};
-ghost use Rattle.hack_run.specs.ScheduleCalls.{RunsAll};
-ghost use Rattle.hack_run.specs.Internal.{DoesPlan};
+ghost use Rattle.hack_run.specs.CallTrace.{PerformsOne};
 ghost use Rattle.hack_run.specs.Worlds.{IsSameHost, host_of};
 
 use crate::drive::drive_context;
@@ -31,7 +30,8 @@ pub(crate) fn execute<C: Caller, O: Write, E: Write>(
     requires { IsAnswered (context_view cx.now).args stable }
     ensures host { IsSameHost host.old host.new }
     ensures done { OnOk result (host.new.term.now.error ≡ false → C.tells
-        → DoesPlan RunsAll (context_view cx.now) stable (string_bytes host.old.env.now.rustup)
+        → PerformsOne true false (context_view cx.now) stable
+        (string_bytes host.old.env.now.rustup) host.old.term.now.warn
         (host_of C.Caller O.Write host.old) (host_of C.Caller O.Write host.new)) }
     ensures made { C.tells → PerformsAtMostOne false (context_view cx.now) stable
         (string_bytes host.old.env.now.rustup)
@@ -60,7 +60,8 @@ fn hand_to_starter<C: Caller, O: Write, E: Write>(
     requires { IsAnswered (context_view cx.now).args stable }
     ensures host { IsSameHost host.old host.new }
     ensures done { OnOk result (fault.new ≡ None → host.new.term.now.error ≡ false → C.tells
-        → DoesPlan RunsAll (context_view cx.now) stable (string_bytes host.old.env.now.rustup)
+        → PerformsOne true false (context_view cx.now) stable
+        (string_bytes host.old.env.now.rustup) host.old.term.now.warn
         (host_of C.Caller O.Write host.old) (host_of C.Caller O.Write host.new)) }
     ensures made { C.tells → PerformsAtMostOne false (context_view cx.now) stable
         (string_bytes host.old.env.now.rustup)

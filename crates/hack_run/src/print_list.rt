@@ -4,8 +4,8 @@ ghost use Rattle.std.specs.Prelude.{◌≡◌, None, Ok, OnOk, false, string_byt
 ghost use Rattle.hack_load.specs.ContextView.{context_view};
 ghost use Rattle.hack_run.specs.Internal.{HandsOverAtMostOne, PerformsAtMostOne};
 ghost use Rattle.hack_run.specs.Questions.{IsAnswered};
-ghost use Rattle.hack_run.specs.ScheduleCalls.{SendsAll};
-ghost use Rattle.hack_run.specs.Internal.{DoesPlan, ListsOver};
+ghost use Rattle.hack_run.specs.CallTrace.{PerformsOne};
+ghost use Rattle.hack_run.specs.Internal.{ListsOver};
 ghost use Rattle.hack_run.specs.Worlds.{IsSameHost, host_of};
 ghost use Rattle.hack_run.specs.Internal.{host_writing};
 
@@ -46,7 +46,8 @@ pub(crate) fn print_list<C: Caller, O: Write, E: Write>(
     requires { IsAnswered (context_view cx.now).args stable }
     ensures host { IsSameHost host.old host.new }
     ensures done { OnOk result (host.new.term.now.error ≡ false → C.tells
-        → DoesPlan SendsAll (context_view cx.now) stable (string_bytes host.old.env.now.rustup)
+        → PerformsOne true true (context_view cx.now) stable
+        (string_bytes host.old.env.now.rustup) host.old.term.now.warn
         (host_of C.Caller O.Write host.old) (host_of C.Caller O.Write host.new)) }
     ensures made { C.tells → PerformsAtMostOne true (context_view cx.now) stable
         (string_bytes host.old.env.now.rustup)
@@ -69,7 +70,8 @@ fn hand_to_lister<C: Caller, O: Write, E: Write>(
     ensures host { IsSameHost host.old host.new }
     ensures done { result.refused ≡ Ok false → result.fault ≡ None → result.failed ≡ 0
         → host.new.term.now.error ≡ false → C.tells
-        → DoesPlan SendsAll (context_view cx.now) stable (string_bytes host.old.env.now.rustup)
+        → PerformsOne true true (context_view cx.now) stable
+        (string_bytes host.old.env.now.rustup) host.old.term.now.warn
         (host_writing gathered.old.items (host_of C.Caller O.Write host.old))
         (host_writing gathered.new.items (host_of C.Caller O.Write host.new)) }
     ensures made { C.tells → PerformsAtMostOne true (context_view cx.now) stable

@@ -1,12 +1,13 @@
 //! What a command line is read into, before anything is asked or after rustup was.
 
-ghost use Rattle.std.specs.Prelude.{◌≡◌, IfOk, IfSome, false, string_bytes};
+ghost use Rattle.std.specs.Prelude.{◌≡◌, IfOk, IfSome, None, false, string_bytes};
 ghost use Rattle.hack_base.specs.Names.{names_of};
 ghost use Rattle.hack_process.specs.Calls.{MayAdd};
 ghost use Rattle.hack_words.specs.ParseAnswers.{around_of};
 ghost use Rattle.hack_words.specs.Start.{wants_rustup as rustup_wanted};
 ghost use Rattle.hack_run.specs.Questions.{rustup_asked};
 ghost use Rattle.hack_run.specs.Readings.{IsEarlyReadingOrRefusal, IsReading};
+ghost use Rattle.hack_run.specs.Readings.{IsReadingOrRefusal};
 ghost use Rattle.hack_run.specs.Internal.{ReadsAfterRustup};
 
 use crate::ask::rustup_for;
@@ -54,8 +55,11 @@ pub(crate) fn reading_of<C: Caller>(
     requires { IfSome known (IsEarlyReadingOrRefusal env.now (names_of words.now)) }
     ensures may { C.tells → MayAdd (rustup_asked (string_bytes env.now.rustup))
         (C.calls caller.old) (C.calls caller.new) }
-    ensures read { IfOk result (ReadsAfterRustup C.tells (names_of words.now) env.now
-        (C.calls caller.old) (C.calls caller.new)) }
+    ensures read { IfOk result (ReadsAfterRustup IsReadingOrRefusal C.tells (names_of words.now)
+        env.now (C.calls caller.old) (C.calls caller.new)) }
+    // Of what it reads itself it says which error refuses it.
+    ensures own { known ≡ None → IfOk result (ReadsAfterRustup IsReading C.tells
+        (names_of words.now) env.now (C.calls caller.old) (C.calls caller.new)) }
     ensures unneeded { rustup_wanted (names_of words.now) ≡ false → caller.new ≡ caller.old }
 {
     if let Some(reading) = known {

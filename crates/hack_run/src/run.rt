@@ -5,13 +5,13 @@ ghost use Rattle.std.specs.Prelude.{IfSome, map, string_bytes};
 ghost use Rattle.std.specs.Io.KnownBytes.{Appends};
 ghost use Rattle.hack_base.specs.Names.{names_of};
 ghost use Rattle.hack_base.specs.Notes.{note_of};
-ghost use Rattle.hack_process.specs.Calls.{MayAdd};
-ghost use Rattle.hack_run.specs.CallTrace.{MadeOnce, TriesOnce, listing_asked};
+ghost use Rattle.hack_process.specs.Calls.{IsSuccess, MayAdd};
+ghost use Rattle.hack_process.specs.Faults.{GotAnswer};
+ghost use Rattle.hack_run.specs.CallTrace.{IsCallTrace, Obeys, listing_asked, warned_by};
 ghost use Rattle.hack_run.specs.Questions.{rustup_asked};
 ghost use Rattle.hack_run.specs.Readings.{IsEarlyReadingOrRefusal};
 ghost use Rattle.hack_run.specs.TemporaryEdits.{BringsBack, ComesBack, IsClean, RestoresEdits};
-ghost use Rattle.hack_run.specs.Success.{AreRefused, IsDone, ListsCommands, Obeys, Refuses};
-ghost use Rattle.hack_run.specs.Success.{world_told};
+ghost use Rattle.hack_run.specs.Refusals.{AreRefused, Refuses};
 ghost use Rattle.hack_run.specs.Worlds.{IsSameHost, files_of, host_of, world_of};
 
 use crate::fault::RunFault;
@@ -59,16 +59,16 @@ pub fn run<F: Files, C: Caller, O: Write, E: Write>(
     // where a notice on the command line, on what was loaded or on the plan counts as one. Under
     // `--remove-dev-deps` each manifest that is edited holds its edit, and all else what it held.
     ensures done { host.new.term.now.error ≡ false → C.tells
-        → IsDone F.tells (names_of words.now) host.old.env.now
+        → IsCallTrace true F.tells (names_of words.now) host.old.env.now
         (world_of F.Files C.Caller O.Write files.old host.old)
         (world_of F.Files C.Caller O.Write files.new host.new) }
 
     // Whatever comes of the call: after its questions the steps of one history of the plan made
     // just their calls, or no step made one; and a list printed nothing but the lines of the steps
     // that passed, in order, or the beginning of these lines.
-    ensures made { C.tells → MadeOnce F.tells (names_of words.now) host.old.env.now
+    ensures made { C.tells → IsCallTrace false F.tells (names_of words.now) host.old.env.now
         (world_of F.Files C.Caller O.Write files.old host.old)
-        (host_of C.Caller O.Write host.new) }
+        (world_of F.Files C.Caller O.Write files.new host.new) }
 
     // The files are restored: unless the command line asks for edits that stay, each path holds
     // what it held, except for at most as many paths as calls of the files failed.
@@ -101,12 +101,12 @@ fn read<F: Files, C: Caller, O: Write, E: Write>(
         × (C.tells → MayAdd (rustup_asked (string_bytes host.old.env.now.rustup))
         (C.calls host.old.caller.now) (C.calls host.new.caller.now)) }
     ensures done { OnOk result (host.new.term.now.error ≡ false → C.tells
-        → IsDone F.tells (names_of words.now) host.old.env.now
+        → IsCallTrace true F.tells (names_of words.now) host.old.env.now
         (world_of F.Files C.Caller O.Write files.old host.old)
         (world_of F.Files C.Caller O.Write files.new host.new)) }
-    ensures made { C.tells → MadeOnce F.tells (names_of words.now) host.old.env.now
+    ensures made { C.tells → IsCallTrace false F.tells (names_of words.now) host.old.env.now
         (world_of F.Files C.Caller O.Write files.old host.old)
-        (host_of C.Caller O.Write host.new) }
+        (world_of F.Files C.Caller O.Write files.new host.new) }
     ensures back { RestoresEdits host.old.env.now (names_of words.now) → F.tells
         → BringsBack (files_of F.Files files.old) (files_of F.Files files.new) }
     ensures clean { OnOk result (host.new.term.now.error ≡ false
@@ -137,12 +137,14 @@ fn obey<F: Files, C: Caller, O: Write, E: Write>(
     ensures host { IsSameHost host.old host.new }
     ensures stays { F.stays files.old files.new }
     ensures done { OnOk result (host.new.term.now.error ≡ false → C.tells
-        → Obeys F.tells parsed host.old.env.now (world_told parsed (map note_of notices.now)
-        (world_of F.Files C.Caller O.Write files.old host.old))
-        (world_of F.Files C.Caller O.Write files.new host.new)) }
-    ensures made { C.tells → TriesOnce F.tells parsed host.old.env.now
+        → Obeys true F.tells parsed host.old.env.now
+        (warned_by parsed (map note_of notices.now) host.old.term.now.warn)
         (world_of F.Files C.Caller O.Write files.old host.old)
-        (host_of C.Caller O.Write host.new) }
+        (world_of F.Files C.Caller O.Write files.new host.new)) }
+    ensures made { C.tells → Obeys false F.tells parsed host.old.env.now
+        (warned_by parsed (map note_of notices.now) host.old.term.now.warn)
+        (world_of F.Files C.Caller O.Write files.old host.old)
+        (world_of F.Files C.Caller O.Write files.new host.new) }
     ensures back { ComesBack parsed → F.tells
         → BringsBack (files_of F.Files files.old) (files_of F.Files files.new) }
     ensures clean { OnOk result (host.new.term.now.error ≡ false
@@ -187,8 +189,8 @@ fn print<O: Write>(text: &str, out: &mut O) -> Result<(), RunFault>
 
 /// Has cargo list its commands.
 fn list_commands<C: Caller>(alloc: Global, env: &Env, caller: &mut C) -> Result<(), RunFault>
-    ensures done { OnOk result (C.tells → ListsCommands (string_bytes env.now.cargo)
-        (C.calls caller.old) (C.calls caller.new)) }
+    ensures done { OnOk result (C.tells → GotAnswer (λ answer. IsSuccess answer.end)
+        (listing_asked (string_bytes env.now.cargo)) (C.calls caller.old) (C.calls caller.new)) }
     ensures made { C.tells → MayAdd (listing_asked (string_bytes env.now.cargo))
         (C.calls caller.old) (C.calls caller.new) }
 {

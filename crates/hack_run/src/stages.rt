@@ -10,14 +10,11 @@ ghost use Rattle.hack_load.specs.ContextView.{context_view};
 ghost use Rattle.hack_load.specs.CargoQuestions.{told_version};
 ghost use Rattle.hack_prepare.specs.PreparedView.{HoldTextsIn, IsPreparedIn, notes_in};
 ghost use Rattle.hack_prepare.specs.EditSteps.{Grows};
-ghost use Rattle.hack_run.specs.CallTrace.{AfterAnswers, MakesOnce};
+ghost use Rattle.hack_run.specs.CallTrace.{AfterLoading, LoadsAndPerforms, PerformsOne};
 ghost use Rattle.hack_run.specs.Internal.{PerformsAtMostOne};
 ghost use Rattle.hack_run.specs.TemporaryEdits.{BringsBack, IsClean};
 ghost use Rattle.hack_run.specs.Questions.{IsAnswered};
-ghost use Rattle.hack_run.specs.ScheduleCalls.{RunsOrLists};
-ghost use Rattle.hack_run.specs.Internal.{DoesPlan};
 ghost use Rattle.hack_run.specs.Warnings.{after_notes};
-ghost use Rattle.hack_run.specs.Success.{PerformsSchedule, AsksThenPerforms};
 ghost use Rattle.hack_run.specs.Worlds.{IsSameHost, files_of, host_of, world_of};
 
 use crate::ask::stable_for;
@@ -47,12 +44,13 @@ pub(crate) fn perform<F: Files, C: Caller, O: Write, E: Write>(
     ensures host { IsSameHost host.old host.new }
     ensures stays { F.stays files.old files.new }
     ensures done { OnOk result (host.new.term.now.error ≡ false → C.tells
-        → AsksThenPerforms F.tells args host.old.env.now
+        → LoadsAndPerforms true F.tells args host.old.env.now host.old.term.now.warn
         (world_of F.Files C.Caller O.Write files.old host.old)
         (world_of F.Files C.Caller O.Write files.new host.new)) }
-    ensures made { C.tells → MakesOnce F.tells args host.old.env.now
+    ensures made { C.tells
+        → LoadsAndPerforms false F.tells args host.old.env.now host.old.term.now.warn
         (world_of F.Files C.Caller O.Write files.old host.old)
-        (host_of C.Caller O.Write host.new) }
+        (world_of F.Files C.Caller O.Write files.new host.new) }
     ensures back { args.remove_dev_deps ≡ false → F.tells
         → BringsBack (files_of F.Files files.old) (files_of F.Files files.new) }
     ensures clean { OnOk result (host.new.term.now.error ≡ false
@@ -84,13 +82,15 @@ fn follow<F: Files, C: Caller, O: Write, E: Write>(
     ensures host { IsSameHost host.old host.new }
     ensures stays { F.stays files.old files.new }
     ensures done { OnOk result (host.new.term.now.error ≡ false → C.tells
-        → PerformsSchedule (F.tells
+        → AfterLoading true (F.tells
         × IfOk answers.loaded (IsLoaded F.tells (F.bytes_at files.old) host.old.env.now))
-        args answers (string_bytes host.old.env.now.rustup)
+        args answers (string_bytes host.old.env.now.rustup) host.old.term.now.warn
         (world_of F.Files C.Caller O.Write files.old host.old)
         (world_of F.Files C.Caller O.Write files.new host.new)) }
-    ensures made { C.tells → AfterAnswers args answers (string_bytes host.old.env.now.rustup)
-        (host_of C.Caller O.Write host.old) (host_of C.Caller O.Write host.new) }
+    ensures made { C.tells → AfterLoading false F.tells args answers
+        (string_bytes host.old.env.now.rustup) host.old.term.now.warn
+        (world_of F.Files C.Caller O.Write files.old host.old)
+        (world_of F.Files C.Caller O.Write files.new host.new) }
     ensures unkept { manager.old.needs_restore ≡ false
         → registered_files manager.new ≡ registered_files manager.old }
     ensures grows { Grows (F.failed files.old) (F.failed files.new) }
@@ -172,8 +172,8 @@ fn run_plan<C: Caller, O: Write, E: Write>(
     requires { IsAnswered (context_view cx.now).args stable }
     ensures host { IsSameHost host.old host.new }
     ensures done { OnOk result (host.new.term.now.error ≡ false → C.tells
-        → DoesPlan (RunsOrLists (context_view cx.now).args.print_command_list) (context_view cx.now)
-        stable (string_bytes host.old.env.now.rustup)
+        → PerformsOne true (context_view cx.now).args.print_command_list (context_view cx.now)
+        stable (string_bytes host.old.env.now.rustup) host.old.term.now.warn
         (host_of C.Caller O.Write host.old) (host_of C.Caller O.Write host.new)) }
     ensures made { C.tells → PerformsAtMostOne (context_view cx.now).args.print_command_list
         (context_view cx.now) stable (string_bytes host.old.env.now.rustup)

@@ -1,1 +1,1 @@
-mod AnswerLemmas
+pub mod AnswerLemmas

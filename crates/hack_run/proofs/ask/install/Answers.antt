@@ -2,10 +2,9 @@ use Rattle.std.proofs.Common.{true, [], codes, subst, OnErr, OnOk}
 use Rattle.hack_process.specs.Commands.{asked_of}
 use Rattle.hack_session.specs.StepCalls.{BreaksInstall, Installs}
 use Rattle.hack_session.specs.Toolchains.{addition_of, trial_of}
-use Rattle.hack_run.specs.CallTrace.{FailsStable}
-use Rattle.hack_run.specs.Questions.{InstallsStable}
+use Rattle.hack_run.specs.Questions.{FailsStable, InstallsStable}
 use Rattle.hack_run.proofs.CallLemmas.{installed}
-use Rattle.hack_run.proofs.MadeLemmas.{fails}
+use Rattle.hack_run.proofs.TraceLemmas.{fails}
 use Rattle.hack_run.proofs.ask.install.Goals as goal
 
 -- src/ask.rt:117:1

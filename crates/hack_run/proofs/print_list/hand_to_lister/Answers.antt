@@ -1,9 +1,8 @@
 use Rattle.std.proofs.Common.{◌∙◌, ap, sym}
 use Rattle.std.specs.Io.KnownBytes.{append_known}
 use Rattle.hack_load.specs.ContextView.{context_view}
-use Rattle.hack_session.proofs.Headline.{whole}
 use Rattle.hack_run.specs.Worlds.{HostView}
-use Rattle.hack_run.proofs.RunLemmas.{handed_makes, sends_all}
+use Rattle.hack_run.proofs.RunLemmas.{handed_makes, lists_one}
 use Rattle.hack_run.proofs.ToldLemmas.{warned_run}
 use Rattle.hack_run.proofs.print_list.hand_to_lister.Goals as goal
 
@@ -26,15 +25,9 @@ returns-clause-done g c = λ ok none short quiet t.
     let after : HostView = record { calls = calls last.caller.now; out = append_known (contents lines.out.now) lines.gathered.now.items; term = last.term.now } in
     let fault_is = c.fault-2-1.given.1 (sym c.new-starter.ensures.fault.0 ∙ ap (λ s. s.fault.ghost_name) (sym made) ∙ l.told.2 ∙ l.ran.2) in
     let gathered_is = c.gathered-1.given.1 (sym c.gather_on-lines.ensures.gathered.0 ∙ stays.1) in
-    rw (gathered_is, sym c.gather_on-lines.ensures.out.1, sym c.gather_on-lines.ensures.gathered.1)
-    (record {
-      plan = l.course.plan;
-      notes = l.notes;
-      planned = rw c.as_str-rustup.ensures.value at l.planned;
-      done = sends_all l.course.plan cx.args.partition l.course.schedule l.course.handed before after (calls l.mid.caller.now) l.mid.refused last.refused last.term.now last.fault.now
-          (ap calls (l.told.3 ∙ ap (λ s. s.caller.now) made ∙ c.new-starter.ensures.caller.1)) l.handed.schedule (whole l.course l.handed.history l.handed.complete) (l.ran.3 t) l.ran.5 list.listed list.written (sym fault_is ∙ none) quiet;
-      warned = warned_run c.args.host.now.term.now c.set_manner.new.self.term.now l.mid.term.now last.term.now l.notes (ap (λ s. s.term.now) made ∙ c.new-starter.ensures.term.1) l.told.6 l.ran.6;
-    })
+    rw (gathered_is, sym c.gather_on-lines.ensures.out.1, sym c.gather_on-lines.ensures.gathered.1, sym (ap (λ s. s.caller.now) c.set_manner.ensures ∙ c.new-starter.ensures.caller.1), sym c.as_str-rustup.ensures.value)
+    (lists_one before.out after.out _ _ cx c.args.stable _ _ last list (λ s. calls s.caller.now) l.mid.refused last.refused c.args.host.now.term.now last.term.now last.fault.now
+    (ap calls l.told.3) (l.ran.3 t) l.ran.5 (warned_run c.args.host.now.term.now c.set_manner.new.self.term.now l.mid.term.now last.term.now l.notes (ap (λ s. s.term.now) made ∙ c.new-starter.ensures.term.1) l.told.6 l.ran.6) (sym fault_is ∙ none) quiet)
 
 pub returns-clause-made : goal.returns-clause-made
 returns-clause-made g c = λ t.

@@ -4,8 +4,7 @@ use Rattle.std.specs.List.{flat_map}
 use Rattle.std.specs.Io.KnownBytes.{Appends, Keeps}
 use Rattle.std.proofs.KnownBytes.{Keeps-refl}
 use Rattle.hack_session.specs.ListLines.{is_sent, lines_written, page_of}
-use Rattle.hack_session.specs.Internal.{lines_listed}
-use Rattle.hack_run.proofs.RunLemmas.{all_written, none_refused, passed_written}
+use Rattle.hack_run.proofs.RunLemmas.{all_listed, none_refused, passed_written}
 use Rattle.hack_run.proofs.print_list.list_over.Goals as goal
 
 pub returns-clause-done : goal.returns-clause-done
@@ -20,12 +19,12 @@ returns-clause-done g c = λ ok before after.
     let failed = g.W.Lines.failed in
     let out_is = c.out-2-1.given.1 (told.0 ∙ ran.0) in
     let runner_is = c.runner-2-1.given.1 (told.1 ∙ ran.1) in
-    let all = all_written g.W.Lines.whole session.plan session.handed (page_of (contents mid.out.now) (failed mid.out.now) mid.refused) (page_of (contents last.out.now) (failed last.out.now) last.refused)
+    let all = all_listed g.W.Lines.whole session.plan session.handed (page_of (contents mid.out.now) (failed mid.out.now) mid.refused) (page_of (contents last.out.now) (failed last.out.now) last.refused)
     (ap failed told.2 ∙ before) told.3 (sym (ap failed out_is) ∙ after) (none_refused last.refused ok) ran.3 in
     record {
       over = record {
         course = session;
-        handed = headline;
+        driven = headline.driven;
         notes = c.in_ok-_session.ensures.ran.0;
         planned = c.in_ok-_session.ensures.ran.2;
         mid = mid.runner.now;
@@ -35,9 +34,7 @@ returns-clause-done g c = λ ok before after.
             (subst (λ old. Appends (contents old) (contents last.out.now) (flat_map (lines_written session.plan) session.handed)) told.2
             (passed_written g.W.Lines.whole session.plan session.handed (page_of (contents mid.out.now) (failed mid.out.now) mid.refused) (page_of (contents last.out.now) (failed last.out.now) last.refused) w ran.3));
       };
-      listed = all.listed;
-      written = subst (λ new. Appends (contents c.args.out.now) (contents new) (flat_map (lines_listed session.plan) session.handed)) (sym out_is)
-          (subst (λ old. Appends (contents old) (contents last.out.now) (flat_map (lines_listed session.plan) session.handed)) told.2 all.written);
+      listed = all;
     }
 
 pub returns-clause-stays : goal.returns-clause-stays
@@ -60,7 +57,7 @@ returns-clause-made g c =
     let out_is = c.out-2-1.given.1 (told.0 ∙ ran.0) in
     inr (record {
       course = session;
-      handed = c.in_ok-_session.ensures.headline;
+      driven = c.in_ok-_session.ensures.headline.driven;
       notes = c.in_ok-_session.ensures.ran.0;
       planned = c.in_ok-_session.ensures.ran.2;
       mid = mid.runner.now;

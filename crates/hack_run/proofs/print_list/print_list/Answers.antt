@@ -6,7 +6,7 @@ use Rattle.hack_run.proofs.print_list.print_list.Goals as goal
 
 pub returns-clause-done : goal.returns-clause-done
 returns-clause-done g c =
-    list_ends c.end_of_list.result _ _ _ _ _ g.C.Caller.tells (context_view c.args.cx.now) c.args.stable (string_bytes c.args.host.now.env.now.rustup) (host_of g.C.Caller g.O.Write c.args.host.now) (host_of g.C.Caller g.O.Write c.hand_to_lister-came.new.host)
+    list_ends c.end_of_list.result _ _ _ _ _ g.C.Caller.tells (context_view c.args.cx.now) c.args.stable (string_bytes c.args.host.now.env.now.rustup) c.args.host.now.term.now.warn (host_of g.C.Caller g.O.Write c.args.host.now) (host_of g.C.Caller g.O.Write c.hand_to_lister-came.new.host)
     c.in_ok-gathered.gathered.items c.hand_to_lister-came.new.gathered.items (g.O.Write.contents c.write_last-flushed.new.out)
     c.in_ok-gathered.ensures c.end_of_list.ensures c.hand_to_lister-came.ensures.done c.write_last-flushed.ensures.all
 

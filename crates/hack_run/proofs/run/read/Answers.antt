@@ -1,27 +1,29 @@
-use Rattle.std.proofs.Common.{◌≡◌, false, map}
+use Rattle.std.proofs.Common.{◌≡◌, ap, false, map}
 use Rattle.hack_base.specs.Names.{names_of}
 use Rattle.hack_base.specs.Notes.{note_of}
+use Rattle.hack_words.proofs.AnswerLemmas.{answers-never}
+use Rattle.hack_words.specs.ParseAnswers.{around_of}
 use Rattle.hack_run.specs.TemporaryEdits.{ComesBack, RestoresEdits}
 use Rattle.hack_run.specs.Worlds.{files_of, world_of}
 use Rattle.hack_run.proofs.BackLemmas.{clean_by}
-use Rattle.hack_run.proofs.WholeLemmas.{done}
+use Rattle.hack_run.proofs.TraceLemmas.{done}
 use Rattle.hack_run.proofs.run.read.Goals as goal
 
 pub returns-in-Accepted-clause-refused : goal.returns-in-Accepted-clause-refused
 returns-in-Accepted-clause-refused g c = λ refused.
     let after = rw c.in-Accepted.is at c.in_ok-parsed.ensures.read in
     let told = refused after.rustup in
-    absurd (after.read.1 told.0 told.1)
+    absurd (answers-never (around_of c.args.host.now.env.now after.rustup) (names_of c.args.words.now) c.in-Accepted.parsed (map note_of c.in-Accepted.notices.items) after.read told.0 told.1)
 
 pub returns-in-Accepted-clause-done : goal.returns-in-Accepted-clause-done
 returns-in-Accepted-clause-done g c =
     let after = rw c.in-Accepted.is at c.in_ok-parsed.ensures.read in
     done g.C.Caller.tells g.F.Files.tells (c.obey.new.host.term.now.error ≡ false) c.obey.result (names_of c.args.words.now) c.args.host.now.env.now
     (world_of g.F.Files g.C.Caller g.O.Write c.args.files.now c.args.host.now) (world_of g.F.Files g.C.Caller g.O.Write c.obey.new.files c.obey.new.host) (g.C.Caller.calls c.reading_of.new.caller)
-    after.rustup c.in-Accepted.parsed (map note_of c.in-Accepted.notices.items) after.read.0 after.asked (rw c.as_slice.ensures.value at c.obey.ensures.done)
+    after.rustup c.in-Accepted.parsed (map note_of c.in-Accepted.notices.items) c.reading_of.ensures.may (λ off. ap g.C.Caller.calls (c.reading_of.ensures.unneeded off)) after.read after.asked (rw c.as_slice.ensures.value at c.obey.ensures.done)
 
 pub returns-in-Accepted-clause-clean : goal.returns-in-Accepted-clause-clean
 returns-in-Accepted-clause-clean g c =
     let after = rw c.in-Accepted.is at c.in_ok-parsed.ensures.read in
     clean_by (ComesBack c.in-Accepted.parsed) (RestoresEdits c.args.host.now.env.now (names_of c.args.words.now)) (c.obey.new.host.term.now.error ≡ false) g.F.Files.tells (files_of g.F.Files c.args.files.now) (files_of g.F.Files c.obey.new.files) c.obey.result
-    (λ back. back after.rustup c.in-Accepted.parsed (map note_of c.in-Accepted.notices.items) after.read.0) c.obey.ensures.clean
+    (λ back. back after.rustup c.in-Accepted.parsed (map note_of c.in-Accepted.notices.items) after.read) c.obey.ensures.clean

@@ -1,16 +1,17 @@
-use Rattle.std.proofs.Common.{◌≡◌, ap, false, IfOk, inl, inr, refl, string_bytes, subst, sym}
+use Rattle.std.specs.Prelude.{◌||◌, Bool}
+use Rattle.std.proofs.Common.{◌≡◌, ◌∙◌, ap, false, IfOk, inl, inr, refl, string_bytes, subst, sym}
 use Rattle.hack_load.specs.Answers.{IsLoaded}
 use Rattle.hack_load.specs.ContextView.{context_view}
 use Rattle.hack_prepare.proofs.HeldLemmas.{loaded-holds}
 use Rattle.hack_words.specs.declared.cli.args.Args.{Args}
 use Rattle.hack_run.specs.Questions.{NeedsAnswer}
 use Rattle.hack_run.proofs.BackLemmas.{counted_ok}
-use Rattle.hack_run.proofs.MadeLemmas.{goes_on, shows_nothing}
+use Rattle.hack_run.proofs.LoadingLemmas.{warns_unknown}
+use Rattle.hack_run.proofs.TraceLemmas.{follows, goes_on, shows_nothing, unended}
 use Rattle.hack_load.specs.ContextOf.{warnings_of}
 use Rattle.hack_load.specs.CargoQuestions.{told_version}
-use Rattle.hack_run.specs.Worlds.{host_of, world_of}
+use Rattle.hack_run.specs.Worlds.{world_of}
 use Rattle.hack_run.proofs.ToldLemmas.{warned_first}
-use Rattle.hack_run.proofs.WholeLemmas.{follows}
 use Rattle.hack_run.proofs.stages.follow.Goals as goal
 
 pub returns-clause-done : goal.returns-clause-done
@@ -18,12 +19,16 @@ returns-clause-done g c =
     let held = g.F.Files.bytes_at c.args.files.now in
     let env = c.args.host.now.env.now in
     let cx = context_view c.in_ok-cx.cx in
+    let version = c.args.answers.cargo_version in
     follows g.C.Caller.tells (g.F.Files.tells × IfOk c.args.answers.loaded (IsLoaded g.F.Files.tells held env)) (c.run_plan.new.host.term.now.error ≡ false) c.run_plan.result c.args.args
     c.args.answers (string_bytes env.rustup) (world_of g.F.Files g.C.Caller g.O.Write c.args.files.now c.args.host.now) (world_of g.F.Files g.C.Caller g.O.Write c.edit.new.files c.run_plan.new.host)
     (g.C.Caller.calls c.stable_for.new.caller) c.edit.new.term cx c.in_ok-stable.stable
-    (warned_first c.args.host.now.term.now c.context.new.term c.edit.new.term (warnings_of (told_version c.args.answers.cargo_version)) cx c.in_ok-cx.ensures.told c.in_ok-edit.ensures.told)
+    (warned_first c.args.host.now.term.now c.context.new.term c.edit.new.term (warnings_of (told_version version)) cx c.in_ok-cx.ensures.told c.in_ok-edit.ensures.told
+    ∙ ap (λ (b : Bool). b || c.args.host.now.term.now.warn) (warns_unknown version))
     (λ u. c.in_ok-edit.ensures.prepared u.0 (loaded-holds g.F.Files.tells held env c.args.args c.args.answers cx u.0 u.1 c.in_ok-cx.ensures.ok))
-    c.in_ok-cx.ensures.ok c.in_ok-stable.ensures.asked (λ off. c.in_ok-stable.ensures.unasked (subst (λ (a : Args). ¬ NeedsAnswer a) (sym c.args-2.ensures) off)) c.run_plan.ensures.done
+    c.in_ok-cx.ensures.ok c.stable_for.ensures.made
+    (λ off. ap g.C.Caller.calls (c.stable_for.ensures.unneeded (subst (λ (a : Args). ¬ NeedsAnswer a) (sym c.args-2.ensures) off)))
+    (λ off. c.in_ok-stable.ensures.unasked (subst (λ (a : Args). ¬ NeedsAnswer a) (sym c.args-2.ensures) off)) c.in_ok-stable.ensures.asked c.run_plan.ensures.done
 
 pub returns-in_err-edit-clause-safe : goal.returns-in_err-edit-clause-safe
 returns-in_err-edit-clause-safe g c = λ t read.
@@ -43,27 +48,26 @@ returns-clause-counted g c = counted_ok c.run_plan.result c.args.answers.loaded 
 pub returns-in_err-stable-clause-made : goal.returns-in_err-stable-clause-made
 returns-in_err-stable-clause-made g c = λ t.
     let cx = context_view c.in_ok-cx.cx in
-    inr (
-      cx,
-      c.in_ok-cx.ensures.ok,
-      record {
+    inr (record {
+      cx = cx;
+      context = c.in_ok-cx.ensures.ok;
+      performs = record {
         mid = g.C.Caller.calls c.stable_for.new.caller;
         asked = c.stable_for.ensures.made t;
         needed = λ off. ap g.C.Caller.calls (c.stable_for.ensures.unneeded (subst (λ (a : Args). ¬ NeedsAnswer a) (sym c.args-2.ensures) off));
-        runs = inl (refl, shows_nothing cx.args.print_command_list (g.O.Write.contents c.args.host.now.out.now));
-      },
-    )
+        runs = inl (refl, refl, shows_nothing cx.args.print_command_list (g.O.Write.contents c.args.host.now.out.now));
+      };
+      edited = λ e. unended e;
+    })
 
 pub returns-clause-made : goal.returns-clause-made
 returns-clause-made g c = λ t.
-    inr (
-      context_view c.in_ok-cx.cx,
-      c.in_ok-cx.ensures.ok,
-      goes_on (context_view c.in_ok-cx.cx) c.in_ok-stable.stable (string_bytes c.args.host.now.env.now.rustup) (host_of g.C.Caller g.O.Write c.args.host.now) (host_of g.C.Caller g.O.Write c.run_plan.new.host)
-          (g.C.Caller.calls c.stable_for.new.caller) c.edit.new.term (c.stable_for.ensures.made t)
-          (λ off. ap g.C.Caller.calls (c.stable_for.ensures.unneeded (subst (λ (a : Args). ¬ NeedsAnswer a) (sym c.args-2.ensures) off)))
-          (c.in_ok-stable.ensures.asked t) (c.run_plan.ensures.made t),
-    )
+    goes_on g.F.Files.tells c.args.args c.args.answers (string_bytes c.args.host.now.env.now.rustup) c.args.host.now.term.now.warn
+    (world_of g.F.Files g.C.Caller g.O.Write c.args.files.now c.args.host.now) (world_of g.F.Files g.C.Caller g.O.Write c.edit.new.files c.run_plan.new.host)
+    (context_view c.in_ok-cx.cx) c.in_ok-stable.stable (g.C.Caller.calls c.stable_for.new.caller) c.edit.new.term c.in_ok-cx.ensures.ok (c.stable_for.ensures.made t)
+    (λ off. ap g.C.Caller.calls (c.stable_for.ensures.unneeded (subst (λ (a : Args). ¬ NeedsAnswer a) (sym c.args-2.ensures) off)))
+    (λ off. c.in_ok-stable.ensures.unasked (subst (λ (a : Args). ¬ NeedsAnswer a) (sym c.args-2.ensures) off))
+    (c.in_ok-stable.ensures.asked t) (c.run_plan.ensures.made t)
 
 pub returns-in_err-cx-clause-stays : goal.returns-in_err-cx-clause-stays
 returns-in_err-cx-clause-stays g c = g.F.Files.stays_none c.args.files.now

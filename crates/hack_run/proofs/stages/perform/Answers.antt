@@ -1,12 +1,12 @@
-use Rattle.std.proofs.Common.{◌≡◌, ◌<◌, ◌∙◌, ap, false, inr, string_bytes}
+use Rattle.std.proofs.Common.{◌≡◌, ◌<◌, ◌∙◌, ap, false, inr}
 use Rattle.std.specs.Prelude.{IfOk, not}
 use Rattle.hack_load.specs.Answers.{IsLoaded}
 use Rattle.hack_files.specs.Restore.{registered_files}
 use Rattle.hack_run.proofs.BackLemmas.{brings_none, cleans, kept_none, leaves, safe_new, whole_keeps}
-use Rattle.hack_run.specs.Worlds.{files_of, host_at, host_of}
+use Rattle.hack_run.specs.Worlds.{files_of, host_of}
 use Rattle.hack_term.specs.declared.term.Term.{Term}
-use Rattle.hack_run.proofs.MadeLemmas.{after_told}
-use Rattle.hack_run.proofs.WholeLemmas.{performs}
+use Rattle.hack_run.proofs.LoadingLemmas.{loaded}
+use Rattle.hack_run.proofs.TraceLemmas.{made, performs}
 use Rattle.hack_run.proofs.stages.perform.Goals as goal
 
 pub returns-clause-done : goal.returns-clause-done
@@ -18,7 +18,8 @@ returns-clause-done g c =
     performs g.C.Caller.tells g.F.Files.tells (g.F.Files.tells × IfOk c.ask-answers.result.loaded (IsLoaded g.F.Files.tells asked.held c.args.host.now.env.now)) (0 < c.finish.result) c.follow-came.result c.args.args c.args.host.now.env.now
     first asked prepared last (host_of g.C.Caller g.O.Write c.args.host.now) (host_of g.C.Caller g.O.Write c.follow-came.new.host) (g.C.Caller.calls c.ask-answers.new.caller) c.finish.new.term
     c.ask-answers.result (ap (λ (k : Term). k.warn) c.finish.ensures.term)
-    c.ask-answers.ensures.asked c.finish.ensures.noted.1 (λ t. (t, c.ask-answers.ensures.read)) (whole_keeps g.F.Files.tells first.held asked.held first.failed asked.failed c.ask-answers.result.loaded c.ask-answers.ensures.whole)
+    (λ t. loaded g.F.Files.tells c.args.args c.args.host.now.env.now first.held first.failed asked.failed (g.C.Caller.calls c.args.host.now.caller.now) (g.C.Caller.calls c.ask-answers.new.caller) c.ask-answers.result (c.ask-answers.ensures.asked t))
+    c.finish.ensures.noted.1 (λ t. (t, c.ask-answers.ensures.read)) (whole_keeps g.F.Files.tells first.held asked.held first.failed asked.failed c.ask-answers.result.loaded c.ask-answers.ensures.whole)
     (λ t stay. brings_none (registered_files c.follow-came.new.manager) prepared.held last.held c.finish.result
     (kept_none c.new-manager.result c.ask-answers.new.manager c.follow-came.new.manager c.new-manager.ensures.nothing c.ask-answers.ensures.kept
     (c.follow-came.ensures.unkept (c.ask-answers.ensures.needs ∙ c.new-manager.ensures.needs ∙ ap not stay)))
@@ -27,15 +28,12 @@ returns-clause-done g c =
 
 pub returns-clause-made : goal.returns-clause-made
 returns-clause-made g c = λ t.
-    let first = host_of g.C.Caller g.O.Write c.args.host.now in
-    let mid = g.C.Caller.calls c.ask-answers.new.caller in
-    record {
-      answers = c.ask-answers.result;
-      now = g.F.Files.failed c.ask-answers.new.files;
-      mid = mid;
-      asked = c.ask-answers.ensures.asked t;
-      behind = after_told c.args.args c.ask-answers.result (string_bytes c.args.host.now.env.now.rustup) (host_at mid first) (host_of g.C.Caller g.O.Write c.follow-came.new.host) first.term c.finish.new.term (c.follow-came.ensures.made t);
-    }
+    let first = files_of g.F.Files c.args.files.now in
+    let asked = files_of g.F.Files c.ask-answers.new.files in
+    made g.F.Files.tells c.args.args c.args.host.now.env.now first asked (files_of g.F.Files c.follow-came.new.files) (files_of g.F.Files c.finish.new.files)
+    (host_of g.C.Caller g.O.Write c.args.host.now) (host_of g.C.Caller g.O.Write c.follow-came.new.host) (g.C.Caller.calls c.ask-answers.new.caller) c.finish.new.term c.ask-answers.result
+    (loaded g.F.Files.tells c.args.args c.args.host.now.env.now first.held first.failed asked.failed (g.C.Caller.calls c.args.host.now.caller.now) (g.C.Caller.calls c.ask-answers.new.caller) c.ask-answers.result (c.ask-answers.ensures.asked t))
+    (c.follow-came.ensures.made t)
 
 pub returns-clause-back : goal.returns-clause-back
 returns-clause-back g c = λ kept t.
