@@ -1,5 +1,5 @@
 -- Calls that a question makes, and what its answer says.
-use Rattle.std.proofs.Common.{◌≡◌, ◌≢◌, ◌∙◌, refl, inl, inr, List, Option, Some, None, Result, Ok, Err, IfOk, IfErr, OnOk, IsSome, Bool, true, false, sym, subst, Global, String}
+use Rattle.std.proofs.Common.{◌≡◌, ◌≢◌, ◌∙◌, refl, inl, inr, [], List, Option, Some, None, Result, Ok, Err, IfOk, IfErr, OnOk, IsSome, Bool, true, false, sym, subst, Global, String}
 use Rattle.hack_base.specs.Names.{Name}
 use Rattle.hack_metadata.specs.QuestionCalls.{FailsToRead, ReadsOutput}
 use Rattle.hack_metadata.specs.Requests.{version_command}
@@ -102,12 +102,20 @@ in_vain tells c shown old new (process.NeverExecuted text) ne h t = let had = h.
 in_vain tells c shown old new (process.Failed failure) ne h t = let had = h.3 t in inr (had.0, (λ s. h.2.0 (had.1.ended ∙ s.0)), had.2)
 in_vain tells c shown old new (process.NotText text) ne h t = let had = h.2 t in inr (had.0, (λ s. had.1.1 s.1), had.2)
 
+-- a program without a name isn't called
+pub unnamed : (tells : Type 0) (c : Command) (shown : Name) (old new : List Call) (e : ProcessFault) → IsReadFault tells (asked_of true c) shown old new e → tells → c.program ≡ [] → new ≡ old
+unnamed tells c shown old new process.Memory h t none = absurd (h.0 none)
+unnamed tells c shown old new process.EmptyProgram h t none = h.1 t
+unnamed tells c shown old new (process.NeverExecuted text) h t none = absurd (h.0 none)
+unnamed tells c shown old new (process.Failed failure) h t none = absurd (h.0 none)
+unnamed tells c shown old new (process.NotText text) h t none = absurd (h.0 none)
+
 -- rustup gave no answer
 pub asks_in_vain : {E : Type 0} (tells : Type 0) (wants : Bool) (rustup shown : Name) (c : Command) (old new : List Call) (r : Result Rustup E) (e : ProcessFault) → wants ≡ true → c ≡ rustup_command rustup
     → IsReadFault tells (asked_of true c) shown old new e → IfOk r IsUnknown → OnOk r (e ≢ process.Memory) → IfOk r (λ known. tells → AsksRustup wants rustup known old new)
 asks_in_vain tells wants rustup shown c old new (Ok known) e is same failed unknown lacks = λ t.
     subst (λ b. AsksRustup b rustup known old new) (sym is)
-    (unknown.0, inr (subst (λ k. FailsToRead k old new) same (in_vain tells c shown old new e lacks failed t), subst (IsMinorIn None) (sym unknown.1) (λ v none. none)))
+    (unknown.0, inr (subst (λ k. FailsToRead k old new) same (in_vain tells c shown old new e lacks failed t), subst (λ (k : Command). k.program ≡ [] → new ≡ old) same (unnamed tells c shown old new e failed t), subst (IsMinorIn None) (sym unknown.1) (λ v none. none)))
 asks_in_vain tells wants rustup shown c old new (Err x) e is same failed unknown lacks = tt
 
 -- nothing was asked

@@ -35,7 +35,7 @@ use Rattle.hack_load.specs.declared.fault.ContextFault.TheVariants as faults
 use Rattle.hack_load.specs.declared.loaded.Loaded.{Loaded}
 use Rattle.hack_run.specs.Loading.{AnswersMetadata, AreLoaded, AsksFor, IsMinorIn, Loads, at_location, at_manifests, at_metadata}
 use Rattle.hack_run.specs.Warnings.{have_warning}
-use Rattle.hack_run.proofs.CallLemmas.{fault_may, in_vain}
+use Rattle.hack_run.proofs.CallLemmas.{fault_may, in_vain, unnamed}
 
 -- an answer that can't be read has no release
 pub no_release : (answer : Name) (part : Option Name) (e : VersionTextFault) → IsAnswerFault answer part e → (v : Version) → ¬ TellsRelease part v
@@ -63,6 +63,7 @@ own : (args : Args) (env : Env) (version : Result ℕ (String Global)) (host : O
 own args env version host old new (inl h) = inl (h.0, h.1, h.2.named, minor_in _ h.0 version h.2.tells)
 own args env version host old new (inr h) = inr (
   in_vain (Unit {0}) (self_command (string_bytes env.cargo)) _ old new h.0 h.2.memory h.1 tt,
+  unnamed (Unit {0}) (self_command (string_bytes env.cargo)) _ old new h.0 h.1 tt,
   h.2.unnamed,
   subst (IsMinorIn None) (sym (unknown version _ h.2.warns)) (λ v told. told),
 )

@@ -26,10 +26,10 @@ use Rattle.hack_versions.specs.declared.version.Version.{Version}
 use Rattle.hack_base.specs.Notes.{Note}
 use Rattle.hack_planner.specs.CallPlan.{IsPlanOf}
 use Rattle.hack_run.specs.CallTrace.{PerformsOne, Writes}
-use Rattle.hack_run.specs.Headline.{IsDriven}
+use Rattle.hack_session.specs.Handouts.{IsDriven}
 use Rattle.hack_run.specs.Internal.{HandsOverAtMostOne, ListsOver, PerformsAtMostOne, host_writing}
 use Rattle.hack_run.specs.Warnings.{Warned}
-use Rattle.hack_run.proofs.TraceLemmas.{unended}
+use Rattle.hack_run.proofs.TraceLemmas.{all_shown, unended}
 use Rattle.hack_run.specs.Worlds.{HostView}
 use Rattle.hack_run.proofs.GatherLemmas.{known-none}
 
@@ -172,10 +172,6 @@ shown_then None b c left text w k = ([], (λ e. refl), tt)
 shown_then (Some x) None c left text w k = absurd w.2
 shown_then (Some x) (Some y) None left text w k = absurd k
 shown_then (Some x) (Some y) (Some z) left text w k = (left ++ w.0, (λ e. unended e), sym (append_assoc z left w.0) ∙ ap (λ l. l ++ w.0) k ∙ w.2)
-
--- a whole text is a front of it
-all_shown : (done : Bool) (a b : Option (List ℕ)) (text : List ℕ) → Appends a b text → Writes done true a b text
-all_shown done a b text w = ([], (λ e. refl), subst (λ (o : Option (List ℕ)). Appends a o text) (sym (known-none b)) w)
 
 -- a list whose end was written, or a part of it
 pub list_shows : (cx : ContextRecord) (stable : Result (Option Version) (String Global)) (rustup : Name) (old mid : HostView) (begun gathered left : List ℕ) (out : Option (List ℕ))

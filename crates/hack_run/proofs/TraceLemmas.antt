@@ -1,10 +1,11 @@
 -- What a call did, put together from its stages.
-use Rattle.std.proofs.Common.{◌≡◌, ◌⊎◌, inl, inr, refl, sym, subst, ◌∙◌, ap, string_bytes, ℕ, Bool, true, false, List, [], Some, None, Option, Result, Ok, Err, OnOk, OnErr, IsErr, IsTrue, Global, String}
+use Rattle.std.proofs.Common.{◌≡◌, ◌⊎◌, inl, inr, refl, sym, subst, ◌∙◌, ap, string_bytes, ℕ, Bool, true, false, List, [], ◌++◌, append_assoc, Some, None, Option, Result, Ok, Err, OnOk, OnErr, IsErr, IsTrue, Global, String}
 use Rattle.std.specs.Prelude.{◌||◌}
 use Rattle.std.specs.Result.{is_err}
 use Rattle.std.specs.Io.KnownBytes.{Appends}
 use Rattle.hack_base.specs.Names.{Name}
 use Rattle.hack_base.specs.Notes.{Note}
+use Rattle.hack_base.specs.Writes.{AppendsFront}
 use Rattle.hack_files.specs.Files.{Contents, KeepsAll}
 use Rattle.hack_load.specs.ContextOf.{IsContextFrom}
 use Rattle.hack_load.specs.Contexts.{ContextRecord}
@@ -36,6 +37,7 @@ use Rattle.hack_run.specs.Internal.{PerformsAtMostOne}
 use Rattle.hack_run.specs.Loading.{AreLoaded}
 use Rattle.hack_run.specs.Questions.{AsksRustup, AsksStable, MayAskStable, NeedsAnswer, rustup_asked}
 use Rattle.hack_run.specs.Warnings.{Warned, after_notes, have_warning}
+use Rattle.hack_run.proofs.GatherLemmas.{known-none}
 use Rattle.hack_run.specs.Worlds.{FilesView, HostView, World, host_at, world_at}
 
 -- calls that end with an error failed, or memory was refused
@@ -55,6 +57,16 @@ unended e = absurd (cc)
 on_ok : {T E : Type 0} (P Q : Type 0) (r : Result T E) → (P → Q) → OnOk r P → OnOk r Q
 on_ok P Q (Ok v) f p = f p
 on_ok P Q (Err e) f p = tt
+
+-- a whole text is a front of it
+pub all_shown : (done : Bool) (a b : Option (List ℕ)) (text : List ℕ) → Appends a b text → Writes done true a b text
+all_shown done a b text w = ([], (λ e. refl), subst (λ (o : Option (List ℕ)). Appends a o text) (sym (known-none b)) w)
+
+-- a front of a text was written
+front_shown : (a b : Option (List ℕ)) (text : List ℕ) → AppendsFront a b text → Writes false true a b text
+front_shown None b text w = ([], (λ e. refl), tt)
+front_shown (Some x) None text w = absurd w.3
+front_shown (Some x) (Some y) text w = (w.1, (λ e. unended e), ap (λ l. l ++ w.1) w.3 ∙ append_assoc x w.0 w.1 ∙ ap (λ l. x ++ l) (sym w.2))
 
 -- nothing is printed
 pub shows_nothing : (listing : Bool) (had : Option (List ℕ)) → Writes false listing had had []
@@ -241,10 +253,12 @@ pub prints : {T E : Type 0} (tells told quiet : Type 0) (r : Result T E) (answer
     → OnOk r (quiet → tells → Obeys true told answer env (warned_by answer notes old.host.term.warn) old new)
 prints tells told quiet r answer text notes env old new is calls same wrote =
     subst (λ (a : Parsed). OnOk r (quiet → tells → Obeys true told a env (warned_by a notes old.host.term.warn) old new)) (sym is)
-    (on_ok (Appends old.host.out new.host.out (string_bytes text)) (quiet → tells → Obeys true told (parsed.Print text) env old.host.term.warn old new) r (λ w q t. (calls, λ d. (w, same))) wrote)
+    (on_ok (Appends old.host.out new.host.out (string_bytes text)) (quiet → tells → Obeys true told (parsed.Print text) env old.host.term.warn old new) r (λ w q t. (calls, all_shown true old.host.out new.host.out (string_bytes text) w, λ d. same)) wrote)
 
-pub prints_made : (told : Type 0) (answer : Parsed) (text : String Global) (env : Env) (warned : Bool) (old new : World) → answer ≡ parsed.Print text → new.host.calls ≡ old.host.calls → Obeys false told answer env warned old new
-prints_made told answer text env warned old new is calls = subst (λ (a : Parsed). Obeys false told a env warned old new) (sym is) (calls, λ e. unended e)
+pub prints_made : (told : Type 0) (answer : Parsed) (text : String Global) (env : Env) (warned : Bool) (old new : World) → answer ≡ parsed.Print text → new.host.calls ≡ old.host.calls → AppendsFront old.host.out new.host.out (string_bytes text)
+    → Obeys false told answer env warned old new
+prints_made told answer text env warned old new is calls front =
+    subst (λ (a : Parsed). Obeys false told a env warned old new) (sym is) (calls, front_shown old.host.out new.host.out (string_bytes text) front, λ e. unended e)
 
 -- cargo listed its commands, and nothing more is warned of
 pub lists : {T E : Type 0} (tells told quiet : Type 0) (r : Result T E) (answer : Parsed) (env : Env) (warned : Bool) (old new : World) → answer ≡ parsed.List → new.host.term.warn ≡ warned → new.host.out ≡ old.host.out
@@ -274,7 +288,7 @@ done tells told quiet r words env old new mid rustup answer notes may needed rea
 obeys_moved : (done : Bool) (T : Type 0) (answer : Parsed) (env : Env) (warned : Bool) (old new : World) (later : FilesView) (now : Term) → (done ≡ true → T → KeepsAll new.files.held later.held) → (done ≡ true → now.warn ≡ new.host.term.warn)
     → Obeys done T answer env warned old new → Obeys done T answer env warned old (record { files = later; host = record new.host { term = now } })
 obeys_moved done T (parsed.Args args) env warned old new later now held same h = loads_moved done T args env warned old new later old.host.term now held same h
-obeys_moved done T (parsed.Print text) env warned old new later now held same h = (h.0, λ d. let w = h.1 d in (w.0, same d ∙ w.1))
+obeys_moved done T (parsed.Print text) env warned old new later now held same h = (h.0, h.1, λ d. same d ∙ h.2 d)
 obeys_moved done T parsed.List env warned old new later now held same h = (h.0, h.1, λ d. let w = h.2 d in (same d ∙ w.0, w.1))
 
 pub call_moved : (done : Bool) (T : Type 0) (words : List Name) (env : Env) (old new : World) (later : FilesView) (now : Term) → (done ≡ true → T → KeepsAll new.files.held later.held) → (done ≡ true → now.warn ≡ new.host.term.warn)

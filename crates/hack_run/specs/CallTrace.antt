@@ -29,7 +29,7 @@ use Rattle.hack_words.specs.declared.cli.args.Args.{Args}
 use Rattle.hack_words.specs.declared.cli.env.Env.{Env}
 use Rattle.hack_words.specs.declared.cli.parse.Parsed.{Parsed}
 use Rattle.hack_words.specs.declared.cli.parse.Parsed.TheVariants as parsed
-use Rattle.hack_run.specs.Headline.{IsDriven}
+use Rattle.hack_session.specs.Handouts.{IsDriven}
 use Rattle.hack_run.specs.Loading.{AreLoaded}
 use Rattle.hack_run.specs.Questions.{AsksRustup, AsksStable, MayAskStable, NeedsAnswer, rustup_asked}
 use Rattle.hack_run.specs.Warnings.{Warned, have_warning}
@@ -39,7 +39,7 @@ use Rattle.hack_run.specs.Worlds.{HostView, World, host_at, world_at}
 abbrev pub Stops : Bool → List Call → HostView → HostView → Type 0
 Stops done calls old new = (done ≡ false) × (new.calls ≡ calls) × (new.out ≡ old.out)
 
--- a list wrote this text, or a front of it where an error ended the call; of runs nothing is said
+-- this text was written, or a front of it where an error ended the call; of runs nothing is said
 abbrev pub Writes : Bool → Bool → Option (List ℕ) → Option (List ℕ) → List ℕ → Type 0
 Writes done true had has text =
     (rest : List ℕ) × (done ≡ true → rest ≡ []) × Appends had (append_known has rest) text
@@ -118,8 +118,9 @@ abbrev pub Obeys : Bool → Type 0 → Parsed → Env → Bool → World → Wor
 Obeys done tells (parsed.Args args) env warned old new =
     LoadsAndPerforms done tells args env warned old new
 Obeys done tells (parsed.Print text) env warned old new =
-    (new.host.calls ≡ old.host.calls) × (done ≡ true
-    → Appends old.host.out new.host.out (string_bytes text) × (new.host.term.warn ≡ warned))
+    (new.host.calls ≡ old.host.calls)
+    × Writes done true old.host.out new.host.out (string_bytes text)
+    × (done ≡ true → new.host.term.warn ≡ warned)
 Obeys done tells parsed.List env warned old new =
     MayAdd (listing_asked (string_bytes env.cargo)) old.host.calls new.host.calls
     × (new.host.out ≡ old.host.out)

@@ -1,16 +1,14 @@
 -- The headline: what is handed out for a context, whatever comes of its steps.
-use Rattle.std.specs.Prelude.{ℕ, ◌≡◌, ◌<◌, Bool, true, List, Option, None, Some, Result, Ok, IsSome, length}
+use Rattle.std.specs.Prelude.{ℕ, ◌≡◌, ◌<◌, true, List, Option, None, Some, Result, Ok, IsSome, length}
 use Rattle.std.proofs.Common.{Global, String}
 use Rattle.hack_planner.specs.CallPlan.{HasRunsOf}
 use Rattle.hack_planner.specs.Powersets.{HavePowersets}
 use Rattle.hack_planner.specs.Samples.{HaveSamples, ArePatternsHeld}
 use Rattle.hack_rules.specs.declared.uses.behavior.WorkspaceBehavior.TheVariants.{Cargo}
 use Rattle.hack_load.specs.Contexts.{ContextRecord}
-use Rattle.hack_session.specs.Handouts.{HandsOut}
-use Rattle.hack_session.specs.Histories.{Course, IsHistory, next_of}
-use Rattle.hack_session.specs.Schedules.{IsSchedule}
+use Rattle.hack_session.specs.Handouts.{HandsOut, IsDriven}
+use Rattle.hack_session.specs.Histories.{Course}
 use Rattle.hack_term.specs.Pieces.{InJustOnePiece, joined_blocks}
-use Rattle.hack_term.specs.declared.partition.Partition.{Partition}
 use Rattle.hack_term.specs.declared.partition.PartitionKind.{PartitionKind}
 use Rattle.hack_versions.specs.declared.version.Version.{Version}
 
@@ -19,14 +17,6 @@ use Rattle.hack_versions.specs.declared.version.Version.{Version}
 pub record AreShared {A : Type 0} (plan : List A) : Type 0 where
   pub once : (kind : PartitionKind) (count place : ℕ) → 0 < count → place < length plan → InJustOnePiece kind count (length plan) place
   pub blocks : (count : ℕ) → 0 < count → joined_blocks count plan ≡ plan
-
--- a session was driven to its end: its schedule is that of the chosen piece; what was handed out is a front of it with its
--- outcomes, in which no element but the last stops, and there is no next step
-pub record IsDriven (piece : Option Partition) (keep_going : Bool) (t : Course) : Type 0 where
-  pub schedule : IsSchedule piece t.plan t.schedule
-  pub goes_on : t.keep_going ≡ keep_going
-  pub history : IsHistory t
-  pub complete : next_of t ≡ None
 
 -- The places of the session's plan are exactly the admissible runs, in order. It was driven to its end. The runs
 -- handed out are the chosen piece of the plan, in order, each place once, until a step stops or the piece ends. The pieces share

@@ -27,7 +27,7 @@ use Rattle.hack_planner.specs.CallPlan.{IsPlanOf}
 use Rattle.hack_session.specs.Histories.{Course}
 use Rattle.hack_session.specs.ListLines.{is_sent, lines_written}
 use Rattle.hack_session.specs.Internal.{IsListedStep}
-use Rattle.hack_run.specs.Headline.{IsDriven}
+use Rattle.hack_session.specs.Handouts.{IsDriven}
 
 -- one history was performed, or nothing was called and nothing listed
 abbrev pub PerformsAtMostOne : Bool → ContextRecord → Result (Option Version) (String Global) → Name → HostView → HostView → Type 0

@@ -1,5 +1,5 @@
 -- What a call asks cargo before it has a plan, and what it loads.
-use Rattle.std.specs.Prelude.{◌≡◌, ◌⊎◌, ℕ, true, List, Option, Some, None, option_and_then, string_bytes}
+use Rattle.std.specs.Prelude.{◌≡◌, ◌⊎◌, [], ℕ, true, List, Option, Some, None, option_and_then, string_bytes}
 use Rattle.std.specs.Result.{result_ok, result_unwrap_or}
 use Rattle.hack_base.specs.Names.{Name}
 use Rattle.hack_files.specs.Files.{Change, Contents}
@@ -27,10 +27,12 @@ abbrev pub IsMinorIn : Option Name → Option ℕ → Type 0
 IsMinorIn part (Some minor) = (v : Version) × TellsRelease part v × (minor ≡ v.minor)
 IsMinorIn part None = (v : Version) → ¬ TellsRelease part v
 
--- a command was called for its output, and P holds of that; of none where it gave none
+-- a command was called for its output, and P holds of that; of none where it gave none, as where its
+-- program has no name and isn't called
 abbrev pub AsksFor : (Option Name → Type 0) → Command → List Call → List Call → Type 0
 AsksFor P c old new =
-    ((text : Name) × ReadsOutput c text old new × P (Some text)) ⊎ (FailsToRead c old new × P None)
+    ((text : Name) × ReadsOutput c text old new × P (Some text))
+    ⊎ (FailsToRead c old new × (c.program ≡ [] → new ≡ old) × P None)
 
 -- `held` is what the files held before, where they say it
 module _ (tells : Type 0) (args : Args) (env : Env) (held : Contents) where

@@ -5,6 +5,7 @@ ghost use Rattle.std.specs.Prelude.{IfSome, map, string_bytes};
 ghost use Rattle.std.specs.Io.KnownBytes.{Appends};
 ghost use Rattle.hack_base.specs.Names.{names_of};
 ghost use Rattle.hack_base.specs.Notes.{note_of};
+ghost use Rattle.hack_base.specs.Writes.{AppendsFront};
 ghost use Rattle.hack_process.specs.Calls.{IsSuccess, MayAdd};
 ghost use Rattle.hack_process.specs.Faults.{GotAnswer};
 ghost use Rattle.hack_run.specs.CallTrace.{IsCallTrace, Obeys, listing_asked, warned_by};
@@ -20,6 +21,7 @@ use crate::reading::{Reading, reading_of};
 use crate::stages::perform;
 use crate::tell::{tell_all, tell_end};
 use hack_base::notice::Notice;
+use hack_base::writes::write_front;
 use hack_files::fs::Files;
 use hack_process::process::{Caller, ProcessBuilder, ProcessFault};
 use hack_term::term::{Coloring, Term};
@@ -177,11 +179,12 @@ fn dress(term: &mut Term, args: &Args)
     }
 }
 
-/// Prints a text.
+/// Prints a text, or the beginning of it where a write fails.
 fn print<O: Write>(text: &str, out: &mut O) -> Result<(), RunFault>
-    ensures { OnOk result (Appends (O.contents out.old) (O.contents out.new) text.now) }
+    ensures all { OnOk result (Appends (O.contents out.old) (O.contents out.new) text.now) }
+    ensures front { AppendsFront (O.contents out.old) (O.contents out.new) text.now }
 {
-    match out.write_all(text.as_bytes()) {
+    match write_front(text, out) {
         Ok(()) => Ok(()),
         Err(_) => Err(RunFault::Unprinted),
     }

@@ -10,7 +10,7 @@ use Rattle.hack_process.specs.Faults.{IsFault, GotAnswer}
 use Rattle.hack_session.specs.declared.step.Outcome.TheVariants.{Passed, Failed}
 use Rattle.hack_process.specs.CommandTexts.{Command}
 use Rattle.hack_process.specs.Commands.{asked_of}
-use Rattle.hack_session.specs.StepCalls.{Succeeds, EndsUnsuccessfully, CallsUpToFailure, MakesCalls}
+use Rattle.hack_session.specs.StepCalls.{IsCallOf, Succeeds, CallsUpToFailure, MakesCalls}
 use Rattle.hack_session.specs.InternalStepResults.{CallsInOrder}
 
 call_with : Asked → Answer → Call
@@ -19,7 +19,7 @@ call_with asked answer = record { asked = asked; answer = answer }
 pub succeeds : (asked : Asked) (answer : Answer) → asked.program ≢ [] → IsSuccess answer.end → Succeeds asked (record { asked = asked; answer = answer } ∷ [])
 succeeds asked answer n s = record { call = record { asked = asked; answer = answer }; one = refl; asks = refl; named = n; ended = s }
 
-pub ends : (asked : Asked) (answer : Answer) → asked.program ≢ [] → ¬ IsSuccess answer.end → EndsUnsuccessfully asked (record { asked = asked; answer = answer } ∷ [])
+pub ends : (asked : Asked) (answer : Answer) → asked.program ≢ [] → ¬ IsSuccess answer.end → IsCallOf (λ how. ¬ IsSuccess how) asked (record { asked = asked; answer = answer } ∷ [])
 ends asked answer n s = record { call = record { asked = asked; answer = answer }; one = refl; asks = refl; named = n; ended = s }
 
 pub follows_one : (asked : Asked) (calls : List Call) → Succeeds asked calls → CallsUpToFailure (asked ∷ []) calls Passed
@@ -30,7 +30,7 @@ by_success T done asked answer old new n s a = record { made = record { asked = 
 
 by_memory : (T : Type 0) (asked : Asked) (old new : List Call) → asked.program ≢ [] → MayAdd asked old new → MakesCalls (CallsInOrder {T = T} (asked ∷ []) (Err Memory)) old new
 by_memory T asked old new n (inl e) = record { made = []; grown = e ∙ sym (append-nil old); such = inl (inl refl) }
-by_memory T asked old new n (inr a) = record { made = record { asked = asked; answer = a.0 } ∷ []; grown = a.1; such = inl (inr (record { asked = asked; answer = a.0 }, refl, refl, n)) }
+by_memory T asked old new n (inr a) = record { made = record { asked = asked; answer = a.0 } ∷ []; grown = a.1; such = inl (inr (record { call = record { asked = asked; answer = a.0 }; one = refl; asks = refl; named = n; ended = tt })) }
 
 never_succeeds : (how : End) → how ≡ NeverStarted → ¬ IsSuccess how
 never_succeeds how e = λ s. cc

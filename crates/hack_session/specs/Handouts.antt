@@ -1,11 +1,19 @@
 -- The runs that are handed out.
-use Rattle.std.specs.Prelude.{ℕ, ◌≡◌, ◌⊎◌, ◌<◌, ◌↔◌, true, List, [], ◌++◌, map, AllPairs, Contains, Option, Some, None}
+use Rattle.std.specs.Prelude.{ℕ, ◌≡◌, ◌⊎◌, ◌<◌, ◌↔◌, Bool, true, List, [], ◌++◌, map, AllPairs, Contains, Option, Some, None}
 use Rattle.std.specs.List.{filter_map, list_any}
 use Rattle.hack_term.specs.declared.partition.Partition.{Partition}
 use Rattle.hack_session.specs.declared.step.Step.{Step}
 use Rattle.hack_session.specs.declared.step.Step.TheVariants.{Run}
-use Rattle.hack_session.specs.Histories.{Course, stops, step_of}
-use Rattle.hack_session.specs.Schedules.{IsChosen}
+use Rattle.hack_session.specs.Histories.{Course, IsHistory, next_of, stops, step_of}
+use Rattle.hack_session.specs.Schedules.{IsChosen, IsSchedule}
+
+-- a session was driven to its end: its schedule is that of the chosen piece; what was handed out is
+-- a front of it with its outcomes, in which no element but the last stops, and there is no next step
+pub record IsDriven (piece : Option Partition) (keep_going : Bool) (t : Course) : Type 0 where
+  pub schedule : IsSchedule piece t.plan t.schedule
+  pub goes_on : t.keep_going ≡ keep_going
+  pub history : IsHistory t
+  pub complete : next_of t ≡ None
 
 -- the places of the chosen piece, in order, each once
 pub record ArePiece (piece : Option Partition) (total : ℕ) (places : List ℕ) : Type 0 where

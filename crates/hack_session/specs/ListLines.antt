@@ -1,5 +1,5 @@
 -- The command list.
-use Rattle.std.specs.Prelude.{ℕ, ◌≡◌, ◌⊎◌, Bool, true, false, List, [], ◌∷◌, ◌++◌, Option, Some, None, Result, Ok, Err, codes, slice_get, if◌then◌else◌}
+use Rattle.std.specs.Prelude.{ℕ, ◌≡◌, ◌⊎◌, Bool, true, false, List, [], ◌∷◌, ◌++◌, Option, Result, Ok, Err, codes, option_map_or, slice_get, if◌then◌else◌}
 use Rattle.std.specs.Io.KnownBytes.{Appends, Keeps}
 use Rattle.hack_plan.specs.declared.places.PlanEntry.{PlanEntry}
 use Rattle.hack_process.specs.CommandTexts.{Command, listed_of}
@@ -19,15 +19,13 @@ line_of dir command = listed_of dir command ++ codes "\n"
 
 -- the lines of a run: that of its cleaning where runs are cleaned, and its own
 abbrev pub lines_of : PlanView → PlanEntry → List ℕ
-lines_of plan q =
-    if plan.call.clean_per_run
-    then line_of plan.call.dir (clean_command plan.call (chosen_package_at plan.packages q.package)) ++ line_of plan.call.dir (command_of_entry plan q)
-    else line_of plan.call.dir (command_of_entry plan q)
+lines_of plan q = (if plan.call.clean_per_run
+    then line_of plan.call.dir (clean_command plan.call (chosen_package_at plan.packages q.package)) else [])
+    ++ line_of plan.call.dir (command_of_entry plan q)
 
 -- the lines of the run at a place
 abbrev pub run_lines_at : PlanView → Option PlanEntry → List ℕ
-run_lines_at plan None = []
-run_lines_at plan (Some q) = lines_of plan q
+run_lines_at plan o = option_map_or (lines_of plan) o []
 
 -- what a step lists: the cleaning's line for a cleaning, and a run's lines; nothing else
 abbrev pub step_lines : PlanView → Step → List ℕ

@@ -1,5 +1,5 @@
 -- The schedule of a plan and a piece.
-use Rattle.std.specs.Prelude.{ℕ, ◌≡◌, ◌-◌, ◌*◌, ◌%◌, ◌<◌, ◌↔◌, Bool, true, false, IsTrue, ◌&&◌, List, ◌++◌, map, filter, length, nat_lt, nat_le, nat_eq, Option, Some, None, if◌then◌else◌}
+use Rattle.std.specs.Prelude.{ℕ, ◌≡◌, ◌-◌, ◌*◌, ◌%◌, ◌<◌, ◌↔◌, Bool, true, false, IsTrue, ◌&&◌, List, ◌++◌, map, filter, length, nat_lt, nat_le, nat_eq, IfSome, Option, Some, None, if◌then◌else◌}
 use Rattle.std.specs.Int.{div_ceil}
 use Rattle.std.specs.List.{flat_map, range_with_len}
 use Rattle.hack_term.specs.declared.partition.Partition.{Partition}
@@ -13,8 +13,7 @@ use Rattle.hack_session.specs.declared.step.Step.TheVariants.{Prepare, Skip, Run
 
 -- the place is in the chosen piece, or none is chosen
 abbrev pub IsChosen : Option Partition → ℕ → ℕ → Type 0
-IsChosen None total place = Unit {0}
-IsChosen (Some piece) total place = InPiece piece.kind piece.piece piece.count total place
+IsChosen piece total place = IfSome piece (λ p. InPiece p.kind p.piece p.count total place)
 
 -- a place outside the piece is skipped
 abbrev pub mark : (ℕ → Bool) → ℕ → Step

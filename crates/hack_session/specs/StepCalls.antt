@@ -1,9 +1,10 @@
 -- What a step asks of a caller.
 use Rattle.hack_base.specs.Counters.{GrowsBy}
-use Rattle.std.specs.Prelude.{◌≡◌, ◌≢◌, ◌⊎◌, ◌+◌, ◌-◌, ℕ, true, false, List, [], ◌∷◌, ◌++◌, Result, Ok, Err, Option, Some, None, slice_get, IsSome, if◌then◌else◌}
+use Rattle.std.specs.Prelude.{◌≡◌, ◌≢◌, ◌⊎◌, ◌+◌, ◌-◌, ℕ, true, false, List, [], ◌∷◌, ◌++◌, Result, Ok, Err, Option, Some, None, option_and_then, option_map_or, slice_get, IsSome, IsSomeAnd, if◌then◌else◌}
 use Rattle.hack_process.specs.declared.fault.ProcessFault.{ProcessFault}
 use Rattle.hack_process.specs.declared.fault.ProcessFault.TheVariants.{Memory, EmptyProgram, NeverExecuted, NotText, Failed as ByFailure}
 use Rattle.hack_process.specs.Calls.{Asked, Call, IsSuccess}
+use Rattle.hack_process.specs.declared.caller.End.{End}
 use Rattle.hack_process.specs.declared.caller.Caller.{Ghosts as Calling}
 use Rattle.hack_process.specs.Commands.{asked_of}
 use Rattle.hack_term.specs.declared.term.Term.{Term}
@@ -20,25 +21,21 @@ use Rattle.hack_session.specs.declared.step.Outcome.{Outcome}
 use Rattle.hack_session.specs.declared.step.Outcome.TheVariants.{Passed, Failed}
 use Rattle.hack_session.specs.declared.step.Handed.{Handed}
 
--- the one call is of this command, whose program has a name, and ended with status 0
-pub record Succeeds (asked : Asked) (calls : List Call) : Type 0 where
+-- the one call is of this command, whose program has a name, and ended so
+pub record IsCallOf (Ends : End → Type 0) (asked : Asked) (calls : List Call) : Type 0 where
   pub call : Call
   pub one : calls ≡ call ∷ []
   pub asks : call.asked ≡ asked
   pub named : asked.program ≢ []
-  pub ended : IsSuccess call.answer.end
+  pub ended : Ends call.answer.end
 
--- the one call is of this command, whose program has a name, and didn't end with status 0
-pub record EndsUnsuccessfully (asked : Asked) (calls : List Call) : Type 0 where
-  pub call : Call
-  pub one : calls ≡ call ∷ []
-  pub asks : call.asked ≡ asked
-  pub named : asked.program ≢ []
-  pub ended : ¬ IsSuccess call.answer.end
+-- a command succeeds: it ends with status 0
+abbrev pub Succeeds : Asked → List Call → Type 0
+Succeeds asked calls = IsCallOf IsSuccess asked calls
 
 -- a command fails: it doesn't end with status 0, or its program has no name and nothing is called
 abbrev pub Fails : Asked → List Call → Type 0
-Fails asked calls = EndsUnsuccessfully asked calls ⊎ ((asked.program ≡ []) × (calls ≡ []))
+Fails asked calls = IsCallOf (λ how. ¬ IsSuccess how) asked calls ⊎ ((asked.program ≡ []) × (calls ≡ []))
 
 -- the calls are those of the commands, in order, up to the first that fails
 abbrev pub CallsUpToFailure : List Asked → List Call → Outcome → Type 0
@@ -49,7 +46,7 @@ CallsUpToFailure (asked ∷ more) calls outcome =
 
 -- this command was called, whose program has a name, or nothing was
 abbrev pub MayCall : Asked → List Call → Type 0
-MayCall asked calls = (calls ≡ []) ⊎ ((call : Call) × (calls ≡ call ∷ []) × (call.asked ≡ asked) × (asked.program ≢ []))
+MayCall asked calls = (calls ≡ []) ⊎ IsCallOf (λ how. Unit {0}) asked calls
 
 -- the calls are those of the commands, in order, up to one at which memory was refused
 abbrev pub Breaks : List Asked → List Call → Type 0
@@ -86,13 +83,11 @@ commands_of plan q = if plan.call.clean_per_run then cleaning_asked plan q ∷ o
 
 -- the commands of the run at a place
 abbrev pub run_commands : PlanView → Option PlanEntry → List Asked
-run_commands plan None = []
-run_commands plan (Some q) = commands_of plan q
+run_commands plan o = option_map_or (commands_of plan) o []
 
 -- the version's number, where there is one at the place
 abbrev pub number_at : Option PlanVersion → Option Version
-number_at None = None
-number_at (Some v) = v.version
+number_at o = option_and_then (λ v. v.version) o
 
 -- what tries a version's toolchain
 abbrev pub trial_asked : PlanView → Version → Asked
@@ -109,13 +104,12 @@ InstallsAt plan (Some v) calls outcome = Installs plan.call.targets (trial_asked
 
 -- the same up to where memory was refused
 abbrev pub BreaksInstallAt : PlanView → Option Version → List Call → Type 0
-BreaksInstallAt plan None calls = ⊥
-BreaksInstallAt plan (Some v) calls = BreaksInstall plan.call.targets (trial_asked plan v) (addition_asked plan v) calls
+BreaksInstallAt plan o calls =
+    IsSomeAnd o (λ v. BreaksInstall plan.call.targets (trial_asked plan v) (addition_asked plan v) calls)
 
 -- the command that makes the lockfile anew, where the version has a number
 abbrev pub lockfile_commands : PlanView → Option Version → List Asked
-lockfile_commands plan None = []
-lockfile_commands plan (Some v) = asked_of true (lockfile_command plan.call v) ∷ []
+lockfile_commands plan o = option_map_or (λ v. asked_of true (lockfile_command plan.call v) ∷ []) o []
 
 -- the calls are just those of the step, which ends with this outcome
 abbrev pub Exactly : PlanView → Step → List Call → Outcome → Type 0

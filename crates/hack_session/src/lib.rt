@@ -3,6 +3,7 @@
 
 mod calls;
 mod history;
+mod laws;
 mod lines;
 mod lister;
 mod perform;
@@ -16,3 +17,5 @@ mod starter;
 mod step;
 pub mod suspect_notes;
 pub mod suspects;
+
+pub use laws::driven_hands_out;
