@@ -1,5 +1,5 @@
 -- Calls that a question makes, and what its answer says.
-use Rattle.std.proofs.Common.{◌≡◌, ◌≢◌, ◌∙◌, refl, inl, inr, [], List, Option, Some, None, Result, Ok, Err, IfOk, IfErr, OnOk, IsSome, Bool, true, false, sym, subst, Global, String}
+use Rattle.std.proofs.Common.{◌≡◌, ◌≢◌, ◌∙◌, refl, inl, inr, [], List, Option, Some, None, Result, Ok, Err, IfOk, IfErr, OnOk, IsSome, Bool, true, false, sym, subst, append-nil, Global, String}
 use Rattle.hack_base.specs.Names.{Name}
 use Rattle.hack_metadata.specs.QuestionCalls.{FailsToRead, ReadsOutput}
 use Rattle.hack_metadata.specs.Requests.{version_command}
@@ -20,7 +20,7 @@ use Rattle.hack_session.specs.declared.step.Outcome.TheVariants.{Passed}
 use Rattle.hack_versions.specs.declared.rustup.Rustup.{Rustup}
 use Rattle.hack_versions.specs.declared.rustup.Rustup.TheVariants as known
 use Rattle.hack_run.specs.Loading.{IsMinorIn}
-use Rattle.hack_run.specs.Questions.{AsksRustup, AsksStable, InstallsStable, ReadsStable, TellsStable, rustup_command}
+use Rattle.hack_run.specs.Questions.{AsksRustup, AsksStable, InstallsStable, MayAskStable, ReadsStable, TellsStable, rustup_command}
 use Rattle.hack_run.specs.Internal.{IsLatest, IsUnknown, TellsMinor}
 
 -- a command that failed may have been called
@@ -121,3 +121,7 @@ asks_in_vain tells wants rustup shown c old new (Err x) e is same failed unknown
 -- nothing was asked
 pub asks_nothing : (wants : Bool) (rustup : Name) (old : List Call) → wants ≡ false → AsksRustup wants rustup known.Unasked old old
 asks_nothing wants rustup old is = subst (λ b. AsksRustup b rustup known.Unasked old old) (sym is) (refl, refl)
+
+-- nothing was asked of stable
+pub asks_none : (rustup : Name) (calls : List Call) → MayAskStable rustup calls calls
+asks_none rustup calls = inr (record { made = []; grown = sym (append-nil calls); such = inr (inl (inl refl)) })

@@ -1,5 +1,5 @@
 mod BackLemmas
-mod CallLemmas
+pub mod CallLemmas
 mod GatherLemmas
 mod HeadlineLemmas
 mod JournalLemmas

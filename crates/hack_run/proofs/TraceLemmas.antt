@@ -32,7 +32,7 @@ use Rattle.hack_words.specs.declared.cli.args.Args.{Args}
 use Rattle.hack_words.specs.declared.cli.env.Env.{Env}
 use Rattle.hack_words.specs.declared.cli.parse.Parsed.{Parsed}
 use Rattle.hack_words.specs.declared.cli.parse.Parsed.TheVariants as parsed
-use Rattle.hack_run.specs.CallTrace.{AfterLoading, IsCallTrace, LoadsAndPerforms, Obeys, PerformsBehind, PerformsLoaded, PerformsOne, PerformsPlan, ReadsAndObeys, Stops, Writes, listing_asked, warned_by}
+use Rattle.hack_run.specs.CallTrace.{AfterLoading, IsCallTrace, LoadsAndPerforms, Obeys, PerformsOne, PerformsPlan, ReadsAndObeys, Stops, Writes, listing_asked, warned_by}
 use Rattle.hack_run.specs.Internal.{PerformsAtMostOne}
 use Rattle.hack_run.specs.Loading.{AreLoaded}
 use Rattle.hack_run.specs.Questions.{AsksRustup, AsksStable, MayAskStable, NeedsAnswer, rustup_asked}
@@ -98,35 +98,24 @@ one_made listing cx stable rustup warned other old new was now h =
 
 plan_told : (done : Bool) (cx : ContextRecord) (rustup : Name) (warned : Bool) (old new : HostView) (was now : Term) → (done ≡ true → now.warn ≡ new.term.warn)
     → PerformsPlan done cx rustup warned old new → PerformsPlan done cx rustup warned (record old { term = was }) (record new { term = now })
-plan_told done cx rustup warned old new was now same h = record { mid = h.mid; asked = h.asked; needed = h.needed; runs = go h.runs }
-  where
-    go : ((done ≡ false) × (new.calls ≡ h.mid) × Writes false cx.args.print_command_list old.out new.out []) ⊎ PerformsBehind done cx rustup warned h.mid old new
-        → ((done ≡ false) × (new.calls ≡ h.mid) × Writes false cx.args.print_command_list old.out new.out []) ⊎ PerformsBehind done cx rustup warned h.mid (record old { term = was }) (record new { term = now })
-    go (inl stopped) = inl stopped
-    go (inr b) = inr (record { stable = b.stable; told = b.told; unasked = b.unasked; performs = one_told done cx.args.print_command_list cx b.stable rustup warned (host_at h.mid old) new was now same b.performs })
+plan_told done cx rustup warned old new was now same (inl stopped) = inl stopped
+plan_told done cx rustup warned old new was now same (inr h) = inr (h.0, h.1, h.2, h.3, one_told done cx.args.print_command_list cx h.1 rustup warned (host_at h.0 old) new was now same h.4)
 
 -- what is held may be the same in other files, before and in the end
 abbrev Moves : Type 0 → Type 0 → Args → Contents → Contents → Contents → Contents → Type 0
 Moves T U args first asked prepared last = U → T × KeepsAll first asked × (args.remove_dev_deps ≡ true → KeepsAll prepared last)
-
-loaded_moved : (done : Bool) (T U : Type 0) (args : Args) (answers : Answers) (rustup : Name) (warned : Bool) (first asked prepared last : FilesView) (begun ended : HostView) (was now : Term)
-    → (done ≡ true → Moves T U args first.held asked.held prepared.held last.held) → (done ≡ true → now.warn ≡ ended.term.warn)
-    → PerformsLoaded done T args answers rustup warned (record { files = asked; host = begun }) (record { files = prepared; host = ended })
-    → PerformsLoaded done U args answers rustup warned (record { files = first; host = record begun { term = was } }) (record { files = last; host = record ended { term = now } })
-loaded_moved done T U args answers rustup warned first asked prepared last begun ended was now moves same h = record {
-  cx = h.cx;
-  context = h.context;
-  performs = plan_told done h.cx rustup (is_err answers.cargo_version || warned) begun ended was now same h.performs;
-  edited = λ d u e. let m = moves d u in prepared-moved (wanted_in h.cx) (member_manifests_in h.cx) first.held asked.held prepared.held last.held m.1 (m.2 e) (h.edited d m.0 e);
-}
 
 pub after_moved : (done : Bool) (T U : Type 0) (args : Args) (answers : Answers) (rustup : Name) (warned : Bool) (first asked prepared last : FilesView) (begun ended : HostView) (was now : Term)
     → (done ≡ true → (l : Loaded) → answers.loaded ≡ Ok l → Moves T U args first.held asked.held prepared.held last.held) → (done ≡ true → now.warn ≡ ended.term.warn)
     → AfterLoading done T args answers rustup warned (record { files = asked; host = begun }) (record { files = prepared; host = ended })
     → AfterLoading done U args answers rustup warned (record { files = first; host = record begun { term = was } }) (record { files = last; host = record ended { term = now } })
 after_moved done T U args answers rustup warned first asked prepared last begun ended was now moves same (inl stopped) = inl stopped
-after_moved done T U args answers rustup warned first asked prepared last begun ended was now moves same (inr h) =
-    inr (loaded_moved done T U args answers rustup warned first asked prepared last begun ended was now (λ d. moves d h.context.0 h.context.1) same h)
+after_moved done T U args answers rustup warned first asked prepared last begun ended was now moves same (inr h) = inr (
+  h.0,
+  h.1,
+  plan_told done h.0 rustup (is_err answers.cargo_version || warned) begun ended was now same h.2,
+  λ d u e. let m = moves d h.1.0 h.1.1 u in prepared-moved (wanted_in h.0) (member_manifests_in h.0) first.held asked.held prepared.held last.held m.1 (m.2 e) (h.3 d m.0 e),
+)
 
 -- what arguments ask for was done in files that hold the same in the end
 loads_moved : (done : Bool) (T : Type 0) (args : Args) (env : Env) (warned : Bool) (old new : World) (later : FilesView) (was now : Term)
@@ -152,40 +141,35 @@ quiet_before X false now f quiet = refl
 pub goes_on : (T : Type 0) (args : Args) (answers : Answers) (rustup : Name) (warned : Bool) (old new : World) (cx : ContextRecord) (stable : Result (Option Version) (String Global)) (mid : List Call) (term : Term)
     → IsContextFrom args answers cx → MayAskStable rustup old.host.calls mid → (¬ NeedsAnswer cx.args → mid ≡ old.host.calls) → (¬ NeedsAnswer cx.args → stable ≡ Ok None) → AsksStable rustup stable old.host.calls mid
     → PerformsAtMostOne cx.args.print_command_list cx stable rustup (record (host_at mid old.host) { term = term }) new.host → AfterLoading false T args answers rustup warned old new
-goes_on T args answers rustup warned old new cx stable mid term context asked needed unasked told performed =
-    inr (record { cx = cx; context = context; performs = record { mid = mid; asked = asked; needed = needed; runs = go performed }; edited = λ e. unended e })
+goes_on T args answers rustup warned old new cx stable mid term context asked needed unasked told performed = inr (cx, context, go performed, λ e. unended e)
   where
     go : PerformsAtMostOne cx.args.print_command_list cx stable rustup (record (host_at mid old.host) { term = term }) new.host
-        → ((false ≡ false) × (new.host.calls ≡ mid) × Writes false cx.args.print_command_list old.host.out new.host.out []) ⊎ PerformsBehind false cx rustup (is_err answers.cargo_version || warned) mid old.host new.host
-    go (inl same) = inl (refl, same.0, same.1)
-    go (inr one) = inr (record { stable = stable; told = told; unasked = unasked; performs = one_made cx.args.print_command_list cx stable rustup term.warn (is_err answers.cargo_version || warned) (record (host_at mid old.host) { term = term }) new.host old.host.term new.host.term one })
+        → PerformsPlan false cx rustup (is_err answers.cargo_version || warned) old.host new.host
+    go (inl same) = inl (mid, asked, needed, refl, same.0, same.1)
+    go (inr one) = inr (mid, stable, told, unasked, one_made cx.args.print_command_list cx stable rustup term.warn (is_err answers.cargo_version || warned) (record (host_at mid old.host) { term = term }) new.host old.host.term new.host.term one)
 
 -- the same to the end
 pub follows : {T E : Type 0} (tells told quiet : Type 0) (r : Result T E) (args : Args) (answers : Answers) (rustup : Name) (old new : World) (mid : List Call) (term : Term) (cx : ContextRecord) (stable : Result (Option Version) (String Global))
     → term.warn ≡ (is_err answers.cargo_version || old.host.term.warn) → (told → IsPrepared (wanted_in cx) (member_manifests_in cx) old.files.held new.files.held)
-    → IsContextFrom args answers cx → (tells → MayAskStable rustup old.host.calls mid) → (¬ NeedsAnswer cx.args → mid ≡ old.host.calls) → (¬ NeedsAnswer cx.args → stable ≡ Ok None) → (tells → AsksStable rustup stable old.host.calls mid)
+    → IsContextFrom args answers cx → (¬ NeedsAnswer cx.args → stable ≡ Ok None) → (tells → AsksStable rustup stable old.host.calls mid)
     → OnOk r (quiet → tells → PerformsOne true cx.args.print_command_list cx stable rustup term.warn (record (host_at mid old.host) { term = term }) new.host)
     → OnOk r (quiet → tells → AfterLoading true told args answers rustup old.host.term.warn old new)
-follows tells told quiet r args answers rustup old new mid term cx stable warned prepared context asked needed unasked stable_told ran =
+follows tells told quiet r args answers rustup old new mid term cx stable warned prepared context unasked stable_told ran =
     on_ok (quiet → tells → PerformsOne true cx.args.print_command_list cx stable rustup term.warn (record (host_at mid old.host) { term = term }) new.host)
     (quiet → tells → AfterLoading true told args answers rustup old.host.term.warn old new) r
-    (λ runs q t. inr (record {
-      cx = cx;
-      context = context;
-      performs = record {
-        mid = mid;
-        asked = asked t;
-        needed = needed;
-        runs = inr (record {
-          stable = stable;
-          told = stable_told t;
-          unasked = unasked;
-          performs = subst (λ (b : Bool). PerformsOne true cx.args.print_command_list cx stable rustup b (host_at mid old.host) new.host) warned
-              (one_told true cx.args.print_command_list cx stable rustup term.warn (record (host_at mid old.host) { term = term }) new.host old.host.term new.host.term (λ d. refl) (runs q t));
-        });
-      };
-      edited = λ d u e. prepared u;
-    })) ran
+    (λ runs q t. inr (
+      cx,
+      context,
+      inr (
+        mid,
+        stable,
+        stable_told t,
+        unasked,
+        subst (λ (b : Bool). PerformsOne true cx.args.print_command_list cx stable rustup b (host_at mid old.host) new.host) warned
+            (one_told true cx.args.print_command_list cx stable rustup term.warn (record (host_at mid old.host) { term = term }) new.host old.host.term new.host.term (λ d. refl) (runs q t)),
+      ),
+      λ d u e. prepared u,
+    )) ran
 
 -- a call continued after its questions were answered
 pub performs : {T E : Type 0} (tells told holds X : Type 0) (r : Result T E) (args : Args) (env : Env) (first asked prepared last : FilesView) (begun ended : HostView) (mid : List Call) (term : Term) (answers : Answers)

@@ -63,40 +63,26 @@ pub record PerformsOne (done listing : Bool) (cx : ContextRecord)
   pub passed : done ≡ true → All HasPassed course.handed
   pub warns : done ≡ true → Warned notes warned new.term.warn
 
--- after these calls stable's version is known, where it is needed, and one history was performed
-pub record PerformsBehind (done : Bool) (cx : ContextRecord) (rustup : Name) (warned : Bool)
-    (mid : List Call) (old new : HostView) : Type 0 where
-  pub stable : Result (Option Version) (String Global)
-  pub told : AsksStable rustup stable old.calls mid
-  pub unasked : ¬ NeedsAnswer cx.args → stable ≡ Ok None
-  pub performs :
-      PerformsOne done cx.args.print_command_list cx stable rustup warned (host_at mid old) new
+-- stable's version was asked for, only where the range needs it, and then an error ended the call;
+-- or with the answer one history was performed
+abbrev pub PerformsPlan : Bool → ContextRecord → Name → Bool → HostView → HostView → Type 0
+PerformsPlan done cx rustup warned old new =
+    ((mid : List Call) × MayAskStable rustup old.calls mid × (¬ NeedsAnswer cx.args → mid ≡ old.calls)
+    × (done ≡ false) × (new.calls ≡ mid) × Writes false cx.args.print_command_list old.out new.out [])
+    ⊎ ((mid : List Call) × (stable : Result (Option Version) (String Global))
+    × AsksStable rustup stable old.calls mid × (¬ NeedsAnswer cx.args → stable ≡ Ok None)
+    × PerformsOne done cx.args.print_command_list cx stable rustup warned (host_at mid old) new)
 
--- stable's version was asked for, only where the range needs it, and then one history was performed,
--- or an error ended the call
-pub record PerformsPlan (done : Bool) (cx : ContextRecord) (rustup : Name) (warned : Bool)
-    (old new : HostView) : Type 0 where
-  pub mid : List Call
-  pub asked : MayAskStable rustup old.calls mid
-  pub needed : ¬ NeedsAnswer cx.args → mid ≡ old.calls
-  pub runs : ((done ≡ false) × (new.calls ≡ mid) × Writes false cx.args.print_command_list old.out new.out [])
-      ⊎ PerformsBehind done cx rustup warned mid old new
-
--- A context was made of what was loaded, where an unknown version of cargo warns, and its plan was
--- performed. At the end edits that stay were made of what was held, where the files show that.
-pub record PerformsLoaded (done : Bool) (tells : Type 0) (args : Args) (answers : Answers)
-    (rustup : Name) (warned : Bool) (old new : World) : Type 0 where
-  pub cx : ContextRecord
-  pub context : IsContextFrom args answers cx
-  pub performs : PerformsPlan done cx rustup (is_err answers.cargo_version || warned) old.host new.host
-  pub edited : done ≡ true → tells → args.remove_dev_deps ≡ true
-      → IsPrepared (wanted_in cx) (member_manifests_in cx) old.files.held new.files.held
-
--- what was loaded was performed, or an error ended the call
+-- An error ended the call; or a context was made of what was loaded, where an unknown version of
+-- cargo warns, and its plan was performed. At the end edits that stay were made of what was held,
+-- where the files show that.
 abbrev pub AfterLoading : Bool → Type 0 → Args → Answers → Name → Bool → World → World → Type 0
 AfterLoading done tells args answers rustup warned old new =
     Stops done old.host.calls old.host new.host
-    ⊎ PerformsLoaded done tells args answers rustup warned old new
+    ⊎ ((cx : ContextRecord) × IsContextFrom args answers cx
+    × PerformsPlan done cx rustup (is_err answers.cargo_version || warned) old.host new.host
+    × (done ≡ true → tells → args.remove_dev_deps ≡ true
+    → IsPrepared (wanted_in cx) (member_manifests_in cx) old.files.held new.files.held))
 
 -- the questions of these arguments were asked in order, up to one that ended them, and then what was
 -- loaded was performed, unless an error ended the call

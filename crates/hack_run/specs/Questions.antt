@@ -74,10 +74,9 @@ FailsStable rustup old new =
     MakesCalls (λ calls. Installs [] (asked_of true (trial_of rustup (codes "stable"))) (asked_of true (addition_of rustup (codes "stable") [])) calls Failed
     ⊎ BreaksInstall [] (asked_of true (trial_of rustup (codes "stable"))) (asked_of true (addition_of rustup (codes "stable") [])) calls) old new
 
--- stable's version was asked for at most once: nothing was called; or the toolchain is installed,
--- and its cargo was asked at most once; or installing it failed
+-- stable's version was asked for at most once: the toolchain is installed, and its cargo was asked at
+-- most once; or installing it failed, maybe before anything was called
 abbrev pub MayAskStable : Name → List Call → List Call → Type 0
 MayAskStable rustup old new =
-    (new ≡ old)
-    ⊎ (((mid : List Call) × InstallsStable rustup old mid × MayAdd (asked_of true (version_command rustup)) mid new)
-    ⊎ FailsStable rustup old new)
+    ((mid : List Call) × InstallsStable rustup old mid × MayAdd (asked_of true (version_command rustup)) mid new)
+    ⊎ FailsStable rustup old new

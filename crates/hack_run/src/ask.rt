@@ -107,6 +107,7 @@ fn shown_fault(alloc: Global, fault: AnswerFault<'_>) -> Result<String, AllocErr
 }
 
 /// Returns stable's version where the call needs it, or the text of the error of asking for it.
+#[tactic(auto, using(crate::proofs::CallLemmas::asks_none))]
 pub(crate) fn stable_for<C: Caller>(
     alloc: Global,
     args: &Args,

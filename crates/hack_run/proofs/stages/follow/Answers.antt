@@ -26,9 +26,7 @@ returns-clause-done g c =
     (warned_first c.args.host.now.term.now c.context.new.term c.edit.new.term (warnings_of (told_version version)) cx c.in_ok-cx.ensures.told c.in_ok-edit.ensures.told
     ∙ ap (λ (b : Bool). b || c.args.host.now.term.now.warn) (warns_unknown version))
     (λ u. c.in_ok-edit.ensures.prepared u.0 (loaded-holds g.F.Files.tells held env c.args.args c.args.answers cx u.0 u.1 c.in_ok-cx.ensures.ok))
-    c.in_ok-cx.ensures.ok c.stable_for.ensures.made
-    (λ off. ap g.C.Caller.calls (c.stable_for.ensures.unneeded (subst (λ (a : Args). ¬ NeedsAnswer a) (sym c.args-2.ensures) off)))
-    (λ off. c.in_ok-stable.ensures.unasked (subst (λ (a : Args). ¬ NeedsAnswer a) (sym c.args-2.ensures) off)) c.in_ok-stable.ensures.asked c.run_plan.ensures.done
+    c.in_ok-cx.ensures.ok (λ off. c.in_ok-stable.ensures.unasked (subst (λ (a : Args). ¬ NeedsAnswer a) (sym c.args-2.ensures) off)) c.in_ok-stable.ensures.asked c.run_plan.ensures.done
 
 pub returns-in_err-edit-clause-safe : goal.returns-in_err-edit-clause-safe
 returns-in_err-edit-clause-safe g c = λ t read.
@@ -48,17 +46,19 @@ returns-clause-counted g c = counted_ok c.run_plan.result c.args.answers.loaded 
 pub returns-in_err-stable-clause-made : goal.returns-in_err-stable-clause-made
 returns-in_err-stable-clause-made g c = λ t.
     let cx = context_view c.in_ok-cx.cx in
-    inr (record {
-      cx = cx;
-      context = c.in_ok-cx.ensures.ok;
-      performs = record {
-        mid = g.C.Caller.calls c.stable_for.new.caller;
-        asked = c.stable_for.ensures.made t;
-        needed = λ off. ap g.C.Caller.calls (c.stable_for.ensures.unneeded (subst (λ (a : Args). ¬ NeedsAnswer a) (sym c.args-2.ensures) off));
-        runs = inl (refl, refl, shows_nothing cx.args.print_command_list (g.O.Write.contents c.args.host.now.out.now));
-      };
-      edited = λ e. unended e;
-    })
+    inr (
+      cx,
+      c.in_ok-cx.ensures.ok,
+      inl (
+        g.C.Caller.calls c.stable_for.new.caller,
+        c.stable_for.ensures.made t,
+        λ off. ap g.C.Caller.calls (c.stable_for.ensures.unneeded (subst (λ (a : Args). ¬ NeedsAnswer a) (sym c.args-2.ensures) off)),
+        refl,
+        refl,
+        shows_nothing cx.args.print_command_list (g.O.Write.contents c.args.host.now.out.now),
+      ),
+      λ e. unended e,
+    )
 
 pub returns-clause-made : goal.returns-clause-made
 returns-clause-made g c = λ t.
