@@ -18,7 +18,7 @@ cleaned_lines plan (Some q) text clean e f b =
     let own : text ≡ listed_of plan.call.dir (command_of_entry plan q) = cc in
     ap (λ (c : Command). line_of plan.call.dir c ++ (text ++ codes "\n")) f
     ∙ ap (λ (t : List ℕ). line_of plan.call.dir (clean_command plan.call (chosen_package_at plan.packages q.package)) ++ (t ++ codes "\n")) own
-    ∙ ap (λ (f : Bool). if f then line_of plan.call.dir (clean_command plan.call (chosen_package_at plan.packages q.package)) ++ line_of plan.call.dir (command_of_entry plan q) else line_of plan.call.dir (command_of_entry plan q)) b
+    ∙ ap (λ (f : Bool). (if f then line_of plan.call.dir (clean_command plan.call (chosen_package_at plan.packages q.package)) else []) ++ line_of plan.call.dir (command_of_entry plan q)) b
 
 pub two_lines : {T : Type 0} (r : Result T LineFault) (plan : PlanView) (o : Option PlanEntry) (text : List ℕ) (clean : Command) (dir : List ℕ) (a b : Option (List ℕ)) → option_map (λ q. listed_of plan.call.dir (command_of_entry plan q)) o ≡ Some text
     → IfSome o (λ x. clean ≡ clean_command plan.call (chosen_package_at plan.packages x.package)) → true ≡ plan.call.clean_per_run → dir ≡ plan.call.dir

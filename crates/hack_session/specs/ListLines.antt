@@ -1,5 +1,6 @@
 -- The command list.
-use Rattle.std.specs.Prelude.{ℕ, ◌≡◌, ◌⊎◌, Bool, true, false, List, [], ◌∷◌, ◌++◌, Option, Result, Ok, Err, codes, option_map_or, slice_get, if◌then◌else◌}
+use Rattle.std.specs.Prelude.{ℕ, ◌≡◌, ◌⊎◌, Bool, true, false, List, [], ◌∷◌, ◌++◌, None, Option, Result, Ok, Err, codes, slice_get, if◌then◌else◌}
+use Rattle.std.specs.Option.{option_map_or}
 use Rattle.std.specs.Io.KnownBytes.{Appends, Keeps}
 use Rattle.hack_plan.specs.declared.places.PlanEntry.{PlanEntry}
 use Rattle.hack_process.specs.CommandTexts.{Command, listed_of}
