@@ -2,14 +2,14 @@
 
 ghost use Rattle.std.specs.Prelude.{◌≡◌, [], not, IfOk, Some, map, string_bytes};
 ghost use Rattle.std.specs.List.{AllZip, filter_map, find, list_any};
-ghost use Rattle.std.specs.Option.{is_none, option_map, option_map_or, option_or};
+ghost use Rattle.std.specs.Option.{is_none, option_map, option_map_or};
 ghost use Rattle.hack_base.specs.Names.{names_of, optional_text_ref};
 ghost use Rattle.hack_rules.specs.Uses.{views};
 ghost use Rattle.hack_rules.specs.Values.{values_given};
 ghost use Rattle.hack_rules.specs.CliFaults.{Checks, LiftForm, LiftGroup};
 ghost use Rattle.hack_rules.specs.CliLists.{names_given, optional_given, lift_of};
 ghost use Rattle.hack_rules.specs.CliLists.{lifts_given, lifts_one_of, same_names};
-ghost use Rattle.hack_rules.specs.CliLists.{lift_form, lift_group};
+ghost use Rattle.hack_rules.specs.LateRules.{lift_rule};
 ghost use Rattle.hack_rules.specs.CliTargets.{AreRising, HaveSameTexts};
 ghost use Rattle.hack_rules.specs.Internal.{put_all};
 ghost use Rattle.hack_features.specs.Feature.{IsGroup, IsNormal, group_of};
@@ -212,8 +212,8 @@ pub fn lifts(
     uses: &[Use],
 ) -> Result<Vec<(String, Feature)>, CliFault>
     ensures lifts { IfOk result (λ lifts. AreLifts (lifts_given (views uses.now)) lifts.items) }
-    ensures checks { Checks result (option_or (lift_form (views uses.now))
-        (lift_group (map group_of exclusive.now) (views uses.now))) }
+    ensures checks { Checks result (lift_rule (map group_of exclusive.now)
+        (values_given Opt.AllowTogether (views uses.now))) }
 {
     let texts = values(alloc, Opt::AllowTogether, uses)?;
     let lifts = lifts_of(alloc, &texts)?;

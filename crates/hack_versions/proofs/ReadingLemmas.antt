@@ -10,9 +10,9 @@ use Rattle.hack_versions.specs.declared.version.VersionRange.{VersionRange}
 use Rattle.hack_versions.specs.declared.version.VersionFault.{VersionFault}
 use Rattle.hack_versions.specs.declared.version.VersionFault.TheVariants as fault
 use Rattle.hack_base.specs.Numbers.{IsNumber}
-use Rattle.hack_versions.specs.VersionTexts.{IsBadNumber, IsVersionText, IsVersionFault, IsCut, IsUncut, IsBare, IsBoundText, IsBoundFault, IsEndText, IsOpen, IsEndTextFault, IsRangeText, IsRangeTextFault}
+use Rattle.hack_versions.specs.VersionTexts.{IsBadNumber, HasVersionNumbers, LacksVersionNumber, IsVersionFault, IsCut, IsUncut, IsBare, IsBoundText, IsBoundFault, IsEndText, IsOpen, IsEndTextFault, IsRangeText, IsRangeTextFault}
 use Rattle.hack_base.specs.Cuts.{front_of, rest_of}
-use Rattle.hack_versions.specs.Readings.{BadRange, BadNumber, OpenInclusive, IsRefusedBy}
+use Rattle.hack_versions.specs.Readings.{BadRange, BadNumber, OpenInclusive, IsRefusedBy, bad_range_of}
 use Rattle.hack_versions.specs.Readings.{Sides, ReadRange, then_read, read_as, version_part_of, with_minor, version_of, bound_of, behind_equals, end_of, is_old, at_dots, range_at, range_of}
 use Rattle.std.specs.Option.{ok_or, option_transpose}
 use Rattle.hack_base.proofs.NumberLemmas.{number-read, number-unread}
@@ -68,7 +68,7 @@ minor-read : (o : Option (List ℕ)) (v : Version) → IsSomeAnd o (λ rest. IsN
 minor-read None v h = absurd h
 minor-read (Some text) v h = ap (then_read (λ minor. with_patch v.major minor (rest_of 46 text))) (part-read (front_of 46 text) v.minor h.0) ∙ patch-read (rest_of 46 text) v.major v.minor v.patch h.1
 
-pub version-read : (text : List ℕ) (v : Version) → IsVersionText text v → version_of text ≡ Ok v
+pub version-read : (text : List ℕ) (v : Version) → HasVersionNumbers text v → version_of text ≡ Ok v
 version-read text v h = ap (then_read (λ major. with_minor major (rest_of 46 text))) (part-read (front_of 46 text) v.major h.0) ∙ minor-read (rest_of 46 text) v h.1
 
 one-bad : (r : Result ℕ BadRange) (e : VersionFault) → IsRefusedBy r e → IsRefusedBy (one_more r) e
@@ -86,9 +86,21 @@ minor-bad None major e h = subst (λ (e : VersionFault). IsRefusedBy (with_minor
 minor-bad (Some text) major e (inl h) = Refused-then (λ minor. with_patch major minor (rest_of 46 text)) (version_part_of (front_of 46 text)) e (part-bad (front_of 46 text) e h)
 minor-bad (Some text) major e (inr h) = Refused-next (λ minor. with_patch major minor (rest_of 46 text)) (version_part_of (front_of 46 text)) h.0.0 e (part-read (front_of 46 text) h.0.0 h.0.1) (patch-bad (rest_of 46 text) major h.0.0 e h.1)
 
-version-bad : (text : List ℕ) (e : VersionFault) → IsVersionFault text e → IsRefusedBy (version_of text) e
+version-bad : (text : List ℕ) (e : VersionFault) → LacksVersionNumber text e → IsRefusedBy (version_of text) e
 version-bad text e (inl h) = Refused-then (λ major. with_minor major (rest_of 46 text)) (version_part_of (front_of 46 text)) e (part-bad (front_of 46 text) e h)
 version-bad text e (inr h) = Refused-next (λ major. with_minor major (rest_of 46 text)) (version_part_of (front_of 46 text)) h.0.0 e (part-read (front_of 46 text) h.0.0 h.0.1) (minor-bad (rest_of 46 text) h.0.0 e h.1)
+
+-- an error that isn't want of memory refuses the text, and the other way round
+refused-some : (text : List ℕ) (bad : Option BadRange) (Q : Type 0) → IsSomeAnd bad (λ b. version_of text ≡ Err b) → MatchOption bad Q (λ b. version_of text ≡ Err b)
+refused-some text (Some b) Q h = h
+refused-some text None Q h = absurd h
+
+some-refused : (text : List ℕ) (bad : Option BadRange) (Q : Type 0) → MatchOption bad Q (λ b. version_of text ≡ Err b) → Q ⊎ IsSomeAnd bad (λ b. version_of text ≡ Err b)
+some-refused text (Some b) Q h = inr h
+some-refused text None Q h = inl h
+
+fault-refused : (text : List ℕ) (e : VersionFault) → IsVersionFault text e → IsRefusedBy (version_of text) e
+fault-refused text e h = refused-some text (bad_range_of e) (e ≡ fault.Memory) h
 
 -- bounds
 
@@ -99,11 +111,11 @@ bound-read : (empty : MaybeVersion) (text : List ℕ) (bound : MaybeVersion) →
 bound-read empty [] bound (inl h) = ap Ok (sym h.1)
 bound-read empty [] bound (inr h) = absurd (h.0 refl)
 bound-read empty (b ∷ bs) bound (inl h) = absurd (not-empty b bs h.0)
-bound-read empty (b ∷ bs) bound (inr h) = ap (read_as Given) (version-read (b ∷ bs) h.1 h.2) ∙ ap Ok (sym h.3)
+bound-read empty (b ∷ bs) bound (inr h) = ap (read_as Given) h.2 ∙ ap Ok (sym h.3)
 
 bound-bad : (empty : MaybeVersion) (text : List ℕ) (e : VersionFault) → IsBoundFault text e → IsRefusedBy (bound_of empty text) e
 bound-bad empty [] e h = absurd (h.0 refl)
-bound-bad empty (b ∷ bs) e h = Refused-as Given (version_of (b ∷ bs)) e (version-bad (b ∷ bs) e h.1)
+bound-bad empty (b ∷ bs) e h = Refused-as Given (version_of (b ∷ bs)) e (fault-refused (b ∷ bs) e h.1)
 
 -- ends
 
@@ -221,10 +233,13 @@ range-bad text e (inr h) = subst (λ (o : Option Sides). IsRefusedBy (range_at (
     either (inl k) = Refused-then (with_start (sides h.0 h.1)) (end_of h.0 h.1) e (end-bad h.0 h.1 e k)
     either (inr k) = start-bad h.0 h.1 k.0.0 e (end-read h.0 h.1 k.0.0 k.0.1 k.0.2) k.1
 
-pub version-unread : (text : List ℕ) (e : VersionFault) → (e ≡ fault.Memory) ⊎ IsVersionFault text e → IsRefusedBy (version_of text) e
+pub version-unread : (text : List ℕ) (e : VersionFault) → (e ≡ fault.Memory) ⊎ LacksVersionNumber text e → IsRefusedBy (version_of text) e
 version-unread text e (inl h) = subst (λ (e : VersionFault). IsRefusedBy (version_of text) e) (sym h) refl
 version-unread text e (inr h) = version-bad text e h
 
 pub range-unread : (text : List ℕ) (e : VersionFault) → (e ≡ fault.Memory) ⊎ IsRangeTextFault text e → IsRefusedBy (range_of text) e
 range-unread text e (inl h) = subst (λ (e : VersionFault). IsRefusedBy (range_of text) e) (sym h) refl
 range-unread text e (inr h) = range-bad text e h
+
+pub version-fault : (text : List ℕ) (e : VersionFault) → (e ≡ fault.Memory) ⊎ LacksVersionNumber text e → (e ≡ fault.Memory) ⊎ IsVersionFault text e
+version-fault text e h = some-refused text (bad_range_of e) (e ≡ fault.Memory) (version-unread text e h)

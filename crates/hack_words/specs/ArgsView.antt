@@ -1,17 +1,21 @@
 -- What the fields of `Args` hold, one by one.
 use Rattle.std.specs.Prelude.{ℕ, ◌≡◌, ◌||◌, ◌++◌, List, Bool, Option, IfSome, option_map}
 use Rattle.std.specs.List.{AllZip}
+use Rattle.std.specs.Option.{unwrap_or}
+use Rattle.hack_base.specs.Numbers.{number_of}
+use Rattle.hack_term.specs.Partitions.{piece_of, kind_of}
+use Rattle.hack_term.specs.declared.partition.PartitionKind.TheVariants.{Block}
 use Rattle.hack_base.specs.Names.{names_of, optional_text}
 use Rattle.hack_features.specs.Feature.{IsNormal}
 use Rattle.hack_options.specs.declared.opt.Opt.TheVariants as opt
 use Rattle.hack_rules.specs.declared.uses.behavior.WorkspaceBehavior.{WorkspaceBehavior}
 use Rattle.hack_rules.specs.Uses.{Use, is_given, subcommand_of}
-use Rattle.hack_rules.specs.Values.{value_given, values_given}
+use Rattle.hack_rules.specs.Values.{from_value, value_given, values_given}
 use Rattle.hack_words.specs.declared.cli.args.Args.{Args}
-use Rattle.hack_rules.specs.AskedFields.{coloring_asked, number_asked, range_asked, step_asked, log_group_asked, piece_asked, kind_asked, leading_asked, excludes_no_default, excludes_all}
+use Rattle.hack_rules.specs.AskedFields.{coloring_asked, range_asked, log_group_asked, leading_asked}
 use Rattle.hack_rules.specs.CliGroups.{AreGroupsOf, AreLifts}
 use Rattle.hack_rules.specs.CliLists.{names_given, optional_given, lifts_given}
-use Rattle.hack_rules.specs.ListedFeatures.{listed_by}
+use Rattle.hack_rules.specs.Rules.{counts}
 use Rattle.hack_rules.specs.CliTargets.{AreRising, HaveSameTexts}
 
 -- the options without a value
@@ -33,8 +37,12 @@ pub record HasFlags (us : List Use) (args : Args) : Type 0 where
   pub include_deps_features : args.include_deps_features ≡ is_given opt.IncludeDepsFeatures us
   pub no_default_features : args.no_default_features ≡ is_given opt.NoDefaultFeatures us
   pub verbose : args.verbose ≡ is_given opt.Verbose us
-  pub exclude_no_default_features : args.exclude_no_default_features ≡ excludes_no_default (listed_by us) us
-  pub exclude_all_features : args.exclude_all_features ≡ excludes_all (listed_by us) us
+  pub exclude_no_default_features : args.exclude_no_default_features
+      ≡ (is_given opt.ExcludeNoDefaultFeatures us || is_given opt.AtLeastOneOf us
+      || counts opt.IncludeFeatures us)
+  pub exclude_all_features : args.exclude_all_features
+      ≡ (is_given opt.ExcludeAllFeatures us || counts opt.IncludeFeatures us
+      || counts opt.ExcludeFeatures us || is_given opt.MutuallyExclusiveFeatures us)
 
 -- the arguments for cargo, the lists of texts, and the features with their groups
 pub record HasTexts (behavior : WorkspaceBehavior) (us : List Use) (args : Args) : Type 0 where
@@ -59,14 +67,16 @@ pub record HasValues (term_color : Option (List ℕ)) (github_actions : Bool) (b
   pub trailing_args : names_of args.trailing_args.items ≡ trailing
   pub workspace_behavior : args.workspace_behavior ≡ behavior
   pub coloring : args.coloring ≡ coloring_asked term_color us
-  pub depth : args.depth ≡ number_asked opt.Depth us
+  pub depth : args.depth ≡ from_value opt.Depth (number_of 64) us
   pub version_range : args.version_range ≡ range_asked us
-  pub version_step : args.version_step ≡ step_asked us
+  pub version_step : args.version_step ≡ unwrap_or (from_value opt.VersionStep (number_of 16) us) 1
   pub log_group : args.log_group ≡ log_group_asked github_actions us
-  pub piece : option_map (λ p. record { piece = p.piece; count = p.count }) args.partition ≡ piece_asked us
-  pub kind : IfSome args.partition (λ p. p.kind ≡ kind_asked us)
+  pub piece : option_map (λ p. record { piece = p.piece; count = p.count }) args.partition
+      ≡ from_value opt.Partition piece_of us
+  pub kind : IfSome args.partition (λ p.
+      p.kind ≡ unwrap_or (from_value opt.PartitionKind kind_of us) Block)
   pub allow_together : AreLifts (lifts_given us) args.allow_together.items
-  pub strength : args.strength ≡ number_asked opt.Strength us
+  pub strength : args.strength ≡ from_value opt.Strength (number_of 64) us
 
 -- all fields
 pub record IsAsked (term_color : Option (List ℕ)) (github_actions : Bool) (behavior : WorkspaceBehavior) (trailing : List (List ℕ)) (us : List Use) (args : Args) : Type 0 where
