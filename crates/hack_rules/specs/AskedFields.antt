@@ -1,17 +1,15 @@
 -- The fields of the arguments, as uses of options ask for them.
-use Rattle.std.specs.Prelude.{ℕ, ◌&&◌, not, ◌++◌, ◌-◌, List, [], ◌∷◌, length, Bool, false, if◌then◌else◌}
-use Rattle.std.specs.Prelude.{Option, Some, option_map, option_and_then}
+use Rattle.std.specs.Prelude.{ℕ, ◌&&◌, not, ◌++◌, ◌-◌, List, [], ◌∷◌, Bool, false, if◌then◌else◌}
+use Rattle.std.specs.Prelude.{Option, Some, option_and_then}
 use Rattle.std.specs.Prelude.{codes, nat_lt, bytes_eq}
-use Rattle.std.specs.List.{filter, list_any, repeat}
+use Rattle.std.specs.List.{list_any, repeat}
 use Rattle.std.specs.Option.{option_map_or, option_or, unwrap_or}
 use Rattle.std.specs.Result.{result_ok}
 use Rattle.hack_options.specs.declared.opt.Opt.TheVariants as opt
-use Rattle.hack_rules.specs.declared.uses.behavior.WorkspaceBehavior.{WorkspaceBehavior}
 use Rattle.hack_lexopt.specs.Cuts.{LongFlag}
-use Rattle.hack_rules.specs.PassedWords.{leading_of}
-use Rattle.hack_rules.specs.Uses.{Use, Unknown, is_given, is_use_of}
+use Rattle.hack_rules.specs.Uses.{Use, Unknown, is_given}
 use Rattle.hack_rules.specs.Values.{from_value, value_given}
-use Rattle.hack_versions.specs.Readings.{ReadRange, range_of}
+use Rattle.hack_versions.specs.Readings.{at_dots, is_old, range_of}
 use Rattle.hack_versions.specs.declared.version.VersionRange.{VersionRange}
 use Rattle.hack_versions.specs.declared.version.MaybeVersion.TheVariants.{Msrv}
 use Rattle.hack_term.specs.Groups.{log_group_of}
@@ -26,19 +24,15 @@ abbrev pub coloring_asked : Option (List ℕ) → List Use → Coloring
 coloring_asked term_color us =
     unwrap_or (option_and_then coloring_of (option_or (value_given opt.Color us) term_color)) Auto
 
--- a text read as a range, where it is one
-abbrev pub read_range : List ℕ → Option ReadRange
-read_range text = result_ok (range_of text)
-
 -- the range of versions: each package's own under --rust-version
 abbrev pub range_asked : List Use → Option VersionRange
 range_asked us =
     if is_given opt.RustVersion us then Some (record { start_inclusive = Msrv; end_inclusive = Msrv })
-    else option_map (λ read. read.range) (from_value opt.VersionRange read_range us)
+    else from_value opt.VersionRange (λ text. result_ok (range_of text)) us
 
 -- the given range is in the old form
 abbrev pub is_old_asked : List Use → Bool
-is_old_asked us = option_map_or (λ read. read.old) (from_value opt.VersionRange read_range us) false
+is_old_asked us = option_map_or (λ s. is_old s.back) (from_value opt.VersionRange at_dots us) false
 
 -- an option --message-format, which belongs to cargo
 abbrev pub is_message_format : Use → Bool
@@ -56,8 +50,3 @@ log_group_asked github us =
 -- -v is passed on once less than it is given
 abbrev pub verbose_words : ℕ → List (List ℕ)
 verbose_words count = if nat_lt 1 count then (codes "-" ++ repeat (count - 1) (codes "v")) ∷ [] else []
-
--- the arguments that are passed on to cargo before --
-abbrev pub leading_asked : WorkspaceBehavior → List Use → List (List ℕ)
-leading_asked behavior us =
-    leading_of behavior us ++ verbose_words (length (filter (is_use_of opt.Verbose) us))

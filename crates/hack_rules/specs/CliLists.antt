@@ -1,7 +1,7 @@
 -- The lists that uses of options give.
 use Rattle.std.specs.Prelude.{ℕ, List, [], ◌&&◌, Bool, false, Option, Some, None, length, map, nat_lt, bytes_eq, option_and_then, if◌then◌else◌}
 use Rattle.std.specs.Cmp.Lexicographic.{pointwise}
-use Rattle.std.specs.List.{flat_map, filter_map, list_any}
+use Rattle.std.specs.List.{flat_map, list_any}
 use Rattle.std.specs.Option.{option_map_or}
 use Rattle.hack_options.specs.declared.opt.Opt.{Opt}
 use Rattle.hack_options.specs.declared.opt.Opt.TheVariants as opt
@@ -35,10 +35,6 @@ abbrev pub lift_of : List ℕ → Option Lift
 lift_of text =
     option_and_then (λ features. if nat_lt 0 (length (front_of 61 text)) && is_list features
     then Some (record { owner = front_of 61 text; group = group_names features }) else None) (rest_of 61 text)
-
--- the groups that are lifted
-abbrev pub lifts_given : List Use → List Lift
-lifts_given us = filter_map lift_of (values_given opt.AllowTogether us)
 
 -- the same names in the same order
 abbrev pub same_names : List (List ℕ) → List (List ℕ) → Bool

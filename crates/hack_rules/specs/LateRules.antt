@@ -33,14 +33,6 @@ range_rules rustup us =
     ∷ from_value opt.VersionStep (unless_counted opt.VersionStep 16) us
     ∷ []
 
--- the rules on pieces of a plan
-abbrev pub piece_rules : List Use → List (Option Fault)
-piece_rules us =
-    from_value opt.Partition (λ t. fault_if (is_none (piece_of t)) (Partition t)) us
-    ∷ needs opt.PartitionKind beside.Partition us
-    ∷ from_value opt.PartitionKind (λ t. fault_if (is_none (kind_of t)) (PartitionKind t)) us
-    ∷ []
-
 -- values of --allow-together must have its form, and the names of one of these groups
 abbrev pub lift_rule : List (List (List ℕ)) → List (List ℕ) → Option Fault
 lift_rule exclusive texts =
@@ -53,7 +45,9 @@ abbrev pub rules_after : Option ℕ → List (List (List ℕ)) → List Use → 
 rules_after rustup exclusive us =
     first_of (range_rules rustup us)
     ∷ from_value opt.LogGroup (λ text. fault_if (is_none (log_group_of text)) (LogGroup text)) us
-    ∷ first_of (piece_rules us)
+    ∷ first_of (from_value opt.Partition (λ t. fault_if (is_none (piece_of t)) (Partition t)) us
+    ∷ needs opt.PartitionKind beside.Partition us
+    ∷ from_value opt.PartitionKind (λ t. fault_if (is_none (kind_of t)) (PartitionKind t)) us ∷ [])
     ∷ needs opt.AllowTogether beside.MutuallyExclusive us
     ∷ lift_rule exclusive (values_given opt.AllowTogether us)
     ∷ needs opt.Strength beside.Powerset us

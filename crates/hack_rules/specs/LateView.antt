@@ -7,9 +7,10 @@ use Rattle.hack_term.specs.declared.partition.PartitionKind.TheVariants.{Block}
 use Rattle.hack_options.specs.declared.opt.Opt.TheVariants as opt
 use Rattle.hack_rules.specs.Uses.{Use}
 use Rattle.hack_rules.specs.AskedFields.{range_asked, is_old_asked, log_group_asked}
-use Rattle.hack_rules.specs.Values.{from_value}
+use Rattle.hack_rules.specs.Values.{from_value, values_given}
 use Rattle.hack_rules.specs.CliGroups.{AreLifts}
-use Rattle.hack_rules.specs.CliLists.{lifts_given}
+use Rattle.hack_rules.specs.CliLists.{lift_of}
+use Rattle.std.specs.List.{filter_map}
 use Rattle.hack_rules.specs.declared.late.Late.{Late}
 
 -- what uses of options ask for about versions, log groups, pieces, lifted groups and samples
@@ -22,5 +23,5 @@ pub record IsLate (github_actions : Bool) (us : List Use) (late : Late) : Type 0
       ≡ from_value opt.Partition piece_of us
   pub kind : IfSome late.partition (λ p.
       p.kind ≡ unwrap_or (from_value opt.PartitionKind kind_of us) Block)
-  pub lifts : AreLifts (lifts_given us) late.lifts.items
+  pub lifts : AreLifts (filter_map lift_of (values_given opt.AllowTogether us)) late.lifts.items
   pub strength : late.strength ≡ from_value opt.Strength (number_of 64) us

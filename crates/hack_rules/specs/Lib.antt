@@ -8,7 +8,6 @@ pub mod AskedFields
 pub mod CliFaults
 pub mod CliGroups
 pub mod CliLists
-pub mod CliTargets
 pub mod LateView
 pub mod ListsView
 pub mod Rules

@@ -1,10 +1,11 @@
 //! The rules that are checked after the one on a missing subcommand: on ranges of versions, log
 //! groups, pieces of a plan, lifted groups and the strength of a sample.
 
-ghost use Rattle.std.specs.Prelude.{◌≡◌, ◌&&◌, IfOk, IfSome, option_map, option_and_then, nat_lt};
+ghost use Rattle.std.specs.Prelude.{◌≡◌, ◌&&◌, [], ◌∷◌, false, IfOk, IfSome};
+ghost use Rattle.std.specs.Prelude.{option_map, option_and_then, nat_lt};
 ghost use Rattle.std.specs.List.{list_any};
-ghost use Rattle.std.specs.Option.{is_none, unwrap_or};
-ghost use Rattle.std.specs.Result.{result_err};
+ghost use Rattle.std.specs.Option.{is_none, option_map_or, unwrap_or};
+ghost use Rattle.std.specs.Result.{result_err, result_ok};
 ghost use Rattle.hack_base.specs.Numbers.{number_of};
 ghost use Rattle.hack_term.specs.Groups.{log_group_of};
 ghost use Rattle.hack_term.specs.Partitions.{piece_of, kind_of};
@@ -12,14 +13,14 @@ ghost use Rattle.hack_versions.specs.Readings.{range_of};
 ghost use Rattle.hack_features.specs.Feature.{groups_of};
 ghost use Rattle.hack_rules.specs.Uses.{view, views, is_given};
 ghost use Rattle.hack_rules.specs.Values.{from_value};
-ghost use Rattle.hack_rules.specs.AskedFields.{read_range, range_asked, is_old_asked};
+ghost use Rattle.hack_rules.specs.AskedFields.{range_asked, is_old_asked};
 ghost use Rattle.hack_rules.specs.AskedFields.{is_message_format as message_format};
 ghost use Rattle.hack_rules.specs.AskedFields.{log_group_asked};
 ghost use Rattle.hack_rules.specs.CliFaults.{Checks, LogGroup as WrongLogGroup, OldRustup, Range};
+ghost use Rattle.hack_rules.specs.CliFaults.{Partition as WrongPiece, PartitionKind as WrongKind};
 ghost use Rattle.hack_rules.specs.LateView.{IsLate};
-ghost use Rattle.hack_rules.specs.Rules.{fault_if, first_of, has_beside};
-ghost use Rattle.hack_rules.specs.LateRules.{unless_counted, range_rules, piece_rules};
-ghost use Rattle.hack_rules.specs.LateRules.{rules_after};
+ghost use Rattle.hack_rules.specs.Rules.{fault_if, first_of, has_beside, needs as needs_rule};
+ghost use Rattle.hack_rules.specs.LateRules.{unless_counted, range_rules, rules_after};
 
 use crate::checks::{clash, needs};
 use crate::fault::{Beside, CliFault};
@@ -69,9 +70,10 @@ pub struct Versions {
 fn said_range(alloc: Global, uses: &[Use]) -> Result<Option<(VersionRange, bool)>, CliFault>
     ensures rule { Checks result (from_value Opt.VersionRange
         (λ text. option_map Range (result_err (range_of text))) (views uses.now)) }
-    ensures value { IfOk result (λ said.
-        option_map (λ read. record { range = read.0; old = read.1 }) said
-        ≡ from_value Opt.VersionRange read_range (views uses.now)) }
+    ensures range { IfOk result (λ said. option_map (λ read. read.0) said
+        ≡ from_value Opt.VersionRange (λ text. result_ok (range_of text)) (views uses.now)) }
+    ensures old { IfOk result (λ said.
+        option_map_or (λ read. read.1) said false ≡ is_old_asked (views uses.now)) }
 {
     match value(Opt::VersionRange, uses) {
         Some(text) => Ok(Some(VersionRange::parse(alloc, text.as_str())?)),
@@ -168,7 +170,12 @@ fn log_group(alloc: Global, github_actions: bool, uses: &[Use]) -> Result<LogGro
 
 /// The piece of the plan, and how places are assigned to pieces.
 fn partition(alloc: Global, uses: &[Use]) -> Result<Option<Partition>, CliFault>
-    ensures rules { Checks result (first_of (piece_rules (views uses.now))) }
+    ensures rules { Checks result (first_of (from_value Opt.Partition
+        (λ text. fault_if (is_none (piece_of text)) (WrongPiece text)) (views uses.now)
+        ∷ needs_rule Opt.PartitionKind Beside.Partition (views uses.now)
+        ∷ from_value Opt.PartitionKind
+        (λ text. fault_if (is_none (kind_of text)) (WrongKind text)) (views uses.now)
+        ∷ [])) }
     ensures piece { IfOk result (λ partition.
         option_map (λ p. record { piece = p.piece; count = p.count }) partition
         ≡ from_value Opt.Partition piece_of (views uses.now)) }

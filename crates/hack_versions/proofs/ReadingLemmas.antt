@@ -13,8 +13,8 @@ use Rattle.hack_base.specs.Numbers.{IsNumber}
 use Rattle.hack_versions.specs.VersionTexts.{IsBadNumber, HasVersionNumbers, LacksVersionNumber, IsVersionFault, IsCut, IsUncut, IsBare, IsBoundText, IsBoundFault, IsEndText, IsOpen, IsEndTextFault, IsRangeText, IsRangeTextFault}
 use Rattle.hack_base.specs.Cuts.{front_of, rest_of}
 use Rattle.hack_versions.specs.Readings.{BadRange, BadNumber, OpenInclusive, IsRefusedBy, bad_range_of}
-use Rattle.hack_versions.specs.Readings.{Sides, ReadRange, then_read, read_as, version_part_of, with_minor, version_of, bound_of, behind_equals, end_of, is_old, at_dots, range_at, range_of}
-use Rattle.std.specs.Option.{ok_or, option_transpose}
+use Rattle.hack_versions.specs.Readings.{Sides, then_read, read_as, version_part_of, with_minor, version_of, bound_of, behind_equals, end_of, is_old, at_dots, range_at, range_of}
+use Rattle.std.specs.Option.{ok_or, option_map_or, option_transpose}
 use Rattle.hack_base.proofs.NumberLemmas.{number-read, number-unread}
 
 Refused-then : {A B : Type 0} (f : A → Result B BadRange) (r : Result A BadRange) (e : VersionFault) → IsRefusedBy r e → IsRefusedBy (then_read f r) e
@@ -197,33 +197,40 @@ cut-read (b ∷ bs) (f ∷ fs) back h =
 abbrev sides_or : List ℕ → Option Sides → Sides
 sides_or text o = unwrap_or o (record { front = text; back = [] })
 
-abbrev from_ends : MaybeVersion → Bool → MaybeVersion → ReadRange
-from_ends end old start = record { range = record { start_inclusive = start; end_inclusive = end }; old = old }
+abbrev from_ends : MaybeVersion → MaybeVersion → VersionRange
+from_ends end start = record { start_inclusive = start; end_inclusive = end }
 
-abbrev with_start : Sides → MaybeVersion → Result ReadRange BadRange
-with_start sides end = read_as (from_ends end (is_old sides.back)) (bound_of Msrv sides.front)
+abbrev with_start : Sides → MaybeVersion → Result VersionRange BadRange
+with_start sides end = read_as (from_ends end) (bound_of Msrv sides.front)
 
 abbrev sides : List ℕ → List ℕ → Sides
 sides front back = record { front = front; back = back }
 
-at-read : (front back : List ℕ) (range : VersionRange) (old : Bool) → end_of front back ≡ Ok range.end_inclusive → old ≡ is_old back → IsBoundText Msrv front range.start_inclusive → range_at (sides front back) ≡ Ok (record { range = range; old = old })
-at-read front back range old e o h =
+at-read : (front back : List ℕ) (range : VersionRange) → end_of front back ≡ Ok range.end_inclusive → IsBoundText Msrv front range.start_inclusive → range_at (sides front back) ≡ Ok range
+at-read front back range e h =
     ap (then_read (with_start (sides front back))) e
-    ∙ ap (read_as (from_ends range.end_inclusive (is_old back))) (bound-read Msrv front range.start_inclusive h)
-    ∙ ap (λ (b : Bool). Ok (from_ends range.end_inclusive b range.start_inclusive)) (sym o)
+    ∙ ap (read_as (from_ends range.end_inclusive)) (bound-read Msrv front range.start_inclusive h)
 
-pub range-read : (text : List ℕ) (range : VersionRange) (old : Bool) → IsRangeText text range old → range_of text ≡ Ok (record { range = range; old = old })
+pub range-read : (text : List ℕ) (range : VersionRange) (old : Bool) → IsRangeText text range old → range_of text ≡ Ok range
 range-read text range old (inl h) =
     ap (λ o. range_at (sides_or text o)) (uncut-read text h.0)
-    ∙ at-read text [] range old (ap Ok (sym h.2)) h.3 h.1
+    ∙ at-read text [] range (ap Ok (sym h.2)) h.1
 range-read text range old (inr h) =
     ap (λ o. range_at (sides_or text o)) (cut-read text h.0 h.1 h.2)
-    ∙ at-read h.0 h.1 range old (end-read h.0 h.1 range.end_inclusive old h.3) (old-read h.1 range.end_inclusive old h.3) h.4
+    ∙ at-read h.0 h.1 range (end-read h.0 h.1 range.end_inclusive old h.3) h.4
+
+-- whether it has the old form
+abbrev old_or_not : Option Sides → Bool
+old_or_not o = option_map_or (λ s. is_old s.back) o false
+
+pub range-old : (text : List ℕ) (range : VersionRange) (old : Bool) → IsRangeText text range old → old ≡ old_or_not (at_dots text)
+range-old text range old (inl h) = h.3 ∙ sym (ap old_or_not (uncut-read text h.0))
+range-old text range old (inr h) = old-read h.1 range.end_inclusive old h.3 ∙ sym (ap old_or_not (cut-read text h.0 h.1 h.2))
 
 start-bad : (front back : List ℕ) (end : MaybeVersion) (e : VersionFault) → end_of front back ≡ Ok end → IsBoundFault front e → IsRefusedBy (range_at (sides front back)) e
 start-bad front back end e o h =
     Refused-next (with_start (sides front back)) (end_of front back) end e o
-    (Refused-as (from_ends end (is_old back)) (bound_of Msrv front) e (bound-bad Msrv front e h))
+    (Refused-as (from_ends end) (bound_of Msrv front) e (bound-bad Msrv front e h))
 
 range-bad : (text : List ℕ) (e : VersionFault) → IsRangeTextFault text e → IsRefusedBy (range_of text) e
 range-bad text e (inl h) = subst (λ (o : Option Sides). IsRefusedBy (range_at (sides_or text o)) e) (sym (uncut-read text h.0)) (start-bad text [] Stable e refl h.1)

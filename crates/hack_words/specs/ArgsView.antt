@@ -1,6 +1,6 @@
 -- What the fields of `Args` hold, one by one.
-use Rattle.std.specs.Prelude.{ℕ, ◌≡◌, ◌||◌, ◌++◌, List, Bool, Option, IfSome, option_map}
-use Rattle.std.specs.List.{AllZip}
+use Rattle.std.specs.Prelude.{ℕ, ◌≡◌, ◌↔◌, ◌||◌, ◌++◌, List, Bool, Contains, Option, IfSome, length, option_map}
+use Rattle.std.specs.List.{AllZip, filter, filter_map}
 use Rattle.std.specs.Option.{unwrap_or}
 use Rattle.hack_base.specs.Numbers.{number_of}
 use Rattle.hack_term.specs.Partitions.{piece_of, kind_of}
@@ -9,14 +9,17 @@ use Rattle.hack_base.specs.Names.{names_of, optional_text}
 use Rattle.hack_features.specs.Feature.{IsNormal}
 use Rattle.hack_options.specs.declared.opt.Opt.TheVariants as opt
 use Rattle.hack_rules.specs.declared.uses.behavior.WorkspaceBehavior.{WorkspaceBehavior}
-use Rattle.hack_rules.specs.Uses.{Use, is_given, subcommand_of}
+use Rattle.hack_rules.specs.Uses.{Use, is_given, is_use_of, subcommand_of}
 use Rattle.hack_rules.specs.Values.{from_value, value_given, values_given}
 use Rattle.hack_words.specs.declared.cli.args.Args.{Args}
-use Rattle.hack_rules.specs.AskedFields.{coloring_asked, range_asked, log_group_asked, leading_asked}
+use Rattle.hack_rules.specs.AskedFields.{coloring_asked, range_asked, log_group_asked, verbose_words}
+use Rattle.hack_rules.specs.PassedWords.{leading_of}
 use Rattle.hack_rules.specs.CliGroups.{AreGroupsOf, AreLifts}
-use Rattle.hack_rules.specs.CliLists.{names_given, optional_given, lifts_given}
+use Rattle.hack_rules.specs.CliLists.{lift_of, names_given, optional_given}
 use Rattle.hack_rules.specs.Rules.{counts}
-use Rattle.hack_rules.specs.CliTargets.{AreRising, HaveSameTexts}
+use Rattle.std.specs.Cmp.Lexicographic.{slice_cmp}
+use Rattle.std.specs.List.Sorted.{IsStrictlySortedBy}
+use Rattle.std.specs.Ordering.{nat_cmp}
 
 -- the options without a value
 pub record HasFlags (us : List Use) (args : Args) : Type 0 where
@@ -46,7 +49,8 @@ pub record HasFlags (us : List Use) (args : Args) : Type 0 where
 
 -- the arguments for cargo, the lists of texts, and the features with their groups
 pub record HasTexts (behavior : WorkspaceBehavior) (us : List Use) (args : Args) : Type 0 where
-  pub leading_args : names_of args.leading_args.items ≡ leading_asked behavior us
+  pub leading_args : names_of args.leading_args.items
+      ≡ leading_of behavior us ++ verbose_words (length (filter (is_use_of opt.Verbose) us))
   pub subcommand : optional_text args.subcommand ≡ subcommand_of us
   pub manifest_path : optional_text args.manifest_path ≡ value_given opt.ManifestPath us
   pub packages : names_of args.«package».items ≡ values_given opt.Package us
@@ -55,8 +59,9 @@ pub record HasTexts (behavior : WorkspaceBehavior) (us : List Use) (args : Args)
   pub exclude_features : names_of args.exclude_features.items
       ≡ names_given opt.ExcludeFeatures us ++ names_given opt.Features us
   pub optional_deps : option_map (λ names. names_of names.items) args.optional_deps ≡ optional_given us
-  pub target_rising : AreRising (names_of args.target.items)
-  pub target_same : HaveSameTexts (names_of args.target.items) (values_given opt.Target us)
+  pub target_rising : IsStrictlySortedBy (slice_cmp nat_cmp) (names_of args.target.items)
+  pub target_same : (text : List ℕ)
+      → Contains (names_of args.target.items) text ↔ Contains (values_given opt.Target us) text
   pub include_features : AllZip IsNormal (names_given opt.IncludeFeatures us) args.include_features.items
   pub group_features : AreGroupsOf (values_given opt.GroupFeatures us) args.group_features.items
   pub mutually_exclusive_features : AreGroupsOf (values_given opt.MutuallyExclusiveFeatures us) args.mutually_exclusive_features.items
@@ -75,7 +80,8 @@ pub record HasValues (term_color : Option (List ℕ)) (github_actions : Bool) (b
       ≡ from_value opt.Partition piece_of us
   pub kind : IfSome args.partition (λ p.
       p.kind ≡ unwrap_or (from_value opt.PartitionKind kind_of us) Block)
-  pub allow_together : AreLifts (lifts_given us) args.allow_together.items
+  pub allow_together : AreLifts (filter_map lift_of (values_given opt.AllowTogether us))
+      args.allow_together.items
   pub strength : args.strength ≡ from_value opt.Strength (number_of 64) us
 
 -- all fields
