@@ -4,6 +4,7 @@ use Rattle.std.specs.List.{find, starts_with}
 use Rattle.std.specs.Option.{is_none, is_some, option_map_or, option_or, unwrap_or}
 use Rattle.std.specs.Str.{chars}
 use Rattle.hack_base.specs.Cuts.{front_of, rest_of}
+use Rattle.hack_base.specs.PathTexts.{without_front}
 use Rattle.hack_lexopt.specs.declared.fault.LexFault.{LexFault}
 use Rattle.hack_lexopt.specs.declared.fault.LexFault.TheVariants.{UnexpectedValue}
 
@@ -45,10 +46,6 @@ abbrev pub option_in : Cut → Option Flag
 option_in (FlagCut flag) = Some flag
 option_in (ValueCut word) = None
 
--- the remaining letters of a chain begin with =
-abbrev pub begins_with_equals : List ℕ → Bool
-begins_with_equals letters = starts_with nat_eq letters (codes "=")
-
 -- the letters after the first letter
 abbrev pub chain_of : List ℕ → Untaken
 chain_of [] = Nothing
@@ -89,7 +86,8 @@ untaken_of word =
 -- a value that nobody took, because of which the next item is refused
 abbrev pub unexpected_of : Untaken → Option (List ℕ)
 unexpected_of (Pending value) = Some value
-unexpected_of (Chain letters) = if begins_with_equals letters then Some (drop 1 letters) else None
+unexpected_of (Chain letters) =
+    if starts_with nat_eq letters (codes "=") then Some (drop 1 letters) else None
 unexpected_of Nothing = None
 
 -- the next item: a letter of the chain, or the first of the next argument; a value that nobody took
@@ -121,7 +119,7 @@ after_cut left =
 -- without one leading =
 abbrev pub attached_value : Untaken → Option (List ℕ)
 attached_value (Pending value) = Some value
-attached_value (Chain letters) = Some (if begins_with_equals letters then drop 1 letters else letters)
+attached_value (Chain letters) = Some (without_front (codes "=") letters)
 attached_value Nothing = None
 
 -- the value of an option: the attached one, else the next argument whatever it is

@@ -1,5 +1,5 @@
--- The table of options: how each is written and parsed, and how the help shows it.
-use Rattle.std.specs.Prelude.{ℕ, List, [], Bool, true, false, Option, None, codes, slice_get, is_some}
+-- The table of options: how each is written and parsed.
+use Rattle.std.specs.Prelude.{ℕ, List, [], Bool, true, false, Option, None, codes, slice_get}
 use denote.Enum.Bare.{sameb}
 use Rattle.hack_options.specs.contracts.opt.Opt.{the_type}
 use Rattle.hack_options.specs.declared.opt.Opt.{Opt}
@@ -8,24 +8,22 @@ use Rattle.hack_options.specs.declared.table.Kind.{Kind}
 use Rattle.hack_options.specs.declared.table.Kind.TheVariants.{Flag, Value, Names, OptionalNames, Help, Version, Refused}
 use Rattle.hack_options.specs.declared.table.Row.{Row}
 
--- a row of the table: how an option is written and parsed, and whether and how the help shows it
+-- a row of the table: how an option is written and parsed, with the value that the help shows
 pub record Entry : Type 0 where
   pub letter : Option ℕ
-  pub letter_shown : Bool
   pub name : List ℕ
   pub kind : Kind
   pub once : Bool
   pub value : List ℕ
-  pub in_help : Bool
 
 -- what a row says about these
 abbrev pub entry : Row → Entry
-entry row = record { letter = row.letter; letter_shown = row.letter_shown; name = row.name.now; kind = row.kind; once = row.once; value = row.value.now; in_help = is_some row.told }
+entry row = record { letter = row.letter; name = row.name.now; kind = row.kind; once = row.once; value = row.value.now }
 
 -- an option without a letter that may be given once, with the value that the help shows after its
 -- name
 abbrev pub once : List ℕ → Kind → List ℕ → Entry
-once name kind value = record { letter = None; letter_shown = true; name = name; kind = kind; once = true; value = value; in_help = true }
+once name kind value = record { letter = None; name = name; kind = kind; once = true; value = value }
 
 -- an option without a letter that may be given once and takes no value
 abbrev pub flag : List ℕ → Entry
@@ -35,17 +33,9 @@ flag name = once name Flag []
 abbrev pub many : List ℕ → Kind → List ℕ → Entry
 many name kind value = record (once name kind value) { once = false }
 
--- the is_same_option option, with the one letter of the text as its letter
+-- the same option, with the one letter of the text as its letter
 abbrev pub or_letter : List ℕ → Entry → Entry
 or_letter text e = record e { letter = slice_get text 0 }
-
--- the is_same_option, where the help doesn't show the letter
-abbrev pub or_hidden_letter : List ℕ → Entry → Entry
-or_hidden_letter text e = record e { letter = slice_get text 0; letter_shown = false }
-
--- the is_same_option option, left out of the help
-abbrev pub out_of_help : Entry → Entry
-out_of_help e = record e { in_help = false }
 
 -- the row of each option
 abbrev pub entry_of : Opt → Entry
@@ -53,7 +43,7 @@ entry_of opt.Package = or_letter (codes "p") (many (codes "package") Value (code
 entry_of opt.All = flag (codes "all")
 entry_of opt.Workspace = flag (codes "workspace")
 entry_of opt.Exclude = many (codes "exclude") Value (codes "<SPEC>...")
-entry_of opt.ManifestPath = or_hidden_letter (codes "m") (once (codes "manifest-path") Value (codes "<PATH>"))
+entry_of opt.ManifestPath = or_letter (codes "m") (once (codes "manifest-path") Value (codes "<PATH>"))
 entry_of opt.Locked = flag (codes "locked")
 entry_of opt.Features = or_letter (codes "F") (many (codes "features") Names (codes "<FEATURES>..."))
 entry_of opt.EachFeature = flag (codes "each-feature")
@@ -91,10 +81,10 @@ entry_of opt.Verbose = or_letter (codes "v") (many (codes "verbose") Flag [])
 entry_of opt.Color = once (codes "color") Value (codes "<WHEN>")
 entry_of opt.Help = or_letter (codes "h") (many (codes "help") Help [])
 entry_of opt.Version = or_letter (codes "V") (many (codes "version") Version [])
-entry_of opt.NoDefaultFeatures = out_of_help (many (codes "no-default-features") Flag [])
-entry_of opt.AllFeatures = out_of_help (many (codes "all-features") Flag [])
-entry_of opt.IncludeDepsFeatures = out_of_help (flag (codes "include-deps-features"))
-entry_of opt.Strength = out_of_help (once (codes "strength") Value (codes "<NUM>"))
+entry_of opt.NoDefaultFeatures = many (codes "no-default-features") Flag []
+entry_of opt.AllFeatures = many (codes "all-features") Flag []
+entry_of opt.IncludeDepsFeatures = flag (codes "include-deps-features")
+entry_of opt.Strength = once (codes "strength") Value (codes "<NUM>")
 
 -- the option that an alias means
 abbrev pub meaning_of : Opt → Opt

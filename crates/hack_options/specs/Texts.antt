@@ -1,5 +1,5 @@
 -- How messages and the help show options.
-use Rattle.std.specs.Prelude.{ℕ, List, ◌++◌, ◌&&◌, Bool, false, Option, Some, None, codes, encode_utf8, if◌then◌else◌}
+use Rattle.std.specs.Prelude.{ℕ, List, ◌++◌, ◌&&◌, Bool, true, false, Option, Some, None, codes, encode_utf8, if◌then◌else◌}
 use Rattle.hack_options.specs.declared.opt.Opt.{Opt}
 use Rattle.hack_options.specs.declared.opt.Opt.TheVariants as opt
 use Rattle.hack_options.specs.declared.messages.Usage.{Usage}
@@ -27,14 +27,23 @@ shown_with_alias o = shown_option o
 abbrev pub help_value_of : Opt → List ℕ
 help_value_of o = (entry_of o).value
 
+-- whether the help has a row for the option: two of Cargo, and two of ours, have none
+abbrev pub is_told : Opt → Bool
+is_told opt.NoDefaultFeatures = false
+is_told opt.AllFeatures = false
+is_told opt.IncludeDepsFeatures = false
+is_told opt.Strength = false
+is_told o = true
+
 -- whether a row of the help has exactly this option's name
 abbrev pub has_usage : Opt → Bool
 has_usage opt.WorkspaceBehavior = false
-has_usage o = (entry_of o).in_help
+has_usage o = is_told o
 
--- whether the help shows the option's letter
+-- whether the help shows the option's letter, if it has one
 abbrev pub shows_letter : Opt → Bool
-shows_letter o = (entry_of o).letter_shown
+shows_letter opt.ManifestPath = false
+shows_letter o = true
 
 -- the name and the value of the option's row
 abbrev pub row_usage : Opt → List ℕ

@@ -139,7 +139,7 @@ impl fmt::Display for Name {
     fn fmt<W: fmt::Write>(&self, f: &mut fmt::Formatter<W>) -> fmt::Result {
         let row = self.option.row();
         match row.letter {
-            Some(letter) if row.letter_shown => write!(f, "-{letter}, ")?,
+            Some(letter) if self.option.shows_letter() => write!(f, "-{letter}, ")?,
             _ => write!(f, "    ")?,
         }
         write!(f, "{}", self.option)?;

@@ -1,10 +1,10 @@
 //! An option, its meaning if it is an alias, and its names.
 
-ghost use Rattle.std.specs.Prelude.{◌≡◌, ◌↔◌, ◌&&◌, IsTrue, Some};
+ghost use Rattle.std.specs.Prelude.{◌≡◌, ◌↔◌, ◌&&◌, IsTrue, Some, is_some};
 ghost use Rattle.hack_options.specs.Table.{entry, entry_of, meaning_of, is_same_option};
 ghost use Rattle.hack_options.specs.Texts.{shown_option, shown_option_name as name_of};
 ghost use Rattle.hack_options.specs.Texts.{aliased_option};
-ghost use Rattle.hack_options.specs.Texts.{has_usage as named_in_help};
+ghost use Rattle.hack_options.specs.Texts.{has_usage as named_in_help, is_told};
 ghost use Rattle.hack_options.specs.Texts.{shows_letter as letter_in_help};
 
 use crate::messages::WithAlias;
@@ -79,7 +79,8 @@ impl fmt::Display for Opt {
 impl Opt {
     /// The option's row in the table.
     pub fn row(self) -> Row
-        ensures { entry result ≡ entry_of self }
+        ensures entry { entry result ≡ entry_of self }
+        ensures told { is_some result.told ≡ is_told self }
     {
         Row::of(self)
     }
@@ -131,10 +132,21 @@ impl Opt {
         }
     }
 
+    /// Whether the help shows the option's letter. `-m` is parsed as `--manifest-path`, though the
+    /// help doesn't show it.
+    pub(crate) fn shows_letter(self) -> bool
+        ensures { result ≡ letter_in_help self }
+    {
+        match self {
+            Opt::ManifestPath => false,
+            _ => true,
+        }
+    }
+
     /// Whether a row of the help has exactly this name, and its letter too.
     pub(crate) fn has_letter_usage(self) -> bool
         ensures { result ≡ (named_in_help self && letter_in_help self) }
     {
-        self.has_usage() && self.row().letter_shown
+        self.has_usage() && self.shows_letter()
     }
 }

@@ -1,8 +1,9 @@
 //! The table of options. Each option has a row: how it is written and parsed, and what the help
 //! says about it.
 
-ghost use Rattle.std.specs.Prelude.{◌≡◌, IsSome, is_some, false, Some};
-ghost use Rattle.hack_options.specs.Table.{entry, entry_of, out_of_help};
+ghost use Rattle.std.specs.Prelude.{◌≡◌, IsSome, is_some, Some};
+ghost use Rattle.hack_options.specs.Table.{entry, entry_of};
+ghost use Rattle.hack_options.specs.Texts.{is_told};
 ghost use Rattle.hack_options.specs.Table.{flag as flag_entry, once as once_entry};
 ghost use Rattle.hack_options.specs.Table.{many as many_entry};
 
@@ -13,9 +14,6 @@ use crate::opt::Opt;
 pub struct Row {
     /// The letter after one dash.
     pub letter: Option<char>,
-    /// Whether the help shows the letter. `-m` is parsed as `--manifest-path`, though the help
-    /// doesn't show it.
-    pub letter_shown: bool,
     /// The name after two dashes.
     pub name: &'static str,
     pub kind: Kind,
@@ -111,7 +109,8 @@ impl Row {
     /// The row of an option. It is made of two parts in the same order, `syntax` and `help_text`: a
     /// single match with both takes twice as long to prove.
     pub(crate) fn of(option: Opt) -> Row
-        ensures { entry result ≡ entry_of option }
+        ensures entry { entry result ≡ entry_of option }
+        ensures told { is_some result.told ≡ is_told option }
     {
         Row {
             told: help_text(option),
@@ -125,18 +124,6 @@ impl Row {
     {
         Row {
             letter: Some(letter),
-            ..self
-        }
-    }
-
-    /// The same, where the help doesn't show the letter.
-    fn hidden_letter(self, letter: char) -> Row
-        ensures { entry result ≡ record (entry self)
-            { letter = Some letter; letter_shown = false } }
-    {
-        Row {
-            letter: Some(letter),
-            letter_shown: false,
             ..self
         }
     }
@@ -154,14 +141,14 @@ const ALSO_WITHOUT_DEFAULT: &str =
 
 /// How the option is written and parsed, and the value that the help shows.
 fn syntax(option: Opt) -> Row
-    ensures { entry result ≡ out_of_help (entry_of option) }
+    ensures { entry result ≡ entry_of option }
 {
     match option {
         Opt::Package => many("package", Kind::Value, "<SPEC>...").with_letter('p'),
         Opt::All => flag("all"),
         Opt::Workspace => flag("workspace"),
         Opt::Exclude => many("exclude", Kind::Value, "<SPEC>..."),
-        Opt::ManifestPath => once("manifest-path", Kind::Value, "<PATH>").hidden_letter('m'),
+        Opt::ManifestPath => once("manifest-path", Kind::Value, "<PATH>").with_letter('m'),
         Opt::Locked => flag("locked"),
         Opt::Features => many("features", Kind::Names, "<FEATURES>...").with_letter('F'),
         Opt::EachFeature => flag("each-feature"),
@@ -212,7 +199,7 @@ fn syntax(option: Opt) -> Row
 
 /// The texts of the help on the option, where it has a row there.
 fn help_text(option: Opt) -> Option<HelpText>
-    ensures { is_some result ≡ (entry_of option).in_help }
+    ensures { is_some result ≡ is_told option }
 {
     match option {
         Opt::Package => brief("Package(s) to check"),
@@ -383,18 +370,17 @@ fn help_text(option: Opt) -> Option<HelpText>
 
 /// An option that may be given once and takes no value.
 fn flag(name: &'static str) -> Row
-    ensures { entry result ≡ out_of_help (flag_entry name.now) }
+    ensures { entry result ≡ flag_entry name.now }
 {
     once(name, Kind::Flag, "")
 }
 
 /// An option that may be given once, with the value that the help shows after its name.
 fn once(name: &'static str, kind: Kind, value: &'static str) -> Row
-    ensures { entry result ≡ out_of_help (once_entry name.now kind value.now) }
+    ensures { entry result ≡ once_entry name.now kind value.now }
 {
     Row {
         letter: None,
-        letter_shown: true,
         name,
         kind,
         once: true,
@@ -405,7 +391,7 @@ fn once(name: &'static str, kind: Kind, value: &'static str) -> Row
 
 /// An option that may be repeated, with the value that the help shows after its name.
 fn many(name: &'static str, kind: Kind, value: &'static str) -> Row
-    ensures { entry result ≡ out_of_help (many_entry name.now kind value.now) }
+    ensures { entry result ≡ many_entry name.now kind value.now }
 {
     Row {
         once: false,

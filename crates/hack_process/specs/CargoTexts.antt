@@ -1,13 +1,12 @@
 -- What cargo prints when it is asked for its version.
-use Rattle.std.specs.Prelude.{ℕ, List, [], ◌∷◌, Option, Some, None, length, drop, codes, nat_eq, option_map, if◌then◌else◌}
-use Rattle.std.specs.List.{starts_with}
+use Rattle.std.specs.Prelude.{ℕ, List, Option, length, drop, codes, nat_eq, option_map}
+use Rattle.std.specs.List.{find, starts_with}
 use Rattle.std.specs.Str.Lines.{lines}
 use Rattle.hack_base.specs.Cuts.{front_of}
 
 -- what follows a name in the first of these lines that begins with it
 abbrev pub first_behind : List ℕ → List (List ℕ) → Option (List ℕ)
-first_behind name [] = None
-first_behind name (line ∷ rest) = if starts_with nat_eq line name then Some (drop (length name) line) else first_behind name rest
+first_behind name ls = option_map (drop (length name)) (find (λ l. starts_with nat_eq l name) ls)
 
 -- the host that an answer names
 abbrev pub host_of : List ℕ → Option (List ℕ)

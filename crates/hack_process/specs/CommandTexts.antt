@@ -1,6 +1,7 @@
 -- Commands, and how they are shown.
 use Rattle.std.specs.Prelude.{ℕ, Bool, true, ◌&&◌, not, Option, Some, None, List, [], ◌∷◌, ◌++◌, codes, bytes_eq, if◌then◌else◌}
 use Rattle.std.specs.List.{flat_map, join_with_byte}
+use Rattle.std.specs.Option.{option_map_or}
 use Rattle.hack_base.specs.PathTexts.{stem_of, under_of}
 
 -- a command: its program, its arguments by who gave them, and the names of features joined by `,`
@@ -21,8 +22,7 @@ with_names (Some list) (name ∷ names) = Some (join_with_byte 44 (list ∷ name
 
 -- the features as arguments: none, or `--features` and its value
 abbrev pub feature_words : Option (List ℕ) → List (List ℕ)
-feature_words None = []
-feature_words (Some list) = codes "--features" ∷ list ∷ []
+feature_words list = option_map_or (λ names. codes "--features" ∷ names ∷ []) list []
 
 -- `--` and the trailing arguments, where there are any
 abbrev pub marked_words : List (List ℕ) → List (List ℕ)
@@ -57,13 +57,11 @@ shown_words full dir (word ∷ value ∷ words) = if is_manifest_path word then 
 
 -- `--features` and the features, where there are any
 abbrev pub shown_features : Option (List ℕ) → List ℕ
-shown_features None = []
-shown_features (Some list) = codes " --features " ++ list
+shown_features list = option_map_or (λ names. codes " --features " ++ names) list []
 
 -- `--` and the trailing arguments, where there are any
 abbrev pub shown_trailing : List (List ℕ) → List ℕ
-shown_trailing [] = []
-shown_trailing (word ∷ words) = codes " --" ++ each_spaced (word ∷ words)
+shown_trailing words = each_spaced (marked_words words)
 
 -- the program as a text shows it: whole in a full text, unless the path is stripped; else its stem
 abbrev pub shown_program : Bool → Command → List ℕ
@@ -73,14 +71,10 @@ shown_program full c = if full && not c.strip_program_path then c.program else s
 abbrev pub words_of : List ℕ → Bool → List ℕ → Command → List ℕ
 words_of program full dir c = program ++ each_spaced c.leading ++ each_spaced c.passed ++ each_spaced (shown_words full dir c.own) ++ shown_features c.features ++ shown_trailing c.trailing
 
--- what a text shows between its backquotes; a full one is long or verbose
-abbrev pub quoted_line_of : Bool → List ℕ → Command → List ℕ
-quoted_line_of full dir c = words_of (shown_program full c) full dir c
-
--- the text of a command
+-- the text of a command; a full one is long or verbose
 abbrev pub text_of : Bool → List ℕ → Command → List ℕ
-text_of full dir c = codes "`" ++ quoted_line_of full dir c ++ codes "`"
+text_of full dir c = codes "`" ++ words_of (shown_program full c) full dir c ++ codes "`"
 
 -- a command in a list of commands: its full line with the program's stem
 abbrev pub listed_of : List ℕ → Command → List ℕ
-listed_of dir c = quoted_line_of true dir (record c { strip_program_path = true })
+listed_of dir c = words_of (stem_of c.program) true dir c

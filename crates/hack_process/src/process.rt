@@ -5,7 +5,7 @@ ghost use Rattle.std.specs.Prelude.{None, map, true, false, string_bytes};
 ghost use Rattle.std.specs.Str.{IsUtf8};
 ghost use Rattle.hack_base.specs.Names.{optional_text};
 ghost use Rattle.hack_process.specs.Calls.{AddsCall, IsSuccess, answer_of};
-ghost use Rattle.hack_process.specs.CommandTexts.{text_of, listed_of, quoted_line_of, each_spaced};
+ghost use Rattle.hack_process.specs.CommandTexts.{text_of, listed_of, words_of, each_spaced};
 ghost use Rattle.hack_process.specs.CommandTexts.{shown_words, shown_features, shown_trailing};
 ghost use Rattle.hack_process.specs.CommandTexts.{shown_program, with_names, words_behind};
 ghost use Rattle.hack_process.specs.OwnWords.{shown_own};
@@ -280,7 +280,8 @@ impl<'a> ProcessBuilder<'a> {
 
     /// Returns what a text shows between its backquotes. `full` says whether it is long or verbose.
     fn line<'b>(&'b self, full: bool, dir: &'b str) -> Line<'b>
-        ensures { line_text result ≡ quoted_line_of full dir.now (command_of self.now) }
+        ensures { line_text result ≡ words_of (shown_program full (command_of self.now)) full
+            dir.now (command_of self.now) }
     {
         Line {
             program: self.shown_program(full),

@@ -1,9 +1,14 @@
 -- A call that brings its edits back asks for none that stay, whatever rustup answers.
-use Rattle.std.proofs.Common.{◌≡◌, ◌∙◌, ◌||◌, Bool, true, false, List, ap, refl, sym}
-use Rattle.std.specs.Prelude.{Option, if◌then◌else◌}
+use Rattle.std.proofs.Common.{◌≡◌, ◌∙◌, ◌||◌, Bool, true, false, List, [], ◌∷◌, ap, refl, sym}
+use Rattle.std.specs.Prelude.{Option, Some, None, if◌then◌else◌}
+use Rattle.std.specs.Option.{option_map_or}
 use Rattle.hack_base.specs.Names.{Name}
-use Rattle.hack_rules.specs.Rules.{Verdict, Accepted, Lists, Refused}
-use Rattle.hack_rules.specs.Verdicts.{verdict_of}
+use Rattle.hack_rules.specs.CliFaults.{Fault}
+use Rattle.hack_rules.specs.CliLists.{groups_given}
+use Rattle.hack_rules.specs.Rules.{first_of}
+use Rattle.hack_rules.specs.EarlyRules.{early_rules, together_rules}
+use Rattle.hack_rules.specs.MissingSubcommand.{lists_commands, missing_subcommand}
+use Rattle.hack_rules.specs.LateRules.{rules_after}
 use Rattle.hack_run.specs.TemporaryEdits.{RestoresEdits}
 use Rattle.hack_rules.proofs.One.{ends-one}
 use Rattle.hack_rules.specs.UseReading.{End, Fails, IsLast, Met, Prints, Reading}
@@ -21,21 +26,20 @@ use Rattle.hack_recovery.specs.AskedEdits.{AsksFor}
 use Rattle.hack_versions.specs.declared.rustup.Rustup.TheVariants.{Unasked}
 use Rattle.hack_recovery.specs.AskedEdits.AsksFor.{parsed, faulty}
 
--- the outcome of uses by their verdict
-abbrev outcome_by : WorkspaceBehavior → List Name → List Use → Verdict → CommandLineOutcome
-outcome_by behavior trailing us Accepted = Parsed behavior trailing us
-outcome_by behavior trailing us Lists = Listing us
-outcome_by behavior trailing us (Refused fault) = Faulty fault
-
-accepted : (behavior b : WorkspaceBehavior) (trailing t : List Name) (found us : List Use) (v : Verdict) → Parsed b t us ≡ outcome_by behavior trailing found v → us ≡ found
-accepted behavior b trailing t found us Accepted e = cc
-accepted behavior b trailing t found us Lists e = cc
-accepted behavior b trailing t found us (Refused fault) e = cc
+-- parsed arguments are those of the uses that broke no rule
+accepted : (behavior b : WorkspaceBehavior) (trailing t : List Name) (found us : List Use) (early late : Option Fault) (lists : Bool) → Parsed b t us ≡ option_map_or Faulty early (if lists then Listing found else option_map_or Faulty late (Parsed behavior trailing found)) → us ≡ found
+accepted behavior b trailing t found us (Some fault) late lists e = cc
+accepted behavior b trailing t found us None late true e = cc
+accepted behavior b trailing t found us None (Some fault) false e = cc
+accepted behavior b trailing t found us None None false e = cc
 
 -- parsed arguments are those of all uses
 end_uses : (around : Around) (behavior b : WorkspaceBehavior) (trailing t : List Name) (found us : List Use) (r : Reading) → IsEnd around behavior trailing found r (Parsed b t us) → (us ≡ found) × IsLast r
 end_uses around behavior b trailing t found us (Met one left) h = absurd h
-end_uses around behavior b trailing t found us End h = (accepted behavior b trailing t found us (verdict_of behavior around.term_color around.rustup found) h, tt)
+end_uses around behavior b trailing t found us End h =
+    let early = first_of (first_of (early_rules around.term_color found) ∷ first_of (together_rules behavior found) ∷ []) in
+    let late = first_of (missing_subcommand found ∷ rules_after around.rustup (groups_given opt.MutuallyExclusiveFeatures found) found) in
+    (accepted behavior b trailing t found us early late (lists_commands behavior found) h, tt)
 end_uses around behavior b trailing t found us (Prints print) h = cc
 end_uses around behavior b trailing t found us (Fails cut) h = cc
 

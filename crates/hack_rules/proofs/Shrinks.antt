@@ -1,5 +1,5 @@
 -- Reading a use leaves less to read than before.
-use Rattle.std.proofs.Common.{◌≡◌, ◌+◌, ◌<◌, ◌≤◌, ℕ, List, [], ◌∷◌, ◌&&◌, ◌++◌, append-nil, append_assoc, Ok, Some, ◌∙◌, true, false, length, ap, sym, refl, Err, None, Option, Result, zero, suc, cond, codes, nat_eq, subst, drop, encode_utf8, length-drop, arith}
+use Rattle.std.proofs.Common.{◌≡◌, ◌==◌, ◌||◌, bytes_eq, ◌+◌, ◌<◌, ◌≤◌, ℕ, List, [], ◌∷◌, ◌&&◌, ◌++◌, append-nil, append_assoc, Ok, Some, ◌∙◌, true, false, length, ap, sym, refl, Err, None, Option, Result, zero, suc, cond, codes, nat_eq, subst, drop, encode_utf8, length-drop, arith}
 use Rattle.std.specs.List.{starts_with}
 use Rattle.std.specs.Option.{is_some, option_map_or, option_zip}
 use Rattle.std.proofs.lemmas.Str.{length-encode, len_utf8_bounds}
@@ -16,7 +16,7 @@ use Rattle.hack_rules.specs.declared.uses.cut.Print.{Print}
 use Rattle.hack_rules.specs.declared.uses.cut.Print.TheVariants as print
 use Rattle.hack_rules.specs.Faults.{Unexpected, Repeat, LoneQuote}
 use Rattle.hack_rules.specs.Uses.{Use, Unknown, is_given, subcommand_of}
-use Rattle.hack_rules.specs.UseReading.{Reading, Met, End, Prints, Fails, is_lone_quote, is_bare_letter, unknown_option, option_with, option_with_value, unless_quote, print_request, help_of, by_kind, known_option, removed_of, similar_of, other, of_cut, of_next, read_of, Reads}
+use Rattle.hack_rules.specs.UseReading.{Reading, Met, End, Prints, Fails, unknown_option, option_with, option_with_value, unless_quote, print_request, help_of, by_kind, known_option, removed_of, similar_of, other, of_cut, of_next, read_of, Reads}
 
 -- a measure of how much is left to read
 abbrev pub weight_of : Untaken → ℕ
@@ -82,14 +82,14 @@ Kept P = (l : LeftArguments) → P l → P (after_attached l) × ((value : Optio
 
 leaves-unknown : (P : LeftArguments → Type 0) (k : Kept P) (flag : Flag) (l : LeftArguments) → P l → Leaves P (unknown_option flag l)
 leaves-unknown P k (LongFlag name) l p = (k l p).0
-leaves-unknown P k (ShortFlag c) l p = elim (is_bare_letter c) as (λ b. Leaves P (cond b (Met (Unknown (ShortFlag c) None) l) (Met (Unknown (ShortFlag c) (attached_value l.untaken)) (after_attached l)))) [ true ↦ p | false ↦ (k l p).0 ]
+leaves-unknown P k (ShortFlag c) l p = elim ((c == 110) || (c == 113) || (c == 114)) as (λ b. Leaves P (cond b (Met (Unknown (ShortFlag c) None) l) (Met (Unknown (ShortFlag c) (attached_value l.untaken)) (after_attached l)))) [ true ↦ p | false ↦ (k l p).0 ]
 
 leaves-value : (P : LeftArguments → Type 0) (k : Kept P) (o : Opt) (flag : Flag) (v : Option (List ℕ)) (l : LeftArguments) → P l → Leaves P (option_with_value o flag v l)
 leaves-value P k o flag (Some v) l p = (k l p).1 (Some v)
 leaves-value P k o flag None l p = tt
 
 leaves-names : (P : LeftArguments → Type 0) (flag : Flag) (v : Option (List ℕ)) (r : Reading) → Leaves P r → Leaves P (unless_quote flag v r)
-leaves-names P flag (Some v) r p = elim (is_lone_quote v) as (λ b. Leaves P (cond b (Fails (LoneQuote flag)) r)) [ true ↦ tt | false ↦ p ]
+leaves-names P flag (Some v) r p = elim (bytes_eq v (codes "'") || bytes_eq v (codes "\"")) as (λ b. Leaves P (cond b (Fails (LoneQuote flag)) r)) [ true ↦ tt | false ↦ p ]
 leaves-names P flag None r p = p
 
 leaves-question : (P : LeftArguments → Type 0) (k : Kept P) (print : Print) (sub : Option (List ℕ)) (flag : Flag) (l : LeftArguments) → P l → Leaves P (print_request print sub flag l)

@@ -1,5 +1,5 @@
 -- Texts that are inserted into a set, and the order in which they come out.
-use Rattle.std.proofs.Common.{◌≡◌, ◌∙◌, ◌||◌, refl, ap, sym, subst, ℕ, List, [], ◌∷◌, Bool, true, false, Contains, map, String, string_bytes, bytes_eq}
+use Rattle.std.proofs.Common.{◌≡◌, ◌↔◌, ◌∙◌, ◌||◌, refl, ap, sym, subst, ℕ, List, [], ◌∷◌, Bool, true, false, Contains, map, String, string_bytes, bytes_eq}
 use Rattle.std.specs.BTreeSet.{insert_key}
 use Rattle.std.specs.Cmp.Lexicographic.{slice_cmp, nat_list_eq_equiv}
 use Rattle.std.specs.List.{list_any, AllByRecursion}
@@ -11,8 +11,15 @@ use Rattle.std.specs.declared.cmp.Ordering.TheVariants.{Less, Equal, Greater}
 use Rattle.std.proofs.lemmas.Map.Text.{is_eq-slice_cmp}
 use Rattle.std.proofs.lemmas.Map.Views.{Contains-from_any, list_any-from_Contains}
 use Rattle.std.proofs.lemmas.Slice.Eq.{bytes_eq-Decides}
-use Rattle.hack_rules.specs.CliTargets.{AreRising, HaveSameTexts}
 use Rattle.hack_rules.specs.Internal.{put_all}
+
+-- the texts are in the order of their bytes, each once
+abbrev pub AreRising : List (List ℕ) → Type 0
+AreRising texts = IsStrictlySortedBy (slice_cmp nat_cmp) texts
+
+-- the same texts, in whatever order
+abbrev pub HaveSameTexts : List (List ℕ) → List (List ℕ) → Type 0
+HaveSameTexts texts others = (text : List ℕ) → Contains texts text ↔ Contains others text
 
 abbrev has : List ℕ → List (List ℕ) → Bool
 has text texts = list_any (bytes_eq text) texts

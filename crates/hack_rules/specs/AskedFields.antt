@@ -1,60 +1,38 @@
 -- The fields of the arguments, as uses of options ask for them.
-use Rattle.std.specs.Prelude.{ℕ, ◌||◌, ◌&&◌, not, ◌++◌, ◌-◌, List, [], ◌∷◌, length, Bool, false, if◌then◌else◌}
-use Rattle.std.specs.Prelude.{Option, Some, option_map, option_and_then}
+use Rattle.std.specs.Prelude.{ℕ, ◌&&◌, not, ◌++◌, ◌-◌, List, [], ◌∷◌, Bool, false, if◌then◌else◌}
+use Rattle.std.specs.Prelude.{Option, Some, option_and_then}
 use Rattle.std.specs.Prelude.{codes, nat_lt, bytes_eq}
-use Rattle.std.specs.List.{filter, list_any, repeat}
+use Rattle.std.specs.List.{list_any, repeat}
 use Rattle.std.specs.Option.{option_map_or, option_or, unwrap_or}
 use Rattle.std.specs.Result.{result_ok}
-use Rattle.hack_options.specs.declared.opt.Opt.{Opt}
 use Rattle.hack_options.specs.declared.opt.Opt.TheVariants as opt
-use Rattle.hack_rules.specs.declared.uses.behavior.WorkspaceBehavior.{WorkspaceBehavior}
 use Rattle.hack_lexopt.specs.Cuts.{LongFlag}
-use Rattle.hack_rules.specs.PassedWords.{leading_of}
-use Rattle.hack_rules.specs.Uses.{Use, Unknown, is_given, is_use_of}
-use Rattle.hack_rules.specs.Values.{value_given}
-use Rattle.hack_base.specs.Numbers.{number_of}
-use Rattle.hack_versions.specs.Readings.{ReadRange, range_of}
+use Rattle.hack_rules.specs.Uses.{Use, Unknown, is_given}
+use Rattle.hack_rules.specs.Values.{from_value, value_given}
+use Rattle.hack_versions.specs.Readings.{at_dots, is_old, range_of}
 use Rattle.hack_versions.specs.declared.version.VersionRange.{VersionRange}
 use Rattle.hack_versions.specs.declared.version.MaybeVersion.TheVariants.{Msrv}
 use Rattle.hack_term.specs.Groups.{log_group_of}
 use Rattle.hack_term.specs.Lines.{coloring_of}
-use Rattle.hack_term.specs.Partitions.{PieceNumbers, piece_of, kind_of}
 use Rattle.hack_term.specs.declared.term.Coloring.{Coloring}
 use Rattle.hack_term.specs.declared.term.Coloring.TheVariants.{Auto}
 use Rattle.hack_term.specs.declared.log_group.LogGroup.{LogGroup}
 use Rattle.hack_term.specs.declared.log_group.LogGroup.TheVariants as group
-use Rattle.hack_term.specs.declared.partition.PartitionKind.{PartitionKind}
-use Rattle.hack_term.specs.declared.partition.PartitionKind.TheVariants.{Block}
-use Rattle.hack_rules.specs.ListedFeatures.{Listed}
-use Rattle.hack_rules.specs.Rules.{is_nonempty}
 
 -- the colouring: that of the command line, else that of the environment, else auto
 abbrev pub coloring_asked : Option (List ℕ) → List Use → Coloring
 coloring_asked term_color us =
     unwrap_or (option_and_then coloring_of (option_or (value_given opt.Color us) term_color)) Auto
 
--- the number that an option gives, as the depth and the strength of a sample
-abbrev pub number_asked : Opt → List Use → Option ℕ
-number_asked option us = option_and_then (number_of 64) (value_given option us)
-
--- the step between versions, 1 where none is given
-abbrev pub step_asked : List Use → ℕ
-step_asked us = unwrap_or (option_and_then (number_of 16) (value_given opt.VersionStep us)) 1
-
--- a text read as a range, where it is one
-abbrev pub read_range : List ℕ → Option ReadRange
-read_range text = result_ok (range_of text)
-
 -- the range of versions: each package's own under --rust-version
 abbrev pub range_asked : List Use → Option VersionRange
 range_asked us =
     if is_given opt.RustVersion us then Some (record { start_inclusive = Msrv; end_inclusive = Msrv })
-    else option_map (λ read. read.range) (option_and_then read_range (value_given opt.VersionRange us))
+    else from_value opt.VersionRange (λ text. result_ok (range_of text)) us
 
 -- the given range is in the old form
 abbrev pub is_old_asked : List Use → Bool
-is_old_asked us =
-    option_map_or (λ read. read.old) (option_and_then read_range (value_given opt.VersionRange us)) false
+is_old_asked us = option_map_or (λ s. is_old s.back) (from_value opt.VersionRange at_dots us) false
 
 -- an option --message-format, which belongs to cargo
 abbrev pub is_message_format : Use → Bool
@@ -66,31 +44,9 @@ is_message_format u = false
 abbrev pub log_group_asked : Bool → List Use → LogGroup
 log_group_asked github us =
     if is_given opt.PrintCommandList us then group.None
-    else unwrap_or (option_and_then log_group_of (value_given opt.LogGroup us))
+    else unwrap_or (from_value opt.LogGroup log_group_of us)
     (if github && not (list_any is_message_format us) then group.GithubActions else group.None)
-
--- the piece of the plan
-abbrev pub piece_asked : List Use → Option PieceNumbers
-piece_asked us = option_and_then piece_of (value_given opt.Partition us)
-
--- how places are assigned to pieces
-abbrev pub kind_asked : List Use → PartitionKind
-kind_asked us = unwrap_or (option_and_then kind_of (value_given opt.PartitionKind us)) Block
 
 -- -v is passed on once less than it is given
 abbrev pub verbose_words : ℕ → List (List ℕ)
 verbose_words count = if nat_lt 1 count then (codes "-" ++ repeat (count - 1) (codes "v")) ∷ [] else []
-
--- the arguments that are passed on to cargo before --
-abbrev pub leading_asked : WorkspaceBehavior → List Use → List (List ℕ)
-leading_asked behavior us =
-    leading_of behavior us ++ verbose_words (length (filter (is_use_of opt.Verbose) us))
-
--- the run without default features is left out
-abbrev pub excludes_no_default : Listed → List Use → Bool
-excludes_no_default l us = is_given opt.ExcludeNoDefaultFeatures us || is_given opt.AtLeastOneOf us || is_nonempty l.includes
-
--- the run with all features is left out
-abbrev pub excludes_all : Listed → List Use → Bool
-excludes_all l us =
-    is_given opt.ExcludeAllFeatures us || is_nonempty l.includes || is_nonempty l.excludes || is_given opt.MutuallyExclusiveFeatures us

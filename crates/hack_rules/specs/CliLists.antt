@@ -1,19 +1,22 @@
 -- The lists that uses of options give.
-use Rattle.std.specs.Prelude.{ℕ, List, [], ◌&&◌, not, Bool, false, Option, Some, None, length, nat_lt, bytes_eq, option_and_then, option_map, if◌then◌else◌}
+use Rattle.std.specs.Prelude.{ℕ, List, [], ◌&&◌, Bool, false, Option, Some, None, length, map, nat_lt, bytes_eq, option_and_then, if◌then◌else◌}
 use Rattle.std.specs.Cmp.Lexicographic.{pointwise}
-use Rattle.std.specs.List.{find, flat_map, filter_map, list_any}
-use Rattle.std.specs.Option.{is_none, option_map_or}
+use Rattle.std.specs.List.{flat_map, list_any}
+use Rattle.std.specs.Option.{option_map_or}
 use Rattle.hack_options.specs.declared.opt.Opt.{Opt}
 use Rattle.hack_options.specs.declared.opt.Opt.TheVariants as opt
 use Rattle.hack_rules.specs.Uses.{Use, is_given}
 use Rattle.hack_rules.specs.Values.{value_given, values_given}
 use Rattle.hack_base.specs.Cuts.{front_of, rest_of}
-use Rattle.hack_rules.specs.CliFaults.{Fault, LiftForm, LiftGroup}
 use Rattle.hack_base.specs.Lists.{is_list, group_names, list_names, without_quotes}
 
 -- the names in all lists of an option, in order
 abbrev pub names_given : Opt → List Use → List (List ℕ)
 names_given o us = flat_map list_names (values_given o us)
+
+-- the names in each use of an option that gives groups
+abbrev pub groups_given : Opt → List Use → List (List (List ℕ))
+groups_given o us = map group_names (values_given o us)
 
 -- the names of the optional dependencies, where the option is used; empty names count
 abbrev pub optional_given : List Use → Option (List (List ℕ))
@@ -33,10 +36,6 @@ lift_of text =
     option_and_then (λ features. if nat_lt 0 (length (front_of 61 text)) && is_list features
     then Some (record { owner = front_of 61 text; group = group_names features }) else None) (rest_of 61 text)
 
--- the groups that are lifted
-abbrev pub lifts_given : List Use → List Lift
-lifts_given us = filter_map lift_of (values_given opt.AllowTogether us)
-
 -- the same names in the same order
 abbrev pub same_names : List (List ℕ) → List (List ℕ) → Bool
 same_names xs ys = pointwise bytes_eq xs ys
@@ -44,12 +43,3 @@ same_names xs ys = pointwise bytes_eq xs ys
 -- a text lifts a group whose names are those of one of these groups
 abbrev pub lifts_one_of : List (List (List ℕ)) → List ℕ → Bool
 lifts_one_of groups text = option_map_or (λ l. list_any (same_names l.group) groups) (lift_of text) false
-
--- the error of the first value that isn't PACKAGE=FEATURES
-abbrev pub lift_form : List Use → Option Fault
-lift_form us = option_map LiftForm (find (λ text. is_none (lift_of text)) (values_given opt.AllowTogether us))
-
--- the error of the first value whose names are those of none of these groups
-abbrev pub lift_group : List (List (List ℕ)) → List Use → Option Fault
-lift_group exclusive us =
-    option_map LiftGroup (find (λ t. not (lifts_one_of exclusive t)) (values_given opt.AllowTogether us))

@@ -8,14 +8,10 @@ pub mod AskedFields
 pub mod CliFaults
 pub mod CliGroups
 pub mod CliLists
-pub mod CliTargets
-pub mod CliValues
 pub mod LateView
-pub mod ListedFeatures
 pub mod ListsView
 pub mod Rules
 pub mod EarlyRules
 pub mod MissingSubcommand
 pub mod LateRules
-pub mod Verdicts
 pub mod Internal

@@ -27,19 +27,13 @@ pub data Reading : Type 0 where
   Prints : Print → Reading
   Fails : ArgumentFault → Reading
 
--- a value that is a lone quote sign
-abbrev pub is_lone_quote : List ℕ → Bool
-is_lone_quote value = bytes_eq value (codes "'") || bytes_eq value (codes "\"")
-
--- the letters n, q and r, which never take the rest of their argument as a value
-abbrev pub is_bare_letter : ℕ → Bool
-is_bare_letter letter = (letter == 110) || (letter == 113) || (letter == 114)
-
--- an option that is not in the table, with the rest of its argument
+-- an option that is not in the table, with the rest of its argument; the letters n, q and r (110,
+-- 113 and 114) never take it
 abbrev pub unknown_option : Flag → LeftArguments → Reading
 unknown_option (LongFlag name) left = Met (Unknown (LongFlag name) (attached_value left.untaken)) (after_attached left)
-unknown_option (ShortFlag letter) left =
-    if is_bare_letter letter then Met (Unknown (ShortFlag letter) None) left else Met (Unknown (ShortFlag letter) (attached_value left.untaken)) (after_attached left)
+unknown_option (ShortFlag c) left =
+    if c == 110 || c == 113 || c == 114 then Met (Unknown (ShortFlag c) None) left
+    else Met (Unknown (ShortFlag c) (attached_value left.untaken)) (after_attached left)
 
 -- an option with this value, if it has one
 abbrev pub option_with : Opt → Flag → Option (List ℕ) → LeftArguments → Reading
@@ -53,7 +47,8 @@ option_with_value o flag value left = option_with o flag value left
 -- the reading of an option with this list of names, which may not be a lone quote sign
 abbrev pub unless_quote : Flag → Option (List ℕ) → Reading → Reading
 unless_quote flag value read =
-    if option_map_or is_lone_quote value false then Fails (LoneQuote flag) else read
+    if option_map_or (λ v. bytes_eq v (codes "'") || bytes_eq v (codes "\"")) value false
+    then Fails (LoneQuote flag) else read
 
 -- a request to print a text, if no subcommand came before it; else an option like one that is not
 -- in the table

@@ -1,11 +1,10 @@
 //! The checks that rules are made of.
 
-ghost use Rattle.std.specs.Prelude.{◌≡◌};
+ghost use Rattle.std.specs.Prelude.{◌≡◌, ◌&&◌, not, length, nat_lt};
 ghost use Rattle.hack_base.specs.Names.{names_of};
 ghost use Rattle.hack_rules.specs.Uses.{views};
-ghost use Rattle.hack_rules.specs.CliFaults.{Checks};
-ghost use Rattle.hack_rules.specs.Rules.{needs as needs_rule, clash as clash_rule};
-ghost use Rattle.hack_rules.specs.Rules.{is_nonempty, is_among};
+ghost use Rattle.hack_rules.specs.CliFaults.{Checks, Needs};
+ghost use Rattle.hack_rules.specs.Rules.{clash as clash_rule, fault_if, is_among};
 
 use crate::fault::{Beside, CliFault};
 use crate::uses::{Use, given};
@@ -13,7 +12,7 @@ use hack_options::Opt;
 
 /// Refuses an option that is given without any of those that it needs.
 pub fn needs(there: bool, option: Opt, beside: Beside, others: bool) -> Result<(), CliFault>
-    ensures { Checks result (needs_rule there option beside others) }
+    ensures { Checks result (fault_if (there && not others) (Needs option beside)) }
 {
     if there && !others {
         return Err(CliFault::Needs { option, beside });
@@ -33,7 +32,7 @@ pub fn clash(option: Opt, other: Opt, uses: &[Use]) -> Result<(), CliFault>
 
 /// Whether there is a name.
 pub fn has_some(names: &[String]) -> bool
-    ensures { result ≡ is_nonempty (names_of names.now) }
+    ensures { result ≡ nat_lt 0 (length (names_of names.now)) }
 {
     !names.is_empty()
 }

@@ -1,30 +1,32 @@
 //! The rules that are checked before the one on a missing subcommand. They are checked in order,
 //! and the first that is broken gives the error.
 
-ghost use Rattle.std.specs.Prelude.{◌≡◌, ◌||◌, [], IfOk, option_and_then, option_map};
-ghost use Rattle.std.specs.List.{find};
-ghost use Rattle.std.specs.Option.{unwrap_or};
+ghost use Rattle.std.specs.Prelude.{◌≡◌, ◌&&◌, ◌||◌, List, [], ◌∷◌, not, map, IfOk};
+ghost use Rattle.std.specs.Prelude.{option_and_then, option_map};
+ghost use Rattle.std.specs.List.{find, flat_map, list_any};
+ghost use Rattle.std.specs.Option.{is_none, option_map_or, unwrap_or};
 ghost use Rattle.hack_features.specs.Feature.{groups_of};
+ghost use Rattle.hack_base.specs.Lists.{is_list};
 ghost use Rattle.hack_base.specs.Names.{names_of, optional_text_ref};
-ghost use Rattle.hack_rules.specs.PassedWords.{leading_of};
-ghost use Rattle.hack_rules.specs.Uses.{views, is_given, subcommand_of};
-ghost use Rattle.hack_rules.specs.Values.{value_given};
-ghost use Rattle.hack_rules.specs.AskedFields.{coloring_asked, number_asked};
-ghost use Rattle.hack_rules.specs.CliFaults.{Checks, ClashWord, Number};
-ghost use Rattle.hack_rules.specs.CliValues.{unless_read};
 ghost use Rattle.hack_base.specs.Numbers.{number_of};
-ghost use Rattle.hack_rules.specs.ListsView.{listed_view};
-ghost use Rattle.hack_rules.specs.Rules.{needs as needs_rule, first_of, value_rule, is_among};
-ghost use Rattle.hack_rules.specs.EarlyRules.{is_in_group};
-ghost use Rattle.hack_rules.specs.EarlyRules.{color_rule, unknown_rule, each_rules};
-ghost use Rattle.hack_rules.specs.EarlyRules.{single_rule, subcommand_rule};
-ghost use Rattle.hack_rules.specs.EarlyRules.{cargo_rule, without_dev_deps as dev_deps_option};
+ghost use Rattle.hack_term.specs.Lines.{coloring_of};
+ghost use Rattle.hack_rules.specs.Behavior.{is_cargo};
+ghost use Rattle.hack_rules.specs.PassedWords.{leading_of};
+ghost use Rattle.hack_rules.specs.Uses.{Use as Seen, views, is_given, subcommand_of};
+ghost use Rattle.hack_rules.specs.Values.{from_value, value_given, values_given};
+ghost use Rattle.hack_rules.specs.AskedFields.{coloring_asked};
+ghost use Rattle.hack_rules.specs.CliFaults.{Checks, Clash, ClashWord, Color, Excluded, Needs};
+ghost use Rattle.hack_rules.specs.CliFaults.{Number, Single, TermColor};
+ghost use Rattle.hack_rules.specs.CliLists.{names_given};
+ghost use Rattle.hack_rules.specs.ListsView.{AreListsOf};
+ghost use Rattle.hack_rules.specs.Rules.{clash as clash_rule, counts, fault_if, first_of};
+ghost use Rattle.hack_rules.specs.Rules.{has_beside, is_among, needs as needs_rule};
+ghost use Rattle.hack_rules.specs.EarlyRules.{is_in_group, subcommand_rule};
+ghost use Rattle.hack_rules.specs.EarlyRules.{without_dev_deps as dev_deps_option};
 ghost use Rattle.hack_rules.specs.EarlyRules.{is_target_flag as target_flag};
 ghost use Rattle.hack_rules.specs.EarlyRules.{is_target_name as target_name};
-ghost use Rattle.hack_rules.specs.EarlyRules.{include_rule, pair_rules};
-ghost use Rattle.hack_rules.specs.EarlyRules.{option_naming as naming_option, excluded_rule};
-ghost use Rattle.hack_rules.specs.EarlyRules.{early_rules};
-ghost use Rattle.hack_rules.specs.EarlyRules.{together_rules, rules_before, is_each as each};
+ghost use Rattle.hack_rules.specs.EarlyRules.{option_naming as naming_option};
+ghost use Rattle.hack_rules.specs.EarlyRules.{early_rules, together_rules};
 
 use crate::checks::{clash, has, has_some, needs};
 use crate::fault::{Beside, CliFault};
@@ -50,8 +52,11 @@ fn group_has(groups: &[Feature], name: &str) -> bool
 
 /// The colouring of the command line, else that of the environment.
 fn coloring(term_color: Option<&String>, uses: &[Use]) -> Result<Coloring, CliFault>
-    ensures rule { Checks result (color_rule (value_given Opt.Color (views uses.now))
-        (optional_text_ref term_color.entry)) }
+    ensures rule { Checks result (option_map_or
+        (λ said. fault_if (is_none (coloring_of said)) (Color said))
+        (value_given Opt.Color (views uses.now))
+        (option_and_then (λ found. fault_if (is_none (coloring_of found)) (TermColor found))
+        (optional_text_ref term_color.entry))) }
     ensures value { IfOk result (λ coloring. coloring
         ≡ coloring_asked (optional_text_ref term_color.entry)
         (views uses.now)) }
@@ -77,7 +82,9 @@ fn coloring(term_color: Option<&String>, uses: &[Use]) -> Result<Coloring, CliFa
 
 /// `--ignore-unknown-features` needs a list of features.
 fn beside_lists(lists: &Lists, uses: &[Use]) -> Result<(), CliFault>
-    ensures { Checks result (unknown_rule (listed_view lists.now) (views uses.now)) }
+    requires { AreListsOf (views uses.now) lists.now }
+    ensures { Checks result (needs_rule Opt.IgnoreUnknownFeatures Beside.FeatureLists
+        (views uses.now)) }
 {
     let there = has_some(lists.features.as_slice())
         || has_some(lists.include_features.as_slice())
@@ -87,22 +94,27 @@ fn beside_lists(lists: &Lists, uses: &[Use]) -> Result<(), CliFault>
 }
 
 fn is_each(uses: &[Use]) -> bool
-    ensures { result ≡ each (views uses.now) }
+    ensures { result ≡ has_beside Beside.EachOrPowerset (views uses.now) }
 {
     given(Opt::EachFeature, uses) || given(Opt::FeaturePowerset, uses)
 }
 
 /// Refuses the option where neither `--each-feature` nor `--feature-powerset` is given.
 fn needs_each(there: bool, option: Opt, uses: &[Use]) -> Result<(), CliFault>
-    ensures { Checks result (needs_rule there option Beside.EachOrPowerset
-        (each (views uses.now))) }
+    ensures { Checks result (fault_if
+        (there && not (has_beside Beside.EachOrPowerset (views uses.now)))
+        (Needs option Beside.EachOrPowerset)) }
 {
     needs(there, option, Beside::EachOrPowerset, is_each(uses))
 }
 
 /// Options that need `--each-feature` or `--feature-powerset`.
 fn beside_each(lists: &Lists, uses: &[Use]) -> Result<(), CliFault>
-    ensures { Checks result (first_of (each_rules (listed_view lists.now) (views uses.now))) }
+    requires { AreListsOf (views uses.now) lists.now }
+    ensures { Checks result (first_of (map
+        (λ option. needs_rule option Beside.EachOrPowerset (views uses.now))
+        (Opt.OptionalDeps ∷ Opt.ExcludeFeatures ∷ Opt.ExcludeNoDefaultFeatures
+        ∷ Opt.ExcludeAllFeatures ∷ Opt.IncludeFeatures ∷ Opt.IncludeDepsFeatures ∷ []))) }
 {
     needs_each(given(Opt::OptionalDeps, uses), Opt::OptionalDeps, uses)?;
     let excludes = has_some(lists.exclude_features.as_slice());
@@ -119,8 +131,9 @@ fn beside_each(lists: &Lists, uses: &[Use]) -> Result<(), CliFault>
 
 /// Refuses the option where `--feature-powerset` isn't given.
 fn needs_powerset(option: Opt, uses: &[Use]) -> Result<(), CliFault>
-    ensures { Checks result (needs_rule (is_given option (views uses.now)) option Beside.Powerset
-        (is_given Opt.FeaturePowerset (views uses.now))) }
+    ensures { Checks result (fault_if
+        (is_given option (views uses.now) && not (is_given Opt.FeaturePowerset (views uses.now)))
+        (Needs option Beside.Powerset)) }
 {
     let there = given(Opt::FeaturePowerset, uses);
     needs(given(option, uses), option, Beside::Powerset, there)
@@ -128,9 +141,10 @@ fn needs_powerset(option: Opt, uses: &[Use]) -> Result<(), CliFault>
 
 /// The depth, where one is given.
 fn depth(alloc: Global, uses: &[Use]) -> Result<Option<usize>, CliFault>
-    ensures rule { Checks result (value_rule Opt.Depth
-        (λ text. unless_read (Number text) (number_of 64 text)) (views uses.now)) }
-    ensures value { IfOk result (λ depth. depth ≡ number_asked Opt.Depth (views uses.now)) }
+    ensures rule { Checks result (from_value Opt.Depth
+        (λ text. fault_if (is_none (number_of 64 text)) (Number text)) (views uses.now)) }
+    ensures value { IfOk result (λ depth.
+        depth ≡ from_value Opt.Depth (number_of 64) (views uses.now)) }
 {
     match value(Opt::Depth, uses) {
         Some(text) => Ok(Some(values::depth(alloc, text.as_str())?)),
@@ -140,7 +154,9 @@ fn depth(alloc: Global, uses: &[Use]) -> Result<Option<usize>, CliFault>
 
 /// Refuses a use of the option that has a single name.
 fn lists_two(option: Opt, uses: &[Use]) -> Result<(), CliFault>
-    ensures { Checks result (single_rule option (views uses.now)) }
+    ensures { Checks result (fault_if
+        (list_any (λ text. not (is_list text)) (values_given option (views uses.now)))
+        (Single option)) }
 {
     for one in uses {
         if let Some(value) = one.value_of(option)
@@ -167,7 +183,8 @@ fn without_dev_deps(uses: &[Use]) -> Option<Opt>
 
 /// Subcommands that exclude some options, and `install`, which is refused.
 fn beside_subcommand(uses: &[Use]) -> Result<(), CliFault>
-    ensures { Checks result (subcommand_rule (subcommand_of (views uses.now)) (views uses.now)) }
+    ensures { Checks result (option_and_then (subcommand_rule (views uses.now))
+        (subcommand_of (views uses.now))) }
 {
     let Some(word) = subcommand(uses) else {
         return Ok(());
@@ -187,7 +204,8 @@ fn beside_subcommand(uses: &[Use]) -> Result<(), CliFault>
 
 /// Refuses the option where Cargo handles workspaces.
 fn beside_cargo(behavior: WorkspaceBehavior, option: Opt, uses: &[Use]) -> Result<(), CliFault>
-    ensures { Checks result (cargo_rule behavior option (views uses.now)) }
+    ensures { Checks result (fault_if (is_cargo behavior && is_given option (views uses.now))
+        (Clash Opt.WorkspaceBehavior option)) }
 {
     if behavior == WorkspaceBehavior::Cargo && given(option, uses) {
         return Err(CliFault::Clash {
@@ -249,7 +267,10 @@ fn beside_targets(leading: &[String], uses: &[Use]) -> Result<(), CliFault>
 
 /// Refuses the option beside a list of features to include.
 fn beside_includes(lists: &Lists, option: Opt, uses: &[Use]) -> Result<(), CliFault>
-    ensures { Checks result (include_rule (listed_view lists.now) option (views uses.now)) }
+    requires { AreListsOf (views uses.now) lists.now }
+    ensures { Checks result (fault_if
+        (counts Opt.IncludeFeatures (views uses.now) && is_given option (views uses.now))
+        (Clash Opt.IncludeFeatures option)) }
 {
     if has_some(lists.include_features.as_slice()) && given(option, uses) {
         return Err(CliFault::Clash {
@@ -262,7 +283,13 @@ fn beside_includes(lists: &Lists, option: Opt, uses: &[Use]) -> Result<(), CliFa
 
 /// Pairs of options that exclude each other.
 fn check_pairs(uses: &[Use]) -> Result<(), CliFault>
-    ensures { Checks result (first_of (pair_rules (views uses.now))) }
+    ensures { Checks result (first_of (
+        clash_rule Opt.NoDevDeps Opt.RemoveDevDeps (views uses.now)
+        ∷ clash_rule Opt.EachFeature Opt.FeaturePowerset (views uses.now)
+        ∷ flat_map (λ option.
+        clash_rule option Opt.EachFeature (views uses.now)
+        ∷ clash_rule option Opt.FeaturePowerset (views uses.now) ∷ [])
+        (Opt.AllFeatures ∷ Opt.NoDefaultFeatures ∷ []))) }
 {
     clash(Opt::NoDevDeps, Opt::RemoveDevDeps, uses)?;
     clash(Opt::EachFeature, Opt::FeaturePowerset, uses)?;
@@ -285,7 +312,7 @@ fn optional_has(names: Option<&Vec<String>>, name: &str) -> bool
 
 /// The first option that names the feature.
 fn naming(lists: &Lists, name: &str) -> Option<Opt>
-    ensures { result ≡ naming_option (listed_view lists.now) name.now }
+    ensures { (us : List Seen) → AreListsOf us lists.now → result ≡ naming_option us name.now }
 {
     if has(lists.features.as_slice(), name) {
         Some(Opt::Features)
@@ -304,8 +331,9 @@ fn naming(lists: &Lists, name: &str) -> Option<Opt>
 
 /// Refuses an option that names a feature which is excluded.
 fn check_excluded(lists: &Lists) -> Result<(), CliFault>
-    ensures { Checks result (excluded_rule (listed_view lists.now)
-        (listed_view lists.now).excludes) }
+    ensures { (us : List Seen) → AreListsOf us lists.now → Checks result (first_of
+        (map (λ name. option_map (Excluded name) (naming_option us name))
+        (names_given Opt.ExcludeFeatures us))) }
 {
     for name in lists.exclude_features.as_slice() {
         if let Some(option) = naming(lists, name.as_str()) {
@@ -326,9 +354,9 @@ fn check_together(
     leading: &[String],
     uses: &[Use],
 ) -> Result<(), CliFault>
-    requires { names_of leading.now ≡ leading_of behavior (views uses.now) }
-    ensures { Checks result (first_of
-        (together_rules behavior (listed_view lists.now) (views uses.now))) }
+    requires leading { names_of leading.now ≡ leading_of behavior (views uses.now) }
+    requires lists { AreListsOf (views uses.now) lists.now }
+    ensures { Checks result (first_of (together_rules behavior (views uses.now))) }
 {
     lists_two(Opt::GroupFeatures, uses)?;
     lists_two(Opt::MutuallyExclusiveFeatures, uses)?;
@@ -343,11 +371,11 @@ fn check_together(
     check_excluded(lists)
 }
 
-/// What these rules read while they check.
+/// What the values of options say that these rules read.
 #[derive(Clone, Copy)]
-pub struct Early {
-    pub coloring: Coloring,
-    pub depth: Option<usize>,
+struct Said {
+    coloring: Coloring,
+    depth: Option<usize>,
 }
 
 /// Rules on colour, on options that need lists or runs by features, and on the depth.
@@ -356,14 +384,15 @@ fn check_lists(
     term_color: Option<&String>,
     lists: &Lists,
     uses: &[Use],
-) -> Result<Early, CliFault>
+) -> Result<Said, CliFault>
+    requires { AreListsOf (views uses.now) lists.now }
     ensures rules { Checks result (first_of
-        (early_rules (optional_text_ref term_color.entry)
-        (listed_view lists.now) (views uses.now))) }
-    ensures coloring { IfOk result (λ early. early.coloring
+        (early_rules (optional_text_ref term_color.entry) (views uses.now))) }
+    ensures coloring { IfOk result (λ said. said.coloring
         ≡ coloring_asked (optional_text_ref term_color.entry)
         (views uses.now)) }
-    ensures depth { IfOk result (λ early. early.depth ≡ number_asked Opt.Depth (views uses.now)) }
+    ensures depth { IfOk result (λ said.
+        said.depth ≡ from_value Opt.Depth (number_of 64) (views uses.now)) }
 {
     let coloring = coloring(term_color, uses)?;
     beside_lists(lists, uses)?;
@@ -373,7 +402,15 @@ fn check_lists(
     needs_powerset(Opt::MutuallyExclusiveFeatures, uses)?;
     needs_powerset(Opt::AtLeastOneOf, uses)?;
     let depth = depth(alloc, uses)?;
-    Ok(Early { coloring, depth })
+    Ok(Said { coloring, depth })
+}
+
+/// What these rules read while they check.
+#[derive(Drop)]
+pub struct Early {
+    pub coloring: Coloring,
+    pub depth: Option<usize>,
+    pub lists: Lists,
 }
 
 /// Checks the rules before the one on a missing subcommand, and returns what they read.
@@ -381,20 +418,26 @@ pub fn check(
     alloc: Global,
     behavior: WorkspaceBehavior,
     term_color: Option<&String>,
-    lists: &Lists,
     leading: &[String],
     uses: &[Use],
 ) -> Result<Early, CliFault>
     requires { names_of leading.now ≡ leading_of behavior (views uses.now) }
     ensures rules { Checks result (first_of
-        (rules_before behavior (optional_text_ref term_color.entry)
-        (listed_view lists.now) (views uses.now))) }
+        (first_of (early_rules (optional_text_ref term_color.entry) (views uses.now))
+        ∷ first_of (together_rules behavior (views uses.now)) ∷ [])) }
     ensures coloring { IfOk result (λ early. early.coloring
         ≡ coloring_asked (optional_text_ref term_color.entry)
         (views uses.now)) }
-    ensures depth { IfOk result (λ early. early.depth ≡ number_asked Opt.Depth (views uses.now)) }
+    ensures depth { IfOk result (λ early.
+        early.depth ≡ from_value Opt.Depth (number_of 64) (views uses.now)) }
+    ensures lists { IfOk result (λ early. AreListsOf (views uses.now) early.lists) }
 {
-    let early = check_lists(alloc, term_color, lists, uses)?;
-    check_together(behavior, lists, leading, uses)?;
-    Ok(early)
+    let lists = Lists::of(alloc, uses)?;
+    let Said { coloring, depth } = check_lists(alloc, term_color, &lists, uses)?;
+    check_together(behavior, &lists, leading, uses)?;
+    Ok(Early {
+        coloring,
+        depth,
+        lists,
+    })
 }

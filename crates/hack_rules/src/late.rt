@@ -1,30 +1,29 @@
 //! The rules that are checked after the one on a missing subcommand: on ranges of versions, log
 //! groups, pieces of a plan, lifted groups and the strength of a sample.
 
-ghost use Rattle.std.specs.Prelude.{◌≡◌, IfOk, IfSome, option_map, option_and_then};
+ghost use Rattle.std.specs.Prelude.{◌≡◌, ◌&&◌, [], ◌∷◌, false, IfOk, IfSome};
+ghost use Rattle.std.specs.Prelude.{option_map, option_and_then, nat_lt};
 ghost use Rattle.std.specs.List.{list_any};
-ghost use Rattle.std.specs.Result.{result_err};
+ghost use Rattle.std.specs.Option.{is_none, option_map_or, unwrap_or};
+ghost use Rattle.std.specs.Result.{result_err, result_ok};
 ghost use Rattle.hack_base.specs.Numbers.{number_of};
 ghost use Rattle.hack_term.specs.Groups.{log_group_of};
+ghost use Rattle.hack_term.specs.Partitions.{piece_of, kind_of};
 ghost use Rattle.hack_versions.specs.Readings.{range_of};
-ghost use Rattle.hack_rules.specs.Uses.{view, views};
-ghost use Rattle.hack_rules.specs.Values.{value_given};
-ghost use Rattle.hack_rules.specs.AskedFields.{read_range, range_asked, is_old_asked, step_asked};
+ghost use Rattle.hack_features.specs.Feature.{groups_of};
+ghost use Rattle.hack_rules.specs.Uses.{view, views, is_given};
+ghost use Rattle.hack_rules.specs.Values.{from_value};
+ghost use Rattle.hack_rules.specs.AskedFields.{range_asked, is_old_asked};
 ghost use Rattle.hack_rules.specs.AskedFields.{is_message_format as message_format};
 ghost use Rattle.hack_rules.specs.AskedFields.{log_group_asked};
-ghost use Rattle.hack_rules.specs.AskedFields.{piece_asked, kind_asked, number_asked};
-ghost use Rattle.hack_rules.specs.CliFaults.{Checks, LogGroup as WrongLogGroup, Range};
-ghost use Rattle.hack_rules.specs.CliValues.{unless_counted, unless_read};
+ghost use Rattle.hack_rules.specs.CliFaults.{Checks, LogGroup as WrongLogGroup, OldRustup, Range};
+ghost use Rattle.hack_rules.specs.CliFaults.{Partition as WrongPiece, PartitionKind as WrongKind};
 ghost use Rattle.hack_rules.specs.LateView.{IsLate};
-ghost use Rattle.hack_rules.specs.ListsView.{listed_view};
-ghost use Rattle.hack_rules.specs.Rules.{first_of, value_rule};
-ghost use Rattle.hack_rules.specs.LateRules.{rustup_rule, is_ranged as ranged, range_rules};
-ghost use Rattle.hack_rules.specs.LateRules.{piece_rules};
-ghost use Rattle.hack_rules.specs.LateRules.{rules_after};
+ghost use Rattle.hack_rules.specs.Rules.{fault_if, first_of, has_beside, needs as needs_rule};
+ghost use Rattle.hack_rules.specs.LateRules.{unless_counted, range_rules, rules_after};
 
 use crate::checks::{clash, needs};
 use crate::fault::{Beside, CliFault};
-use crate::listed::Lists;
 use crate::uses::{OwnedFlag, Use, given, value};
 use crate::{named, values};
 use hack_features::Feature;
@@ -39,7 +38,8 @@ const LEAST_RUSTUP: u32 = 23;
 
 /// Refuses the option where rustup is known to be too old for it.
 fn new_rustup(option: Opt, rustup: Option<u32>, uses: &[Use]) -> Result<(), CliFault>
-    ensures { Checks result (rustup_rule option rustup (views uses.now)) }
+    ensures { Checks result (option_and_then (λ minor.
+        fault_if (is_given option (views uses.now) && nat_lt minor 23) (OldRustup option)) rustup) }
 {
     if let Some(minor) = rustup
         && given(option, uses)
@@ -52,7 +52,7 @@ fn new_rustup(option: Opt, rustup: Option<u32>, uses: &[Use]) -> Result<(), CliF
 
 /// Whether a range of versions is given.
 pub fn is_ranged(uses: &[Use]) -> bool
-    ensures { result ≡ ranged (views uses.now) }
+    ensures { result ≡ has_beside Beside.VersionRange (views uses.now) }
 {
     given(Opt::VersionRange, uses) || given(Opt::RustVersion, uses)
 }
@@ -68,11 +68,12 @@ pub struct Versions {
 
 /// The given range, and whether it has the old form.
 fn said_range(alloc: Global, uses: &[Use]) -> Result<Option<(VersionRange, bool)>, CliFault>
-    ensures rule { Checks result (value_rule Opt.VersionRange
+    ensures rule { Checks result (from_value Opt.VersionRange
         (λ text. option_map Range (result_err (range_of text))) (views uses.now)) }
-    ensures value { IfOk result (λ said.
-        option_map (λ read. record { range = read.0; old = read.1 }) said
-        ≡ option_and_then read_range (value_given Opt.VersionRange (views uses.now))) }
+    ensures range { IfOk result (λ said. option_map (λ read. read.0) said
+        ≡ from_value Opt.VersionRange (λ text. result_ok (range_of text)) (views uses.now)) }
+    ensures old { IfOk result (λ said.
+        option_map_or (λ read. read.1) said false ≡ is_old_asked (views uses.now)) }
 {
     match value(Opt::VersionRange, uses) {
         Some(text) => Ok(Some(VersionRange::parse(alloc, text.as_str())?)),
@@ -82,9 +83,10 @@ fn said_range(alloc: Global, uses: &[Use]) -> Result<Option<(VersionRange, bool)
 
 /// The step between versions.
 fn step(alloc: Global, uses: &[Use]) -> Result<u16, CliFault>
-    ensures rule { Checks result (value_rule Opt.VersionStep
-        (λ text. unless_counted Opt.VersionStep text (number_of 16 text)) (views uses.now)) }
-    ensures value { IfOk result (λ step. step ≡ step_asked (views uses.now)) }
+    ensures rule { Checks result (from_value Opt.VersionStep
+        (unless_counted Opt.VersionStep 16) (views uses.now)) }
+    ensures value { IfOk result (λ step.
+        step ≡ unwrap_or (from_value Opt.VersionStep (number_of 16) (views uses.now)) 1) }
 {
     match value(Opt::VersionStep, uses) {
         Some(text) => values::step(alloc, text.as_str()),
@@ -97,7 +99,8 @@ fn check_versions(alloc: Global, rustup: Option<u32>, uses: &[Use]) -> Result<Ve
     ensures rules { Checks result (first_of (range_rules rustup (views uses.now))) }
     ensures range { IfOk result (λ versions. versions.range ≡ range_asked (views uses.now)) }
     ensures old { IfOk result (λ versions. versions.is_old ≡ is_old_asked (views uses.now)) }
-    ensures step { IfOk result (λ versions. versions.step ≡ step_asked (views uses.now)) }
+    ensures step { IfOk result (λ versions. versions.step
+        ≡ unwrap_or (from_value Opt.VersionStep (number_of 16) (views uses.now)) 1) }
 {
     clash(Opt::VersionRange, Opt::RustVersion, uses)?;
     new_rustup(Opt::VersionRange, rustup, uses)?;
@@ -151,8 +154,8 @@ fn formats_messages(uses: &[Use]) -> bool
 
 /// How the lines of a run are grouped.
 fn log_group(alloc: Global, github_actions: bool, uses: &[Use]) -> Result<LogGroup, CliFault>
-    ensures rule { Checks result (value_rule Opt.LogGroup
-        (λ text. unless_read (WrongLogGroup text) (log_group_of text)) (views uses.now)) }
+    ensures rule { Checks result (from_value Opt.LogGroup
+        (λ text. fault_if (is_none (log_group_of text)) (WrongLogGroup text)) (views uses.now)) }
     ensures value { IfOk result (λ group. group ≡ log_group_asked github_actions (views uses.now)) }
 {
     let group = match value(Opt::LogGroup, uses) {
@@ -167,12 +170,18 @@ fn log_group(alloc: Global, github_actions: bool, uses: &[Use]) -> Result<LogGro
 
 /// The piece of the plan, and how places are assigned to pieces.
 fn partition(alloc: Global, uses: &[Use]) -> Result<Option<Partition>, CliFault>
-    ensures rules { Checks result (first_of (piece_rules (views uses.now))) }
+    ensures rules { Checks result (first_of (from_value Opt.Partition
+        (λ text. fault_if (is_none (piece_of text)) (WrongPiece text)) (views uses.now)
+        ∷ needs_rule Opt.PartitionKind Beside.Partition (views uses.now)
+        ∷ from_value Opt.PartitionKind
+        (λ text. fault_if (is_none (kind_of text)) (WrongKind text)) (views uses.now)
+        ∷ [])) }
     ensures piece { IfOk result (λ partition.
         option_map (λ p. record { piece = p.piece; count = p.count }) partition
-        ≡ piece_asked (views uses.now)) }
-    ensures kind { IfOk result (λ partition.
-        IfSome partition (λ p. p.kind ≡ kind_asked (views uses.now))) }
+        ≡ from_value Opt.Partition piece_of (views uses.now)) }
+    ensures kind { IfOk result (λ partition. IfSome partition (λ p.
+        p.kind ≡ unwrap_or (from_value Opt.PartitionKind kind_of (views uses.now))
+        PartitionKind.Block)) }
 {
     let piece = match value(Opt::Partition, uses) {
         Some(text) => Some(Partition::parse(alloc, text.as_str())?),
@@ -193,9 +202,10 @@ fn partition(alloc: Global, uses: &[Use]) -> Result<Option<Partition>, CliFault>
 
 /// The strength of a sample.
 fn strength(alloc: Global, uses: &[Use]) -> Result<Option<usize>, CliFault>
-    ensures rule { Checks result (value_rule Opt.Strength
-        (λ text. unless_counted Opt.Strength text (number_of 64 text)) (views uses.now)) }
-    ensures value { IfOk result (λ strength. strength ≡ number_asked Opt.Strength (views uses.now)) }
+    ensures rule { Checks result (from_value Opt.Strength
+        (unless_counted Opt.Strength 64) (views uses.now)) }
+    ensures value { IfOk result (λ strength.
+        strength ≡ from_value Opt.Strength (number_of 64) (views uses.now)) }
 {
     match value(Opt::Strength, uses) {
         Some(text) => Ok(Some(values::strength(alloc, text.as_str())?)),
@@ -215,16 +225,16 @@ pub struct Late {
 }
 
 /// Checks the rules after the one on a missing subcommand, and returns what they read. `rustup` is
-/// its minor version, where known.
+/// its minor version, where known, and `exclusive` has the groups of exclusive features.
 pub fn check(
     alloc: Global,
     rustup: Option<u32>,
     github_actions: bool,
-    lists: &Lists,
+    exclusive: &[Feature],
     uses: &[Use],
 ) -> Result<Late, CliFault>
     ensures rules { Checks result (first_of
-        (rules_after rustup (listed_view lists.now) (views uses.now))) }
+        (rules_after rustup (groups_of exclusive.now) (views uses.now))) }
     ensures late { IfOk result (IsLate github_actions (views uses.now)) }
 {
     let versions = check_versions(alloc, rustup, uses)?;
@@ -238,7 +248,7 @@ pub fn check(
         Beside::MutuallyExclusive,
         there,
     )?;
-    let lifts = named::lifts(alloc, lists.mutually_exclusive_features.as_slice(), uses)?;
+    let lifts = named::lifts(alloc, exclusive, uses)?;
     let option = Opt::Strength;
     let there = given(Opt::FeaturePowerset, uses);
     needs(given(option, uses), option, Beside::Powerset, there)?;

@@ -1,8 +1,7 @@
 //! The lists of features that a call names.
 
-ghost use Rattle.std.specs.Prelude.{◌≡◌, IfOk};
+ghost use Rattle.std.specs.Prelude.{IfOk};
 ghost use Rattle.hack_rules.specs.Uses.{views};
-ghost use Rattle.hack_rules.specs.Values.{values_given};
 
 use crate::named;
 use crate::uses::Use;
@@ -23,19 +22,11 @@ pub struct Lists {
 }
 
 impl Lists {
-    ghost use Rattle.hack_rules.specs.CliGroups.{AreGroupsOf};
-    ghost use Rattle.hack_rules.specs.ListedFeatures.{listed_by};
-    ghost use Rattle.hack_rules.specs.ListsView.{listed_view};
+    ghost use Rattle.hack_rules.specs.ListsView.{AreListsOf};
 
     /// The lists that uses of options give.
     pub fn of(alloc: Global, uses: &[Use]) -> Result<Lists, AllocError>
-        ensures listed { IfOk result (λ lists. listed_view lists ≡ listed_by (views uses.now)) }
-        ensures groups { IfOk result (λ lists.
-            AreGroupsOf (values_given Opt.GroupFeatures (views uses.now))
-            lists.group_features.items) }
-        ensures exclusive { IfOk result (λ lists.
-            AreGroupsOf (values_given Opt.MutuallyExclusiveFeatures (views uses.now))
-            lists.mutually_exclusive_features.items) }
+        ensures { IfOk result (AreListsOf (views uses.now)) }
     {
         let features = named::names(alloc, Opt::Features, uses)?;
         let include_features = named::names(alloc, Opt::IncludeFeatures, uses)?;

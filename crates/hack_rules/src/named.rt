@@ -1,16 +1,19 @@
 //! The lists that the uses of options give.
 
-ghost use Rattle.std.specs.Prelude.{◌≡◌, [], not, IfOk, Some, map, string_bytes};
+ghost use Rattle.std.specs.Prelude.{◌≡◌, ◌↔◌, ℕ, List, [], not, Contains, IfOk, Some, map};
+ghost use Rattle.std.specs.Prelude.{string_bytes};
+ghost use Rattle.std.specs.Cmp.Lexicographic.{slice_cmp};
+ghost use Rattle.std.specs.List.Sorted.{IsStrictlySortedBy};
+ghost use Rattle.std.specs.Ordering.{nat_cmp};
 ghost use Rattle.std.specs.List.{AllZip, filter_map, find, list_any};
-ghost use Rattle.std.specs.Option.{is_none, option_map, option_map_or, option_or};
+ghost use Rattle.std.specs.Option.{is_none, option_map, option_map_or};
 ghost use Rattle.hack_base.specs.Names.{names_of, optional_text_ref};
 ghost use Rattle.hack_rules.specs.Uses.{views};
 ghost use Rattle.hack_rules.specs.Values.{values_given};
 ghost use Rattle.hack_rules.specs.CliFaults.{Checks, LiftForm, LiftGroup};
 ghost use Rattle.hack_rules.specs.CliLists.{names_given, optional_given, lift_of};
-ghost use Rattle.hack_rules.specs.CliLists.{lifts_given, lifts_one_of, same_names};
-ghost use Rattle.hack_rules.specs.CliLists.{lift_form, lift_group};
-ghost use Rattle.hack_rules.specs.CliTargets.{AreRising, HaveSameTexts};
+ghost use Rattle.hack_rules.specs.CliLists.{lifts_one_of, same_names};
+ghost use Rattle.hack_rules.specs.LateRules.{lift_rule};
 ghost use Rattle.hack_rules.specs.Internal.{put_all};
 ghost use Rattle.hack_features.specs.Feature.{IsGroup, IsNormal, group_of};
 ghost use Rattle.hack_base.specs.Lists.{group_names, without_quotes};
@@ -109,7 +112,8 @@ fn set_of(alloc: Global, texts: Vec<String>) -> Result<BTreeSet<String>, AllocEr
 /// The texts of a set, in order.
 fn in_order(alloc: Global, set: BTreeSet<String>) -> Result<Vec<String>, AllocError>
     ensures keys { IfOk result (λ texts. texts.items ≡ set.keys) }
-    ensures rising { IfOk result (λ texts. AreRising (map string_bytes texts.items)) }
+    ensures rising { IfOk result (λ texts.
+        IsStrictlySortedBy (slice_cmp nat_cmp) (map string_bytes texts.items)) }
 {
     let mut texts = Vec::new(alloc);
     for text in set {
@@ -120,9 +124,11 @@ fn in_order(alloc: Global, set: BTreeSet<String>) -> Result<Vec<String>, AllocEr
 
 /// The values of `--target`, sorted by their bytes, each once.
 pub fn targets(alloc: Global, uses: &[Use]) -> Result<Vec<String>, AllocError>
-    ensures rising { IfOk result (λ targets. AreRising (map string_bytes targets.items)) }
-    ensures same { IfOk result (λ targets. HaveSameTexts (map string_bytes targets.items)
-        (values_given Opt.Target (views uses.now))) }
+    ensures rising { IfOk result (λ targets.
+        IsStrictlySortedBy (slice_cmp nat_cmp) (map string_bytes targets.items)) }
+    ensures same { IfOk result (λ targets. (text : List ℕ)
+        → Contains (map string_bytes targets.items) text
+        ↔ Contains (values_given Opt.Target (views uses.now)) text) }
 {
     let texts = values(alloc, Opt::Target, uses)?;
     let set = set_of(alloc, texts)?;
@@ -211,9 +217,10 @@ pub fn lifts(
     exclusive: &[Feature],
     uses: &[Use],
 ) -> Result<Vec<(String, Feature)>, CliFault>
-    ensures lifts { IfOk result (λ lifts. AreLifts (lifts_given (views uses.now)) lifts.items) }
-    ensures checks { Checks result (option_or (lift_form (views uses.now))
-        (lift_group (map group_of exclusive.now) (views uses.now))) }
+    ensures lifts { IfOk result (λ lifts. AreLifts
+        (filter_map lift_of (values_given Opt.AllowTogether (views uses.now))) lifts.items) }
+    ensures checks { Checks result (lift_rule (map group_of exclusive.now)
+        (values_given Opt.AllowTogether (views uses.now))) }
 {
     let texts = values(alloc, Opt::AllowTogether, uses)?;
     let lifts = lifts_of(alloc, &texts)?;

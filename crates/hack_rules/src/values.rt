@@ -1,8 +1,10 @@
 //! Values of options that are numbers.
 
 ghost use Rattle.std.specs.Prelude.{◌≡◌, IfOk, Some};
+ghost use Rattle.std.specs.Option.{is_none};
 ghost use Rattle.hack_rules.specs.CliFaults.{Checks, Number};
-ghost use Rattle.hack_rules.specs.CliValues.{unless_counted, unless_read};
+ghost use Rattle.hack_rules.specs.LateRules.{unless_counted};
+ghost use Rattle.hack_rules.specs.Rules.{fault_if};
 ghost use Rattle.hack_base.specs.Numbers.{number_of};
 
 use crate::fault::CliFault;
@@ -24,7 +26,8 @@ fn short(text: &str) -> Option<u16>
 /// A depth.
 pub fn depth(alloc: Global, text: &str) -> Result<usize, CliFault>
     ensures value { IfOk result (λ n. number_of 64 text.now ≡ Some n) }
-    ensures checks { Checks result (unless_read (Number text.now) (number_of 64 text.now)) }
+    ensures checks { Checks result
+        (fault_if (is_none (number_of 64 text.now)) (Number text.now)) }
 {
     match whole(text) {
         Some(depth) => Ok(depth),
@@ -37,8 +40,7 @@ pub fn depth(alloc: Global, text: &str) -> Result<usize, CliFault>
 /// A step between minor versions.
 pub fn step(alloc: Global, text: &str) -> Result<u16, CliFault>
     ensures value { IfOk result (λ n. number_of 16 text.now ≡ Some n) }
-    ensures checks { Checks result
-        (unless_counted Opt.VersionStep text.now (number_of 16 text.now)) }
+    ensures checks { Checks result (unless_counted Opt.VersionStep 16 text.now) }
 {
     match short(text) {
         Some(0) => Err(CliFault::Zero {
@@ -54,7 +56,7 @@ pub fn step(alloc: Global, text: &str) -> Result<u16, CliFault>
 /// The strength of a sample.
 pub fn strength(alloc: Global, text: &str) -> Result<usize, CliFault>
     ensures value { IfOk result (λ n. number_of 64 text.now ≡ Some n) }
-    ensures checks { Checks result (unless_counted Opt.Strength text.now (number_of 64 text.now)) }
+    ensures checks { Checks result (unless_counted Opt.Strength 64 text.now) }
 {
     match whole(text) {
         Some(strength) if strength > 0 => Ok(strength),

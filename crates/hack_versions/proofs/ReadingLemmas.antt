@@ -10,11 +10,11 @@ use Rattle.hack_versions.specs.declared.version.VersionRange.{VersionRange}
 use Rattle.hack_versions.specs.declared.version.VersionFault.{VersionFault}
 use Rattle.hack_versions.specs.declared.version.VersionFault.TheVariants as fault
 use Rattle.hack_base.specs.Numbers.{IsNumber}
-use Rattle.hack_versions.specs.VersionTexts.{IsBadNumber, IsVersionText, IsVersionFault, IsCut, IsUncut, IsBare, IsBoundText, IsBoundFault, IsEndText, IsOpen, IsEndTextFault, IsRangeText, IsRangeTextFault}
+use Rattle.hack_versions.specs.VersionTexts.{IsBadNumber, HasVersionNumbers, LacksVersionNumber, IsVersionFault, IsCut, IsUncut, IsBare, IsBoundText, IsBoundFault, IsEndText, IsOpen, IsEndTextFault, IsRangeText, IsRangeTextFault}
 use Rattle.hack_base.specs.Cuts.{front_of, rest_of}
-use Rattle.hack_versions.specs.Readings.{BadRange, BadNumber, OpenInclusive, IsRefusedBy}
-use Rattle.hack_versions.specs.Readings.{Sides, ReadRange, then_read, read_as, version_part_of, with_minor, version_of, bound_of, behind_equals, end_of, is_old, at_dots, range_at, range_of}
-use Rattle.std.specs.Option.{ok_or, option_transpose}
+use Rattle.hack_versions.specs.Readings.{BadRange, BadNumber, OpenInclusive, IsRefusedBy, bad_range_of}
+use Rattle.hack_versions.specs.Readings.{Sides, then_read, read_as, version_part_of, with_minor, version_of, bound_of, behind_equals, end_of, is_old, at_dots, range_at, range_of}
+use Rattle.std.specs.Option.{ok_or, option_map_or, option_transpose}
 use Rattle.hack_base.proofs.NumberLemmas.{number-read, number-unread}
 
 Refused-then : {A B : Type 0} (f : A → Result B BadRange) (r : Result A BadRange) (e : VersionFault) → IsRefusedBy r e → IsRefusedBy (then_read f r) e
@@ -68,7 +68,7 @@ minor-read : (o : Option (List ℕ)) (v : Version) → IsSomeAnd o (λ rest. IsN
 minor-read None v h = absurd h
 minor-read (Some text) v h = ap (then_read (λ minor. with_patch v.major minor (rest_of 46 text))) (part-read (front_of 46 text) v.minor h.0) ∙ patch-read (rest_of 46 text) v.major v.minor v.patch h.1
 
-pub version-read : (text : List ℕ) (v : Version) → IsVersionText text v → version_of text ≡ Ok v
+pub version-read : (text : List ℕ) (v : Version) → HasVersionNumbers text v → version_of text ≡ Ok v
 version-read text v h = ap (then_read (λ major. with_minor major (rest_of 46 text))) (part-read (front_of 46 text) v.major h.0) ∙ minor-read (rest_of 46 text) v h.1
 
 one-bad : (r : Result ℕ BadRange) (e : VersionFault) → IsRefusedBy r e → IsRefusedBy (one_more r) e
@@ -86,9 +86,21 @@ minor-bad None major e h = subst (λ (e : VersionFault). IsRefusedBy (with_minor
 minor-bad (Some text) major e (inl h) = Refused-then (λ minor. with_patch major minor (rest_of 46 text)) (version_part_of (front_of 46 text)) e (part-bad (front_of 46 text) e h)
 minor-bad (Some text) major e (inr h) = Refused-next (λ minor. with_patch major minor (rest_of 46 text)) (version_part_of (front_of 46 text)) h.0.0 e (part-read (front_of 46 text) h.0.0 h.0.1) (patch-bad (rest_of 46 text) major h.0.0 e h.1)
 
-version-bad : (text : List ℕ) (e : VersionFault) → IsVersionFault text e → IsRefusedBy (version_of text) e
+version-bad : (text : List ℕ) (e : VersionFault) → LacksVersionNumber text e → IsRefusedBy (version_of text) e
 version-bad text e (inl h) = Refused-then (λ major. with_minor major (rest_of 46 text)) (version_part_of (front_of 46 text)) e (part-bad (front_of 46 text) e h)
 version-bad text e (inr h) = Refused-next (λ major. with_minor major (rest_of 46 text)) (version_part_of (front_of 46 text)) h.0.0 e (part-read (front_of 46 text) h.0.0 h.0.1) (minor-bad (rest_of 46 text) h.0.0 e h.1)
+
+-- an error that isn't want of memory refuses the text, and the other way round
+refused-some : (text : List ℕ) (bad : Option BadRange) (Q : Type 0) → IsSomeAnd bad (λ b. version_of text ≡ Err b) → MatchOption bad Q (λ b. version_of text ≡ Err b)
+refused-some text (Some b) Q h = h
+refused-some text None Q h = absurd h
+
+some-refused : (text : List ℕ) (bad : Option BadRange) (Q : Type 0) → MatchOption bad Q (λ b. version_of text ≡ Err b) → Q ⊎ IsSomeAnd bad (λ b. version_of text ≡ Err b)
+some-refused text (Some b) Q h = inr h
+some-refused text None Q h = inl h
+
+fault-refused : (text : List ℕ) (e : VersionFault) → IsVersionFault text e → IsRefusedBy (version_of text) e
+fault-refused text e h = refused-some text (bad_range_of e) (e ≡ fault.Memory) h
 
 -- bounds
 
@@ -99,11 +111,11 @@ bound-read : (empty : MaybeVersion) (text : List ℕ) (bound : MaybeVersion) →
 bound-read empty [] bound (inl h) = ap Ok (sym h.1)
 bound-read empty [] bound (inr h) = absurd (h.0 refl)
 bound-read empty (b ∷ bs) bound (inl h) = absurd (not-empty b bs h.0)
-bound-read empty (b ∷ bs) bound (inr h) = ap (read_as Given) (version-read (b ∷ bs) h.1 h.2) ∙ ap Ok (sym h.3)
+bound-read empty (b ∷ bs) bound (inr h) = ap (read_as Given) h.2 ∙ ap Ok (sym h.3)
 
 bound-bad : (empty : MaybeVersion) (text : List ℕ) (e : VersionFault) → IsBoundFault text e → IsRefusedBy (bound_of empty text) e
 bound-bad empty [] e h = absurd (h.0 refl)
-bound-bad empty (b ∷ bs) e h = Refused-as Given (version_of (b ∷ bs)) e (version-bad (b ∷ bs) e h.1)
+bound-bad empty (b ∷ bs) e h = Refused-as Given (version_of (b ∷ bs)) e (fault-refused (b ∷ bs) e h.1)
 
 -- ends
 
@@ -185,33 +197,40 @@ cut-read (b ∷ bs) (f ∷ fs) back h =
 abbrev sides_or : List ℕ → Option Sides → Sides
 sides_or text o = unwrap_or o (record { front = text; back = [] })
 
-abbrev from_ends : MaybeVersion → Bool → MaybeVersion → ReadRange
-from_ends end old start = record { range = record { start_inclusive = start; end_inclusive = end }; old = old }
+abbrev from_ends : MaybeVersion → MaybeVersion → VersionRange
+from_ends end start = record { start_inclusive = start; end_inclusive = end }
 
-abbrev with_start : Sides → MaybeVersion → Result ReadRange BadRange
-with_start sides end = read_as (from_ends end (is_old sides.back)) (bound_of Msrv sides.front)
+abbrev with_start : Sides → MaybeVersion → Result VersionRange BadRange
+with_start sides end = read_as (from_ends end) (bound_of Msrv sides.front)
 
 abbrev sides : List ℕ → List ℕ → Sides
 sides front back = record { front = front; back = back }
 
-at-read : (front back : List ℕ) (range : VersionRange) (old : Bool) → end_of front back ≡ Ok range.end_inclusive → old ≡ is_old back → IsBoundText Msrv front range.start_inclusive → range_at (sides front back) ≡ Ok (record { range = range; old = old })
-at-read front back range old e o h =
+at-read : (front back : List ℕ) (range : VersionRange) → end_of front back ≡ Ok range.end_inclusive → IsBoundText Msrv front range.start_inclusive → range_at (sides front back) ≡ Ok range
+at-read front back range e h =
     ap (then_read (with_start (sides front back))) e
-    ∙ ap (read_as (from_ends range.end_inclusive (is_old back))) (bound-read Msrv front range.start_inclusive h)
-    ∙ ap (λ (b : Bool). Ok (from_ends range.end_inclusive b range.start_inclusive)) (sym o)
+    ∙ ap (read_as (from_ends range.end_inclusive)) (bound-read Msrv front range.start_inclusive h)
 
-pub range-read : (text : List ℕ) (range : VersionRange) (old : Bool) → IsRangeText text range old → range_of text ≡ Ok (record { range = range; old = old })
+pub range-read : (text : List ℕ) (range : VersionRange) (old : Bool) → IsRangeText text range old → range_of text ≡ Ok range
 range-read text range old (inl h) =
     ap (λ o. range_at (sides_or text o)) (uncut-read text h.0)
-    ∙ at-read text [] range old (ap Ok (sym h.2)) h.3 h.1
+    ∙ at-read text [] range (ap Ok (sym h.2)) h.1
 range-read text range old (inr h) =
     ap (λ o. range_at (sides_or text o)) (cut-read text h.0 h.1 h.2)
-    ∙ at-read h.0 h.1 range old (end-read h.0 h.1 range.end_inclusive old h.3) (old-read h.1 range.end_inclusive old h.3) h.4
+    ∙ at-read h.0 h.1 range (end-read h.0 h.1 range.end_inclusive old h.3) h.4
+
+-- whether it has the old form
+abbrev old_or_not : Option Sides → Bool
+old_or_not o = option_map_or (λ s. is_old s.back) o false
+
+pub range-old : (text : List ℕ) (range : VersionRange) (old : Bool) → IsRangeText text range old → old ≡ old_or_not (at_dots text)
+range-old text range old (inl h) = h.3 ∙ sym (ap old_or_not (uncut-read text h.0))
+range-old text range old (inr h) = old-read h.1 range.end_inclusive old h.3 ∙ sym (ap old_or_not (cut-read text h.0 h.1 h.2))
 
 start-bad : (front back : List ℕ) (end : MaybeVersion) (e : VersionFault) → end_of front back ≡ Ok end → IsBoundFault front e → IsRefusedBy (range_at (sides front back)) e
 start-bad front back end e o h =
     Refused-next (with_start (sides front back)) (end_of front back) end e o
-    (Refused-as (from_ends end (is_old back)) (bound_of Msrv front) e (bound-bad Msrv front e h))
+    (Refused-as (from_ends end) (bound_of Msrv front) e (bound-bad Msrv front e h))
 
 range-bad : (text : List ℕ) (e : VersionFault) → IsRangeTextFault text e → IsRefusedBy (range_of text) e
 range-bad text e (inl h) = subst (λ (o : Option Sides). IsRefusedBy (range_at (sides_or text o)) e) (sym (uncut-read text h.0)) (start-bad text [] Stable e refl h.1)
@@ -221,10 +240,13 @@ range-bad text e (inr h) = subst (λ (o : Option Sides). IsRefusedBy (range_at (
     either (inl k) = Refused-then (with_start (sides h.0 h.1)) (end_of h.0 h.1) e (end-bad h.0 h.1 e k)
     either (inr k) = start-bad h.0 h.1 k.0.0 e (end-read h.0 h.1 k.0.0 k.0.1 k.0.2) k.1
 
-pub version-unread : (text : List ℕ) (e : VersionFault) → (e ≡ fault.Memory) ⊎ IsVersionFault text e → IsRefusedBy (version_of text) e
+pub version-unread : (text : List ℕ) (e : VersionFault) → (e ≡ fault.Memory) ⊎ LacksVersionNumber text e → IsRefusedBy (version_of text) e
 version-unread text e (inl h) = subst (λ (e : VersionFault). IsRefusedBy (version_of text) e) (sym h) refl
 version-unread text e (inr h) = version-bad text e h
 
 pub range-unread : (text : List ℕ) (e : VersionFault) → (e ≡ fault.Memory) ⊎ IsRangeTextFault text e → IsRefusedBy (range_of text) e
 range-unread text e (inl h) = subst (λ (e : VersionFault). IsRefusedBy (range_of text) e) (sym h) refl
 range-unread text e (inr h) = range-bad text e h
+
+pub version-fault : (text : List ℕ) (e : VersionFault) → (e ≡ fault.Memory) ⊎ LacksVersionNumber text e → (e ≡ fault.Memory) ⊎ IsVersionFault text e
+version-fault text e h = some-refused text (bad_range_of e) (e ≡ fault.Memory) (version-unread text e h)

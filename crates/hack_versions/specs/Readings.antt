@@ -89,18 +89,12 @@ at_dots (b ∷ bs) =
     then Some (record { front = []; back = drop 2 (b ∷ bs) })
     else option_map (λ sides. record { front = b ∷ sides.front; back = sides.back }) (at_dots bs)
 
--- a range, and whether it has the old form
-pub record ReadRange : Type 0 where
-  pub range : VersionRange
-  pub old : Bool
-
 -- a range with these sides: its end is read before its start
-abbrev pub range_at : Sides → Result ReadRange BadRange
+abbrev pub range_at : Sides → Result VersionRange BadRange
 range_at sides =
-    then_read (λ end. read_as (λ start.
-    record { range = record { start_inclusive = start; end_inclusive = end }; old = is_old sides.back })
+    then_read (λ end. read_as (λ start. record { start_inclusive = start; end_inclusive = end })
     (bound_of Msrv sides.front)) (end_of sides.front sides.back)
 
 -- a range, split at its first `..`; a text without one is its start
-abbrev pub range_of : List ℕ → Result ReadRange BadRange
+abbrev pub range_of : List ℕ → Result VersionRange BadRange
 range_of text = range_at (unwrap_or (at_dots text) (record { front = text; back = [] }))

@@ -1,6 +1,6 @@
 -- What a command line leads to once its uses of options are judged.
-use Rattle.std.proofs.Common.{◌≡◌, ℕ, List, Option, Some, None, Err, IfSome, MatchOption, ap, refl, sym, subst, ◌∙◌}
-use Rattle.std.specs.Option.{unwrap_or}
+use Rattle.std.proofs.Common.{◌≡◌, ℕ, Bool, true, false, cond, List, Option, Some, None, Err, IfSome, MatchOption, ap, refl, sym, subst, ◌∙◌}
+use Rattle.std.specs.Option.{option_map_or, option_or}
 use Rattle.hack_rules.specs.declared.uses.behavior.WorkspaceBehavior.{WorkspaceBehavior}
 use Rattle.hack_rules.specs.Faults.{ArgumentFault as WrongCut, argument_fault_of as cut_fault_of}
 use Rattle.hack_rules.specs.declared.uses.fault.CutFault.{CutFault}
@@ -17,7 +17,6 @@ use Rattle.hack_rules.specs.declared.fault.CliFault.{CliFault}
 use Rattle.hack_rules.specs.declared.fault.CliFault.TheVariants as fault
 use Rattle.hack_words.specs.Start.{Start, Refuses as Begun, Cuts, start_of}
 use Rattle.hack_rules.proofs.One.{ends-one}
-use Rattle.hack_rules.specs.Rules.{Verdict, Refused, refused_by}
 use Rattle.hack_words.specs.declared.cli.parse.Parsed.{Parsed}
 use Rattle.hack_words.specs.declared.cli.parse.Parsed.TheVariants as code
 
@@ -53,10 +52,32 @@ judged-refuses around behavior cut trailing us Q None ends h = h
 pub fault-refuses : (around : Around) (behavior : WorkspaceBehavior) (cut trailing : List (List ℕ)) (us : List Use) (e : CliFault) → ReadsUsesThen cut us End → MatchOption (fault_of e) (e ≡ fault.Memory) (λ told. outcome_of around behavior trailing us ≡ Faulty told) → Refuses (ComesFrom around (Cuts behavior cut trailing)) e
 fault-refuses around behavior cut trailing us e ends h = judged-refuses around behavior cut trailing us (e ≡ fault.Memory) (fault_of e) ends h
 
--- where no earlier rule is broken, a refusal for a missing subcommand is the verdict
-pub bare-refused : (o : Option Fault) (Q : Type 0) (early : Option Fault) (bare : Option Verdict) (after : Verdict) → early ≡ None → MatchOption o Q (λ told. bare ≡ Some (Refused told)) → MatchOption o Q (λ told. refused_by early (unwrap_or bare after) ≡ Refused told)
-bare-refused (Some told) Q early bare after e h = ap (λ x. refused_by x (unwrap_or bare after)) e ∙ ap (λ b. refused_by None (unwrap_or b after)) h
-bare-refused None Q early bare after e h = h
+-- the outcome by the errors of the rules, the earlier ones first, and by whether the list is asked for
+abbrev pub by_rules : Option Fault → Bool → Option Fault → Option Fault → CommandLineOutcome → CommandLineOutcome → CommandLineOutcome
+by_rules early lists missing after listing parsed =
+    option_map_or Faulty early (cond lists listing (option_map_or Faulty (option_or missing after) parsed))
+
+-- where no earlier rule is broken, the list is the outcome, or the error of a missing subcommand, or that of a later rule
+pub listing-outcome : (early : Option Fault) (lists : Bool) (missing after : Option Fault) (listing parsed : CommandLineOutcome) → early ≡ None → lists ≡ true → by_rules early lists missing after listing parsed ≡ listing
+listing-outcome early lists missing after listing parsed e l = rw (e, l) refl
+
+pub missing-refused : (o : Option Fault) (Q : Type 0) (early : Option Fault) (lists : Bool) (missing after : Option Fault) (listing parsed : CommandLineOutcome) → early ≡ None → MatchOption o Q (λ told. cond lists None missing ≡ Some told) → MatchOption o Q (λ told. by_rules early lists missing after listing parsed ≡ Faulty told)
+missing-refused (Some told) Q early true missing after listing parsed e h = absurd (let none : None ≡ Some told = h in cc)
+missing-refused (Some told) Q early false missing after listing parsed e h =
+    ap (λ x. by_rules x false missing after listing parsed) e ∙ ap (λ x. by_rules None false x after listing parsed) h
+missing-refused None Q early lists missing after listing parsed e h = h
+
+at-late : (early : Option Fault) (lists : Bool) (missing after : Option Fault) (listing parsed : CommandLineOutcome) → early ≡ None → lists ≡ false → cond lists None missing ≡ None → by_rules early lists missing after listing parsed ≡ option_map_or Faulty after parsed
+at-late early true missing after listing parsed e l m = absurd (let t : true ≡ false = l in cc)
+at-late early false missing after listing parsed e l m =
+    ap (λ x. by_rules x false missing after listing parsed) e ∙ ap (λ x. by_rules None false x after listing parsed) m
+
+pub late-refused : (o : Option Fault) (Q : Type 0) (early : Option Fault) (lists : Bool) (missing after : Option Fault) (listing parsed : CommandLineOutcome) → early ≡ None → lists ≡ false → cond lists None missing ≡ None → MatchOption o Q (λ told. after ≡ Some told) → MatchOption o Q (λ told. by_rules early lists missing after listing parsed ≡ Faulty told)
+late-refused (Some told) Q early lists missing after listing parsed e l m h = at-late early lists missing after listing parsed e l m ∙ ap (λ x. option_map_or Faulty x parsed) h
+late-refused None Q early lists missing after listing parsed e l m h = h
+
+pub parsed-outcome : (early : Option Fault) (lists : Bool) (missing after : Option Fault) (listing parsed : CommandLineOutcome) → early ≡ None → lists ≡ false → cond lists None missing ≡ None → after ≡ None → by_rules early lists missing after listing parsed ≡ parsed
+parsed-outcome early lists missing after listing parsed e l m a = at-late early lists missing after listing parsed e l m ∙ ap (λ x. option_map_or Faulty x parsed) a
 
 -- a command line has one outcome
 

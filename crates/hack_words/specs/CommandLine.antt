@@ -1,6 +1,6 @@
 -- The outcome of a command line in its environment: an error, a text to print, cargo's list, or
 -- arguments.
-use Rattle.std.specs.Prelude.{ℕ, ◌≡◌, ◌++◌, ◌&&◌, ◌||◌, List, [], Bool, true, false, Option, codes}
+use Rattle.std.specs.Prelude.{ℕ, ◌≡◌, ◌++◌, ◌&&◌, ◌||◌, List, [], ◌∷◌, Bool, true, false, Option, codes, if◌then◌else◌}
 use Rattle.std.specs.Option.{option_map_or}
 use Rattle.hack_options.specs.declared.opt.Opt.TheVariants as opt
 use Rattle.hack_rules.specs.declared.uses.behavior.WorkspaceBehavior.{WorkspaceBehavior}
@@ -13,10 +13,12 @@ use Rattle.hack_versions.specs.Readings.{at_dots}
 use Rattle.hack_base.specs.declared.notice.NoticeKind.TheVariants.{Info, Warn, QuietWarn}
 use Rattle.hack_rules.specs.AskedFields.{is_old_asked}
 use Rattle.hack_rules.specs.CliFaults.{Fault, Cut}
-use Rattle.hack_rules.specs.ListedFeatures.{listed_by}
-use Rattle.hack_rules.specs.Rules.{Verdict, Accepted, Lists, Refused, is_nonempty}
-use Rattle.hack_rules.specs.LateRules.{is_ranged}
-use Rattle.hack_rules.specs.Verdicts.{verdict_of}
+use Rattle.hack_rules.specs.CliLists.{groups_given}
+use Rattle.hack_rules.specs.declared.fault.Beside.TheVariants as beside
+use Rattle.hack_rules.specs.Rules.{counts, first_of, has_beside}
+use Rattle.hack_rules.specs.EarlyRules.{early_rules, together_rules}
+use Rattle.hack_rules.specs.MissingSubcommand.{lists_commands, missing_subcommand}
+use Rattle.hack_rules.specs.LateRules.{rules_after}
 use Rattle.hack_words.specs.Start.{Start, Refuses, Cuts, start_of}
 
 -- what is known besides the command line: the environment's colouring, whether GitHub Actions runs,
@@ -34,14 +36,15 @@ pub data CommandLineOutcome : Type 0 where
   Listing : List Use → CommandLineOutcome
   Parsed : WorkspaceBehavior → List (List ℕ) → List Use → CommandLineOutcome
 
--- the outcome of uses of options, given who handles workspaces and the arguments after --
+-- the outcome of uses of options, given who handles workspaces and the arguments after --: the
+-- first rule that gives an error refuses them
 abbrev pub outcome_of : Around → WorkspaceBehavior → List (List ℕ) → List Use → CommandLineOutcome
-outcome_of around behavior trailing us = by_verdict (verdict_of behavior around.term_color around.rustup us)
-  where
-    by_verdict : Verdict → CommandLineOutcome
-    by_verdict Accepted = Parsed behavior trailing us
-    by_verdict Lists = Listing us
-    by_verdict (Refused fault) = Faulty fault
+outcome_of around behavior trailing us =
+    option_map_or Faulty (first_of (first_of (early_rules around.term_color us)
+    ∷ first_of (together_rules behavior us) ∷ []))
+    (if lists_commands behavior us then Listing us
+    else option_map_or Faulty (first_of (missing_subcommand us ∷ rules_after around.rustup
+    (groups_given opt.MutuallyExclusiveFeatures us) us)) (Parsed behavior trailing us))
 
 -- the outcome, given how parsing ended
 abbrev pub IsEnd : Around → WorkspaceBehavior → List (List ℕ) → List Use → Reading → CommandLineOutcome → Type 0
@@ -67,7 +70,7 @@ unknown_words = codes "--ignore-unknown-features for --include-features is not f
 -- the notice that unknown features are not ignored everywhere, where they are to be ignored
 abbrev pub unknown_notes : List Use → List Note
 unknown_notes us =
-    note_if (is_given opt.IgnoreUnknownFeatures us && is_nonempty (listed_by us).includes)
+    note_if (is_given opt.IgnoreUnknownFeatures us && counts opt.IncludeFeatures us)
     QuietWarn unknown_words
 
 -- the notice where a range is given and rustup's version isn't known
@@ -104,6 +107,6 @@ editing_notes no_dev_deps no_private =
 abbrev pub notes_on : Around → List Use → List Note
 notes_on around us =
     unknown_notes us
-    ++ rustup_notes (is_ranged us) around.unknown
+    ++ rustup_notes (has_beside beside.VersionRange us) around.unknown
     ++ old_notes (is_old_asked us) (value_given opt.VersionRange us)
     ++ editing_notes (is_given opt.NoDevDeps us) (is_given opt.NoPrivate us)

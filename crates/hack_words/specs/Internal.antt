@@ -1,5 +1,7 @@
 -- What only private functions of the crate promise each other.
-use Rattle.std.specs.Prelude.{◌≡◌, ℕ, List, [], Result, Ok, Err, MatchOption, string_bytes, true, false, None, codes, nat_lt}
+use Rattle.std.specs.Prelude.{◌≡◌, ℕ, List, [], Result, Ok, Err, MatchOption, string_bytes, true, false, not, None, codes, length, nat_lt, if◌then◌else◌}
+use Rattle.std.specs.List.{filter}
+use Rattle.hack_rules.specs.declared.uses.behavior.WorkspaceBehavior.TheVariants.{Cargo, Default}
 use Rattle.hack_words.specs.declared.cli.args.Args.{Args}
 use Rattle.hack_words.specs.declared.cli.args.Read.{Read}
 use Rattle.hack_rules.specs.declared.uses.behavior.WorkspaceBehavior.{WorkspaceBehavior}
@@ -19,17 +21,18 @@ use Rattle.hack_words.specs.declared.cli.parse.Surroundings.{Surroundings}
 use Rattle.hack_words.specs.declared.cli.parse.Parsed.{Parsed as CodeParsed}
 use Rattle.hack_words.specs.declared.cli.parse.Parsed.TheVariants as code
 use Rattle.hack_words.specs.ArgsView.{IsAsked}
-use Rattle.hack_rules.specs.AskedFields.{coloring_asked, number_asked}
-use Rattle.hack_words.specs.CommandLine.{Around, Listing, Parsed, outcome_of, unknown_notes, notes_on}
+use Rattle.hack_rules.specs.AskedFields.{coloring_asked}
+use Rattle.hack_rules.specs.ListsView.{AreListsOf}
+use Rattle.hack_rules.specs.Values.{from_value}
+use Rattle.hack_base.specs.Numbers.{number_of}
+use Rattle.hack_words.specs.CommandLine.{Around, Faulty, Listing, Parsed, outcome_of, unknown_notes, notes_on}
 use Rattle.hack_rules.specs.CliFaults.{fault_of, Cut}
 use Rattle.hack_rules.specs.LateView.{IsLate}
-use Rattle.hack_rules.specs.Rules.{Verdict, Accepted, Lists, Refused}
-use Rattle.hack_rules.specs.Verdicts.{verdict_of}
 use Rattle.hack_words.specs.ParseAnswers.{IsText, around_of}
 use Rattle.hack_base.specs.Names.{names_of}
 use Rattle.hack_options.specs.declared.opt.Opt.TheVariants as opt
 use Rattle.hack_words.specs.declared.cli.start.Front.{Front}
-use Rattle.hack_words.specs.Start.{behaviors, behavior_said, cut_words}
+use Rattle.hack_words.specs.Start.{is_behavior}
 
 -- what the rules read is carried over unchanged
 pub record Carries (read : Read) (args : Args) : Type 0 where
@@ -48,17 +51,16 @@ pub record Carries (read : Read) (args : Args) : Type 0 where
 abbrev pub around_in : Surroundings → Around
 around_in around = around_of around.env.now around.rustup.now
 
--- the verdict on uses
-abbrev pub verdict_around : WorkspaceBehavior → Around → List Use → Verdict
-verdict_around behavior around us = verdict_of behavior around.term_color around.rustup us
-
--- the rules return their verdict, and what they read
-abbrev pub Judges : Result Checked CliFault → WorkspaceBehavior → Around → List Use → Type 0
-Judges (Ok checked.List) behavior around us = verdict_around behavior around us ≡ Lists
-Judges (Ok (checked.Accepted early late)) behavior around us =
-    (verdict_around behavior around us ≡ Accepted) × (early.coloring ≡ coloring_asked around.term_color us)
-    × (early.depth ≡ number_asked opt.Depth us) × IsLate around.github_actions us late
-Judges (Err e) behavior around us = MatchOption (fault_of e) (e ≡ fault.Memory) (λ told. verdict_around behavior around us ≡ Refused told)
+-- the rules return the outcome, and what they read
+abbrev pub Judges : Result Checked CliFault → Around → WorkspaceBehavior → List (List ℕ) → List Use → Type 0
+Judges (Ok (checked.List lists)) around behavior trailing us =
+    (outcome_of around behavior trailing us ≡ Listing us) × AreListsOf us lists
+Judges (Ok (checked.Accepted early late)) around behavior trailing us =
+    (outcome_of around behavior trailing us ≡ Parsed behavior trailing us)
+    × (early.coloring ≡ coloring_asked around.term_color us)
+    × (early.depth ≡ from_value opt.Depth (number_of 64) us)
+    × AreListsOf us early.lists × IsLate around.github_actions us late
+Judges (Err e) around behavior trailing us = MatchOption (fault_of e) (e ≡ fault.Memory) (λ told. outcome_of around behavior trailing us ≡ Faulty told)
 
 -- the answer to uses that are judged, with its notices
 abbrev pub IsJudged : Around → WorkspaceBehavior → List (List ℕ) → List Use → CodeParsed → List Note → Type 0
@@ -81,5 +83,8 @@ GivesCuts (Err e) words = MatchOption (fault_of e) (e ≡ fault.Memory) (λ told
 
 -- what the code takes out of the arguments before --, or the error that the argument is repeated
 abbrev pub TakesOut : Result Front CliFault → List (List ℕ) → Type 0
-TakesOut (Ok taken) front = (nat_lt 1 (behaviors front) ≡ false) × (taken.behavior ≡ behavior_said front) × (names_of taken.words.items ≡ cut_words front)
-TakesOut (Err e) front = MatchOption (fault_of e) (e ≡ fault.Memory) (λ told. (nat_lt 1 (behaviors front) ≡ true) × (told ≡ Cut (Repeat (LongFlag (codes "workspace-behavior")) opt.WorkspaceBehavior None)))
+TakesOut (Ok taken) front =
+    (nat_lt 1 (length (filter is_behavior front)) ≡ false)
+    × (taken.behavior ≡ (if nat_lt 0 (length (filter is_behavior front)) then Cargo else Default))
+    × (names_of taken.words.items ≡ filter (λ w. not (is_behavior w)) front)
+TakesOut (Err e) front = MatchOption (fault_of e) (e ≡ fault.Memory) (λ told. (nat_lt 1 (length (filter is_behavior front)) ≡ true) × (told ≡ Cut (Repeat (LongFlag (codes "workspace-behavior")) opt.WorkspaceBehavior None)))

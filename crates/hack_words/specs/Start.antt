@@ -1,6 +1,6 @@
 -- The start of a command line, before options are parsed.
 use Rattle.std.specs.Prelude.{ℕ, List, [], ◌∷◌, not, ◌||◌, Bool, None, codes, length, nat_lt, nat_eq, bytes_eq, if◌then◌else◌}
-use Rattle.std.specs.List.{filter, list_any, starts_with}
+use Rattle.std.specs.List.{after_first, before_first, filter, list_any, starts_with}
 use Rattle.hack_options.specs.declared.opt.Opt.TheVariants as opt
 use Rattle.hack_rules.specs.declared.uses.behavior.WorkspaceBehavior.{WorkspaceBehavior}
 use Rattle.hack_rules.specs.declared.uses.behavior.WorkspaceBehavior.TheVariants.{Cargo, Default}
@@ -10,29 +10,15 @@ use Rattle.hack_rules.specs.CliFaults.{Fault, NoWord, NotHack, Cut}
 
 -- the arguments before the first --
 abbrev pub front_words : List (List ℕ) → List (List ℕ)
-front_words [] = []
-front_words (w ∷ ws) = if bytes_eq w (codes "--") then [] else w ∷ front_words ws
+front_words ws = before_first (λ w. bytes_eq w (codes "--")) ws
 
 -- the arguments after the first --
 abbrev pub trailing_words : List (List ℕ) → List (List ℕ)
-trailing_words [] = []
-trailing_words (w ∷ ws) = if bytes_eq w (codes "--") then ws else trailing_words ws
+trailing_words ws = after_first (λ w. bytes_eq w (codes "--")) ws
 
 -- the argument that leaves workspaces to Cargo
 abbrev pub is_behavior : List ℕ → Bool
 is_behavior w = bytes_eq w (codes "--workspace-behavior=cargo")
-
--- the arguments that are parsed: those before -- without that argument
-abbrev pub cut_words : List (List ℕ) → List (List ℕ)
-cut_words ws = filter (λ w. not (is_behavior w)) ws
-
--- how often that argument occurs before --
-abbrev pub behaviors : List (List ℕ) → ℕ
-behaviors ws = length (filter is_behavior ws)
-
--- who handles workspaces: Cargo where that argument occurs before --
-abbrev pub behavior_said : List (List ℕ) → WorkspaceBehavior
-behavior_said ws = if nat_lt 0 (behaviors ws) then Cargo else Default
 
 -- the start of a command line: an error, or who handles workspaces, the arguments to parse, and
 -- those after --
@@ -40,11 +26,14 @@ pub data Start : Type 0 where
   Refuses : Fault → Start
   Cuts : WorkspaceBehavior → List (List ℕ) → List (List ℕ) → Start
 
--- the start, given the arguments before and after --
+-- the start, given the arguments before and after --: Cargo handles workspaces where that argument
+-- occurs once, and the others are parsed
 abbrev pub start_with : List (List ℕ) → List (List ℕ) → Start
 start_with front trailing =
-    if nat_lt 1 (behaviors front) then Refuses (Cut (Repeat (LongFlag (codes "workspace-behavior")) opt.WorkspaceBehavior None))
-    else Cuts (behavior_said front) (cut_words front) trailing
+    if nat_lt 1 (length (filter is_behavior front))
+    then Refuses (Cut (Repeat (LongFlag (codes "workspace-behavior")) opt.WorkspaceBehavior None))
+    else Cuts (if nat_lt 0 (length (filter is_behavior front)) then Cargo else Default)
+    (filter (λ w. not (is_behavior w)) front) trailing
 
 -- the first argument is hack
 abbrev pub start_of : List (List ℕ) → Start

@@ -1,6 +1,6 @@
 //! How an option is read: one of the table by the value that it takes, another by its name.
 
-ghost use Rattle.std.specs.Prelude.{◌≡◌, ◌&&◌, IfOk, string_bytes};
+ghost use Rattle.std.specs.Prelude.{◌≡◌, ◌&&◌, ◌||◌, IfOk, bytes_eq, codes, string_bytes};
 ghost use Rattle.hack_base.specs.Names.{optional_text};
 ghost use Rattle.hack_lexopt.specs.Parsers.{left_in};
 ghost use Rattle.hack_rules.specs.Faults.{flag_seen};
@@ -13,8 +13,7 @@ ghost use Rattle.hack_rules.specs.UseReading.{option_with_value as value_reading
 ghost use Rattle.hack_rules.specs.UseReading.{option_with as optional_reading, unless_quote};
 ghost use Rattle.hack_rules.specs.UseReading.{by_kind as kind_reading};
 ghost use Rattle.hack_rules.specs.UseReading.{print_request as question_reading};
-ghost use Rattle.hack_rules.specs.UseReading.{is_lone_quote as quote, help_of, removed_of};
-ghost use Rattle.hack_rules.specs.UseReading.{similar_of};
+ghost use Rattle.hack_rules.specs.UseReading.{help_of, removed_of, similar_of};
 ghost use Rattle.hack_options.specs.Table.{entry_of, meaning_of};
 ghost use Rattle.hack_rules.specs.Uses.{views, is_given, subcommand_of};
 
@@ -28,7 +27,7 @@ use std::alloc::{AllocError, Global};
 
 /// Whether the value is a lone quote sign.
 fn is_quote(value: &str) -> bool
-    ensures { result ≡ quote value.now }
+    ensures { result ≡ (bytes_eq value.now (codes "'") || bytes_eq value.now (codes "\"")) }
 {
     value == "'" || value == "\""
 }

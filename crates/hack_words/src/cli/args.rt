@@ -6,9 +6,9 @@ ghost use Rattle.hack_base.specs.Names.{names_of, optional_text_ref, optional_te
 ghost use Rattle.hack_base.specs.Notes.{note_of};
 ghost use Rattle.hack_rules.specs.PassedWords.{leading_of};
 ghost use Rattle.hack_rules.specs.Uses.{is_given, views};
-ghost use Rattle.hack_rules.specs.Values.{values_given};
-ghost use Rattle.hack_rules.specs.AskedFields.{verbose_words, excludes_no_default, excludes_all};
-ghost use Rattle.hack_rules.specs.ListsView.{listed_view};
+ghost use Rattle.hack_rules.specs.AskedFields.{verbose_words};
+ghost use Rattle.hack_rules.specs.ListsView.{AreListsOf};
+ghost use Rattle.hack_rules.specs.Rules.{counts};
 ghost use Rattle.hack_words.specs.CommandLine.{ComesTo};
 ghost use Rattle.hack_words.specs.ParseAnswers.{AnswersCommandLine, BreakNoRule, Refuses};
 ghost use Rattle.hack_words.specs.ParseAnswers.{around_of};
@@ -148,7 +148,10 @@ fn pass_verbose(alloc: Global, leading: &mut Vec<String>, said: usize) -> Result
 
 /// Whether the run without default features is left out.
 fn leaves_no_default(lists: &Lists, uses: &[Use]) -> bool
-    ensures { result ≡ excludes_no_default (listed_view lists.now) (views uses.now) }
+    requires { AreListsOf (views uses.now) lists.now }
+    ensures { result ≡ (is_given Opt.ExcludeNoDefaultFeatures (views uses.now)
+        || is_given Opt.AtLeastOneOf (views uses.now)
+        || counts Opt.IncludeFeatures (views uses.now)) }
 {
     given(Opt::ExcludeNoDefaultFeatures, uses)
         || given(Opt::AtLeastOneOf, uses)
@@ -158,7 +161,11 @@ fn leaves_no_default(lists: &Lists, uses: &[Use]) -> bool
 /// Whether the run with all features is left out: it would have features that are excluded, or that
 /// exclude each other.
 fn leaves_all(lists: &Lists, uses: &[Use]) -> bool
-    ensures { result ≡ excludes_all (listed_view lists.now) (views uses.now) }
+    requires { AreListsOf (views uses.now) lists.now }
+    ensures { result ≡ (is_given Opt.ExcludeAllFeatures (views uses.now)
+        || counts Opt.IncludeFeatures (views uses.now)
+        || counts Opt.ExcludeFeatures (views uses.now)
+        || is_given Opt.MutuallyExclusiveFeatures (views uses.now)) }
 {
     given(Opt::ExcludeAllFeatures, uses)
         || has_some(lists.include_features.as_slice())
@@ -181,7 +188,6 @@ pub struct Call {
     pub passed: Vec<String>,
     /// The arguments after the first `--`.
     pub trailing: Vec<String>,
-    pub lists: Lists,
 }
 
 /// A call that keeps the rules, with what the rules read.
@@ -195,19 +201,12 @@ pub struct Read {
 impl Args {
     ghost use Rattle.hack_words.specs.ArgsView.{HasFlags, HasTexts};
     ghost use Rattle.hack_words.specs.Internal.{Carries};
-    ghost use Rattle.hack_rules.specs.CliGroups.{AreGroupsOf};
-    ghost use Rattle.hack_rules.specs.ListedFeatures.{listed_by};
 
     /// The arguments, from the uses of options and from what the rules read.
     pub(crate) fn of(alloc: Global, read: Read, uses: &[Use]) -> Result<Args, AllocError>
         requires passed { names_of read.call.passed.items
             ≡ leading_of read.call.behavior (views uses.now) }
-        requires listed { listed_view read.call.lists ≡ listed_by (views uses.now) }
-        requires groups { AreGroupsOf (values_given Opt.GroupFeatures
-            (views uses.now)) read.call.lists.group_features.items }
-        requires exclusive { AreGroupsOf
-            (values_given Opt.MutuallyExclusiveFeatures
-            (views uses.now)) read.call.lists.mutually_exclusive_features.items }
+        requires listed { AreListsOf (views uses.now) read.early.lists }
         ensures flags { IfOk result (HasFlags (views uses.now)) }
         ensures texts { IfOk result (HasTexts read.call.behavior (views uses.now)) }
         ensures carries { IfOk result (Carries read) }
@@ -217,8 +216,12 @@ impl Args {
             behavior: workspace_behavior,
             passed: mut leading_args,
             trailing: trailing_args,
-            lists,
         } = call;
+        let Early {
+            coloring,
+            depth,
+            lists,
+        } = early;
         let said = count(Opt::Verbose, uses);
         pass_verbose(alloc, &mut leading_args, said)?;
         let exclude_no_default_features = leaves_no_default(&lists, uses);
@@ -258,14 +261,14 @@ impl Args {
             version_step: late.versions.step,
             log_group: late.log_group,
             workspace_behavior,
-            coloring: early.coloring,
+            coloring,
             optional_deps,
             include_features: named::normals(alloc, includes.as_slice())?,
             include_deps_features: given(Opt::IncludeDepsFeatures, uses),
             exclude_features: excludes,
             exclude_no_default_features,
             exclude_all_features,
-            depth: early.depth,
+            depth,
             strength: late.strength,
             group_features,
             mutually_exclusive_features,

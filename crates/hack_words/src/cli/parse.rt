@@ -4,8 +4,7 @@ ghost use Rattle.std.specs.Prelude.{List, ◌≡◌, ◌++◌, ◌&&◌, IfOk, I
 ghost use Rattle.std.specs.Prelude.{string_bytes};
 ghost use Rattle.hack_base.specs.Names.{names_of};
 ghost use Rattle.hack_rules.specs.PassedWords.{leading_of};
-ghost use Rattle.hack_rules.specs.LateRules.{is_ranged as ranged};
-ghost use Rattle.hack_rules.specs.Rules.{is_nonempty};
+ghost use Rattle.hack_rules.specs.Rules.{counts, has_beside};
 ghost use Rattle.hack_rules.specs.Uses.{is_given, views};
 ghost use Rattle.hack_rules.specs.Values.{value_given};
 ghost use Rattle.hack_base.specs.Notes.{note_of, AddsNotes};
@@ -18,8 +17,7 @@ ghost use Rattle.hack_rules.specs.AskedFields.{is_old_asked};
 ghost use Rattle.hack_words.specs.CommandLine.{ComesFrom, ComesTo, Faulty, outcome_of};
 ghost use Rattle.hack_words.specs.CommandLine.{rustup_notes, old_notes, editing_notes};
 ghost use Rattle.hack_rules.specs.CliFaults.{fault_of};
-ghost use Rattle.hack_rules.specs.ListedFeatures.{listed_by};
-ghost use Rattle.hack_rules.specs.ListsView.{listed_view};
+ghost use Rattle.hack_rules.specs.ListsView.{AreListsOf};
 ghost use Rattle.hack_words.specs.StartView.{start_in};
 ghost use Rattle.hack_words.specs.RustupView.{known_of, unknown_of};
 
@@ -32,7 +30,7 @@ use hack_options::{Help, Opt};
 use hack_rules::bare::lists_commands;
 use hack_rules::checks::has_some;
 use hack_rules::early::{self, Early};
-use hack_rules::fault::CliFault;
+use hack_rules::fault::{Beside, CliFault};
 use hack_rules::late::{self, Late, is_ranged};
 use hack_rules::listed::Lists;
 use hack_rules::uses::{Cuts, Print, Use, WorkspaceBehavior, all_uses, given, leading, value};
@@ -59,7 +57,7 @@ pub(crate) struct Surroundings<'a> {
 /// What the rules return.
 #[derive(Drop)]
 enum Checked {
-    List,
+    List { lists: Lists },
     Accepted { early: Early, late: Late },
 }
 
@@ -79,24 +77,30 @@ fn keep_rules(
     call: &Call,
     uses: &[Use],
 ) -> Result<Checked, CliFault>
-    requires passed { names_of call.now.passed.items
+    requires { names_of call.now.passed.items
         ≡ leading_of call.now.behavior (views uses.now) }
-    requires listed { listed_view call.now.lists ≡ listed_by (views uses.now) }
-    ensures { Judges result call.now.behavior (around_in around.entry) (views uses.now) }
+    ensures { Judges result (around_in around.entry) call.now.behavior
+        (names_of call.now.trailing.items) (views uses.now) }
 {
     let Surroundings { env, rustup } = around;
     let Call {
         behavior,
         passed,
-        lists,
         ..
     } = call;
     let term_color = env.term_color.as_ref();
-    let early = early::check(alloc, *behavior, term_color, lists, passed, uses)?;
+    let early = early::check(alloc, *behavior, term_color, passed, uses)?;
     if lists_commands(passed, uses)? {
-        return Ok(Checked::List);
+        return Ok(Checked::List { lists: early.lists });
     }
-    let late = late::check(alloc, known_minor(rustup), env.github_actions, lists, uses)?;
+    let exclusive = early.lists.mutually_exclusive_features.as_slice();
+    let late = late::check(
+        alloc,
+        known_minor(rustup),
+        env.github_actions,
+        exclusive,
+        uses,
+    )?;
     Ok(Checked::Accepted { early, late })
 }
 
@@ -110,7 +114,7 @@ fn tell(
 ) -> Result<(), AllocError>
     requires { is_old ≡ is_old_asked (views uses.now) }
     ensures { OnOk result (AddsNotes notices.old notices.new
-        (rustup_notes (ranged (views uses.now)) (unknown_of rustup.now)
+        (rustup_notes (has_beside Beside.VersionRange (views uses.now)) (unknown_of rustup.now)
         ++ old_notes (is_old_asked (views uses.now)) (value_given Opt.VersionRange (views uses.now))
         ++ editing_notes (is_given Opt.NoDevDeps (views uses.now))
         (is_given Opt.NoPrivate (views uses.now)))) }
@@ -123,8 +127,9 @@ fn tell(
 
 /// Whether unknown features are to be ignored where they can't be.
 fn ignores_in_vain(lists: &Lists, uses: &[Use]) -> bool
+    requires { AreListsOf (views uses.now) lists.now }
     ensures { result ≡ (is_given Opt.IgnoreUnknownFeatures (views uses.now)
-        && is_nonempty (listed_view lists.now).includes) }
+        && counts Opt.IncludeFeatures (views uses.now)) }
 {
     given(Opt::IgnoreUnknownFeatures, uses) && has_some(lists.include_features.as_slice())
 }
@@ -149,15 +154,16 @@ fn judge_uses(
         behavior,
         passed: leading(alloc, behavior, uses)?,
         trailing,
-        lists: Lists::of(alloc, uses)?,
     };
-    let left = keep_rules(alloc, around, &call, uses)?;
     let mut notices = Vec::new(alloc);
-    tell_unknown(alloc, &mut notices, ignores_in_vain(&call.lists, uses))?;
-    let (early, late) = match left {
-        Checked::List => return Ok((Parsed::List, notices)),
+    let (early, late) = match keep_rules(alloc, around, &call, uses)? {
+        Checked::List { lists } => {
+            tell_unknown(alloc, &mut notices, ignores_in_vain(&lists, uses))?;
+            return Ok((Parsed::List, notices));
+        }
         Checked::Accepted { early, late } => (early, late),
     };
+    tell_unknown(alloc, &mut notices, ignores_in_vain(&early.lists, uses))?;
     tell(
         alloc,
         &mut notices,

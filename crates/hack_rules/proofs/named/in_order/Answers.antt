@@ -1,6 +1,5 @@
 use Rattle.std.proofs.Common.{rules, ◌≡◌, sym, subst, List, String, map, string_bytes, Global}
-use Rattle.hack_rules.specs.CliTargets.{AreRising}
-use Rattle.hack_rules.proofs.TargetLemmas.{keys-rising}
+use Rattle.hack_rules.proofs.TargetLemmas.{AreRising, keys-rising}
 use Rattle.hack_rules.proofs.named.in_order.Goals as goal
 
 pub returns-clause-rising : goal.returns-clause-rising

@@ -3,9 +3,8 @@ use Rattle.std.proofs.lemmas.Result.{IfOk-weaker}
 use Rattle.hack_options.specs.declared.opt.Opt.TheVariants as opt
 use Rattle.hack_rules.specs.Uses.{views}
 use Rattle.hack_rules.specs.Values.{values_given}
-use Rattle.hack_rules.specs.CliTargets.{HaveSameTexts}
 use Rattle.hack_rules.specs.Internal.{put_all}
-use Rattle.hack_rules.proofs.TargetLemmas.{put_all-same}
+use Rattle.hack_rules.proofs.TargetLemmas.{HaveSameTexts, put_all-same}
 use Rattle.hack_rules.proofs.named.targets.Goals as goal
 
 pub returns-clause-same : goal.returns-clause-same
