@@ -9,14 +9,13 @@ use Rattle.std.specs.declared.cmp.Ordering.{Ordering}
 use Rattle.hack_base.specs.Names.{Name}
 use Rattle.std.specs.BTreeMap.{BTreeMap}
 use Rattle.std.specs.declared.alloc.Global.{Global}
-use Rattle.hack_features.specs.FeatureMap.{feature_map}
-use Rattle.hack_manifest.specs.Manifest.{Facts, IsReadAs}
+use Rattle.hack_manifest.specs.Manifest.{IsReadAs}
 use Rattle.hack_manifest.specs.declared.fault.ReadFault.{ReadFault}
 use Rattle.hack_manifest.specs.declared.fault.ReadFault.TheVariants as parts
 use Rattle.hack_manifest.specs.declared.package.Package.{Package}
 use Rattle.hack_manifest.specs.declared.manifest.ManifestFault.{ManifestFault}
 use Rattle.hack_manifest.specs.declared.manifest.ManifestFault.TheVariants as faults
-use Rattle.hack_manifest.specs.ManifestResults.{package_facts_view}
+use Rattle.hack_manifest.specs.ManifestResults.{facts_of}
 use Rattle.hack_manifest.specs.declared.places.Place.{Place}
 use Rattle.hack_manifest.specs.Places.{step}
 
@@ -37,13 +36,9 @@ is_over text = ends_line (skip_ws text) && (length (skip_blank text) == 0)
 abbrev pub by_bytes : Name → Name → Ordering
 by_bytes = slice_cmp nat_cmp
 
--- what a package and a map of features say
-abbrev pub facts_view : Package × BTreeMap (String Global) (Vec (String Global) Global) → Facts
-facts_view r = record { of_package = package_facts_view r.0; features = feature_map r.1 }
-
 -- the result of a function is what the text of a manifest is read as, unless memory ran out
 abbrev pub ReturnsFacts : List ℕ → ℕ → Result (Package × BTreeMap (String Global) (Vec (String Global) Global)) ReadFault → Type 0
-ReturnsFacts text minor (Ok r) = IsReadAs text minor (Ok (facts_view r))
+ReturnsFacts text minor (Ok r) = IsReadAs text minor (Ok (facts_of r.0 r.1))
 ReturnsFacts text minor (Err (parts.Field name)) = IsReadAs text minor (Err name.now)
 ReturnsFacts text minor (Err parts.Memory) = Unit {0}
 

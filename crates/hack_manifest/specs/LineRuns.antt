@@ -23,17 +23,13 @@ pub record IsRun (text : List ℕ) (n : ℕ) : Type 0 where
   pub lines : IsLines text n
   pub reads : stands (take n text) ≡ true
 
--- no run of whole lines at the start parses alone
-abbrev pub HasNoRun : List ℕ → Type 0
-HasNoRun text = (m : ℕ) → IsRun text m → ⊥
-
 -- the first n bytes are the shortest run of whole lines that parses alone
 pub record IsFirstRun (text : List ℕ) (n : ℕ) : Type 0 where
   pub run : IsRun text n
   pub shortest : (m : ℕ) → m < n → IsRun text m → ⊥
 
--- the text consists of these pieces and this tail
+-- the text consists of these pieces and this tail, from which no run of whole lines parses alone
 abbrev pub IsCutInto : List (List ℕ) → List ℕ → List ℕ → Type 0
-IsCutInto [] tail text = (tail ≡ text) × HasNoRun text
+IsCutInto [] tail text = (tail ≡ text) × ((m : ℕ) → IsRun text m → ⊥)
 IsCutInto (piece ∷ pieces) tail text =
     (rest : List ℕ) × (text ≡ piece ++ rest) × IsFirstRun text (length piece) × IsCutInto pieces tail rest

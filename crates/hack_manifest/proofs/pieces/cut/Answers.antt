@@ -1,8 +1,8 @@
-use Rattle.std.proofs.Common.{[], ◌∷◌, ◌++◌, map, ◌≡◌, refl, append-nil, ap, ◌∙◌, sym, drop}
+use Rattle.std.proofs.Common.{ℕ, [], ◌∷◌, ◌++◌, map, ◌≡◌, refl, append-nil, ap, ◌∙◌, sym, drop}
 use Rattle.std.proofs.lemmas.Str.{IsUtf8-drop}
 use Rattle.std.proofs.lemmas.List.{map-append}
 use Rattle.hack_base.specs.Names.{names_of}
-use Rattle.hack_manifest.specs.LineRuns.{IsFirstRun, HasNoRun}
+use Rattle.hack_manifest.specs.LineRuns.{IsRun, IsFirstRun}
 use Rattle.hack_manifest.specs.Paths.{View, next_header}
 use Rattle.hack_manifest.specs.PieceView.{piece_view}
 use Rattle.hack_manifest.proofs.RunLemmas.{IsCharBoundary-lines, texts-last, HavePaths-last, last_header-last}
@@ -28,7 +28,7 @@ pieces-preserved c =
 
 pub returns : goal.returns
 returns c =
-    let none : HasNoRun c.pieces.rest.now = rw c.in_default.is at c.in_ok-n.ensures.none in
+    let none : (m : ℕ) → IsRun c.pieces.rest.now m → ⊥ = rw c.in_default.is at c.in_ok-n.ensures.none in
     record {
       texts = rw (← append-nil (map (λ (p : View). p.text) (map piece_view c.pieces.found.items))) (c.pieces.invariant.texts [] c.pieces.rest.now (refl, none));
       paths = c.pieces.invariant.paths;
