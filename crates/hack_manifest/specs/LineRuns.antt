@@ -23,13 +23,14 @@ pub record IsRun (text : List ℕ) (n : ℕ) : Type 0 where
   pub lines : IsLines text n
   pub reads : stands (take n text) ≡ true
 
--- the first n bytes are the shortest run of whole lines that parses alone
-pub record IsFirstRun (text : List ℕ) (n : ℕ) : Type 0 where
-  pub run : IsRun text n
-  pub shortest : (m : ℕ) → m < n → IsRun text m → ⊥
+-- n is the least length at which this holds
+pub record IsShortest (P : ℕ → Type 0) (n : ℕ) : Type 0 where
+  pub holds : P n
+  pub shortest : (m : ℕ) → m < n → P m → ⊥
 
--- the text consists of these pieces and this tail, from which no run of whole lines parses alone
+-- the text consists of these pieces, each the shortest run of whole lines that parses alone, and of
+-- this tail, which has no such run
 abbrev pub IsCutInto : List (List ℕ) → List ℕ → List ℕ → Type 0
 IsCutInto [] tail text = (tail ≡ text) × ((m : ℕ) → IsRun text m → ⊥)
 IsCutInto (piece ∷ pieces) tail text =
-    (rest : List ℕ) × (text ≡ piece ++ rest) × IsFirstRun text (length piece) × IsCutInto pieces tail rest
+    (rest : List ℕ) × (text ≡ piece ++ rest) × IsShortest (IsRun text) (length piece) × IsCutInto pieces tail rest

@@ -1,10 +1,11 @@
 -- What a manifest says about its package and its features, or the name of the first field that
 -- can't be read.
 use Rattle.std.specs.Prelude.{◌≡◌, codes, ℕ, Bool, true, false, not, ◌&&◌, nat_lt, if◌then◌else◌, List, [], ◌∷◌, Option, Some, None, Ok, Err, option_map, option_and_then}
-use Rattle.std.specs.List.{list_any}
+use Rattle.std.specs.List.{list_any, filter_map}
 use Rattle.std.specs.Option.{ok_or}
 use Rattle.std.specs.Str.{bytes_eq}
-use Rattle.toml.specs.Data.{Data, string, boolean, array, Items, no_items, item, Members, no_members, member, get_member, as_table, as_array}
+use Rattle.std.specs.Cmp.Lexicographic.{pointwise}
+use Rattle.toml.specs.Data.{Data, string, boolean, array, Items, no_items, item, Members, no_members, member, get_member, as_table, as_array, as_str}
 use Rattle.toml.specs.Parse.{parse_document}
 use Rattle.toml.specs.Text.{has_items}
 use Rattle.hack_base.specs.FieldReadings.{FieldReading, ◌>>=◌}
@@ -16,15 +17,11 @@ use Rattle.hack_manifest.specs.Paths.{View, is_header, AreCut}
 abbrev pub features_key : Name
 features_key = codes "features"
 
--- the path is just this one name
-abbrev pub is_just : Name → List Name → Bool
-is_just name (x ∷ []) = bytes_eq x name
-is_just name _ = false
-
 -- some piece is a key of just this name with its value, not a header: then a table of this name is
 -- written inline, and neither under headers nor by dotted keys
 abbrev pub is_inline : Name → List View → Bool
-is_inline name ps = list_any (λ p. is_just name p.path && not (is_header p.text)) ps
+is_inline name ps =
+    list_any (λ p. pointwise bytes_eq p.path (name ∷ []) && not (is_header p.text)) ps
 
 -- the table at a key
 abbrev pub table_at : Name → Members → Option Members
@@ -51,11 +48,14 @@ rust_version_from (Some _) = Err (codes "rust-version")
 abbrev pub read_below : {A : Type 0} → ℕ → ℕ → FieldReading (Option A) → FieldReading (Option A)
 read_below bound minor read = if nat_lt minor bound then read else Ok None
 
+-- the items of an array as a list
+abbrev pub list_of : Items → List Data
+list_of no_items = []
+list_of (item d ds) = d ∷ list_of ds
+
 -- the strings among items
 abbrev pub texts_in : Items → List Name
-texts_in no_items = []
-texts_in (item (string text) ds) = text ∷ texts_in ds
-texts_in (item _ ds) = texts_in ds
+texts_in ds = filter_map as_str (list_of ds)
 
 -- the members as a feature map: each is a feature with the strings of its array; none where one is
 -- no array

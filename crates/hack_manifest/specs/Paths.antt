@@ -5,8 +5,8 @@ use Rattle.toml.specs.Data.{Data, table, Members, no_members, member}
 use Rattle.toml.specs.Parse.{parse_document, skip_bom}
 use Rattle.toml_parser.specs.Lexical.{skip_blank}
 use Rattle.hack_base.specs.Names.{Name}
-use Rattle.hack_manifest.specs.LineRuns.{IsCutInto}
-use Rattle.hack_manifest.specs.PieceFronts.{IsFrontTo, IsFirstFrontTo}
+use Rattle.hack_manifest.specs.LineRuns.{IsShortest, IsCutInto}
+use Rattle.hack_manifest.specs.PieceFronts.{IsFrontTo}
 
 -- the names along a tree, taking the first member of each table
 abbrev mutual
@@ -29,7 +29,7 @@ is_header piece = slice_index (skip_blank (skip_bom piece)) 0 == 91
 -- the names before the shortest prefix that ends in `=` and parses alone when followed by `0`;
 -- empty where there is none
 pub data IsOwnKey (piece : List ℕ) (key : List Name) : Type 0 where
-  at_front : (n : ℕ) → IsFirstFrontTo 61 (48 ∷ []) piece n → key ≡ chain_at (take n piece ++ 48 ∷ []) → IsOwnKey piece key
+  at_front : (n : ℕ) → IsShortest (IsFrontTo 61 (48 ∷ []) piece) n → key ≡ chain_at (take n piece ++ 48 ∷ []) → IsOwnKey piece key
   no_front : ((n : ℕ) → ¬ IsFrontTo 61 (48 ∷ []) piece n) → key ≡ [] → IsOwnKey piece key
 
 -- a piece after the last header's path has this path: a header has its own, a key is appended to
