@@ -6,7 +6,9 @@ use Rattle.std.specs.Cmp.Lexicographic.{bytes_decides}
 use Rattle.std.proofs.lemmas.Bool.{cases_Bool}
 use Rattle.std.proofs.lemmas.List.{append_cancel_left}
 use Rattle.hack_base.specs.Names.{Name}
-use Rattle.hack_metadata.specs.PackageSpecs.{BeginsWith, is_byte, unless_empty, Url, IsUrl, Identity, IsPlace, AsksVersion, of_name, of_fragment, alone, Matches, named, placed, name_at, versioned, HasBadId, HasBadVersion, has_byte, behind_first_byte, separates, begins_with_digit, trimmed_end}
+use Rattle.hack_metadata.specs.PackageSpecs.{BeginsWith, is_byte, unless_empty, Url, IsUrl, Identity, IsPlace, AsksVersion, of_name, of_fragment, alone, Matches, named, placed, name_at, versioned, HasBadId, HasBadVersion, has_byte, behind_first_byte, separates, trimmed_end}
+use Rattle.std.specs.Char.{is_ascii_digit}
+use Rattle.std.specs.Prelude.{slice_index}
 use Rattle.hack_metadata.specs.InternalSpecAnswers.{MatchAnswer, fits, parts_at_separator, behind_name, with_version, alone_in, in_fragment, of_fragments, is_same_place, of_urls, IsUrlOrNone, IsBehind}
 use Rattle.hack_metadata.specs.declared.cargo.SpecFault.TheVariants.{BadId, BadVersion}
 use Rattle.hack_metadata.proofs.TextLemmas.{scheme-same}
@@ -85,15 +87,15 @@ module _ (p : Identity) (spec : Name) where
     parted-go true e1 e2 = names-go (bytes_eq (before_first separates text) (before_first separates own)) e1 e2 refl
     parted-go false e1 e2 = no refl
 
-    digit-go : (b : Bool) → has_byte separates text ≡ false → bytes_eq text p.name ≡ false → begins_with_digit text ≡ b → Comes p spec (cond b (fits text p.version) (Ok false))
+    digit-go : (b : Bool) → has_byte separates text ≡ false → bytes_eq text p.name ≡ false → is_ascii_digit (slice_index text 0) ≡ b → Comes p spec (cond b (fits text p.version) (Ok false))
     digit-go true e1 e2 e3 = by_version text p.version (alone g o place is (ap is_some own_is) e1 (same-names text p.name e2) e3 refl) refl
     digit-go false e1 e2 e3 = no refl
 
-    alone-go : (b : Bool) → has_byte separates text ≡ false → bytes_eq text p.name ≡ b → Comes p spec (cond b (Ok true) (cond (begins_with_digit text) (fits text p.version) (Ok false)))
+    alone-go : (b : Bool) → has_byte separates text ≡ false → bytes_eq text p.name ≡ b → Comes p spec (cond b (Ok true) (cond (is_ascii_digit (slice_index text 0)) (fits text p.version) (Ok false)))
     alone-go true e1 e2 =
         let same : text ≡ p.name = (bytes_decides text p.name).0 e2 in
         yes (name_at g o place (is ∙ ap Some same) (ap is_some own_is) (subst (λ t. has_byte separates t ≡ false) same e1)) refl
-    alone-go false e1 e2 = digit-go (begins_with_digit text) e1 e2 refl
+    alone-go false e1 e2 = digit-go (is_ascii_digit (slice_index text 0)) e1 e2 refl
 
     fragment-go : (b : Bool) → has_byte separates text ≡ b → Comes p spec (in_fragment p text (cond b (Some (before_first separates text, after_first separates text)) None) (parts_at_separator own))
     fragment-go true e = parted-go (has_byte separates own) e refl
@@ -140,7 +142,7 @@ module _ (p : Identity) (spec : Name) where
           place-answer url own place
           ∙ ap (λ f. of_fragments p f own.fragment) e1
           ∙ alone-answer given own.fragment some none
-          ∙ ap (λ b. cond b (Ok true) (cond (begins_with_digit given) (fits given p.version) (Ok false))) (other-name given p.name differs)
+          ∙ ap (λ b. cond b (Ok true) (cond (is_ascii_digit (slice_index given 0)) (fits given p.version) (Ok false))) (other-name given p.name differs)
           ∙ ap (λ b. cond b (fits given p.version) (Ok false)) digit
           ∙ ap (fits given) v
 
@@ -151,7 +153,7 @@ module _ (p : Identity) (spec : Name) where
           place-answer url own place
           ∙ ap (λ f. of_fragments p f own.fragment) is
           ∙ alone-answer p.name own.fragment some none
-          ∙ ap (λ b. cond b (Ok true) (cond (begins_with_digit p.name) (fits p.name p.version) (Ok false))) ((bytes_decides p.name p.name).1 refl)
+          ∙ ap (λ b. cond b (Ok true) (cond (is_ascii_digit (slice_index p.name 0)) (fits p.name p.version) (Ok false))) ((bytes_decides p.name p.name).1 refl)
       url-matches (versioned given full asks h) = url-asks given full asks ∙ fits-tested given full h
 
       no_url : (own : Option Url) → IsUrlOrNone p.id own → ((u : Url) → ¬ IsUrl p.id u) → own ≡ None
