@@ -9,8 +9,10 @@ use Rattle.toml.specs.Data.{Members, no_members, member}
 use Rattle.toml.specs.View.{members_view}
 use Rattle.toml.specs.declared.value.Value.{Value}
 use Rattle.hack_base.specs.Names.{Name}
-use Rattle.hack_manifest.specs.LineRuns.{IsLines, IsRun, IsShortest, IsCutInto, has_keys}
-use Rattle.hack_manifest.specs.Paths.{chain, IsPathOfPiece, View, HavePaths, next_header}
+use Rattle.hack_manifest.specs.LineRuns.{IsLines, IsRun, IsShortest, IsCutInto}
+use Rattle.hack_manifest.specs.Internal.{has_keys}
+use Rattle.hack_manifest.specs.Paths.{IsPathOfPiece, View, HavePaths, next_header}
+use Rattle.hack_manifest.specs.LineRuns.{chain}
 
 abbrev pub Entry : Type 0
 Entry = String Global × Value

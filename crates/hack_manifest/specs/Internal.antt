@@ -1,7 +1,8 @@
 -- What only private functions of the crate promise each other.
 use Rattle.std.specs.Prelude.{◌≡◌, ◌==◌, ◌&&◌, ◌<◌, ℕ, Bool, List, length, Option, Some, option_map, Vec, String, Result, Ok, Err, string_bytes, [], ◌∷◌}
 use Rattle.toml_parser.specs.Lexical.{Read, skip_ws, skip_blank}
-use Rattle.toml.specs.Data.{Data, Items}
+use Rattle.std.specs.Option.{option_map_or}
+use Rattle.toml.specs.Data.{Data, Items, Members}
 use Rattle.toml.specs.Parse.{items, ends_line}
 use Rattle.std.specs.Ordering.{nat_cmp}
 use Rattle.std.specs.Cmp.Lexicographic.{slice_cmp}
@@ -17,7 +18,12 @@ use Rattle.hack_manifest.specs.declared.manifest.ManifestFault.{ManifestFault}
 use Rattle.hack_manifest.specs.declared.manifest.ManifestFault.TheVariants as faults
 use Rattle.hack_manifest.specs.ManifestResults.{facts_of}
 use Rattle.hack_manifest.specs.declared.places.Place.{Place}
+use Rattle.hack_manifest.specs.LineRuns.{has_some, chain}
 use Rattle.hack_manifest.specs.Places.{step}
+
+-- a document with at least one key
+abbrev pub has_keys : Option Members → Bool
+has_keys o = has_some (option_map_or chain o [])
 
 -- the text after that which was read
 abbrev pub rest_of_read : {A : Type 0} → Read A → Option (List ℕ)

@@ -81,9 +81,9 @@ abbrev pub read_manifest : ℕ → List View → Members → FieldReading Facts
 read_manifest minor ps tree =
     package_in (is_inline (codes "package") ps) tree >>= λ ms.
     read_below 39 minor (publish_from (get_member (codes "publish") ms)) >>= λ publish.
-    read_below 58 minor (rust_version_from (get_member (codes "rust-version") ms)) >>= λ rust_version.
+    read_below 58 minor (rust_version_from (get_member (codes "rust-version") ms)) >>= λ rust.
     features_from (is_inline features_key ps) (get_member features_key tree) >>= λ features.
-    Ok (record { publish = publish; rust_version = rust_version; features = features })
+    Ok (record { publish = publish; rust_version = rust; features = features })
 
 -- what the text of a manifest is read as
 pub record IsReadAs (text : List ℕ) (minor : ℕ) (read : FieldReading Facts) : Type 0 where
