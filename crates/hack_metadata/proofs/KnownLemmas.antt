@@ -9,9 +9,9 @@ use Rattle.std.specs.Prelude.{nat_le}
 use Rattle.std.proofs.lemmas.List.{length-map}
 use Rattle.std.proofs.lemmas.Bool.Decides.{nat_tests}
 use Rattle.serde_json.specs.Data.{Data, Items, no_items, item, Members}
-use Rattle.serde_json.specs.Find.{as_str}
+use Rattle.serde_json.specs.Find.{as_str, as_object}
 use Rattle.hack_base.specs.Names.{Name}
-use Rattle.hack_metadata.specs.Fields.{string_in, array_in, nullable_in, element_of, read_all}
+use Rattle.hack_metadata.specs.Fields.{string_in, array_in, nullable_in, read_all}
 use Rattle.hack_base.specs.FieldReadings.{◌>>=◌, FieldReading}
 use Rattle.hack_metadata.specs.KnownIds.{is_known_node, are_known}
 use Rattle.hack_metadata.specs.Internal.{Bounds}
@@ -98,7 +98,7 @@ module _ (place : Name → Option ℕ) (n : ℕ) (bounds : Bounds place n) where
   module _ (minor : ℕ) where
     dep-known : (d : Data) (r : NodeDepRecord) → read_node_dep place minor d ≡ Ok r → nat_lt r.pkg n ≡ true
     dep-known d r e =
-        let ms = behind (element_of (codes "deps") d) _ r e in
+        let ms = behind (ok_or (as_object d) (codes "deps")) _ r e in
         let id = behind (string_in (codes "pkg") ms.value) _ r ms.then in
         let pkg = behind (ok_or (place id.value) (codes "pkg")) _ r id.then in
         let kinds = behind (read_from 41 minor [] (array_in (codes "dep_kinds") ms.value >>= read_all read_kind)) _ r pkg.then in
@@ -116,7 +116,7 @@ module _ (place : Name → Option ℕ) (n : ℕ) (bounds : Bounds place n) where
 
     node-known : (d : Data) (e : ℕ × NodeRecord) → read_node place minor d ≡ Ok e → known_entry e ≡ true
     node-known d r e =
-        let ms = behind (element_of (codes "nodes") d) _ r e in
+        let ms = behind (ok_or (as_object d) (codes "nodes")) _ r e in
         let id = behind (string_in (codes "id") ms.value) _ r ms.then in
         let deps = behind (read_from 30 minor [] (array_in (codes "deps") ms.value >>= read_all (read_node_dep place minor))) _ r id.then in
         let at = behind (ok_or (place id.value) (codes "id")) _ r deps.then in
@@ -143,7 +143,7 @@ module _ (place : Name → Option ℕ) (n : ℕ) (bounds : Bounds place n) where
     resolve-go : (o : Option Data) (nodes : Nodes) → read_resolve place minor o ≡ Ok nodes → list_all known_entry nodes ≡ true
     resolve-go None nodes e = ap (list_all known_entry) (let q : nodes ≡ [] = cc in q)
     resolve-go (Some d) nodes e =
-        let ms = behind (element_of (codes "resolve") d) _ nodes e in
+        let ms = behind (ok_or (as_object d) (codes "resolve")) _ nodes e in
         let list = behind (array_in (codes "nodes") ms.value) _ nodes ms.then in
         let all = behind (read_all (read_node place minor) list.value) _ nodes list.then in
         let same : with_nodes [] all.value ≡ nodes = (let q : Ok (with_nodes [] all.value) ≡ Ok nodes = all.then in cc) in

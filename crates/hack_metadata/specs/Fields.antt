@@ -37,10 +37,6 @@ abbrev pub optional_text_in : Name → Members → FieldReading (Option Name)
 optional_text_in key ms =
     nullable_in key ms >>= λ o. option_map_or (λ d. ok_or (option_map Some (as_str d)) key) o (Ok None)
 
--- data that have to be an object, such as an element of a list; else the name of that field
-abbrev pub element_of : Name → Data → FieldReading Members
-element_of list d = ok_or (as_object d) list
-
 -- each item as f reads it, in order
 abbrev pub read_all : {A : Type 0} → (Data → FieldReading A) → Items → FieldReading (List A)
 read_all f no_items = Ok []

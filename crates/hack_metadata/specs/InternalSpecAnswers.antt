@@ -2,7 +2,7 @@
 use Rattle.std.specs.Prelude.{◌≡◌, ◌≢◌, ℕ, ◌≤◌, ◌++◌, length, codes, nat_lt, ◌==◌, ◌&&◌, Bool, true, false, if◌then◌else◌, [], ◌∷◌, Option, Some, None, Result, Ok, Err, is_some, slice_index, bytes_eq}
 use Rattle.std.specs.List.{before_first, after_first}
 use Rattle.hack_base.specs.Names.{Name}
-use Rattle.hack_metadata.specs.PackageSpecs.{BeginsWith, has_byte, separates, third, version_parts_of, Url, IsUrl, Identity}
+use Rattle.hack_metadata.specs.PackageSpecs.{has_byte, separates, third, version_parts_of, Url, IsUrl, Identity}
 use Rattle.std.specs.Char.{is_ascii_digit}
 use Rattle.std.specs.Cmp.Lexicographic.{pointwise}
 use Rattle.hack_metadata.specs.declared.cargo.SpecFault.{SpecFault}
@@ -98,5 +98,5 @@ pub record IsSchemeCut (text scheme rest : Name) : Type 0 where
 
 -- the text begins with the name, and this follows; or it doesn't begin with it
 abbrev pub IsBehind : Name → Name → Option Name → Type 0
-IsBehind name text None = ¬ BeginsWith text name
+IsBehind name text None = (rest : Name) → text ≢ name ++ rest
 IsBehind name text (Some rest) = text ≡ name ++ rest

@@ -7,10 +7,10 @@ use Rattle.std.specs.Ordering.{nat_cmp}
 use Rattle.std.specs.Str.{bytes_eq}
 use Rattle.std.specs.BTreeMap.{insert_entry}
 use Rattle.serde_json.specs.Data.{Data, Items, no_items, item, Members, no_members, member}
-use Rattle.serde_json.specs.Find.{as_str, as_array}
+use Rattle.serde_json.specs.Find.{as_str, as_array, as_object}
 use Rattle.hack_base.specs.Names.{Name}
 use Rattle.hack_features.specs.FeatureMap.{FeatureMap}
-use Rattle.hack_metadata.specs.Fields.{string_in, bool_in, array_in, object_in, nullable_in, optional_text_in, element_of, read_all}
+use Rattle.hack_metadata.specs.Fields.{string_in, bool_in, array_in, object_in, nullable_in, optional_text_in, read_all}
 use Rattle.hack_base.specs.FieldReadings.{◌>>=◌, FieldReading}
 use Rattle.hack_metadata.specs.Records.{DependencyRecord, PackageRecord, KindRecord, NodeDepRecord, NodeRecord, Nodes, MetadataRecord}
 
@@ -23,7 +23,7 @@ read_from since minor before read = if nat_le since minor then read else Ok befo
 -- an element of `dependencies`
 abbrev pub read_dependency : Data → FieldReading DependencyRecord
 read_dependency d =
-    element_of (codes "dependencies") d >>= λ ms.
+    ok_or (as_object d) (codes "dependencies") >>= λ ms.
     string_in (codes "name") ms >>= λ name.
     bool_in (codes "optional") ms >>= λ optional.
     optional_text_in (codes "rename") ms >>= λ rename.
@@ -51,7 +51,7 @@ may_publish o = option_map_or (λ d. ok_or (option_map has_items (as_array d)) (
 -- an element of `packages`
 abbrev pub read_package : ℕ → Data → FieldReading PackageRecord
 read_package minor d =
-    element_of (codes "packages") d >>= λ ms.
+    ok_or (as_object d) (codes "packages") >>= λ ms.
     string_in (codes "id") ms >>= λ id.
     string_in (codes "name") ms >>= λ name.
     string_in (codes "version") ms >>= λ version.
@@ -94,7 +94,7 @@ module _ (place : Name → Option ℕ) where
 -- an element of `dep_kinds`
 abbrev pub read_kind : Data → FieldReading KindRecord
 read_kind d =
-    element_of (codes "dep_kinds") d >>= λ ms.
+    ok_or (as_object d) (codes "dep_kinds") >>= λ ms.
     optional_text_in (codes "kind") ms >>= λ kind.
     optional_text_in (codes "target") ms >>= λ target.
     Ok (record { kind = kind; target = target })
@@ -107,7 +107,7 @@ module _ (place : Name → Option ℕ) (minor : ℕ) where
   -- an element of `deps`
   abbrev pub read_node_dep : Data → FieldReading NodeDepRecord
   read_node_dep d =
-      element_of (codes "deps") d >>= λ ms.
+      ok_or (as_object d) (codes "deps") >>= λ ms.
       string_in (codes "pkg") ms >>= λ id.
       ok_or (place id) (codes "pkg") >>= λ pkg.
       read_from 41 minor [] (array_in (codes "dep_kinds") ms >>= read_all read_kind) >>= λ kinds.
@@ -116,7 +116,7 @@ module _ (place : Name → Option ℕ) (minor : ℕ) where
   -- an element of `nodes`: the place of its package, which is looked up last, and the node
   abbrev pub read_node : Data → FieldReading (ℕ × NodeRecord)
   read_node d =
-      element_of (codes "nodes") d >>= λ ms.
+      ok_or (as_object d) (codes "nodes") >>= λ ms.
       string_in (codes "id") ms >>= λ id.
       read_from 30 minor [] (array_in (codes "deps") ms >>= read_all read_node_dep) >>= λ deps.
       ok_or (place id) (codes "id") >>= λ at.
@@ -126,7 +126,7 @@ module _ (place : Name → Option ℕ) (minor : ℕ) where
   abbrev pub read_resolve : Option Data → FieldReading Nodes
   read_resolve None = Ok []
   read_resolve (Some d) =
-      element_of (codes "resolve") d >>= λ ms.
+      ok_or (as_object d) (codes "resolve") >>= λ ms.
       array_in (codes "nodes") ms >>= λ ds.
       read_all read_node ds >>= λ nodes.
       Ok (with_nodes [] nodes)

@@ -29,10 +29,6 @@ separates x = x == 64 || x == 58
 abbrev pub is_byte : ℕ → ℕ → Bool
 is_byte b x = x == b
 
--- the text begins with `front`
-abbrev pub BeginsWith : Name → Name → Type 0
-BeginsWith text front = (rest : Name) × (text ≡ front ++ rest)
-
 -- the text without the ASCII white space at its end
 abbrev pub trimmed_end : Name → Name
 trimmed_end text = take (length text - suffix_len is_ascii_whitespace text) text
@@ -95,7 +91,7 @@ module _ (p : Identity) (spec : Name) where
   -- the specification is a URL, white space at its end aside, and the id is one, of the same place:
   -- protocol and path, and the query where it is given
   pub record IsPlace (given own : Url) : Type 0 where
-    pub unnamed : ¬ BeginsWith spec p.name
+    pub unnamed : (rest : Name) → spec ≢ p.name ++ rest
     pub spec_is : IsUrl (trimmed_end spec) given
     pub id_is : IsUrl p.id own
     pub protocol : given.protocol ≡ own.protocol
@@ -121,7 +117,7 @@ module _ (p : Identity) (spec : Name) where
 
   -- the specification is a URL, and the id is none
   pub record HasBadId : Type 0 where
-    pub unnamed : ¬ BeginsWith spec p.name
+    pub unnamed : (rest : Name) → spec ≢ p.name ++ rest
     pub url : Url
     pub spec_is : IsUrl (trimmed_end spec) url
     pub id_is : (own : Url) → ¬ IsUrl p.id own
