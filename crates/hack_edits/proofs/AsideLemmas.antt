@@ -1,18 +1,19 @@
 -- Which texts of features are removed is the same for the tree without its features.
-use Rattle.std.proofs.Common.{◌≡◌, true, false, ◌&&◌, ◌||◌, not, Option, Some, None, Ordering, Less, Equal, Greater, nat_cmp, is_eq, refl, sym, ap, ◌∙◌, inl, inr}
+use Rattle.std.proofs.Common.{◌≡◌, List, [], ◌∷◌, true, false, ◌&&◌, ◌||◌, not, Option, Some, None, Ordering, Less, Equal, Greater, nat_cmp, is_eq, refl, sym, ap, ◌∙◌, inl, inr}
 use Rattle.std.proofs.lemmas.Bool.{cases_Bool}
 use Rattle.std.proofs.lemmas.Map.Text.{is_eq-slice_cmp}
 use Rattle.std.proofs.lemmas.Slice.Eq.{bytes_eq-Decides}
 use Rattle.std.specs.Cmp.Lexicographic.{slice_cmp}
 use Rattle.std.specs.Ordering.{match_ordering}
-use Rattle.std.specs.Prelude.{◌==◌, codes, length, option_and_then}
+use Rattle.std.specs.Prelude.{◌==◌, codes, length, is_some, option_and_then}
 use Rattle.std.specs.Option.{option_map_or}
 use Rattle.std.specs.List.{before_first, position_or_len}
-use Rattle.toml.specs.Data.{Data, string, integer, float, boolean, datetime, array, table, Items, no_items, item, Members, no_members, member, get_member, as_table, same_key}
+use Rattle.toml.specs.Data.{Data, string, integer, float, boolean, datetime, array, table, Members, no_members, member, get_member, as_table, same_key}
+use Rattle.toml.specs.View.{items_of}
 use Rattle.hack_base.specs.Names.{Name}
-use Rattle.hack_manifest.specs.Manifest.{table_at, features_key}
+use Rattle.hack_manifest.specs.Manifest.{table_at, features_key, list_of}
 use Rattle.hack_edits.specs.KeyPaths.{dev_key, target_key}
-use Rattle.hack_edits.specs.Lookup.{has_key, some_table, lists, depends, is_dev_only, item_goes}
+use Rattle.hack_edits.specs.Lookup.{some_table, lists, depends, is_dev_only, item_goes}
 use Rattle.hack_base.specs.PathTexts.{is_slash}
 use Rattle.hack_edits.specs.DevTree.{items_left, arrays_left}
 use Rattle.hack_edits.specs.Tables.{remove_member, with_member, with_value, in_table, in_array}
@@ -42,7 +43,7 @@ table-aside j k other ms = ap (λ o. option_and_then as_table o) (get-aside j k 
 
 depends-aside : (j section key : Name) → same_key section j ≡ false → same_key target_key j ≡ false → (ms : Members) → depends section key (remove_member j ms) ≡ depends section key ms
 depends-aside j section key other apart_too ms =
-    ap (λ o. option_map_or (has_key key) o false || option_map_or (some_table (lists section key)) (table_at target_key (remove_member j ms)) false) (table-aside j section other ms)
+    ap (λ o. option_map_or (λ t. is_some (get_member key t)) o false || option_map_or (some_table (lists section key)) (table_at target_key (remove_member j ms)) false) (table-aside j section other ms)
     ∙ ap (λ o. lists section key ms || option_map_or (some_table (lists section key)) o false) (table-aside j target_key apart_too ms)
 
 dev_only-aside : (name : Name) (ms : Members) → is_dev_only name (remove_member features_key ms) ≡ is_dev_only name ms
@@ -60,12 +61,12 @@ goes-aside ms (datetime t) = refl
 goes-aside ms (array ds) = refl
 goes-aside ms (table ts) = refl
 
-items-aside : (old : Members) (ds : Items) → items_left (remove_member features_key old) ds ≡ items_left old ds
-items-aside old no_items = refl
-items-aside old (item d ds) = rw (goes-aside old d, items-aside old ds) refl
+items-aside : (old : Members) (ds : List Data) → items_left (remove_member features_key old) ds ≡ items_left old ds
+items-aside old [] = refl
+items-aside old (d ∷ ds) = rw (goes-aside old d, items-aside old ds) refl
 
 array-aside : (old : Members) (d : Data) → in_array (items_left (remove_member features_key old)) d ≡ in_array (items_left old) d
-array-aside old (array ds) = ap array (items-aside old ds)
+array-aside old (array ds) = ap (λ xs. array (items_of xs)) (items-aside old (list_of ds))
 array-aside old (string s) = refl
 array-aside old (integer z) = refl
 array-aside old (float x) = refl
@@ -89,6 +90,7 @@ features-aside old (array ds) = refl
 
 -- what stays of the features, by the tree without them
 pub with_features-aside : (old : Members) (o : Option Data) (ms : Members)
-    → with_value features_key (in_table (arrays_left (remove_member features_key old) no_members)) o ms ≡ with_value features_key (in_table (arrays_left old no_members)) o ms
+    → with_value features_key (option_and_then (λ d. Some (in_table (arrays_left (remove_member features_key old) no_members) d)) o) ms
+    ≡ with_value features_key (option_and_then (λ d. Some (in_table (arrays_left old no_members) d)) o) ms
 with_features-aside old None ms = refl
 with_features-aside old (Some d) ms = ap (λ f. with_member features_key f ms) (features-aside old d)

@@ -3,7 +3,7 @@ use Rattle.std.proofs.Common.{◌≡◌, ◌⊎◌, ℕ, ◌+◌, ◌-◌, ◌<�
 use Rattle.std.proofs.lemmas.List.{take-append-le, get_or_append_left, append-nil}
 use Rattle.hack_base.specs.Names.{Name, names_of}
 use Rattle.hack_manifest.specs.Paths.{View, is_header, IsPathOfPiece, HavePaths, next_header, AreCut}
-use Rattle.hack_manifest.specs.LineRuns.{IsLines, IsRun, IsFirstRun, HasNoRun, IsCutInto, stands}
+use Rattle.hack_manifest.specs.LineRuns.{IsLines, IsRun, IsShortest, IsCutInto, stands}
 use Rattle.hack_manifest.proofs.OnceLemmas.{own-once}
 use Rattle.hack_edits.specs.KeyPaths.{is_dev, path_name_at, dev_key, target_key}
 use Rattle.hack_edits.specs.DevDeps.{some_dev, HasNoDevPiece}
@@ -40,14 +40,14 @@ run-below p r s m below run =
     }
 
 -- a first run is one whatever follows, where nothing does or it ends in a line feed
-first-moved : (p r s : List ℕ) → ((length s ≡ 0) ⊎ EndsInFeed p) → IsFirstRun (p ++ r) (length p) → IsFirstRun (p ++ s) (length p)
+first-moved : (p r s : List ℕ) → ((length s ≡ 0) ⊎ EndsInFeed p) → IsShortest (IsRun (p ++ r)) (length p) → IsShortest (IsRun (p ++ s)) (length p)
 first-moved p r s end first =
-    let some : 0 < length p = first.run.lines.some in
+    let some : 0 < length p = first.holds.lines.some in
     let whole : length (p ++ s) ≡ length p + length s = length-append p s in
     let last : length p - 1 < length p = omega arith in
     let all : length p ≤ length p = omega arith in
     record {
-      run = record {
+      holds = record {
         lines = record {
           some = some;
           within = omega arith;
@@ -56,17 +56,17 @@ first-moved p r s end first =
             | inr feed ↦ inr (get_or_append_left p s 0 (length p - 1) last ∙ feed)
           ];
         };
-        reads = ap stands (take-append-le (length p) p s all ∙ sym (take-append-le (length p) p r all)) ∙ first.run.reads;
+        reads = ap stands (take-append-le (length p) p s all ∙ sym (take-append-le (length p) p r all)) ∙ first.holds.reads;
       };
       shortest = λ m below run. first.shortest m below (run-below p s r m below run);
     }
 
 -- how a first run ends: the text ends with it, or it ends in a line feed
-run-end : (p r : List ℕ) → IsFirstRun (p ++ r) (length p) → (length r ≡ 0) ⊎ EndsInFeed p
+run-end : (p r : List ℕ) → IsShortest (IsRun (p ++ r)) (length p) → (length r ≡ 0) ⊎ EndsInFeed p
 run-end p r first =
-    let some : 0 < length p = first.run.lines.some in
+    let some : 0 < length p = first.holds.lines.some in
     let whole : length (p ++ r) ≡ length p + length r = length-append p r in
-    elim first.run.lines.ends [
+    elim first.holds.lines.ends [
       | inl all ↦ inl (omega arith)
       | inr feed ↦ inr (sym (get_or_append_left p r 0 (length p - 1) (omega arith)) ∙ feed)
     ]
@@ -75,8 +75,8 @@ run-end p r first =
 empty_text : (ps : List View) (tail text new : List ℕ) → IsCutInto (map (λ p. p.text) ps) tail text → AreRecut ps tail new → length text ≡ 0 → length new ≡ 0
 empty_text [] tail text new h left none = ap length (left ∙ h.0) ∙ none
 empty_text (p ∷ ps) tail text new (rest, whole, first, more) left none =
-    let some : 0 < length p.text = first.run.lines.some in
-    let within : length p.text ≤ length text = first.run.lines.within in
+    let some : 0 < length p.text = first.holds.lines.some in
+    let within : length p.text ≤ length text = first.holds.lines.within in
     absurd (omega arith)
 
 -- ---- their paths
@@ -144,7 +144,7 @@ record IsCutAgain (header : List Name) (tail text : List ℕ) : Type 0 where
   none : some_dev pieces ≡ false
 
 -- a piece in front
-with-piece : (now : List Name) (p : View) (tail text : List ℕ) → is_dev p.path ≡ false → IsPathOfPiece now p.text p.path → IsFirstRun (p.text ++ text) (length p.text)
+with-piece : (now : List Name) (p : View) (tail text : List ℕ) → is_dev p.path ≡ false → IsPathOfPiece now p.text p.path → IsShortest (IsRun (p.text ++ text)) (length p.text)
     → IsCutAgain (next_header now p) tail text → IsCutAgain now tail (p.text ++ text)
 with-piece now p tail text stays path first again =
     record {
@@ -156,7 +156,7 @@ with-piece now p tail text stays path first again =
 
 -- a key with its names in front
 with-key : (header now : List Name) (p : View) (part tail text : List ℕ) → is_dev p.path ≡ false → Follows header now → IsPathOfPiece header p.text p.path → KeepsKey p.text part
-    → IsFirstRun (part ++ text) (length part) → IsCutAgain now tail text → IsCutAgain now tail (part ++ text)
+    → IsShortest (IsRun (part ++ text)) (length part) → IsCutAgain now tail text → IsCutAgain now tail (part ++ text)
 with-key header now p part tail text stays f path keeps first again =
     let left : View = record { text = part; path = p.path } in
     let moved : IsPathOfPiece now p.text p.path = path-moved header now p.text p.path stays f path in
@@ -169,7 +169,7 @@ with-key header now p part tail text stays f path keeps first again =
 
 -- after a piece that is removed, that stays, or that keeps its key
 recut-step : (b : Bool) (p : View) (header now : List Name) (part tail rest new : List ℕ) → is_dev p.path ≡ b → Follows header now → IsPathOfPiece header p.text p.path
-    → IsFirstRun (p.text ++ rest) (length p.text) → (length rest ≡ 0 → length new ≡ 0) → MatchBool b (part ≡ []) ((part ≡ p.text) ⊎ KeepsKey p.text part)
+    → IsShortest (IsRun (p.text ++ rest)) (length p.text) → (length rest ≡ 0 → length new ≡ 0) → MatchBool b (part ≡ []) ((part ≡ p.text) ⊎ KeepsKey p.text part)
     → ((next : List Name) → Follows (next_header header p) next → IsCutAgain next tail new) → IsCutAgain now tail (part ++ new)
 recut-step true p header now part tail rest new gone f path first ends none again =
     let P : List ℕ → Type 0 = λ t. IsCutAgain now tail (t ++ new) in
@@ -183,7 +183,7 @@ recut-step false p header now part tail rest new stays f path first ends (inl sa
     ] in
     subst P (sym same) (with-piece now p tail new stays moved (first-moved p.text rest new end first) (again (next_header now p) (follows-kept header now p f)))
 recut-step false p header now part tail rest new stays f path first ends (inr keeps) again =
-    let P : List ℕ → Type 0 = λ t. IsFirstRun t (length part) in
+    let P : List ℕ → Type 0 = λ t. IsShortest (IsRun t) (length part) in
     let end : (length new ≡ 0) ⊎ EndsInFeed part = elim (run-end p.text rest first) [
       | inl none ↦ inl (ends none)
       | inr feed ↦ inr (keeps.feed feed)
@@ -193,10 +193,10 @@ recut-step false p header now part tail rest new stays f path first ends (inr ke
 recut : (ps : List View) (header now : List Name) (tail text new : List ℕ) → Follows header now → IsCutInto (map (λ p. p.text) ps) tail text → HavePaths header ps
     → AreRecut ps tail new → IsCutAgain now tail new
 recut [] header now tail text new f h paths left =
-    let P : List ℕ → Type 0 = λ t. HasNoRun t in
+    let P : List ℕ → Type 0 = λ t. (m : ℕ) → IsRun t m → ⊥ in
     record { pieces = []; texts = (sym left, subst P (sym h.0 ∙ sym left) h.1); paths = tt; none = refl }
 recut (p ∷ ps) header now tail text new f (rest, whole, first, more) (path, paths) (part, behind, joined, is, others) =
-    let P : List ℕ → Type 0 = λ t. IsFirstRun t (length p.text) in
+    let P : List ℕ → Type 0 = λ t. IsShortest (IsRun t) (length p.text) in
     let Q : List ℕ → Type 0 = λ t. IsCutAgain now tail t in
     subst Q (sym joined) (recut-step (is_dev p.path) p header now part tail rest behind refl f path (subst P whole first) (empty_text ps tail rest behind more others) is
     (λ next follows. recut ps (next_header header p) next tail rest behind follows more paths others))

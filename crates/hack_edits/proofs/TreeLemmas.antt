@@ -7,10 +7,9 @@ use Rattle.std.specs.Map.{remove_entry}
 use Rattle.std.specs.String.{string_cmp}
 use Rattle.std.specs.Ordering.{match_ordering}
 use Rattle.std.specs.BTreeMap.{is_at, insert_entry}
-use Rattle.toml.specs.Data.{table, member}
+use Rattle.toml.specs.Data.{table, no_members, member}
 use Rattle.toml.proofs.Views.{Entry}
 use Rattle.hack_edits.specs.Tables.{remove_member, with_member}
-use Rattle.hack_edits.specs.DevTree.{is_empty_table}
 use Rattle.hack_edits.specs.InternalTreeEquality.{same, same_items}
 use Rattle.toml.specs.View.{view, items_view, members_view, table_view}
 use Rattle.toml.specs.declared.value.Value.{Value}
@@ -45,15 +44,15 @@ pub members_view-remove_entry : (k : List ℕ) (es : List Entry) → members_vie
 members_view-remove_entry k [] = refl
 members_view-remove_entry k (e ∷ es) = removed_or (is_eq (slice_cmp nat_cmp k (string_bytes e.0))) e es _ ∙ rw (members_view-remove_entry k es)
 
-at : (es : List Entry) (b : Bool) → (IsTrue b ↔ (length es ≡ 0)) → b ≡ is_empty_table (table (members_view es))
+at : (es : List Entry) (b : Bool) → (IsTrue b ↔ (length es ≡ 0)) → b ≡ same (table (members_view es)) (table no_members)
 at [] true h = refl
 at [] false h = h.1 refl
 at (e ∷ es) true h = absurd (omega (arith, h.0 refl))
 at (e ∷ es) false h = refl
 
 -- a table is empty exactly where its map is
-pub is_empty_table-map : (m : BTreeMap (String Global) Value) (b : Bool) → (IsTrue b ↔ (length m.entries ≡ 0)) → b ≡ is_empty_table (table (members_view m.entries))
-is_empty_table-map m b h = at m.entries b h
+pub is_empty-map : (m : BTreeMap (String Global) Value) (b : Bool) → (IsTrue b ↔ (length m.entries ≡ 0)) → b ≡ same (table (members_view m.entries)) (table no_members)
+is_empty-map m b h = at m.entries b h
 
 -- entries whose parts are copies of others are seen as the same members
 copied-entries : (es fs : List Entry) → AllZip (λ (p q : Entry). (string_bytes q.0 ≡ string_bytes p.0) × (view q.1 ≡ view p.1)) es fs → members_view fs ≡ members_view es

@@ -1,17 +1,17 @@
 -- A manifest without its development dependencies.
-use Rattle.std.specs.Prelude.{◌≡◌, ◌⊎◌, ◌==◌, ℕ, ◌&&◌, ◌||◌, Bool, true, false, not, MatchBool, if◌then◌else◌, List, [], ◌∷◌, ◌++◌, length, Some}
+use Rattle.std.specs.Prelude.{◌≡◌, ◌⊎◌, ◌==◌, ℕ, ◌&&◌, ◌||◌, Bool, true, false, not, MatchBool, if◌then◌else◌, List, [], ◌∷◌, ◌++◌, length, Some, option_and_then}
 use Rattle.std.specs.List.{list_any}
 use Rattle.std.specs.Str.{bytes_eq}
-use Rattle.toml.specs.Data.{Members}
+use Rattle.toml.specs.Data.{Members, get_member}
 use Rattle.toml.specs.Parse.{parse_document}
 use Rattle.hack_base.specs.Names.{Name}
-use Rattle.hack_manifest.specs.Manifest.{features_key}
+use Rattle.hack_manifest.specs.Manifest.{features_key, table_at}
 use Rattle.hack_manifest.specs.Paths.{View, AreCut, is_header}
 use Rattle.hack_edits.specs.Arrays.{IsCutInside}
 use Rattle.hack_edits.specs.DevTree.{reads_as_left}
 use Rattle.hack_edits.specs.KeyPaths.{target_key, path_name_at, is_dev}
 use Rattle.hack_edits.specs.Parts.{AreParts}
-use Rattle.hack_edits.specs.Lookup.{has_dev, has_target_dev, has_dev_under, feature, loses_texts_at}
+use Rattle.hack_edits.specs.Lookup.{has_dev, has_target_dev, has_dev_under, item_goes, items_in}
 
 -- ---- the pieces
 
@@ -21,7 +21,10 @@ some_dev ps = list_any (λ p. is_dev p.path) ps
 
 -- the path is that of a feature from whose array texts are removed
 abbrev pub loses_texts : Members → List Name → Bool
-loses_texts old path = (length path == 2 && bytes_eq (path_name_at path 0) features_key) && loses_texts_at old (feature (path_name_at path 1) old)
+loses_texts old (top ∷ name ∷ []) =
+    let value = option_and_then (get_member name) (table_at features_key old) in
+    bytes_eq top features_key && list_any (item_goes old) (items_in value)
+loses_texts old _ = false
 
 -- a piece that stays loses texts
 abbrev pub is_cut : Members → View → Bool
@@ -51,10 +54,6 @@ kept_text (p ∷ ps) tail = if is_dev p.path then kept_text ps tail else p.text 
 
 -- ---- the edit
 
--- there is something to take out: a table in the tree, or a piece
-abbrev pub has_dev_work : Members → List View → Bool
-has_dev_work old ps = has_dev old || some_dev ps
-
 -- no piece of the text is one of development dependencies
 pub record HasNoDevPiece (text : List ℕ) : Type 0 where
   pub pieces : List View
@@ -69,14 +68,15 @@ pub record IsEdit (old : Members) (ps : List View) (tail new : List ℕ) : Type 
   pub tree : reads_as_left old (parse_document new) ≡ true
   pub done : HasNoDevPiece new
 
--- What removing gives: the text where there is nothing to take out, else an edit of it.
+-- What removing gives: the text where there is nothing to take out, neither a table in the tree nor
+-- a piece, else an edit of it.
 pub record IsWithoutDev (text new : List ℕ) : Type 0 where
   pub old : Members
   pub ps : List View
   pub tail : List ℕ
   pub read : parse_document text ≡ Some old
   pub cut : AreCut text ps tail
-  pub edit : MatchBool (has_dev_work old ps) (IsEdit old ps tail new) (new ≡ text)
+  pub edit : MatchBool (has_dev old || some_dev ps) (IsEdit old ps tail new) (new ≡ text)
 
 -- the text has nothing to take out
 pub record HasNoDev (text : List ℕ) : Type 0 where
@@ -104,6 +104,6 @@ pub record IsMisread (text : List ℕ) : Type 0 where
   pub tail : List ℕ
   pub read : parse_document text ≡ Some old
   pub cut : AreCut text ps tail
-  pub work : has_dev_work old ps ≡ true
+  pub work : (has_dev old || some_dev ps) ≡ true
   pub open_tables : some_inline old ps ≡ false
   pub cause : (cuts_arrays old ps ≡ true) ⊎ (reads_as_left old (parse_document (kept_text ps tail)) ≡ false)

@@ -1,8 +1,8 @@
 -- The key paths of the pieces that edits change.
-use Rattle.std.specs.Prelude.{ℕ, ◌==◌, ◌&&◌, ◌||◌, Bool, List, [], length, slice_get, unwrap_or, codes}
+use Rattle.std.specs.Prelude.{ℕ, ◌==◌, ◌&&◌, ◌||◌, Bool, List, [], ◌∷◌, length, slice_get, unwrap_or, codes}
+use Rattle.std.specs.Cmp.Lexicographic.{pointwise}
 use Rattle.std.specs.Str.{bytes_eq}
 use Rattle.hack_base.specs.Names.{Name}
-use Rattle.hack_manifest.specs.Manifest.{is_just}
 use Rattle.hack_manifest.specs.Paths.{View, is_header}
 
 abbrev pub dev_key : Name
@@ -34,4 +34,4 @@ is_pair a b path = length path == 2 && (bytes_eq (path_name_at path 0) a && byte
 
 -- the piece is a header of just this name
 abbrev pub is_header_of : Name → View → Bool
-is_header_of name p = is_just name p.path && is_header p.text
+is_header_of name p = pointwise bytes_eq p.path (name ∷ []) && is_header p.text

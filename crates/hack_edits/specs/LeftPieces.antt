@@ -2,7 +2,7 @@
 use Rattle.std.specs.Prelude.{◌≡◌, ℕ, ◌-◌, false, List, length, slice_index}
 use Rattle.hack_base.specs.Names.{Name}
 use Rattle.hack_manifest.specs.Paths.{IsOwnKey, is_header}
-use Rattle.hack_manifest.specs.LineRuns.{IsFirstRun}
+use Rattle.hack_manifest.specs.LineRuns.{IsRun, IsShortest}
 
 -- the text ends in a line feed
 abbrev pub EndsInFeed : List ℕ → Type 0
@@ -15,5 +15,5 @@ pub record KeepsKey (piece part : List ℕ) : Type 0 where
   pub key : List Name
   pub own : IsOwnKey piece key
   pub kept : IsOwnKey part key
-  pub run : IsFirstRun part (length part)
+  pub run : IsShortest (IsRun part) (length part)
   pub feed : EndsInFeed piece → EndsInFeed part

@@ -1,18 +1,20 @@
 -- A manifest without private crates.
-use Rattle.std.specs.Prelude.{◌≡◌, ◌==◌, ℕ, ◌&&◌, ◌||◌, Bool, true, false, not, nat_lt, MatchBool, MatchOption, List, Option, Some, None, is_some}
+use Rattle.std.specs.Prelude.{◌≡◌, ◌==◌, ℕ, ◌&&◌, ◌||◌, Bool, true, false, not, nat_lt, MatchBool, MatchOption, List, Option, Some, None}
+use Rattle.std.specs.Option.{is_none}
 use Rattle.std.specs.List.{list_any}
 use Rattle.toml.specs.Data.{Data, array, Members, get_member}
 use Rattle.toml.specs.Parse.{parse_document}
-use Rattle.toml.specs.Text.{has_items}
 use Rattle.hack_base.specs.Names.{Name}
 use Rattle.hack_manifest.specs.Manifest.{table_at, is_inline}
 use Rattle.hack_manifest.specs.Paths.{View, AreCut}
 use Rattle.hack_edits.specs.Arrays.{IsCutInside}
-use Rattle.hack_edits.specs.Exclude.{with_line, IsAddedInside, adds}
+use Rattle.hack_edits.specs.Exclude.{with_line, IsAddedInside, is_read_as}
+use Rattle.hack_manifest.specs.LineRuns.{has_some}
+use Rattle.hack_edits.specs.Lookup.{items_in}
 use Rattle.hack_edits.specs.KeyPaths.{workspace_key, members_key, exclude_key, is_pair, is_header_of}
-use Rattle.hack_edits.specs.Members.{array_items_at, excluded_folders}
+use Rattle.hack_edits.specs.Members.{excluded_folders}
 use Rattle.hack_edits.specs.Parts.{AreParts}
-use Rattle.hack_edits.specs.WorkspaceTree.{takes, has_work, reads_without}
+use Rattle.hack_edits.specs.WorkspaceTree.{takes, has_work, tree_left}
 
 -- What is made of a piece, by whether members are removed, and with texts to add: slices are cut
 -- out of the array of members, and the texts are added to the array that excludes, or in a line
@@ -20,8 +22,10 @@ use Rattle.hack_edits.specs.WorkspaceTree.{takes, has_work, reads_without}
 abbrev pub IsMade : Bool → List Name → Members → View → List ℕ → Type 0
 IsMade takes ts ws p part =
     MatchBool (is_pair workspace_key members_key p.path && takes) (IsCutInside p.text part)
-    (MatchBool (is_pair workspace_key exclude_key p.path && adds ts) (IsAddedInside (has_items (array_items_at exclude_key ws)) ts p.text part)
-    (MatchBool ((is_header_of workspace_key p && not (is_some (get_member exclude_key ws))) && adds ts) (part ≡ with_line ts p.text) (part ≡ p.text)))
+    (MatchBool (is_pair workspace_key exclude_key p.path && has_some ts)
+    (IsAddedInside (has_some (items_in (get_member exclude_key ws))) ts p.text part)
+    (MatchBool (is_header_of workspace_key p && is_none (get_member exclude_key ws) && has_some ts)
+    (part ≡ with_line ts p.text) (part ≡ p.text)))
 
 -- What is made of the pieces, which `toml` reads as the tree with the workspace that is expected.
 pub record IsWorkspaceEdit (root : Name) (ps : List Name) (text : List ℕ) (old ws : Members) (new : List ℕ) : Type 0 where
@@ -29,7 +33,7 @@ pub record IsWorkspaceEdit (root : Name) (ps : List Name) (text : List ℕ) (old
   pub tail : List ℕ
   pub cut : AreCut text pieces tail
   pub made : AreParts (IsMade (takes root ps ws) (excluded_folders root ps ws) ws) pieces tail new
-  pub tree : reads_without root ps old (parse_document new) ≡ true
+  pub tree : is_read_as (tree_left root ps old) new ≡ true
 
 -- What removing private crates gives: the text where there is no workspace, or nothing to take out
 -- or add, else an edit of it.
@@ -73,7 +77,8 @@ has_no_place ws pieces = no_place (get_member exclude_key ws) pieces
 
 -- a form that isn't supported: an inline workspace, or no place for folders to exclude
 abbrev pub is_bad_form : Name → List Name → Members → List View → Bool
-is_bad_form root ps ws pieces = is_inline workspace_key pieces || (adds (excluded_folders root ps ws) && has_no_place ws pieces)
+is_bad_form root ps ws pieces =
+    is_inline workspace_key pieces || (has_some (excluded_folders root ps ws) && has_no_place ws pieces)
 
 -- an unsupported form where there is something to take out or add
 pub record HasBadForm (root : Name) (ps : List Name) (text : List ℕ) : Type 0 where

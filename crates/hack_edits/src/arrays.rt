@@ -3,7 +3,8 @@
 
 ghost use Rattle.std.specs.Prelude.{true, false, ◌≡◌, ◌≤◌, ◌<◌, length};
 ghost use Rattle.std.specs.Prelude.{IfOk, IfSome, string_bytes};
-ghost use Rattle.hack_manifest.specs.PieceFronts.{IsFrontTo, IsFirstFrontTo};
+ghost use Rattle.hack_manifest.specs.LineRuns.{IsShortest};
+ghost use Rattle.hack_manifest.specs.PieceFronts.{IsFrontTo};
 ghost use Rattle.hack_edits.specs.Arrays.{IsArray, IsThinned, IsCutInside};
 
 use hack_manifest::runs::stands_alone;
@@ -58,7 +59,7 @@ fn first_front(
     more: &str,
 ) -> Result<Option<usize>, AllocError>
     requires { byte < 128 }
-    ensures { IfOk result (λ o. IfSome o (IsFirstFrontTo byte more.now piece.now)) }
+    ensures { IfOk result (λ o. IfSome o (IsShortest (IsFrontTo byte more.now piece.now))) }
 {
     for i in 0..piece.len() {
         if is_front(alloc, piece, i + 1, byte, more)? {

@@ -1,6 +1,6 @@
 //! A manifest without its development dependencies.
 
-ghost use Rattle.std.specs.Prelude.{◌≡◌, ◌≢◌, ◌⊎◌, true, false, Some, None, ℕ, List, MatchResult};
+ghost use Rattle.std.specs.Prelude.{◌≡◌, ◌≢◌, ◌⊎◌, ◌||◌, true, false, Some, None, ℕ, List, MatchResult};
 ghost use Rattle.std.specs.Prelude.{IfOk, IfSome, IfNone, string_bytes};
 ghost use Rattle.toml.specs.Parse.{parse_document};
 ghost use Rattle.toml.specs.View.{table_view};
@@ -11,9 +11,10 @@ ghost use Rattle.hack_edits.specs.Arrays.{IsCutInside};
 ghost use Rattle.hack_edits.specs.Parts.{AreParts};
 ghost use Rattle.hack_edits.specs.DevDeps.{some_dev, loses_texts, cuts_arrays, is_cut, some_inline};
 ghost use Rattle.hack_edits.specs.DevDeps.{holds_inline, IsLeft, kept_text};
-ghost use Rattle.hack_edits.specs.DevDeps.{has_dev_work, HasNoDevPiece, IsEdit, IsWithoutDev};
+ghost use Rattle.hack_edits.specs.DevDeps.{HasNoDevPiece, IsEdit, IsWithoutDev};
 ghost use Rattle.hack_edits.specs.DevDeps.{HasNoDev, HasInlineTarget, IsMisread};
 ghost use Rattle.hack_edits.specs.DevTree.{reads_as_left};
+ghost use Rattle.hack_edits.specs.Lookup.{has_dev};
 ghost use Rattle.hack_edits.specs.Internal.{AreRecut, AppendsWhatIsLeft};
 
 use crate::arrays::without_elements;
@@ -92,7 +93,7 @@ fn without_dev_pieces(alloc: Global, old: Table, cut: &Pieces<'_>) -> Result<Str
 
 /// Whether there is something to take out: a table of the tree, or a piece.
 fn has_work(old: &Table, pieces: &[Piece<'_>]) -> bool
-    ensures { result ≡ has_dev_work (table_view old.now) (slice_view pieces.now) }
+    ensures { result ≡ (has_dev (table_view old.now) || some_dev (slice_view pieces.now)) }
 {
     holds_dev(old) || any_dev(pieces)
 }
@@ -227,7 +228,10 @@ fn which_go(alloc: Global, old: &Table, value: &Value) -> Result<Vec<bool>, Allo
 fn path_loses(old: &Table, path: &[String]) -> bool
     ensures { result ≡ loses_texts (table_view old.now) (names_of path.now) }
 {
-    path.len() == 2 && name(path, 0) == FEATURES && feature_loses(old, name(path, 1))
+    match path {
+        [top, name] => top.as_str() == FEATURES && feature_loses(old, name.as_str()),
+        _ => false,
+    }
 }
 
 /// Whether some piece holds development dependencies inline.

@@ -1,15 +1,16 @@
 //! What stays of a manifest's tree without its development dependencies, and whether a text is read
 //! as that.
 
-ghost use Rattle.std.specs.Prelude.{◌≡◌, Some, if◌then◌else◌, IfOk, OnOk, option_map, string_bytes};
-ghost use Rattle.toml.specs.Data.{no_members};
+ghost use Rattle.std.specs.Prelude.{◌≡◌, Some, IfOk, OnOk, option_map, option_and_then, string_bytes};
+ghost use Rattle.toml.specs.Data.{no_members, table};
 ghost use Rattle.toml.specs.Parse.{parse_document};
-ghost use Rattle.toml.specs.View.{view, table_view, array_view};
-ghost use Rattle.hack_manifest.specs.Manifest.{features_key};
-ghost use Rattle.hack_edits.specs.DevTree.{items_left, arrays_left, without_texts, is_empty_table};
-ghost use Rattle.hack_edits.specs.DevTree.{put_kept, stripped_target, targets_kept, with_target};
+ghost use Rattle.toml.specs.View.{view, items_of, table_view, array_view};
+ghost use Rattle.hack_manifest.specs.Manifest.{features_key, list_of};
+ghost use Rattle.hack_edits.specs.DevTree.{items_left, arrays_left, without_texts};
+ghost use Rattle.hack_edits.specs.DevTree.{unless_empty, targets_kept};
+ghost use Rattle.hack_edits.specs.InternalTreeEquality.{same};
 ghost use Rattle.hack_edits.specs.DevTree.{tidied_tree, reads_as_left};
-ghost use Rattle.hack_edits.specs.KeyPaths.{dev_key};
+ghost use Rattle.hack_edits.specs.KeyPaths.{dev_key, target_key};
 ghost use Rattle.hack_edits.specs.Tables.{remove_member, with_value, in_table, in_array};
 
 use crate::lookup::{DEV, FEATURES, TARGET, holds_dev, value_goes};
@@ -37,15 +38,15 @@ fn is_rest(alloc: Global, old: Table, new: Table) -> Result<bool, AllocError>
         return Ok(false);
     }
     let thinned = drop_texts(alloc, old)?;
-    let expected = tidy(alloc, thinned, true)?;
-    let found = tidy(alloc, new, false)?;
+    let expected = tidy(alloc, thinned)?;
+    let found = tidy(alloc, new)?;
     Ok(same_table(&expected, &found))
 }
 
 /// Returns a tree without the features' texts that are removed. Which these are is looked up in the
 /// tree without its features, which says the same.
 fn drop_texts(alloc: Global, old: Table) -> Result<Table, AllocError>
-    ensures { IfOk result (λ t. table_view t ≡ without_texts (table_view old) (table_view old)) }
+    ensures { IfOk result (λ t. table_view t ≡ without_texts (table_view old)) }
 {
     let mut top = old;
     let features = top.remove(FEATURES);
@@ -56,8 +57,8 @@ fn drop_texts(alloc: Global, old: Table) -> Result<Table, AllocError>
 /// Puts back what stays of the features.
 fn put_features(alloc: Global, top: &mut Table, features: Option<Value>) -> Result<(), AllocError>
     ensures { OnOk result (table_view top.new ≡ with_value features_key
-        (in_table (arrays_left (table_view top.old) no_members)) (option_map view features)
-        (table_view top.old)) }
+        (option_and_then (λ d. Some (in_table (arrays_left (table_view top.old) no_members) d))
+        (option_map view features)) (table_view top.old)) }
 {
     match features {
         Some(value) => {
@@ -110,7 +111,8 @@ fn strip_array(alloc: Global, old: &Table, value: Value) -> Result<Value, AllocE
 
 /// Returns what stays of an array: all items but the texts that are removed.
 fn kept_items(alloc: Global, old: &Table, items: Array) -> Result<Array, AllocError>
-    ensures { IfOk result (λ v. array_view v ≡ items_left (table_view old.now) (array_view items)) }
+    ensures { IfOk result (λ v. array_view v
+        ≡ items_of (items_left (table_view old.now) (list_of (array_view items)))) }
 {
     let mut kept = Array::new(alloc);
     for item in items {
@@ -121,38 +123,25 @@ fn kept_items(alloc: Global, old: &Table, items: Array) -> Result<Array, AllocEr
     Ok(kept)
 }
 
-/// Returns a tree without empty tables at and under `target`, and without development dependencies
-/// if `drops` is true.
-fn tidy(alloc: Global, table: Table, drops: bool) -> Result<Table, AllocError>
-    ensures { IfOk result (λ t. table_view t ≡ tidied_tree drops (table_view table)) }
+/// Returns a tree without development dependencies, and without empty tables at and under `target`.
+fn tidy(alloc: Global, table: Table) -> Result<Table, AllocError>
+    ensures { IfOk result (λ t. table_view t ≡ tidied_tree (table_view table)) }
 {
-    let mut top = without_dev(table, drops);
+    let mut top = without(table, DEV);
     let target = top.remove(TARGET);
-    put_target(alloc, &mut top, target, drops)?;
+    put_target(alloc, &mut top, target)?;
     Ok(top)
 }
 
-/// Returns a table, without development dependencies at the top if `drops` is true.
-fn without_dev(table: Table, drops: bool) -> Table
-    ensures { table_view result ≡ (if drops then remove_member dev_key
-        (table_view table) else table_view table) }
-{
-    if drops { without(table, DEV) } else { table }
-}
-
 /// Puts back what stays of `target`.
-fn put_target(
-    alloc: Global,
-    top: &mut Table,
-    target: Option<Value>,
-    drops: bool,
-) -> Result<(), AllocError>
-    ensures { OnOk result (table_view top.new
-        ≡ with_target drops (option_map view target) (table_view top.old)) }
+fn put_target(alloc: Global, top: &mut Table, target: Option<Value>) -> Result<(), AllocError>
+    ensures { OnOk result (table_view top.new ≡ with_value target_key
+        (option_and_then (λ d. unless_empty (in_table (targets_kept no_members) d))
+        (option_map view target)) (table_view top.old)) }
 {
     match target {
         Some(value) => {
-            let kept = strip_target(alloc, value, drops)?;
+            let kept = strip_target(alloc, value)?;
             let key = String::from_str(alloc, TARGET)?;
             put_value(top, key, kept)
         }
@@ -160,13 +149,12 @@ fn put_target(
     }
 }
 
-fn strip_target(alloc: Global, target: Value, drops: bool) -> Result<Value, AllocError>
-    ensures { IfOk result (λ v. view v
-        ≡ in_table (targets_kept drops no_members) (view target)) }
+fn strip_target(alloc: Global, target: Value) -> Result<Value, AllocError>
+    ensures { IfOk result (λ v. view v ≡ in_table (targets_kept no_members) (view target)) }
 {
     match target {
         Value::Table(targets) => {
-            let kept = strip_targets(alloc, targets, drops)?;
+            let kept = strip_targets(alloc, targets)?;
             Ok(Value::Table(kept))
         }
         other => Ok(other),
@@ -174,29 +162,23 @@ fn strip_target(alloc: Global, target: Value, drops: bool) -> Result<Value, Allo
 }
 
 /// What stays of `target`.
-fn strip_targets(alloc: Global, targets: Table, drops: bool) -> Result<Table, AllocError>
+fn strip_targets(alloc: Global, targets: Table) -> Result<Table, AllocError>
     ensures { IfOk result (λ kept. table_view kept
-        ≡ targets_kept drops no_members (table_view targets)) }
+        ≡ targets_kept no_members (table_view targets)) }
 {
     let mut kept = Table::new(alloc);
     'targets: for (name, value) in targets {
-        put_value(&mut kept, name, strip(value, drops))?;
+        put_value(&mut kept, name, strip(value))?;
     }
     Ok(kept)
 }
 
 /// What stays of `target.X`.
-fn strip(value: Value, drops: bool) -> Value
-    ensures { view result ≡ stripped_target drops (view value) }
+fn strip(value: Value) -> Value
+    ensures { view result ≡ in_table (remove_member dev_key) (view value) }
 {
     match value {
-        Value::Table(table) => {
-            if drops {
-                Value::Table(without(table, DEV))
-            } else {
-                Value::Table(table)
-            }
-        }
+        Value::Table(table) => Value::Table(without(table, DEV)),
         other => other,
     }
 }
@@ -204,7 +186,7 @@ fn strip(value: Value, drops: bool) -> Value
 /// Puts a value at a key, unless it is an empty table.
 fn put_value(kept: &mut Table, key: String, value: Value) -> Result<(), AllocError>
     ensures { OnOk result (table_view kept.new
-        ≡ put_kept (string_bytes key) (view value) (table_view kept.old)) }
+        ≡ with_value (string_bytes key) (unless_empty (view value)) (table_view kept.old)) }
 {
     if is_empty(&value) {
         return Ok(());
@@ -213,7 +195,7 @@ fn put_value(kept: &mut Table, key: String, value: Value) -> Result<(), AllocErr
 }
 
 fn is_empty(value: &Value) -> bool
-    ensures { result ≡ is_empty_table (view value.now) }
+    ensures { result ≡ same (view value.now) (table no_members) }
 {
     match value {
         Value::Table(table) => table.is_empty(),

@@ -1,13 +1,15 @@
 //! Adding the folders of private crates to `workspace.exclude`, in an array that is there or in a
 //! line of their own.
 
-ghost use Rattle.std.specs.Prelude.{◌≡◌, ◌≤◌, ◌++◌, map, length, take, true, IfOk};
+ghost use Rattle.std.specs.Prelude.{◌≡◌, ◌⊎◌, ◌==◌, ◌||◌, ◌-◌, ◌≤◌, ◌++◌, [], ◌∷◌, map, codes};
+ghost use Rattle.std.specs.Prelude.{if◌then◌else◌, length, take, slice_index, true, IsTrue, IfOk};
 ghost use Rattle.std.specs.Prelude.{IfSome, OnOk};
+ghost use Rattle.std.specs.List.{flat_map};
 ghost use Rattle.hack_base.specs.PathTexts.{parent_of};
 ghost use Rattle.hack_base.specs.Names.{names_behind};
-ghost use Rattle.hack_edits.specs.Exclude.{escaped_text, quoted_text, each_behind, list_text};
-ghost use Rattle.hack_edits.specs.Exclude.{with_line, ends_in_feed, IsAddedInside, adds};
-ghost use Rattle.hack_edits.specs.Exclude.{EndsLast, ends_in_quote, is_quote, reads_alike};
+ghost use Rattle.hack_edits.specs.Exclude.{quoted_text, list_text, with_line};
+ghost use Rattle.hack_edits.specs.Exclude.{IsAddedInside, EndsLast, reads_alike};
+ghost use Rattle.hack_manifest.specs.LineRuns.{has_some};
 
 use crate::arrays::{brackets, comma_behind, text_len};
 use crate::same::same_table;
@@ -46,7 +48,8 @@ pub fn added_inside(
         return Ok(None);
     }
     new.extend_from_slice(&bytes[..k])?;
-    push_behind(&mut new, paths)?;
+    new.extend_from_slice(b", ")?;
+    push_listed(&mut new, paths)?;
     new.extend_from_slice(&bytes[k..])?;
     Ok(Some(new))
 }
@@ -69,7 +72,7 @@ pub fn with_exclude_line(alloc: Global, piece: &str, paths: &[&str]) -> Result<V
 
 /// Whether a text ends in a line feed.
 fn ends_feed(piece: &str) -> bool
-    ensures { result ≡ ends_in_feed piece.now }
+    ensures { result ≡ (slice_index piece.now (length piece.now - 1) == 10) }
 {
     piece.len() != 0 && piece.as_bytes()[piece.len() - 1] == b'\n'
 }
@@ -108,7 +111,7 @@ fn ends_last(alloc: Global, piece: &str, k: usize, m: usize) -> Result<bool, All
     let Some(whole) = front_of(piece, m) else {
         return Ok(false);
     };
-    if !ends_quote(front) {
+    if !ends_quote(piece, k) {
         return Ok(false);
     }
     let mut closed = String::from_str(alloc, front)?;
@@ -126,16 +129,15 @@ fn front_of(piece: &str, n: usize) -> Option<&str>
     Some(&piece[..n])
 }
 
-/// Whether a text ends in a quote.
-fn ends_quote(text: &str) -> bool
-    ensures { result ≡ ends_in_quote text.now }
+/// Whether the first n bytes end in a quote.
+fn ends_quote(piece: &str, n: usize) -> bool
+    ensures { IsTrue result
+        → (slice_index piece.now (n - 1) ≡ 34) ⊎ (slice_index piece.now (n - 1) ≡ 39) }
 {
-    text.len() != 0 && is_quote(text.as_bytes()[text.len() - 1])
-}
-
-fn is_quote(byte: u8) -> bool
-    ensures { result ≡ is_quote byte }
-{
+    if n == 0 || piece.len() < n {
+        return false;
+    }
+    let byte = piece.as_bytes()[n - 1];
     byte == b'"' || byte == b'\''
 }
 
@@ -180,7 +182,8 @@ fn push_listed(out: &mut Vec<u8>, paths: &[&str]) -> Result<(), AllocError>
 /// Appends the folders of paths in quotes, each after `, `.
 fn push_behind(out: &mut Vec<u8>, paths: &[&str]) -> Result<(), AllocError>
     ensures { OnOk result (out.new.items
-        ≡ out.old.items ++ each_behind (map parent_of (names_behind paths.now))) }
+        ≡ out.old.items ++ flat_map (λ t. codes ", " ++ quoted_text t)
+        (map parent_of (names_behind paths.now))) }
 {
     for path in paths {
         out.extend_from_slice(b", ")?;
@@ -201,7 +204,8 @@ fn push_quoted(out: &mut Vec<u8>, text: &str) -> Result<(), AllocError>
 
 /// Appends a text, with `\` before `"` and `\`.
 fn push_escaped(out: &mut Vec<u8>, text: &[u8]) -> Result<(), AllocError>
-    ensures { OnOk result (out.new.items ≡ out.old.items ++ escaped_text text.now) }
+    ensures { OnOk result (out.new.items ≡ out.old.items
+        ++ flat_map (λ c. if c == 34 || c == 92 then 92 ∷ c ∷ [] else c ∷ []) text.now) }
 {
     for byte in text {
         if *byte == b'"' || *byte == b'\\' {
@@ -214,7 +218,10 @@ fn push_escaped(out: &mut Vec<u8>, text: &[u8]) -> Result<(), AllocError>
 
 /// Whether there are paths.
 pub fn has_paths(paths: &[&str]) -> bool
-    ensures { result ≡ adds (map parent_of (names_behind paths.now)) }
+    ensures { result ≡ has_some (map parent_of (names_behind paths.now)) }
 {
-    !paths.is_empty()
+    match paths {
+        [_, ..] => true,
+        [] => false,
+    }
 }

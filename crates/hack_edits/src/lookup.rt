@@ -1,12 +1,14 @@
 //! What the tables of a manifest's tree hold.
 
-ghost use Rattle.std.specs.Prelude.{◌≡◌, option_map};
+ghost use Rattle.std.specs.Prelude.{◌≡◌, is_some, option_map, option_and_then};
+ghost use Rattle.std.specs.List.{list_any};
+ghost use Rattle.toml.specs.Data.{get_member};
 ghost use Rattle.toml.specs.View.{view, table_view, array_view};
+ghost use Rattle.hack_manifest.specs.Manifest.{features_key, table_at, list_of};
 ghost use Rattle.hack_edits.specs.KeyPaths.{dev_key};
-ghost use Rattle.hack_edits.specs.Lookup.{has_key, some_table, lists, depends, has_target_dev};
+ghost use Rattle.hack_edits.specs.Lookup.{some_table, lists, depends, has_target_dev};
 ghost use Rattle.hack_edits.specs.Lookup.{has_dev_under, has_dev, is_dev_only, is_dropped_text};
-ghost use Rattle.hack_edits.specs.Lookup.{item_goes};
-ghost use Rattle.hack_edits.specs.Lookup.{some_goes, loses_texts_at, feature};
+ghost use Rattle.hack_edits.specs.Lookup.{item_goes, items_in};
 
 use hack_manifest::lookup::{find_table, value_at};
 use toml::value::Array;
@@ -44,7 +46,8 @@ pub fn targets_hold_dev(table: &Table) -> bool
 
 /// Whether some `target.X` has development dependencies.
 fn target_holds_dev(targets: &Table) -> bool
-    ensures { result ≡ some_table (has_key dev_key) (table_view targets.now) }
+    ensures { result ≡ some_table (λ t. is_some (get_member dev_key t))
+        (table_view targets.now) }
 {
     'targets: for (_, value) in targets.iter() {
         if let Some(table) = value.as_table() {
@@ -71,7 +74,8 @@ pub fn target_has_dev(table: &Table, name: &str) -> bool
 
 /// The value of a feature.
 pub fn feature_value<'a>(table: &'a Table, name: &str) -> Option<&'a Value>
-    ensures { option_map (λ v. view v.now) result ≡ feature name.now (table_view table.now) }
+    ensures { option_map (λ v. view v.now) result
+        ≡ option_and_then (get_member name.now) (table_at features_key (table_view table.now)) }
 {
     match find_table(table, FEATURES) {
         Some(features) => value_at(features, name),
@@ -81,7 +85,8 @@ pub fn feature_value<'a>(table: &'a Table, name: &str) -> Option<&'a Value>
 
 /// Returns whether texts are removed from the array of that feature.
 pub fn feature_loses(old: &Table, name: &str) -> bool
-    ensures { result ≡ loses_texts_at (table_view old.now) (feature name.now (table_view old.now)) }
+    ensures { result ≡ list_any (item_goes (table_view old.now)) (items_in
+        (option_and_then (get_member name.now) (table_at features_key (table_view old.now)))) }
 {
     match feature_value(old, name) {
         Some(value) => match value {
@@ -94,7 +99,7 @@ pub fn feature_loses(old: &Table, name: &str) -> bool
 
 /// Returns whether texts are removed from an array.
 fn any_goes(old: &Table, array: &Array) -> bool
-    ensures { result ≡ some_goes (table_view old.now) (array_view array.now) }
+    ensures { result ≡ list_any (item_goes (table_view old.now)) (list_of (array_view array.now)) }
 {
     'items: for value in array {
         if value_goes(old, value) {
@@ -171,7 +176,7 @@ fn section_lists(table: &Table, section: &str, key: &str) -> bool
 
 /// Whether a table has a key.
 fn holds(table: &Table, key: &str) -> bool
-    ensures { result ≡ has_key key.now (table_view table.now) }
+    ensures { result ≡ is_some (get_member key.now (table_view table.now)) }
 {
     value_at(table, key).is_some()
 }

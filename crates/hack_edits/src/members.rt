@@ -1,18 +1,23 @@
 //! Which members of a workspace are private crates, and which private crates no member's text leads
 //! to.
 
-ghost use Rattle.std.specs.Prelude.{◌≡◌, false, not, filter, IfOk, OnOk, string_bytes};
+ghost use Rattle.std.specs.Prelude.{◌≡◌, false, not, codes, filter, fold, IfOk, OnOk};
+ghost use Rattle.std.specs.Prelude.{string_bytes};
 ghost use Rattle.std.specs.List.{list_any};
 ghost use Rattle.hack_base.specs.Names.{Name};
 ghost use Rattle.std.specs.BTreeSet.{insert_key};
 ghost use Rattle.std.specs.Cmp.Lexicographic.{slice_cmp};
 ghost use Rattle.std.specs.Ordering.{nat_cmp};
+ghost use Rattle.toml.specs.Data.{get_member};
+ghost use Rattle.hack_base.specs.PathTexts.{join_of, normal_of};
+ghost use Rattle.hack_manifest.specs.Manifest.{list_of};
 ghost use Rattle.toml.specs.View.{view, table_view, array_view};
 ghost use Rattle.hack_base.specs.Names.{names_behind};
 ghost use Rattle.hack_edits.specs.KeyPaths.{members_key};
-ghost use Rattle.hack_edits.specs.Members.{in_order, leads, led_manifest};
+ghost use Rattle.hack_edits.specs.Members.{in_order, leads};
 ghost use Rattle.hack_edits.specs.Members.{item_led};
-ghost use Rattle.hack_edits.specs.Members.{unled_by, some_led, paths_left, array_items_at};
+ghost use Rattle.hack_edits.specs.Members.{unled_by};
+ghost use Rattle.hack_edits.specs.Lookup.{items_in};
 
 use hack_base::paths::{join, normal};
 use hack_manifest::lookup::value_at;
@@ -83,11 +88,11 @@ pub fn chosen<'a>(
     workspace: &Table,
 ) -> Result<Choice<'a>, AllocError>
     ensures some { IfOk result (λ c. c.some
-        ≡ some_led private.now.root.now (names_behind private.now.paths.now)
-        (array_items_at members_key (table_view workspace.now))) }
+        ≡ list_any (item_led private.now.root.now (names_behind private.now.paths.now))
+        (items_in (get_member members_key (table_view workspace.now)))) }
     ensures paths { IfOk result (λ c. names_behind c.paths.items
-        ≡ paths_left private.now.root.now (names_behind private.now.paths.now)
-        (array_items_at members_key (table_view workspace.now))) }
+        ≡ fold (unled_by private.now.root.now) (names_behind private.now.paths.now)
+        (items_in (get_member members_key (table_view workspace.now)))) }
 {
     match value_at(workspace, MEMBERS) {
         Some(value) => match value {
@@ -100,10 +105,11 @@ pub fn chosen<'a>(
 
 /// Returns the same for the items of the members.
 fn choose<'a>(alloc: Global, private: &Private<'a>, items: &Array) -> Result<Choice<'a>, AllocError>
-    ensures some { IfOk result (λ c. c.some ≡ some_led private.now.root.now
-        (names_behind private.now.paths.now) (array_view items.now)) }
-    ensures paths { IfOk result (λ c. names_behind c.paths.items ≡ paths_left private.now.root.now
-        (names_behind private.now.paths.now) (array_view items.now)) }
+    ensures some { IfOk result (λ c. c.some ≡ list_any (item_led private.now.root.now
+        (names_behind private.now.paths.now)) (list_of (array_view items.now))) }
+    ensures paths { IfOk result (λ c. names_behind c.paths.items ≡ fold
+        (unled_by private.now.root.now)
+        (names_behind private.now.paths.now) (list_of (array_view items.now))) }
 {
     let mut goes = Vec::new(alloc);
     let mut some = false;
@@ -159,9 +165,9 @@ pub fn value_unled<'a>(
     ensures { IfOk result (λ left. names_behind left.items
         ≡ unled_by root.now (names_behind paths.now) (view item.now)) }
 {
-    match item {
-        Value::String(member) => not_led(alloc, root, member.as_str(), paths),
-        _ => Vec::from_slice(alloc, paths),
+    match item.as_str() {
+        Some(member) => not_led(alloc, root, member, paths),
+        None => Vec::from_slice(alloc, paths),
     }
 }
 
@@ -206,7 +212,8 @@ fn not_led<'a>(
 
 /// The manifest that a member's text leads to, as a path without detours.
 fn manifest_of(alloc: Global, root: &str, member: &str) -> Result<String, AllocError>
-    ensures { IfOk result (λ s. string_bytes s ≡ led_manifest root.now member.now) }
+    ensures { IfOk result (λ s. string_bytes s
+        ≡ normal_of (join_of (join_of root.now member.now) (codes "Cargo.toml"))) }
 {
     let folder = join(alloc, root, member)?;
     let manifest = join(alloc, folder.as_str(), "Cargo.toml")?;
@@ -216,7 +223,8 @@ fn manifest_of(alloc: Global, root: &str, member: &str) -> Result<String, AllocE
 
 /// Returns whether a manifest to which a member's text leads is the one at a path.
 fn leads_to(alloc: Global, manifest: &str, path: &str) -> Result<bool, AllocError>
-    ensures { IfOk result (λ b. (root member : Name) → manifest.now ≡ led_manifest root member
+    ensures { IfOk result (λ b. (root member : Name)
+        → manifest.now ≡ normal_of (join_of (join_of root member) (codes "Cargo.toml"))
         → b ≡ leads root member path.now) }
 {
     let wanted = normal(alloc, path)?;

@@ -3,14 +3,16 @@
 ghost use Rattle.std.specs.Prelude.{◌≡◌, ◌≢◌, true, Some, None, map, MatchResult};
 ghost use Rattle.std.specs.Prelude.{IfOk, IfSome, string_bytes};
 ghost use Rattle.toml.specs.Parse.{parse_document};
-ghost use Rattle.toml.specs.Text.{has_items};
+ghost use Rattle.toml.specs.Data.{get_member};
 ghost use Rattle.toml.specs.View.{view, table_view};
 ghost use Rattle.hack_base.specs.PathTexts.{parent_of};
 ghost use Rattle.hack_base.specs.Names.{names_behind};
 ghost use Rattle.hack_manifest.specs.Manifest.{table_at};
 ghost use Rattle.hack_manifest.specs.PieceView.{piece_view, slice_view};
 ghost use Rattle.hack_edits.specs.KeyPaths.{workspace_key, exclude_key};
-ghost use Rattle.hack_edits.specs.Members.{in_order, array_items_at, excluded_folders};
+ghost use Rattle.hack_edits.specs.Members.{in_order, excluded_folders};
+ghost use Rattle.hack_manifest.specs.LineRuns.{has_some};
+ghost use Rattle.hack_edits.specs.Lookup.{items_in};
 ghost use Rattle.hack_edits.specs.Parts.{AreParts};
 ghost use Rattle.hack_edits.specs.PrivateCrates.{IsMade, IsWorkspaceEdit};
 ghost use Rattle.hack_edits.specs.PrivateCrates.{IsWithoutPrivate};
@@ -211,7 +213,7 @@ fn made_of(
 
 /// Whether the workspace excludes something.
 fn is_filled(workspace: &Table) -> bool
-    ensures { result ≡ has_items (array_items_at exclude_key (table_view workspace.now)) }
+    ensures { result ≡ has_some (items_in (get_member exclude_key (table_view workspace.now))) }
 {
     match value_at(workspace, EXCLUDE) {
         Some(value) => match value {

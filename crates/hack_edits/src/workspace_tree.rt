@@ -2,17 +2,18 @@
 //! that.
 
 ghost use Rattle.std.specs.Prelude.{◌≡◌, map, IfOk, OnOk, option_and_then, option_map};
-ghost use Rattle.std.specs.Prelude.{unwrap_or};
-ghost use Rattle.toml.specs.Data.{as_array, no_items};
-ghost use Rattle.toml.specs.Parse.{parse_document};
-ghost use Rattle.toml.specs.View.{view, table_view, array_view};
+ghost use Rattle.std.specs.Prelude.{◌++◌, Some};
+ghost use Rattle.toml.specs.Data.{string};
+ghost use Rattle.toml.specs.View.{view, items_of, table_view, array_view};
+ghost use Rattle.hack_manifest.specs.Manifest.{list_of};
+ghost use Rattle.hack_edits.specs.Exclude.{is_read_as};
+ghost use Rattle.hack_edits.specs.Lookup.{items_in};
 ghost use Rattle.hack_base.specs.PathTexts.{parent_of};
 ghost use Rattle.hack_base.specs.Names.{names_behind};
 ghost use Rattle.hack_edits.specs.Members.{members_left};
 ghost use Rattle.hack_edits.specs.KeyPaths.{workspace_key, members_key};
 ghost use Rattle.hack_edits.specs.Tables.{with_value, with_changed, in_table, in_array};
-ghost use Rattle.hack_edits.specs.WorkspaceTree.{with_texts, with_exclude, workspace_left};
-ghost use Rattle.hack_edits.specs.WorkspaceTree.{tree_left, reads_without};
+ghost use Rattle.hack_edits.specs.WorkspaceTree.{with_exclude, workspace_left, tree_left};
 
 use crate::exclude::has_paths;
 use crate::members::{MEMBERS, Private, chosen, value_led, value_unled};
@@ -36,10 +37,8 @@ pub fn reads_as_expected(
     old: Table,
     new: &str,
 ) -> Result<bool, AllocError>
-    ensures { IfOk result (λ b. b ≡ reads_without private.now.root.now
-        (names_behind private.now.paths.now)
-        (table_view old)
-        (parse_document new.now)) }
+    ensures { IfOk result (λ b. b ≡ is_read_as (tree_left private.now.root.now
+        (names_behind private.now.paths.now) (table_view old)) new.now) }
 {
     match tree_of(alloc, new)? {
         Some(tree) => {
@@ -68,9 +67,10 @@ fn put_workspace(
     top: &mut Table,
     workspace: Option<Value>,
 ) -> Result<(), AllocError>
-    ensures { OnOk result (table_view top.new ≡ with_value workspace_key
-        (in_table (workspace_left private.now.root.now (names_behind private.now.paths.now)))
-        (option_map view workspace) (table_view top.old)) }
+    ensures { OnOk result (table_view top.new ≡ with_value workspace_key (option_and_then
+        (λ d. Some (in_table (workspace_left private.now.root.now
+        (names_behind private.now.paths.now)) d)) (option_map view workspace))
+        (table_view top.old)) }
 {
     match workspace {
         Some(value) => {
@@ -115,8 +115,8 @@ fn expected_workspace(
 /// A workspace with the members that stay.
 fn keep_members(alloc: Global, private: &Private<'_>, workspace: Table) -> Result<Table, AllocError>
     ensures { IfOk result (λ t. table_view t ≡ with_changed members_key
-        (in_array (members_left private.now.root.now (names_behind private.now.paths.now)))
-        (table_view workspace)) }
+        (λ d. Some (in_array (members_left private.now.root.now
+        (names_behind private.now.paths.now)) d)) (table_view workspace)) }
 {
     let mut all = workspace;
     let members = all.remove(MEMBERS);
@@ -131,9 +131,10 @@ fn put_members(
     top: &mut Table,
     members: Option<Value>,
 ) -> Result<(), AllocError>
-    ensures { OnOk result (table_view top.new ≡ with_value members_key
-        (in_array (members_left private.now.root.now (names_behind private.now.paths.now)))
-        (option_map view members) (table_view top.old)) }
+    ensures { OnOk result (table_view top.new ≡ with_value members_key (option_and_then
+        (λ d. Some (in_array (members_left private.now.root.now
+        (names_behind private.now.paths.now)) d)) (option_map view members))
+        (table_view top.old)) }
 {
     match members {
         Some(value) => {
@@ -161,9 +162,8 @@ fn members_of(alloc: Global, private: &Private<'_>, value: Value) -> Result<Valu
 
 /// The members that stay.
 fn kept_members(alloc: Global, private: &Private<'_>, items: Array) -> Result<Array, AllocError>
-    ensures { IfOk result (λ v. array_view v
-        ≡ members_left private.now.root.now
-        (names_behind private.now.paths.now) (array_view items)) }
+    ensures { IfOk result (λ v. array_view v ≡ items_of (members_left private.now.root.now
+        (names_behind private.now.paths.now) (list_of (array_view items)))) }
 {
     let mut left = Vec::from_slice(alloc, private.paths)?;
     let mut kept = Array::new(alloc);
@@ -195,8 +195,7 @@ fn put_exclude(alloc: Global, paths: &[&str], workspace: Table) -> Result<Table,
 
 /// The items of a value that is an array, else none.
 fn into_items(alloc: Global, value: Option<Value>) -> Array
-    ensures { array_view result
-        ≡ unwrap_or (option_and_then as_array (option_map view value)) no_items }
+    ensures { list_of (array_view result) ≡ items_in (option_map view value) }
 {
     match value {
         Some(found) => match found {
@@ -209,8 +208,8 @@ fn into_items(alloc: Global, value: Option<Value>) -> Array
 
 /// Appends the folders of paths to items.
 fn push_folders(alloc: Global, items: Array, paths: &[&str]) -> Result<Array, AllocError>
-    ensures { IfOk result (λ a. array_view a
-        ≡ with_texts (map parent_of (names_behind paths.now)) (array_view items)) }
+    ensures { IfOk result (λ a. list_of (array_view a) ≡ list_of (array_view items)
+        ++ map string (map parent_of (names_behind paths.now))) }
 {
     let mut all = items;
     for path in paths {

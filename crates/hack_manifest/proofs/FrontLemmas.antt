@@ -9,7 +9,7 @@ use Rattle.toml_parser.specs.Lexical.{first, is_ws, is_bare, skip_ws, skip_blank
 use Rattle.toml_parser.specs.Strings.{key, key_after, simple_key, starts_string}
 use Rattle.toml.specs.Parse.{skip_bom}
 use Rattle.hack_manifest.specs.PieceFronts.{IsFrontTo}
-use Rattle.hack_manifest.specs.Paths.{chain_at}
+use Rattle.hack_manifest.specs.LineRuns.{chain_at}
 use Rattle.hack_manifest.specs.Keys.{IsBareName}
 use Rattle.hack_manifest.proofs.PairLemmas.{zero-document}
 

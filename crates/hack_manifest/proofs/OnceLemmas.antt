@@ -5,9 +5,10 @@ use Rattle.std.proofs.lemmas.Bool.{cases_Bool}
 use Rattle.std.proofs.lemmas.List.{take_at, drop_at}
 use Rattle.std.proofs.lemmas.Option.{same_Some}
 use Rattle.hack_base.specs.Names.{Name}
-use Rattle.hack_manifest.specs.LineRuns.{IsFirstRun, IsCutInto}
-use Rattle.hack_manifest.specs.PieceFronts.{IsFirstFrontTo}
-use Rattle.hack_manifest.specs.Paths.{View, AreCut, IsOwnKey, at_front, no_front, IsPathOfPiece, HavePaths, next_header, is_header, chain_at, joined_pieces}
+use Rattle.hack_manifest.specs.LineRuns.{IsRun, IsShortest, IsCutInto}
+use Rattle.hack_manifest.specs.PieceFronts.{IsFrontTo}
+use Rattle.hack_manifest.specs.Paths.{View, AreCut, IsOwnKey, at_front, no_front, IsPathOfPiece, HavePaths, next_header, is_header, joined_pieces}
+use Rattle.hack_manifest.specs.LineRuns.{chain_at}
 use Rattle.hack_manifest.specs.Manifest.{Facts, IsReadAs, read_manifest}
 use Rattle.hack_base.specs.FieldReadings.{FieldReading}
 
@@ -23,30 +24,21 @@ joined-cut text tail ps cut = joined-text ps tail text cut.texts
 compare_cases : (m n : ℕ) → (m < n) ⊎ ((m ≡ n) ⊎ (n < m))
 compare_cases m n = grind arith
 
--- there is only one first run
-run_once : (text : List ℕ) (m n : ℕ) → IsFirstRun text m → IsFirstRun text n → m ≡ n
-run_once text m n a b =
+-- there is only one shortest length
+shortest_once : (P : ℕ → Type 0) (m n : ℕ) → IsShortest P m → IsShortest P n → m ≡ n
+shortest_once P m n a b =
     elim (compare_cases m n) [
-      | inl below ↦ absurd (b.shortest m below a.run)
+      | inl below ↦ absurd (b.shortest m below a.holds)
       | inr (inl same) ↦ same
-      | inr (inr above) ↦ absurd (a.shortest n above b.run)
-    ]
-
--- there is only one first prefix
-front_once : (byte : ℕ) (more piece : List ℕ) (m n : ℕ) → IsFirstFrontTo byte more piece m → IsFirstFrontTo byte more piece n → m ≡ n
-front_once byte more piece m n a b =
-    elim (compare_cases m n) [
-      | inl below ↦ absurd (b.shortest m below a.front)
-      | inr (inl same) ↦ same
-      | inr (inr above) ↦ absurd (a.shortest n above b.front)
+      | inr (inr above) ↦ absurd (a.shortest n above b.holds)
     ]
 
 texts_once : (ps qs : List (List ℕ)) (s t text : List ℕ) → IsCutInto ps s text → IsCutInto qs t text → (ps ≡ qs) × (s ≡ t)
 texts_once [] [] s t text a b = (refl, a.0 ∙ sym b.0)
-texts_once [] (q ∷ qs) s t text a (rest, whole, first, more) = absurd (a.1 (length q) first.run)
-texts_once (p ∷ ps) [] s t text (rest, whole, first, more) b = absurd (b.1 (length p) first.run)
+texts_once [] (q ∷ qs) s t text a (rest, whole, first, more) = absurd (a.1 (length q) first.holds)
+texts_once (p ∷ ps) [] s t text (rest, whole, first, more) b = absurd (b.1 (length p) first.holds)
 texts_once (p ∷ ps) (q ∷ qs) s t text (r, pw, pf, pm) (u, qw, qf, qm) =
-    let same : length p ≡ length q = run_once text (length p) (length q) pf qf in
+    let same : length p ≡ length q = shortest_once (IsRun text) (length p) (length q) pf qf in
     let front : p ≡ q = sym (take_at p r (length q) same) ∙ ap (take (length q)) (sym pw ∙ qw) ∙ take_at q u (length q) refl in
     let back : r ≡ u = sym (drop_at p r (length q) same) ∙ ap (drop (length q)) (sym pw ∙ qw) ∙ drop_at q u (length q) refl in
     let P : List ℕ → Type 0 = λ x. IsCutInto ps s x in
@@ -56,9 +48,9 @@ texts_once (p ∷ ps) (q ∷ qs) s t text (r, pw, pf, pm) (u, qw, qf, qm) =
 -- a piece has only one own key
 pub own-once : (piece : List ℕ) (k l : List Name) → IsOwnKey piece k → IsOwnKey piece l → k ≡ l
 own-once piece k l (at_front n f is) (at_front m g also) =
-    is ∙ ap (λ n. chain_at (take n piece ++ 48 ∷ [])) (front_once 61 (48 ∷ []) piece n m f g) ∙ sym also
-own-once piece k l (at_front n f is) (no_front none also) = absurd (none n f.front)
-own-once piece k l (no_front none is) (at_front m g also) = absurd (none m g.front)
+    is ∙ ap (λ n. chain_at (take n piece ++ 48 ∷ [])) (shortest_once (IsFrontTo 61 (48 ∷ []) piece) n m f g) ∙ sym also
+own-once piece k l (at_front n f is) (no_front none also) = absurd (none n f.holds)
+own-once piece k l (no_front none is) (at_front m g also) = absurd (none m g.holds)
 own-once piece k l (no_front none is) (no_front other also) = is ∙ sym also
 
 path_once : (header : List Name) (piece : List ℕ) (p q : List Name) → IsPathOfPiece header piece p → IsPathOfPiece header piece q → p ≡ q

@@ -13,7 +13,8 @@ use Rattle.toml.specs.Tables.{no_nodes, close, key_value, std_table, array_table
 use Rattle.toml.specs.Parse.{after_byte, val, keyval, header_key, expression, ends_line, line, lines, skip_bom, parse_document}
 use Rattle.hack_manifest.specs.declared.places.Place.{Place}
 use Rattle.hack_manifest.specs.declared.places.Place.TheVariants.{Start, Remark, Plain, Comment, Opened, Text, Escaped, Lost}
-use Rattle.hack_manifest.specs.LineRuns.{has_keys, stands, IsRun}
+use Rattle.hack_manifest.specs.LineRuns.{stands, IsRun}
+use Rattle.hack_manifest.specs.Internal.{has_keys}
 use Rattle.hack_manifest.specs.Places.{start_step, deeper, plain_step, text_step, step, may_stand}
 use Rattle.hack_manifest.specs.Internal.{behind}
 use Rattle.hack_manifest.proofs.TextLeads.{Leads, leads-then, is_calm, calm-step, ws-stays, calm-drop, close-drop, is_stuck, at_place, skips, blank-stays, key-leads}

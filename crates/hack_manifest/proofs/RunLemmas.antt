@@ -9,8 +9,10 @@ use Rattle.toml.specs.Data.{Members, no_members, member}
 use Rattle.toml.specs.View.{members_view}
 use Rattle.toml.specs.declared.value.Value.{Value}
 use Rattle.hack_base.specs.Names.{Name}
-use Rattle.hack_manifest.specs.LineRuns.{IsLines, IsFirstRun, IsCutInto, has_keys}
-use Rattle.hack_manifest.specs.Paths.{chain, IsPathOfPiece, View, HavePaths, next_header}
+use Rattle.hack_manifest.specs.LineRuns.{IsLines, IsRun, IsShortest, IsCutInto}
+use Rattle.hack_manifest.specs.Internal.{has_keys}
+use Rattle.hack_manifest.specs.Paths.{IsPathOfPiece, View, HavePaths, next_header}
+use Rattle.hack_manifest.specs.LineRuns.{chain}
 
 abbrev pub Entry : Type 0
 Entry = String Global × Value
@@ -62,13 +64,13 @@ joined [] p more = refl
 joined (q ∷ ps) p more = ap (λ t. q.text ∷ t) (joined ps p more)
 
 -- a run that was split off the rest is appended to the pieces found
-pub texts-last : (text rest : List ℕ) (ps : List View) (p : View) (n : ℕ) → IsFirstRun rest n → p.text ≡ take n rest
+pub texts-last : (text rest : List ℕ) (ps : List View) (p : View) (n : ℕ) → IsShortest (IsRun rest) n → p.text ≡ take n rest
     → ((more : List (List ℕ)) (tail : List ℕ) → IsCutInto more tail rest → IsCutInto (map (λ p. p.text) ps ++ more) tail text)
     → (more : List (List ℕ)) (tail : List ℕ) → IsCutInto more tail (drop n rest) → IsCutInto (map (λ p. p.text) (ps ++ p ∷ []) ++ more) tail text
 texts-last text rest ps p n first is so_far more tail h =
-    let len : length (take n rest) ≡ n = length-take-le n rest first.run.lines.within in
+    let len : length (take n rest) ≡ n = length-take-le n rest first.holds.lines.within in
     let whole : rest ≡ take n rest ++ drop n rest = sym (take-append-drop n rest) in
-    let Q : ℕ → Type 0 = λ k. IsFirstRun rest k in
+    let Q : ℕ → Type 0 = λ k. IsShortest (IsRun rest) k in
     let R : List ℕ → Type 0 = λ t. IsCutInto (t ∷ more) tail rest in
     let here : IsCutInto (take n rest ∷ more) tail rest = (drop n rest, whole, subst Q (sym len) first, h) in
     let S : List (List ℕ) → Type 0 = λ ts. IsCutInto ts tail text in

@@ -1,7 +1,8 @@
 -- What only private functions of the crate promise each other.
 use Rattle.std.specs.Prelude.{◌≡◌, ◌==◌, ◌&&◌, ◌<◌, ℕ, Bool, List, length, Option, Some, option_map, Vec, String, Result, Ok, Err, string_bytes, [], ◌∷◌}
 use Rattle.toml_parser.specs.Lexical.{Read, skip_ws, skip_blank}
-use Rattle.toml.specs.Data.{Data, Items}
+use Rattle.std.specs.Option.{option_map_or}
+use Rattle.toml.specs.Data.{Data, Items, Members}
 use Rattle.toml.specs.Parse.{items, ends_line}
 use Rattle.std.specs.Ordering.{nat_cmp}
 use Rattle.std.specs.Cmp.Lexicographic.{slice_cmp}
@@ -9,16 +10,20 @@ use Rattle.std.specs.declared.cmp.Ordering.{Ordering}
 use Rattle.hack_base.specs.Names.{Name}
 use Rattle.std.specs.BTreeMap.{BTreeMap}
 use Rattle.std.specs.declared.alloc.Global.{Global}
-use Rattle.hack_features.specs.FeatureMap.{feature_map}
-use Rattle.hack_manifest.specs.Manifest.{Facts, IsReadAs}
+use Rattle.hack_manifest.specs.Manifest.{IsReadAs}
 use Rattle.hack_manifest.specs.declared.fault.ReadFault.{ReadFault}
 use Rattle.hack_manifest.specs.declared.fault.ReadFault.TheVariants as parts
 use Rattle.hack_manifest.specs.declared.package.Package.{Package}
 use Rattle.hack_manifest.specs.declared.manifest.ManifestFault.{ManifestFault}
 use Rattle.hack_manifest.specs.declared.manifest.ManifestFault.TheVariants as faults
-use Rattle.hack_manifest.specs.ManifestResults.{package_facts_view}
+use Rattle.hack_manifest.specs.ManifestResults.{facts_of}
 use Rattle.hack_manifest.specs.declared.places.Place.{Place}
+use Rattle.hack_manifest.specs.LineRuns.{has_some, chain}
 use Rattle.hack_manifest.specs.Places.{step}
+
+-- a document with at least one key
+abbrev pub has_keys : Option Members → Bool
+has_keys o = has_some (option_map_or chain o [])
 
 -- the text after that which was read
 abbrev pub rest_of_read : {A : Type 0} → Read A → Option (List ℕ)
@@ -37,13 +42,9 @@ is_over text = ends_line (skip_ws text) && (length (skip_blank text) == 0)
 abbrev pub by_bytes : Name → Name → Ordering
 by_bytes = slice_cmp nat_cmp
 
--- what a package and a map of features say
-abbrev pub facts_view : Package × BTreeMap (String Global) (Vec (String Global) Global) → Facts
-facts_view r = record { of_package = package_facts_view r.0; features = feature_map r.1 }
-
 -- the result of a function is what the text of a manifest is read as, unless memory ran out
 abbrev pub ReturnsFacts : List ℕ → ℕ → Result (Package × BTreeMap (String Global) (Vec (String Global) Global)) ReadFault → Type 0
-ReturnsFacts text minor (Ok r) = IsReadAs text minor (Ok (facts_view r))
+ReturnsFacts text minor (Ok r) = IsReadAs text minor (Ok (facts_of r.0 r.1))
 ReturnsFacts text minor (Err (parts.Field name)) = IsReadAs text minor (Err name.now)
 ReturnsFacts text minor (Err parts.Memory) = Unit {0}
 

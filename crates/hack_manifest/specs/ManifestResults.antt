@@ -1,9 +1,11 @@
 -- What is read of a manifest as contracts see it, and its errors.
-use Rattle.std.specs.Prelude.{◌≡◌, ℕ, List, None, option_map, Result, Ok, Err, string_bytes}
+use Rattle.std.specs.Prelude.{◌≡◌, ℕ, List, None, option_map, Vec, String, Result, Ok, Err, string_bytes}
+use Rattle.std.specs.BTreeMap.{BTreeMap}
+use Rattle.std.specs.declared.alloc.Global.{Global}
 use Rattle.toml.specs.Parse.{parse_document}
 use Rattle.hack_base.specs.Names.{optional_text}
 use Rattle.hack_features.specs.FeatureMap.{feature_map}
-use Rattle.hack_manifest.specs.Manifest.{PackageFacts, Facts, IsReadAs}
+use Rattle.hack_manifest.specs.Manifest.{Facts, IsReadAs}
 use Rattle.hack_base.specs.FieldReadings.{FieldReading}
 use Rattle.hack_manifest.specs.declared.fault.ReadFault.{ReadFault}
 use Rattle.hack_manifest.specs.declared.fault.ReadFault.TheVariants as parts
@@ -12,13 +14,13 @@ use Rattle.hack_manifest.specs.declared.manifest.Manifest.{Manifest}
 use Rattle.hack_manifest.specs.declared.manifest.ManifestFault.{ManifestFault}
 use Rattle.hack_manifest.specs.declared.manifest.ManifestFault.TheVariants as faults
 
--- what a `Package` says
-abbrev pub package_facts_view : Package → PackageFacts
-package_facts_view p = record { publish = p.publish; rust_version = option_map optional_text p.rust_version }
-
--- what a `Manifest` says
-abbrev pub manifest_view : Manifest → Facts
-manifest_view m = record { of_package = package_facts_view m.package; features = feature_map m.features }
+-- what the package and the features of a `Manifest` say
+abbrev pub facts_of : Package → BTreeMap (String Global) (Vec (String Global) Global) → Facts
+facts_of p features = record {
+  publish = p.publish;
+  rust_version = option_map optional_text p.rust_version;
+  features = feature_map features;
+}
 
 -- the error is that of the reading, unless memory ran out
 abbrev pub FailsAsRead : {Y : Type 0} → ReadFault → FieldReading Y → Type 0
@@ -33,7 +35,7 @@ ReturnsReading view (Err e) read = FailsAsRead e read
 -- a manifest keeps its text, and holds what the text is read as
 pub record IsManifest (text : List ℕ) (minor : ℕ) (m : Manifest) : Type 0 where
   pub kept : string_bytes m.text ≡ text
-  pub says : IsReadAs text minor (Ok (manifest_view m))
+  pub says : IsReadAs text minor (Ok (facts_of m.package m.features))
 
 -- why a manifest with this path and text is refused: it is no TOML, or the field is the first that
 -- can't be read

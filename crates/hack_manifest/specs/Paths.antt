@@ -1,26 +1,10 @@
 -- The key paths of pieces.
 use Rattle.std.specs.Prelude.{◌≡◌, ◌==◌, ℕ, Bool, true, false, if◌then◌else◌, map, List, [], ◌∷◌, ◌++◌, take, slice_index}
-use Rattle.std.specs.Option.{option_map_or}
-use Rattle.toml.specs.Data.{Data, table, Members, no_members, member}
-use Rattle.toml.specs.Parse.{parse_document, skip_bom}
+use Rattle.toml.specs.Parse.{skip_bom}
 use Rattle.toml_parser.specs.Lexical.{skip_blank}
 use Rattle.hack_base.specs.Names.{Name}
-use Rattle.hack_manifest.specs.LineRuns.{IsCutInto}
-use Rattle.hack_manifest.specs.PieceFronts.{IsFrontTo, IsFirstFrontTo}
-
--- the names along a tree, taking the first member of each table
-abbrev mutual
-  pub chain_of_data : Data → List Name
-  chain_of_data (table ms) = chain ms
-  chain_of_data _ = []
-
-  pub chain : Members → List Name
-  chain no_members = []
-  chain (member k d ms) = k ∷ chain_of_data d
-
--- the chain of names in the tree of a text, if there is a tree
-abbrev pub chain_at : List ℕ → List Name
-chain_at text = option_map_or chain (parse_document text) []
+use Rattle.hack_manifest.specs.LineRuns.{chain_at, IsShortest, IsCutInto}
+use Rattle.hack_manifest.specs.PieceFronts.{IsFrontTo}
 
 -- the first line that is neither blank nor a comment begins with a bracket
 abbrev pub is_header : List ℕ → Bool
@@ -29,7 +13,8 @@ is_header piece = slice_index (skip_blank (skip_bom piece)) 0 == 91
 -- the names before the shortest prefix that ends in `=` and parses alone when followed by `0`;
 -- empty where there is none
 pub data IsOwnKey (piece : List ℕ) (key : List Name) : Type 0 where
-  at_front : (n : ℕ) → IsFirstFrontTo 61 (48 ∷ []) piece n → key ≡ chain_at (take n piece ++ 48 ∷ []) → IsOwnKey piece key
+  at_front : (n : ℕ) → IsShortest (IsFrontTo 61 (48 ∷ []) piece) n
+      → key ≡ chain_at (take n piece ++ 48 ∷ []) → IsOwnKey piece key
   no_front : ((n : ℕ) → ¬ IsFrontTo 61 (48 ∷ []) piece n) → key ≡ [] → IsOwnKey piece key
 
 -- a piece after the last header's path has this path: a header has its own, a key is appended to

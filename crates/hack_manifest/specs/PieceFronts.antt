@@ -8,8 +8,3 @@ pub record IsFrontTo (byte : ℕ) (more piece : List ℕ) (n : ℕ) : Type 0 whe
   pub within : n ≤ length piece
   pub ends : slice_index piece (n - 1) ≡ byte
   pub reads : stands (take n piece ++ more) ≡ true
-
--- the first n bytes are the shortest such prefix
-pub record IsFirstFrontTo (byte : ℕ) (more piece : List ℕ) (n : ℕ) : Type 0 where
-  pub front : IsFrontTo byte more piece n
-  pub shortest : (m : ℕ) → m < n → IsFrontTo byte more piece m → ⊥

@@ -2,10 +2,12 @@
 
 ghost use Rattle.std.specs.Prelude.{◌≡◌, IfOk, OnOk, option_map};
 ghost use Rattle.std.specs.BTreeMap.{insert_entry};
+ghost use Rattle.toml.specs.Data.{get_member};
 ghost use Rattle.toml.specs.View.{table_view, array_view};
 ghost use Rattle.hack_base.specs.Names.{names_of};
 ghost use Rattle.hack_features.specs.FeatureMap.{feature_map};
-ghost use Rattle.hack_manifest.specs.Manifest.{texts_in, feature_map_in, features_field};
+ghost use Rattle.hack_manifest.specs.Manifest.{texts_in, feature_map_in, features_from};
+ghost use Rattle.hack_manifest.specs.Manifest.{features_key};
 ghost use Rattle.hack_manifest.specs.Internal.{by_bytes};
 ghost use Rattle.hack_manifest.specs.ManifestResults.{ReturnsReading};
 
@@ -65,7 +67,8 @@ pub fn features_of(
     tree: &Table,
     inline: bool,
 ) -> Result<BTreeMap<String, Vec<String>>, ReadFault>
-    ensures { ReturnsReading feature_map result (features_field inline (table_view tree.now)) }
+    ensures { ReturnsReading feature_map result
+        (features_from inline (get_member features_key (table_view tree.now))) }
 {
     let Some(value) = value_at(tree, "features") else {
         return Ok(BTreeMap::new(alloc));

@@ -7,8 +7,8 @@ ghost use Rattle.toml.specs.View.{table_view};
 ghost use Rattle.hack_manifest.specs.Manifest.{read_manifest};
 ghost use Rattle.hack_manifest.specs.PieceView.{slice_view};
 ghost use Rattle.hack_manifest.specs.ManifestResults.{ReturnsReading};
-ghost use Rattle.hack_manifest.specs.Internal.{ReturnsFacts, facts_view};
-ghost use Rattle.hack_manifest.specs.ManifestResults.{IsManifest};
+ghost use Rattle.hack_manifest.specs.Internal.{ReturnsFacts};
+ghost use Rattle.hack_manifest.specs.ManifestResults.{IsManifest, facts_of};
 ghost use Rattle.hack_manifest.specs.ManifestResults.{IsRefusal};
 ghost use Rattle.hack_manifest.specs.Internal.{IsTomlFault, IsFieldFault};
 
@@ -16,7 +16,7 @@ use crate::fault::ReadFault;
 use crate::features::features_of;
 pub use crate::laws::{cut_is_one, manifest_is_one, pieces_join};
 pub use crate::package::Package;
-use crate::package::{package_of, package_table};
+use crate::package::{package_table, publish, rust_version};
 pub use crate::pieces::{Piece, Pieces, PiecesFault};
 use crate::pieces::{cut, is_inline};
 use std::alloc::{AllocError, Global};
@@ -129,11 +129,16 @@ fn read(
     pieces: &[Piece<'_>],
     cargo_version: u32,
 ) -> Result<(Package, BTreeMap<String, Vec<String>>), ReadFault>
-    ensures { ReturnsReading facts_view result
+    ensures { ReturnsReading (λ r. facts_of r.0 r.1) result
         (read_manifest cargo_version (slice_view pieces.now) (table_view tree.now)) }
 {
     let table = package_table(tree, is_inline(pieces, "package"))?;
-    let package = package_of(alloc, table, cargo_version)?;
+    let publish = publish(table, cargo_version)?;
+    let rust_version = rust_version(alloc, table, cargo_version)?;
     let features = features_of(alloc, tree, is_inline(pieces, "features"))?;
+    let package = Package {
+        publish,
+        rust_version,
+    };
     Ok((package, features))
 }

@@ -1,12 +1,12 @@
 //! What a manifest says about its package.
 
-ghost use Rattle.std.specs.Prelude.{option_map};
+ghost use Rattle.std.specs.Prelude.{codes, option_map};
+ghost use Rattle.toml.specs.Data.{get_member};
 ghost use Rattle.toml.specs.View.{table_view};
 ghost use Rattle.hack_base.specs.Names.{optional_text};
-ghost use Rattle.hack_manifest.specs.Manifest.{package_in, publish_field, rust_version_field};
-ghost use Rattle.hack_manifest.specs.Manifest.{package_facts};
+ghost use Rattle.hack_manifest.specs.Manifest.{package_in, read_below, publish_from};
+ghost use Rattle.hack_manifest.specs.Manifest.{rust_version_from};
 ghost use Rattle.hack_manifest.specs.ManifestResults.{ReturnsReading};
-ghost use Rattle.hack_manifest.specs.ManifestResults.{package_facts_view};
 
 use crate::fault::ReadFault;
 use crate::lookup::{find_table, has_values, value_at};
@@ -38,8 +38,9 @@ pub fn package_table(tree: &Table, inline: bool) -> Result<&Table, ReadFault>
 }
 
 /// Whether the package may be published: without the field it may, with an empty list it may not.
-fn publish(table: &Table, cargo_version: u32) -> Result<Option<bool>, ReadFault>
-    ensures { ReturnsReading (λ o. o) result (publish_field cargo_version (table_view table.now)) }
+pub fn publish(table: &Table, cargo_version: u32) -> Result<Option<bool>, ReadFault>
+    ensures { ReturnsReading (λ o. o) result (read_below 39 cargo_version
+        (publish_from (get_member (codes "publish") (table_view table.now)))) }
 {
     if cargo_version >= 39 {
         return Ok(None);
@@ -53,13 +54,13 @@ fn publish(table: &Table, cargo_version: u32) -> Result<Option<bool>, ReadFault>
 }
 
 /// The `rust-version` of the package, if it has one.
-fn rust_version(
+pub fn rust_version(
     alloc: Global,
     table: &Table,
     cargo_version: u32,
 ) -> Result<Option<Option<String>>, ReadFault>
-    ensures { ReturnsReading (option_map optional_text) result (rust_version_field cargo_version
-        (table_view table.now)) }
+    ensures { ReturnsReading (option_map optional_text) result (read_below 58 cargo_version
+        (rust_version_from (get_member (codes "rust-version") (table_view table.now)))) }
 {
     if cargo_version >= 58 {
         return Ok(None);
@@ -69,17 +70,4 @@ fn rust_version(
         Some(Value::String(version)) => Ok(Some(Some(String::from_str(alloc, version.as_str())?))),
         Some(_) => Err(ReadFault::Field("rust-version")),
     }
-}
-
-/// The content of the table `package`.
-pub fn package_of(alloc: Global, table: &Table, cargo_version: u32) -> Result<Package, ReadFault>
-    ensures { ReturnsReading package_facts_view result (package_facts cargo_version
-        (table_view table.now)) }
-{
-    let publish = publish(table, cargo_version)?;
-    let rust_version = rust_version(alloc, table, cargo_version)?;
-    Ok(Package {
-        publish,
-        rust_version,
-    })
 }

@@ -7,7 +7,8 @@ ghost use Rattle.toml.specs.View.{view, table_view};
 ghost use Rattle.hack_base.specs.Names.{names_of};
 ghost use Rattle.hack_manifest.specs.LineRuns.{stands};
 ghost use Rattle.hack_manifest.specs.PieceFronts.{IsFrontTo};
-ghost use Rattle.hack_manifest.specs.Paths.{chain, chain_of_data, chain_at, is_header};
+ghost use Rattle.hack_manifest.specs.Paths.{is_header};
+ghost use Rattle.hack_manifest.specs.LineRuns.{chain, chain_of_data, chain_at};
 ghost use Rattle.hack_manifest.specs.Paths.{IsOwnKey, IsPathOfPiece};
 
 use crate::plain::bare_name;

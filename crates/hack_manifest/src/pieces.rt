@@ -1,12 +1,14 @@
 //! A text cut into pieces with their key paths. A piece is a header or a key with its value, with
 //! the blank lines and comments before it.
 
-ghost use Rattle.std.specs.Prelude.{◌≡◌, None, IsSome, IfOk};
+ghost use Rattle.std.specs.Prelude.{◌≡◌, ◌&&◌, [], ◌∷◌, not, None, IsSome, IfOk};
+ghost use Rattle.std.specs.Cmp.Lexicographic.{pointwise};
+ghost use Rattle.std.specs.Str.{bytes_eq};
 ghost use Rattle.toml.specs.Parse.{parse_document};
 ghost use Rattle.hack_base.specs.Names.{names_of};
-ghost use Rattle.hack_manifest.specs.Paths.{AreCut, next_header};
+ghost use Rattle.hack_manifest.specs.Paths.{AreCut, is_header, next_header};
 ghost use Rattle.hack_manifest.specs.PieceView.{pieces_view, slice_view, piece_view};
-ghost use Rattle.hack_manifest.specs.Manifest.{is_value_of, is_inline};
+ghost use Rattle.hack_manifest.specs.Manifest.{is_inline};
 ghost use Rattle.hack_manifest.specs.declared.pieces.PiecesFault.TheVariants.{Memory, Toml};
 
 use crate::path::{path_of, starts_table};
@@ -113,7 +115,8 @@ pub fn cut(alloc: Global, text: &str) -> Result<Pieces<'_>, AllocError>
 
 /// Whether a piece is a key of just this name with its value.
 fn is_value_of(piece: &Piece<'_>, name: &str) -> bool
-    ensures { result ≡ is_value_of name.now (piece_view piece.now) }
+    ensures { result ≡ (pointwise bytes_eq (names_of piece.now.path.items) (name.now ∷ [])
+        && not (is_header piece.now.text.now)) }
 {
     match piece.path.as_slice() {
         [only] => only.as_str() == name && !starts_table(piece.text),

@@ -1,8 +1,8 @@
 //! Runs of whole lines that `toml` reads by themselves: where the first piece of a text ends.
 
-ghost use Rattle.std.specs.Prelude.{◌≡◌, ◌↔◌, ◌≤◌, false, IsTrue, IfOk, IfSome, IfNone, length};
+ghost use Rattle.std.specs.Prelude.{◌≡◌, ◌↔◌, ◌≤◌, ℕ, false, IsTrue, IfOk, IfSome, IfNone, length};
 ghost use Rattle.std.specs.Prelude.{take};
-ghost use Rattle.hack_manifest.specs.LineRuns.{stands, IsLines, IsRun, IsFirstRun, HasNoRun};
+ghost use Rattle.hack_manifest.specs.LineRuns.{stands, IsLines, IsRun, IsShortest};
 ghost use Rattle.hack_manifest.specs.Internal.{behind};
 ghost use Rattle.hack_manifest.specs.declared.places.Place.TheVariants.{Start};
 
@@ -65,8 +65,8 @@ fn run_stands(alloc: Global, place: Place, text: &str, n: usize) -> Result<bool,
 
 /// The length of the shortest run of whole lines that parses alone.
 pub fn first_run(alloc: Global, text: &str) -> Result<Option<usize>, AllocError>
-    ensures found { IfOk result (λ o. IfSome o (IsFirstRun text.now)) }
-    ensures none { IfOk result (λ o. IfNone o (HasNoRun text.now)) }
+    ensures found { IfOk result (λ o. IfSome o (IsShortest (IsRun text.now))) }
+    ensures none { IfOk result (λ o. IfNone o ((m : ℕ) → IsRun text.now m → ⊥)) }
 {
     let bytes = text.as_bytes();
     let mut place = Place::Start;

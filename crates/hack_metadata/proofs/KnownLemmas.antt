@@ -9,13 +9,13 @@ use Rattle.std.specs.Prelude.{nat_le}
 use Rattle.std.proofs.lemmas.List.{length-map}
 use Rattle.std.proofs.lemmas.Bool.Decides.{nat_tests}
 use Rattle.serde_json.specs.Data.{Data, Items, no_items, item, Members}
-use Rattle.serde_json.specs.Find.{as_str}
+use Rattle.serde_json.specs.Find.{as_str, as_object}
 use Rattle.hack_base.specs.Names.{Name}
-use Rattle.hack_metadata.specs.Fields.{string_in, array_in, nullable_in, element_of, read_all}
+use Rattle.hack_metadata.specs.Fields.{string_in, array_in, nullable_in, read_all}
 use Rattle.hack_base.specs.FieldReadings.{◌>>=◌, FieldReading}
 use Rattle.hack_metadata.specs.KnownIds.{is_known_node, are_known}
 use Rattle.hack_metadata.specs.Internal.{Bounds}
-use Rattle.hack_metadata.specs.MetadataReading.{place_from, place_of, distinct, read_member, workspace_members_in, kinds_in, read_node_dep, deps_in, read_node, with_nodes, read_resolve, resolve_in, ids_of}
+use Rattle.hack_metadata.specs.MetadataReading.{place_from, place_of, distinct, read_member, workspace_members_in, read_from, read_kind, read_node_dep, read_node, with_nodes, read_resolve, ids_of}
 use Rattle.hack_metadata.specs.Records.{PackageRecord, NodeDepRecord, NodeRecord, Nodes}
 use Rattle.hack_metadata.specs.RecordViews.{package_view, place_at}
 use Rattle.hack_metadata.specs.declared.metadata.package.Package.{Package}
@@ -98,10 +98,10 @@ module _ (place : Name → Option ℕ) (n : ℕ) (bounds : Bounds place n) where
   module _ (minor : ℕ) where
     dep-known : (d : Data) (r : NodeDepRecord) → read_node_dep place minor d ≡ Ok r → nat_lt r.pkg n ≡ true
     dep-known d r e =
-        let ms = behind (element_of (codes "deps") d) _ r e in
+        let ms = behind (ok_or (as_object d) (codes "deps")) _ r e in
         let id = behind (string_in (codes "pkg") ms.value) _ r ms.then in
         let pkg = behind (ok_or (place id.value) (codes "pkg")) _ r id.then in
-        let kinds = behind (kinds_in minor ms.value) _ r pkg.then in
+        let kinds = behind (read_from 41 minor [] (array_in (codes "dep_kinds") ms.value >>= read_all read_kind)) _ r pkg.then in
         let same : pkg.value ≡ r.pkg = (let q : Ok (record { pkg = pkg.value; dep_kinds = kinds.value }) ≡ Ok r = kinds.then in cc) in
         subst (λ k. nat_lt k n ≡ true) same (bounds id.value pkg.value (named-some (codes "pkg") (place id.value) pkg.value pkg.read))
 
@@ -116,9 +116,9 @@ module _ (place : Name → Option ℕ) (n : ℕ) (bounds : Bounds place n) where
 
     node-known : (d : Data) (e : ℕ × NodeRecord) → read_node place minor d ≡ Ok e → known_entry e ≡ true
     node-known d r e =
-        let ms = behind (element_of (codes "nodes") d) _ r e in
+        let ms = behind (ok_or (as_object d) (codes "nodes")) _ r e in
         let id = behind (string_in (codes "id") ms.value) _ r ms.then in
-        let deps = behind (deps_in place minor ms.value) _ r id.then in
+        let deps = behind (read_from 30 minor [] (array_in (codes "deps") ms.value >>= read_all (read_node_dep place minor))) _ r id.then in
         let at = behind (ok_or (place id.value) (codes "id")) _ r deps.then in
         let same : (at.value, record { deps = deps.value }) ≡ r = (let q : Ok (at.value, record { deps = deps.value }) ≡ Ok r = at.then in cc) in
         subst (λ x. known_entry x ≡ true) same
@@ -143,16 +143,16 @@ module _ (place : Name → Option ℕ) (n : ℕ) (bounds : Bounds place n) where
     resolve-go : (o : Option Data) (nodes : Nodes) → read_resolve place minor o ≡ Ok nodes → list_all known_entry nodes ≡ true
     resolve-go None nodes e = ap (list_all known_entry) (let q : nodes ≡ [] = cc in q)
     resolve-go (Some d) nodes e =
-        let ms = behind (element_of (codes "resolve") d) _ nodes e in
+        let ms = behind (ok_or (as_object d) (codes "resolve")) _ nodes e in
         let list = behind (array_in (codes "nodes") ms.value) _ nodes ms.then in
         let all = behind (read_all (read_node place minor) list.value) _ nodes list.then in
         let same : with_nodes [] all.value ≡ nodes = (let q : Ok (with_nodes [] all.value) ≡ Ok nodes = all.then in cc) in
         subst (λ x. list_all known_entry x ≡ true) same (with-known all.value [] (all-read (read_node place minor) known_entry node-known list.value all.value all.read) refl)
 
-    pub nodes-known : (ms : Members) (nodes : Nodes) → resolve_in place minor ms ≡ Ok nodes → list_all known_entry nodes ≡ true
+    pub nodes-known : (ms : Members) (nodes : Nodes) → (nullable_in (codes "resolve") ms >>= read_resolve place minor) ≡ Ok nodes → list_all known_entry nodes ≡ true
     nodes-known ms nodes e = let o = behind (nullable_in (codes "resolve") ms) _ nodes e in resolve-go o.value nodes o.then
 
-    pub all-known : (ms ms' : Members) (members : List ℕ) (nodes : Nodes) → workspace_members_in place ms ≡ Ok members → resolve_in place minor ms' ≡ Ok nodes → are_known n members nodes ≡ true
+    pub all-known : (ms ms' : Members) (members : List ℕ) (nodes : Nodes) → workspace_members_in place ms ≡ Ok members → (nullable_in (codes "resolve") ms' >>= read_resolve place minor) ≡ Ok nodes → are_known n members nodes ≡ true
     all-known ms ms' members nodes e h = and-intro _ _ (members-known ms members e) (nodes-known ms' nodes h)
 
 -- the place that an id means is below the number of packages

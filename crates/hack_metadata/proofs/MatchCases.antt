@@ -6,7 +6,9 @@ use Rattle.std.specs.Cmp.Lexicographic.{bytes_decides}
 use Rattle.std.proofs.lemmas.Bool.{cases_Bool}
 use Rattle.std.proofs.lemmas.List.{append_cancel_left}
 use Rattle.hack_base.specs.Names.{Name}
-use Rattle.hack_metadata.specs.PackageSpecs.{BeginsWith, is_byte, unless_empty, Url, IsUrl, Identity, IsPlace, AsksVersion, of_name, of_fragment, alone, Matches, named, placed, name_at, versioned, HasBadId, HasBadVersion, has_byte, behind_first_byte, separates, begins_with_digit, trimmed_end}
+use Rattle.hack_metadata.specs.PackageSpecs.{is_byte, unless_empty, Url, IsUrl, Identity, IsPlace, AsksVersion, of_name, of_fragment, alone, Matches, named, placed, name_at, versioned, HasBadId, HasBadVersion, has_byte, behind_first_byte, separates, trimmed_end}
+use Rattle.std.specs.Char.{is_ascii_digit}
+use Rattle.std.specs.Prelude.{slice_index}
 use Rattle.hack_metadata.specs.InternalSpecAnswers.{MatchAnswer, fits, parts_at_separator, behind_name, with_version, alone_in, in_fragment, of_fragments, is_same_place, of_urls, IsUrlOrNone, IsBehind}
 use Rattle.hack_metadata.specs.declared.cargo.SpecFault.TheVariants.{BadId, BadVersion}
 use Rattle.hack_metadata.proofs.TextLemmas.{scheme-same}
@@ -26,13 +28,13 @@ module _ (p : Identity) (spec : Name) where
   name-asks : (rest given full : Name) → spec ≡ p.name ++ rest → AsksVersion p spec given full → behind_name p.version rest ≡ fits given full
   name-asks rest given full e (of_name by sep eq v) =
       ap (behind_name p.version) (append_cancel_left p.name rest (by ∷ given) (sym e ∙ eq)) ∙ ap (λ b. cond b (fits given p.version) (Ok false)) sep ∙ ap (fits given) v
-  name-asks rest given full e (of_fragment url own text id_text place e1 e2 names b1 b2) = absurd (place.unnamed (rest, e))
-  name-asks rest given full e (alone url own place e1 some none differs digit v) = absurd (place.unnamed (rest, e))
+  name-asks rest given full e (of_fragment url own text id_text place e1 e2 names b1 b2) = absurd (place.unnamed rest e)
+  name-asks rest given full e (alone url own place e1 some none differs digit v) = absurd (place.unnamed rest e)
 
   name-matches : (rest : Name) → spec ≡ p.name ++ rest → Matches p spec → behind_name p.version rest ≡ Ok true
   name-matches rest e (named eq) = ap (behind_name p.version) (append_cancel_left p.name rest [] (sym e ∙ eq ∙ sym (append-nil p.name)))
-  name-matches rest e (placed url own place none) = absurd (place.unnamed (rest, e))
-  name-matches rest e (name_at url own place is some none) = absurd (place.unnamed (rest, e))
+  name-matches rest e (placed url own place none) = absurd (place.unnamed rest e)
+  name-matches rest e (name_at url own place is some none) = absurd (place.unnamed rest e)
   name-matches rest e (versioned given full asks h) = name-asks rest given full e asks ∙ fits-tested given full h
 
 -- ---- URLs
@@ -85,15 +87,15 @@ module _ (p : Identity) (spec : Name) where
     parted-go true e1 e2 = names-go (bytes_eq (before_first separates text) (before_first separates own)) e1 e2 refl
     parted-go false e1 e2 = no refl
 
-    digit-go : (b : Bool) → has_byte separates text ≡ false → bytes_eq text p.name ≡ false → begins_with_digit text ≡ b → Comes p spec (cond b (fits text p.version) (Ok false))
+    digit-go : (b : Bool) → has_byte separates text ≡ false → bytes_eq text p.name ≡ false → is_ascii_digit (slice_index text 0) ≡ b → Comes p spec (cond b (fits text p.version) (Ok false))
     digit-go true e1 e2 e3 = by_version text p.version (alone g o place is (ap is_some own_is) e1 (same-names text p.name e2) e3 refl) refl
     digit-go false e1 e2 e3 = no refl
 
-    alone-go : (b : Bool) → has_byte separates text ≡ false → bytes_eq text p.name ≡ b → Comes p spec (cond b (Ok true) (cond (begins_with_digit text) (fits text p.version) (Ok false)))
+    alone-go : (b : Bool) → has_byte separates text ≡ false → bytes_eq text p.name ≡ b → Comes p spec (cond b (Ok true) (cond (is_ascii_digit (slice_index text 0)) (fits text p.version) (Ok false)))
     alone-go true e1 e2 =
         let same : text ≡ p.name = (bytes_decides text p.name).0 e2 in
         yes (name_at g o place (is ∙ ap Some same) (ap is_some own_is) (subst (λ t. has_byte separates t ≡ false) same e1)) refl
-    alone-go false e1 e2 = digit-go (begins_with_digit text) e1 e2 refl
+    alone-go false e1 e2 = digit-go (is_ascii_digit (slice_index text 0)) e1 e2 refl
 
     fragment-go : (b : Bool) → has_byte separates text ≡ b → Comes p spec (in_fragment p text (cond b (Some (before_first separates text, after_first separates text)) None) (parts_at_separator own))
     fragment-go true e = parted-go (has_byte separates own) e refl
@@ -104,13 +106,13 @@ module _ (p : Identity) (spec : Name) where
   fragments-go g o place (Some text) None eg eo = no refl
   fragments-go g o place (Some text) (Some own) eg eo = fragment-go g o place text own eg eo (has_byte separates text) refl
 
-  place-go : (g o : Url) → ¬ BeginsWith spec p.name → IsUrl (trimmed_end spec) g → IsUrl p.id o → (b : Bool) → is_same_place g o ≡ b → Comes p spec (cond b (of_fragments p g.fragment o.fragment) (Ok false))
+  place-go : (g o : Url) → ((rest : Name) → spec ≢ p.name ++ rest) → IsUrl (trimmed_end spec) g → IsUrl p.id o → (b : Bool) → is_same_place g o ≡ b → Comes p spec (cond b (of_fragments p g.fragment o.fragment) (Ok false))
   place-go g o unnamed hg ho true e =
       let same = place-holds g o e in
       fragments-go g o (record { unnamed = unnamed; spec_is = hg; id_is = ho; protocol = same.0; path = same.1; query = same.2 }) g.fragment o.fragment refl refl
   place-go g o unnamed hg ho false e = no refl
 
-  module _ (unnamed : ¬ BeginsWith spec p.name) where
+  module _ (unnamed : (rest : Name) → spec ≢ p.name ++ rest) where
     url-comes : (g o : Option Url) → IsUrlOrNone (trimmed_end spec) g → IsUrlOrNone p.id o → Comes p spec (of_urls p g o)
     url-comes None o hg ho = no refl
     url-comes (Some g) None hg ho = no_id (record { unnamed = unnamed; url = g; spec_is = hg; id_is = ho }) refl
@@ -128,7 +130,7 @@ module _ (p : Identity) (spec : Name) where
       alone-answer text (Some own) some none = ap (λ c. in_fragment p text c (parts_at_separator own)) (cut-none text none)
 
       url-asks : (given full : Name) → AsksVersion p spec given full → of_urls p g o ≡ fits given full
-      url-asks given full (of_name by sep eq v) = absurd (unnamed (by ∷ given, eq))
+      url-asks given full (of_name by sep eq v) = absurd (unnamed (by ∷ given) eq)
       url-asks given full (of_fragment url own text id_text place e1 e2 names b1 b2) =
           place-answer url own place
           ∙ ap (λ f. of_fragments p f own.fragment) e1
@@ -140,18 +142,18 @@ module _ (p : Identity) (spec : Name) where
           place-answer url own place
           ∙ ap (λ f. of_fragments p f own.fragment) e1
           ∙ alone-answer given own.fragment some none
-          ∙ ap (λ b. cond b (Ok true) (cond (begins_with_digit given) (fits given p.version) (Ok false))) (other-name given p.name differs)
+          ∙ ap (λ b. cond b (Ok true) (cond (is_ascii_digit (slice_index given 0)) (fits given p.version) (Ok false))) (other-name given p.name differs)
           ∙ ap (λ b. cond b (fits given p.version) (Ok false)) digit
           ∙ ap (fits given) v
 
       url-matches : Matches p spec → of_urls p g o ≡ Ok true
-      url-matches (named eq) = absurd (unnamed ([], eq ∙ sym (append-nil p.name)))
+      url-matches (named eq) = absurd (unnamed [] (eq ∙ sym (append-nil p.name)))
       url-matches (placed url own place none) = place-answer url own place ∙ ap (λ f. of_fragments p f own.fragment) none
       url-matches (name_at url own place is some none) =
           place-answer url own place
           ∙ ap (λ f. of_fragments p f own.fragment) is
           ∙ alone-answer p.name own.fragment some none
-          ∙ ap (λ b. cond b (Ok true) (cond (begins_with_digit p.name) (fits p.name p.version) (Ok false))) ((bytes_decides p.name p.name).1 refl)
+          ∙ ap (λ b. cond b (Ok true) (cond (is_ascii_digit (slice_index p.name 0)) (fits p.name p.version) (Ok false))) ((bytes_decides p.name p.name).1 refl)
       url-matches (versioned given full asks h) = url-asks given full asks ∙ fits-tested given full h
 
       no_url : (own : Option Url) → IsUrlOrNone p.id own → ((u : Url) → ¬ IsUrl p.id u) → own ≡ None
@@ -176,13 +178,13 @@ name-settles p spec name version rest answer ns vs begins is =
     let comes : Comes p spec answer = subst (λ a. Comes p spec a) (sym same) (name-comes p spec rest e) in
     record {
       matches = (comes-true p spec answer comes, λ m. same ∙ name-matches p spec rest e m);
-      bad_id = (comes-bad_id p spec answer comes, λ h. absurd (h.unnamed (rest, e)));
+      bad_id = (comes-bad_id p spec answer comes, λ h. absurd (h.unnamed rest e));
       bad_version = (comes-bad_version p spec answer comes, λ h. same ∙ name-asks p spec rest h.given h.full e h.asks ∙ short-tested h.given h.full h.short);
     }
 
 pub url-settles : (p : Identity) (spec name text id : Name) (g o : Option Url) (answer : MatchAnswer) → name ≡ p.name → IsBehind name spec None → text ≡ trimmed_end spec → id ≡ p.id → IsUrlOrNone text g → IsUrlOrNone id o → answer ≡ of_urls p g o → Settles p spec answer
 url-settles p spec name text id g o answer ns begins ts ids hg ho is =
-    let unnamed : ¬ BeginsWith spec p.name = subst (λ n. ¬ BeginsWith spec n) ns begins in
+    let unnamed : (rest : Name) → spec ≢ p.name ++ rest = subst (λ n. (rest : Name) → spec ≢ n ++ rest) ns begins in
     let hg' : IsUrlOrNone (trimmed_end spec) g = subst (λ t. IsUrlOrNone t g) ts hg in
     let ho' : IsUrlOrNone p.id o = subst (λ t. IsUrlOrNone t o) ids ho in
     let comes : Comes p spec answer = subst (λ a. Comes p spec a) (sym is) (url-comes p spec unnamed g o hg' ho') in

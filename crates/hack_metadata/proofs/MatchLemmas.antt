@@ -1,10 +1,12 @@
 -- What matching returns, compared with what the definitions say of a specification.
-use Rattle.std.proofs.Common.{◌≡◌, ◌&&◌, Bool, true, false, cond, Option, Some, None, Ok, Err, is_some, refl, sym, ap, ◌∙◌}
+use Rattle.std.proofs.Common.{◌≡◌, ◌&&◌, List, [], ◌∷◌, Bool, true, false, cond, Option, Some, None, Ok, Err, is_some, refl, sym, ap, ◌∙◌}
 use Rattle.std.specs.Str.{bytes_eq}
-use Rattle.std.specs.Cmp.Lexicographic.{bytes_decides}
+use Rattle.std.specs.Prelude.{IsSome}
+use Rattle.std.specs.List.{AllZip}
+use Rattle.std.specs.Cmp.Lexicographic.{bytes_decides, pointwise}
 use Rattle.hack_base.specs.Names.{Name}
-use Rattle.hack_metadata.specs.PackageSpecs.{AgreesIfGiven, VersionText, version_parts_of, IsFull, Agrees, Fits, Url, Identity, AsksVersion, Matches, versioned, HasBadId, HasBadVersion}
-use Rattle.hack_metadata.specs.InternalSpecAnswers.{MatchAnswer, agrees_if_given, agrees, fits, is_same_place}
+use Rattle.hack_metadata.specs.PackageSpecs.{AgreesIfGiven, third, version_parts_of, Fits, Url, Identity, AsksVersion, Matches, versioned, HasBadId, HasBadVersion}
+use Rattle.hack_metadata.specs.InternalSpecAnswers.{MatchAnswer, agrees_if_given, fits, is_same_place}
 use Rattle.hack_metadata.specs.declared.cargo.SpecFault.TheVariants.{BadId, BadVersion}
 
 -- ---- tests and what they mean
@@ -29,28 +31,18 @@ given-tested : (o full : Option Name) → AgreesIfGiven o full → agrees_if_giv
 given-tested None full h = refl
 given-tested (Some part) full h = ap (agrees_if_given (Some part)) h ∙ (bytes_decides part part).1 refl
 
-agrees-holds : (g f : VersionText) → agrees g f ≡ true → Agrees g f
-agrees-holds g f e =
-    let a = and-left (bytes_eq g.major f.major) _ e in
-    let e1 = and-right (bytes_eq g.major f.major) _ e in
-    let b = and-left (agrees_if_given g.minor f.minor) _ e1 in
-    let e2 = and-right (agrees_if_given g.minor f.minor) _ e1 in
-    let c = and-left (agrees_if_given g.patch f.patch) _ e2 in
-    let e3 = and-right (agrees_if_given g.patch f.patch) _ e2 in
-    record {
-      major = (bytes_decides g.major f.major).0 a;
-      minor = given-holds g.minor f.minor b;
-      patch = given-holds g.patch f.patch c;
-      pre = given-holds g.pre f.pre (and-left (agrees_if_given g.pre f.pre) (agrees_if_given g.build f.build) e3);
-      build = given-holds g.build f.build (and-right (agrees_if_given g.pre f.pre) (agrees_if_given g.build f.build) e3);
-    }
+agrees-holds : (gs fs : List (Option Name)) → pointwise agrees_if_given gs fs ≡ true → AllZip AgreesIfGiven gs fs
+agrees-holds [] [] e = tt
+agrees-holds [] (f ∷ fs) e = absurd (cc)
+agrees-holds (g ∷ gs) [] e = absurd (cc)
+agrees-holds (g ∷ gs) (f ∷ fs) e =
+    (given-holds g f (and-left (agrees_if_given g f) _ e), agrees-holds gs fs (and-right (agrees_if_given g f) _ e))
 
-agrees-tested : (g f : VersionText) → Agrees g f → agrees g f ≡ true
-agrees-tested g f h =
-    and-both (bytes_eq g.major f.major) _ ((bytes_decides g.major f.major).1 h.major)
-    (and-both (agrees_if_given g.minor f.minor) _ (given-tested g.minor f.minor h.minor)
-    (and-both (agrees_if_given g.patch f.patch) _ (given-tested g.patch f.patch h.patch)
-    (and-both (agrees_if_given g.pre f.pre) (agrees_if_given g.build f.build) (given-tested g.pre f.pre h.pre) (given-tested g.build f.build h.build))))
+agrees-tested : (gs fs : List (Option Name)) → AllZip AgreesIfGiven gs fs → pointwise agrees_if_given gs fs ≡ true
+agrees-tested [] [] h = refl
+agrees-tested [] (f ∷ fs) h = absurd h
+agrees-tested (g ∷ gs) [] h = absurd h
+agrees-tested (g ∷ gs) (f ∷ fs) h = and-both (agrees_if_given g f) _ (given-tested g f h.0) (agrees-tested gs fs h.1)
 
 pub place-holds : (g o : Url) → is_same_place g o ≡ true → (g.protocol ≡ o.protocol) × (g.path ≡ o.path) × AgreesIfGiven g.query o.query
 place-holds g o e =
@@ -69,10 +61,10 @@ place-tested g o a b c =
 -- ---- versions
 
 module _ (g f : Name) where
-  fits-at : (b a : Bool) → is_some (version_parts_of f).patch ≡ b → agrees (version_parts_of g) (version_parts_of f) ≡ a → fits g f ≡ cond b (Ok a) (Err BadVersion)
-  fits-at b a e h = ap (λ x. cond x (Ok (agrees (version_parts_of g) (version_parts_of f))) (Err BadVersion)) e ∙ ap (λ x. cond b (Ok x) (Err BadVersion)) h
+  fits-at : (b a : Bool) → is_some (third f) ≡ b → pointwise agrees_if_given (version_parts_of g) (version_parts_of f) ≡ a → fits g f ≡ cond b (Ok a) (Err BadVersion)
+  fits-at b a e h = ap (λ x. cond x (Ok (pointwise agrees_if_given (version_parts_of g) (version_parts_of f))) (Err BadVersion)) e ∙ ap (λ x. cond b (Ok x) (Err BadVersion)) h
 
-  fits-go : (b a : Bool) → is_some (version_parts_of f).patch ≡ b → agrees (version_parts_of g) (version_parts_of f) ≡ a → let answer : MatchAnswer = cond b (Ok a) (Err BadVersion) in answer ≡ Ok true → Fits g f
+  fits-go : (b a : Bool) → is_some (third f) ≡ b → pointwise agrees_if_given (version_parts_of g) (version_parts_of f) ≡ a → let answer : MatchAnswer = cond b (Ok a) (Err BadVersion) in answer ≡ Ok true → Fits g f
   fits-go true true e h q = record { whole = e; agrees = agrees-holds (version_parts_of g) (version_parts_of f) h }
   fits-go true false e h q = absurd (cc)
   fits-go false a e h q = absurd (cc)
@@ -83,18 +75,18 @@ module _ (g f : Name) where
   pub fits-tested : Fits g f → fits g f ≡ Ok true
   fits-tested h = fits-at true true h.whole (agrees-tested (version_parts_of g) (version_parts_of f) h.agrees)
 
-  short-go : (b : Bool) (a : Bool) → is_some (version_parts_of f).patch ≡ b → let answer : MatchAnswer = cond b (Ok a) (Err BadVersion) in answer ≡ Err BadVersion → ¬ IsFull f
+  short-go : (b : Bool) (a : Bool) → is_some (third f) ≡ b → let answer : MatchAnswer = cond b (Ok a) (Err BadVersion) in answer ≡ Err BadVersion → ¬ IsSome (third f)
   short-go true a e q full = absurd (cc)
   short-go false a e q full = let clash : true ≡ false = sym full ∙ e in cc
 
-  pub fits-short : fits g f ≡ Err BadVersion → ¬ IsFull f
-  fits-short q = short-go _ (agrees (version_parts_of g) (version_parts_of f)) refl q
+  pub fits-short : fits g f ≡ Err BadVersion → ¬ IsSome (third f)
+  fits-short q = short-go _ (pointwise agrees_if_given (version_parts_of g) (version_parts_of f)) refl q
 
-  tested-go : (b : Bool) → is_some (version_parts_of f).patch ≡ b → ¬ IsFull f → fits g f ≡ Err BadVersion
+  tested-go : (b : Bool) → is_some (third f) ≡ b → ¬ IsSome (third f) → fits g f ≡ Err BadVersion
   tested-go true e short = absurd (short e)
   tested-go false e short = fits-at false _ e refl
 
-  pub short-tested : ¬ IsFull f → fits g f ≡ Err BadVersion
+  pub short-tested : ¬ IsSome (third f) → fits g f ≡ Err BadVersion
   short-tested short = tested-go _ refl short
 
   no_id-go : (b a : Bool) → let answer : MatchAnswer = cond b (Ok a) (Err BadVersion) in answer ≡ Err BadId → ⊥
@@ -102,7 +94,7 @@ module _ (g f : Name) where
   no_id-go false a q = cc
 
   pub fits-no_id : fits g f ≡ Err BadId → ⊥
-  fits-no_id q = no_id-go (is_some (version_parts_of f).patch) (agrees (version_parts_of g) (version_parts_of f)) q
+  fits-no_id q = no_id-go (is_some (third f)) (pointwise agrees_if_given (version_parts_of g) (version_parts_of f)) q
 
 -- ---- where an answer comes from
 

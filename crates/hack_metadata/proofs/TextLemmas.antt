@@ -48,7 +48,7 @@ scheme-same text a x b y h k = (fronts, append_cancel_left (codes "://") x y tai
 -- ---- the front
 
 pub behind-from_strip : (name text : Name) (r : Option (Bor Name)) → MatchOption r (FindsTextPrefix name text None) (λ x. StripsPrefix (FindsTextPrefix name) text x.now) → IsBehind name text (option_copied r)
-behind-from_strip name text None h = λ b. h b.0 b.1
+behind-from_strip name text None h = λ rest e. h rest e
 behind-from_strip name text (Some x) h = h.1.1 ∙ ap (λ t. name ++ t) (sym h.2)
 
 byte-front : (b : ℕ) (text : Name) → ((rest : Name) → text ≢ b ∷ rest) → behind_byte b text ≡ None

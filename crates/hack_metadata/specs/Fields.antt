@@ -32,17 +32,10 @@ unless_null d = Some d
 abbrev pub nullable_in : Name → Members → FieldReading (Option Data)
 nullable_in key ms = ok_or (option_map unless_null (get_member key ms)) key
 
--- the text that data are; none where there are no data
-abbrev pub text_or_none : Name → Option Data → FieldReading (Option Name)
-text_or_none key o = option_map_or (λ d. ok_or (option_map Some (as_str d)) key) o (Ok None)
-
 -- a field that is a text or null
 abbrev pub optional_text_in : Name → Members → FieldReading (Option Name)
-optional_text_in key ms = nullable_in key ms >>= text_or_none key
-
--- data that have to be an object, such as an element of a list; else the name of that field
-abbrev pub element_of : Name → Data → FieldReading Members
-element_of list d = ok_or (as_object d) list
+optional_text_in key ms =
+    nullable_in key ms >>= λ o. option_map_or (λ d. ok_or (option_map Some (as_str d)) key) o (Ok None)
 
 -- each item as f reads it, in order
 abbrev pub read_all : {A : Type 0} → (Data → FieldReading A) → Items → FieldReading (List A)

@@ -19,7 +19,7 @@ use Rattle.std.specs.declared.string.String.{String}
 use Rattle.std.specs.declared.alloc.Global.{Global}
 use Rattle.hack_metadata.specs.declared.metadata.package.Package.{Package}
 use Rattle.hack_metadata.specs.declared.metadata.resolve.PackageId.{PackageId}
-use Rattle.hack_metadata.specs.PackageSpecs.{VersionText, Url}
+use Rattle.hack_metadata.specs.PackageSpecs.{Url}
 use Rattle.hack_metadata.specs.declared.cargo.VersionParts.{VersionParts}
 use Rattle.hack_metadata.specs.declared.cargo.UrlParts.{UrlParts}
 
@@ -79,8 +79,9 @@ abbrev pub pair_view : Bor Name × Bor Name → Name × Name
 pair_view parts = (parts.0.now, parts.1.now)
 
 -- the parts of a version
-abbrev pub version_view : VersionParts → VersionText
-version_view v = record { major = v.major.now; minor = option_copied v.minor; patch = option_copied v.patch; pre = option_copied v.pre; build = option_copied v.build }
+abbrev pub version_view : VersionParts → List (Option Name)
+version_view v =
+    Some v.major.now ∷ option_copied v.minor ∷ option_copied v.patch ∷ option_copied v.pre ∷ option_copied v.build ∷ []
 
 -- the parts of a URL
 abbrev pub url_view : UrlParts → Url

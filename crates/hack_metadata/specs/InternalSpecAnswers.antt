@@ -1,8 +1,10 @@
 -- What the steps of matching a specification return.
-use Rattle.std.specs.Prelude.{◌≡◌, ◌≢◌, ℕ, ◌≤◌, ◌++◌, length, codes, nat_lt, ◌==◌, ◌&&◌, Bool, true, false, if◌then◌else◌, [], ◌∷◌, Option, Some, None, Result, Ok, Err, is_some, bytes_eq}
+use Rattle.std.specs.Prelude.{◌≡◌, ◌≢◌, ℕ, ◌≤◌, ◌++◌, length, codes, nat_lt, ◌==◌, ◌&&◌, Bool, true, false, if◌then◌else◌, [], ◌∷◌, Option, Some, None, Result, Ok, Err, is_some, slice_index, bytes_eq}
 use Rattle.std.specs.List.{before_first, after_first}
 use Rattle.hack_base.specs.Names.{Name}
-use Rattle.hack_metadata.specs.PackageSpecs.{BeginsWith, has_byte, separates, VersionText, version_parts_of, Url, IsUrl, Identity, begins_with_digit}
+use Rattle.hack_metadata.specs.PackageSpecs.{has_byte, separates, third, version_parts_of, Url, IsUrl, Identity}
+use Rattle.std.specs.Char.{is_ascii_digit}
+use Rattle.std.specs.Cmp.Lexicographic.{pointwise}
 use Rattle.hack_metadata.specs.declared.cargo.SpecFault.{SpecFault}
 use Rattle.hack_metadata.specs.declared.cargo.SpecFault.TheVariants.{BadId, BadVersion}
 
@@ -16,13 +18,10 @@ agrees_if_given None full = true
 agrees_if_given (Some part) None = false
 agrees_if_given (Some part) (Some full) = bytes_eq part full
 
--- each part that is given equals that of the full version
-abbrev pub agrees : VersionText → VersionText → Bool
-agrees given full = bytes_eq given.major full.major && (agrees_if_given given.minor full.minor && (agrees_if_given given.patch full.patch && (agrees_if_given given.pre full.pre && agrees_if_given given.build full.build)))
-
 -- whether a version fits a full one
 abbrev pub fits : Name → Name → MatchAnswer
-fits given full = if is_some (version_parts_of full).patch then Ok (agrees (version_parts_of given) (version_parts_of full)) else Err BadVersion
+fits given full =
+    if is_some (third full) then Ok (pointwise agrees_if_given (version_parts_of given) (version_parts_of full)) else Err BadVersion
 
 -- what comes before and after the first byte that passes, where there is one
 abbrev pub cut_by : (ℕ → Bool) → Name → Option (Name × Name)
@@ -60,7 +59,7 @@ with_version given (Some own) = if bytes_eq given.0 own.0 then fits given.1 own.
 
 -- whether a fragment that is a name or a version alone matches
 abbrev pub alone_in : Identity → Name → MatchAnswer
-alone_in p text = if bytes_eq text p.name then Ok true else (if begins_with_digit text then fits text p.version else Ok false)
+alone_in p text = if bytes_eq text p.name then Ok true else (if is_ascii_digit (slice_index text 0) then fits text p.version else Ok false)
 
 -- whether a fragment with these parts matches the id's fragment with those
 abbrev pub in_fragment : Identity → Name → Option (Name × Name) → Option (Name × Name) → MatchAnswer
@@ -99,5 +98,5 @@ pub record IsSchemeCut (text scheme rest : Name) : Type 0 where
 
 -- the text begins with the name, and this follows; or it doesn't begin with it
 abbrev pub IsBehind : Name → Name → Option Name → Type 0
-IsBehind name text None = ¬ BeginsWith text name
+IsBehind name text None = (rest : Name) → text ≢ name ++ rest
 IsBehind name text (Some rest) = text ≡ name ++ rest

@@ -1,9 +1,9 @@
 -- When a package ID specification matches a package, as the chapter "Package ID Specifications" of
 -- the Cargo reference says. A specification is the package's name, the name with a version after
 -- `@` or `:`, or a URL.
-use Rattle.std.specs.Prelude.{◌≡◌, ◌≢◌, ℕ, ◌-◌, ◌≤◌, ◌==◌, ◌||◌, ◌&&◌, Bool, true, false, nat_lt, nat_le, if◌then◌else◌, [], ◌∷◌, ◌++◌, length, take, codes, Option, Some, None, IsSome, IfSome, option_map, option_and_then, unwrap_or}
-use Rattle.std.specs.List.{before_first, after_first, position_or_len, suffix_len}
-use Rattle.std.specs.Char.{is_ascii_whitespace}
+use Rattle.std.specs.Prelude.{◌≡◌, ◌≢◌, ℕ, ◌-◌, ◌≤◌, ◌==◌, ◌||◌, Bool, true, false, nat_lt, if◌then◌else◌, List, [], ◌∷◌, ◌++◌, length, take, slice_index, codes, Option, Some, None, IsSome, IfSome, option_map, option_and_then, unwrap_or}
+use Rattle.std.specs.List.{AllZip, before_first, after_first, position_or_len, suffix_len}
+use Rattle.std.specs.Char.{is_ascii_digit, is_ascii_whitespace}
 use Rattle.hack_base.specs.Names.{Name}
 
 -- ---- parts of a text
@@ -29,10 +29,6 @@ separates x = x == 64 || x == 58
 abbrev pub is_byte : ℕ → ℕ → Bool
 is_byte b x = x == b
 
--- the text begins with `front`
-abbrev pub BeginsWith : Name → Name → Type 0
-BeginsWith text front = (rest : Name) × (text ≡ front ++ rest)
-
 -- the text without the ASCII white space at its end
 abbrev pub trimmed_end : Name → Name
 trimmed_end text = take (length text - suffix_len is_ascii_whitespace text) text
@@ -43,43 +39,25 @@ AgreesIfGiven given full = IfSome given (λ part. full ≡ Some part)
 
 -- ---- versions, `major[.minor[.patch[-pre][+build]]]`, compared as texts
 
-pub record VersionText : Type 0 where
-  pub major : Name
-  pub minor : Option Name
-  pub patch : Option Name
-  pub pre : Option Name
-  pub build : Option Name
-
 -- what follows the second dot
 abbrev pub third : Name → Option Name
 third text = option_and_then (behind_first_byte (is_byte 46)) (behind_first_byte (is_byte 46) text)
 
--- the parts of a version: the third one is cut at its first `+`, and then at its first `-`
-abbrev pub version_parts_of : Name → VersionText
-version_parts_of text = record {
-  major = before_first (is_byte 46) text;
-  minor = option_map (before_first (is_byte 46)) (behind_first_byte (is_byte 46) text);
-  patch = option_map (λ last. before_first (is_byte 45) (before_first (is_byte 43) last)) (third text);
-  pre = option_and_then (λ last. unless_empty (after_first (is_byte 45) (before_first (is_byte 43) last))) (third text);
-  build = option_and_then (λ last. unless_empty (after_first (is_byte 43) last)) (third text);
-}
+-- major, minor, patch, pre-release and build: what follows the second dot is cut at its first `+`, and
+-- what stands before that at its first `-`
+abbrev pub version_parts_of : Name → List (Option Name)
+version_parts_of text =
+    let core = option_map (before_first (is_byte 43)) (third text) in
+    Some (before_first (is_byte 46) text)
+    ∷ option_map (before_first (is_byte 46)) (behind_first_byte (is_byte 46) text)
+    ∷ option_map (before_first (is_byte 45)) core
+    ∷ option_and_then (λ c. unless_empty (after_first (is_byte 45) c)) core
+    ∷ option_and_then (λ last. unless_empty (after_first (is_byte 43) last)) (third text) ∷ []
 
--- the version has three parts
-abbrev pub IsFull : Name → Type 0
-IsFull text = IsSome (version_parts_of text).patch
-
--- each part that is given equals that of the full version
-pub record Agrees (given full : VersionText) : Type 0 where
-  pub major : given.major ≡ full.major
-  pub minor : AgreesIfGiven given.minor full.minor
-  pub patch : AgreesIfGiven given.patch full.patch
-  pub pre : AgreesIfGiven given.pre full.pre
-  pub build : AgreesIfGiven given.build full.build
-
--- the version fits a full one
+-- the version fits one of three parts or more: each part that is given equals that of the other
 pub record Fits (given full : Name) : Type 0 where
-  pub whole : IsFull full
-  pub agrees : Agrees (version_parts_of given) (version_parts_of full)
+  pub whole : IsSome (third full)
+  pub agrees : AllZip AgreesIfGiven (version_parts_of given) (version_parts_of full)
 
 -- ---- URLs, `[kind+]protocol://path[?query][#fragment]`
 
@@ -109,16 +87,11 @@ pub record Identity : Type 0 where
   pub version : Name
   pub id : Name
 
--- the first byte is a digit
-abbrev pub begins_with_digit : Name → Bool
-begins_with_digit [] = false
-begins_with_digit (x ∷ xs) = nat_le 48 x && nat_le x 57
-
 module _ (p : Identity) (spec : Name) where
   -- the specification is a URL, white space at its end aside, and the id is one, of the same place:
   -- protocol and path, and the query where it is given
   pub record IsPlace (given own : Url) : Type 0 where
-    pub unnamed : ¬ BeginsWith spec p.name
+    pub unnamed : (rest : Name) → spec ≢ p.name ++ rest
     pub spec_is : IsUrl (trimmed_end spec) given
     pub id_is : IsUrl p.id own
     pub protocol : given.protocol ≡ own.protocol
@@ -133,7 +106,7 @@ module _ (p : Identity) (spec : Name) where
         → before_first separates text ≡ before_first separates id_text
         → behind_first_byte separates text ≡ Some given → behind_first_byte separates id_text ≡ Some full → AsksVersion given full
     alone : (url own : Url) → IsPlace url own → url.fragment ≡ Some given → IsSome own.fragment → has_byte separates given ≡ false
-        → given ≢ p.name → begins_with_digit given ≡ true → p.version ≡ full → AsksVersion given full
+        → given ≢ p.name → is_ascii_digit (slice_index given 0) ≡ true → p.version ≡ full → AsksVersion given full
 
   -- the specification matches the package
   pub data Matches : Type 0 where
@@ -144,7 +117,7 @@ module _ (p : Identity) (spec : Name) where
 
   -- the specification is a URL, and the id is none
   pub record HasBadId : Type 0 where
-    pub unnamed : ¬ BeginsWith spec p.name
+    pub unnamed : (rest : Name) → spec ≢ p.name ++ rest
     pub url : Url
     pub spec_is : IsUrl (trimmed_end spec) url
     pub id_is : (own : Url) → ¬ IsUrl p.id own
@@ -154,4 +127,4 @@ module _ (p : Identity) (spec : Name) where
     pub given : Name
     pub full : Name
     pub asks : AsksVersion given full
-    pub short : ¬ IsFull full
+    pub short : ¬ IsSome (third full)

@@ -2,12 +2,14 @@
 //! Specifications" of the Cargo reference.
 
 ghost use Rattle.std.specs.Prelude.{◌≡◌, ◌↔◌, ◌<◌, ◌==◌, true, false, Ok, Err, option_map};
-ghost use Rattle.std.specs.Prelude.{MatchOption, option_copied};
+ghost use Rattle.std.specs.Prelude.{MatchOption, is_some, option_copied, slice_index};
 ghost use Rattle.std.specs.List.{before_first, after_first};
 ghost use Rattle.hack_metadata.specs.PackageSpecs.{behind_first_byte, is_byte, unless_empty};
-ghost use Rattle.hack_metadata.specs.PackageSpecs.{version_parts_of, begins_with_digit};
+ghost use Rattle.hack_metadata.specs.PackageSpecs.{third, version_parts_of};
+ghost use Rattle.std.specs.Char.{is_ascii_digit};
+ghost use Rattle.std.specs.Cmp.Lexicographic.{pointwise};
 ghost use Rattle.hack_metadata.specs.PackageSpecs.{Matches, HasBadId, HasBadVersion};
-ghost use Rattle.hack_metadata.specs.InternalSpecAnswers.{agrees_if_given, agrees, fits};
+ghost use Rattle.hack_metadata.specs.InternalSpecAnswers.{agrees_if_given, fits};
 ghost use Rattle.hack_metadata.specs.InternalSpecAnswers.{parts_at_separator};
 ghost use Rattle.hack_metadata.specs.InternalSpecAnswers.{behind_name, in_fragment, of_fragments};
 ghost use Rattle.hack_metadata.specs.InternalSpecAnswers.{is_same_place, alone_in};
@@ -151,7 +153,7 @@ fn match_alone(pkg: &Package, given: &str) -> Result<bool, SpecFault>
 }
 
 fn begins_with_digit(text: &str) -> bool
-    ensures { result ≡ begins_with_digit text.now }
+    ensures { result ≡ is_ascii_digit (slice_index text.now 0) }
 {
     match text.as_bytes().first() {
         Some(byte) => *byte >= b'0' && *byte <= b'9',
@@ -217,7 +219,8 @@ struct VersionParts<'a> {
 
 impl<'a> VersionParts<'a> {
     fn of(text: &'a str) -> VersionParts<'a>
-        ensures { version_view result ≡ version_parts_of text.now }
+        ensures parts { version_view result ≡ version_parts_of text.now }
+        ensures whole { is_some (option_copied result.patch) ≡ is_some (third text.now) }
     {
         let (major, rest) = cut(text, '.');
         let Some(rest) = rest else {
@@ -252,9 +255,9 @@ impl<'a> VersionParts<'a> {
 
     /// Returns whether each part that is given equals that of `full`.
     fn agrees(&self, full: &VersionParts<'_>) -> bool
-        ensures { result ≡ agrees (version_view self.now) (version_view full.now) }
+        ensures { result ≡ pointwise agrees_if_given (version_view self.now) (version_view full.now) }
     {
-        self.major == full.major
+        agrees_if_given(Some(self.major), Some(full.major))
             && agrees_if_given(self.minor, full.minor)
             && agrees_if_given(self.patch, full.patch)
             && agrees_if_given(self.pre, full.pre)

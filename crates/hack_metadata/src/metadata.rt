@@ -6,10 +6,11 @@ ghost use Rattle.std.specs.Prelude.{option_copied, option_map};
 ghost use Rattle.std.specs.BTreeSet.{contains};
 ghost use Rattle.std.specs.Ordering.{nat_cmp};
 ghost use Rattle.serde_json.specs.View.{view, items_view, members_view};
-ghost use Rattle.hack_metadata.specs.Fields.{read_all};
+ghost use Rattle.hack_metadata.specs.Fields.{read_all, nullable_in};
+ghost use Rattle.hack_base.specs.FieldReadings.{◌>>=◌ as ◌≫=◌};
 ghost use Rattle.hack_metadata.specs.FieldResults.{KeepsOtherFields, ReturnsField};
 ghost use Rattle.hack_metadata.specs.MetadataReading.{read_metadata, read_behind, read_member};
-ghost use Rattle.hack_metadata.specs.MetadataReading.{workspace_members_in, resolve_in, ids_of};
+ghost use Rattle.hack_metadata.specs.MetadataReading.{workspace_members_in, read_resolve, ids_of};
 ghost use Rattle.hack_metadata.specs.MetadataReading.{place_of, distinct};
 ghost use Rattle.hack_metadata.specs.KnownIds.{are_known};
 ghost use Rattle.hack_metadata.specs.Internal.{Bounds};
@@ -137,8 +138,9 @@ fn remove_resolve(
     ids: &BTreeMap<String, PackageId>,
     cargo_version: u32,
 ) -> Result<Resolve, MetadataFault>
-    ensures value { ReturnsField (λ r. nodes_view r.nodes) result (resolve_in (place_in ids.now)
-        cargo_version (members_view object.old.entries)) }
+    ensures value { ReturnsField (λ r. nodes_view r.nodes) result
+        (nullable_in (codes "resolve") (members_view object.old.entries)
+        ≫= read_resolve (place_in ids.now) cargo_version) }
     ensures others { KeepsOtherFields (codes "resolve") (members_view object.old.entries)
         (members_view object.new.entries) }
 {

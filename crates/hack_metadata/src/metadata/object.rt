@@ -8,7 +8,8 @@ ghost use Rattle.serde_json.specs.Find.{get_member, as_object};
 ghost use Rattle.serde_json.specs.View.{view, items_view, members_view};
 ghost use Rattle.hack_base.specs.Names.{optional_text};
 ghost use Rattle.hack_metadata.specs.Fields.{string_in, bool_in, array_in, object_in};
-ghost use Rattle.hack_metadata.specs.Fields.{nullable_in, optional_text_in, element_of};
+ghost use Rattle.hack_metadata.specs.Fields.{nullable_in, optional_text_in};
+ghost use Rattle.std.specs.Option.{ok_or};
 ghost use Rattle.hack_metadata.specs.Fields.{object_in_text};
 ghost use Rattle.hack_metadata.specs.FieldResults.{KeepsOtherFields, ReturnsField};
 
@@ -103,8 +104,8 @@ impl ObjectExt for Object {
 /// Returns what a field holds, or an element of it, as an object. Where it is none, the error names
 /// the field.
 pub(crate) fn element(value: Value, list: &'static str) -> Result<Object, MetadataFault>
-    ensures value { ReturnsField (λ m. members_view m.entries) result (element_of list.now
-        (view value)) }
+    ensures value { ReturnsField (λ m. members_view m.entries) result
+        (ok_or (as_object (view value)) list.now) }
     ensures no_memory { result ≢ Err MetadataFault.Memory }
 {
     into_object(value).ok_or(MetadataFault::Field(list))

@@ -1,16 +1,19 @@
 //! Packages and the dependencies that their manifests name.
 
 ghost use Rattle.std.specs.Prelude.{◌≡◌, map, codes, IfOk, option_map, option_and_then};
-ghost use Rattle.std.specs.Prelude.{option_copied};
+ghost use Rattle.std.specs.Prelude.{true, None, option_copied};
+ghost use Rattle.std.specs.Option.{ok_or};
 ghost use Rattle.serde_json.specs.Find.{as_array};
 ghost use Rattle.serde_json.specs.View.{view, items_view, members_view};
 ghost use Rattle.hack_base.specs.Names.{names_of, optional_text};
 ghost use Rattle.hack_features.specs.FeatureMap.{feature_map};
-ghost use Rattle.hack_metadata.specs.Fields.{read_all};
+ghost use Rattle.hack_metadata.specs.Fields.{read_all, object_in, nullable_in};
+ghost use Rattle.hack_metadata.specs.Fields.{optional_text_in};
+ghost use Rattle.hack_base.specs.FieldReadings.{◌>>=◌ as ◌≫=◌};
 ghost use Rattle.hack_metadata.specs.FieldResults.{KeepsOtherFields, ReturnsField};
-ghost use Rattle.hack_metadata.specs.MetadataReading.{read_dependency, read_package, features_in};
+ghost use Rattle.hack_metadata.specs.MetadataReading.{read_dependency, read_package, read_from};
 ghost use Rattle.hack_metadata.specs.MetadataReading.{texts_of_items, features_of};
-ghost use Rattle.hack_metadata.specs.MetadataReading.{has_items, publish_in, rust_version_in};
+ghost use Rattle.hack_metadata.specs.MetadataReading.{has_items, may_publish};
 ghost use Rattle.hack_metadata.specs.RecordViews.{dependency_view, package_view};
 ghost use Rattle.hack_metadata.specs.Optional.{feature_of, optional_in};
 ghost use Rattle.hack_metadata.specs.Internal.{TakesOptional};
@@ -183,8 +186,9 @@ fn remove_features(
     alloc: Global,
     object: &mut Object,
 ) -> Result<BTreeMap<String, Vec<String>>, MetadataFault>
-    ensures value { ReturnsField feature_map result (features_in
-        (members_view object.old.entries)) }
+    ensures value { ReturnsField feature_map result
+        (object_in (codes "features") (members_view object.old.entries)
+        ≫= λ fs. ok_or (features_of fs) (codes "features")) }
     ensures others { KeepsOtherFields (codes "features") (members_view object.old.entries)
         (members_view object.new.entries) }
 {
@@ -240,7 +244,8 @@ fn texts_from(alloc: Global, list: Vec<Value>) -> Result<Option<Vec<String>>, Al
 /// registry is named, and an empty list where the package may not be published at all.
 fn remove_publish(object: &mut Object, cargo_version: u32) -> Result<bool, MetadataFault>
     ensures value { ReturnsField (λ b. b) result
-        (publish_in cargo_version (members_view object.old.entries)) }
+        (read_from 39 cargo_version true
+        (nullable_in (codes "publish") (members_view object.old.entries) ≫= may_publish)) }
     ensures others { KeepsOtherFields (codes "publish") (members_view object.old.entries)
         (members_view object.new.entries) }
 {
@@ -276,7 +281,8 @@ fn remove_rust_version(
     cargo_version: u32,
 ) -> Result<Option<String>, MetadataFault>
     ensures value { ReturnsField optional_text result
-        (rust_version_in cargo_version (members_view object.old.entries)) }
+        (read_from 58 cargo_version None
+        (optional_text_in (codes "rust_version") (members_view object.old.entries))) }
     ensures others { KeepsOtherFields (codes "rust_version") (members_view object.old.entries)
         (members_view object.new.entries) }
 {

@@ -1,15 +1,16 @@
 //! The ids of packages, and the graph of dependencies as cargo resolved it.
 
-ghost use Rattle.std.specs.Prelude.{◌≡◌, ◌<◌, ◌↔◌, map, fold, option_map};
+ghost use Rattle.std.specs.Prelude.{◌≡◌, ◌<◌, ◌↔◌, [], Ok, codes, map, fold, option_map};
 ghost use Rattle.std.specs.declared.cmp.Ordering.{Ordering};
 ghost use Rattle.std.specs.declared.cmp.Ordering.TheVariants.{Less, Equal, Greater};
 ghost use Rattle.std.specs.Option.{ok_or};
 ghost use Rattle.hack_metadata.specs.RecordViews.{place_bytes};
 ghost use Rattle.serde_json.specs.View.{view, items_view, members_view};
-ghost use Rattle.hack_metadata.specs.Fields.{read_all};
+ghost use Rattle.hack_metadata.specs.Fields.{read_all, array_in};
+ghost use Rattle.hack_base.specs.FieldReadings.{◌>>=◌ as ◌≫=◌};
 ghost use Rattle.hack_metadata.specs.FieldResults.{ReturnsField};
-ghost use Rattle.hack_metadata.specs.MetadataReading.{kinds_in, read_kind, read_node_dep, deps_in};
-ghost use Rattle.hack_metadata.specs.MetadataReading.{read_node, read_nodes, read_resolve};
+ghost use Rattle.hack_metadata.specs.MetadataReading.{read_from, read_kind, read_node_dep};
+ghost use Rattle.hack_metadata.specs.MetadataReading.{read_node, with_nodes, read_resolve};
 ghost use Rattle.hack_metadata.specs.RecordViews.{place_at, kind_view, node_dep_view};
 ghost use Rattle.hack_metadata.specs.Internal.{place_in};
 ghost use Rattle.hack_metadata.specs.RecordViews.{node_view, nodes_view};
@@ -99,7 +100,8 @@ fn remove_kinds(
     cargo_version: u32,
 ) -> Result<Vec<DepKindInfo>, MetadataFault>
     ensures { ReturnsField (λ found. map kind_view found.items) result
-        (kinds_in cargo_version (members_view object.old.entries)) }
+        (read_from 41 cargo_version []
+        (array_in (codes "dep_kinds") (members_view object.old.entries) ≫= read_all read_kind)) }
 {
     if cargo_version < 41 {
         return Ok(Vec::new(alloc));
@@ -158,7 +160,8 @@ fn remove_deps(
     cargo_version: u32,
 ) -> Result<Vec<NodeDep>, MetadataFault>
     ensures { ReturnsField (λ found. map node_dep_view found.items) result
-        (deps_in (place_in ids.now) cargo_version (members_view object.old.entries)) }
+        (read_from 30 cargo_version [] (array_in (codes "deps") (members_view object.old.entries)
+        ≫= read_all (read_node_dep (place_in ids.now) cargo_version))) }
 {
     if cargo_version < 30 {
         return Ok(Vec::new(alloc));
@@ -230,7 +233,8 @@ fn nodes_from(
     cargo_version: u32,
 ) -> Result<BTreeMap<PackageId, Node>, MetadataFault>
     ensures { ReturnsField nodes_view result
-        (read_nodes (place_in ids.now) cargo_version (items_view list.items)) }
+        (read_all (read_node (place_in ids.now) cargo_version) (items_view list.items)
+        ≫= λ nodes. Ok (with_nodes [] nodes)) }
 {
     let mut nodes = BTreeMap::new(alloc);
     for value in list {

@@ -8,4 +8,4 @@ abbrev pub invariant-targets : goal.invariant-targets
 invariant-targets l =
     goal.iterator-targets.can_next l.name-iterator ×
     goal.iterator-targets.is_finite l.name-iterator ×
-    (targets_kept l.drops (table_view l.kept) (members_view l.name-iterator) ≡ targets_kept l.drops no_members (table_view l.fn.targets))
+    (targets_kept (table_view l.kept) (members_view l.name-iterator) ≡ targets_kept no_members (table_view l.fn.targets))

@@ -1,6 +1,9 @@
-use Rattle.std.proofs.Common.{rules, ◌≡◌, ◌∙◌, sym, length}
+use Rattle.std.proofs.Common.{rules, ◌≡◌, ◌∙◌, sym, ap, map, length}
 use Rattle.std.specs.Vec.Iter.{into_iter_items}
+use Rattle.toml.specs.View.{view, items_of}
 use Rattle.hack_base.specs.Names.{names_behind}
+use Rattle.hack_edits.specs.Members.{members_left}
+use Rattle.hack_edits.proofs.ItemLemmas.{list_of-items_of}
 use Rattle.hack_edits.proofs.PrivateLemmas.{members-kept, members-end}
 use Rattle.hack_edits.proofs.workspace_tree.kept_members.Goals as goal
 
@@ -12,3 +15,4 @@ pub returns : goal.returns
 returns c =
     let none : length (into_iter_items c.loop-item.item-iterator) ≡ 0 = search rules in
     members-end c.args.private.now.root.now (names_behind c.loop-item.left.items) c.loop-item.kept.items _ _ none c.loop-item.invariant
+    ∙ ap (λ ds. items_of (members_left c.args.private.now.root.now (names_behind c.args.private.now.paths.now) ds)) (sym (list_of-items_of (map view c.args.items.items)))

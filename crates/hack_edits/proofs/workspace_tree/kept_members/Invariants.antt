@@ -1,11 +1,10 @@
-use Rattle.std.proofs.Common.{◌≡◌}
+use Rattle.std.proofs.Common.{◌≡◌, ◌++◌, map}
 use Rattle.std.specs.Vec.Iter.{into_iter_items}
-use Rattle.toml.specs.View.{items_view}
+use Rattle.toml.specs.View.{view}
 use Rattle.hack_base.specs.Names.{names_behind}
 use Rattle.hack_edits.specs.Members.{members_left}
-use Rattle.hack_edits.proofs.ItemLemmas.{append_items}
 use Rattle.hack_edits.proofs.workspace_tree.kept_members.Given as goal
 
 abbrev pub invariant-loop-item : goal.invariant-loop-item
-invariant-loop-item l = append_items (items_view l.kept.items) (members_left l.private.root.now (names_behind l.left.items) (items_view (into_iter_items l.item-iterator)))
-    ≡ members_left l.private.root.now (names_behind l.private.paths.now) (items_view l.fn.items.items)
+invariant-loop-item l = map view l.kept.items ++ members_left l.private.root.now (names_behind l.left.items) (map view (into_iter_items l.item-iterator))
+    ≡ members_left l.private.root.now (names_behind l.private.paths.now) (map view l.fn.items.items)
