@@ -1,6 +1,6 @@
 //! The runs of a plan, and the report of those that failed.
 
-ghost use Rattle.std.specs.Prelude.{◌≡◌, None, OnOk, false, string_bytes};
+ghost use Rattle.std.specs.Prelude.{◌≡◌, None, OnOk, false, string_bytes, true};
 ghost use Rattle.hack_load.specs.ContextView.{context_view};
 ghost use Rattle.hack_run.specs.Internal.{PerformsAtMostOne};
 ghost use Rattle.hack_run.specs.Questions.{IsAnswered};

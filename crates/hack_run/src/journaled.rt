@@ -1,7 +1,7 @@
 //! A whole call over files with a journal: wherever it ends, nothing is lost.
 
 ghost use Rattle.std.specs.Prelude.{◌≡◌, ◌↔◌, ◌⊎◌, ◌≤◌, ◌+◌, ◌-◌, ◌^◌, IsTrue, None, false, min};
-ghost use Rattle.std.specs.Prelude.{IfSome, string_bytes};
+ghost use Rattle.std.specs.Prelude.{IfSome, string_bytes, true};
 ghost use Rattle.hack_base.specs.Names.{names_of};
 ghost use Rattle.hack_files.specs.Files.{KeepsAll, KeepsOthers};
 ghost use Rattle.hack_journal.specs.Journal.{edits_of};
