@@ -73,12 +73,6 @@ unknown_notes us =
     note_if (is_given opt.IgnoreUnknownFeatures us && counts opt.IncludeFeatures us)
     QuietWarn unknown_words
 
--- the notice where a range is given and rustup's version isn't known
-abbrev pub rustup_notes : Bool → Option (List ℕ) → List Note
-rustup_notes ranged unknown =
-    option_map_or (λ why. note_if ranged Warn
-    (codes "unable to determine rustup version; assuming latest stable rustup: " ++ why)) unknown []
-
 -- a range rewritten in its new form
 abbrev pub new_form : List ℕ → List ℕ
 new_form text = option_map_or (λ sides. sides.front ++ codes "..=" ++ sides.back) (at_dots text) text
@@ -87,26 +81,22 @@ new_form text = option_map_or (λ sides. sides.front ++ codes "..=" ++ sides.bac
 abbrev pub old_words : List ℕ → List ℕ
 old_words newer = codes "using `..` for inclusive range is deprecated; consider using `" ++ newer ++ codes "`"
 
--- the notice where a range is in the old form
-abbrev pub old_notes : Bool → Option (List ℕ) → List Note
-old_notes old range = option_map_or (λ text. note_if old Warn (old_words (new_form text))) range []
-
 -- the options that edit manifests while commands run
 abbrev pub editing_words : Bool → Bool → List ℕ
 editing_words false no_private = codes "--no-private modifies"
 editing_words true false = codes "--no-dev-deps modifies"
 editing_words true true = codes "--no-dev-deps and --no-private modify"
 
--- the notice where manifests are edited while commands run
-abbrev pub editing_notes : Bool → Bool → List Note
-editing_notes no_dev_deps no_private =
-    note_if (no_dev_deps || no_private) Info (editing_words no_dev_deps no_private
-    ++ codes " real `Cargo.toml` while cargo-hack is running and restores it when finished")
-
--- the notices on an accepted command line, in order
+-- the notices on an accepted command line, in order: on unknown features; where a range is given, on
+-- rustup's version if it isn't known, and on the old form; and where commands run on edited manifests
 abbrev pub notes_on : Around → List Use → List Note
 notes_on around us =
     unknown_notes us
-    ++ rustup_notes (has_beside beside.VersionRange us) around.unknown
-    ++ old_notes (is_old_asked us) (value_given opt.VersionRange us)
-    ++ editing_notes (is_given opt.NoDevDeps us) (is_given opt.NoPrivate us)
+    ++ option_map_or (λ why. note_if (has_beside beside.VersionRange us) Warn
+    (codes "unable to determine rustup version; assuming latest stable rustup: " ++ why))
+    around.unknown []
+    ++ option_map_or (λ text. note_if (is_old_asked us) Warn (old_words (new_form text)))
+    (value_given opt.VersionRange us) []
+    ++ note_if (is_given opt.NoDevDeps us || is_given opt.NoPrivate us) Info
+    (editing_words (is_given opt.NoDevDeps us) (is_given opt.NoPrivate us)
+    ++ codes " real `Cargo.toml` while cargo-hack is running and restores it when finished")
