@@ -76,7 +76,7 @@ pub record HasValues (term_color : Option (List ℕ)) (github_actions : Bool) (b
   pub version_range : args.version_range ≡ range_asked us
   pub version_step : args.version_step ≡ unwrap_or (from_value opt.VersionStep (number_of 16) us) 1
   pub log_group : args.log_group ≡ log_group_asked github_actions us
-  pub piece : option_map (λ p. record { piece = p.piece; count = p.count }) args.partition
+  pub piece : option_map (λ p. (p.piece, p.count)) args.partition
       ≡ from_value opt.Partition piece_of us
   pub kind : IfSome args.partition (λ p.
       p.kind ≡ unwrap_or (from_value opt.PartitionKind kind_of us) Block)
