@@ -63,15 +63,12 @@ ComesFrom around (Cuts behavior cut trailing) outcome = (us : List Use) × (end 
 abbrev pub ComesTo : Around → List (List ℕ) → CommandLineOutcome → Type 0
 ComesTo around words outcome = ComesFrom around (start_of words) outcome
 
--- the text of the notice on unknown features
-abbrev pub unknown_words : List ℕ
-unknown_words = codes "--ignore-unknown-features for --include-features is not fully implemented and may not work as intended"
-
 -- the notice that unknown features are not ignored everywhere, where they are to be ignored
 abbrev pub unknown_notes : List Use → List Note
 unknown_notes us =
     note_if (is_given opt.IgnoreUnknownFeatures us && counts opt.IncludeFeatures us)
-    QuietWarn unknown_words
+    QuietWarn (codes "--ignore-unknown-features for --include-features is not fully implemented"
+    ++ codes " and may not work as intended")
 
 -- a range rewritten in its new form
 abbrev pub new_form : List ℕ → List ℕ

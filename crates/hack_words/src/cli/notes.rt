@@ -5,7 +5,7 @@ ghost use Rattle.std.specs.Option.{option_map_or};
 ghost use Rattle.hack_base.specs.Names.{optional_text_ref};
 ghost use Rattle.hack_base.specs.Notes.{AddsNotes};
 ghost use Rattle.hack_base.specs.Notes.{note_if};
-ghost use Rattle.hack_words.specs.CommandLine.{unknown_words, old_words, editing_words};
+ghost use Rattle.hack_words.specs.CommandLine.{old_words, editing_words};
 ghost use Rattle.hack_words.specs.CommandLine.{new_form as newer_form};
 ghost use Rattle.hack_words.specs.RustupView.{unknown_of};
 
@@ -14,7 +14,9 @@ use hack_versions::rustup::Rustup;
 use std::alloc::{AllocError, Global};
 
 fn unknown_text(alloc: Global) -> Result<String, AllocError>
-    ensures { IfOk result (λ text. string_bytes text ≡ unknown_words) }
+    ensures { IfOk result (λ text. string_bytes text
+        ≡ codes "--ignore-unknown-features for --include-features is not fully implemented"
+        ++ codes " and may not work as intended") }
 {
     String::from_str(
         alloc,
@@ -25,7 +27,9 @@ fn unknown_text(alloc: Global) -> Result<String, AllocError>
 /// Reports that unknown features are not ignored everywhere.
 pub fn tell_unknown(alloc: Global, notices: &mut Vec<Notice>, told: bool) -> Result<(), AllocError>
     ensures { OnOk result (AddsNotes notices.old notices.new
-        (note_if told NoticeKind.QuietWarn unknown_words)) }
+        (note_if told NoticeKind.QuietWarn
+        (codes "--ignore-unknown-features for --include-features is not fully implemented"
+        ++ codes " and may not work as intended"))) }
 {
     if told {
         tell(notices, true, NoticeKind::QuietWarn, unknown_text(alloc)?)?;
