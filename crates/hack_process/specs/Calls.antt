@@ -1,5 +1,5 @@
 -- What a caller is asked, what it answers, and the calls that it shows.
-use Rattle.std.specs.Prelude.{◌≡◌, ◌⊎◌, ℕ, Bool, List, [], ◌∷◌, ◌++◌, map, string_bytes, pos}
+use Rattle.std.specs.Prelude.{◌≡◌, ◌⊎◌, ℕ, Bool, List, [], ◌∷◌, ◌++◌, pos}
 use Rattle.std.proofs.Common.{Global, String}
 use Rattle.hack_process.specs.declared.caller.End.{End}
 use Rattle.hack_process.specs.declared.caller.End.TheVariants.{Status, NeverStarted}

@@ -79,15 +79,11 @@ abbrev pub output_text : List ℕ → List ℕ → List ℕ
 output_text name [] = []
 output_text name (b ∷ bs) = codes "\n--- " ++ (name ++ (codes "\n" ++ (b ∷ bs)))
 
--- what was captured of both streams
-abbrev pub outputs_text : Failure → List ℕ
-outputs_text f = output_text (codes "stdout") (string_bytes f.stdout)
-    ++ output_text (codes "stderr") (string_bytes f.stderr)
-
 -- the text of a failure: the command, how it ended, and what was captured
 abbrev pub failure_text : Failure → List ℕ
 failure_text f = codes "process didn't exit successfully: " ++ (string_bytes f.command
-    ++ (codes " (" ++ (end_text f.end ++ (codes ")" ++ outputs_text f))))
+    ++ (codes " (" ++ (end_text f.end ++ (codes ")" ++ (output_text (codes "stdout")
+    (string_bytes f.stdout) ++ output_text (codes "stderr") (string_bytes f.stderr))))))
 
 -- the text of an error
 abbrev pub fault_text : ProcessFault → List ℕ

@@ -28,15 +28,12 @@ subcommand_rule us word =
     then option_map (λ option. BesideSubcommand option word) (without_dev_deps us)
     else fault_if (bytes_eq word (codes "install")) Install
 
--- an argument for cargo that selects targets which need dev-dependencies
-abbrev pub is_target_flag : List ℕ → Bool
-is_target_flag w =
-    bytes_eq w (codes "--example") || bytes_eq w (codes "--examples") || bytes_eq w (codes "--test") || bytes_eq w (codes "--tests")
-    || bytes_eq w (codes "--bench") || bytes_eq w (codes "--benches") || bytes_eq w (codes "--all-targets")
-
--- the same with the target's name
-abbrev pub is_target_name : List ℕ → Bool
-is_target_name w = starts_with nat_eq w (codes "--example=") || starts_with nat_eq w (codes "--test=") || starts_with nat_eq w (codes "--bench=")
+-- an argument for cargo that selects targets which need dev-dependencies, or a target by its name
+abbrev pub selects_targets : List ℕ → Bool
+selects_targets w =
+    list_any (bytes_eq w) (codes "--example" ∷ codes "--examples" ∷ codes "--test" ∷ codes "--tests"
+    ∷ codes "--bench" ∷ codes "--benches" ∷ codes "--all-targets" ∷ [])
+    || list_any (starts_with nat_eq w) (codes "--example=" ∷ codes "--test=" ∷ codes "--bench=" ∷ [])
 
 -- one of the groups has this name
 abbrev pub is_in_group : List (List (List ℕ)) → List ℕ → Bool
@@ -77,7 +74,7 @@ together_rules behavior us =
     ∷ first_of (map (λ o. fault_if (is_cargo behavior && is_given o us)
     (Clash opt.WorkspaceBehavior o)) (opt.EachFeature ∷ opt.FeaturePowerset ∷ []))
     ∷ option_and_then (λ word. option_map (λ option. ClashWord option word) (without_dev_deps us))
-    (find (λ w. is_target_flag w || is_target_name w) (leading_of behavior us))
+    (find selects_targets (leading_of behavior us))
     ∷ first_of (map (λ o. fault_if (counts opt.IncludeFeatures us && is_given o us)
     (Clash opt.IncludeFeatures o)) (opt.OptionalDeps ∷ opt.IncludeDepsFeatures ∷ []))
     ∷ first_of (clash opt.NoDevDeps opt.RemoveDevDeps us

@@ -19,7 +19,7 @@ pub record IsLate (github_actions : Bool) (us : List Use) (late : Late) : Type 0
   pub old : late.versions.is_old ≡ is_old_asked us
   pub step : late.versions.step ≡ unwrap_or (from_value opt.VersionStep (number_of 16) us) 1
   pub log_group : late.log_group ≡ log_group_asked github_actions us
-  pub piece : option_map (λ p. record { piece = p.piece; count = p.count }) late.partition
+  pub piece : option_map (λ p. (p.piece, p.count)) late.partition
       ≡ from_value opt.Partition piece_of us
   pub kind : IfSome late.partition (λ p.
       p.kind ≡ unwrap_or (from_value opt.PartitionKind kind_of us) Block)

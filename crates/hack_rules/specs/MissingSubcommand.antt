@@ -1,5 +1,5 @@
 -- The rule on a missing subcommand.
-use Rattle.std.specs.Prelude.{ℕ, ◌&&◌, not, List, Bool, Option, codes}
+use Rattle.std.specs.Prelude.{◌&&◌, not, List, Bool, Option, codes}
 use Rattle.std.specs.Option.{is_none}
 use Rattle.hack_options.specs.declared.opt.Opt.TheVariants as opt
 use Rattle.hack_rules.specs.declared.uses.behavior.WorkspaceBehavior.{WorkspaceBehavior}

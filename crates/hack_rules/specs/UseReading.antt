@@ -1,5 +1,5 @@
 -- How arguments are read as uses of options, one after the other.
-use Rattle.std.specs.Prelude.{ℕ, ◌≡◌, List, [], ◌∷◌, ◌++◌, ◌==◌, ◌&&◌, ◌||◌, Bool, false, Option, Some, None, Result, Ok, Err, codes, if◌then◌else◌, IfSome}
+use Rattle.std.specs.Prelude.{ℕ, ◌≡◌, List, [], ◌∷◌, ◌++◌, ◌==◌, ◌&&◌, ◌||◌, false, Option, Some, None, Result, Ok, Err, codes, if◌then◌else◌, IfSome}
 use Rattle.std.specs.Option.{option_map_or, option_zip}
 use Rattle.std.specs.Str.{bytes_eq}
 use Rattle.hack_lexopt.specs.Cuts.{Flag, LongFlag, ShortFlag, Cut, FlagCut, ValueCut, LeftArguments, next_cut, after_cut, attached_value, after_attached, value_of, after_value, optional_of, unexpected_of}

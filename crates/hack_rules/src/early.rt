@@ -2,8 +2,8 @@
 //! and the first that is broken gives the error.
 
 ghost use Rattle.std.specs.Prelude.{◌≡◌, ◌&&◌, ◌||◌, List, [], ◌∷◌, not, map, IfOk};
-ghost use Rattle.std.specs.Prelude.{option_and_then, option_map};
-ghost use Rattle.std.specs.List.{find, flat_map, list_any};
+ghost use Rattle.std.specs.Prelude.{bytes_eq, codes, nat_eq, option_and_then, option_map};
+ghost use Rattle.std.specs.List.{find, flat_map, list_any, starts_with};
 ghost use Rattle.std.specs.Option.{is_none, option_map_or, unwrap_or};
 ghost use Rattle.hack_features.specs.Feature.{groups_of};
 ghost use Rattle.hack_base.specs.Lists.{is_list};
@@ -23,8 +23,7 @@ ghost use Rattle.hack_rules.specs.Rules.{clash as clash_rule, counts, fault_if, 
 ghost use Rattle.hack_rules.specs.Rules.{has_beside, is_among, needs as needs_rule};
 ghost use Rattle.hack_rules.specs.EarlyRules.{is_in_group, subcommand_rule};
 ghost use Rattle.hack_rules.specs.EarlyRules.{without_dev_deps as dev_deps_option};
-ghost use Rattle.hack_rules.specs.EarlyRules.{is_target_flag as target_flag};
-ghost use Rattle.hack_rules.specs.EarlyRules.{is_target_name as target_name};
+ghost use Rattle.hack_rules.specs.EarlyRules.{selects_targets};
 ghost use Rattle.hack_rules.specs.EarlyRules.{option_naming as naming_option};
 ghost use Rattle.hack_rules.specs.EarlyRules.{early_rules, together_rules};
 
@@ -217,7 +216,9 @@ fn beside_cargo(behavior: WorkspaceBehavior, option: Opt, uses: &[Use]) -> Resul
 }
 
 fn is_target_flag(word: &str) -> bool
-    ensures { result ≡ target_flag word.now }
+    ensures { result ≡ list_any (bytes_eq word.now) (codes "--example" ∷ codes "--examples"
+        ∷ codes "--test" ∷ codes "--tests" ∷ codes "--bench" ∷ codes "--benches"
+        ∷ codes "--all-targets" ∷ []) }
 {
     word == "--example"
         || word == "--examples"
@@ -229,7 +230,8 @@ fn is_target_flag(word: &str) -> bool
 }
 
 fn is_target_name(word: &str) -> bool
-    ensures { result ≡ target_name word.now }
+    ensures { result ≡ list_any (starts_with nat_eq word.now)
+        (codes "--example=" ∷ codes "--test=" ∷ codes "--bench=" ∷ []) }
 {
     word.starts_with("--example=") || word.starts_with("--test=") || word.starts_with("--bench=")
 }
@@ -237,7 +239,7 @@ fn is_target_name(word: &str) -> bool
 /// The first argument for cargo that selects targets which need dev-dependencies.
 fn target_choice(leading: &[String]) -> Option<&String>
     ensures { optional_text_ref result
-        ≡ find (λ w. target_flag w || target_name w) (names_of leading.now) }
+        ≡ find selects_targets (names_of leading.now) }
 {
     for word in leading {
         if is_target_flag(word.as_str()) || is_target_name(word.as_str()) {
@@ -251,7 +253,7 @@ fn target_choice(leading: &[String]) -> Option<&String>
 fn beside_targets(leading: &[String], uses: &[Use]) -> Result<(), CliFault>
     ensures { Checks result (option_and_then
         (λ word. option_map (λ option. ClashWord option word) (dev_deps_option (views uses.now)))
-        (find (λ w. target_flag w || target_name w) (names_of leading.now))) }
+        (find selects_targets (names_of leading.now))) }
 {
     let Some(word) = target_choice(leading) else {
         return Ok(());

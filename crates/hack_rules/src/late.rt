@@ -177,7 +177,7 @@ fn partition(alloc: Global, uses: &[Use]) -> Result<Option<Partition>, CliFault>
         (λ text. fault_if (is_none (kind_of text)) (WrongKind text)) (views uses.now)
         ∷ [])) }
     ensures piece { IfOk result (λ partition.
-        option_map (λ p. record { piece = p.piece; count = p.count }) partition
+        option_map (λ p. (p.piece, p.count)) partition
         ≡ from_value Opt.Partition piece_of (views uses.now)) }
     ensures kind { IfOk result (λ partition. IfSome partition (λ p.
         p.kind ≡ unwrap_or (from_value Opt.PartitionKind kind_of (views uses.now))

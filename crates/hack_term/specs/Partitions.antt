@@ -18,19 +18,13 @@ IsPiece text m n =
 abbrev pub IsNoPiece : List ℕ → Type 0
 IsNoPiece text = (m n : ℕ) → IsPiece text m n → ⊥
 
--- which piece, and of how many
-pub record PieceNumbers : Type 0 where
-  pub piece : ℕ
-  pub count : ℕ
-
 -- both numbers, where the first is at least 1 and at most the second
-abbrev pub piece_if : Option ℕ → Option ℕ → Option PieceNumbers
-piece_if (Some m) (Some n) =
-    if nat_lt 0 m && not (nat_lt n m) then Some (record { piece = m; count = n }) else None
+abbrev pub piece_if : Option ℕ → Option ℕ → Option (ℕ × ℕ)
+piece_if (Some m) (Some n) = if nat_lt 0 m && not (nat_lt n m) then Some (m, n) else None
 piece_if m n = None
 
--- the piece that a text names, if it names one: m/n, split at the first slash
-abbrev pub piece_of : List ℕ → Option PieceNumbers
+-- which piece a text names, and of how many, if it names one: m/n, split at the first slash
+abbrev pub piece_of : List ℕ → Option (ℕ × ℕ)
 piece_of text =
     option_and_then (λ rest. piece_if (number_of 64 (front_of 47 text)) (number_of 64 rest))
     (rest_of 47 text)

@@ -96,7 +96,7 @@ impl Partition {
         ensures blocks { IfOk result (λ p. p.kind ≡ PartitionKind.Block) }
         ensures refused { IfErr result (RefusesPiece text.now) }
         ensures value { MatchResult result
-            (λ p. piece_of text.now ≡ Some (record { piece = p.piece; count = p.count }))
+            (λ p. piece_of text.now ≡ Some (p.piece, p.count))
             (λ e. (e ≡ PartitionFault.Memory) ⊎ (piece_of text.now ≡ None)) }
     {
         match read_piece(text) {

@@ -67,8 +67,10 @@ pub record HasTexts (behavior : WorkspaceBehavior) (us : List Use) (args : Args)
   pub mutually_exclusive_features : AreGroupsOf (values_given opt.MutuallyExclusiveFeatures us) args.mutually_exclusive_features.items
   pub at_least_one_of : AreGroupsOf (values_given opt.AtLeastOneOf us) args.at_least_one_of.items
 
--- the values, read from the options and the environment
-pub record HasValues (term_color : Option (List ℕ)) (github_actions : Bool) (behavior : WorkspaceBehavior) (trailing : List (List ℕ)) (us : List Use) (args : Args) : Type 0 where
+-- all fields, some of which are read from the environment too
+pub record IsAsked (term_color : Option (List ℕ)) (github_actions : Bool) (behavior : WorkspaceBehavior) (trailing : List (List ℕ)) (us : List Use) (args : Args) : Type 0 where
+  pub flags : HasFlags us args
+  pub texts : HasTexts behavior us args
   pub trailing_args : names_of args.trailing_args.items ≡ trailing
   pub workspace_behavior : args.workspace_behavior ≡ behavior
   pub coloring : args.coloring ≡ coloring_asked term_color us
@@ -76,16 +78,10 @@ pub record HasValues (term_color : Option (List ℕ)) (github_actions : Bool) (b
   pub version_range : args.version_range ≡ range_asked us
   pub version_step : args.version_step ≡ unwrap_or (from_value opt.VersionStep (number_of 16) us) 1
   pub log_group : args.log_group ≡ log_group_asked github_actions us
-  pub piece : option_map (λ p. record { piece = p.piece; count = p.count }) args.partition
+  pub piece : option_map (λ p. (p.piece, p.count)) args.partition
       ≡ from_value opt.Partition piece_of us
   pub kind : IfSome args.partition (λ p.
       p.kind ≡ unwrap_or (from_value opt.PartitionKind kind_of us) Block)
   pub allow_together : AreLifts (filter_map lift_of (values_given opt.AllowTogether us))
       args.allow_together.items
   pub strength : args.strength ≡ from_value opt.Strength (number_of 64) us
-
--- all fields
-pub record IsAsked (term_color : Option (List ℕ)) (github_actions : Bool) (behavior : WorkspaceBehavior) (trailing : List (List ℕ)) (us : List Use) (args : Args) : Type 0 where
-  pub flags : HasFlags us args
-  pub texts : HasTexts behavior us args
-  pub values : HasValues term_color github_actions behavior trailing us args

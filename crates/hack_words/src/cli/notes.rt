@@ -1,12 +1,12 @@
 //! Notices on an accepted command line.
 
-ghost use Rattle.std.specs.Prelude.{◌≡◌, ◌++◌, IfOk, OnOk, true, codes, string_bytes};
+ghost use Rattle.std.specs.Prelude.{◌≡◌, ◌++◌, ◌||◌, [], IfOk, OnOk, true, codes, string_bytes};
+ghost use Rattle.std.specs.Option.{option_map_or};
 ghost use Rattle.hack_base.specs.Names.{optional_text_ref};
 ghost use Rattle.hack_base.specs.Notes.{AddsNotes};
 ghost use Rattle.hack_base.specs.Notes.{note_if};
-ghost use Rattle.hack_words.specs.CommandLine.{unknown_words, rustup_notes};
-ghost use Rattle.hack_words.specs.CommandLine.{old_words, old_notes, editing_words};
-ghost use Rattle.hack_words.specs.CommandLine.{editing_notes, new_form as newer_form};
+ghost use Rattle.hack_words.specs.CommandLine.{old_words, editing_words};
+ghost use Rattle.hack_words.specs.CommandLine.{new_form as newer_form};
 ghost use Rattle.hack_words.specs.RustupView.{unknown_of};
 
 use hack_base::notice::{Notice, NoticeKind, tell};
@@ -14,7 +14,9 @@ use hack_versions::rustup::Rustup;
 use std::alloc::{AllocError, Global};
 
 fn unknown_text(alloc: Global) -> Result<String, AllocError>
-    ensures { IfOk result (λ text. string_bytes text ≡ unknown_words) }
+    ensures { IfOk result (λ text. string_bytes text
+        ≡ codes "--ignore-unknown-features for --include-features is not fully implemented"
+        ++ codes " and may not work as intended") }
 {
     String::from_str(
         alloc,
@@ -25,7 +27,9 @@ fn unknown_text(alloc: Global) -> Result<String, AllocError>
 /// Reports that unknown features are not ignored everywhere.
 pub fn tell_unknown(alloc: Global, notices: &mut Vec<Notice>, told: bool) -> Result<(), AllocError>
     ensures { OnOk result (AddsNotes notices.old notices.new
-        (note_if told NoticeKind.QuietWarn unknown_words)) }
+        (note_if told NoticeKind.QuietWarn
+        (codes "--ignore-unknown-features for --include-features is not fully implemented"
+        ++ codes " and may not work as intended"))) }
 {
     if told {
         tell(notices, true, NoticeKind::QuietWarn, unknown_text(alloc)?)?;
@@ -48,7 +52,9 @@ pub fn tell_rustup(
     rustup: &Rustup,
 ) -> Result<(), AllocError>
     ensures { OnOk result (AddsNotes notices.old notices.new
-        (rustup_notes ranged (unknown_of rustup.now))) }
+        (option_map_or (λ why. note_if ranged NoticeKind.Warn
+        (codes "unable to determine rustup version; assuming latest stable rustup: " ++ why))
+        (unknown_of rustup.now) [])) }
 {
     match rustup {
         Rustup::Unknown(why) if ranged => {
@@ -89,7 +95,8 @@ pub fn tell_old(
     range: Option<&String>,
 ) -> Result<(), AllocError>
     ensures { OnOk result (AddsNotes notices.old notices.new
-        (old_notes is_old (optional_text_ref range.entry))) }
+        (option_map_or (λ text. note_if is_old NoticeKind.Warn (old_words (newer_form text)))
+        (optional_text_ref range.entry) [])) }
 {
     match range {
         Some(range) if is_old => {
@@ -132,7 +139,8 @@ pub fn tell_edits(
     no_private: bool,
 ) -> Result<(), AllocError>
     ensures { OnOk result (AddsNotes notices.old notices.new
-        (editing_notes no_dev_deps no_private)) }
+        (note_if (no_dev_deps || no_private) NoticeKind.Info (editing_words no_dev_deps no_private
+        ++ codes " real `Cargo.toml` while cargo-hack is running and restores it when finished"))) }
 {
     let edits = no_dev_deps || no_private;
     if edits {

@@ -1,13 +1,13 @@
 //! A command line into arguments, or the first error.
 
-ghost use Rattle.std.specs.Prelude.{List, ◌≡◌, ◌++◌, ◌&&◌, IfOk, IfErr, MatchOption, OnOk, map};
-ghost use Rattle.std.specs.Prelude.{string_bytes};
+ghost use Rattle.std.specs.Prelude.{List, ◌≡◌, ◌++◌, ◌&&◌, ◌||◌, [], IfOk, IfErr, MatchOption, OnOk, map};
+ghost use Rattle.std.specs.Prelude.{codes, string_bytes};
 ghost use Rattle.hack_base.specs.Names.{names_of};
 ghost use Rattle.hack_rules.specs.PassedWords.{leading_of};
 ghost use Rattle.hack_rules.specs.Rules.{counts, has_beside};
 ghost use Rattle.hack_rules.specs.Uses.{is_given, views};
 ghost use Rattle.hack_rules.specs.Values.{value_given};
-ghost use Rattle.hack_base.specs.Notes.{note_of, AddsNotes};
+ghost use Rattle.hack_base.specs.Notes.{note_if, note_of, AddsNotes};
 ghost use Rattle.hack_words.specs.ParseAnswers.{IsText};
 ghost use Rattle.hack_words.specs.Internal.{Judges, IsJudged, IsPrinted};
 ghost use Rattle.hack_words.specs.ParseAnswers.{AnswersCommandLine};
@@ -15,7 +15,9 @@ ghost use Rattle.hack_words.specs.ParseAnswers.{Refuses};
 ghost use Rattle.hack_words.specs.Internal.{GivesCuts, around_in};
 ghost use Rattle.hack_rules.specs.AskedFields.{is_old_asked};
 ghost use Rattle.hack_words.specs.CommandLine.{ComesFrom, ComesTo, Faulty, outcome_of};
-ghost use Rattle.hack_words.specs.CommandLine.{rustup_notes, old_notes, editing_notes};
+ghost use Rattle.hack_words.specs.CommandLine.{editing_words, new_form, old_words};
+ghost use Rattle.hack_base.specs.declared.notice.NoticeKind.TheVariants.{Info, Warn};
+ghost use Rattle.std.specs.Option.{option_map_or};
 ghost use Rattle.hack_rules.specs.CliFaults.{fault_of};
 ghost use Rattle.hack_rules.specs.ListsView.{AreListsOf};
 ghost use Rattle.hack_words.specs.StartView.{start_in};
@@ -114,10 +116,16 @@ fn tell(
 ) -> Result<(), AllocError>
     requires { is_old ≡ is_old_asked (views uses.now) }
     ensures { OnOk result (AddsNotes notices.old notices.new
-        (rustup_notes (has_beside Beside.VersionRange (views uses.now)) (unknown_of rustup.now)
-        ++ old_notes (is_old_asked (views uses.now)) (value_given Opt.VersionRange (views uses.now))
-        ++ editing_notes (is_given Opt.NoDevDeps (views uses.now))
-        (is_given Opt.NoPrivate (views uses.now)))) }
+        (option_map_or (λ why. note_if (has_beside Beside.VersionRange (views uses.now)) Warn
+        (codes "unable to determine rustup version; assuming latest stable rustup: " ++ why))
+        (unknown_of rustup.now) []
+        ++ option_map_or (λ text.
+        note_if (is_old_asked (views uses.now)) Warn (old_words (new_form text)))
+        (value_given Opt.VersionRange (views uses.now)) []
+        ++ note_if (is_given Opt.NoDevDeps (views uses.now) || is_given Opt.NoPrivate (views uses.now))
+        Info (editing_words (is_given Opt.NoDevDeps (views uses.now))
+        (is_given Opt.NoPrivate (views uses.now))
+        ++ codes " real `Cargo.toml` while cargo-hack is running and restores it when finished"))) }
 {
     tell_rustup(alloc, notices, is_ranged(uses), rustup)?;
     tell_old(alloc, notices, is_old, value(Opt::VersionRange, uses))?;
