@@ -1,6 +1,7 @@
 -- Which package an id means, and ids each once.
 use Rattle.std.proofs.Common.{◌≡◌, ◌==◌, ◌&&◌, ◌||◌, not, ℕ, suc, ◌+◌, ◌<◌, ◌≤◌, Bool, true, false, cond, List, [], ◌∷◌, ◌++◌, map, length, take, drop, get_or, String, BTreeMap, BTreeSet, Global, Option, Some, None, option_map, string_bytes, nat_cmp, append_assoc, append-nil, arith, refl, sym, ap, ◌∙◌, inl, inr}
-use Rattle.std.specs.List.{filter, list_any}
+use Rattle.std.specs.Prelude.{fold}
+use Rattle.std.specs.List.{enumerate_from, filter, list_any}
 use Rattle.std.specs.Option.{option_or}
 use Rattle.std.specs.Str.{bytes_eq}
 use Rattle.std.specs.BTreeMap.{get_by_text}
@@ -15,13 +16,37 @@ use Rattle.std.proofs.Math.Path.{fun_ext}
 use Rattle.std.proofs.Math.Seq.{drop-cons}
 use Rattle.hack_base.specs.Names.{Name}
 use Rattle.hack_base.proofs.Steps.{seen-next}
-use Rattle.hack_metadata.specs.MetadataReading.{place_from, place_of, ids_of, distinct}
+use Rattle.hack_metadata.specs.MetadataReading.{place_of, ids_of, distinct}
 use Rattle.hack_metadata.specs.RecordViews.{package_view, place_at}
 use Rattle.hack_metadata.specs.Internal.{place_in}
 use Rattle.hack_metadata.specs.declared.metadata.package.Package.{Package}
 use Rattle.hack_metadata.specs.declared.metadata.resolve.PackageId.{PackageId}
 
 -- ---- the last package with an id
+
+-- the place of the last package with the id, where the first of the ids has the place k
+abbrev pub place_from : ℕ → List Name → Name → Option ℕ
+place_from k [] id = None
+place_from k (x ∷ ids) id = option_or (place_from (k + 1) ids id) (cond (bytes_eq x id) (Some k) None)
+
+or-cond : (o earlier : Option ℕ) (b : Bool) (k : ℕ) → option_or o (cond b (Some k) earlier) ≡ option_or (option_or o (cond b (Some k) None)) earlier
+or-cond (Some j) earlier b k = refl
+or-cond None earlier true k = refl
+or-cond None earlier false k = refl
+
+-- the same, by what a fold over the numbered ids keeps
+kept-from : (k : ℕ) (ids : List Name) (id : Name) (earlier : Option ℕ)
+    → fold (λ (last : Option ℕ) (e : ℕ × Name). cond (bytes_eq e.1 id) (Some e.0) last) earlier (enumerate_from k ids) ≡ option_or (place_from k ids id) earlier
+kept-from k [] id earlier = refl
+kept-from k (x ∷ ids) id earlier =
+    kept-from (k + 1) ids id (cond (bytes_eq x id) (Some k) earlier) ∙ or-cond (place_from (k + 1) ids id) earlier (bytes_eq x id) k
+
+or-none : (o : Option ℕ) → option_or o None ≡ o
+or-none None = refl
+or-none (Some k) = refl
+
+pub place_of-from : (ids : List Name) (id : Name) → place_of ids id ≡ place_from 0 ids id
+place_of-from ids id = kept-from 0 ids id None ∙ or-none (place_from 0 ids id)
 
 later-cond : (b : Bool) (n m : ℕ) (o earlier : Option ℕ) → n ≡ m → option_or (cond b (Some n) o) earlier ≡ cond b (Some m) (option_or o earlier)
 later-cond true n m o earlier e = ap Some e
@@ -60,7 +85,8 @@ places-turn packages k pkg x p m n lt is text at updates before =
     ∙ ap (λ o. cond (bytes_eq x id) (Some p.index) o) (ap (λ f. f id) before)
     ∙ ap (λ i. cond (bytes_eq x id) (Some i) (place_of front id)) (at ∙ sym here ∙ (let e : length front ≡ 0 + length front = omega arith in e))
     ∙ ap (λ y. cond (bytes_eq y id) (Some (0 + length front)) (place_of front id)) text
-    ∙ sym (place-next 0 front (string_bytes pkg.id) id)
+    ∙ ap (λ o. cond (bytes_eq (string_bytes pkg.id) id) (Some (0 + length front)) o) (place_of-from front id)
+    ∙ sym (place-next 0 front (string_bytes pkg.id) id) ∙ sym (place_of-from (front ++ string_bytes pkg.id ∷ []) id)
     ∙ ap (λ ids. place_of ids id) (sym (seen-next (λ (q : Package). string_bytes q.id) packages k pkg lt is)))
 
 -- all packages are in the map of ids
