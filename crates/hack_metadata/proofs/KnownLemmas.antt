@@ -16,7 +16,7 @@ use Rattle.hack_base.specs.FieldReadings.{◌>>=◌, FieldReading}
 use Rattle.hack_metadata.specs.KnownIds.{is_known_node, are_known}
 use Rattle.hack_metadata.specs.Internal.{Bounds}
 use Rattle.hack_metadata.proofs.IdLemmas.{place_from, place_of-from}
-use Rattle.hack_metadata.specs.MetadataReading.{place_of, distinct, read_member, workspace_members_in, read_from, read_kind, read_node_dep, read_node, with_nodes, read_resolve, ids_of}
+use Rattle.hack_metadata.specs.MetadataReading.{place_of, distinct, read_member, workspace_members_in, read_from, read_kind, read_node_dep, read_node, with_nodes, read_resolve}
 use Rattle.hack_metadata.specs.Records.{PackageRecord, NodeDepRecord, Nodes}
 use Rattle.hack_metadata.specs.RecordViews.{package_view, place_at}
 use Rattle.hack_metadata.specs.declared.metadata.package.Package.{Package}
@@ -78,8 +78,11 @@ place-below : (k0 : ℕ) (ids : List Name) (id : Name) (k : ℕ) → place_from 
 place-below k0 [] id k e = absurd (cc)
 place-below k0 (x ∷ ids) id k e = below-go (place_from (k0 + 1) ids id) (bytes_eq x id) k0 (length ids) k (λ j q. place-below (k0 + 1) ids id j q) e
 
-pub place-bounds : (ids : List Name) → Bounds (place_of ids) (length ids)
-place-bounds ids id k e = let l = place-below 0 ids id k (sym (place_of-from ids id) ∙ e) in grind (arith, nat_tests, l)
+pub place-bounds : (packages : List PackageRecord) → Bounds (place_of packages) (length packages)
+place-bounds packages id k e =
+    let l = place-below 0 (map (λ (p : PackageRecord). p.id) packages) id k (sym (place_of-from packages id) ∙ e) in
+    let many : length (map (λ (p : PackageRecord). p.id) packages) ≡ length packages = length-map packages (λ (p : PackageRecord). p.id) in
+    grind (arith, nat_tests, l, many)
 
 module _ (place : Name → Option ℕ) (n : ℕ) (bounds : Bounds place n) where
   text-place : (o : Option Name) (k : ℕ) → option_and_then place o ≡ Some k → nat_lt k n ≡ true
@@ -157,10 +160,10 @@ module _ (place : Name → Option ℕ) (n : ℕ) (bounds : Bounds place n) where
     all-known ms ms' members nodes e h = and-intro _ _ (members-known ms members e) (nodes-known ms' nodes h)
 
 -- the place that an id means is below the number of packages
-pub packages-bounds : (packages : List Package) (place : Name → Option ℕ) → place ≡ place_of (ids_of (map package_view packages)) → Bounds place (length packages)
+pub packages-bounds : (packages : List Package) (place : Name → Option ℕ) → place ≡ place_of (map package_view packages) → Bounds place (length packages)
 packages-bounds packages place same =
-    let many : length (ids_of (map package_view packages)) ≡ length packages = length-map (map package_view packages) (λ (p : PackageRecord). p.id) ∙ length-map packages package_view in
-    subst (λ n. Bounds place n) many (subst (λ f. Bounds f (length (ids_of (map package_view packages)))) (sym same) (place-bounds (ids_of (map package_view packages))))
+    let many : length (map package_view packages) ≡ length packages = length-map packages package_view in
+    subst (λ n. Bounds place n) many (subst (λ f. Bounds f (length (map package_view packages))) (sym same) (place-bounds (map package_view packages)))
 
 below-at : (n : ℕ) (ids : List PackageId) (k : ℕ) (d : PackageId) → list_all (λ m. nat_lt m n) (map place_at ids) ≡ true → k < length ids → (get_or ids k d).index < n
 below-at n [] k d h lt = absurd (omega arith)

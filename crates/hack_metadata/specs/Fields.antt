@@ -1,7 +1,7 @@
 -- What a field of a JSON object holds, or its name, where it is missing or has the wrong type.
 use Rattle.std.specs.Prelude.{Bool, List, [], ◌∷◌, Option, Some, None, Ok, option_map, option_and_then}
 use Rattle.std.specs.Bool.{then_some}
-use Rattle.std.specs.Option.{is_none, ok_or, option_map_or}
+use Rattle.std.specs.Option.{is_none, ok_or, option_transpose}
 use Rattle.serde_json.specs.Data.{Data, Items, no_items, item, Members}
 use Rattle.serde_json.specs.Find.{get_member, as_null, as_str, as_bool, as_array, as_object}
 use Rattle.serde_json.specs.Read.{read as read_text}
@@ -32,7 +32,7 @@ nullable_in key ms =
 -- a field that is a text or null
 abbrev pub optional_text_in : Name → Members → FieldReading (Option Name)
 optional_text_in key ms =
-    nullable_in key ms >>= λ o. option_map_or (λ d. ok_or (option_map Some (as_str d)) key) o (Ok None)
+    nullable_in key ms >>= λ o. option_transpose (option_map (λ d. ok_or (as_str d) key) o)
 
 -- each item as f reads it, in order
 abbrev pub read_all : {A : Type 0} → (Data → FieldReading A) → Items → FieldReading (List A)

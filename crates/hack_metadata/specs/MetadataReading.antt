@@ -57,7 +57,8 @@ read_package minor d =
     string_in (codes "name") ms >>= λ name.
     string_in (codes "version") ms >>= λ version.
     (array_in (codes "dependencies") ms >>= read_all read_dependency) >>= λ dependencies.
-    (object_in (codes "features") ms >>= λ fs. ok_or (features_of fs) (codes "features")) >>= λ features.
+    (object_in (codes "features") ms >>= λ fs. ok_or (features_of fs) (codes "features"))
+    >>= λ features.
     string_in (codes "manifest_path") ms >>= λ manifest_path.
     read_from 39 minor true (nullable_in (codes "publish") ms >>= may_publish) >>= λ publish.
     read_from 58 minor None (optional_text_in (codes "rust_version") ms) >>= λ rust_version.
@@ -66,9 +67,9 @@ read_package minor d =
 -- ---- package ids
 
 -- the place of the last package with the id, none where no package has it
-abbrev pub place_of : List Name → Name → Option ℕ
-place_of ids id =
-    fold (λ last e. if bytes_eq e.1 id then Some e.0 else last) None (enumerate_from 0 ids)
+abbrev pub place_of : List PackageRecord → Name → Option ℕ
+place_of packages id =
+    fold (λ last e. if bytes_eq e.1.id id then Some e.0 else last) None (enumerate_from 0 packages)
 
 -- the elements, each once, at its first place; `same` tells which are the same
 abbrev pub distinct : {A : Type 0} → (A → A → Bool) → List A → List A
@@ -130,10 +131,6 @@ module _ (place : Name → Option ℕ) (minor : ℕ) where
 
 -- ---- the whole
 
--- the ids of packages, in order
-abbrev pub ids_of : List PackageRecord → List Name
-ids_of packages = map (λ p. p.id) packages
-
 -- what is read after the packages, where `place` says which one an id means
 abbrev pub read_behind : ℕ → List PackageRecord → (Name → Option ℕ) → Members → FieldReading MetadataRecord
 read_behind minor packages place ms =
@@ -146,4 +143,4 @@ read_behind minor packages place ms =
 abbrev pub read_metadata : ℕ → Members → FieldReading MetadataRecord
 read_metadata minor ms =
     (array_in (codes "packages") ms >>= read_all (read_package minor)) >>= λ packages.
-    read_behind minor packages (place_of (ids_of packages)) ms
+    read_behind minor packages (place_of packages) ms
