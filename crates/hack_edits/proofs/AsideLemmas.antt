@@ -15,8 +15,8 @@ use Rattle.hack_manifest.specs.Manifest.{table_at, features_key, list_of}
 use Rattle.hack_edits.specs.KeyPaths.{dev_key, target_key}
 use Rattle.hack_edits.specs.Lookup.{some_table, lists, depends, is_dev_only, item_goes}
 use Rattle.hack_base.specs.PathTexts.{is_slash}
-use Rattle.hack_edits.specs.DevTree.{items_left, arrays_left}
-use Rattle.hack_edits.specs.Tables.{remove_member, with_member, with_value, in_table, in_array}
+use Rattle.hack_edits.specs.DevTree.{items_left}
+use Rattle.hack_edits.specs.Tables.{remove_member, with_member, with_value, put_each, in_table, in_array}
 
 -- a key that differs from another one, which is passed over
 passed : {X : Type 0} (o : Ordering) (x y : X) → is_eq o ≡ false → x ≡ match_ordering o x y x
@@ -74,12 +74,15 @@ array-aside old (boolean b) = refl
 array-aside old (datetime t) = refl
 array-aside old (table ts) = refl
 
-arrays-aside : (old kept ms : Members) → arrays_left (remove_member features_key old) kept ms ≡ arrays_left old kept ms
+abbrev put_arrays : Members → Members → Members → Members
+put_arrays old = put_each (λ d. Some (in_array (items_left old) d))
+
+arrays-aside : (old kept ms : Members) → put_arrays (remove_member features_key old) kept ms ≡ put_arrays old kept ms
 arrays-aside old kept no_members = refl
 arrays-aside old kept (member x d ms) =
-    ap (λ a. arrays_left (remove_member features_key old) (with_member x a kept) ms) (array-aside old d) ∙ arrays-aside old (with_member x (in_array (items_left old) d) kept) ms
+    ap (λ a. put_arrays (remove_member features_key old) (with_member x a kept) ms) (array-aside old d) ∙ arrays-aside old (with_member x (in_array (items_left old) d) kept) ms
 
-features-aside : (old : Members) (d : Data) → in_table (arrays_left (remove_member features_key old) no_members) d ≡ in_table (arrays_left old no_members) d
+features-aside : (old : Members) (d : Data) → in_table (put_arrays (remove_member features_key old) no_members) d ≡ in_table (put_arrays old no_members) d
 features-aside old (table ms) = ap table (arrays-aside old no_members ms)
 features-aside old (string s) = refl
 features-aside old (integer z) = refl
@@ -90,7 +93,7 @@ features-aside old (array ds) = refl
 
 -- what stays of the features, by the tree without them
 pub with_features-aside : (old : Members) (o : Option Data) (ms : Members)
-    → with_value features_key (option_and_then (λ d. Some (in_table (arrays_left (remove_member features_key old) no_members) d)) o) ms
-    ≡ with_value features_key (option_and_then (λ d. Some (in_table (arrays_left old no_members) d)) o) ms
+    → with_value features_key (option_and_then (λ d. Some (in_table (put_each (λ v. Some (in_array (items_left (remove_member features_key old)) v)) no_members) d)) o) ms
+    ≡ with_value features_key (option_and_then (λ d. Some (in_table (put_each (λ v. Some (in_array (items_left old) v)) no_members) d)) o) ms
 with_features-aside old None ms = refl
 with_features-aside old (Some d) ms = ap (λ f. with_member features_key f ms) (features-aside old d)

@@ -13,14 +13,17 @@ abbrev pub some_table : (Members → Bool) → Members → Bool
 some_table test no_members = false
 some_table test (member x d ms) = option_map_or test (as_table d) false || some_table test ms
 
+-- the tables for all platforms pass, which stand at the top, or those of some `target.X` do
+abbrev pub for_some_platform : (Members → Bool) → Members → Bool
+for_some_platform test ms = test ms || option_map_or (some_table test) (table_at target_key ms) false
+
 -- the table of that name has the key
 abbrev pub lists : Name → Name → Members → Bool
 lists section key ms = option_map_or (λ t. is_some (get_member key t)) (table_at section ms) false
 
--- the table of that name, at the top or under some `target.X`, has the key
+-- the table of that name, for all platforms or for some, has the key
 abbrev pub depends : Name → Name → Members → Bool
-depends section key ms =
-    lists section key ms || option_map_or (some_table (lists section key)) (table_at target_key ms) false
+depends section key ms = for_some_platform (lists section key) ms
 
 -- some `target.X` has development dependencies
 abbrev pub has_target_dev : Members → Bool
@@ -31,9 +34,9 @@ has_target_dev ms =
 abbrev pub has_dev_under : Name → Members → Bool
 has_dev_under name ms = option_map_or (lists name dev_key) (table_at target_key ms) false
 
--- there are development dependencies, at the top or under some `target.X`
+-- there are development dependencies, for all platforms or for some
 abbrev pub has_dev : Members → Bool
-has_dev ms = is_some (get_member dev_key ms) || has_target_dev ms
+has_dev ms = for_some_platform (λ t. is_some (get_member dev_key t)) ms
 
 -- the name is that of a dependency for development alone
 abbrev pub is_dev_only : Name → Members → Bool

@@ -78,7 +78,8 @@ has_no_place ws pieces = no_place (get_member exclude_key ws) pieces
 -- a form that isn't supported: an inline workspace, or no place for folders to exclude
 abbrev pub is_bad_form : Name → List Name → Members → List View → Bool
 is_bad_form root ps ws pieces =
-    is_inline workspace_key pieces || (has_some (excluded_folders root ps ws) && has_no_place ws pieces)
+    is_inline workspace_key pieces
+    || (has_some (excluded_folders root ps ws) && has_no_place ws pieces)
 
 -- an unsupported form where there is something to take out or add
 pub record HasBadForm (root : Name) (ps : List Name) (text : List ℕ) : Type 0 where

@@ -26,6 +26,11 @@ with_value k o ms = option_map_or (λ d. with_member k d ms) o ms
 abbrev pub with_changed : Name → (Data → Option Data) → Members → Members
 with_changed k f ms = with_value k (option_and_then f (get_member k ms)) (remove_member k ms)
 
+-- the members, with what f makes of each of these at its key, where it makes something of it
+abbrev pub put_each : (Data → Option Data) → Members → Members → Members
+put_each f ms no_members = ms
+put_each f ms (member k d more) = put_each f (with_value k (f d) ms) more
+
 -- f of the members of a table; another value stays
 abbrev pub in_table : (Members → Members) → Data → Data
 in_table f (table ms) = table (f ms)

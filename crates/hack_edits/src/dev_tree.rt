@@ -1,17 +1,19 @@
 //! What stays of a manifest's tree without its development dependencies, and whether a text is read
 //! as that.
 
-ghost use Rattle.std.specs.Prelude.{◌≡◌, Some, IfOk, OnOk, option_map, option_and_then, string_bytes};
+ghost use Rattle.std.specs.Prelude.{◌≡◌, Some, IfOk, OnOk, option_map, option_and_then};
+ghost use Rattle.std.specs.Prelude.{string_bytes};
 ghost use Rattle.toml.specs.Data.{no_members, table};
 ghost use Rattle.toml.specs.Parse.{parse_document};
 ghost use Rattle.toml.specs.View.{view, items_of, table_view, array_view};
 ghost use Rattle.hack_manifest.specs.Manifest.{features_key, list_of};
-ghost use Rattle.hack_edits.specs.DevTree.{items_left, arrays_left, without_texts};
-ghost use Rattle.hack_edits.specs.DevTree.{unless_empty, targets_kept};
+ghost use Rattle.hack_edits.specs.DevTree.{items_left, without_texts};
+ghost use Rattle.hack_edits.specs.DevTree.{unless_empty};
 ghost use Rattle.hack_edits.specs.InternalTreeEquality.{same};
 ghost use Rattle.hack_edits.specs.DevTree.{tidied_tree, reads_as_left};
 ghost use Rattle.hack_edits.specs.KeyPaths.{dev_key, target_key};
-ghost use Rattle.hack_edits.specs.Tables.{remove_member, with_value, in_table, in_array};
+ghost use Rattle.hack_edits.specs.Tables.{remove_member, with_value, put_each};
+ghost use Rattle.hack_edits.specs.Tables.{in_table, in_array};
 
 use crate::lookup::{DEV, FEATURES, TARGET, holds_dev, value_goes};
 use crate::same::same_table;
@@ -57,7 +59,8 @@ fn drop_texts(alloc: Global, old: Table) -> Result<Table, AllocError>
 /// Puts back what stays of the features.
 fn put_features(alloc: Global, top: &mut Table, features: Option<Value>) -> Result<(), AllocError>
     ensures { OnOk result (table_view top.new ≡ with_value features_key
-        (option_and_then (λ d. Some (in_table (arrays_left (table_view top.old) no_members) d))
+        (option_and_then (λ d. Some (in_table (put_each
+        (λ v. Some (in_array (items_left (table_view top.old)) v)) no_members) d))
         (option_map view features)) (table_view top.old)) }
 {
     match features {
@@ -72,7 +75,8 @@ fn put_features(alloc: Global, top: &mut Table, features: Option<Value>) -> Resu
 
 fn strip_features(alloc: Global, old: &Table, features: Value) -> Result<Value, AllocError>
     ensures { IfOk result (λ v. view v
-        ≡ in_table (arrays_left (table_view old.now) no_members) (view features)) }
+        ≡ in_table (put_each (λ d. Some (in_array (items_left (table_view old.now)) d)) no_members)
+        (view features)) }
 {
     match features {
         Value::Table(table) => {
@@ -86,7 +90,8 @@ fn strip_features(alloc: Global, old: &Table, features: Value) -> Result<Value, 
 /// What stays of the features.
 fn strip_arrays(alloc: Global, old: &Table, features: Table) -> Result<Table, AllocError>
     ensures { IfOk result (λ kept. table_view kept
-        ≡ arrays_left (table_view old.now) no_members (table_view features)) }
+        ≡ put_each (λ d. Some (in_array (items_left (table_view old.now)) d)) no_members
+        (table_view features)) }
 {
     let mut kept = Table::new(alloc);
     'features: for (name, value) in features {
@@ -136,7 +141,8 @@ fn tidy(alloc: Global, table: Table) -> Result<Table, AllocError>
 /// Puts back what stays of `target`.
 fn put_target(alloc: Global, top: &mut Table, target: Option<Value>) -> Result<(), AllocError>
     ensures { OnOk result (table_view top.new ≡ with_value target_key
-        (option_and_then (λ d. unless_empty (in_table (targets_kept no_members) d))
+        (option_and_then (λ d. unless_empty (in_table (put_each
+        (λ v. unless_empty (in_table (remove_member dev_key) v)) no_members) d))
         (option_map view target)) (table_view top.old)) }
 {
     match target {
@@ -150,7 +156,8 @@ fn put_target(alloc: Global, top: &mut Table, target: Option<Value>) -> Result<(
 }
 
 fn strip_target(alloc: Global, target: Value) -> Result<Value, AllocError>
-    ensures { IfOk result (λ v. view v ≡ in_table (targets_kept no_members) (view target)) }
+    ensures { IfOk result (λ v. view v ≡ in_table (put_each
+        (λ d. unless_empty (in_table (remove_member dev_key) d)) no_members) (view target)) }
 {
     match target {
         Value::Table(targets) => {
@@ -164,7 +171,8 @@ fn strip_target(alloc: Global, target: Value) -> Result<Value, AllocError>
 /// What stays of `target`.
 fn strip_targets(alloc: Global, targets: Table) -> Result<Table, AllocError>
     ensures { IfOk result (λ kept. table_view kept
-        ≡ targets_kept no_members (table_view targets)) }
+        ≡ put_each (λ d. unless_empty (in_table (remove_member dev_key) d)) no_members
+        (table_view targets)) }
 {
     let mut kept = Table::new(alloc);
     'targets: for (name, value) in targets {

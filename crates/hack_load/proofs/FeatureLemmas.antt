@@ -1,4 +1,5 @@
 -- Features that are added after others, and names that are picked, each once.
+use Rattle.std.specs.Prelude.{codes}
 use Rattle.std.proofs.Common.{◌≡◌, ◌&&◌, ◌||◌, not, ℕ, suc, ◌+◌, ◌<◌, get_or, add-one, drop-cons, Bool, true, false, cond, List, [], ◌∷◌, ◌++◌, ◌↔◌, Contains, IsTrue, Vec, map, length, drop, Option, Some, None, unwrap_or, option_map, String, Global, Less, nat_cmp, string_cmp, string_bytes, append_assoc, append-nil, refl, sym, ap, subst, ◌∙◌}
 use Rattle.std.specs.Cmp.Lexicographic.{slice_cmp}
 use Rattle.std.specs.List.Sorted.{IsStrictlySortedBy}
@@ -25,8 +26,8 @@ use Rattle.hack_metadata.specs.declared.metadata.package.Dependency.{Dependency}
 use Rattle.hack_metadata.specs.declared.metadata.package.Package.{Package}
 use Rattle.hack_metadata.specs.declared.metadata.resolve.NodeDep.{NodeDep}
 use Rattle.hack_metadata.specs.MetadataReading.{distinct}
-use Rattle.hack_load.specs.Candidates.{Path as Way, names_dep, is_implicit, is_normal, optional_names, paths_to, paths_in, node_paths}
-use Rattle.hack_load.specs.Features.{AreNormals, ArePaths, IsRising, texts_of}
+use Rattle.hack_load.specs.Candidates.{is_implicit, is_normal, optional_names, paths_to, paths_in, node_paths}
+use Rattle.hack_load.specs.Features.{IsRising, texts_of}
 use Rattle.hack_load.specs.Internal.{AddsPaths}
 
 -- ---- one for each
@@ -46,10 +47,10 @@ texts-push : (fs : List Feature) (f : Feature) (name : Name) → IsNormal name f
 texts-push fs f name h = map-append name_of fs (f ∷ []) ∙ ap (λ t. texts_of fs ++ t ∷ []) (normal-text name f h)
 
 -- one more feature of the package
-pub normals-push : (fs new : List Feature) (f : Feature) (name : Name) → IsNormal name f → new ≡ fs ++ f ∷ [] → AreNormals (texts_of fs) fs → AreNormals (texts_of new) new
+pub normals-push : (fs new : List Feature) (f : Feature) (name : Name) → IsNormal name f → new ≡ fs ++ f ∷ [] → AllZip IsNormal (texts_of fs) fs → AllZip IsNormal (texts_of new) new
 normals-push fs new f name is push are =
-    let P : List Feature → Type 0 = λ l. AreNormals (texts_of l) l in
-    let Q : List Name → Type 0 = λ l. AreNormals l (fs ++ f ∷ []) in
+    let P : List Feature → Type 0 = λ l. AllZip IsNormal (texts_of l) l in
+    let Q : List Name → Type 0 = λ l. AllZip IsNormal l (fs ++ f ∷ []) in
     subst P (sym push) (subst Q (sym (texts-push fs f name is)) (each-join IsNormal (texts_of fs) (name ∷ []) fs (f ∷ []) are (is, tt)))
 
 pub texts-pushed : (fs new : List Feature) (f : Feature) (name : Name) (more : List Name) → IsNormal name f → new ≡ fs ++ f ∷ [] → texts_of new ++ more ≡ texts_of fs ++ name ∷ more
@@ -68,19 +69,19 @@ pub grown-start : (dep : Name) (m : FeatureMap) (left : List (String Global)) (o
 grown-start dep m left old e = record {
   came = [];
   all = e;
-  adds = λ before are. subst (λ (l : List Way). ArePaths l old) (sym (append-nil before)) are;
+  adds = λ before are. subst (λ (l : List (Name × Name)). AllZip (λ path f. IsPath path.0 path.1 f) l old) (sym (append-nil before)) are;
 }
 
-pub adds-join : (xs ys : List Way) (a b c : List Feature) → AddsPaths xs a b → AddsPaths ys b c → AddsPaths (xs ++ ys) a c
-adds-join xs ys a b c h k = λ before are. subst (λ (l : List Way). ArePaths l c) (append_assoc before xs ys) (k (before ++ xs) (h before are))
+pub adds-join : (xs ys : List (Name × Name)) (a b c : List Feature) → AddsPaths xs a b → AddsPaths ys b c → AddsPaths (xs ++ ys) a c
+adds-join xs ys a b c h k = λ before are. subst (λ (l : List (Name × Name)). AllZip (λ path f. IsPath path.0 path.1 f) l c) (append_assoc before xs ys) (k (before ++ xs) (h before are))
 
 pub adds-one : (dep feature : Name) (f : Feature) (old new : List Feature) → IsPath dep feature f → new ≡ old ++ f ∷ [] → AddsPaths ((dep, feature) ∷ []) old new
 adds-one dep feature f old new is push = λ before are.
-    let P : List Feature → Type 0 = λ l. ArePaths (before ++ (dep, feature) ∷ []) l in
-    subst P (sym push) (each-join (λ (way : Way) f. IsPath way.0 way.1 f) before ((dep, feature) ∷ []) old (f ∷ []) are (is, tt))
+    let P : List Feature → Type 0 = λ l. AllZip (λ path f. IsPath path.0 path.1 f) (before ++ (dep, feature) ∷ []) l in
+    subst P (sym push) (each-join (λ (way : Name × Name) f. IsPath way.0 way.1 f) before ((dep, feature) ∷ []) old (f ∷ []) are (is, tt))
 
 pub adds-none : (old : List Feature) → AddsPaths [] old old
-adds-none old = λ before are. subst (λ (l : List Way). ArePaths l old) (sym (append-nil before)) are
+adds-none old = λ before are. subst (λ (l : List (Name × Name)). AllZip (λ path f. IsPath path.0 path.1 f) l old) (sym (append-nil before)) are
 
 -- one more key
 pub grown-turn : (dep : Name) (m : FeatureMap) (left rest : List (String Global)) (key : String Global) (f : Feature) (old now new : List Feature)
@@ -90,7 +91,7 @@ grown-turn dep m left rest key f old now new first is push g =
     record {
       came = g.came ++ one;
       all = append_assoc g.came one (names_of rest) ∙ ap (λ l. g.came ++ names_of l) (sym first) ∙ g.all;
-      adds = subst (λ (l : List Way). AddsPaths l old new) (sym (map-append (λ feature. (dep, feature)) g.came one))
+      adds = subst (λ (l : List (Name × Name)). AddsPaths l old new) (sym (map-append (λ feature. (dep, feature)) g.came one))
           (adds-join (map (λ feature. (dep, feature)) g.came) ((dep, string_bytes key) ∷ []) old now new g.adds (adds-one dep (string_bytes key) f now new is push));
     }
 
@@ -111,7 +112,7 @@ picked names xs = filter (is_new names) (distinct bytes_eq xs)
 
 -- the features so far, and what is picked of the dependencies left, make up the whole
 pub record Picked (m : FeatureMap) (all left : List DependencyRecord) (fs : List Feature) : Type 0 where
-  pub are : AreNormals (texts_of fs) fs
+  pub are : AllZip IsNormal (texts_of fs) fs
   pub whole : texts_of fs ++ picked (texts_of fs) (filter (is_implicit m) (optional_in left)) ≡ optional_names m all
 
 filter-all : (xs : List Name) → filter (λ y. true) xs ≡ xs
@@ -202,9 +203,9 @@ picked-take m all d rest name f fs new e i h is push p =
           ∙ p.whole;
     }
 
-pub picked-end : (m : FeatureMap) (all left : List DependencyRecord) (fs : List Feature) → left ≡ [] → Picked m all left fs → AreNormals (optional_names m all) fs
+pub picked-end : (m : FeatureMap) (all left : List DependencyRecord) (fs : List Feature) → left ≡ [] → Picked m all left fs → AllZip IsNormal (optional_names m all) fs
 picked-end m all left fs none p =
-    subst (λ (l : List Name). AreNormals l fs)
+    subst (λ (l : List Name). AllZip IsNormal l fs)
     (sym (append-nil (texts_of fs)) ∙ ap (λ ds. texts_of fs ++ picked (texts_of fs) (names_left m ds)) (sym none) ∙ p.whole) p.are
 
 -- ---- the names of all candidates
@@ -219,9 +220,9 @@ found-in name xs ys zs a b c r x y z e =
     )
 
 -- a test of a map's values is the same test of its entries
-pub named-values : (dep : Name) (es : List (String Global × Vec (String Global) Global)) → list_any (λ values. list_any (names_dep dep) (names_of values.items)) (values_of es) ≡ list_any (λ (e : Name × List Name). list_any (names_dep dep) e.1) (map (λ e. (string_bytes e.0, names_of e.1.items)) es)
+pub named-values : (dep : Name) (es : List (String Global × Vec (String Global) Global)) → list_any (λ values. list_any (bytes_eq (codes "dep:" ++ dep)) (names_of values.items)) (values_of es) ≡ list_any (λ (e : Name × List Name). list_any (bytes_eq (codes "dep:" ++ dep)) e.1) (map (λ e. (string_bytes e.0, names_of e.1.items)) es)
 named-values dep [] = refl
-named-values dep (e ∷ es) = ap (λ t. list_any (names_dep dep) (names_of e.1.items) || t) (named-values dep es)
+named-values dep (e ∷ es) = ap (λ t. list_any (bytes_eq (codes "dep:" ++ dep)) (names_of e.1.items) || t) (named-values dep es)
 
 pub keys-shown : (es : List (String Global × Vec (String Global) Global)) → names_of (keys_of es) ≡ keys_of (map (λ e. (string_bytes e.0, names_of e.1.items)) es)
 keys-shown [] = refl
@@ -233,7 +234,7 @@ keys-shown (e ∷ es) = ap (λ t. string_bytes e.0 ∷ t) (keys-shown es)
 pub left-at : (ds : List Dependency) (i : ℕ) (d : Dependency) → i < length ds → d ≡ get_or ds i d → map dependency_view (drop i ds) ≡ dependency_view d ∷ map dependency_view (drop (i + 1) ds)
 left-at ds i d lt is = ap (map dependency_view) (drop-cons ds i d lt ∙ ap (λ x. x ∷ drop (suc i) ds) (sym is)) ∙ ap (λ k. dependency_view d ∷ map dependency_view (drop k ds)) (sym (add-one i))
 
-chosen : (b : Bool) (xs : List Way) → b ≡ true → cond b xs [] ≡ xs
+chosen : (b : Bool) (xs : List (Name × Name)) → b ≡ true → cond b xs [] ≡ xs
 chosen b xs e = rw e refl
 
 get-shown : (ps : List Package) (i : ℕ) (o : Option Package) → slice_get ps i ≡ o → slice_get (map package_view ps) i ≡ option_map package_view o

@@ -8,17 +8,13 @@ use Rattle.hack_base.specs.Names.{Name}
 use Rattle.hack_features.specs.FeatureMap.{FeatureMap}
 use Rattle.hack_metadata.specs.MetadataReading.{distinct}
 use Rattle.hack_metadata.specs.Optional.{optional_in}
-use Rattle.hack_metadata.specs.Records.{DependencyRecord, PackageRecord, KindRecord, NodeDepRecord, NodeRecord, MetadataRecord, node_at}
+use Rattle.hack_metadata.specs.Records.{DependencyRecord, PackageRecord, KindRecord, NodeDepRecord, MetadataRecord, node_at}
 
 -- ---- optional dependencies
 
--- the value is `dep:` and the name of the dependency
-abbrev pub names_dep : Name → Name → Bool
-names_dep dep value = bytes_eq (codes "dep:" ++ dep) value
-
 -- some value of the map names the dependency by `dep:`
 abbrev pub is_named : FeatureMap → Name → Bool
-is_named m dep = list_any (λ e. list_any (names_dep dep) e.1) m
+is_named m dep = list_any (λ e. list_any (bytes_eq (codes "dep:" ++ dep)) e.1) m
 
 -- the dependency is a feature by itself: no key has its name, and no value names it by `dep:`
 abbrev pub is_implicit : FeatureMap → Name → Bool
@@ -34,13 +30,11 @@ optional_names m ds = distinct bytes_eq (filter (is_implicit m) (optional_in ds)
 abbrev pub is_normal : KindRecord → Bool
 is_normal k = is_none k.kind && is_none k.target
 
--- the name that the manifest gives a dependency
-abbrev pub dependency_name_in : DependencyRecord → Name
-dependency_name_in d = unwrap_or d.rename d.name
-
--- the name that dependencies use for a package: that of the first one with the package's name
+-- the name that dependencies use for a package: the one that the manifest gives the first of them
+-- with the package's name
 abbrev pub name_among_dependencies : List DependencyRecord → Name → Option Name
-name_among_dependencies ds name = option_map dependency_name_in (find (λ d. bytes_eq d.name name) ds)
+name_among_dependencies ds name =
+    option_map (λ d. unwrap_or d.rename d.name) (find (λ d. bytes_eq d.name name) ds)
 
 -- a dependency, and a feature of it
 abbrev pub Path : Type 0
@@ -59,8 +53,8 @@ abbrev pub node_paths : List PackageRecord → List DependencyRecord → NodeDep
 node_paths packages ds d = if list_any is_normal d.dep_kinds then unwrap_or (option_map (paths_in ds) (slice_get packages d.pkg)) [] else []
 
 -- the features of the dependencies of a node, in their order
-abbrev pub deps_paths : List PackageRecord → List DependencyRecord → NodeRecord → List Path
-deps_paths packages ds node = flat_map (node_paths packages ds) node.deps
+abbrev pub deps_paths : List PackageRecord → List DependencyRecord → List NodeDepRecord → List Path
+deps_paths packages ds deps = flat_map (node_paths packages ds) deps
 
 -- ---- the candidates
 

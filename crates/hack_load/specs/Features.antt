@@ -10,18 +10,10 @@ use Rattle.hack_features.specs.FeatureMap.{FeatureMap}
 use Rattle.hack_features.specs.Feature.{IsNormal, IsPath, name_of}
 use Rattle.hack_features.specs.declared.feature.Feature.{Feature}
 use Rattle.hack_metadata.specs.Records.{MetadataRecord}
-use Rattle.hack_load.specs.Candidates.{Path, MissesNode, dependencies_at, optional_names, paths_at}
+use Rattle.hack_load.specs.Candidates.{MissesNode, dependencies_at, optional_names, paths_at}
 use Rattle.hack_metadata.specs.declared.metadata.fault.MetadataFault.{MetadataFault}
 use Rattle.hack_metadata.specs.declared.metadata.fault.MetadataFault.TheVariants as faults
 use Rattle.hack_load.specs.declared.features.Features.{Features}
-
--- one feature of the package for each name, in order
-abbrev pub AreNormals : List Name → List Feature → Type 0
-AreNormals names fs = AllZip IsNormal names fs
-
--- one feature of a dependency for each path, in order
-abbrev pub ArePaths : List Path → List Feature → Type 0
-ArePaths paths fs = AllZip (λ path f. IsPath path.0 path.1 f) paths fs
 
 -- the names of features
 abbrev pub texts_of : List Feature → List Name
@@ -35,11 +27,14 @@ IsRising names = IsStrictlySortedBy (slice_cmp nat_cmp) names
 abbrev pub candidate_names_in : Features → List Name
 candidate_names_in fs = texts_of fs.normal.items ++ (texts_of fs.optional_deps.items ++ texts_of fs.deps_features.items)
 
--- the candidates of the package at a place, whose manifest has this feature map
+-- the candidates of the package at a place, whose manifest has this feature map: one for each
+-- feature, optional dependency, and feature of a dependency, in order
 pub record AreCandidates (m : MetadataRecord) (features : FeatureMap) (at : ℕ) (asked : Bool) (fs : Features) : Type 0 where
-  pub normal : AreNormals (keys_of features) fs.normal.items
-  pub optional : AreNormals (optional_names features (dependencies_at m.packages at)) fs.optional_deps.items
-  pub of_deps : ArePaths (paths_at m at asked) fs.deps_features.items
+  pub normal : AllZip IsNormal (keys_of features) fs.normal.items
+  pub optional :
+      AllZip IsNormal (optional_names features (dependencies_at m.packages at))
+      fs.optional_deps.items
+  pub of_deps : AllZip (λ p f. IsPath p.0 p.1 f) (paths_at m at asked) fs.deps_features.items
 
 -- memory was refused, or the node that is asked for is missing, and the error names `nodes`
 abbrev pub IsNodeRefusal : MetadataRecord → ℕ → Bool → MetadataFault → Type 0

@@ -11,8 +11,8 @@ use Rattle.hack_load.specs.declared.fault.ContextFault.TheVariants as faults
 use Rattle.hack_metadata.specs.declared.metadata.fault.MetadataFault.{MetadataFault}
 use Rattle.hack_metadata.specs.declared.metadata.fault.MetadataFault.TheVariants as metadata
 use Rattle.hack_features.specs.declared.feature.Feature.{Feature}
-use Rattle.hack_load.specs.Candidates.{Path}
-use Rattle.hack_load.specs.Features.{ArePaths}
+use Rattle.hack_features.specs.Feature.{IsPath}
+use Rattle.std.specs.List.{AllZip}
 use Rattle.hack_files.specs.Files.{Contents, KeepsAll}
 use Rattle.hack_base.specs.Counters.{GrowsBy}
 use Rattle.hack_metadata.specs.FilesAfterAsking.{Whole}
@@ -39,8 +39,10 @@ IsOfNode metadata.Memory e = e ≡ faults.Memory
 IsOfNode f e = e ≡ faults.Metadata f
 
 -- features were added after others, one for each path, in order
-abbrev pub AddsPaths : List Path → List Feature → List Feature → Type 0
-AddsPaths paths old new = (before : List Path) → ArePaths before old → ArePaths (before ++ paths) new
+abbrev pub AddsPaths : List (Name × Name) → List Feature → List Feature → Type 0
+AddsPaths paths old new =
+    (before : List (Name × Name)) → AllZip (λ p f. IsPath p.0 p.1 f) before old
+    → AllZip (λ p f. IsPath p.0 p.1 f) (before ++ paths) new
 
 -- at most one call failed, and each path holds what it held
 abbrev pub MayFail : Type 0 → Contents → Contents → ℕ → ℕ → Type 0

@@ -2,18 +2,18 @@
 //! of its dependencies. <https://doc.rust-lang.org/cargo/reference/features.html>
 
 ghost use Rattle.std.specs.Prelude.{◌≡◌, ◌↔◌, map, Contains, IfErr, IfOk, IsTrue, OnOk};
-ghost use Rattle.std.specs.Prelude.{option_copied};
-ghost use Rattle.std.specs.List.{list_any};
+ghost use Rattle.std.specs.Prelude.{◌++◌, codes, option_copied, unwrap_or};
+ghost use Rattle.std.specs.List.{AllZip, list_any};
+ghost use Rattle.hack_features.specs.Feature.{IsNormal, IsPath};
 ghost use Rattle.std.specs.Map.{keys_of};
 ghost use Rattle.std.specs.Str.{bytes_eq};
 ghost use Rattle.hack_features.specs.FeatureMap.{feature_map};
 ghost use Rattle.hack_base.specs.Names.{names_of};
-ghost use Rattle.hack_load.specs.Candidates.{MissesNode, names_dep, is_named, is_implicit};
-ghost use Rattle.hack_load.specs.Candidates.{optional_names, is_normal, dependency_name_in};
+ghost use Rattle.hack_load.specs.Candidates.{MissesNode, is_named, is_implicit};
+ghost use Rattle.hack_load.specs.Candidates.{optional_names, is_normal};
 ghost use Rattle.hack_load.specs.Candidates.{name_among_dependencies};
 ghost use Rattle.hack_load.specs.Candidates.{paths_to, paths_in};
 ghost use Rattle.hack_load.specs.Candidates.{node_paths, deps_paths, dependencies_at, paths_at};
-ghost use Rattle.hack_load.specs.Features.{AreNormals, ArePaths};
 ghost use Rattle.hack_load.specs.Internal.{AddsPaths};
 ghost use Rattle.hack_load.specs.Features.{AreCandidates, IsNodeRefusal};
 ghost use Rattle.hack_load.specs.Features.{IsRising};
@@ -132,7 +132,7 @@ fn normals(
     features: &BTreeMap<String, Vec<String>>,
 ) -> Result<Vec<Feature>, AllocError>
     ensures are { IfOk result (λ found.
-        AreNormals (keys_of (feature_map features.now)) found.items) }
+        AllZip IsNormal (keys_of (feature_map features.now)) found.items) }
     ensures rising { IfOk result (λ found. IsRising (texts_of found.items)) }
 {
     let mut found = Vec::new(alloc);
@@ -148,7 +148,7 @@ fn optionals(
     features: &BTreeMap<String, Vec<String>>,
     dependencies: &[Dependency],
 ) -> Result<Vec<Feature>, AllocError>
-    ensures { IfOk result (λ found. AreNormals (optional_names (feature_map features.now)
+    ensures { IfOk result (λ found. AllZip IsNormal (optional_names (feature_map features.now)
         (map dependency_view dependencies.now)) found.items) }
 {
     let mut found = Vec::new(alloc);
@@ -184,7 +184,8 @@ fn is_named(features: &BTreeMap<String, Vec<String>>, dep: &str) -> bool
 
 /// Returns whether one of the values names the dependency by `dep:`.
 fn one_names(values: &[String], dep: &str) -> bool
-    ensures { result ≡ list_any (names_dep dep.now) (names_of values.now) }
+    ensures { result ≡ list_any (bytes_eq (codes "dep:" ++ dep.now))
+        (names_of values.now) }
 {
     for value in values {
         if names_dep(value.as_str(), dep) {
@@ -196,7 +197,7 @@ fn one_names(values: &[String], dep: &str) -> bool
 
 /// Returns whether the value names the dependency by `dep:`.
 fn names_dep(value: &str, dep: &str) -> bool
-    ensures { result ≡ names_dep dep.now value.now }
+    ensures { result ≡ bytes_eq (codes "dep:" ++ dep.now) value.now }
 {
     match value.strip_prefix("dep:") {
         Some(name) => dep == name,
@@ -212,7 +213,8 @@ fn paths(
     asked: bool,
 ) -> Result<Vec<Feature>, MetadataFault>
     ensures ok { IfOk result (λ found.
-        ArePaths (paths_at (metadata_view metadata.now) id.index asked) found.items) }
+        AllZip (λ p f. IsPath p.0 p.1 f)
+        (paths_at (metadata_view metadata.now) id.index asked) found.items) }
     ensures err { IfErr result (IsNodeRefusal (metadata_view metadata.now) id.index asked) }
     ensures never { OnOk result (¬ MissesNode (metadata_view metadata.now) id.index asked) }
 {
@@ -232,7 +234,7 @@ fn deps_paths(
     dependencies: &[Dependency],
     node: &Node,
 ) -> Result<Vec<Feature>, AllocError>
-    ensures { IfOk result (λ found. ArePaths
+    ensures { IfOk result (λ found. AllZip (λ path f. IsPath path.0 path.1 f)
         (deps_paths (map package_view metadata.now.packages.items)
         (map dependency_view dependencies.now) (node_view node.now)) found.items) }
 {
@@ -331,7 +333,7 @@ fn known_as<'a>(dependencies: &'a [Dependency], name: &str) -> Option<&'a str>
 
 /// Returns the name that the manifest gives a dependency.
 fn name_in_manifest(dependency: &Dependency) -> &str
-    ensures { result.now ≡ dependency_name_in (dependency_view dependency.now) }
+    ensures { result.now ≡ (let d = dependency_view dependency.now in unwrap_or d.rename d.name) }
 {
     match &dependency.rename {
         Some(rename) => rename.as_str(),

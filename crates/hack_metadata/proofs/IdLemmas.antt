@@ -1,6 +1,7 @@
 -- Which package an id means, and ids each once.
 use Rattle.std.proofs.Common.{◌≡◌, ◌==◌, ◌&&◌, ◌||◌, not, ℕ, suc, ◌+◌, ◌<◌, ◌≤◌, Bool, true, false, cond, List, [], ◌∷◌, ◌++◌, map, length, take, drop, get_or, String, BTreeMap, BTreeSet, Global, Option, Some, None, option_map, string_bytes, nat_cmp, append_assoc, append-nil, arith, refl, sym, ap, ◌∙◌, inl, inr}
-use Rattle.std.specs.List.{filter, list_any}
+use Rattle.std.specs.Prelude.{fold}
+use Rattle.std.specs.List.{enumerate_from, filter, list_any}
 use Rattle.std.specs.Option.{option_or}
 use Rattle.std.specs.Str.{bytes_eq}
 use Rattle.std.specs.BTreeMap.{get_by_text}
@@ -15,13 +16,40 @@ use Rattle.std.proofs.Math.Path.{fun_ext}
 use Rattle.std.proofs.Math.Seq.{drop-cons}
 use Rattle.hack_base.specs.Names.{Name}
 use Rattle.hack_base.proofs.Steps.{seen-next}
-use Rattle.hack_metadata.specs.MetadataReading.{place_from, place_of, ids_of, distinct}
+use Rattle.hack_metadata.specs.MetadataReading.{place_of, distinct}
+use Rattle.hack_metadata.specs.Records.{PackageRecord}
 use Rattle.hack_metadata.specs.RecordViews.{package_view, place_at}
 use Rattle.hack_metadata.specs.Internal.{place_in}
 use Rattle.hack_metadata.specs.declared.metadata.package.Package.{Package}
 use Rattle.hack_metadata.specs.declared.metadata.resolve.PackageId.{PackageId}
 
 -- ---- the last package with an id
+
+-- the place of the last package with the id, where the first of the ids has the place k
+abbrev pub place_from : ℕ → List Name → Name → Option ℕ
+place_from k [] id = None
+place_from k (x ∷ ids) id = option_or (place_from (k + 1) ids id) (cond (bytes_eq x id) (Some k) None)
+
+or-cond : (o earlier : Option ℕ) (b : Bool) (k : ℕ) → option_or o (cond b (Some k) earlier) ≡ option_or (option_or o (cond b (Some k) None)) earlier
+or-cond (Some j) earlier b k = refl
+or-cond None earlier true k = refl
+or-cond None earlier false k = refl
+
+-- the same, by what a fold over the numbered packages keeps
+kept-from : (k : ℕ) (packages : List PackageRecord) (id : Name) (earlier : Option ℕ)
+    → fold (λ (last : Option ℕ) (e : ℕ × PackageRecord). cond (bytes_eq e.1.id id) (Some e.0) last) earlier (enumerate_from k packages)
+    ≡ option_or (place_from k (map (λ (p : PackageRecord). p.id) packages) id) earlier
+kept-from k [] id earlier = refl
+kept-from k (p ∷ packages) id earlier =
+    kept-from (k + 1) packages id (cond (bytes_eq p.id id) (Some k) earlier)
+    ∙ or-cond (place_from (k + 1) (map (λ (q : PackageRecord). q.id) packages) id) earlier (bytes_eq p.id id) k
+
+or-none : (o : Option ℕ) → option_or o None ≡ o
+or-none None = refl
+or-none (Some k) = refl
+
+pub place_of-from : (packages : List PackageRecord) (id : Name) → place_of packages id ≡ place_from 0 (map (λ (p : PackageRecord). p.id) packages) id
+place_of-from packages id = kept-from 0 packages id None ∙ or-none (place_from 0 (map (λ (p : PackageRecord). p.id) packages) id)
 
 later-cond : (b : Bool) (n m : ℕ) (o earlier : Option ℕ) → n ≡ m → option_or (cond b (Some n) o) earlier ≡ cond b (Some m) (option_or o earlier)
 later-cond true n m o earlier e = ap Some e
@@ -38,7 +66,7 @@ place-next k (y ∷ ids) x id =
 abbrev pub ids_in : List Package → List Name
 ids_in packages = map (λ p. string_bytes p.id) packages
 
-pub ids_in-is : (packages : List Package) → ids_in packages ≡ ids_of (map package_view packages)
+pub ids_in-is : (packages : List Package) → ids_in packages ≡ map (λ (p : PackageRecord). p.id) (map package_view packages)
 ids_in-is [] = refl
 ids_in-is (p ∷ packages) = ap (λ ids. string_bytes p.id ∷ ids) (ids_in-is packages)
 
@@ -50,7 +78,7 @@ place-map false p o = refl
 pub places-turn : (packages : List Package) (k : ℕ) (pkg : Package) (x : Name) (p : PackageId) (m n : BTreeMap (String Global) PackageId)
     → k < length packages → pkg ≡ get_or packages k pkg → x ≡ string_bytes pkg.id → p.index ≡ k
     → ((cs : Name) → get_by_text n cs ≡ update bytes_eq (get_by_text m) x (Some p) cs)
-    → place_in m ≡ place_of (take k (ids_in packages)) → place_in n ≡ place_of (take (k + 1) (ids_in packages))
+    → place_in m ≡ place_from 0 (take k (ids_in packages)) → place_in n ≡ place_from 0 (take (k + 1) (ids_in packages))
 places-turn packages k pkg x p m n lt is text at updates before =
     let front = take k (ids_in packages) in
     let here : length front ≡ k = simp (length-take, length-map) (omega arith) in
@@ -58,16 +86,16 @@ places-turn packages k pkg x p m n lt is text at updates before =
     ap (option_map place_at) (updates id)
     ∙ place-map (bytes_eq x id) p (get_by_text m id)
     ∙ ap (λ o. cond (bytes_eq x id) (Some p.index) o) (ap (λ f. f id) before)
-    ∙ ap (λ i. cond (bytes_eq x id) (Some i) (place_of front id)) (at ∙ sym here ∙ (let e : length front ≡ 0 + length front = omega arith in e))
-    ∙ ap (λ y. cond (bytes_eq y id) (Some (0 + length front)) (place_of front id)) text
+    ∙ ap (λ i. cond (bytes_eq x id) (Some i) (place_from 0 front id)) (at ∙ sym here ∙ (let e : length front ≡ 0 + length front = omega arith in e))
+    ∙ ap (λ y. cond (bytes_eq y id) (Some (0 + length front)) (place_from 0 front id)) text
     ∙ sym (place-next 0 front (string_bytes pkg.id) id)
-    ∙ ap (λ ids. place_of ids id) (sym (seen-next (λ (q : Package). string_bytes q.id) packages k pkg lt is)))
+    ∙ ap (λ ids. place_from 0 ids id) (sym (seen-next (λ (q : Package). string_bytes q.id) packages k pkg lt is)))
 
 -- all packages are in the map of ids
-pub places-end : (packages : List Package) (k : ℕ) (m : BTreeMap (String Global) PackageId) → length packages ≤ k → place_in m ≡ place_of (take k (ids_in packages)) → place_in m ≡ place_of (ids_of (map package_view packages))
+pub places-end : (packages : List Package) (k : ℕ) (m : BTreeMap (String Global) PackageId) → length packages ≤ k → place_in m ≡ place_from 0 (take k (ids_in packages)) → place_in m ≡ place_of (map package_view packages)
 places-end packages k m past done =
     let all : length (ids_in packages) ≤ k = rw (length-map packages (λ (q : Package). string_bytes q.id)) past in
-    done ∙ ap place_of (take_all k (ids_in packages) all ∙ ids_in-is packages)
+    done ∙ ap (place_from 0) (take_all k (ids_in packages) all ∙ ids_in-is packages) ∙ fun_ext (λ id. sym (place_of-from (map package_view packages) id))
 
 -- ---- each number once
 

@@ -15,8 +15,9 @@ use Rattle.hack_metadata.specs.Fields.{string_in, array_in, nullable_in, read_al
 use Rattle.hack_base.specs.FieldReadings.{◌>>=◌, FieldReading}
 use Rattle.hack_metadata.specs.KnownIds.{is_known_node, are_known}
 use Rattle.hack_metadata.specs.Internal.{Bounds}
-use Rattle.hack_metadata.specs.MetadataReading.{place_from, place_of, distinct, read_member, workspace_members_in, read_from, read_kind, read_node_dep, read_node, with_nodes, read_resolve, ids_of}
-use Rattle.hack_metadata.specs.Records.{PackageRecord, NodeDepRecord, NodeRecord, Nodes}
+use Rattle.hack_metadata.proofs.IdLemmas.{place_from, place_of-from}
+use Rattle.hack_metadata.specs.MetadataReading.{place_of, distinct, read_member, workspace_members_in, read_from, read_kind, read_node_dep, read_node, with_nodes, read_resolve}
+use Rattle.hack_metadata.specs.Records.{PackageRecord, NodeDepRecord, Nodes}
 use Rattle.hack_metadata.specs.RecordViews.{package_view, place_at}
 use Rattle.hack_metadata.specs.declared.metadata.package.Package.{Package}
 use Rattle.hack_metadata.specs.declared.metadata.resolve.PackageId.{PackageId}
@@ -77,8 +78,11 @@ place-below : (k0 : ℕ) (ids : List Name) (id : Name) (k : ℕ) → place_from 
 place-below k0 [] id k e = absurd (cc)
 place-below k0 (x ∷ ids) id k e = below-go (place_from (k0 + 1) ids id) (bytes_eq x id) k0 (length ids) k (λ j q. place-below (k0 + 1) ids id j q) e
 
-pub place-bounds : (ids : List Name) → Bounds (place_of ids) (length ids)
-place-bounds ids id k e = let l = place-below 0 ids id k e in grind (arith, nat_tests, l)
+pub place-bounds : (packages : List PackageRecord) → Bounds (place_of packages) (length packages)
+place-bounds packages id k e =
+    let l = place-below 0 (map (λ (p : PackageRecord). p.id) packages) id k (sym (place_of-from packages id) ∙ e) in
+    let many : length (map (λ (p : PackageRecord). p.id) packages) ≡ length packages = length-map packages (λ (p : PackageRecord). p.id) in
+    grind (arith, nat_tests, l, many)
 
 module _ (place : Name → Option ℕ) (n : ℕ) (bounds : Bounds place n) where
   text-place : (o : Option Name) (k : ℕ) → option_and_then place o ≡ Some k → nat_lt k n ≡ true
@@ -111,27 +115,27 @@ module _ (place : Name → Option ℕ) (n : ℕ) (bounds : Bounds place n) where
         all-read (read_node_dep place minor) (λ d. nat_lt d.pkg n) dep-known list.value deps list.then
     deps-go false ms deps e = ap (list_all (λ d. nat_lt d.pkg n)) (let q : deps ≡ [] = cc in q)
 
-    abbrev known_entry : ℕ × NodeRecord → Bool
+    abbrev known_entry : ℕ × List NodeDepRecord → Bool
     known_entry e = nat_lt e.0 n && is_known_node n e.1
 
-    node-known : (d : Data) (e : ℕ × NodeRecord) → read_node place minor d ≡ Ok e → known_entry e ≡ true
+    node-known : (d : Data) (e : ℕ × List NodeDepRecord) → read_node place minor d ≡ Ok e → known_entry e ≡ true
     node-known d r e =
         let ms = behind (ok_or (as_object d) (codes "nodes")) _ r e in
         let id = behind (string_in (codes "id") ms.value) _ r ms.then in
         let deps = behind (read_from 30 minor [] (array_in (codes "deps") ms.value >>= read_all (read_node_dep place minor))) _ r id.then in
         let at = behind (ok_or (place id.value) (codes "id")) _ r deps.then in
-        let same : (at.value, record { deps = deps.value }) ≡ r = (let q : Ok (at.value, record { deps = deps.value }) ≡ Ok r = at.then in cc) in
+        let same : (at.value, deps.value) ≡ r = (let q : Ok (at.value, deps.value) ≡ Ok r = at.then in cc) in
         subst (λ x. known_entry x ≡ true) same
         (and-intro (nat_lt at.value n) _ (bounds id.value at.value (named-some (codes "id") (place id.value) at.value at.read)) (deps-go (nat_le 30 minor) ms.value deps.value deps.read))
 
-    insert-go : (o : Ordering) (e : ℕ × NodeRecord) (es inserted : Nodes) (k : ℕ) (v : NodeRecord) → known_entry (k, v) ≡ true → list_all known_entry (e ∷ es) ≡ true → list_all known_entry inserted ≡ true
+    insert-go : (o : Ordering) (e : ℕ × List NodeDepRecord) (es inserted : Nodes) (k : ℕ) (v : List NodeDepRecord) → known_entry (k, v) ≡ true → list_all known_entry (e ∷ es) ≡ true → list_all known_entry inserted ≡ true
         → list_all known_entry (match_ordering o ((k, v) ∷ e ∷ es) ((e.0, v) ∷ es) (e ∷ inserted)) ≡ true
     insert-go Less e es inserted k v new old rest = and-intro (known_entry (k, v)) _ new old
     insert-go Equal e es inserted k v new old rest =
         and-intro (known_entry (e.0, v)) _ (and-intro (nat_lt e.0 n) _ (and-first (nat_lt e.0 n) _ (and-first (known_entry e) _ old)) (and-second (nat_lt k n) _ new)) (and-second (known_entry e) _ old)
     insert-go Greater e es inserted k v new old rest = and-intro (known_entry e) _ (and-first (known_entry e) _ old) rest
 
-    insert-known : (es : Nodes) (k : ℕ) (v : NodeRecord) → known_entry (k, v) ≡ true → list_all known_entry es ≡ true → list_all known_entry (insert_entry nat_cmp es k v) ≡ true
+    insert-known : (es : Nodes) (k : ℕ) (v : List NodeDepRecord) → known_entry (k, v) ≡ true → list_all known_entry es ≡ true → list_all known_entry (insert_entry nat_cmp es k v) ≡ true
     insert-known [] k v new old = and-intro (known_entry (k, v)) true new refl
     insert-known (e ∷ es) k v new old = insert-go (nat_cmp k e.0) e es (insert_entry nat_cmp es k v) k v new old (insert-known es k v new (and-second (known_entry e) _ old))
 
@@ -156,10 +160,10 @@ module _ (place : Name → Option ℕ) (n : ℕ) (bounds : Bounds place n) where
     all-known ms ms' members nodes e h = and-intro _ _ (members-known ms members e) (nodes-known ms' nodes h)
 
 -- the place that an id means is below the number of packages
-pub packages-bounds : (packages : List Package) (place : Name → Option ℕ) → place ≡ place_of (ids_of (map package_view packages)) → Bounds place (length packages)
+pub packages-bounds : (packages : List Package) (place : Name → Option ℕ) → place ≡ place_of (map package_view packages) → Bounds place (length packages)
 packages-bounds packages place same =
-    let many : length (ids_of (map package_view packages)) ≡ length packages = length-map (map package_view packages) (λ (p : PackageRecord). p.id) ∙ length-map packages package_view in
-    subst (λ n. Bounds place n) many (subst (λ f. Bounds f (length (ids_of (map package_view packages)))) (sym same) (place-bounds (ids_of (map package_view packages))))
+    let many : length (map package_view packages) ≡ length packages = length-map packages package_view in
+    subst (λ n. Bounds place n) many (subst (λ f. Bounds f (length (map package_view packages))) (sym same) (place-bounds (map package_view packages)))
 
 below-at : (n : ℕ) (ids : List PackageId) (k : ℕ) (d : PackageId) → list_all (λ m. nat_lt m n) (map place_at ids) ≡ true → k < length ids → (get_or ids k d).index < n
 below-at n [] k d h lt = absurd (omega arith)

@@ -10,7 +10,7 @@ use Rattle.serde_json.specs.Data.{Data, Items, item}
 use Rattle.hack_metadata.specs.Fields.{read_all}
 use Rattle.hack_base.specs.FieldReadings.{◌>>=◌, FieldReading}
 use Rattle.hack_metadata.specs.MetadataReading.{with_nodes}
-use Rattle.hack_metadata.specs.Records.{NodeRecord, Nodes, node_at}
+use Rattle.hack_metadata.specs.Records.{NodeDepRecord, Nodes, node_at}
 use Rattle.hack_metadata.specs.RecordViews.{node_view, nodes_view}
 use Rattle.hack_metadata.proofs.IdLemmas.{cmp-eq}
 use Rattle.hack_metadata.specs.contracts.metadata.resolve.PackageIdOrd.TheImpl as ord
@@ -38,12 +38,12 @@ pub nodes-insert : (m n : BTreeMap PackageId Node) (id : PackageId) (node : Node
 nodes-insert m n id node e = ap seen e ∙ seen-insert m.entries id node
 
 -- the node that is read first is inserted first
-put_first : (m n : Nodes) (at : ℕ) (node : NodeRecord) (read : FieldReading (List (ℕ × NodeRecord))) → n ≡ insert_entry nat_cmp m at node → (read >>= λ more. Ok (with_nodes n more)) ≡ ((read >>= λ more. Ok ((at, node) ∷ more)) >>= λ more. Ok (with_nodes m more))
+put_first : (m n : Nodes) (at : ℕ) (node : List NodeDepRecord) (read : FieldReading (List (ℕ × List NodeDepRecord))) → n ≡ insert_entry nat_cmp m at node → (read >>= λ more. Ok (with_nodes n more)) ≡ ((read >>= λ more. Ok ((at, node) ∷ more)) >>= λ more. Ok (with_nodes m more))
 put_first m n at node (Ok more) e = ap (λ nodes. Ok (with_nodes nodes more)) e
 put_first m n at node (Err name) e = refl
 
 -- one pass of the loop over nodes
-pub nodes-turn : (f : Data → FieldReading (ℕ × NodeRecord)) (d : Data) (left rest : Items) (m n : Nodes) (at : ℕ) (node : NodeRecord) (whole : FieldReading Nodes)
+pub nodes-turn : (f : Data → FieldReading (ℕ × List NodeDepRecord)) (d : Data) (left rest : Items) (m n : Nodes) (at : ℕ) (node : List NodeDepRecord) (whole : FieldReading Nodes)
     → left ≡ item d rest → f d ≡ Ok (at, node) → n ≡ insert_entry nat_cmp m at node
     → (read_all f left >>= λ more. Ok (with_nodes m more)) ≡ whole → (read_all f rest >>= λ more. Ok (with_nodes n more)) ≡ whole
 nodes-turn f d left rest m n at node whole first reads put before =
@@ -52,7 +52,7 @@ nodes-turn f d left rest m n at node whole first reads put before =
     ∙ ap (λ l. read_all f l >>= λ more. Ok (with_nodes m more)) (sym first)
     ∙ before
 
-found-seen : (b c : Bool) (e : PackageId × Node) (rest : Option Node) (more : Option NodeRecord) → b ≡ c → option_map node_view rest ≡ more
+found-seen : (b c : Bool) (e : PackageId × Node) (rest : Option Node) (more : Option (List NodeDepRecord)) → b ≡ c → option_map node_view rest ≡ more
     → option_map node_view (cond b (Some e.1) rest) ≡ cond c (Some (node_view e.1)) more
 found-seen true c e rest more same h = rw (sym same) refl
 found-seen false c e rest more same h = rw (sym same) h

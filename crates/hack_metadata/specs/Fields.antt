@@ -1,8 +1,9 @@
 -- What a field of a JSON object holds, or its name, where it is missing or has the wrong type.
 use Rattle.std.specs.Prelude.{Bool, List, [], ◌∷◌, Option, Some, None, Ok, option_map, option_and_then}
-use Rattle.std.specs.Option.{ok_or, option_map_or}
-use Rattle.serde_json.specs.Data.{Data, null, Items, no_items, item, Members}
-use Rattle.serde_json.specs.Find.{get_member, as_str, as_bool, as_array, as_object}
+use Rattle.std.specs.Bool.{then_some}
+use Rattle.std.specs.Option.{is_none, ok_or, option_transpose}
+use Rattle.serde_json.specs.Data.{Data, Items, no_items, item, Members}
+use Rattle.serde_json.specs.Find.{get_member, as_null, as_str, as_bool, as_array, as_object}
 use Rattle.serde_json.specs.Read.{read as read_text}
 use Rattle.hack_base.specs.FieldReadings.{FieldReading, ◌>>=◌}
 use Rattle.hack_base.specs.Names.{Name}
@@ -23,19 +24,15 @@ array_in key ms = ok_or (option_and_then as_array (get_member key ms)) key
 abbrev pub object_in : Name → Members → FieldReading Members
 object_in key ms = ok_or (option_and_then as_object (get_member key ms)) key
 
--- data, none where they are null
-abbrev pub unless_null : Data → Option Data
-unless_null null = None
-unless_null d = Some d
-
 -- a field that may be null, and then is none
 abbrev pub nullable_in : Name → Members → FieldReading (Option Data)
-nullable_in key ms = ok_or (option_map unless_null (get_member key ms)) key
+nullable_in key ms =
+    ok_or (option_map (λ d. then_some (is_none (as_null d)) d) (get_member key ms)) key
 
 -- a field that is a text or null
 abbrev pub optional_text_in : Name → Members → FieldReading (Option Name)
 optional_text_in key ms =
-    nullable_in key ms >>= λ o. option_map_or (λ d. ok_or (option_map Some (as_str d)) key) o (Ok None)
+    nullable_in key ms >>= λ o. option_transpose (option_map (λ d. ok_or (as_str d) key) o)
 
 -- each item as f reads it, in order
 abbrev pub read_all : {A : Type 0} → (Data → FieldReading A) → Items → FieldReading (List A)

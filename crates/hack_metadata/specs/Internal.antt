@@ -81,7 +81,8 @@ pair_view parts = (parts.0.now, parts.1.now)
 -- the parts of a version
 abbrev pub version_view : VersionParts → List (Option Name)
 version_view v =
-    Some v.major.now ∷ option_copied v.minor ∷ option_copied v.patch ∷ option_copied v.pre ∷ option_copied v.build ∷ []
+    Some v.major.now ∷ option_copied v.minor ∷ option_copied v.patch
+    ∷ option_copied v.pre ∷ option_copied v.build ∷ []
 
 -- the parts of a URL
 abbrev pub url_view : UrlParts → Url

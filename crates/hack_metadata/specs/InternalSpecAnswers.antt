@@ -21,7 +21,9 @@ agrees_if_given (Some part) (Some full) = bytes_eq part full
 -- whether a version fits a full one
 abbrev pub fits : Name → Name → MatchAnswer
 fits given full =
-    if is_some (third full) then Ok (pointwise agrees_if_given (version_parts_of given) (version_parts_of full)) else Err BadVersion
+    if is_some (third full)
+    then Ok (pointwise agrees_if_given (version_parts_of given) (version_parts_of full))
+    else Err BadVersion
 
 -- what comes before and after the first byte that passes, where there is one
 abbrev pub cut_by : (ℕ → Bool) → Name → Option (Name × Name)
@@ -59,7 +61,9 @@ with_version given (Some own) = if bytes_eq given.0 own.0 then fits given.1 own.
 
 -- whether a fragment that is a name or a version alone matches
 abbrev pub alone_in : Identity → Name → MatchAnswer
-alone_in p text = if bytes_eq text p.name then Ok true else (if is_ascii_digit (slice_index text 0) then fits text p.version else Ok false)
+alone_in p text =
+    if bytes_eq text p.name then Ok true
+    else (if is_ascii_digit (slice_index text 0) then fits text p.version else Ok false)
 
 -- whether a fragment with these parts matches the id's fragment with those
 abbrev pub in_fragment : Identity → Name → Option (Name × Name) → Option (Name × Name) → MatchAnswer

@@ -1,11 +1,11 @@
 -- Ids are places of packages.
 use Rattle.std.specs.Prelude.{ℕ, Bool, ◌&&◌, List, nat_lt}
 use Rattle.std.specs.List.{list_all}
-use Rattle.hack_metadata.specs.Records.{NodeRecord, Nodes}
+use Rattle.hack_metadata.specs.Records.{NodeDepRecord, Nodes}
 
 -- the packages that a node depends on are among the first n
-abbrev pub is_known_node : ℕ → NodeRecord → Bool
-is_known_node n node = list_all (λ d. nat_lt d.pkg n) node.deps
+abbrev pub is_known_node : ℕ → List NodeDepRecord → Bool
+is_known_node n deps = list_all (λ d. nat_lt d.pkg n) deps
 
 -- members, nodes and what these depend on are among the first n packages
 abbrev pub are_known : ℕ → List ℕ → Nodes → Bool

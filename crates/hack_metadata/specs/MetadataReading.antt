@@ -2,7 +2,8 @@
 -- or has the wrong type, in this order of fields. `minor` is the minor version of the cargo that
 -- wrote the data: some fields came with a later one.
 use Rattle.std.specs.Prelude.{ℕ, ◌+◌, ◌==◌, Bool, true, false, not, List, [], ◌∷◌, Option, Some, None, Ok, codes, filter, fold, map, nat_le, option_map, option_and_then, if◌then◌else◌}
-use Rattle.std.specs.Option.{ok_or, option_map_or, option_or}
+use Rattle.std.specs.List.{enumerate_from}
+use Rattle.std.specs.Option.{ok_or, option_map_or}
 use Rattle.std.specs.Ordering.{nat_cmp}
 use Rattle.std.specs.Str.{bytes_eq}
 use Rattle.std.specs.BTreeMap.{insert_entry}
@@ -12,7 +13,7 @@ use Rattle.hack_base.specs.Names.{Name}
 use Rattle.hack_features.specs.FeatureMap.{FeatureMap}
 use Rattle.hack_metadata.specs.Fields.{string_in, bool_in, array_in, object_in, nullable_in, optional_text_in, read_all}
 use Rattle.hack_base.specs.FieldReadings.{◌>>=◌, FieldReading}
-use Rattle.hack_metadata.specs.Records.{DependencyRecord, PackageRecord, KindRecord, NodeDepRecord, NodeRecord, Nodes, MetadataRecord}
+use Rattle.hack_metadata.specs.Records.{DependencyRecord, PackageRecord, KindRecord, NodeDepRecord, Nodes, MetadataRecord}
 
 -- what is read from this minor version of cargo on, and a value before it
 abbrev pub read_from : {A : Type 0} → ℕ → ℕ → A → FieldReading A → FieldReading A
@@ -56,7 +57,8 @@ read_package minor d =
     string_in (codes "name") ms >>= λ name.
     string_in (codes "version") ms >>= λ version.
     (array_in (codes "dependencies") ms >>= read_all read_dependency) >>= λ dependencies.
-    (object_in (codes "features") ms >>= λ fs. ok_or (features_of fs) (codes "features")) >>= λ features.
+    (object_in (codes "features") ms >>= λ fs. ok_or (features_of fs) (codes "features"))
+    >>= λ features.
     string_in (codes "manifest_path") ms >>= λ manifest_path.
     read_from 39 minor true (nullable_in (codes "publish") ms >>= may_publish) >>= λ publish.
     read_from 58 minor None (optional_text_in (codes "rust_version") ms) >>= λ rust_version.
@@ -64,14 +66,10 @@ read_package minor d =
 
 -- ---- package ids
 
--- the place of the last package with the id, where the first of the ids has the place k
-abbrev pub place_from : ℕ → List Name → Name → Option ℕ
-place_from k [] id = None
-place_from k (x ∷ ids) id = option_or (place_from (k + 1) ids id) (if bytes_eq x id then Some k else None)
-
 -- the place of the last package with the id, none where no package has it
-abbrev pub place_of : List Name → Name → Option ℕ
-place_of ids id = place_from 0 ids id
+abbrev pub place_of : List PackageRecord → Name → Option ℕ
+place_of packages id =
+    fold (λ last e. if bytes_eq e.1.id id then Some e.0 else last) None (enumerate_from 0 packages)
 
 -- the elements, each once, at its first place; `same` tells which are the same
 abbrev pub distinct : {A : Type 0} → (A → A → Bool) → List A → List A
@@ -100,7 +98,7 @@ read_kind d =
     Ok (record { kind = kind; target = target })
 
 -- the nodes, put in one after another: of two nodes of one package the last counts
-abbrev pub with_nodes : Nodes → List (ℕ × NodeRecord) → Nodes
+abbrev pub with_nodes : Nodes → Nodes → Nodes
 with_nodes nodes more = fold (λ all n. insert_entry nat_cmp all n.0 n.1) nodes more
 
 module _ (place : Name → Option ℕ) (minor : ℕ) where
@@ -114,13 +112,13 @@ module _ (place : Name → Option ℕ) (minor : ℕ) where
       Ok (record { pkg = pkg; dep_kinds = kinds })
 
   -- an element of `nodes`: the place of its package, which is looked up last, and the node
-  abbrev pub read_node : Data → FieldReading (ℕ × NodeRecord)
+  abbrev pub read_node : Data → FieldReading (ℕ × List NodeDepRecord)
   read_node d =
       ok_or (as_object d) (codes "nodes") >>= λ ms.
       string_in (codes "id") ms >>= λ id.
       read_from 30 minor [] (array_in (codes "deps") ms >>= read_all read_node_dep) >>= λ deps.
       ok_or (place id) (codes "id") >>= λ at.
-      Ok (at, record { deps = deps })
+      Ok (at, deps)
 
   -- what `resolve` holds: no nodes where it is null
   abbrev pub read_resolve : Option Data → FieldReading Nodes
@@ -132,10 +130,6 @@ module _ (place : Name → Option ℕ) (minor : ℕ) where
       Ok (with_nodes [] nodes)
 
 -- ---- the whole
-
--- the ids of packages, in order
-abbrev pub ids_of : List PackageRecord → List Name
-ids_of packages = map (λ p. p.id) packages
 
 -- what is read after the packages, where `place` says which one an id means
 abbrev pub read_behind : ℕ → List PackageRecord → (Name → Option ℕ) → Members → FieldReading MetadataRecord
@@ -149,4 +143,4 @@ read_behind minor packages place ms =
 abbrev pub read_metadata : ℕ → Members → FieldReading MetadataRecord
 read_metadata minor ms =
     (array_in (codes "packages") ms >>= read_all (read_package minor)) >>= λ packages.
-    read_behind minor packages (place_of (ids_of packages)) ms
+    read_behind minor packages (place_of packages) ms

@@ -43,8 +43,8 @@ AgreesIfGiven given full = IfSome given (λ part. full ≡ Some part)
 abbrev pub third : Name → Option Name
 third text = option_and_then (behind_first_byte (is_byte 46)) (behind_first_byte (is_byte 46) text)
 
--- major, minor, patch, pre-release and build: what follows the second dot is cut at its first `+`, and
--- what stands before that at its first `-`
+-- major, minor, patch, pre-release and build: what follows the second dot is cut at its first `+`,
+-- and what stands before that at its first `-`
 abbrev pub version_parts_of : Name → List (Option Name)
 version_parts_of text =
     let core = option_map (before_first (is_byte 43)) (third text) in
@@ -106,7 +106,8 @@ module _ (p : Identity) (spec : Name) where
         → before_first separates text ≡ before_first separates id_text
         → behind_first_byte separates text ≡ Some given → behind_first_byte separates id_text ≡ Some full → AsksVersion given full
     alone : (url own : Url) → IsPlace url own → url.fragment ≡ Some given → IsSome own.fragment → has_byte separates given ≡ false
-        → given ≢ p.name → is_ascii_digit (slice_index given 0) ≡ true → p.version ≡ full → AsksVersion given full
+        → given ≢ p.name → is_ascii_digit (slice_index given 0) ≡ true → p.version ≡ full
+        → AsksVersion given full
 
   -- the specification matches the package
   pub data Matches : Type 0 where

@@ -1,10 +1,10 @@
 -- The records of the code as plain data.
-use Rattle.std.specs.Prelude.{ℕ, map, string_bytes}
+use Rattle.std.specs.Prelude.{List, ℕ, map, string_bytes}
 use Rattle.std.specs.BTreeMap.{BTreeMap}
 use Rattle.std.specs.Hash.{HashWrites, usize}
 use Rattle.hack_base.specs.Names.{optional_text}
 use Rattle.hack_features.specs.FeatureMap.{feature_map}
-use Rattle.hack_metadata.specs.Records.{DependencyRecord, PackageRecord, KindRecord, NodeDepRecord, NodeRecord, Nodes}
+use Rattle.hack_metadata.specs.Records.{DependencyRecord, PackageRecord, KindRecord, NodeDepRecord, Nodes}
 use Rattle.hack_metadata.specs.declared.metadata.package.Dependency.{Dependency}
 use Rattle.hack_metadata.specs.declared.metadata.package.Package.{Package}
 use Rattle.hack_metadata.specs.declared.metadata.resolve.PackageId.{PackageId}
@@ -32,9 +32,9 @@ kind_view k = record { kind = optional_text k.kind; target = optional_text k.tar
 abbrev pub node_dep_view : NodeDep → NodeDepRecord
 node_dep_view d = record { pkg = d.pkg.index; dep_kinds = map kind_view d.dep_kinds.items }
 
--- a node
-abbrev pub node_view : Node → NodeRecord
-node_view n = record { deps = map node_dep_view n.deps.items }
+-- a node's dependencies
+abbrev pub node_view : Node → List NodeDepRecord
+node_view n = map node_dep_view n.deps.items
 
 -- the nodes, by place
 abbrev pub nodes_view : BTreeMap PackageId Node → Nodes

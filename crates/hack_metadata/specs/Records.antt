@@ -31,16 +31,13 @@ pub record NodeDepRecord : Type 0 where
   pub pkg : ℕ
   pub dep_kinds : List KindRecord
 
--- a node of the graph of dependencies
-pub record NodeRecord : Type 0 where
-  pub deps : List NodeDepRecord
-
--- the nodes by the places of their packages, in increasing order
+-- the nodes of the graph of dependencies by the places of their packages, in increasing order: the
+-- dependencies of each
 abbrev pub Nodes : Type 0
-Nodes = List (ℕ × NodeRecord)
+Nodes = List (ℕ × List NodeDepRecord)
 
--- the node of the package at a place
-abbrev pub node_at : Nodes → ℕ → Option NodeRecord
+-- the dependencies of the node of the package at a place
+abbrev pub node_at : Nodes → ℕ → Option (List NodeDepRecord)
 node_at nodes at = lookup (λ place. at == place) nodes
 
 -- all that cargo reports of a workspace

@@ -255,7 +255,8 @@ impl<'a> VersionParts<'a> {
 
     /// Returns whether each part that is given equals that of `full`.
     fn agrees(&self, full: &VersionParts<'_>) -> bool
-        ensures { result ≡ pointwise agrees_if_given (version_view self.now) (version_view full.now) }
+        ensures { result ≡ pointwise agrees_if_given
+            (version_view self.now) (version_view full.now) }
     {
         agrees_if_given(Some(self.major), Some(full.major))
             && agrees_if_given(self.minor, full.minor)

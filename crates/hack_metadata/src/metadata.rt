@@ -10,7 +10,7 @@ ghost use Rattle.hack_metadata.specs.Fields.{read_all, nullable_in};
 ghost use Rattle.hack_base.specs.FieldReadings.{◌>>=◌ as ◌≫=◌};
 ghost use Rattle.hack_metadata.specs.FieldResults.{KeepsOtherFields, ReturnsField};
 ghost use Rattle.hack_metadata.specs.MetadataReading.{read_metadata, read_behind, read_member};
-ghost use Rattle.hack_metadata.specs.MetadataReading.{workspace_members_in, read_resolve, ids_of};
+ghost use Rattle.hack_metadata.specs.MetadataReading.{workspace_members_in, read_resolve};
 ghost use Rattle.hack_metadata.specs.MetadataReading.{place_of, distinct};
 ghost use Rattle.hack_metadata.specs.KnownIds.{are_known};
 ghost use Rattle.hack_metadata.specs.Internal.{Bounds};
@@ -122,7 +122,7 @@ impl Metadata {
 /// Returns which package each id means: of several packages with one id the last.
 fn places_of(alloc: Global, packages: &[Package]) -> Result<BTreeMap<String, PackageId>, AllocError>
     ensures { IfOk result (λ ids. place_in ids
-        ≡ place_of (ids_of (map package_view packages.now))) }
+        ≡ place_of (map package_view packages.now)) }
 {
     let mut ids = BTreeMap::new(alloc);
     for (index, package) in packages.iter().enumerate() {

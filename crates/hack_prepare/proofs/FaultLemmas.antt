@@ -13,7 +13,8 @@ use Rattle.hack_files.specs.declared.fs.FsFault.TheVariants as fs
 use Rattle.hack_prepare.specs.Faults.{AtFileWrite, AtWrite, IsDevFault, IsEditsFault, IsPathFaultOr, IsPathFault, IsMembersFault, IsRootFault, IsRootTextFault, IsUnmade}
 use Rattle.hack_prepare.specs.Internal.{IsHeldFault, IsOfFile, NoFault, IsAlonePath, Nowhere, Only, OnlyIf, ArePartlyTurned, AreTurned, KeepsApart, KeepsBut}
 use Rattle.hack_prepare.specs.Paths.{IsEdited, IsLookedAt, IsReadRoot, IsTextless}
-use Rattle.hack_prepare.specs.Prepared.{HoldTexts, IsPartlyPrepared, MemberManifest, Wanted, edits_root, is_removed, gone_manifests, has_some, is_alone, is_alone_at, is_root}
+use Rattle.hack_prepare.specs.Prepared.{HoldTexts, IsPartlyPrepared, MemberManifest, Wanted, edits_root, is_removed, gone_manifests, is_alone, is_alone_at, is_root}
+use Rattle.hack_manifest.specs.LineRuns.{has_some}
 use Rattle.hack_load.specs.Contexts.{ContextRecord}
 use Rattle.hack_prepare.specs.PreparedView.{IsPrepareFault, edits_in, member_manifests_in, wanted_in}
 use Rattle.hack_prepare.proofs.MemberLemmas.{alone-path, partly-fails}

@@ -18,7 +18,7 @@ use Rattle.hack_files.specs.Files.{Contents, KeepsOthers}
 use Rattle.hack_base.specs.Counters.{GrowsBy}
 use Rattle.hack_base.specs.Notes.{Note}
 use Rattle.hack_prepare.specs.Internal.{IsAlonePath, Only, ArePartlyTurned, AreTurned, HoldsText, IsStep, IsTurned, IsTurnedOrNot, KeepsApart}
-use Rattle.hack_prepare.specs.Prepared.{HasPrivateRoot, HoldTexts, MemberManifest, Wanted, is_removed, gone_manifests, drops_at_root, is_alone, is_alone_at, is_left, is_root}
+use Rattle.hack_prepare.specs.Prepared.{HasPrivateRoot, HoldTexts, MemberManifest, Wanted, is_removed, gone_manifests, drops_at_root, is_alone, is_alone_at, is_root}
 use Rattle.hack_files.specs.declared.restore.Manager.{Manager}
 use Rattle.hack_prepare.proofs.CountLemmas.{none_failed, none_then}
 use Rattle.hack_prepare.proofs.StepLemmas.{step_given, step_none, step_then}
@@ -270,7 +270,7 @@ wanted_of args drops folder root lockfile = record { drops_dev = drops; no_priva
 
 flat-none : (w : Wanted) (ms : List MemberManifest) → w.drops_dev ≡ false → flat_map (member_notes w) ms ≡ []
 flat-none w [] d = refl
-flat-none w (m ∷ ms) d = ap (λ b. cond (b && not (is_left w m)) (dev_note w.verbose m.path) [] ++ flat_map (member_notes w) ms) d ∙ flat-none w ms d
+flat-none w (m ∷ ms) d = ap (λ b. cond (b && not (w.no_private && (m.is_private || is_root w m))) (dev_note w.verbose m.path) [] ++ flat_map (member_notes w) ms) d ∙ flat-none w ms d
 
 -- where nothing is asked for, there is no notice
 pub told-none : (w : Wanted) (ms : List MemberManifest) → w.drops_dev ≡ false → w.no_private ≡ false → notes w ms ≡ []

@@ -10,7 +10,8 @@ use Rattle.hack_files.specs.Files.{Contents, KeepsAll, KeepsOthers}
 use Rattle.hack_base.specs.Counters.{GrowsBy}
 use Rattle.hack_edits.specs.DevDeps.{IsWithoutDev}
 use Rattle.hack_prepare.specs.Internal.{Only, ArePartlyTurned, AreTurned, IsTurnedOrNot, KeepsApart, KeepsBut, MakesRoot, MakesRootOrNot}
-use Rattle.hack_prepare.specs.Prepared.{HoldTexts, IsPartlyPrepared, IsPrepared, IsRootEdit, KeepsUnedited, MemberManifest, TurnsOrStays, Wanted, drops_at_root, edits_root, gone_manifests, has_root, has_some, is_alone, is_alone_at, is_root}
+use Rattle.hack_prepare.specs.Prepared.{HoldTexts, IsPartlyPrepared, IsPrepared, IsRootEdit, KeepsUnedited, MemberManifest, TurnsOrStays, Wanted, drops_at_root, edits_root, gone_manifests, is_alone, is_alone_at, is_root}
+use Rattle.hack_manifest.specs.LineRuns.{has_some}
 use Rattle.hack_prepare.specs.EditSteps.{IsRootText}
 use Rattle.hack_prepare.specs.EditNotes.{edit_notes, root_notes}
 use Rattle.hack_prepare.proofs.CountLemmas.{none_then}
@@ -35,18 +36,18 @@ found-by text m o true rest h k = refl
 found-by text m o false rest h k = k h
 
 -- where one is found there is one
-pub root-found : (w : Wanted) (ms : List MemberManifest) (text : Name) → Some text ≡ option_map text_in (find (is_root w) ms) → has_root w ms ≡ true
+pub root-found : (w : Wanted) (ms : List MemberManifest) (text : Name) → Some text ≡ option_map text_in (find (is_root w) ms) → list_any (is_root w) ms ≡ true
 root-found w [] text h = absurd (cc)
-root-found w (m ∷ ms) text h = found-by text m (find (is_root w) ms) (is_root w m) (has_root w ms) h (root-found w ms text)
+root-found w (m ∷ ms) text h = found-by text m (find (is_root w) ms) (is_root w m) (list_any (is_root w) ms) h (root-found w ms text)
 
 missed-by : (m : MemberManifest) (o : Option MemberManifest) (b rest : Bool) → None ≡ option_map text_in (cond b (Some m) o) → (None ≡ option_map text_in o → rest ≡ false) → (b || rest) ≡ false
 missed-by m o true rest h k = absurd (cc)
 missed-by m o false rest h k = k h
 
 -- where none is found there is none
-pub root-missed : (w : Wanted) (ms : List MemberManifest) → None ≡ option_map text_in (find (is_root w) ms) → has_root w ms ≡ false
+pub root-missed : (w : Wanted) (ms : List MemberManifest) → None ≡ option_map text_in (find (is_root w) ms) → list_any (is_root w) ms ≡ false
 root-missed w [] h = refl
-root-missed w (m ∷ ms) h = missed-by m (find (is_root w) ms) (is_root w m) (has_root w ms) h (root-missed w ms)
+root-missed w (m ∷ ms) h = missed-by m (find (is_root w) ms) (is_root w m) (list_any (is_root w) ms) h (root-missed w ms)
 
 -- what the one that is found has read is what the root's manifest holds
 pub root-held : (w : Wanted) (ms : List MemberManifest) (text : Name) (held : Contents) → HoldTexts held ms → Some text ≡ option_map text_in (find (is_root w) ms) → held w.root ≡ Some text
@@ -83,11 +84,11 @@ keeps-by true r e = e
 keeps-by false r e = refl
 
 -- where a member is there, its development dependencies are removed too
-pub drops-found : (w : Wanted) (ms : List MemberManifest) → has_root w ms ≡ true → drops_at_root w ms ≡ w.drops_dev
-drops-found w ms e = drops-by w.drops_dev (has_root w ms) e
+pub drops-found : (w : Wanted) (ms : List MemberManifest) → list_any (is_root w) ms ≡ true → drops_at_root w ms ≡ w.drops_dev
+drops-found w ms e = drops-by w.drops_dev (list_any (is_root w) ms) e
 
-pub drops-missed : (w : Wanted) (ms : List MemberManifest) → has_root w ms ≡ false → drops_at_root w ms ≡ false
-drops-missed w ms e = keeps-by w.drops_dev (has_root w ms) e
+pub drops-missed : (w : Wanted) (ms : List MemberManifest) → list_any (is_root w) ms ≡ false → drops_at_root w ms ≡ false
+drops-missed w ms e = keeps-by w.drops_dev (list_any (is_root w) ms) e
 
 -- whether it is edited
 pub edits-is : (w : Wanted) (ms : List MemberManifest) (drops : Bool) (private : List Name) → w.no_private ≡ true → drops_at_root w ms ≡ drops → private ≡ gone_manifests w ms
@@ -150,9 +151,9 @@ free-by true b rest e f = ap (λ x. x || rest) e ∙ f
 free-by false b rest e f = f
 
 -- where no member is there, none is edited there by itself
-pub alone-free : (w : Wanted) (ms : List MemberManifest) → has_root w ms ≡ false → list_any (is_alone_at w w.root) ms ≡ false
+pub alone-free : (w : Wanted) (ms : List MemberManifest) → list_any (is_root w) ms ≡ false → list_any (is_alone_at w w.root) ms ≡ false
 alone-free w [] e = refl
-alone-free w (m ∷ ms) e = free-by (is_alone w m) (is_root w m) (list_any (is_alone_at w w.root) ms) (or_left (is_root w m) (has_root w ms) e) (alone-free w ms (or_right (is_root w m) (has_root w ms) e))
+alone-free w (m ∷ ms) e = free-by (is_alone w m) (is_root w m) (list_any (is_alone_at w w.root) ms) (or_left (is_root w m) (list_any (is_root w) ms) e) (alone-free w ms (or_right (is_root w m) (list_any (is_root w) ms) e))
 
 and_second : (a b : Bool) → (a && b) ≡ true → b ≡ true
 and_second true b e = e

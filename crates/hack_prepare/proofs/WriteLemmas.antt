@@ -10,7 +10,8 @@ use Rattle.hack_files.proofs.FilesLemmas.{makes_more}
 use Rattle.hack_edits.specs.DevDeps.{IsWithoutDev}
 use Rattle.hack_edits.specs.Members.{in_order}
 use Rattle.hack_edits.specs.PrivateCrates.{IsWithoutPrivate}
-use Rattle.hack_prepare.specs.Prepared.{IsRootEdit, MemberManifest, Wanted, drops_at_root, edits_root, gone_manifests, has_some, is_alone, is_left, is_root}
+use Rattle.hack_prepare.specs.Prepared.{IsRootEdit, MemberManifest, Wanted, drops_at_root, edits_root, gone_manifests, is_alone, is_root}
+use Rattle.hack_manifest.specs.LineRuns.{has_some}
 use Rattle.hack_prepare.specs.Internal.{KeepsApart, IsAtMostOne, MayWriteRoot}
 use Rattle.hack_prepare.specs.Writes.{AreDevWrites, AreRootWrites, AreWrites, BeginDevWrites, BeginWrites, IsDevWrite, IsOne, IsOneIf, IsRootWrite, MakesSome, ReadsRoot, WritesRoot}
 use Rattle.hack_prepare.proofs.RootLemmas.{alone-free, drops-found, drops-missed, edits-is, root-found, root-missed, text_in}
@@ -294,7 +295,7 @@ unwanted tells w ms held t m n = ([], if-unasked (edits_root w ms) (WritesRoot t
 -- where nothing is asked nothing is written
 none-alone : (w : Wanted) (ms : List MemberManifest) → w.drops_dev ≡ false → filter (is_alone w) ms ≡ []
 none-alone w [] d = refl
-none-alone w (m ∷ ms) d = ap (λ b. cond (b && not (is_left w m)) (m ∷ filter (is_alone w) ms) (filter (is_alone w) ms)) d ∙ none-alone w ms d
+none-alone w (m ∷ ms) d = ap (λ b. cond (b && not (w.no_private && (m.is_private || is_root w m))) (m ∷ filter (is_alone w) ms) (filter (is_alone w) ms)) d ∙ none-alone w ms d
 
 pub none-asked : (tells : Type 0) (w : Wanted) (ms : List MemberManifest) (held : Contents) (t : List Change) → w.drops_dev ≡ false → w.no_private ≡ false → MakesSome (AreWrites tells w ms held) t t held held
 none-asked tells w ms held t d n = (

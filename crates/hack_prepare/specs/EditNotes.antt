@@ -5,7 +5,8 @@ use Rattle.hack_base.specs.Names.{Name}
 use Rattle.hack_base.specs.Notes.{Note}
 use Rattle.hack_base.specs.declared.notice.NoticeKind.TheVariants.{Info}
 use Rattle.hack_base.specs.Notes.{note_if}
-use Rattle.hack_prepare.specs.Prepared.{MemberManifest, Wanted, drops_at_root, gone_manifests, has_some, is_alone}
+use Rattle.hack_prepare.specs.Prepared.{MemberManifest, Wanted, drops_at_root, gone_manifests, is_alone}
+use Rattle.hack_manifest.specs.LineRuns.{has_some}
 
 -- the notice that development dependencies are removed from a manifest, if it is asked for
 abbrev pub dev_note : Bool → Name → List Note

@@ -7,7 +7,8 @@ use Rattle.hack_files.specs.Files.{Contents, Change}
 use Rattle.hack_files.specs.Restore.{AreSafe, is_kept, registered_files}
 use Rattle.hack_files.specs.declared.restore.Manager.{Manager}
 use Rattle.hack_edits.specs.DevDeps.{IsWithoutDev}
-use Rattle.hack_prepare.specs.Prepared.{MemberManifest, Wanted, IsRootEdit, has_some, is_alone, is_alone_at}
+use Rattle.hack_prepare.specs.Prepared.{MemberManifest, Wanted, IsRootEdit, is_alone, is_alone_at}
+use Rattle.hack_manifest.specs.LineRuns.{has_some}
 use Rattle.hack_prepare.specs.EditSteps.{KeepsHeld, KeepsOnly}
 use Rattle.hack_files.specs.declared.fs.FsFault.{FsFault}
 use Rattle.hack_files.specs.declared.fs.FsFault.TheVariants as fs

@@ -5,6 +5,7 @@ use Rattle.std.specs.Str.{bytes_eq}
 use Rattle.hack_base.specs.Names.{Name}
 use Rattle.hack_files.specs.Files.{Contents}
 use Rattle.hack_edits.specs.DevDeps.{IsWithoutDev}
+pub use Rattle.hack_manifest.specs.LineRuns.{has_some}
 use Rattle.hack_edits.specs.Members.{in_order}
 use Rattle.hack_edits.specs.PrivateCrates.{IsWithoutPrivate}
 
@@ -45,13 +46,10 @@ is_root w m = bytes_eq m.path w.root
 abbrev pub is_removed : Wanted → MemberManifest → Bool
 is_removed w m = w.no_private && m.is_private
 
--- the member is removed, or its manifest is edited with the workspace's
-abbrev pub is_left : Wanted → MemberManifest → Bool
-is_left w m = w.no_private && (m.is_private || is_root w m)
-
--- the member's manifest is edited by itself
+-- the member's manifest is edited by itself: the member isn't removed, nor is its manifest edited
+-- with the workspace's
 abbrev pub is_alone : Wanted → MemberManifest → Bool
-is_alone w m = w.drops_dev && not (is_left w m)
+is_alone w m = w.drops_dev && not (w.no_private && (m.is_private || is_root w m))
 
 -- the same, and it is at this path
 abbrev pub is_alone_at : Wanted → Name → MemberManifest → Bool
@@ -61,18 +59,9 @@ is_alone_at w q m = is_alone w m && bytes_eq m.path q
 abbrev pub gone_manifests : Wanted → List MemberManifest → List Name
 gone_manifests w ms = map (λ m. m.path) (filter (is_removed w) ms)
 
--- the list isn't empty
-abbrev pub has_some : List Name → Bool
-has_some [] = false
-has_some (p ∷ ps) = true
-
--- a member's manifest is in the folder of the workspace
-abbrev pub has_root : Wanted → List MemberManifest → Bool
-has_root w ms = list_any (is_root w) ms
-
--- a member there loses its development dependencies
+-- a member in the folder of the workspace loses its development dependencies
 abbrev pub drops_at_root : Wanted → List MemberManifest → Bool
-drops_at_root w ms = w.drops_dev && has_root w ms
+drops_at_root w ms = w.drops_dev && list_any (is_root w) ms
 
 -- the manifest in the folder of the workspace gets its edits at the end
 abbrev pub edits_root : Wanted → List MemberManifest → Bool

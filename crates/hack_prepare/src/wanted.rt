@@ -1,9 +1,9 @@
 //! The edits that a call's arguments ask for, and the members of its workspace.
 
-ghost use Rattle.std.specs.Prelude.{◌≡◌, Contains, IfOk, Some, map};
+ghost use Rattle.std.specs.Prelude.{◌≡◌, ◌&&◌, ◌||◌, Contains, IfOk, Some, map};
 ghost use Rattle.hack_load.specs.Contexts.{IsWholeContext};
 ghost use Rattle.hack_load.specs.ContextView.{context_view};
-ghost use Rattle.hack_prepare.specs.Prepared.{is_removed, is_alone, is_left, is_root};
+ghost use Rattle.hack_prepare.specs.Prepared.{is_removed, is_alone, is_root};
 ghost use Rattle.hack_prepare.specs.PreparedView.{member_manifest_at, member_manifest_view};
 ghost use Rattle.hack_prepare.specs.PreparedView.{member_manifests_in, wanted_view};
 
@@ -62,7 +62,8 @@ impl Wanted<'_> {
 
     /// Returns whether the member is removed, or its manifest is edited with the workspace's.
     fn is_left(&self, member: &Member<'_>) -> bool
-        ensures { result ≡ is_left (wanted_view self.now) (member_manifest_view member.now) }
+        ensures { let m = member_manifest_view member.now in
+            result ≡ (self.now.no_private && (m.is_private || is_root (wanted_view self.now) m)) }
     {
         self.no_private && (member.is_private || self.is_root(member))
     }

@@ -1,3 +1,4 @@
+use Rattle.std.specs.List.{AllZip}
 use Rattle.std.proofs.Common.{ap, sym, ◌∙◌, string_bytes, subst, append-nil, List, ◌++◌}
 use Rattle.std.specs.Map.{keys_of}
 use Rattle.std.specs.Map.Iter.{deref}
@@ -5,13 +6,13 @@ use Rattle.std.proofs.lemmas.Map.Iter.{rest_more}
 use Rattle.hack_base.specs.Names.{Name, names_of}
 use Rattle.hack_features.specs.Feature.{IsNormal}
 use Rattle.hack_features.specs.declared.feature.Feature.{Feature}
-use Rattle.hack_load.specs.Features.{AreNormals, IsRising, texts_of}
+use Rattle.hack_load.specs.Features.{IsRising, texts_of}
 use Rattle.hack_load.proofs.FeatureLemmas.{keys-shown, normals-push, rising-names, texts-pushed}
 use Rattle.hack_load.proofs.features.normals.Goals as goal
 
 pub loop-name-init : goal.loop-name-init
 loop-name-init c = record {
-  are = subst (λ (fs : List Feature). AreNormals (texts_of fs) fs) (sym c.new-found.ensures.items) tt;
+  are = subst (λ (fs : List Feature). AllZip IsNormal (texts_of fs) fs) (sym c.new-found.ensures.items) tt;
   all = ap (λ fs. texts_of fs ++ names_of c.into_iter-name-iterator.result) c.new-found.ensures.items
       ∙ ap names_of (c.into_iter-name-iterator.ensures.into_iter_gives ∙ c.keys-name-items.ensures.rest) ∙ keys-shown c.args.features.now.entries;
 }
@@ -28,7 +29,7 @@ loop-name-preserved c =
 
 pub returns-clause-are : goal.returns-clause-are
 returns-clause-are c =
-    subst (λ (names : List Name). AreNormals names c.loop-name.found.items)
+    subst (λ (names : List Name). AllZip IsNormal names c.loop-name.found.items)
     (sym (append-nil (texts_of c.loop-name.found.items)) ∙ ap (λ l. texts_of c.loop-name.found.items ++ names_of l) (sym c.in-None.ensures.steps.0) ∙ c.loop-name.invariant.all)
     c.loop-name.invariant.are
 

@@ -1,7 +1,7 @@
 use Rattle.std.proofs.Common.{sym}
 use Rattle.std.specs.Prelude.{◌||◌}
 use Rattle.hack_base.specs.Names.{names_behind}
-use Rattle.hack_prepare.specs.Prepared.{has_some}
+use Rattle.hack_manifest.specs.LineRuns.{has_some}
 use Rattle.hack_prepare.specs.PreparedView.{wanted_view}
 use Rattle.hack_prepare.proofs.RootLemmas.{keeps-but}
 use Rattle.std.proofs.Common.{string_bytes}

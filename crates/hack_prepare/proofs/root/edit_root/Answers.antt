@@ -4,7 +4,8 @@ use Rattle.hack_base.specs.Counters.{GrowsBy}
 use Rattle.hack_base.specs.Names.{names_behind}
 use Rattle.hack_base.specs.Notes.{Note, note_of}
 use Rattle.hack_prepare.specs.Internal.{OnlyIf, members_view, AnyStart, HeldUnkept, KeepsBut}
-use Rattle.hack_prepare.specs.Prepared.{HoldTexts, edits_root, has_some}
+use Rattle.hack_prepare.specs.Prepared.{HoldTexts, edits_root}
+use Rattle.hack_manifest.specs.LineRuns.{has_some}
 use Rattle.hack_prepare.specs.PreparedView.{wanted_view}
 use Rattle.hack_prepare.proofs.FaultLemmas.{found-fault, missed-fault}
 use Rattle.hack_prepare.proofs.RootLemmas.{drops-found, drops-missed, edited-found, edited-missed, edits-is, notes-are, partly-found, partly-missed, root-found, root-held, root-missed}

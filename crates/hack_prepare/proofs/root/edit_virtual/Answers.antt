@@ -1,7 +1,7 @@
 use Rattle.std.proofs.Common.{◌∙◌, Some, ap, sym, string_bytes}
 use Rattle.hack_base.specs.Names.{names_behind}
 use Rattle.hack_prepare.specs.Internal.{IsHeldFault, OnlyIf}
-use Rattle.hack_prepare.specs.Prepared.{has_some}
+use Rattle.hack_manifest.specs.LineRuns.{has_some}
 use Rattle.hack_prepare.specs.PreparedView.{wanted_view}
 use Rattle.hack_prepare.proofs.CountLemmas.{calls_then}
 use Rattle.hack_prepare.proofs.FaultLemmas.{text-fault, virtual-fault}
