@@ -9,7 +9,7 @@ use Rattle.hack_metadata.specs.Records.{PackageRecord}
 use Rattle.hack_planner.specs.ContextMembers.{AreChosen}
 use Rattle.hack_plan.specs.Runs.{PackageRun, Set}
 use Rattle.hack_plan.specs.View.{PlanView}
-use Rattle.hack_planner.specs.CoveredSets.{choice_at}
+use Rattle.hack_planner.specs.Kinds.{package_choice}
 
 -- the set of a run, if the run has one
 abbrev pub set_of : PackageRun → Option (List ℕ)
@@ -31,7 +31,8 @@ pub record HoldsOfEach (cx : ContextRecord) (plan : PlanView) (P : Choice → Li
   pub chosen : AreChosen cx ids
   pub as_many : length ids ≡ length plan.packages
   pub each : (place id : ℕ) (p : PackageRecord) (features : Features) → slice_get ids place ≡ Some id → package_at cx id ≡ Some p → features_at cx id ≡ Some features
-      → IsSomeAnd (slice_get plan.packages place) (λ k. P (choice_at cx p features) k.runs)
+      → IsSomeAnd (slice_get plan.packages place)
+      (λ k. P (package_choice cx.args p features) k.runs)
 
 -- the plan has exactly the chosen packages, and the runs of each have its powerset
 abbrev pub HavePowersets : ContextRecord → PlanView → Type 0

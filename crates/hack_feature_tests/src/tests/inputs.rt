@@ -57,7 +57,7 @@ fn input_of(alloc: Global, words: &str) -> Result<PlanInput, AllocError> {
 
 /// The versions of an input, where stable is 1.64.
 fn versions_of(alloc: Global, input: &PlanInput) -> Result<Versions, RangeFault>
-    ensures { IfOk result (AreVersions input.now) }
+    ensures { IfOk result (AreVersions input.now.range input.now) }
 {
     let stable = Version {
         major: 1,
@@ -128,7 +128,7 @@ fn with_versions(
     words: &str,
     place: Option<usize>,
 ) -> Result<String, AllocError>
-    requires { AreVersions input.now versions.now }
+    requires { AreVersions input.now.range input.now versions.now }
 {
     let counts = numbers(alloc, value(words, "counts=", "1"))?;
     if counts.len() != input.packages.len() {
