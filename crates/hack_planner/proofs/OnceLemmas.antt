@@ -1,6 +1,6 @@
 -- What a call determines: which packages are chosen, and the name, the own version and the runs of
 -- each.
-use Rattle.std.proofs.Common.{◌≡◌, ◌↔◌, refl, sym, ap, subst, ◌∙◌, inl, inr, ℕ, List, [], ◌∷◌, map, filter, length, not, Bool, true, false, Option, Some, None, IsTrue, All, Contains}
+use Rattle.std.proofs.Common.{◌≡◌, ◌↔◌, refl, sym, ap, subst, ◌∙◌, inl, inr, ℕ, List, [], ◌∷◌, map, filter, length, not, Bool, true, false, Option, Some, None, IsTrue, All, Contains, string_bytes}
 use Rattle.std.specs.Prelude.{◌||◌}
 use Rattle.std.specs.List.{AllZip}
 use Rattle.std.proofs.lemmas.List.Elements.{All-contains}
@@ -66,7 +66,7 @@ own-once (Some range) (Some text) (Some v) (Some w) h k = ap Some (version-same 
 
 member-once : (cx : ContextRecord) (id : ℕ) (m n : PackageVersion) → IsMember cx id m → IsMember cx id n → AreAlike m n
 member-once cx id m n h k = record {
-  name = h.name ∙ ap (λ (p : PackageRecord). p.name) (same_Some h.pkg k.pkg (sym h.known ∙ k.known)) ∙ sym k.name;
+  name = same_Some (string_bytes m.name) (string_bytes n.name) (sym h.name ∙ k.name);
   own = own-once cx.args.version_range (rust_version_at cx id) m.rust_version n.rust_version h.own k.own;
 }
 

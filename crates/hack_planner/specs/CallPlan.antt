@@ -70,26 +70,20 @@ pub record IsPlan (cx : ContextRecord) (rustup : Name) (latest : Option Version)
   pub readable : (e : VersionFault) → ¬ HasBadOwn cx performed.base.ids e
   pub fits : ¬ HasTooMany performed.base.input (run_counts plan.packages) latest
 
--- the plan without a version, for a call without a subcommand
-pub record IsEmptyPlan (cx : ContextRecord) (rustup : Name) (plan : PlanView) (notes : List Note) : Type 0 where
-  pub call : plan.call ≡ call_of cx rustup
-  pub packages : plan.packages ≡ []
-  pub versions : plan.versions ≡ []
-  pub entries : plan.entries ≡ []
-  pub told : notes ≡ []
+-- what the calls and the notices of a call depend on, given the answer for `stable`: a plan without
+-- a version where there is no subcommand
+abbrev pub IsPerformableOf : Option (String Global) → Result (Option Version) (String Global) → ContextRecord
+    → Name → PlanView → List Note → Type 0
+IsPerformableOf None stable cx rustup plan notes =
+    (plan ≡ record { call = call_of cx rustup; packages = []; versions = []; entries = [] }) × (notes ≡ [])
+IsPerformableOf (Some name) (Ok latest) cx rustup plan notes = IsPerformable cx rustup latest plan notes
+IsPerformableOf (Some name) (Err text) cx rustup plan notes = ⊥
 
 -- the plan of a call, given the answer for `stable`
 abbrev pub IsPlanOf : Option (String Global) → Result (Option Version) (String Global) → ContextRecord → Name → PlanView → List Note → Type 0
-IsPlanOf None stable cx rustup plan notes = IsEmptyPlan cx rustup plan notes
+IsPlanOf None stable cx rustup plan notes = IsPerformableOf None stable cx rustup plan notes
 IsPlanOf (Some subcommand) (Ok latest) cx rustup plan notes = IsPlan cx rustup latest plan notes
 IsPlanOf (Some subcommand) (Err text) cx rustup plan notes = ⊥
-
--- what the calls and the notices of a call depend on, given the answer for `stable`
-abbrev pub IsPerformableOf : Option (String Global) → Result (Option Version) (String Global) → ContextRecord
-    → Name → PlanView → List Note → Type 0
-IsPerformableOf None stable cx rustup plan notes = IsEmptyPlan cx rustup plan notes
-IsPerformableOf (Some name) (Ok latest) cx rustup plan notes = IsPerformable cx rustup latest plan notes
-IsPerformableOf (Some name) (Err text) cx rustup plan notes = ⊥
 
 -- the places of a call's plan, given the answer for `stable`: none without a subcommand, else just the admissible runs; with
 -- an error in place of stable's version there is no plan

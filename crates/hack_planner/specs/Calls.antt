@@ -57,9 +57,7 @@ IsBadOwn range text e = ⊥
 
 -- a chosen package, with its name and its own version
 pub record IsMember (cx : ContextRecord) (id : ℕ) (member : PackageVersion) : Type 0 where
-  pub pkg : PackageRecord
-  pub known : package_at cx id ≡ Some pkg
-  pub name : string_bytes member.name ≡ pkg.name
+  pub name : option_map (λ p. p.name) (package_at cx id) ≡ Some (string_bytes member.name)
   pub own : IsOwn cx.args.version_range (rust_version_at cx id) member.rust_version
 
 -- what the versions and places of a plan depend on

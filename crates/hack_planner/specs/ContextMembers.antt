@@ -17,13 +17,9 @@ member_at cx id = option_map (λ p. record { place = id; pkg = p; is_private = i
 abbrev pub members_in : ContextRecord → List Member
 members_in cx = filter_map (member_at cx) cx.metadata.workspace_members
 
--- the name of the package at a place
-abbrev pub package_name_at : ContextRecord → ℕ → Option Name
-package_name_at cx id = option_map (λ p. p.name) (package_at cx id)
-
 -- the name of the current package
 abbrev pub current_name : ContextRecord → Option Name
-current_name cx = option_and_then (package_name_at cx) cx.current_package
+current_name cx = option_and_then (λ id. option_map (λ p. p.name) (package_at cx id)) cx.current_package
 
 -- the packages that the call runs on
 abbrev pub AreChosen : ContextRecord → List ℕ → Type 0

@@ -1,7 +1,7 @@
 //! Which packages a call runs on, after its context was loaded, and which runs each of them has.
 
 ghost use Rattle.std.specs.Prelude.{◌≡◌, ◌<◌, ◌⊎◌, Contains, IfOk, IfErr, None, Some, length};
-ghost use Rattle.std.specs.Prelude.{map, option_copied, true};
+ghost use Rattle.std.specs.Prelude.{map, option_copied, option_map, true};
 ghost use Rattle.hack_load.specs.Contexts.{IsWholeContext, package_at, features_at};
 ghost use Rattle.hack_load.specs.ContextView.{context_view};
 ghost use Rattle.hack_load.specs.declared.features.Features.{Features as Loaded};
@@ -15,7 +15,6 @@ ghost use Rattle.hack_samples.specs.Sets.{rows_of};
 ghost use Rattle.hack_planner.specs.KindsView.{IsKind, IsRunsFault, runs_of};
 ghost use Rattle.hack_planner.specs.LeastRuns.{HasRunsAtLeast};
 ghost use Rattle.hack_planner.specs.ContextMembers.{member_at, members_in};
-ghost use Rattle.hack_planner.specs.ContextMembers.{package_name_at as named_at};
 ghost use Rattle.hack_planner.specs.ContextMembers.{current_name as current_called};
 ghost use Rattle.hack_planner.specs.ContextMembers.{AreChosen, AreChoiceNotes, IsChoiceFault};
 
@@ -58,7 +57,8 @@ fn members_of<'a>(alloc: Global, context: &'a Context) -> Result<Vec<Member<'a>>
 /// The name of a package.
 fn name_at(context: &Context, id: PackageId) -> &str
     requires { id.index < length (context_view context.now).metadata.packages }
-    ensures { named_at (context_view context.now) id.index ≡ Some result.now }
+    ensures { option_map (λ p. p.name) (package_at (context_view context.now) id.index)
+        ≡ Some result.now }
 {
     context.packages(id).name.as_str()
 }
