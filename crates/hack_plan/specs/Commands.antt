@@ -22,15 +22,18 @@ program_of c version = option_map_or (λ v. c.rustup) version c.cargo
 
 -- the arguments that make rustup run the cargo of a version
 abbrev pub rustup_run_words : Option Version → List (List ℕ)
-rustup_run_words version = option_map_or (λ v. codes "run" ∷ toolchain_of v ∷ codes "cargo" ∷ []) version []
+rustup_run_words version =
+    option_map_or (λ v. codes "run" ∷ toolchain_of v ∷ codes "cargo" ∷ []) version []
 
 -- the targets of a slot
 abbrev pub targets_in : CallView → Option Version → ℕ → List (List ℕ)
-targets_in c version slot = if is_split (length c.targets) c.cargo_minor version then take 1 (drop slot c.targets) else c.targets
+targets_in c version slot = if is_split (length c.targets) c.cargo_minor version
+    then take 1 (drop slot c.targets) else c.targets
 
 -- the target of a slot that has one of its own
 abbrev pub slot_target : CallView → Option Version → ℕ → Option (List ℕ)
-slot_target c version slot = if is_split (length c.targets) c.cargo_minor version then slice_get c.targets slot else None
+slot_target c version slot = if is_split (length c.targets) c.cargo_minor version
+    then slice_get c.targets slot else None
 
 -- a target after its option
 abbrev pub target_pair : List ℕ → List (List ℕ)
@@ -69,8 +72,8 @@ run_command c version slot k run = call_command c version (flat_map target_pair 
 
 -- the command of a package's run by its rank, or of a run for all packages
 abbrev pub ranked_command : CallView → Option Version → ℕ → Option PackageView → ℕ → Command
-ranked_command c version slot chosen rank =
-    option_map_or (λ k. run_command c version slot k (slice_index_or k.runs rank Plain)) chosen (whole_command c version slot)
+ranked_command c version slot None rank = whole_command c version slot
+ranked_command c version slot (Some k) rank = run_command c version slot k (slice_index_or k.runs rank Plain)
 
 -- the package of a place, as an index into the chosen ones
 abbrev pub chosen_package_at : List PackageView → Option ℕ → Option PackageView

@@ -23,8 +23,10 @@ IsOlder a b = IsSomeAnd a (λ v. IsSomeAnd b (IsEarlierVersion v))
 
 -- ordered by version, slot, package, rank
 abbrev pub Before : PlanEntry → PlanEntry → Type 0
-Before a b = IsOlder a.version b.version ⊎ ((a.version ≡ b.version) × ((a.slot < b.slot) ⊎ ((a.slot ≡ b.slot)
-    × (IsSomeAnd a.package (λ p. IsSomeAnd b.package (λ q. p < q)) ⊎ ((a.package ≡ b.package) × (a.rank < b.rank))))))
+Before a b = IsOlder a.version b.version ⊎ ((a.version ≡ b.version)
+    × ((a.slot < b.slot) ⊎ ((a.slot ≡ b.slot)
+    × (IsSomeAnd a.package (λ p. IsSomeAnd b.package (λ q. p < q))
+    ⊎ ((a.package ≡ b.package) × (a.rank < b.rank))))))
 
 -- strictly increasing, and exactly the entries that pass
 pub record Lists (Passes : PlanEntry → Type 0) (entries : List PlanEntry) : Type 0 where

@@ -5,13 +5,13 @@ use Rattle.std.specs.Option.{option_map_or}
 use Rattle.hack_versions.specs.declared.version.Version.{Version}
 use Rattle.hack_versions.specs.declared.version.VersionRange.{VersionRange}
 use Rattle.hack_versions.specs.declared.group.PackageVersion.{PackageVersion}
+use Rattle.hack_versions.specs.declared.group.VersionGroup.{VersionGroup}
 use Rattle.hack_versions.specs.declared.rustup.RangeFault.{RangeFault}
 use Rattle.hack_versions.specs.declared.rustup.RangeFault.TheVariants.{SingleMsrv}
 use Rattle.hack_versions.specs.RangeSteps.{AreStepsOf, IsRangeFault, range_notes}
 use Rattle.hack_versions.specs.VersionUses.{own_of, UsesAt, AreVersionGroups, IsGroupFault, AreSkipNotes}
 use Rattle.hack_base.specs.Notes.{Note}
 use Rattle.hack_plan.specs.declared.versions.PlanInput.{PlanInput}
-use Rattle.hack_plan.specs.declared.versions.Versions.{Versions}
 
 -- the packages' own versions as their manifests give them
 abbrev pub owns_of : PlanInput → List (Option Version)
@@ -46,9 +46,11 @@ abbrev pub slots_of : PlanInput → Option Version → ℕ
 slots_of s version = if is_split s.targets s.cargo_minor version then s.targets else 1
 
 -- the versions of a range: each that a package uses, with its packages
-abbrev pub AreVersions : Option VersionRange → PlanInput → Versions → Type 0
-AreVersions None s versions = versions.groups.items ≡ []
-AreVersions (Some range) s versions = (steps : List Version) × AreStepsOf range s.step (owns_of s) versions.stable steps × AreVersionGroups (UsesAt range steps s.packages.items) versions.groups.items
+abbrev pub AreVersions : Option VersionRange → PlanInput → Option Version → List VersionGroup → Type 0
+AreVersions None s stable groups = groups ≡ []
+AreVersions (Some range) s stable groups = (steps : List Version)
+    × AreStepsOf range s.step (owns_of s) stable steps
+    × AreVersionGroups (UsesAt range steps s.packages.items) groups
 
 -- each package has a number of runs, where these matter
 abbrev pub AreCounted : PlanInput → List ℕ → Type 0

@@ -56,7 +56,8 @@ version_at s = s.version
 
 -- the flags that are set are those of the versions before which the lockfile is regenerated
 abbrev pub AreFlags : Bool → List Version → List Bool → Type 0
-AreFlags locked versions flags = (place : ℕ) → (slice_get flags place ≡ Some true) ↔ ((locked ≡ false) × NeedsLockfile versions place)
+AreFlags locked versions flags = (place : ℕ)
+    → (slice_get flags place ≡ Some true) ↔ ((locked ≡ false) × NeedsLockfile versions place)
 
 -- the version's places are appended to the plan so far
 abbrev pub AppendsPlaces : Option Version → Laid → Laid → Type 0

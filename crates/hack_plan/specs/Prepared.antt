@@ -26,4 +26,5 @@ pub record HasPreparations (locked cleans : Bool) (versions : List Version) (pla
 
 -- each version has its preparations
 abbrev pub ArePrepared : Bool → Bool → List PlanVersion → Type 0
-ArePrepared locked cleans versions = (place : ℕ) (v : PlanVersion) → slice_get versions place ≡ Some v → HasPreparations locked cleans (filter_map (λ v. v.version) versions) place v
+ArePrepared locked cleans versions = (place : ℕ) (v : PlanVersion) → slice_get versions place ≡ Some v
+    → HasPreparations locked cleans (filter_map (λ k. k.version) versions) place v

@@ -36,6 +36,7 @@ AreTiled from [] to = from ≡ to
 AreTiled from (s ∷ ss) to = (s.first ≡ from) × (from ≤ s.end) × AreTiled s.end ss to
 
 -- each version, in order, with its places
-pub record AreSpans (versions : List (Option Version)) (entries : List PlanEntry) (spans : List Span) : Type 0 where
+pub record AreSpans (versions : List (Option Version)) (entries : List PlanEntry) (spans : List Span)
+    : Type 0 where
   pub names : map (λ s. s.version) spans ≡ versions
   pub each : All (IsSpan entries) spans

@@ -88,7 +88,8 @@ impl Places {
         versions: &Versions,
         counts: &[usize],
     ) -> Result<Places, PlacesFault>
-        requires versions { AreVersions input.now.range input.now versions.now }
+        requires versions { AreVersions input.now.range input.now versions.now.stable
+            versions.now.groups.items }
         requires counted { AreCounted input.now counts.now }
         ensures ok { IfOk result (λ p. ArePlaces input.now counts.now versions.now.stable
             p.entries) }
@@ -220,7 +221,8 @@ impl Places {
         counts: &[usize],
     ) -> Result<Places, PlacesFault>
         requires some { input.now.range ≡ Some range }
-        requires versions { AreVersions (Some range) input.now versions.now }
+        requires versions { AreVersions (Some range) input.now versions.now.stable
+            versions.now.groups.items }
         requires counted { AreCounted input.now counts.now }
         ensures ok { IfOk result (λ p. ArePlaces input.now counts.now versions.now.stable
             p.entries) }

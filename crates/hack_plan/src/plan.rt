@@ -288,7 +288,8 @@ impl Plan {
         input: &PlanInput,
         versions: &Versions,
     ) -> Result<Plan, PlacesFault>
-        requires versions { AreVersions input.now.range input.now versions.now }
+        requires versions { AreVersions input.now.range input.now versions.now.stable
+            versions.now.groups.items }
         requires packages { length packages.items ≡ length input.now.packages.items }
         ensures call { IfOk result (λ plan. plan.call ≡ call_view words) }
         ensures packages { IfOk result (λ plan. plan.packages

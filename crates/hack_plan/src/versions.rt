@@ -52,7 +52,8 @@ impl Versions {
         stable: Option<Version>,
     ) -> Result<(Versions, Vec<Notice>), RangeFault>
         requires { IfSome input.now.range (λ range. NeedsStable range → IsSome stable) }
-        ensures ok { IfOk result (λ answer. AreVersions input.now.range input.now answer.0) }
+        ensures ok { IfOk result (λ answer. AreVersions input.now.range input.now
+            answer.0.stable answer.0.groups.items) }
         ensures stable { IfOk result (λ answer. answer.0.stable ≡ stable) }
         ensures notices { IfOk result (λ answer. AreNotices input.now.range input.now stable
             (map note_of answer.1.items)) }
@@ -83,7 +84,8 @@ fn in_range(
 ) -> Result<(Versions, Vec<Notice>), RangeFault>
     requires some { input.now.range ≡ Some range }
     requires stable { NeedsStable range → IsSome stable }
-    ensures ok { IfOk result (λ answer. AreVersions (Some range) input.now answer.0) }
+    ensures ok { IfOk result (λ answer. AreVersions (Some range) input.now answer.0.stable
+        answer.0.groups.items) }
     ensures stable { IfOk result (λ answer. answer.0.stable ≡ stable) }
     ensures notices { IfOk result (λ answer. AreNotices (Some range) input.now stable
         (map note_of answer.1.items)) }

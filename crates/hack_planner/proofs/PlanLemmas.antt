@@ -44,6 +44,13 @@ zip-at R (z ∷ xs) [] k x h at = absurd h
 zip-at R (z ∷ xs) (y ∷ ys) zero x h at = (y, refl, subst (λ w. R w y) (same_some z x at) h.0)
 zip-at R (z ∷ xs) (y ∷ ys) (suc k) x h at = zip-at R xs ys k x h.1 at
 
+-- what follows beside each element of the first list
+pub zip-weaker : {A B : Type 0} (R S : A → B → Type 0) → ((x : A) (y : B) → R x y → S x y) → (xs : List A) (ys : List B) → AllZip R xs ys → AllZip S xs ys
+zip-weaker R S f [] [] h = tt
+zip-weaker R S f [] (y ∷ ys) h = absurd h
+zip-weaker R S f (x ∷ xs) [] h = absurd h
+zip-weaker R S f (x ∷ xs) (y ∷ ys) h = (f x y h.0, zip-weaker R S f xs ys h.1)
+
 -- where there isn't one run for all packages
 pub not-all : (b : Bool) (P : Type 0) → IsTrue b ↔ P → ¬ P → b ≡ false
 not-all true P iff other = absurd (other (iff.0 refl))

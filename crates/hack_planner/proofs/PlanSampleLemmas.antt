@@ -4,7 +4,6 @@ use Rattle.std.specs.Prelude.{IsSomeAnd, slice_get, ◌||◌}
 use Rattle.std.proofs.lemmas.List.{get_or_default}
 use Rattle.std.proofs.lemmas.List.Elements.{All-contains}
 use Rattle.std.proofs.lemmas.Option.{slice_get_read}
-use Rattle.std.proofs.lemmas.Slice.Zip.{AllZip-long}
 use Rattle.std.specs.Bool.{MatchBool}
 use Rattle.hack_words.specs.declared.cli.args.Args.{Args}
 use Rattle.hack_base.proofs.Members.{Contains-cons_cases, Contains-head, Contains-tail, Contains-nil, Contains-map}
@@ -12,7 +11,7 @@ use Rattle.hack_features.specs.Rules.{IsListed}
 use Rattle.hack_features.specs.Samples.{IsSample, CoversPatterns, SetShows}
 use Rattle.hack_features.specs.Sets.{IsSelection, Pairwise}
 use Rattle.hack_samples.specs.declared.sets.Setting.{Setting}
-use Rattle.hack_load.specs.Contexts.{ContextRecord}
+use Rattle.hack_load.specs.Contexts.{ContextRecord, package_at, features_at}
 use Rattle.hack_load.specs.declared.features.Features.{Features}
 use Rattle.hack_metadata.specs.Records.{PackageRecord}
 use Rattle.hack_metadata.specs.RecordViews.{place_at}
@@ -37,7 +36,7 @@ use Rattle.hack_planner.specs.Powersets.{run_sets_of}
 use Rattle.hack_planner.specs.Samples.{IsSampleOf, HaveSamples, HoldsPattern, ArePatternsHeld}
 use Rattle.hack_planner.specs.declared.fault.PlanFault.{PlanFault}
 use Rattle.hack_planner.specs.declared.fault.PlanFault.TheVariants as fault
-use Rattle.hack_planner.proofs.PlanLemmas.{below-count, not-all, same_some, zip-at}
+use Rattle.hack_planner.proofs.PlanLemmas.{below-count, not-all, same_some, zip-at, zip-weaker}
 use Rattle.hack_planner.proofs.PowersetLemmas.{apart, apart-turned, from-turned, in-turned, or-true, sets_of-runs}
 
 -- a package whose runs have too many questions has no sample
@@ -95,13 +94,13 @@ pub samples : (cx : ContextRecord) (latest : Option Version) (plan : PlanView) (
 samples cx latest plan strength h is given = record {
   ids = h.ids;
   chosen = h.chosen;
-  as_many = sym (AllZip-long (IsChosenPackage cx) h.ids plan.packages h.packages);
-  each = λ place id p features at known loaded.
-      let m = zip-at (IsChosenPackage cx) h.ids plan.packages place id h.packages at in
-      let same_p = same_some m.2.pkg p (sym m.2.known ∙ known) in
-      let same_f = same_some m.2.features features (sym m.2.loaded ∙ loaded) in
-      let runs = subst (λ q. AreRuns cx.args q features m.0.runs) same_p (subst (λ f. AreRuns cx.args m.2.pkg f m.0.runs) same_f m.2.runs) in
-      subst (λ o. IsSomeAnd o (λ (k : PackageView). IsSampleOf (package_choice cx.args p features) strength k.runs)) (sym m.1) (sample cx.args p features strength m.0.runs is given runs);
+  each = zip-weaker (IsChosenPackage cx) (λ (id : ℕ) (k : PackageView). (p : PackageRecord) (f : Features) → package_at cx id ≡ Some p → features_at cx id ≡ Some f → IsSampleOf (package_choice cx.args p f) strength k.runs)
+      (λ id k m p f known loaded.
+      let same_p = same_some m.pkg p (sym m.known ∙ known) in
+      let same_f = same_some m.features f (sym m.loaded ∙ loaded) in
+      let runs = subst (λ q. AreRuns cx.args q f k.runs) same_p (subst (λ g. AreRuns cx.args m.pkg g k.runs) same_f m.runs) in
+      sample cx.args p f strength k.runs is given runs)
+      h.ids plan.packages h.packages;
 }
 
 -- a set of runs has its run

@@ -1,15 +1,14 @@
 -- The powersets of a plan's packages.
 use Rattle.std.proofs.Common.{◌≡◌, ◌≢◌, refl, sym, ap, subst, ◌∙◌, arith, ℕ, ◌+◌, ◌-◌, ◌<◌, List, [], ◌∷◌, ◌++◌, ◌⊎◌, inl, inr, length, map, take, drop, get_or, Bool, true, false, not, Option, None, Some, All, Contains}
-use Rattle.std.specs.Prelude.{IsSomeAnd, slice_get, nat_lt, ◌&&◌, ◌||◌, ◌==◌, if◌then◌else◌}
+use Rattle.std.specs.Prelude.{nat_lt, ◌&&◌, ◌||◌, ◌==◌, if◌then◌else◌}
 use Rattle.std.specs.List.{filter_map}
 use Rattle.std.proofs.lemmas.Bool.{eqb-true}
 use Rattle.std.proofs.lemmas.List.{take-append-drop, get_or_append_left, get_or-append-add, length-append}
 use Rattle.std.proofs.lemmas.List.Elements.{All-append, All-cons, All-head, All-tail, Contains-append_left, Contains-append_right, Contains-append_cases, filter_map-append}
-use Rattle.std.proofs.lemmas.Slice.Zip.{AllZip-long}
 use Rattle.std.specs.Bool.{MatchBool}
 use Rattle.hack_words.specs.declared.cli.args.Args.{Args}
 use Rattle.hack_features.specs.Sets.{IsBefore, IsListing, Pairwise}
-use Rattle.hack_load.specs.Contexts.{ContextRecord}
+use Rattle.hack_load.specs.Contexts.{ContextRecord, package_at, features_at}
 use Rattle.hack_load.specs.declared.features.Features.{Features}
 use Rattle.hack_metadata.specs.Records.{PackageRecord}
 use Rattle.hack_planner.specs.Candidates.{candidates}
@@ -23,7 +22,7 @@ use Rattle.hack_versions.specs.declared.version.Version.{Version}
 use Rattle.hack_planner.specs.Calls.{IsChosenPackage}
 use Rattle.hack_planner.specs.CallPlan.{HasJustRuns}
 use Rattle.hack_planner.specs.Powersets.{HavePowersets, IsPowerset, set_of, run_sets_of}
-use Rattle.hack_planner.proofs.PlanLemmas.{same_some, zip-at}
+use Rattle.hack_planner.proofs.PlanLemmas.{same_some, zip-weaker}
 
 all-front : {X : Type 0} (P : X → Type 0) (xs ys : List X) → All P (xs ++ ys) → All P xs
 all-front P xs ys h = λ k d l. subst P (get_or_append_left xs ys d k l) (h k d (omega (arith, l, length-append xs ys)))
@@ -141,11 +140,11 @@ pub powersets : (cx : ContextRecord) (latest : Option Version) (plan : PlanView)
 powersets cx latest plan h is all = record {
   ids = h.ids;
   chosen = h.chosen;
-  as_many = sym (AllZip-long (IsChosenPackage cx) h.ids plan.packages h.packages);
-  each = λ place id p features at known loaded.
-      let m = zip-at (IsChosenPackage cx) h.ids plan.packages place id h.packages at in
-      let same_p = same_some m.2.pkg p (sym m.2.known ∙ known) in
-      let same_f = same_some m.2.features features (sym m.2.loaded ∙ loaded) in
-      let runs = subst (λ q. AreRuns cx.args q features m.0.runs) same_p (subst (λ f. AreRuns cx.args m.2.pkg f m.0.runs) same_f m.2.runs) in
-      subst (λ o. IsSomeAnd o (λ (k : PackageView). IsPowerset (package_choice cx.args p features) k.runs)) (sym m.1) (powerset cx.args p features m.0.runs is all runs);
+  each = zip-weaker (IsChosenPackage cx) (λ (id : ℕ) (k : PackageView). (p : PackageRecord) (f : Features) → package_at cx id ≡ Some p → features_at cx id ≡ Some f → IsPowerset (package_choice cx.args p f) k.runs)
+      (λ id k m p f known loaded.
+      let same_p = same_some m.pkg p (sym m.known ∙ known) in
+      let same_f = same_some m.features f (sym m.loaded ∙ loaded) in
+      let runs = subst (λ q. AreRuns cx.args q f k.runs) same_p (subst (λ g. AreRuns cx.args m.pkg g k.runs) same_f m.runs) in
+      powerset cx.args p f k.runs is all runs)
+      h.ids plan.packages h.packages;
 }

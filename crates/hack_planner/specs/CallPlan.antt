@@ -14,7 +14,7 @@ use Rattle.hack_plan.specs.Entries.{ArePlaces, HasTooMany}
 use Rattle.hack_plan.specs.Inputs.{AreVersions, AreNotices, IsVersionsFault}
 use Rattle.hack_plan.specs.Spans.{AreSpans, AreTiled, versions_of}
 use Rattle.hack_plan.specs.declared.versions.PlanInput.{PlanInput}
-use Rattle.hack_plan.specs.declared.versions.Versions.{Versions}
+use Rattle.hack_versions.specs.declared.group.VersionGroup.{VersionGroup}
 use Rattle.hack_planner.specs.Calls.{IsInputOf, IsChosenPackage, HasCoverage, HasBadOwn, HasNoSample, call_of, candidate_notes_at, left_out_notes}
 use Rattle.hack_plan.specs.Prepared.{ArePrepared, span_of}
 use Rattle.hack_plan.specs.View.{PackageView, PlanView}
@@ -39,31 +39,29 @@ pub record HasJustRuns (cx : ContextRecord) (latest : Option Version) (plan : Pl
 -- version: its places are just the admissible runs, at most 4294967295; each version has its places
 -- and its preparations; what its commands are made from; its notices, in order; and the range isn't
 -- refused
-pub record IsPerformable (cx : ContextRecord) (rustup : Name) (latest : Option Version) (plan : PlanView)
-    (notes : List Note) : Type 0 where
+pub record IsPerformable (cx : ContextRecord) (rustup : Name) (latest : Option Version)
+    (plan : PlanView) (notes : List Note) : Type 0 where
   pub base : HasJustRuns cx latest plan
-  pub versions : Versions
+  pub groups : List VersionGroup
   pub single : Bool
   pub on_packages : List Note
   pub on_range : List Note
   pub noted : AreChoiceNotes cx single on_packages
-  pub of_range : AreVersions base.input.range base.input versions
-  pub newest : versions.stable ≡ latest
+  pub of_range : AreVersions base.input.range base.input latest groups
   pub ranged : AreNotices base.input.range base.input latest on_range
   pub call : plan.call ≡ call_of cx rustup
-  pub laid : AreSpans (versions_of base.input.range versions.groups.items) plan.entries
-      (map span_of plan.versions)
+  pub laid : AreSpans (versions_of base.input.range groups) plan.entries (map span_of plan.versions)
   pub prepared : ArePrepared cx.args.locked cx.args.clean_per_version plan.versions
   pub told : notes ≡ on_packages ++ (flat_map (candidate_notes_at cx single) base.ids
-      ++ (on_range ++ left_out_notes cx base.ids base.input versions.groups.items))
+      ++ (on_range ++ left_out_notes cx base.ids base.input groups))
   pub in_range : (e : RangeFault) → ¬ IsVersionsFault base.input.range base.input latest e
   pub fits : length plan.entries < 2 ^ 32
 
 -- the plan of a call with a subcommand, where `stable` is this version: what its calls and notices
 -- depend on, the coverage of each package's runs, and that the places of the versions partition the
 -- plan's, that every own version can be read and that there aren't too many runs
-pub record IsPlan (cx : ContextRecord) (rustup : Name) (latest : Option Version) (plan : PlanView) (notes : List Note)
-    : Type 0 where
+pub record IsPlan (cx : ContextRecord) (rustup : Name) (latest : Option Version) (plan : PlanView)
+    (notes : List Note) : Type 0 where
   pub performed : IsPerformable cx rustup latest plan notes
   pub covered : AllZip (HasCoverage cx) performed.base.ids plan.packages
   pub tiled : AreTiled 0 (map span_of plan.versions) (length plan.entries)
@@ -72,11 +70,12 @@ pub record IsPlan (cx : ContextRecord) (rustup : Name) (latest : Option Version)
 
 -- what the calls and the notices of a call depend on, given the answer for `stable`: a plan without
 -- a version where there is no subcommand
-abbrev pub IsPerformableOf : Option (String Global) → Result (Option Version) (String Global) → ContextRecord
-    → Name → PlanView → List Note → Type 0
+abbrev pub IsPerformableOf : Option (String Global) → Result (Option Version) (String Global)
+    → ContextRecord → Name → PlanView → List Note → Type 0
 IsPerformableOf None stable cx rustup plan notes =
-    (plan ≡ record { call = call_of cx rustup; packages = []; versions = []; entries = [] }) × (notes ≡ [])
-IsPerformableOf (Some name) (Ok latest) cx rustup plan notes = IsPerformable cx rustup latest plan notes
+    (plan ≡ record { call = call_of cx rustup; packages = []; versions = []; entries = [] })
+    × (notes ≡ [])
+IsPerformableOf (Some name) (Ok v) cx rustup plan notes = IsPerformable cx rustup v plan notes
 IsPerformableOf (Some name) (Err text) cx rustup plan notes = ⊥
 
 -- the plan of a call, given the answer for `stable`

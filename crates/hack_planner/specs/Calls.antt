@@ -115,7 +115,8 @@ pub record HasCoverage (cx : ContextRecord) (id : ℕ) (k : PackageView) : Type 
 -- the notices on the features of a package
 abbrev pub candidate_notes_at : ContextRecord → Bool → ℕ → List Note
 candidate_notes_at cx single id = option_map_or
-    (λ p. option_map_or (candidate_notes single cx.args p.name) (features_at cx id) []) (package_at cx id) []
+    (λ p. option_map_or (candidate_notes single cx.args p.name) (features_at cx id) [])
+    (package_at cx id) []
 
 -- the notices on features that a version's packages don't get, for each slot
 abbrev pub version_notes : ContextRecord → List ℕ → PlanInput → Option Version → List ℕ → List Note

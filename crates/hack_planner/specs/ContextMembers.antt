@@ -19,7 +19,8 @@ members_in cx = filter_map (member_at cx) cx.metadata.workspace_members
 
 -- the name of the current package
 abbrev pub current_name : ContextRecord → Option Name
-current_name cx = option_and_then (λ id. option_map (λ p. p.name) (package_at cx id)) cx.current_package
+current_name cx =
+    option_and_then (λ id. option_map (λ p. p.name) (package_at cx id)) cx.current_package
 
 -- the packages that the call runs on
 abbrev pub AreChosen : ContextRecord → List ℕ → Type 0

@@ -24,7 +24,8 @@ package_choice args p f = record {
   candidates = candidates args f;
   depth = args.depth;
   at_least_one_of = groups_of args.at_least_one_of.items;
-  exclusive = unlifted_groups (groups_of args.mutually_exclusive_features.items) (lifted_for args p.name);
+  exclusive =
+      unlifted_groups (groups_of args.mutually_exclusive_features.items) (lifted_for args p.name);
 }
 
 -- the options that decide, together with its sets, which runs a package has

@@ -26,7 +26,8 @@ pub record AreListNotes (args : Args) (current : Option Name) (root : Name) (mem
   pub single : is_single ≡ (length remaining == 1)
   pub unmatched : Collects (λ spec. ¬ MatchesSome members spec)
       (λ spec. warning_note (exclusion_text root spec)) (names_of args.exclude.items) on_exclusions
-  pub told : notes ≡ on_exclusions
-      ++ (map (λ owner. warning_note (lift_text root owner))
-      (filter (λ owner. not (is_called members owner)) (map (λ lift. string_bytes lift.0) args.allow_together.items))
-      ++ map (λ m. info_note (private_text args.verbose m.pkg)) (filter (is_skipped args) remaining))
+  pub told : notes ≡ on_exclusions ++ (map (λ owner. warning_note (lift_text root owner))
+      (filter (λ owner. not (is_called members owner))
+      (map (λ lift. string_bytes lift.0) args.allow_together.items))
+      ++ map (λ m. info_note (private_text args.verbose m.pkg))
+      (filter (is_skipped args) remaining))

@@ -8,6 +8,7 @@ use Rattle.hack_metadata.specs.RecordViews.{place_at}
 use Rattle.hack_metadata.specs.declared.metadata.resolve.PackageId.{PackageId}
 use Rattle.hack_planner.specs.ContextMembers.{AreChosen}
 use Rattle.hack_plan.specs.Entries.{ArePlaces, HasTooMany}
+use Rattle.hack_plan.specs.Inputs.{AreVersions}
 use Rattle.hack_plan.specs.Plans.{counts_in}
 use Rattle.hack_plan.specs.Prepared.{ArePrepared}
 use Rattle.hack_plan.specs.View.{CallView, plan_package_view}
@@ -104,9 +105,8 @@ returns-clause-ok c = λ rustup call.
           packages = subst (AllZip (IsChosenPackage cx) (map place_at ids)) (sym c.in-Ok-of_input.ensures.packages) each;
           places = places;
         };
-        versions = c.in_ok-versions.versions;
-        of_range = c.in_ok-versions.ensures.ok;
-        newest = c.in_ok-versions.ensures.stable;
+        groups = c.in_ok-versions.versions.groups.items;
+        of_range = subst (λ v. AreVersions input.range input v c.in_ok-versions.versions.groups.items) c.in_ok-versions.ensures.stable c.in_ok-versions.ensures.ok;
         single = single;
         on_packages = map note_of c.in_ok-list.notices.items;
         on_range = map note_of c.in_ok-versions.on_range.items;
