@@ -1,4 +1,4 @@
-use Rattle.std.proofs.Common.{◌≡◌, ◌++◌, ◌∷◌, [], List, ℕ, map, length, ap, ◌∙◌, sym, subst, refl, arith, string_bytes, append-nil, nat_lt}
+use Rattle.std.proofs.Common.{◌≡◌, ◌++◌, ◌∷◌, [], List, ℕ, map, length, ap, ◌∙◌, sym, subst, refl, arith, string_bytes, append-nil, nat_lt, true}
 use Rattle.std.specs.Prelude.{◌==◌, if◌then◌else◌, vec_len}
 use Rattle.hack_base.specs.Writes.{AppendsFront}
 use Rattle.hack_base.specs.Names.{Name}
