@@ -1,11 +1,12 @@
 -- How the parts of a plan grow.
 use Rattle.std.proofs.Common.{◌≡◌, ◌⊎◌, ℕ, ◌+◌, ◌<◌, ◌≤◌, List, [], ◌∷◌, length, take, arith, ap, sym, ◌∙◌, subst, inl, inr, get_or, slice_index, Option, Some, None, true, false}
+use Rattle.std.specs.Prelude.{IsSomeAnd}
 use Rattle.std.specs.List.{AllPairs, Contains}
 use Rattle.std.proofs.lemmas.List.{take_more, length-take-le, get_or-take, get_or_default}
 use Rattle.std.proofs.lemmas.List.Elements.{Contains-append_left, Contains-push, Contains-push_cases, Contains-get_or}
 use Rattle.hack_versions.specs.declared.version.Version.{Version}
 use Rattle.hack_plan.specs.declared.places.PlanEntry.{PlanEntry}
-use Rattle.hack_plan.specs.Entries.{AddsEntries, Overfills, Before, IsLower}
+use Rattle.hack_plan.specs.Entries.{AddsEntries, Overfills, Before}
 use Rattle.hack_plan.specs.Parts.{InVersion}
 use Rattle.hack_plan.specs.Internal.{InBlock, InSlot}
 use Rattle.hack_plan.proofs.Joins.{Adds-then, Overfills-then}
@@ -29,7 +30,7 @@ Contains-take_up xs i d x h m = subst (λ ys. Contains ys x) (sym (take_more xs 
 pub Contains-take_last : {X : Type 0} (xs : List X) (i : ℕ) (d : X) → i < length xs → Contains (take (i + 1) xs) (get_or xs i d)
 Contains-take_last xs i d h = subst (λ ys. Contains ys (get_or xs i d)) (sym (take_more xs i d h)) (Contains-push (take i xs) (get_or xs i d))
 
-lower-some : (x y : Option ℕ) (m n : ℕ) → x ≡ Some m → y ≡ Some n → m < n → IsLower x y
+lower-some : (x y : Option ℕ) (m n : ℕ) → x ≡ Some m → y ≡ Some n → m < n → IsSomeAnd x (λ p. IsSomeAnd y (λ q. p < q))
 lower-some x y m n e f l = rw (e, f) l
 
 slot-before : (version : Option Version) (slot i n : ℕ) (members runs : List ℕ) → AllPairs (λ a b. a < b) members → i < length members → (a b : PlanEntry) → InSlot version slot (take i members) runs a → InBlock version slot (Some (get_or members i 0)) n b → Before a b

@@ -1,12 +1,13 @@
 -- An increasing list whose elements are all in another one is not longer than it.
 use Rattle.std.proofs.Common.{◌≡◌, ◌⊎◌, ℕ, zero, suc, ◌<◌, ◌≤◌, ◌^◌, List, [], ◌∷◌, length, arith, ap, sym, ◌∙◌, subst, inl, inr, get_or, Option, Some, None}
+use Rattle.std.specs.Prelude.{IsSomeAnd}
 use Rattle.std.specs.List.{AllPairs, Contains}
 use Rattle.std.proofs.lemmas.List.{get_or_default}
 use Rattle.std.proofs.lemmas.List.Elements.{All-contains, Contains-get_or}
 use Rattle.hack_versions.specs.declared.version.Version.{Version}
 use Rattle.hack_versions.proofs.OrderLemmas.{before-trans, before-self}
 use Rattle.hack_plan.specs.declared.places.PlanEntry.{PlanEntry}
-use Rattle.hack_plan.specs.Entries.{Lists, AreTooMany, Before, BySlot, ByPackage, IsLower, IsOlder}
+use Rattle.hack_plan.specs.Entries.{Lists, AreTooMany, Before, IsOlder}
 
 pub trio : (i j : ℕ) → (i < j) ⊎ (i ≡ j) ⊎ (j < i)
 trio i j = grind arith
@@ -41,6 +42,15 @@ no-longer R strict (x ∷ xs) ys f g sub =
     let c : Contains ys (get_or (x ∷ xs) (length xs) x) = sub (get_or (x ∷ xs) (length xs) x) (Contains-get_or (x ∷ xs) (length xs) x l) in
     let late : length xs ≤ c.0 = stands-late R strict (x ∷ xs) ys f g sub (length xs) x l c in
     omega (arith, late, c.1)
+
+abbrev IsLower : Option ℕ → Option ℕ → Type 0
+IsLower a b = IsSomeAnd a (λ p. IsSomeAnd b (λ q. p < q))
+
+abbrev ByPackage : PlanEntry → PlanEntry → Type 0
+ByPackage a b = IsLower a.package b.package ⊎ ((a.package ≡ b.package) × (a.rank < b.rank))
+
+abbrev BySlot : PlanEntry → PlanEntry → Type 0
+BySlot a b = (a.slot < b.slot) ⊎ ((a.slot ≡ b.slot) × ByPackage a b)
 
 lower-strict : (a b : Option ℕ) → IsLower a b → IsLower b a → ⊥
 lower-strict None b f g = f

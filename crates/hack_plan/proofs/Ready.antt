@@ -5,10 +5,9 @@ use Rattle.std.specs.Option.{unwrap_or}
 use Rattle.std.proofs.lemmas.List.{take_more, map-append, length-map, length-take-le}
 use Rattle.hack_versions.specs.declared.version.Version.{Version}
 use Rattle.hack_plan.specs.declared.places.Span.{Span}
-use Rattle.hack_plan.specs.Spans.{version_at}
 use Rattle.hack_plan.specs.declared.parts.PlanVersion.{PlanVersion}
-use Rattle.hack_plan.specs.Prepared.{span_of, version_number_of, preparations_of, HasPreparations, ArePrepared}
-use Rattle.hack_plan.specs.Internal.{AreFlags}
+use Rattle.hack_plan.specs.Prepared.{span_of, preparations_of, HasPreparations, ArePrepared}
+use Rattle.hack_plan.specs.Internal.{AreFlags, version_at}
 
 -- each version so far has its preparations
 abbrev pub AreReady : Bool → Bool → List Version → List PlanVersion → Type 0
@@ -41,7 +40,7 @@ spans-more spans versions v i d lt is are =
     map-append span_of versions (v ∷ []) ∙ ap (λ l. l ++ span_of v ∷ []) are ∙ ap (λ s. take i spans ++ s ∷ []) is ∙ sym (take_more spans i d lt)
 
 -- the versions' own numbers are those of the spans
-pub numbers-same : (versions : List PlanVersion) → filter_map version_at (map span_of versions) ≡ filter_map version_number_of versions
+pub numbers-same : (versions : List PlanVersion) → filter_map version_at (map span_of versions) ≡ filter_map (λ (v : PlanVersion). v.version) versions
 numbers-same [] = refl
 numbers-same (v ∷ versions) = ap (cons_option v.version) (numbers-same versions)
 

@@ -13,9 +13,18 @@ use Rattle.hack_plan.specs.declared.places.Span.{Span}
 use Rattle.hack_plan.specs.declared.versions.PlanInput.{PlanInput}
 use Rattle.hack_plan.specs.Entries.{AddsEntries, IsOlder}
 use Rattle.hack_plan.specs.Parts.{InVersion}
-use Rattle.hack_plan.specs.Spans.{Laid, IsSpan, AreSpans, AreTiled, version_in, version_at}
-use Rattle.hack_plan.specs.Internal.{AppendsPlaces}
+use Rattle.hack_plan.specs.Spans.{Laid, IsSpan, AreSpans, AreTiled}
+use Rattle.hack_plan.specs.Internal.{AppendsPlaces, version_at}
 use Rattle.hack_plan.proofs.Groups.{InGroups, earlier}
+
+-- the version of a group
+abbrev pub version_in : VersionGroup → Option Version
+version_in group = Some group.version
+
+-- each version with its places, which partition those of the plan
+pub record ArePartition (versions : List (Option Version)) (p : Laid) : Type 0 where
+  pub spans : AreSpans versions p.entries p.spans
+  pub tiled : AreTiled 0 p.spans (length p.entries)
 
 abbrev IsOlderEntry : Option Version → PlanEntry → Type 0
 IsOlderEntry v q = IsOlder q.version v
@@ -66,11 +75,13 @@ tiled-more : (from : ℕ) (ss : List Span) (s : Span) (mid to : ℕ) → AreTile
 tiled-more from [] s mid to t first le end = (first ∙ sym t, omega (arith, t), end)
 tiled-more from (x ∷ ss) s mid to t first le end = (t.0, t.1, tiled-more x.end ss s mid to t.2 first le end)
 
-pub spans-next : (names : List (Option Version)) (v : Option Version) (old new : Laid) (added : List PlanEntry) → new.entries ≡ old.entries ++ added → AppendsPlaces v old new → AreSpans names old
-    → All (IsOlderEntry v) old.entries → All (IsHere v) added → All (λ w. IsOlder w v) names → AreSpans (names ++ v ∷ []) new
+pub spans-next : (names : List (Option Version)) (v : Option Version) (old new : Laid) (added : List PlanEntry) → new.entries ≡ old.entries ++ added → AppendsPlaces v old new → ArePartition names old
+    → All (IsOlderEntry v) old.entries → All (IsHere v) added → All (λ w. IsOlder w v) names → ArePartition (names ++ v ∷ []) new
 spans-next names v old new added grown next f before here older = record {
-  names = ap (map version_at) next ∙ map-append version_at old.spans (span_of v old.entries new.entries ∷ []) ∙ ap (λ t. t ++ v ∷ []) f.names;
-  each = subst (All (IsSpan new.entries)) (sym next) (All-push (IsSpan new.entries) old.spans (span_of v old.entries new.entries) all last);
+  spans = record {
+    names = ap (map version_at) next ∙ map-append version_at old.spans (span_of v old.entries new.entries ∷ []) ∙ ap (λ t. t ++ v ∷ []) f.spans.names;
+    each = subst (All (IsSpan new.entries)) (sym next) (All-push (IsSpan new.entries) old.spans (span_of v old.entries new.entries) all last);
+  };
   tiled = subst (λ ss. AreTiled 0 ss (length new.entries)) (sym next) (tiled-more 0 old.spans (span_of v old.entries new.entries) (length old.entries) (length new.entries) f.tiled refl longer refl);
 }
   where
@@ -78,24 +89,23 @@ spans-next names v old new added grown next f before here older = record {
     longer = omega (arith, ap length grown, length-append old.entries added)
 
     lower : All (λ (s : Span). IsOlder s.version v) old.spans
-    lower = All-unmap version_at (λ w. IsOlder w v) old.spans (subst (All (λ w. IsOlder w v)) (sym f.names) older)
+    lower = All-unmap version_at (λ w. IsOlder w v) old.spans (subst (All (λ w. IsOlder w v)) (sym f.spans.names) older)
 
     all : All (IsSpan new.entries) old.spans
     all k d h = subst (λ t. IsSpan t (get_or old.spans k d)) (sym grown)
-        (span-more old.entries added (get_or old.spans k d) (f.each k d h) (later-than v (get_or old.spans k d).version added (lower k d h) here))
+        (span-more old.entries added (get_or old.spans k d) (f.spans.each k d h) (later-than v (get_or old.spans k d).version added (lower k d h) here))
 
     last : IsSpan new.entries (span_of v old.entries new.entries)
     last = subst (λ t. IsSpan t (span_of v old.entries t)) (sym grown) (span-last v old.entries added before here)
 
-pub spans-none : (p : Laid) → p.entries ≡ [] → p.spans ≡ [] → AreSpans [] p
+pub spans-none : (p : Laid) → p.entries ≡ [] → p.spans ≡ [] → ArePartition [] p
 spans-none p no_entries e = record {
-  names = ap (map version_at) e;
-  each = subst (All (IsSpan p.entries)) (sym e) (λ k d h. absurd (omega arith));
+  spans = record { names = ap (map version_at) e; each = subst (All (IsSpan p.entries)) (sym e) (λ k d h. absurd (omega arith)) };
   tiled = subst (λ ss. AreTiled 0 ss (length p.entries)) (sym e) (ap length (sym no_entries));
 }
 
 -- a plan of a single version
-pub spans-alone : (whole : Bool) (v : Option Version) (slots : ℕ) (places counts : List ℕ) (old new : Laid) → old.entries ≡ [] → old.spans ≡ [] → AddsEntries (InVersion whole v slots places counts) old.entries new.entries → AppendsPlaces v old new → AreSpans (v ∷ []) new
+pub spans-alone : (whole : Bool) (v : Option Version) (slots : ℕ) (places counts : List ℕ) (old new : Laid) → old.entries ≡ [] → old.spans ≡ [] → AddsEntries (InVersion whole v slots places counts) old.entries new.entries → AppendsPlaces v old new → ArePartition (v ∷ []) new
 spans-alone whole v slots places counts old new e f g next =
     spans-next [] v old new g.added g.grown next (spans-none old e f)
     (subst (All (IsOlderEntry v)) (sym e) (λ k d h. absurd (omega arith)))
@@ -107,10 +117,10 @@ older-here v w a b e f l = rw (e, f) l
 
 -- the next group's version, added after those before it
 pub spans-group : (s : PlanInput) (counts : List ℕ) (range : VersionRange) (some : s.range ≡ Some range) (steps : List Version) (groups : List VersionGroup) (are : AreVersionGroups (UsesAt range steps s.packages.items) groups) (i : ℕ) (g : VersionGroup) (at : i < length groups) (is : get_or groups i g ≡ g)
-    (whole : Bool) (slots : ℕ) (old new : Laid) → AddsEntries (InGroups s counts steps (take i groups)) [] old.entries → AreSpans (map version_in (take i groups)) old
-    → AddsEntries (InVersion whole (Some g.version) slots g.packages.items counts) old.entries new.entries → AppendsPlaces (Some g.version) old new → AreSpans (map version_in (take (i + 1) groups)) new
+    (whole : Bool) (slots : ℕ) (old new : Laid) → AddsEntries (InGroups s counts steps (take i groups)) [] old.entries → ArePartition (map version_in (take i groups)) old
+    → AddsEntries (InVersion whole (Some g.version) slots g.packages.items counts) old.entries new.entries → AppendsPlaces (Some g.version) old new → ArePartition (map version_in (take (i + 1) groups)) new
 spans-group s counts range some steps groups are i g at is whole slots old new f spans k next =
-    subst (λ names. AreSpans names new) (sym names-more)
+    subst (λ names. ArePartition names new) (sym names-more)
     (spans-next (map version_in (take i groups)) (Some g.version) old new k.added k.grown next spans before
     (All-weaker (InVersion whole (Some g.version) slots g.packages.items counts) (IsHere (Some g.version)) (λ q p. p.0) k.added k.lists.sound) names-older)
   where

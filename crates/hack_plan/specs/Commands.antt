@@ -1,13 +1,14 @@
 -- The commands of a plan.
 use Rattle.std.specs.Prelude.{◌≡◌, ℕ, Bool, false, List, [], ◌∷◌, ◌++◌, Option, Some, None, take, drop, length, codes, decimal, slice_get, nat_lt, ◌&&◌, if◌then◌else◌}
 use Rattle.std.specs.List.{flat_map, slice_index_or}
+use Rattle.std.specs.Option.{option_and_then, option_map, option_map_or}
 use Rattle.hack_base.specs.Names.{Name}
 use Rattle.hack_versions.specs.declared.version.Version.{Version}
 use Rattle.hack_process.specs.CommandTexts.{Command, with_names}
 use Rattle.hack_process.specs.Commands.{command_of}
 use Rattle.hack_process.specs.declared.process.ProcessBuilder.{ProcessBuilder}
 use Rattle.hack_plan.specs.Runs.{PackageRun, Plain, AllFeatures, Set}
-use Rattle.hack_plan.specs.Inputs.{minor_of}
+use Rattle.hack_plan.specs.Inputs.{is_split}
 use Rattle.hack_plan.specs.declared.places.PlanEntry.{PlanEntry}
 use Rattle.hack_plan.specs.View.{CallView, PackageView, PlanView}
 
@@ -17,25 +18,22 @@ toolchain_of v = codes "1." ++ decimal v.minor
 
 -- the program of a version's commands: rustup, or cargo without a version
 abbrev pub program_of : CallView → Option Version → List ℕ
-program_of c None = c.cargo
-program_of c (Some v) = c.rustup
+program_of c version = option_map_or (λ v. c.rustup) version c.cargo
 
 -- the arguments that make rustup run the cargo of a version
 abbrev pub rustup_run_words : Option Version → List (List ℕ)
-rustup_run_words None = []
-rustup_run_words (Some v) = codes "run" ∷ toolchain_of v ∷ codes "cargo" ∷ []
-
--- each target is a separate slot: there are some, and cargo takes one at a time
-abbrev pub is_split : CallView → Option Version → Bool
-is_split c version = nat_lt 0 (length c.targets) && nat_lt (minor_of c.cargo_minor version) 64
+rustup_run_words version =
+    option_map_or (λ v. codes "run" ∷ toolchain_of v ∷ codes "cargo" ∷ []) version []
 
 -- the targets of a slot
 abbrev pub targets_in : CallView → Option Version → ℕ → List (List ℕ)
-targets_in c version slot = if is_split c version then take 1 (drop slot c.targets) else c.targets
+targets_in c version slot = if is_split (length c.targets) c.cargo_minor version
+    then take 1 (drop slot c.targets) else c.targets
 
 -- the target of a slot that has one of its own
 abbrev pub slot_target : CallView → Option Version → ℕ → Option (List ℕ)
-slot_target c version slot = if is_split c version then slice_get c.targets slot else None
+slot_target c version slot = if is_split (length c.targets) c.cargo_minor version
+    then slice_get c.targets slot else None
 
 -- a target after its option
 abbrev pub target_pair : List ℕ → List (List ℕ)
@@ -43,8 +41,7 @@ target_pair target = codes "--target" ∷ target ∷ []
 
 -- a manifest's path after its option
 abbrev pub manifest_words : Option (List ℕ) → List (List ℕ)
-manifest_words None = []
-manifest_words (Some path) = codes "--manifest-path" ∷ path ∷ []
+manifest_words given = option_map_or (λ path. codes "--manifest-path" ∷ path ∷ []) given []
 
 -- the argument that says which features a run has
 abbrev pub run_words : PackageRun → List (List ℕ)
@@ -80,13 +77,11 @@ ranked_command c version slot (Some k) rank = run_command c version slot k (slic
 
 -- the package of a place, as an index into the chosen ones
 abbrev pub chosen_package_at : List PackageView → Option ℕ → Option PackageView
-chosen_package_at packages None = None
-chosen_package_at packages (Some p) = slice_get packages p
+chosen_package_at packages place = option_and_then (slice_get packages) place
 
 -- a package's name
 abbrev pub name_in : Option PackageView → Option (List ℕ)
-name_in None = None
-name_in (Some k) = Some k.name
+name_in chosen = option_map (λ k. k.name) chosen
 
 -- the command of a place
 abbrev pub command_of_entry : PlanView → PlanEntry → Command
@@ -98,8 +93,7 @@ plain_command program leading own = record { program = program; strip_program_pa
 
 -- the package whose artifacts are removed, if it is a single one
 abbrev pub cleaned_words : Option PackageView → List (List ℕ)
-cleaned_words None = []
-cleaned_words (Some k) = codes "--package" ∷ k.name ∷ []
+cleaned_words cleaned = option_map_or (λ k. codes "--package" ∷ k.name ∷ []) cleaned []
 
 -- the command that removes the artifacts of a package, or all artifacts
 abbrev pub clean_command : CallView → Option PackageView → Command

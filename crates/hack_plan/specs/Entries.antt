@@ -1,5 +1,5 @@
 -- The plan as a set of entries with an order.
-use Rattle.std.specs.Prelude.{ℕ, ◌≡◌, ◌+◌, ◌<◌, ◌≤◌, ◌^◌, ◌⊎◌, ◌++◌, List, length, slice_index, AllPairs, All, Contains, Option, Some, None, Bool, true, false}
+use Rattle.std.specs.Prelude.{ℕ, ◌≡◌, ◌+◌, ◌<◌, ◌≤◌, ◌^◌, ◌⊎◌, ◌++◌, List, length, slice_index, AllPairs, All, Contains, IsSomeAnd, Option, Some, None, Bool, true, false}
 use Rattle.hack_versions.specs.declared.version.Version.{Version}
 use Rattle.hack_versions.specs.VersionOrder.{IsEarlierVersion}
 use Rattle.hack_plan.specs.declared.versions.PlanInput.{PlanInput}
@@ -17,27 +17,16 @@ pub record IsAdmissible (s : PlanInput) (counts : List ℕ) (steps : List Versio
   pub run : HasRun s.as_cargo s counts steps q
   pub slot : q.slot < slots_of s q.version
 
--- of two indexes of packages, the first is the lower
-abbrev pub IsLower : Option ℕ → Option ℕ → Type 0
-IsLower (Some a) (Some b) = a < b
-IsLower a b = ⊥
-
 -- of two versions, the first is the lower
 abbrev pub IsOlder : Option Version → Option Version → Type 0
-IsOlder (Some a) (Some b) = IsEarlierVersion a b
-IsOlder a b = ⊥
-
--- ordered by package, rank
-abbrev pub ByPackage : PlanEntry → PlanEntry → Type 0
-ByPackage a b = IsLower a.package b.package ⊎ ((a.package ≡ b.package) × (a.rank < b.rank))
-
--- ordered by slot, package, rank
-abbrev pub BySlot : PlanEntry → PlanEntry → Type 0
-BySlot a b = (a.slot < b.slot) ⊎ ((a.slot ≡ b.slot) × ByPackage a b)
+IsOlder a b = IsSomeAnd a (λ v. IsSomeAnd b (IsEarlierVersion v))
 
 -- ordered by version, slot, package, rank
 abbrev pub Before : PlanEntry → PlanEntry → Type 0
-Before a b = IsOlder a.version b.version ⊎ ((a.version ≡ b.version) × BySlot a b)
+Before a b = IsOlder a.version b.version ⊎ ((a.version ≡ b.version)
+    × ((a.slot < b.slot) ⊎ ((a.slot ≡ b.slot)
+    × (IsSomeAnd a.package (λ p. IsSomeAnd b.package (λ q. p < q))
+    ⊎ ((a.package ≡ b.package) × (a.rank < b.rank))))))
 
 -- strictly increasing, and exactly the entries that pass
 pub record Lists (Passes : PlanEntry → Type 0) (entries : List PlanEntry) : Type 0 where

@@ -1,23 +1,21 @@
 -- The input of a plan, and the versions that packages use.
-use Rattle.std.specs.Prelude.{ℕ, ◌≡◌, ◌≢◌, ◌<◌, ◌++◌, ◌⊎◌, List, [], length, map, Contains, Option, Some, None, true, false, nat_lt, ◌&&◌, if◌then◌else◌}
+use Rattle.std.specs.Prelude.{ℕ, ◌≡◌, ◌≢◌, ◌<◌, ◌++◌, ◌⊎◌, List, [], length, map, Contains, Bool, Option, Some, None, true, false, nat_lt, ◌&&◌, if◌then◌else◌}
+use Rattle.std.specs.List.{Any}
+use Rattle.std.specs.Option.{option_map_or}
 use Rattle.hack_versions.specs.declared.version.Version.{Version}
 use Rattle.hack_versions.specs.declared.version.VersionRange.{VersionRange}
 use Rattle.hack_versions.specs.declared.group.PackageVersion.{PackageVersion}
+use Rattle.hack_versions.specs.declared.group.VersionGroup.{VersionGroup}
 use Rattle.hack_versions.specs.declared.rustup.RangeFault.{RangeFault}
 use Rattle.hack_versions.specs.declared.rustup.RangeFault.TheVariants.{SingleMsrv}
 use Rattle.hack_versions.specs.RangeSteps.{AreStepsOf, IsRangeFault, range_notes}
 use Rattle.hack_versions.specs.VersionUses.{own_of, UsesAt, AreVersionGroups, IsGroupFault, AreSkipNotes}
 use Rattle.hack_base.specs.Notes.{Note}
 use Rattle.hack_plan.specs.declared.versions.PlanInput.{PlanInput}
-use Rattle.hack_plan.specs.declared.versions.Versions.{Versions}
 
--- a package's own version as its manifest gives it
-abbrev pub given_of : PackageVersion → Option Version
-given_of member = member.rust_version
-
--- the own versions of a scene's packages
+-- the packages' own versions as their manifests give them
 abbrev pub owns_of : PlanInput → List (Option Version)
-owns_of s = map given_of s.packages.items
+owns_of s = map (λ member. member.rust_version) s.packages.items
 
 -- the steps of a call; none without a range
 abbrev pub IsStepList : Option VersionRange → PlanInput → Option Version → List Version → Type 0
@@ -37,21 +35,22 @@ IsVersion (Some range) s steps v = (p : ℕ) × UsesVersion (Some range) s steps
 
 -- cargo's minor version for a version; its own where that is "none"
 abbrev pub minor_of : ℕ → Option Version → ℕ
-minor_of own None = own
-minor_of own (Some v) = v.minor
+minor_of own version = option_map_or (λ v. v.minor) version own
 
--- the slots of a version: one for each target below 1.64, else one for all targets
+-- each of so many targets is a separate slot: there are some, and cargo takes one at a time, as it does below 1.64
+abbrev pub is_split : ℕ → ℕ → Option Version → Bool
+is_split targets own version = nat_lt 0 targets && nat_lt (minor_of own version) 64
+
+-- the slots of a version: one for each target, or one for all
 abbrev pub slots_of : PlanInput → Option Version → ℕ
-slots_of s version = if nat_lt 0 s.targets && nat_lt (minor_of s.cargo_minor version) 64 then s.targets else 1
+slots_of s version = if is_split s.targets s.cargo_minor version then s.targets else 1
 
--- the groups of a range: each version that a package uses, with its packages
-abbrev pub GroupsBy : Option VersionRange → PlanInput → Versions → Type 0
-GroupsBy None s versions = versions.groups.items ≡ []
-GroupsBy (Some range) s versions = (steps : List Version) × AreStepsOf range s.step (owns_of s) versions.stable steps × AreVersionGroups (UsesAt range steps s.packages.items) versions.groups.items
-
--- the versions of an input
-abbrev pub AreVersions : PlanInput → Versions → Type 0
-AreVersions s versions = GroupsBy s.range s versions
+-- the versions of a range: each that a package uses, with its packages
+abbrev pub AreVersions : Option VersionRange → PlanInput → Option Version → List VersionGroup → Type 0
+AreVersions None s stable groups = groups ≡ []
+AreVersions (Some range) s stable groups = (steps : List Version)
+    × AreStepsOf range s.step (owns_of s) stable steps
+    × AreVersionGroups (UsesAt range steps s.packages.items) groups
 
 -- each package has a number of runs, where these matter
 abbrev pub AreCounted : PlanInput → List ℕ → Type 0
@@ -63,12 +62,8 @@ AreNotices None s stable notes = notes ≡ []
 AreNotices (Some range) s stable notes = (steps : List Version) × (skips : List Note) × AreStepsOf range s.step (owns_of s) stable steps × AreSkipNotes range steps s.packages.items skips × (notes ≡ range_notes range ++ skips)
 
 -- two packages have different own versions, or exactly one of them has none
-pub record HaveTwo (packages : List PackageVersion) : Type 0 where
-  pub one : PackageVersion
-  pub other : PackageVersion
-  pub first : Contains packages one
-  pub second : Contains packages other
-  pub differ : own_of one ≢ own_of other
+abbrev pub HaveTwo : List PackageVersion → Type 0
+HaveTwo packages = Any (λ one. Any (λ other. own_of one ≢ own_of other) packages) packages
 
 -- why there are no versions: the range is refused, or a package under it; or there is to be one run
 -- for packages with different own versions

@@ -1,11 +1,12 @@
 -- What only private functions of the crate promise each other.
 use Rattle.std.specs.Prelude.{ℕ, Bool, true, false, List, [], ◌∷◌, ◌++◌, ◌-◌, codes, Option, ◌≡◌, ◌<◌, ◌↔◌, Some, slice_get, length, None, if◌then◌else◌}
 use Rattle.std.specs.List.{join_with_byte}
+use Rattle.hack_versions.specs.Lockfiles.{NeedsLockfile}
 use Rattle.hack_versions.specs.declared.version.Version.{Version}
 use Rattle.hack_plan.specs.declared.places.PlanEntry.{PlanEntry}
+use Rattle.hack_plan.specs.declared.places.Span.{Span}
 use Rattle.hack_plan.specs.declared.blocks.VersionUse.{VersionUse}
 use Rattle.hack_plan.specs.Parts.{OfPackage}
-use Rattle.hack_plan.specs.Prepared.{Remakes}
 use Rattle.hack_plan.specs.Spans.{Laid}
 use Rattle.hack_process.specs.CommandTexts.{is_manifest_path}
 
@@ -49,9 +50,14 @@ InSlot version slot packages runs q = (q.version ≡ version) × (q.slot ≡ slo
 abbrev pub InSlotOf : VersionUse → ℕ → PlanEntry → Type 0
 InSlotOf uses slot = InSlot uses.version slot uses.packages.now uses.counts.now
 
+-- the version of a span
+abbrev pub version_at : Span → Option Version
+version_at s = s.version
+
 -- the flags that are set are those of the versions before which the lockfile is regenerated
 abbrev pub AreFlags : Bool → List Version → List Bool → Type 0
-AreFlags locked versions flags = (place : ℕ) → (slice_get flags place ≡ Some true) ↔ Remakes locked versions place
+AreFlags locked versions flags = (place : ℕ)
+    → (slice_get flags place ≡ Some true) ↔ ((locked ≡ false) × NeedsLockfile versions place)
 
 -- the version's places are appended to the plan so far
 abbrev pub AppendsPlaces : Option Version → Laid → Laid → Type 0

@@ -1,11 +1,8 @@
 -- What holds for each plan.
 use Rattle.std.specs.Prelude.{ℕ, ◌<◌, List, map, length, Option, Some, None, All, IsSomeAnd, slice_get}
-use Rattle.hack_versions.specs.declared.version.Version.{Version}
-use Rattle.hack_plan.specs.Spans.{AreSpans}
 use Rattle.hack_plan.specs.declared.places.PlanEntry.{PlanEntry}
 use Rattle.hack_plan.specs.declared.parts.PlanPackage.{PlanPackage}
-use Rattle.hack_plan.specs.View.{PackageView, PlanView, plan_package_view}
-use Rattle.hack_plan.specs.Prepared.{span_of}
+use Rattle.hack_plan.specs.View.{PackageView, plan_package_view}
 
 -- a run of a package is one of that package's runs
 abbrev pub IsRunOf : List PackageView → Option ℕ → ℕ → Type 0
@@ -23,7 +20,3 @@ count_in k = length (plan_package_view k).runs
 -- the number of runs of each package
 abbrev pub counts_in : List PlanPackage → List ℕ
 counts_in packages = map count_in packages
-
--- the plan has these versions, each with its places
-abbrev pub AreLaid : List (Option Version) → PlanView → Type 0
-AreLaid versions plan = AreSpans versions (record { entries = plan.entries; spans = map span_of plan.versions })

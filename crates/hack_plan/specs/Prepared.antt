@@ -11,10 +11,6 @@ use Rattle.hack_plan.specs.declared.parts.Preparation.TheVariants.{Toolchain, Lo
 abbrev pub span_of : PlanVersion → Span
 span_of v = record { version = v.version; first = v.first; end = v.end }
 
--- the version, if there is one
-abbrev pub version_number_of : PlanVersion → Option Version
-version_number_of v = v.version
-
 -- the toolchain, then the lockfile where it is regenerated, then the cleaning where it is asked
 -- for; nothing without a version
 abbrev pub preparations_of : Option Version → ℕ → Bool → Bool → List Preparation
@@ -22,16 +18,13 @@ preparations_of None place remakes cleans = []
 preparations_of (Some v) place remakes cleans =
     Toolchain place ∷ (if remakes then Lockfile place ∷ [] else []) ++ (if cleans then Clean place ∷ [] else [])
 
--- the lockfile is regenerated before the version at an index
-abbrev pub Remakes : Bool → List Version → ℕ → Type 0
-Remakes locked versions place = (locked ≡ false) × NeedsLockfile versions place
-
--- the version at an index has its preparations
+-- the version at an index has its preparations; its lockfile is regenerated where it needs that and isn't locked
 pub record HasPreparations (locked cleans : Bool) (versions : List Version) (place : ℕ) (v : PlanVersion) : Type 0 where
   pub remakes : Bool
-  pub exact : IsTrue remakes ↔ Remakes locked versions place
+  pub exact : IsTrue remakes ↔ ((locked ≡ false) × NeedsLockfile versions place)
   pub made : v.preparations.items ≡ preparations_of v.version place remakes cleans
 
 -- each version has its preparations
 abbrev pub ArePrepared : Bool → Bool → List PlanVersion → Type 0
-ArePrepared locked cleans versions = (place : ℕ) (v : PlanVersion) → slice_get versions place ≡ Some v → HasPreparations locked cleans (filter_map version_number_of versions) place v
+ArePrepared locked cleans versions = (place : ℕ) (v : PlanVersion) → slice_get versions place ≡ Some v
+    → HasPreparations locked cleans (filter_map (λ k. k.version) versions) place v

@@ -25,26 +25,18 @@ pub record IsSpan (entries : List PlanEntry) (s : Span) : Type 0 where
   pub same : All (λ q. q.version ≡ s.version) here
   pub behind : All (λ q. IsOlder s.version q.version) later
 
--- the version of a group
-abbrev pub version_in : VersionGroup → Option Version
-version_in group = Some group.version
-
 -- the versions of groups; without a range just "none"
 abbrev pub versions_of : Option VersionRange → List VersionGroup → List (Option Version)
 versions_of None groups = None ∷ []
-versions_of (Some range) groups = map version_in groups
-
--- the version of a span
-abbrev pub version_at : Span → Option Version
-version_at s = s.version
+versions_of (Some range) groups = map (λ group. Some group.version) groups
 
 -- each version's places begin where those before end, from the first place to the last
 abbrev pub AreTiled : ℕ → List Span → ℕ → Type 0
 AreTiled from [] to = from ≡ to
 AreTiled from (s ∷ ss) to = (s.first ≡ from) × (from ≤ s.end) × AreTiled s.end ss to
 
--- each version, in order, with its places, which partition those of the plan
-pub record AreSpans (versions : List (Option Version)) (p : Laid) : Type 0 where
-  pub names : map version_at p.spans ≡ versions
-  pub each : All (IsSpan p.entries) p.spans
-  pub tiled : AreTiled 0 p.spans (length p.entries)
+-- each version, in order, with its places
+pub record AreSpans (versions : List (Option Version)) (entries : List PlanEntry) (spans : List Span)
+    : Type 0 where
+  pub names : map (λ s. s.version) spans ≡ versions
+  pub each : All (IsSpan entries) spans

@@ -1,14 +1,15 @@
 //! The commands of a plan.
 
 ghost use Rattle.std.specs.Prelude.{◌≡◌, ◌++◌, ◌∷◌, [], Some, None, map, option_map, IfOk, OnOk};
-ghost use Rattle.std.specs.Prelude.{List, ℕ, take, drop, string_bytes, slice_get};
+ghost use Rattle.std.specs.Prelude.{List, ℕ, length, take, drop, string_bytes, slice_get};
 ghost use Rattle.std.specs.List.{cons_option, flat_map, slice_index_or};
 ghost use Rattle.hack_base.specs.Names.{names_behind};
 ghost use Rattle.hack_features.specs.Feature.{groups_of};
 ghost use Rattle.hack_plan.specs.Runs.{run_of};
 ghost use Rattle.hack_process.specs.Commands.{command_of};
 ghost use Rattle.hack_plan.specs.View.{call_view, plan_package_view};
-ghost use Rattle.hack_plan.specs.Commands.{toolchain_of, program_of, rustup_run_words, is_split};
+ghost use Rattle.hack_plan.specs.Commands.{toolchain_of, program_of, rustup_run_words};
+ghost use Rattle.hack_plan.specs.Inputs.{is_split};
 ghost use Rattle.hack_plan.specs.Commands.{targets_in, target_pair, manifest_words, run_words};
 ghost use Rattle.hack_plan.specs.Commands.{candidate_names_at, call_command, plain_command};
 ghost use Rattle.hack_plan.specs.Commands.{HasCollected, cleaned_words, clean_command};
@@ -96,7 +97,8 @@ impl CommandParts {
 
     /// Whether each target is a separate slot.
     fn is_split(&self, version: Option<Version>) -> bool
-        ensures { result ≡ is_split (call_view self.now) version }
+        ensures { result ≡ is_split (length (call_view self.now).targets)
+            (call_view self.now).cargo_minor version }
     {
         let minor = match version {
             None => self.cargo_minor,

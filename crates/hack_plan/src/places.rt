@@ -4,7 +4,7 @@
 ghost use Rattle.std.specs.Prelude.{ℕ, ◌≡◌, ◌<◌, ◌^◌, ◌⊎◌, ◌↔◌, ◌∷◌, [], Some, None};
 ghost use Rattle.std.specs.Prelude.{false, length, All, AllPairs, Contains, OnOk};
 ghost use Rattle.std.specs.Prelude.{IfOk, IfErr, slice_get};
-ghost use Rattle.hack_plan.specs.Inputs.{AreVersions, AreCounted, GroupsBy, slots_of};
+ghost use Rattle.hack_plan.specs.Inputs.{AreVersions, AreCounted, slots_of};
 ghost use Rattle.hack_plan.specs.Entries.{ArePlaces, HasTooMany, Lists, IsAdmissible, AreTooMany};
 ghost use Rattle.hack_plan.specs.Entries.{AddsEntries, Overfills};
 ghost use Rattle.hack_plan.specs.Parts.{InVersion};
@@ -78,7 +78,7 @@ impl Model for Places {
 }
 
 impl Places {
-    ghost use Rattle.hack_plan.specs.Spans.{AreSpans, versions_of};
+    ghost use Rattle.hack_plan.specs.Spans.{AreSpans, AreTiled, versions_of};
 
     /// The plan. `versions` are those of the input, and `counts` the number of runs of each
     /// package; `counts` doesn't matter where one run is for all.
@@ -88,12 +88,14 @@ impl Places {
         versions: &Versions,
         counts: &[usize],
     ) -> Result<Places, PlacesFault>
-        requires versions { AreVersions input.now versions.now }
+        requires versions { AreVersions input.now.range input.now versions.now.stable
+            versions.now.groups.items }
         requires counted { AreCounted input.now counts.now }
         ensures ok { IfOk result (λ p. ArePlaces input.now counts.now versions.now.stable
             p.entries) }
-        ensures spans { IfOk result (AreSpans (versions_of input.now.range
-            versions.now.groups.items)) }
+        ensures spans { IfOk result (λ p. AreSpans (versions_of input.now.range
+            versions.now.groups.items) p.entries p.spans) }
+        ensures tiled { IfOk result (λ p. AreTiled 0 p.spans (length p.entries)) }
         ensures never { IfOk result (λ _. ¬ HasTooMany input.now counts.now versions.now.stable) }
         ensures err { IfErr result (λ e. (e ≡ PlacesFault.Memory)
             ⊎ ((e ≡ PlacesFault.TooManyRuns) × HasTooMany input.now counts.now
@@ -131,7 +133,7 @@ impl Places {
 }
 
 impl Places {
-    ghost use Rattle.hack_plan.specs.Spans.{AreSpans, versions_of};
+    ghost use Rattle.hack_plan.specs.Spans.{AreSpans, AreTiled, versions_of};
     ghost use Rattle.hack_plan.specs.Internal.{AppendsPlaces};
 
     /// No place.
@@ -196,7 +198,8 @@ impl Places {
         requires none { input.now.range ≡ None }
         requires counted { AreCounted input.now counts.now }
         ensures ok { IfOk result (λ p. Lists (IsAdmissible input.now counts.now []) p.entries) }
-        ensures spans { IfOk result (AreSpans (None ∷ [])) }
+        ensures spans { IfOk result (λ p. AreSpans (None ∷ []) p.entries p.spans) }
+        ensures tiled { IfOk result (λ p. AreTiled 0 p.spans (length p.entries)) }
         ensures short { IfOk result (λ p. length p.entries < 2 ^ 32) }
         ensures err { IfErr result (λ e. (e ≡ PlacesFault.Memory)
             ⊎ ((e ≡ PlacesFault.TooManyRuns) × AreTooMany (IsAdmissible input.now counts.now []))) }
@@ -218,12 +221,14 @@ impl Places {
         counts: &[usize],
     ) -> Result<Places, PlacesFault>
         requires some { input.now.range ≡ Some range }
-        requires versions { GroupsBy (Some range) input.now versions.now }
+        requires versions { AreVersions (Some range) input.now versions.now.stable
+            versions.now.groups.items }
         requires counted { AreCounted input.now counts.now }
         ensures ok { IfOk result (λ p. ArePlaces input.now counts.now versions.now.stable
             p.entries) }
-        ensures spans { IfOk result (AreSpans
-            (versions_of (Some range) versions.now.groups.items)) }
+        ensures spans { IfOk result (λ p. AreSpans (versions_of (Some range)
+            versions.now.groups.items) p.entries p.spans) }
+        ensures tiled { IfOk result (λ p. AreTiled 0 p.spans (length p.entries)) }
         ensures short { IfOk result (λ p. length p.entries < 2 ^ 32) }
         ensures err { IfErr result (λ e. (e ≡ PlacesFault.Memory)
             ⊎ ((e ≡ PlacesFault.TooManyRuns) × HasTooMany input.now counts.now

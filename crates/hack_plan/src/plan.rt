@@ -259,10 +259,10 @@ impl Plan {
 impl Plan {
     ghost use Rattle.std.specs.Prelude.{◌⊎◌, IfErr, []};
     ghost use Rattle.hack_plan.specs.Inputs.{AreVersions};
-    ghost use Rattle.hack_plan.specs.Spans.{versions_of};
+    ghost use Rattle.hack_plan.specs.Spans.{AreSpans, versions_of};
     ghost use Rattle.hack_plan.specs.Entries.{ArePlaces, HasTooMany};
     ghost use Rattle.hack_plan.specs.View.{call_view};
-    ghost use Rattle.hack_plan.specs.Plans.{counts_in, AreLaid};
+    ghost use Rattle.hack_plan.specs.Plans.{counts_in};
     ghost use Rattle.hack_plan.specs.Prepared.{ArePrepared};
 
     /// The plan without a version, for a call without a subcommand.
@@ -288,15 +288,18 @@ impl Plan {
         input: &PlanInput,
         versions: &Versions,
     ) -> Result<Plan, PlacesFault>
-        requires versions { AreVersions input.now versions.now }
+        requires versions { AreVersions input.now.range input.now versions.now.stable
+            versions.now.groups.items }
         requires packages { length packages.items ≡ length input.now.packages.items }
         ensures call { IfOk result (λ plan. plan.call ≡ call_view words) }
         ensures packages { IfOk result (λ plan. plan.packages
             ≡ map plan_package_view packages.items) }
         ensures entries { IfOk result (λ plan. ArePlaces input.now (counts_in packages.items)
             versions.now.stable plan.entries) }
-        ensures spans { IfOk result (AreLaid (versions_of input.now.range
-            versions.now.groups.items)) }
+        ensures spans { IfOk result (λ plan. AreSpans (versions_of input.now.range
+            versions.now.groups.items) plan.entries (map span_of plan.versions)) }
+        ensures tiled { IfOk result (λ plan.
+            AreTiled 0 (map span_of plan.versions) (length plan.entries)) }
         ensures prepared { IfOk result (λ plan.
             ArePrepared words.locked words.clean_per_version plan.versions) }
         ensures never { IfOk result (λ _. ¬ HasTooMany input.now (counts_in packages.items)

@@ -6,7 +6,7 @@ ghost use Rattle.std.specs.Prelude.{Contains, map};
 ghost use Rattle.hack_versions.specs.RangeSteps.{NeedsStable};
 ghost use Rattle.hack_versions.specs.VersionUses.{own_of};
 ghost use Rattle.hack_base.specs.Notes.{note_of};
-ghost use Rattle.hack_plan.specs.Inputs.{given_of, HaveTwo, AreVersions, AreNotices};
+ghost use Rattle.hack_plan.specs.Inputs.{HaveTwo, AreVersions, AreNotices};
 ghost use Rattle.hack_plan.specs.Inputs.{IsVersionsFault};
 ghost use Rattle.hack_versions.specs.declared.group.PackageVersion.{PackageVersion as Member};
 
@@ -52,7 +52,8 @@ impl Versions {
         stable: Option<Version>,
     ) -> Result<(Versions, Vec<Notice>), RangeFault>
         requires { IfSome input.now.range (λ range. NeedsStable range → IsSome stable) }
-        ensures ok { IfOk result (λ answer. AreVersions input.now answer.0) }
+        ensures ok { IfOk result (λ answer. AreVersions input.now.range input.now
+            answer.0.stable answer.0.groups.items) }
         ensures stable { IfOk result (λ answer. answer.0.stable ≡ stable) }
         ensures notices { IfOk result (λ answer. AreNotices input.now.range input.now stable
             (map note_of answer.1.items)) }
@@ -83,7 +84,8 @@ fn in_range(
 ) -> Result<(Versions, Vec<Notice>), RangeFault>
     requires some { input.now.range ≡ Some range }
     requires stable { NeedsStable range → IsSome stable }
-    ensures ok { IfOk result (λ answer. AreVersions input.now answer.0) }
+    ensures ok { IfOk result (λ answer. AreVersions (Some range) input.now answer.0.stable
+        answer.0.groups.items) }
     ensures stable { IfOk result (λ answer. answer.0.stable ≡ stable) }
     ensures notices { IfOk result (λ answer. AreNotices (Some range) input.now stable
         (map note_of answer.1.items)) }
@@ -107,7 +109,7 @@ fn in_range(
 
 /// The own versions as the manifests give them.
 fn owns_of(alloc: Global, packages: &[PackageVersion]) -> Result<Vec<Option<Version>>, AllocError>
-    ensures { IfOk result (λ owns. owns.items ≡ map given_of packages.now) }
+    ensures { IfOk result (λ owns. owns.items ≡ map (λ member. member.rust_version) packages.now) }
 {
     packages
         .iter()

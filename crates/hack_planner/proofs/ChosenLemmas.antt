@@ -1,45 +1,43 @@
 -- Chosen packages one by one; they are members.
 use Rattle.std.proofs.Common.{◌≡◌, ℕ, ◌+◌, ◌<◌, List, [], ◌∷◌, ◌++◌, length, take, get_or, map, ap, sym, subst, ◌∙◌, Option, Some, None, Bool, true, false, inl, inr, Contains, All, option_map}
-use Rattle.std.specs.List.{AllZip, filter_map, cons_option, slice_index_or}
+use Rattle.std.specs.Option.{option_to_list}
+use Rattle.std.specs.List.{AllZip, filter_map, find, flat_map, cons_option, slice_index_or}
 use Rattle.std.specs.Str.{bytes_eq}
 use Rattle.std.proofs.lemmas.Bool.{cases_Bool}
-use Rattle.std.proofs.lemmas.List.{take_more, map-append, get_or_default}
+use Rattle.std.proofs.lemmas.List.{take_more, map-append, get_or_default, flat_map_more}
 use Rattle.std.proofs.lemmas.List.Elements.{Contains-push_cases, All-contains_itself}
-use Rattle.hack_base.specs.Names.{Name}
+use Rattle.hack_base.specs.Names.{Name, names_of}
 use Rattle.hack_base.proofs.Members.{Contains-cons_cases, Contains-head, Contains-tail, Contains-nil, Contains-map, Contains-map_from, Contains-filter_from}
 use Rattle.hack_load.proofs.FeatureLemmas.{each-join}
 use Rattle.hack_load.specs.Contexts.{ContextRecord, package_at, is_private_at, rust_version_at}
 use Rattle.hack_metadata.specs.Records.{PackageRecord}
 use Rattle.hack_metadata.specs.RecordViews.{place_at}
 use Rattle.hack_metadata.specs.declared.metadata.resolve.PackageId.{PackageId}
+use Rattle.hack_words.specs.declared.cli.args.Args.{Args}
 use Rattle.hack_planner.specs.ContextMembers.{member_at, AreChosen}
-use Rattle.hack_planner.specs.Members.{Member, Choosing, taken, left, ends, SelectsMembers, IsMatched, IsAbout, members_without_names, first_called}
+use Rattle.hack_planner.specs.Members.{Member, taken, left, ends, SelectsMembers, IsMatched, IsAbout, members_without_names}
 use Rattle.hack_base.specs.Notes.{Note}
 use Rattle.hack_versions.specs.declared.version.VersionFault.{VersionFault}
-use Rattle.hack_versions.specs.declared.group.PackageVersion.{PackageVersion}
-use Rattle.hack_planner.specs.Calls.{IsMember, AreMembers, grows, HasPackageRuns, IsDescribed, AreDescribed, adds, IsBadOwn, HasBadOwn}
-use Rattle.hack_plan.specs.View.{PackageView}
+use Rattle.hack_planner.specs.Calls.{IsBadOwn, HasBadOwn}
 
 -- one id more
 id-more : (ids : List PackageId) (i : ℕ) (d : PackageId) → i < length ids → map place_at (take (i + 1) ids) ≡ map place_at (take i ids) ++ (get_or ids i d).index ∷ []
 id-more ids i d lt = ap (map place_at) (take_more ids i d lt) ∙ map-append place_at (take i ids) (get_or ids i d ∷ [])
 
--- one chosen package more
-pub members-more : (cx : ContextRecord) (ids : List PackageId) (i : ℕ) (d : PackageId) → i < length ids → (members : List PackageVersion) (member : PackageVersion) → IsMember cx (get_or ids i d).index member
-    → AreMembers cx (map place_at (take i ids)) members → AreMembers cx (map place_at (take (i + 1) ids)) (members ++ member ∷ [])
-members-more cx ids i d lt members member is before = subst (λ ps. AreMembers cx ps (members ++ member ∷ [])) (sym (id-more ids i d lt)) (grows before is)
+-- one package more
+pub zip-more : {B : Type 0} (R : ℕ → B → Type 0) (ids : List PackageId) (i : ℕ) (d : PackageId) → i < length ids → (ys : List B) (y : B) → R (get_or ids i d).index y
+    → AllZip R (map place_at (take i ids)) ys → AllZip R (map place_at (take (i + 1) ids)) (ys ++ y ∷ [])
+zip-more R ids i d lt ys y is before =
+    subst (λ ps. AllZip R ps (ys ++ y ∷ [])) (sym (id-more ids i d lt))
+    (each-join R (map place_at (take i ids)) ((get_or ids i d).index ∷ []) ys (y ∷ []) before (is, tt))
 
--- one planned package more
-pub planned-more : (cx : ContextRecord) (single : Bool) (ids : List PackageId) (i : ℕ) (d : PackageId) → i < length ids → (packages : List PackageView) (k : PackageView) (notes more : List Note) → IsDescribed cx single (get_or ids i d).index k more
-    → AreDescribed cx single (map place_at (take i ids)) packages notes → AreDescribed cx single (map place_at (take (i + 1) ids)) (packages ++ k ∷ []) (notes ++ more)
-planned-more cx single ids i d lt packages k notes more is before = subst (λ ps. AreDescribed cx single ps (packages ++ k ∷ []) (notes ++ more)) (sym (id-more ids i d lt)) (adds before is)
-
--- the runs of one package more
-pub runs-more : (cx : ContextRecord) (ids : List PackageId) (i : ℕ) (d : PackageId) → i < length ids → (packages : List PackageView) (k : PackageView) → HasPackageRuns cx (get_or ids i d).index k
-    → AllZip (HasPackageRuns cx) (map place_at (take i ids)) packages → AllZip (HasPackageRuns cx) (map place_at (take (i + 1) ids)) (packages ++ k ∷ [])
-runs-more cx ids i d lt packages k is before =
-    subst (λ ps. AllZip (HasPackageRuns cx) ps (packages ++ k ∷ [])) (sym (id-more ids i d lt))
-    (each-join (HasPackageRuns cx) (map place_at (take i ids)) ((get_or ids i d).index ∷ []) packages (k ∷ []) before (is, tt))
+-- the notices on one package more
+pub notes-more : (f : ℕ → List Note) (ids : List PackageId) (i : ℕ) (d : PackageId) → i < length ids → (old new more : List Note) → new ≡ old ++ more → more ≡ f (get_or ids i d).index
+    → old ≡ flat_map f (map place_at (take i ids)) → new ≡ flat_map f (map place_at (take (i + 1) ids))
+notes-more f ids i d lt old new more grown is before =
+    grown ∙ ap (λ l. old ++ l) is ∙ ap (λ l. l ++ f (get_or ids i d).index) before
+    ∙ flat_map_more f [] (map place_at (take i ids)) (get_or ids i d).index
+    ∙ ap (flat_map f) (sym (id-more ids i d lt))
 
 -- a package whose own version can't be read is one of them
 pub bad-at : (cx : ContextRecord) (ids : List PackageId) (i : ℕ) (d : PackageId) → i < length ids → (e : VersionFault) → IsBadOwn cx.args.version_range (rust_version_at cx (get_or ids i d).index) e → HasBadOwn cx (map place_at ids) e
@@ -66,7 +64,7 @@ kept-in P (x ∷ xs) (y ∷ ys) m (taken holds rest) c =
 kept-in P (x ∷ xs) ys m (left fails rest) c = Contains-tail x xs m (kept-in P xs ys m rest c)
 
 -- the first member with a name was in the list
-first-in : (members : List Member) (name : Name) (m : Member) → Contains (first_called members name) m → Contains members m
+first-in : (members : List Member) (name : Name) (m : Member) → Contains (option_to_list (find (λ (k : Member). bytes_eq k.pkg.name name) members)) m → Contains members m
 first-in [] name m c = c
 first-in (x ∷ xs) name m c =
     elim (cases_Bool (bytes_eq x.pkg.name name)) [
@@ -75,9 +73,9 @@ first-in (x ∷ xs) name m c =
     ]
 
 -- a member that a call is about was in the list
-about-in : (named : Bool) (c : Choosing) (members about : List Member) (m : Member) → IsAbout named c members about → Contains about m → Contains members m
-about-in true c members about m is h = kept-in (IsMatched c.named) members about m is h
-about-in false c members about m is h = unnamed-in c.everyone c.current (subst (λ l. Contains l m) is h)
+about-in : (named : Bool) (args : Args) (current : Option Name) (members about : List Member) (m : Member) → IsAbout named args current members about → Contains about m → Contains members m
+about-in true args current members about m is h = kept-in (IsMatched (names_of args.«package».items)) members about m is h
+about-in false args current members about m is h = unnamed-in args.workspace current (subst (λ l. Contains l m) is h)
   where
     unnamed-in : (everyone : Bool) (current : Option Name) → Contains (members_without_names everyone current members) m → Contains members m
     unnamed-in true current h = h
@@ -105,5 +103,5 @@ ids-in cx ids chosen k d lt =
     let at = subst (λ ps. Contains ps id.index) chosen.chosen (Contains-map place_at ids id (All-contains_itself ids k d lt)) in
     let from = Contains-map_from (λ (m : Member). m.place) _ id.index at in
     let kept = Contains-filter_from _ chosen.remaining from.0 from.1 in
-    let there = about-in _ _ _ chosen.left.about from.0 chosen.left.is_about (kept-in _ chosen.left.about chosen.remaining from.0 chosen.left.remain kept.0) in
+    let there = about-in _ _ _ _ chosen.left.about from.0 chosen.left.is_about (kept-in _ chosen.left.about chosen.remaining from.0 chosen.left.remain kept.0) in
     subst (λ p. Contains cx.metadata.workspace_members p) from.2 (member-in cx cx.metadata.workspace_members from.0 there)

@@ -4,6 +4,11 @@ use Rattle.std.specs.Prelude.{nat_lt, ◌&&◌, ◌||◌, if◌then◌else◌}
 use Rattle.std.specs.List.{range_with_len}
 use Rattle.std.proofs.lemmas.Bool.{lt-ltb}
 use Rattle.std.proofs.lemmas.List.FromFn.{get_or-map-range_with_len, length-map-range_with_len}
+use Rattle.std.specs.Bool.{MatchBool}
+use Rattle.hack_features.specs.Feature.{groups_of}
+use Rattle.hack_load.specs.declared.features.Features.{Features}
+use Rattle.hack_metadata.specs.Records.{PackageRecord}
+use Rattle.hack_words.specs.declared.cli.args.Args.{Args}
 use Rattle.hack_base.specs.Names.{Name}
 use Rattle.hack_features.specs.Sets.{IsSelection, IsBefore, IsListing, IsWithin, Pairwise, singles}
 use Rattle.hack_features.specs.Rules.{Choice, IsListed, IsRedundant, NotBothReach, Serves, names_at, names_in, unlifted_groups}
@@ -11,9 +16,11 @@ use Rattle.hack_features.specs.FeatureMap.{EnablesOneOf}
 use Rattle.hack_base.proofs.Members.{Contains-cons_cases}
 use Rattle.hack_features.proofs.Listing.{selection_none, selection_push, selection_up}
 use Rattle.hack_features.proofs.CoverLemmas.{before_trans}
-use Rattle.hack_plan.specs.Runs.{PackageRun, Plain, AllFeatures, NoDefaultFeatures, Set, is_plain, keeps_all, run_if, with_last_first, in_turn, allows_two, is_unlimited}
-use Rattle.hack_planner.specs.Candidates.{Wishes, Known, candidates, lifted_for}
-use Rattle.hack_planner.specs.Kinds.{ArePowersets, AreSetRuns, AreRuns, AreSets, RunsBy, IsDepthOne, as_each, asks, package_choice, options_of}
+use Rattle.std.specs.Option.{is_none, option_map_or}
+use Rattle.hack_plan.specs.Runs.{PackageRun, Plain, AllFeatures, NoDefaultFeatures, Set, is_plain, keeps_all, run_if, in_turn}
+use Rattle.hack_plan.specs.RunsView.{with_last_first}
+use Rattle.hack_planner.specs.Candidates.{candidates, lifted_for}
+use Rattle.hack_planner.specs.Kinds.{ArePowersets, AreSetRuns, AreRuns, AreSets, IsDepthOne, as_each, package_choice, options_of}
 
 in-none : {X : Type 0} (x : X) → Contains [] x → ⊥
 in-none x c = absurd (omega (arith, c.1))
@@ -142,31 +149,31 @@ and-false true = refl
 and-false false = refl
 
 same-keeps : (ex all pw : Bool) (opt norm : ℕ) (d : Option ℕ) → pw ≡ true → d ≡ Some 1 → nat_lt 0 opt ≡ true
-    → (not ex && (if pw then nat_lt 0 opt && not (all && is_unlimited d) else nat_lt 0 opt || nat_lt 1 norm)) ≡ (not ex && (nat_lt 0 opt || nat_lt 1 norm))
+    → (not ex && (if pw then nat_lt 0 opt && not (all && is_none d) else nat_lt 0 opt || nat_lt 1 norm)) ≡ (not ex && (nat_lt 0 opt || nat_lt 1 norm))
 same-keeps ex all pw opt norm d is depth some =
     ap (λ b. not ex && b)
-    (ap (λ b. if b then nat_lt 0 opt && not (all && is_unlimited d) else nat_lt 0 opt || nat_lt 1 norm) is
-    ∙ ap (λ b. b && not (all && is_unlimited d)) some
-    ∙ ap (λ e. not (all && is_unlimited e)) depth
+    (ap (λ b. if b then nat_lt 0 opt && not (all && is_none d) else nat_lt 0 opt || nat_lt 1 norm) is
+    ∙ ap (λ b. b && not (all && is_none d)) some
+    ∙ ap (λ e. not (all && is_none e)) depth
     ∙ ap not (and-false all)
     ∙ sym (ap (λ b. b || nat_lt 1 norm) some))
 
 -- sets of one candidate have the runs of each feature, if the package has optional dependencies
-pub depth-one : (w : Wishes) (p : Known) (runs : List PackageRun) → IsDepthOne w → 0 < length p.optional → AreRuns w p runs → AreRuns (as_each w) p runs
-depth-one w p runs h some are =
-    let asked : asks w ≡ true = ap (λ b. w.each || b) h.powerset ∙ or-true w.each in
-    let r : AreSetRuns w p runs = subst (λ b. RunsBy b w p runs) asked are in
-    let n = length (candidates w p) in
-    let picked : AreSets true w p r.sets = subst (λ b. AreSets b w p r.sets) h.powerset r.are_sets in
-    let listing : ArePowersets None (package_choice w p) n r.sets = subst (λ o. ArePowersets o (package_choice w p) n r.sets) h.all picked in
-    let none : unlifted_groups w.exclusive (lifted_for w p.name) ≡ [] = ap (λ l. unlifted_groups l (lifted_for w p.name)) h.exclusive in
-    let same : r.sets ≡ singles n = all-single n (package_choice w p) r.sets h.depth none h.at_least_one_of listing in
-    let o = options_of w p in
-    let e = options_of (as_each w) p in
-    let keeps : keeps_all o ≡ keeps_all e = same-keeps w.exclude_all_features o.all_optional_deps w.powerset (length p.optional) (length p.normal) w.depth h.powerset h.depth (lt-ltb 0 (length p.optional) some) in
+pub depth-one : (w : Args) (p : PackageRecord) (f : Features) (runs : List PackageRun) → IsDepthOne w → 0 < length f.optional_deps.items → AreRuns w p f runs → AreRuns (as_each w) p f runs
+depth-one w p f runs h some are =
+    let asked : (w.each_feature || w.feature_powerset) ≡ true = ap (λ b. w.each_feature || b) h.powerset ∙ or-true w.each_feature in
+    let r : AreSetRuns w p f runs = subst (λ b. MatchBool b (AreSetRuns w p f runs) (runs ≡ Plain ∷ [])) asked are in
+    let n = length (candidates w f) in
+    let picked : AreSets true w p f r.sets = subst (λ b. AreSets b w p f r.sets) h.powerset r.are_sets in
+    let listing : ArePowersets None (package_choice w p f) n r.sets = subst (λ o. ArePowersets o (package_choice w p f) n r.sets) h.all picked in
+    let none : unlifted_groups (groups_of w.mutually_exclusive_features.items) (lifted_for w p.name) ≡ [] = ap (λ l. unlifted_groups l (lifted_for w p.name)) h.exclusive in
+    let same : r.sets ≡ singles n = all-single n (package_choice w p f) r.sets h.depth none h.at_least_one_of listing in
+    let o = options_of w f in
+    let e = options_of (as_each w) f in
+    let keeps : keeps_all o ≡ keeps_all e = same-keeps w.exclude_all_features o.all_optional_deps w.feature_powerset (length f.optional_deps.items) (length f.normal.items) w.depth h.powerset h.depth (lt-ltb 0 (length f.optional_deps.items) some) in
     let turn : in_turn o r.sets ≡ in_turn e r.sets =
-    ap (λ d. with_last_first (w.powerset && not (keeps_all o) && nat_lt 1 (length r.sets) && allows_two d) r.sets) h.depth
-    ∙ ap (λ b. with_last_first b r.sets) (and-false (w.powerset && not (keeps_all o) && nat_lt 1 (length r.sets))) in
+    ap (λ d. with_last_first (w.feature_powerset && not (keeps_all o) && nat_lt 1 (length r.sets) && option_map_or (nat_lt 1) d true) r.sets) h.depth
+    ∙ ap (λ b. with_last_first b r.sets) (and-false (w.feature_powerset && not (keeps_all o) && nat_lt 1 (length r.sets))) in
     record {
       sets = r.sets;
       are_sets = same;

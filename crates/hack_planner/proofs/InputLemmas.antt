@@ -13,7 +13,7 @@ use Rattle.hack_versions.specs.RangeSteps.{AreStepsOf, IsRangeFault}
 use Rattle.hack_versions.specs.VersionUses.{UsesBy, HasOwn, IsGroupFault, IsOwnVersionFault, own_of}
 use Rattle.hack_versions.specs.VersionOrder.{strip_patch}
 use Rattle.hack_plan.specs.Entries.{HasRun, HasTooMany, IsAdmissible}
-use Rattle.hack_plan.specs.Inputs.{HaveTwo, IsStepList, IsVersion, IsVersionsFault, UsesVersion, given_of, minor_of, owns_of, slots_of}
+use Rattle.hack_plan.specs.Inputs.{HaveTwo, IsStepList, IsVersion, IsVersionsFault, UsesVersion, minor_of, owns_of, slots_of}
 use Rattle.hack_plan.specs.declared.places.PlanEntry.{PlanEntry}
 use Rattle.hack_plan.specs.declared.versions.PlanInput.{PlanInput}
 
@@ -95,15 +95,16 @@ group-alike r xs ys e same h =
 
 two-alike : (xs ys : List PackageVersion) → AllZip AreAlike xs ys → HaveTwo xs → HaveTwo ys
 two-alike xs ys same w =
-    let a = other-alike xs ys w.one same w.first in
-    let b = other-alike xs ys w.other same w.second in
-    record { one = a.0; other = b.0; first = a.1; second = b.1; differ = λ e. w.differ (own-alike w.one a.0 a.2 ∙ e ∙ sym (own-alike w.other b.0 b.2)) }
+    let v = w.4 in
+    let a = other-alike xs ys w.1 same (w.0, w.2, w.3) in
+    let b = other-alike xs ys v.1 same (v.0, v.2, v.3) in
+    (a.1.0, a.0, a.1.1, a.1.2, (b.1.0, b.0, b.1.1, b.1.2, λ e. v.4 (own-alike w.1 a.0 a.2 ∙ e ∙ sym (own-alike v.1 b.0 b.2))))
 
 -- ---- two inputs that agree
 
 module _ (s t : PlanInput) (same : AgreeInputs s t) where
   owns-same : owns_of s ≡ owns_of t
-  owns-same = map-alike AreAlike given_of (λ m n k. k.own) s.packages.items t.packages.items same.members
+  owns-same = map-alike AreAlike (λ (m : PackageVersion). m.rust_version) (λ m n k. k.own) s.packages.items t.packages.items same.members
 
   fault-within : (r : Option VersionRange) (latest : Option Version) (e : RangeFault) → IsVersionsFault r s latest e → IsVersionsFault r t latest e
   fault-within None latest e h = h

@@ -4,16 +4,21 @@ use Rattle.std.specs.Prelude.{nat_lt, ◌&&◌, ◌||◌, ◌==◌, if◌then◌
 use Rattle.std.specs.Borrow.{Bor}
 use Rattle.std.proofs.lemmas.List.{map-append, take-append-drop, length-map, get_or-map}
 use Rattle.std.proofs.lemmas.List.Elements.{Contains-append_left, Contains-append_right, Contains-append_cases}
+use Rattle.std.specs.Bool.{MatchBool}
+use Rattle.hack_load.specs.declared.features.Features.{Features}
+use Rattle.hack_metadata.specs.Records.{PackageRecord}
+use Rattle.hack_words.specs.declared.cli.args.Args.{Args}
 use Rattle.hack_features.specs.declared.feature.Feature.{Feature}
 use Rattle.hack_features.specs.Feature.{group_of, groups_of, candidates_of}
 use Rattle.hack_features.specs.Rules.{AreCovers}
 use Rattle.hack_base.proofs.Steps.{seen-next}
 use Rattle.hack_plan.specs.declared.runs.RunOptions.{RunOptions}
-use Rattle.hack_plan.specs.Runs.{PackageRun, Plain, AllFeatures, NoDefaultFeatures, Set, is_plain, keeps_all, run_if, last_first, in_turn, allows_two, runs_from}
+use Rattle.std.specs.Option.{option_map_or}
+use Rattle.hack_plan.specs.Runs.{PackageRun, Plain, AllFeatures, NoDefaultFeatures, Set, is_plain, keeps_all, run_if, last_first, in_turn, runs_from}
 use Rattle.hack_planner.specs.declared.kind.Kind.{Kind}
 use Rattle.hack_planner.specs.declared.kind.Kind.TheVariants.{Normal, Each, Powerset}
-use Rattle.hack_planner.specs.Candidates.{Wishes, Known, candidates}
-use Rattle.hack_planner.specs.Kinds.{AreSetRuns, RunsBy, AreRuns, HasPlainRun, HasSetRuns, AreCovering, asks, package_choice, options_of}
+use Rattle.hack_planner.specs.Candidates.{candidates}
+use Rattle.hack_planner.specs.Kinds.{AreSetRuns, AreRuns, HasPlainRun, HasSetRuns, AreCovering, package_choice, options_of}
 use Rattle.hack_planner.specs.KindsView.{IsKind, runs_of}
 
 -- references to features, after one more
@@ -39,7 +44,7 @@ in-map xs t c = (c.0, omega (arith, c.1, length-map xs Set), get_or-map Set xs c
 -- each set has its run
 runs-has : (o : RunOptions) (sets : List (List ℕ)) (t : List ℕ) → is_plain o sets ≡ false → Contains sets t → Contains (runs_from o sets) (Set t)
 runs-has o sets t some c =
-    let turned : Contains (in_turn o sets) t = pick (o.powerset && not (keeps_all o) && nat_lt 1 (length sets) && allows_two o.depth) (last_first sets) sets t (in-last_first sets t c) c in
+    let turned : Contains (in_turn o sets) t = pick (o.powerset && not (keeps_all o) && nat_lt 1 (length sets) && option_map_or (nat_lt 1) o.depth true) (last_first sets) sets t (in-last_first sets t c) c in
     subst (λ b. Contains (if b then Plain ∷ [] else (run_if (keeps_all o) AllFeatures ++ run_if (not o.exclude_no_default_features) NoDefaultFeatures) ++ map Set (in_turn o sets)) (Set t)) (sym some)
     (Contains-append_right (run_if (keeps_all o) AllFeatures ++ run_if (not o.exclude_no_default_features) NoDefaultFeatures) (map Set (in_turn o sets)) (Set t) (in-map (in_turn o sets) t turned))
 
@@ -56,38 +61,38 @@ plain-none : (o : RunOptions) (sets : List (List ℕ)) (t : List ℕ) → is_pla
 plain-none o sets t plain c = nothing-in 0 sets t (first-true (length sets == 0) ((o.normal == 0) && (o.optional == 0) || o.included) plain) c
 
 -- if sets cover, their runs cover too
-pub covering-runs : (w : Wishes) (p : Known) (sets : List (List ℕ)) (runs : List PackageRun) → is_plain (options_of w p) sets ≡ false → AreCovers (package_choice w p) (length (candidates w p)) sets
-    → runs ≡ runs_from (options_of w p) sets → AreCovering w p runs
-covering-runs w p sets runs some covers made s sel wanted =
+pub covering-runs : (w : Args) (p : PackageRecord) (f : Features) (sets : List (List ℕ)) (runs : List PackageRun) → is_plain (options_of w f) sets ≡ false → AreCovers (package_choice w p f) (length (candidates w f)) sets
+    → runs ≡ runs_from (options_of w f) sets → AreCovering w p f runs
+covering-runs w p f sets runs some covers made s sel wanted =
     let t = covers s sel wanted in
-    (t.0, t.1, subst (λ l. Contains l (Set t.0)) (sym made) (runs-has (options_of w p) sets t.0 some t.2))
+    (t.0, t.1, subst (λ l. Contains l (Set t.0)) (sym made) (runs-has (options_of w f) sets t.0 some t.2))
 
 -- so does a single plain run, since then no set has to be covered
-pub covering-plain : (w : Wishes) (p : Known) (sets : List (List ℕ)) (runs : List PackageRun) → is_plain (options_of w p) sets ≡ true → AreCovers (package_choice w p) (length (candidates w p)) sets → AreCovering w p runs
-covering-plain w p sets runs plain covers s sel wanted =
+pub covering-plain : (w : Args) (p : PackageRecord) (f : Features) (sets : List (List ℕ)) (runs : List PackageRun) → is_plain (options_of w f) sets ≡ true → AreCovers (package_choice w p f) (length (candidates w f)) sets → AreCovering w p f runs
+covering-plain w p f sets runs plain covers s sel wanted =
     let t = covers s sel wanted in
-    absurd (plain-none (options_of w p) sets t.0 plain t.2)
+    absurd (plain-none (options_of w f) sets t.0 plain t.2)
 
 pub or-true : (a : Bool) → (a || true) ≡ true
 or-true true = refl
 or-true false = refl
 
-plain-by : (w : Wishes) (p : Known) (b : Bool) → asks w ≡ b → HasPlainRun w p → RunsBy b w p (Plain ∷ [])
-plain-by w p false is h = refl
-plain-by w p true is h = record {
+plain-by : (w : Args) (p : PackageRecord) (f : Features) (b : Bool) → (w.each_feature || w.feature_powerset) ≡ b → HasPlainRun w p f → MatchBool b (AreSetRuns w p f (Plain ∷ [])) ((Plain ∷ []) ≡ Plain ∷ [])
+plain-by w p f false is h = refl
+plain-by w p f true is h = record {
   sets = h.sets;
   are_sets = h.are_sets is;
-  made = ap (λ (b : Bool). if b then Plain ∷ [] else (run_if (keeps_all (options_of w p)) AllFeatures ++ run_if (not w.exclude_no_default_features) NoDefaultFeatures) ++ map Set (in_turn (options_of w p) h.sets)) (sym (h.plain is));
+  made = ap (λ (b : Bool). if b then Plain ∷ [] else (run_if (keeps_all (options_of w f)) AllFeatures ++ run_if (not w.exclude_no_default_features) NoDefaultFeatures) ++ map Set (in_turn (options_of w f) h.sets)) (sym (h.plain is));
 }
 
-set-runs : (w : Wishes) (p : Known) (runs : List PackageRun) → HasSetRuns w p runs → AreSetRuns w p runs
-set-runs w p runs h = record { sets = h.sets; are_sets = h.are_sets; made = h.made }
+set-runs : (w : Args) (p : PackageRecord) (f : Features) (runs : List PackageRun) → HasSetRuns w p f runs → AreSetRuns w p f runs
+set-runs w p f runs h = record { sets = h.sets; are_sets = h.are_sets; made = h.made }
 
 -- the runs of a kind are the package's
-pub runs-of_kind : (w : Wishes) (p : Known) (kind : Kind) → IsKind w p kind → AreRuns w p (runs_of kind)
-runs-of_kind w p Normal h = plain-by w p (asks w) refl h
-runs-of_kind w p (Each list runs) h = subst (λ b. RunsBy b w p (runs_of (Each list runs))) (sym (ap (λ b. b || w.powerset) h.0)) (set-runs w p (runs_of (Each list runs)) h.3)
-runs-of_kind w p (Powerset list runs) h = subst (λ b. RunsBy b w p (runs_of (Powerset list runs))) (sym (ap (λ b. w.each || b) h.0 ∙ or-true w.each)) (set-runs w p (runs_of (Powerset list runs)) h.2)
+pub runs-of_kind : (w : Args) (p : PackageRecord) (f : Features) (kind : Kind) → IsKind w p f kind → AreRuns w p f (runs_of kind)
+runs-of_kind w p f Normal h = plain-by w p f (w.each_feature || w.feature_powerset) refl h
+runs-of_kind w p f (Each list runs) h = subst (λ b. MatchBool b (AreSetRuns w p f (runs_of (Each list runs))) ((runs_of (Each list runs)) ≡ Plain ∷ [])) (sym (ap (λ b. b || w.feature_powerset) h.0)) (set-runs w p f (runs_of (Each list runs)) h.3)
+runs-of_kind w p f (Powerset list runs) h = subst (λ b. MatchBool b (AreSetRuns w p f (runs_of (Powerset list runs))) ((runs_of (Powerset list runs)) ≡ Plain ∷ [])) (sym (ap (λ b. w.each_feature || b) h.0 ∙ or-true w.each_feature)) (set-runs w p f (runs_of (Powerset list runs)) h.2)
 
 -- what holds of some arguments, package and features holds of those that are equal to them
 pub moved : {A X Y : Type 0} (F : A → X → Y → Type 0) (a b : A) (x x' : X) (y y' : Y) → a ≡ b → Some x' ≡ Some x → Some y' ≡ Some y → F a x y → F b x' y'

@@ -3,11 +3,17 @@ use Rattle.std.proofs.Common.{◌≡◌, ◌∙◌, ℕ, ◌+◌, ◌-◌, ◌�
 use Rattle.std.specs.Prelude.{nat_lt, ◌&&◌, ◌||◌, ◌==◌, if◌then◌else◌}
 use Rattle.std.proofs.lemmas.Bool.{cases_Bool}
 use Rattle.std.proofs.lemmas.List.{take-append-drop, length-map}
+use Rattle.std.specs.Bool.{MatchBool}
+use Rattle.hack_load.specs.declared.features.Features.{Features}
+use Rattle.hack_metadata.specs.Records.{PackageRecord}
+use Rattle.hack_words.specs.declared.cli.args.Args.{Args}
 use Rattle.hack_features.specs.Rules.{Choice}
 use Rattle.hack_plan.specs.declared.runs.RunOptions.{RunOptions}
-use Rattle.hack_plan.specs.Runs.{PackageRun, Plain, AllFeatures, NoDefaultFeatures, Set, allows_two, in_turn, is_plain, keeps_all, run_if, runs_from, with_last_first}
-use Rattle.hack_planner.specs.Candidates.{Wishes, Known, candidates}
-use Rattle.hack_planner.specs.Kinds.{ArePowersets, AreSets, RunsBy, AreSetRuns, asks, package_choice, options_of}
+use Rattle.std.specs.Option.{option_map_or}
+use Rattle.hack_plan.specs.Runs.{PackageRun, Plain, AllFeatures, NoDefaultFeatures, Set, in_turn, is_plain, keeps_all, run_if, runs_from}
+use Rattle.hack_plan.specs.RunsView.{with_last_first}
+use Rattle.hack_planner.specs.Candidates.{candidates}
+use Rattle.hack_planner.specs.Kinds.{ArePowersets, AreSets, AreSetRuns, package_choice, options_of}
 use Rattle.hack_planner.specs.LeastRuns.{HasRunsAtLeast}
 use Rattle.hack_planner.specs.Internal.{ListsAtLeast}
 use Rattle.hack_planner.proofs.KindLemmas.{covering-plain, covering-runs, first-true, or-true}
@@ -38,27 +44,27 @@ many-by o sets n least false is enough most none =
       length-append (all ++ bare) (map Set turned),
       length-append all bare,
       length-map turned Set,
-      length-turned (o.powerset && not (keeps_all o) && nat_lt 1 (length sets) && allows_two o.depth) sets,
+      length-turned (o.powerset && not (keeps_all o) && nat_lt 1 (length sets) && option_map_or (nat_lt 1) o.depth true) sets,
       length-kept o.exclude_no_default_features,
       enough,
       most,
     )
 
 -- under a powerset of all sets, a package of so many listed sets
-pub runs-at_least : (w : Wishes) (p : Known) (n least : ℕ) → w.powerset ≡ true → w.strength ≡ None → ListsAtLeast (package_choice w p) (length (candidates w p)) n → least ≤ n + cond w.exclude_no_default_features 0 1 → (n ≡ 0 → least ≡ 0)
-    → HasRunsAtLeast w p least
-runs-at_least w p n least powerset strength h most none =
-    let o = options_of w p in
-    let asked : asks w ≡ true = ap (λ b. w.each || b) powerset ∙ or-true w.each in
-    let listed : ArePowersets w.strength (package_choice w p) (length (candidates w p)) h.sets = subst (λ s. ArePowersets s (package_choice w p) (length (candidates w p)) h.sets) (sym strength) h.listing in
-    let are : AreSets w.powerset w p h.sets = subst (λ b. AreSets b w p h.sets) (sym powerset) listed in
-    let made : AreSetRuns w p (runs_from o h.sets) = record { sets = h.sets; are_sets = are; made = refl } in
+pub runs-at_least : (w : Args) (p : PackageRecord) (f : Features) (n least : ℕ) → w.feature_powerset ≡ true → w.strength ≡ None → ListsAtLeast (package_choice w p f) (length (candidates w f)) n → least ≤ n + cond w.exclude_no_default_features 0 1 → (n ≡ 0 → least ≡ 0)
+    → HasRunsAtLeast w p f least
+runs-at_least w p f n least powerset strength h most none =
+    let o = options_of w f in
+    let asked : (w.each_feature || w.feature_powerset) ≡ true = ap (λ b. w.each_feature || b) powerset ∙ or-true w.each_feature in
+    let listed : ArePowersets w.strength (package_choice w p f) (length (candidates w f)) h.sets = subst (λ s. ArePowersets s (package_choice w p f) (length (candidates w f)) h.sets) (sym strength) h.listing in
+    let are : AreSets w.feature_powerset w p f h.sets = subst (λ b. AreSets b w p f h.sets) (sym powerset) listed in
+    let made : AreSetRuns w p f (runs_from o h.sets) = record { sets = h.sets; are_sets = are; made = refl } in
     record {
       runs = runs_from o h.sets;
-      are_runs = subst (λ b. RunsBy b w p (runs_from o h.sets)) (sym asked) made;
+      are_runs = subst (λ b. MatchBool b (AreSetRuns w p f (runs_from o h.sets)) ((runs_from o h.sets) ≡ Plain ∷ [])) (sym asked) made;
       covering = elim (cases_Bool (is_plain o h.sets)) [
-        | inl plain ↦ covering-plain w p h.sets (runs_from o h.sets) plain h.covers
-        | inr some ↦ covering-runs w p h.sets (runs_from o h.sets) some h.covers refl
+        | inl plain ↦ covering-plain w p f h.sets (runs_from o h.sets) plain h.covers
+        | inr some ↦ covering-runs w p f h.sets (runs_from o h.sets) some h.covers refl
       ];
       enough = many-by o h.sets n least (is_plain o h.sets) refl h.enough most none;
     }

@@ -11,8 +11,7 @@ use Rattle.hack_metadata.specs.Records.{PackageRecord}
 use Rattle.hack_metadata.specs.RecordViews.{place_at}
 use Rattle.hack_metadata.specs.declared.metadata.resolve.PackageId.{PackageId}
 use Rattle.hack_planner.specs.Candidates.{candidates}
-use Rattle.hack_planner.specs.CandidatesView.{wishes}
-use Rattle.hack_planner.specs.ContextMembers.{AreChosen, known_as}
+use Rattle.hack_planner.specs.ContextMembers.{AreChosen}
 use Rattle.hack_planner.specs.LeastRuns.{HasRunsAtLeast}
 use Rattle.hack_plan.specs.Entries.{HasRun, HasTooMany, IsAdmissible}
 use Rattle.hack_plan.specs.declared.places.PlacesFault.{PlacesFault}
@@ -21,25 +20,26 @@ use Rattle.hack_plan.specs.declared.places.PlanEntry.{PlanEntry}
 use Rattle.hack_plan.specs.declared.versions.PlanInput.{PlanInput}
 use Rattle.hack_plan.specs.View.{PackageView}
 use Rattle.hack_versions.specs.declared.version.Version.{Version}
-use Rattle.hack_planner.specs.Calls.{IsInputOf, given_path}
+use Rattle.hack_planner.specs.Calls.{IsChosenPackage, IsInputOf, given_path}
 use Rattle.hack_planner.specs.InternalLeastPlaces.{HasAtLeast, HaveAtLeast}
 use Rattle.hack_planner.specs.CallPlan.{IsCause, run_counts}
 use Rattle.hack_planner.specs.InternalFaultConversions.{of_places}
 use Rattle.hack_planner.specs.declared.fault.PlanFault.TheVariants as fault
-use Rattle.hack_planner.proofs.ChosenLemmas.{runs-more}
+use Rattle.hack_planner.proofs.ChosenLemmas.{zip-more}
 
 -- a package of at least so many runs, as it may stand in a plan
 pub planned-at_least : (cx : ContextRecord) (id least : ℕ) (pkg : PackageRecord) (features : Features) → package_at cx id ≡ Some pkg → features_at cx id ≡ Some features
-    → HasRunsAtLeast (wishes cx.args) (known_as pkg features) least → HasAtLeast cx id least
+    → HasRunsAtLeast cx.args pkg features least → HasAtLeast cx id least
 planned-at_least cx id least pkg features known loaded h =
-    let w = wishes cx.args in
-    let p = known_as pkg features in
+    let w = cx.args in
+    let p = pkg in
+    let f = features in
     record {
       planned_as = record {
         name = pkg.name;
         manifest_path = given_path cx.args.no_manifest_path cx.current_dir (Some pkg);
         features = passed_for cx (Some id);
-        candidates = candidates w p;
+        candidates = candidates w f;
         runs = h.runs;
         settings = [];
       };
@@ -48,6 +48,9 @@ planned-at_least cx id least pkg features known loaded h =
         features = features;
         known = known;
         loaded = loaded;
+        name = refl;
+        path = refl;
+        given = refl;
         candidates = inl refl;
         runs = h.are_runs;
       };
@@ -63,7 +66,7 @@ pub more-at_least : (cx : ContextRecord) (ids : List PackageId) (i : ℕ) (d : P
     → HaveAtLeast cx (map place_at (take i ids)) counts → HaveAtLeast cx (map place_at (take (i + 1) ids)) new
 more-at_least cx ids i d counts new least lt pushed one before = record {
   packages = before.packages ++ one.planned_as ∷ [];
-  each = runs-more cx ids i d lt before.packages one.planned_as one.has before.each;
+  each = zip-more (IsChosenPackage cx) ids i d lt before.packages one.planned_as one.has before.each;
   enough = subst (λ ns. AllZip (λ least n. least ≤ n) ns (run_counts (before.packages ++ one.planned_as ∷ []))) (sym pushed)
       (subst (AllZip (λ least n. least ≤ n) (counts ++ least ∷ [])) (sym (map-append (λ (k : PackageView). length k.runs) before.packages (one.planned_as ∷ [])))
       (AllZip-push (λ least n. least ≤ n) counts (run_counts before.packages) least (length one.planned_as.runs) before.enough one.enough));

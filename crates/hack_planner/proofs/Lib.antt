@@ -14,6 +14,7 @@ mod PlanLemmas
 mod PowersetLemmas
 mod CauseLemmas
 mod MadeLemmas
+pub mod Performing
 mod InputLemmas
 mod OnceLemmas
 mod NeverLemmas

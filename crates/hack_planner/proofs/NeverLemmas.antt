@@ -12,7 +12,7 @@ use Rattle.hack_plan.specs.View.{PackageView}
 use Rattle.hack_versions.specs.declared.rustup.RangeFault.{RangeFault}
 use Rattle.hack_versions.specs.declared.version.Version.{Version}
 use Rattle.hack_versions.specs.declared.version.VersionFault.{VersionFault}
-use Rattle.hack_planner.specs.Calls.{HasPackageRuns, HasBadOwn, IsInputOf}
+use Rattle.hack_planner.specs.Calls.{IsChosenPackage, HasBadOwn, IsInputOf}
 use Rattle.hack_planner.specs.CallPlan.{IsSureCause, IsSureCauseBy, IsSureCauseOf, run_counts}
 use Rattle.hack_planner.specs.declared.fault.PlanFault.{PlanFault}
 use Rattle.hack_planner.specs.declared.fault.PlanFault.TheVariants as fault
@@ -26,7 +26,7 @@ pub record IsSound (cx : ContextRecord) (latest : Option Version) : Type 0 where
   pub packages : List PackageView
   pub chosen : AreChosen cx ids
   pub of_call : IsInputOf cx ids input
-  pub each : AllZip (HasPackageRuns cx) ids packages
+  pub each : AllZip (IsChosenPackage cx) ids packages
   pub known : (e : PackagesFault) → ¬ IsChoiceFault cx e
   pub readable : (e : VersionFault) → ¬ HasBadOwn cx ids e
   pub in_range : (e : RangeFault) → ¬ IsVersionsFault input.range input latest e
@@ -50,7 +50,7 @@ no-cause cx latest h fault.TooManyRuns both =
     let bad = both.1 in
     let ids = chosen-once cx bad.ids h.ids bad.chosen h.chosen in
     let agree = inputs-agree cx h.ids bad.input h.input (subst (λ l. IsInputOf cx l bad.input) ids bad.of_call) h.of_call in
-    let each = subst (λ l. AllZip (HasPackageRuns cx) l bad.packages) ids bad.each in
+    let each = subst (λ l. AllZip (IsChosenPackage cx) l bad.packages) ids bad.each in
     let counts = counts-once cx both.0 h.ids bad.packages h.packages each h.each in
     h.fits (subst (λ ns. HasTooMany h.input ns latest) counts (many-same bad.input h.input agree (run_counts bad.packages) latest bad.many))
 

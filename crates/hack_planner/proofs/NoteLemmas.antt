@@ -1,12 +1,17 @@
 -- Notices on one package, slot or version more.
-use Rattle.std.proofs.Common.{◌≡◌, arith, ℕ, ◌+◌, ◌<◌, ◌≤◌, List, [], ◌∷◌, ◌++◌, length, take, get_or, map, refl, ap, sym, ◌∙◌, append-nil, Some, option_map}
+use Rattle.std.proofs.Common.{◌≡◌, arith, ℕ, ◌+◌, ◌<◌, ◌≤◌, List, [], ◌∷◌, ◌++◌, length, take, get_or, map, refl, ap, sym, ◌∙◌, append-nil, Bool, Some, option_map}
 use Rattle.std.specs.List.{flat_map, range_with_len, slice_get}
+use Rattle.std.specs.Option.{option_map_or}
 use Rattle.std.proofs.lemmas.List.{take_more, flat_map_more, map-id}
 use Rattle.std.proofs.lemmas.List.FromFn.{map-range_with_len_more}
 use Rattle.std.proofs.lemmas.Option.{slice_get-map, slice_get_read, slice_get_past}
 use Rattle.hack_metadata.specs.RecordViews.{place_at}
 use Rattle.hack_metadata.specs.declared.metadata.resolve.PackageId.{PackageId}
-use Rattle.hack_load.specs.Contexts.{ContextRecord}
+use Rattle.hack_load.specs.Contexts.{ContextRecord, package_at, features_at}
+use Rattle.hack_load.specs.declared.features.Features.{Features}
+use Rattle.hack_metadata.specs.Records.{PackageRecord}
+use Rattle.hack_planner.specs.Calls.{candidate_notes_at}
+use Rattle.hack_planner.specs.Candidates.{candidate_notes}
 use Rattle.hack_load.specs.GivenFeatures.{left_out_for}
 use Rattle.hack_base.specs.Notes.{Note}
 
@@ -39,3 +44,10 @@ told-of cx ids p id lt is = ap (left_out_for cx) (sym (place-of ids p id lt is))
 pub none-told : (cx : ContextRecord) (ids : List PackageId) (p : ℕ) (old : List Note) → length ids ≤ p → old ≡ old ++ left_out_for cx (slice_get (map place_at ids) p)
 none-told cx ids p old past =
     sym (append-nil old) ∙ ap (λ o. old ++ left_out_for cx o) (sym (slice_get-map place_at ids p ∙ ap (option_map place_at) (slice_get_past ids p past)))
+
+-- the notices on the features of a package that is known
+pub notes-at : (cx : ContextRecord) (single : Bool) (id : ℕ) (pkg : PackageRecord) (features : Features) → package_at cx id ≡ Some pkg → features_at cx id ≡ Some features
+    → candidate_notes_at cx single id ≡ candidate_notes single cx.args pkg.name features
+notes-at cx single id pkg features known loaded =
+    ap (λ o. option_map_or (λ p. option_map_or (λ f. candidate_notes single cx.args p.name f) (features_at cx id) []) o []) known
+    ∙ ap (λ o. option_map_or (λ f. candidate_notes single cx.args pkg.name f) o []) loaded

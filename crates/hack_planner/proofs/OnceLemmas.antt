@@ -1,31 +1,32 @@
 -- What a call determines: which packages are chosen, and the name, the own version and the runs of
 -- each.
-use Rattle.std.proofs.Common.{◌≡◌, ◌↔◌, refl, sym, ap, subst, ◌∙◌, inl, inr, ℕ, List, [], ◌∷◌, map, filter, length, not, Bool, true, false, Option, Some, None, IsTrue, All, Contains}
+use Rattle.std.proofs.Common.{◌≡◌, ◌↔◌, refl, sym, ap, subst, ◌∙◌, inl, inr, ℕ, List, [], ◌∷◌, map, filter, length, not, Bool, true, false, Option, Some, None, IsTrue, All, Contains, string_bytes}
+use Rattle.std.specs.Prelude.{◌||◌}
 use Rattle.std.specs.List.{AllZip}
 use Rattle.std.proofs.lemmas.List.Elements.{All-contains}
 use Rattle.std.proofs.lemmas.Option.{same_Some}
-use Rattle.hack_base.specs.Names.{Name}
+use Rattle.std.specs.Bool.{MatchBool}
+use Rattle.hack_load.specs.declared.features.Features.{Features}
+use Rattle.hack_words.specs.declared.cli.args.Args.{Args}
+use Rattle.hack_base.specs.Names.{Name, names_of}
 use Rattle.hack_features.specs.Rules.{IsListed}
 use Rattle.hack_features.specs.Sets.{IsBefore, IsListing, Pairwise}
 use Rattle.hack_features.proofs.CoverLemmas.{before_trans}
 use Rattle.hack_base.proofs.Members.{Contains-cons_cases, Contains-head, Contains-tail, Contains-nil}
 use Rattle.hack_load.specs.Contexts.{ContextRecord, rust_version_at}
-use Rattle.hack_load.proofs.FeatureLemmas.{each-join}
 use Rattle.hack_metadata.specs.Records.{PackageRecord}
-use Rattle.hack_planner.specs.Candidates.{Known, Wishes, candidates}
-use Rattle.hack_planner.specs.CandidatesView.{wishes}
-use Rattle.hack_planner.specs.ContextMembers.{AreChosen, current_name, known_as, members_in}
-use Rattle.hack_planner.specs.Kinds.{ArePowersets, AreRuns, AreSets, RunsBy, asks, package_choice, options_of}
-use Rattle.hack_planner.specs.Members.{Choosing, Collects, ends, taken, left, IsAbout, IsMatched, IsPackageList, SelectsMembers, Member, is_skipped, names_some}
-use Rattle.hack_planner.specs.MembersView.{choosing_of}
-use Rattle.hack_plan.specs.Runs.{PackageRun, runs_from}
+use Rattle.hack_planner.specs.Candidates.{candidates}
+use Rattle.hack_planner.specs.ContextMembers.{AreChosen, current_name, members_in}
+use Rattle.hack_planner.specs.Kinds.{ArePowersets, AreRuns, AreSetRuns, AreSets, package_choice, options_of}
+use Rattle.hack_planner.specs.Members.{Collects, ends, taken, left, IsAbout, IsMatched, IsPackageList, SelectsMembers, Member, is_skipped, names_some}
+use Rattle.hack_plan.specs.Runs.{PackageRun, Plain, runs_from}
 use Rattle.hack_plan.specs.declared.versions.PlanInput.{PlanInput}
 use Rattle.hack_plan.specs.View.{PackageView}
 use Rattle.hack_versions.specs.declared.group.PackageVersion.{PackageVersion}
 use Rattle.hack_versions.specs.declared.version.Version.{Version}
 use Rattle.hack_versions.specs.declared.version.VersionRange.{VersionRange}
 use Rattle.hack_versions.proofs.RangeLemmas.{version-same}
-use Rattle.hack_planner.specs.Calls.{AreMembers, starts, grows, HasPackageRuns, IsMember, IsOwn, IsInputOf}
+use Rattle.hack_planner.specs.Calls.{IsChosenPackage, IsMember, IsOwn, IsInputOf}
 use Rattle.hack_planner.specs.CallPlan.{run_counts}
 use Rattle.hack_planner.proofs.InputLemmas.{AgreeInputs, AreAlike, map-alike, zip-alike}
 
@@ -39,20 +40,20 @@ collects-once P f (x ∷ xs) ys zs (taken h c) (left k d) = absurd (k h)
 collects-once P f (x ∷ xs) ys zs (left h c) (taken k d) = absurd (h k)
 collects-once P f (x ∷ xs) ys zs (left h c) (left k d) = collects-once P f xs ys zs c d
 
-about-once : (named : Bool) (c : Choosing) (members xs ys : List Member) → IsAbout named c members xs → IsAbout named c members ys → xs ≡ ys
-about-once true c members xs ys h k = collects-once (IsMatched c.named) (λ m. m) members xs ys h k
-about-once false c members xs ys h k = h ∙ sym k
+about-once : (named : Bool) (args : Args) (current : Option Name) (members xs ys : List Member) → IsAbout named args current members xs → IsAbout named args current members ys → xs ≡ ys
+about-once true args current members xs ys h k = collects-once (IsMatched (names_of args.«package».items)) (λ m. m) members xs ys h k
+about-once false args current members xs ys h k = h ∙ sym k
 
-listed-once : (c : Choosing) (members : List Member) (places others : List ℕ) → IsPackageList c members places → IsPackageList c members others → places ≡ others
-listed-once c members places others h k =
-    let about : h.left.about ≡ k.left.about = about-once (names_some c) c members h.left.about k.left.about h.left.is_about k.left.is_about in
-    let remain = subst (λ l. SelectsMembers (λ m. ¬ IsMatched c.excluded m) l h.remaining) about h.left.remain in
-    let remaining : h.remaining ≡ k.remaining = collects-once (λ m. ¬ IsMatched c.excluded m) (λ m. m) k.left.about h.remaining k.remaining remain k.left.remain in
-    h.chosen ∙ ap (λ l. map (λ (m : Member). m.place) (filter (λ m. not (is_skipped c m)) l)) remaining ∙ sym k.chosen
+listed-once : (args : Args) (current : Option Name) (members : List Member) (places others : List ℕ) → IsPackageList args current members places → IsPackageList args current members others → places ≡ others
+listed-once args current members places others h k =
+    let about : h.left.about ≡ k.left.about = about-once (names_some args) args current members h.left.about k.left.about h.left.is_about k.left.is_about in
+    let remain = subst (λ l. SelectsMembers (λ m. ¬ IsMatched (names_of args.exclude.items) m) l h.remaining) about h.left.remain in
+    let remaining : h.remaining ≡ k.remaining = collects-once (λ m. ¬ IsMatched (names_of args.exclude.items) m) (λ m. m) k.left.about h.remaining k.remaining remain k.left.remain in
+    h.chosen ∙ ap (λ l. map (λ (m : Member). m.place) (filter (λ m. not (is_skipped args m)) l)) remaining ∙ sym k.chosen
 
 -- two choices of one call have the same ids
 pub chosen-once : (cx : ContextRecord) (ids others : List ℕ) → AreChosen cx ids → AreChosen cx others → ids ≡ others
-chosen-once cx ids others h k = listed-once (choosing_of cx.args (current_name cx)) (members_in cx) ids others h k
+chosen-once cx ids others h k = listed-once cx.args (current_name cx) (members_in cx) ids others h k
 
 -- ---- their own versions
 
@@ -65,13 +66,9 @@ own-once (Some range) (Some text) (Some v) (Some w) h k = ap Some (version-same 
 
 member-once : (cx : ContextRecord) (id : ℕ) (m n : PackageVersion) → IsMember cx id m → IsMember cx id n → AreAlike m n
 member-once cx id m n h k = record {
-  name = h.name ∙ ap (λ (p : PackageRecord). p.name) (same_Some h.pkg k.pkg (sym h.known ∙ k.known)) ∙ sym k.name;
+  name = same_Some (string_bytes m.name) (string_bytes n.name) (sym h.name ∙ k.name);
   own = own-once cx.args.version_range (rust_version_at cx id) m.rust_version n.rust_version h.own k.own;
 }
-
-members-each : (cx : ContextRecord) (ids : List ℕ) (members : List PackageVersion) → AreMembers cx ids members → AllZip (IsMember cx) ids members
-members-each cx ids members starts = tt
-members-each cx _ _ (grows {ids} {members} {id} {member} before is) = each-join (IsMember cx) ids (id ∷ []) members (member ∷ []) (members-each cx ids members before) (is, tt)
 
 test-once : (a b : Bool) (P : Type 0) → (IsTrue a ↔ P) → (IsTrue b ↔ P) → a ≡ b
 test-once true b P f g = sym (g.1 (f.0 refl))
@@ -86,7 +83,7 @@ inputs-agree cx ids s t h k = record {
   as_cargo = test-once s.as_cargo t.as_cargo _ h.as_cargo k.as_cargo;
   targets = h.targets ∙ sym k.targets;
   cargo_minor = h.cargo_minor ∙ sym k.cargo_minor;
-  members = zip-alike (IsMember cx) AreAlike (member-once cx) ids s.packages.items t.packages.items (members-each cx ids s.packages.items h.members) (members-each cx ids t.packages.items k.members);
+  members = zip-alike (IsMember cx) AreAlike (member-once cx) ids s.packages.items t.packages.items h.members k.members;
 }
 
 -- ---- their runs
@@ -123,27 +120,27 @@ ordered-once (x ∷ xs) (y ∷ ys) ox oy f g =
 listing-once : (n : ℕ) (P : List ℕ → Type 0) (xs ys : List (List ℕ)) → IsListing n P xs → IsListing n P ys → xs ≡ ys
 listing-once n P xs ys h k = ordered-once xs ys h.ordered k.ordered (λ s c. (k.exact s).1 ((h.exact s).0 c)) (λ s c. (h.exact s).1 ((k.exact s).0 c))
 
-sets-once : (b : Bool) (w : Wishes) (p : Known) (xs ys : List (List ℕ)) → w.strength ≡ None → AreSets b w p xs → AreSets b w p ys → xs ≡ ys
-sets-once true w p xs ys all h k =
-    let c = package_choice w p in
-    let n = length (candidates w p) in
+sets-once : (b : Bool) (w : Args) (p : PackageRecord) (f : Features) (xs ys : List (List ℕ)) → w.strength ≡ None → AreSets b w p f xs → AreSets b w p f ys → xs ≡ ys
+sets-once true w p f xs ys all h k =
+    let c = package_choice w p f in
+    let n = length (candidates w f) in
     listing-once n (IsListed c) xs ys (subst (λ o. ArePowersets o c n xs) all h) (subst (λ o. ArePowersets o c n ys) all k)
-sets-once false w p xs ys all h k = h ∙ sym k
+sets-once false w p f xs ys all h k = h ∙ sym k
 
-runs-once : (b : Bool) (w : Wishes) (p : Known) (xs ys : List PackageRun) → w.strength ≡ None → RunsBy b w p xs → RunsBy b w p ys → xs ≡ ys
-runs-once true w p xs ys all h k = h.made ∙ ap (runs_from (options_of w p)) (sets-once w.powerset w p h.sets k.sets all h.are_sets k.are_sets) ∙ sym k.made
-runs-once false w p xs ys all h k = h ∙ sym k
+runs-once : (b : Bool) (w : Args) (p : PackageRecord) (f : Features) (xs ys : List PackageRun) → w.strength ≡ None → MatchBool b (AreSetRuns w p f xs) (xs ≡ Plain ∷ []) → MatchBool b (AreSetRuns w p f ys) (ys ≡ Plain ∷ []) → xs ≡ ys
+runs-once true w p f xs ys all h k = h.made ∙ ap (runs_from (options_of w f)) (sets-once w.feature_powerset w p f h.sets k.sets all h.are_sets k.are_sets) ∙ sym k.made
+runs-once false w p f xs ys all h k = h ∙ sym k
 
 -- a package has one number of runs
-package-once : (cx : ContextRecord) → cx.args.strength ≡ None → (id : ℕ) (k l : PackageView) → HasPackageRuns cx id k → HasPackageRuns cx id l → length k.runs ≡ length l.runs
+package-once : (cx : ContextRecord) → cx.args.strength ≡ None → (id : ℕ) (k l : PackageView) → IsChosenPackage cx id k → IsChosenPackage cx id l → length k.runs ≡ length l.runs
 package-once cx all id k l a b =
     let pkg = same_Some a.pkg b.pkg (sym a.known ∙ b.known) in
     let features = same_Some a.features b.features (sym a.loaded ∙ b.loaded) in
-    let runs = subst (λ q. AreRuns (wishes cx.args) (known_as q b.features) k.runs) pkg (subst (λ f. AreRuns (wishes cx.args) (known_as a.pkg f) k.runs) features a.runs) in
-    ap (λ (rs : List PackageRun). length rs) (runs-once (asks (wishes cx.args)) (wishes cx.args) (known_as b.pkg b.features) k.runs l.runs all runs b.runs)
+    let runs = subst (λ q. AreRuns cx.args q b.features k.runs) pkg (subst (λ f. AreRuns cx.args a.pkg f k.runs) features a.runs) in
+    ap (λ (rs : List PackageRun). length rs) (runs-once (cx.args.each_feature || cx.args.feature_powerset) cx.args b.pkg b.features k.runs l.runs all runs b.runs)
 
 -- the number of runs of each chosen package is determined, where there are no samples
-pub counts-once : (cx : ContextRecord) → cx.args.strength ≡ None → (ids : List ℕ) (packages others : List PackageView) → AllZip (HasPackageRuns cx) ids packages → AllZip (HasPackageRuns cx) ids others → run_counts packages ≡ run_counts others
+pub counts-once : (cx : ContextRecord) → cx.args.strength ≡ None → (ids : List ℕ) (packages others : List PackageView) → AllZip (IsChosenPackage cx) ids packages → AllZip (IsChosenPackage cx) ids others → run_counts packages ≡ run_counts others
 counts-once cx all ids packages others h k =
     map-alike (λ (p q : PackageView). length p.runs ≡ length q.runs) (λ p. length p.runs) (λ p q e. e) packages others
-    (zip-alike (HasPackageRuns cx) (λ (p q : PackageView). length p.runs ≡ length q.runs) (package-once cx all) ids packages others h k)
+    (zip-alike (IsChosenPackage cx) (λ (p q : PackageView). length p.runs ≡ length q.runs) (package-once cx all) ids packages others h k)

@@ -4,21 +4,21 @@ use Rattle.std.specs.Prelude.{IsSomeAnd, slice_get, ◌||◌}
 use Rattle.std.proofs.lemmas.List.{get_or_default}
 use Rattle.std.proofs.lemmas.List.Elements.{All-contains}
 use Rattle.std.proofs.lemmas.Option.{slice_get_read}
-use Rattle.std.proofs.lemmas.Slice.Zip.{AllZip-long}
+use Rattle.std.specs.Bool.{MatchBool}
+use Rattle.hack_words.specs.declared.cli.args.Args.{Args}
 use Rattle.hack_base.proofs.Members.{Contains-cons_cases, Contains-head, Contains-tail, Contains-nil, Contains-map}
 use Rattle.hack_features.specs.Rules.{IsListed}
 use Rattle.hack_features.specs.Samples.{IsSample, CoversPatterns, SetShows}
 use Rattle.hack_features.specs.Sets.{IsSelection, Pairwise}
 use Rattle.hack_samples.specs.declared.sets.Setting.{Setting}
-use Rattle.hack_load.specs.Contexts.{ContextRecord}
+use Rattle.hack_load.specs.Contexts.{ContextRecord, package_at, features_at}
 use Rattle.hack_load.specs.declared.features.Features.{Features}
 use Rattle.hack_metadata.specs.Records.{PackageRecord}
 use Rattle.hack_metadata.specs.RecordViews.{place_at}
 use Rattle.hack_metadata.specs.declared.metadata.resolve.PackageId.{PackageId}
-use Rattle.hack_planner.specs.Candidates.{Wishes, Known, candidates}
-use Rattle.hack_planner.specs.CandidatesView.{wishes}
-use Rattle.hack_planner.specs.ContextMembers.{AreChosen, known_as}
-use Rattle.hack_planner.specs.Kinds.{ArePowersets, AreSets, AreSetRuns, AreRuns, IsUnsampled, RunsBy, package_choice, options_of}
+use Rattle.hack_planner.specs.Candidates.{candidates}
+use Rattle.hack_planner.specs.ContextMembers.{AreChosen}
+use Rattle.hack_planner.specs.Kinds.{ArePowersets, AreSets, AreSetRuns, AreRuns, IsUnsampled, package_choice, options_of}
 use Rattle.hack_planner.specs.KindsView.{IsRunsFault as IsNotSampled}
 use Rattle.hack_samples.specs.declared.fault.SampleFault.{SampleFault}
 use Rattle.hack_samples.specs.declared.fault.SampleFault.TheVariants as questions
@@ -29,22 +29,21 @@ use Rattle.hack_plan.specs.declared.places.PlanEntry.{PlanEntry}
 use Rattle.hack_plan.specs.View.{PackageView, PlanView}
 use Rattle.hack_versions.specs.declared.version.Version.{Version}
 use Rattle.hack_rules.specs.declared.uses.behavior.WorkspaceBehavior.TheVariants.{Cargo}
-use Rattle.hack_planner.specs.Calls.{HasPackageRuns}
+use Rattle.hack_planner.specs.Calls.{IsChosenPackage}
 use Rattle.hack_planner.specs.Internal.{SaysNoSample, HasRunsFault}
-use Rattle.hack_planner.specs.CoveredSets.{choice_at}
 use Rattle.hack_planner.specs.CallPlan.{HasJustRuns, IsCause, run_counts}
 use Rattle.hack_planner.specs.Powersets.{run_sets_of}
 use Rattle.hack_planner.specs.Samples.{IsSampleOf, HaveSamples, HoldsPattern, ArePatternsHeld}
 use Rattle.hack_planner.specs.declared.fault.PlanFault.{PlanFault}
 use Rattle.hack_planner.specs.declared.fault.PlanFault.TheVariants as fault
-use Rattle.hack_planner.proofs.PlanLemmas.{below-count, not-all, same_some, zip-at}
+use Rattle.hack_planner.proofs.PlanLemmas.{below-count, not-all, same_some, zip-at, zip-weaker}
 use Rattle.hack_planner.proofs.PowersetLemmas.{apart, apart-turned, from-turned, in-turned, or-true, sets_of-runs}
 
 -- a package whose runs have too many questions has no sample
-pub no-sample : (w : Wishes) (p : Known) (e : SampleFault) → e ≡ questions.TooManyQuestions → (e ≡ questions.Memory) ⊎ IsNotSampled w p e → IsUnsampled w p
-no-sample w p questions.Memory is h = absurd (cc)
-no-sample w p questions.TooManyQuestions is (inl e) = absurd (cc)
-no-sample w p questions.TooManyQuestions is (inr h) = h
+pub no-sample : (w : Args) (p : PackageRecord) (f : Features) (e : SampleFault) → e ≡ questions.TooManyQuestions → (e ≡ questions.Memory) ⊎ IsNotSampled w p f e → IsUnsampled w p f
+no-sample w p f questions.Memory is h = absurd (cc)
+no-sample w p f questions.TooManyQuestions is (inl e) = absurd (cc)
+no-sample w p f questions.TooManyQuestions is (inr h) = h
 
 -- a package without a sample is one of them
 pub runs-at : (cx : ContextRecord) (ids : List PackageId) (i : ℕ) (d : PackageId) → i < length ids → (e : PlanFault) → SaysNoSample cx (get_or ids i d).index e → HasRunsFault cx (map place_at ids) e
@@ -69,15 +68,15 @@ sample-cause cx ids latest fault.TooManyRuns chosen (inl e) = absurd (cc)
 sample-cause cx ids latest fault.TooManyRuns chosen (inr bad) = absurd bad.2
 
 -- the sets of a package's runs under a strength
-sample : (w : Wishes) (p : Known) (strength : ℕ) (runs : List PackageRun) → w.powerset ≡ true → w.strength ≡ Some strength → AreRuns w p runs → IsSampleOf (package_choice w p) strength runs
-sample w p strength runs is given made =
-    let c = package_choice w p in
-    let n = length (candidates w p) in
-    let asked = ap (λ b. w.each || b) is ∙ or-true w.each in
-    let h : AreSetRuns w p runs = subst (λ b. RunsBy b w p runs) asked made in
-    let picked : AreSets true w p h.sets = subst (λ b. AreSets b w p h.sets) is h.are_sets in
+sample : (w : Args) (p : PackageRecord) (f : Features) (strength : ℕ) (runs : List PackageRun) → w.feature_powerset ≡ true → w.strength ≡ Some strength → AreRuns w p f runs → IsSampleOf (package_choice w p f) strength runs
+sample w p f strength runs is given made =
+    let c = package_choice w p f in
+    let n = length (candidates w f) in
+    let asked = ap (λ b. w.each_feature || b) is ∙ or-true w.each_feature in
+    let h : AreSetRuns w p f runs = subst (λ b. MatchBool b (AreSetRuns w p f runs) (runs ≡ Plain ∷ [])) asked made in
+    let picked : AreSets true w p f h.sets = subst (λ b. AreSets b w p f h.sets) is h.are_sets in
     let both : ArePowersets (Some strength) c n h.sets = subst (λ o. ArePowersets o c n h.sets) given picked in
-    let sets = sets_of-runs (options_of w p) h.sets (is_plain (options_of w p) h.sets) refl in
+    let sets = sets_of-runs (options_of w f) h.sets (is_plain (options_of w f) h.sets) refl in
     let same = ap run_sets_of h.made ∙ sets.1 in
     record {
       listed = λ s there.
@@ -95,13 +94,13 @@ pub samples : (cx : ContextRecord) (latest : Option Version) (plan : PlanView) (
 samples cx latest plan strength h is given = record {
   ids = h.ids;
   chosen = h.chosen;
-  as_many = sym (AllZip-long (HasPackageRuns cx) h.ids plan.packages h.packages);
-  each = λ place id p features at known loaded.
-      let m = zip-at (HasPackageRuns cx) h.ids plan.packages place id h.packages at in
-      let same_p = same_some m.2.pkg p (sym m.2.known ∙ known) in
-      let same_f = same_some m.2.features features (sym m.2.loaded ∙ loaded) in
-      let runs = subst (λ q. AreRuns (wishes cx.args) (known_as q features) m.0.runs) same_p (subst (λ f. AreRuns (wishes cx.args) (known_as m.2.pkg f) m.0.runs) same_f m.2.runs) in
-      subst (λ o. IsSomeAnd o (λ (k : PackageView). IsSampleOf (choice_at cx p features) strength k.runs)) (sym m.1) (sample (wishes cx.args) (known_as p features) strength m.0.runs is given runs);
+  each = zip-weaker (IsChosenPackage cx) (λ (id : ℕ) (k : PackageView). (p : PackageRecord) (f : Features) → package_at cx id ≡ Some p → features_at cx id ≡ Some f → IsSampleOf (package_choice cx.args p f) strength k.runs)
+      (λ id k m p f known loaded.
+      let same_p = same_some m.pkg p (sym m.known ∙ known) in
+      let same_f = same_some m.features f (sym m.loaded ∙ loaded) in
+      let runs = subst (λ q. AreRuns cx.args q f k.runs) same_p (subst (λ g. AreRuns cx.args m.pkg g k.runs) same_f m.runs) in
+      sample cx.args p f strength k.runs is given runs)
+      h.ids plan.packages h.packages;
 }
 
 -- a set of runs has its run
@@ -119,8 +118,8 @@ in-runs (Set t ∷ runs) s c =
 -- where a package's sample shows a pattern, the plan does
 pattern-at : (cx : ContextRecord) (latest : Option Version) (plan : PlanView) (h : HasJustRuns cx latest plan) → h.input.as_cargo ≡ false
     → (place : ℕ) (p : PackageRecord) (features : Features) (version : Option Version) (slot : ℕ) (pattern : List Setting) → UsesVersion h.input.range h.input h.places.0 version place → slot < slots_of h.input version
-    → (k : PackageView) → slice_get plan.packages place ≡ Some k → (s : List ℕ) → Contains (run_sets_of k.runs) s → SetShows (choice_at cx p features) pattern s
-    → HoldsPattern plan version slot place (choice_at cx p features) pattern
+    → (k : PackageView) → slice_get plan.packages place ≡ Some k → (s : List ℕ) → Contains (run_sets_of k.runs) s → SetShows (package_choice cx.args p features) pattern s
+    → HoldsPattern plan version slot place (package_choice cx.args p features) pattern
 pattern-at cx latest plan h each place p features version slot pattern uses within k at s there shows =
     let run = in-runs k.runs s there in
     let rank = run.0 in
@@ -145,10 +144,10 @@ patterns cx latest plan strength h is given each = record {
   of_call = h.of_call;
   on_steps = h.places.1;
   held = λ place id p features version slot pattern s at known loaded uses within few selection listed shows.
-      let m = zip-at (HasPackageRuns cx) h.ids plan.packages place id h.packages at in
+      let m = zip-at (IsChosenPackage cx) h.ids plan.packages place id h.packages at in
       let same_p = same_some m.2.pkg p (sym m.2.known ∙ known) in
       let same_f = same_some m.2.features features (sym m.2.loaded ∙ loaded) in
-      let runs = subst (λ q. AreRuns (wishes cx.args) (known_as q features) m.0.runs) same_p (subst (λ f. AreRuns (wishes cx.args) (known_as m.2.pkg f) m.0.runs) same_f m.2.runs) in
-      let by = (sample (wishes cx.args) (known_as p features) strength m.0.runs is given runs).covers pattern few s selection listed shows in
+      let runs = subst (λ q. AreRuns cx.args q features m.0.runs) same_p (subst (λ f. AreRuns cx.args m.2.pkg f m.0.runs) same_f m.2.runs) in
+      let by = (sample cx.args p features strength m.0.runs is given runs).covers pattern few s selection listed shows in
       pattern-at cx latest plan h (not-all h.input.as_cargo _ h.of_call.as_cargo each) place p features version slot pattern uses within m.0 m.1 by.0 by.1 by.2;
 }

@@ -1,28 +1,28 @@
 -- The powersets of a plan's packages.
 use Rattle.std.proofs.Common.{◌≡◌, ◌≢◌, refl, sym, ap, subst, ◌∙◌, arith, ℕ, ◌+◌, ◌-◌, ◌<◌, List, [], ◌∷◌, ◌++◌, ◌⊎◌, inl, inr, length, map, take, drop, get_or, Bool, true, false, not, Option, None, Some, All, Contains}
-use Rattle.std.specs.Prelude.{IsSomeAnd, slice_get, nat_lt, ◌&&◌, ◌||◌, ◌==◌, if◌then◌else◌}
+use Rattle.std.specs.Prelude.{nat_lt, ◌&&◌, ◌||◌, ◌==◌, if◌then◌else◌}
 use Rattle.std.specs.List.{filter_map}
 use Rattle.std.proofs.lemmas.Bool.{eqb-true}
 use Rattle.std.proofs.lemmas.List.{take-append-drop, get_or_append_left, get_or-append-add, length-append}
 use Rattle.std.proofs.lemmas.List.Elements.{All-append, All-cons, All-head, All-tail, Contains-append_left, Contains-append_right, Contains-append_cases, filter_map-append}
-use Rattle.std.proofs.lemmas.Slice.Zip.{AllZip-long}
+use Rattle.std.specs.Bool.{MatchBool}
+use Rattle.hack_words.specs.declared.cli.args.Args.{Args}
 use Rattle.hack_features.specs.Sets.{IsBefore, IsListing, Pairwise}
-use Rattle.hack_load.specs.Contexts.{ContextRecord}
+use Rattle.hack_load.specs.Contexts.{ContextRecord, package_at, features_at}
 use Rattle.hack_load.specs.declared.features.Features.{Features}
 use Rattle.hack_metadata.specs.Records.{PackageRecord}
-use Rattle.hack_planner.specs.Candidates.{Wishes, Known, candidates}
-use Rattle.hack_planner.specs.CandidatesView.{wishes}
-use Rattle.hack_planner.specs.ContextMembers.{known_as}
-use Rattle.hack_planner.specs.Kinds.{ArePowersets, AreSets, AreSetRuns, AreRuns, RunsBy, package_choice, options_of}
-use Rattle.hack_plan.specs.Runs.{PackageRun, Plain, AllFeatures, NoDefaultFeatures, Set, allows_two, is_plain, in_turn, keeps_all, run_if, last_first, runs_from, with_last_first}
+use Rattle.hack_planner.specs.Candidates.{candidates}
+use Rattle.hack_planner.specs.Kinds.{ArePowersets, AreSets, AreSetRuns, AreRuns, package_choice, options_of}
+use Rattle.std.specs.Option.{option_map_or}
+use Rattle.hack_plan.specs.Runs.{PackageRun, Plain, AllFeatures, NoDefaultFeatures, Set, is_plain, in_turn, keeps_all, run_if, last_first, runs_from}
+use Rattle.hack_plan.specs.RunsView.{with_last_first}
 use Rattle.hack_plan.specs.declared.runs.RunOptions.{RunOptions}
 use Rattle.hack_plan.specs.View.{PackageView, PlanView}
 use Rattle.hack_versions.specs.declared.version.Version.{Version}
-use Rattle.hack_planner.specs.Calls.{HasPackageRuns}
-use Rattle.hack_planner.specs.CoveredSets.{choice_at}
+use Rattle.hack_planner.specs.Calls.{IsChosenPackage}
 use Rattle.hack_planner.specs.CallPlan.{HasJustRuns}
 use Rattle.hack_planner.specs.Powersets.{HavePowersets, IsPowerset, set_of, run_sets_of}
-use Rattle.hack_planner.proofs.PlanLemmas.{same_some, zip-at}
+use Rattle.hack_planner.proofs.PlanLemmas.{same_some, zip-weaker}
 
 all-front : {X : Type 0} (P : X → Type 0) (xs ys : List X) → All P (xs ++ ys) → All P xs
 all-front P xs ys h = λ k d l. subst P (get_or_append_left xs ys d k l) (h k d (omega (arith, l, length-append xs ys)))
@@ -107,7 +107,7 @@ sets_of-runs o sets true is = (
 )
 sets_of-runs o sets false is =
     let fronts = run_if (keeps_all o) AllFeatures ++ run_if (not o.exclude_no_default_features) NoDefaultFeatures in (
-      o.powerset && not (keeps_all o) && nat_lt 1 (length sets) && allows_two o.depth,
+      o.powerset && not (keeps_all o) && nat_lt 1 (length sets) && option_map_or (nat_lt 1) o.depth true,
       subst (λ p. run_sets_of (if p then Plain ∷ [] else fronts ++ map Set (in_turn o sets)) ≡ in_turn o sets) (sym is)
           (filter_map-append set_of fronts (map Set (in_turn o sets))
           ∙ ap (λ (l : List (List ℕ)). l ++ run_sets_of (map Set (in_turn o sets))) (sets_of-fronts (keeps_all o) (not o.exclude_no_default_features))
@@ -119,13 +119,13 @@ or-true true = refl
 or-true false = refl
 
 -- the runs of a package under a powerset
-powerset : (w : Wishes) (p : Known) (runs : List PackageRun) → w.powerset ≡ true → w.strength ≡ None → AreRuns w p runs → IsPowerset (package_choice w p) runs
-powerset w p runs is all made =
-    let asked = ap (λ b. w.each || b) is ∙ or-true w.each in
-    let h : AreSetRuns w p runs = subst (λ b. RunsBy b w p runs) asked made in
-    let picked : AreSets true w p h.sets = subst (λ b. AreSets b w p h.sets) is h.are_sets in
-    let listing : ArePowersets None (package_choice w p) (length (candidates w p)) h.sets = subst (λ o. ArePowersets o (package_choice w p) (length (candidates w p)) h.sets) all picked in
-    let sets = sets_of-runs (options_of w p) h.sets (is_plain (options_of w p) h.sets) refl in
+powerset : (w : Args) (p : PackageRecord) (f : Features) (runs : List PackageRun) → w.feature_powerset ≡ true → w.strength ≡ None → AreRuns w p f runs → IsPowerset (package_choice w p f) runs
+powerset w p f runs is all made =
+    let asked = ap (λ b. w.each_feature || b) is ∙ or-true w.each_feature in
+    let h : AreSetRuns w p f runs = subst (λ b. MatchBool b (AreSetRuns w p f runs) (runs ≡ Plain ∷ [])) asked made in
+    let picked : AreSets true w p f h.sets = subst (λ b. AreSets b w p f h.sets) is h.are_sets in
+    let listing : ArePowersets None (package_choice w p f) (length (candidates w f)) h.sets = subst (λ o. ArePowersets o (package_choice w p f) (length (candidates w f)) h.sets) all picked in
+    let sets = sets_of-runs (options_of w f) h.sets (is_plain (options_of w f) h.sets) refl in
     let same = ap run_sets_of h.made ∙ sets.1 in
     record {
       exact = λ s. (
@@ -140,11 +140,11 @@ pub powersets : (cx : ContextRecord) (latest : Option Version) (plan : PlanView)
 powersets cx latest plan h is all = record {
   ids = h.ids;
   chosen = h.chosen;
-  as_many = sym (AllZip-long (HasPackageRuns cx) h.ids plan.packages h.packages);
-  each = λ place id p features at known loaded.
-      let m = zip-at (HasPackageRuns cx) h.ids plan.packages place id h.packages at in
-      let same_p = same_some m.2.pkg p (sym m.2.known ∙ known) in
-      let same_f = same_some m.2.features features (sym m.2.loaded ∙ loaded) in
-      let runs = subst (λ q. AreRuns (wishes cx.args) (known_as q features) m.0.runs) same_p (subst (λ f. AreRuns (wishes cx.args) (known_as m.2.pkg f) m.0.runs) same_f m.2.runs) in
-      subst (λ o. IsSomeAnd o (λ (k : PackageView). IsPowerset (choice_at cx p features) k.runs)) (sym m.1) (powerset (wishes cx.args) (known_as p features) m.0.runs is all runs);
+  each = zip-weaker (IsChosenPackage cx) (λ (id : ℕ) (k : PackageView). (p : PackageRecord) (f : Features) → package_at cx id ≡ Some p → features_at cx id ≡ Some f → IsPowerset (package_choice cx.args p f) k.runs)
+      (λ id k m p f known loaded.
+      let same_p = same_some m.pkg p (sym m.known ∙ known) in
+      let same_f = same_some m.features f (sym m.loaded ∙ loaded) in
+      let runs = subst (λ q. AreRuns cx.args q f k.runs) same_p (subst (λ g. AreRuns cx.args m.pkg g k.runs) same_f m.runs) in
+      powerset cx.args p f k.runs is all runs)
+      h.ids plan.packages h.packages;
 }

@@ -1,8 +1,8 @@
 -- The plan of a call, and the causes to refuse it.
-use Rattle.std.specs.Prelude.{ℕ, ◌≡◌, ◌++◌, List, [], map, length, string_bytes, Bool, Option, Some, None, Result, Ok, Err}
+use Rattle.std.specs.Prelude.{ℕ, ◌≡◌, ◌<◌, ◌^◌, ◌++◌, List, [], map, length, string_bytes, Bool, Option, Some, None, Result, Ok, Err}
 use Rattle.std.specs.declared.string.String.{String}
 use Rattle.std.specs.declared.alloc.Global.{Global}
-use Rattle.std.specs.List.{AllZip}
+use Rattle.std.specs.List.{AllZip, flat_map}
 use Rattle.hack_base.specs.Names.{Name}
 use Rattle.hack_load.specs.Contexts.{ContextRecord}
 use Rattle.hack_planner.specs.ContextMembers.{AreChosen, AreChoiceNotes, IsChoiceFault}
@@ -12,12 +12,11 @@ use Rattle.hack_versions.specs.declared.rustup.RangeFault.{RangeFault}
 use Rattle.hack_base.specs.Notes.{Note}
 use Rattle.hack_plan.specs.Entries.{ArePlaces, HasTooMany}
 use Rattle.hack_plan.specs.Inputs.{AreVersions, AreNotices, IsVersionsFault}
-use Rattle.hack_plan.specs.Spans.{versions_of}
+use Rattle.hack_plan.specs.Spans.{AreSpans, AreTiled, versions_of}
 use Rattle.hack_plan.specs.declared.versions.PlanInput.{PlanInput}
-use Rattle.hack_plan.specs.declared.versions.Versions.{Versions}
-use Rattle.hack_planner.specs.Calls.{IsInputOf, HasPackageRuns, AreDescribed, HasBadOwn, HasNoSample, call_of, left_out_notes}
-use Rattle.hack_plan.specs.Plans.{AreLaid}
-use Rattle.hack_plan.specs.Prepared.{ArePrepared}
+use Rattle.hack_versions.specs.declared.group.VersionGroup.{VersionGroup}
+use Rattle.hack_planner.specs.Calls.{IsInputOf, IsChosenPackage, HasCoverage, HasBadOwn, HasNoSample, call_of, candidate_notes_at, left_out_notes}
+use Rattle.hack_plan.specs.Prepared.{ArePrepared, span_of}
 use Rattle.hack_plan.specs.View.{PackageView, PlanView}
 use Rattle.hack_planner.specs.declared.fault.PlanFault.{PlanFault}
 use Rattle.hack_planner.specs.declared.fault.PlanFault.TheVariants as fault
@@ -33,43 +32,55 @@ pub record HasJustRuns (cx : ContextRecord) (latest : Option Version) (plan : Pl
   pub input : PlanInput
   pub chosen : AreChosen cx ids
   pub of_call : IsInputOf cx ids input
-  pub packages : AllZip (HasPackageRuns cx) ids plan.packages
+  pub packages : AllZip (IsChosenPackage cx) ids plan.packages
   pub places : ArePlaces input (run_counts plan.packages) latest plan.entries
 
--- the plan of a call with a subcommand, where `stable` is this version: its places are just the admissible runs; each version
--- has its places and its preparations; what its commands are made from; its notices, in order; and every own version can be
--- read, the range isn't refused, and there aren't too many runs
-pub record IsPlan (cx : ContextRecord) (rustup : Name) (latest : Option Version) (plan : PlanView) (notes : List Note) : Type 0 where
+-- what the calls and the notices of a call with a subcommand depend on, where `stable` is this
+-- version: its places are just the admissible runs, at most 4294967295; each version has its places
+-- and its preparations; what its commands are made from; its notices, in order; and the range isn't
+-- refused
+pub record IsPerformable (cx : ContextRecord) (rustup : Name) (latest : Option Version)
+    (plan : PlanView) (notes : List Note) : Type 0 where
   pub base : HasJustRuns cx latest plan
-  pub versions : Versions
+  pub groups : List VersionGroup
   pub single : Bool
   pub on_packages : List Note
-  pub on_features : List Note
   pub on_range : List Note
   pub noted : AreChoiceNotes cx single on_packages
-  pub described : AreDescribed cx single base.ids plan.packages on_features
-  pub of_range : AreVersions base.input versions
-  pub newest : versions.stable ≡ latest
+  pub of_range : AreVersions base.input.range base.input latest groups
   pub ranged : AreNotices base.input.range base.input latest on_range
   pub call : plan.call ≡ call_of cx rustup
-  pub laid : AreLaid (versions_of base.input.range versions.groups.items) plan
+  pub laid : AreSpans (versions_of base.input.range groups) plan.entries (map span_of plan.versions)
   pub prepared : ArePrepared cx.args.locked cx.args.clean_per_version plan.versions
-  pub told : notes ≡ on_packages ++ (on_features ++ (on_range ++ left_out_notes cx base.ids base.input versions.groups.items))
-  pub readable : (e : VersionFault) → ¬ HasBadOwn cx base.ids e
+  pub told : notes ≡ on_packages ++ (flat_map (candidate_notes_at cx single) base.ids
+      ++ (on_range ++ left_out_notes cx base.ids base.input groups))
   pub in_range : (e : RangeFault) → ¬ IsVersionsFault base.input.range base.input latest e
-  pub fits : ¬ HasTooMany base.input (run_counts plan.packages) latest
+  pub fits : length plan.entries < 2 ^ 32
 
--- the plan without a version, for a call without a subcommand
-pub record IsEmptyPlan (cx : ContextRecord) (rustup : Name) (plan : PlanView) (notes : List Note) : Type 0 where
-  pub call : plan.call ≡ call_of cx rustup
-  pub packages : plan.packages ≡ []
-  pub versions : plan.versions ≡ []
-  pub entries : plan.entries ≡ []
-  pub told : notes ≡ []
+-- the plan of a call with a subcommand, where `stable` is this version: what its calls and notices
+-- depend on, the coverage of each package's runs, and that the places of the versions partition the
+-- plan's, that every own version can be read and that there aren't too many runs
+pub record IsPlan (cx : ContextRecord) (rustup : Name) (latest : Option Version) (plan : PlanView)
+    (notes : List Note) : Type 0 where
+  pub performed : IsPerformable cx rustup latest plan notes
+  pub covered : AllZip (HasCoverage cx) performed.base.ids plan.packages
+  pub tiled : AreTiled 0 (map span_of plan.versions) (length plan.entries)
+  pub readable : (e : VersionFault) → ¬ HasBadOwn cx performed.base.ids e
+  pub fits : ¬ HasTooMany performed.base.input (run_counts plan.packages) latest
+
+-- what the calls and the notices of a call depend on, given the answer for `stable`: a plan without
+-- a version where there is no subcommand
+abbrev pub IsPerformableOf : Option (String Global) → Result (Option Version) (String Global)
+    → ContextRecord → Name → PlanView → List Note → Type 0
+IsPerformableOf None stable cx rustup plan notes =
+    (plan ≡ record { call = call_of cx rustup; packages = []; versions = []; entries = [] })
+    × (notes ≡ [])
+IsPerformableOf (Some name) (Ok v) cx rustup plan notes = IsPerformable cx rustup v plan notes
+IsPerformableOf (Some name) (Err text) cx rustup plan notes = ⊥
 
 -- the plan of a call, given the answer for `stable`
 abbrev pub IsPlanOf : Option (String Global) → Result (Option Version) (String Global) → ContextRecord → Name → PlanView → List Note → Type 0
-IsPlanOf None stable cx rustup plan notes = IsEmptyPlan cx rustup plan notes
+IsPlanOf None stable cx rustup plan notes = IsPerformableOf None stable cx rustup plan notes
 IsPlanOf (Some subcommand) (Ok latest) cx rustup plan notes = IsPlan cx rustup latest plan notes
 IsPlanOf (Some subcommand) (Err text) cx rustup plan notes = ⊥
 
@@ -101,7 +112,7 @@ pub record AreTooManyRuns (cx : ContextRecord) (latest : Option Version) : Type 
   pub packages : List PackageView
   pub chosen : AreChosen cx ids
   pub of_call : IsInputOf cx ids input
-  pub each : AllZip (HasPackageRuns cx) ids packages
+  pub each : AllZip (IsChosenPackage cx) ids packages
   pub many : HasTooMany input (run_counts packages) latest
 
 -- the sample of one of the chosen packages, of this name, needs too many questions

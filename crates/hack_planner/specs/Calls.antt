@@ -1,6 +1,7 @@
 -- The input of a plan, from what was loaded.
-use Rattle.std.specs.Prelude.{ℕ, ◌≡◌, ◌++◌, ◌↔◌, ◌⊎◌, List, [], ◌∷◌, Bool, true, false, Option, Some, None, length, Contains, IsTrue, option_and_then, slice_get, string_bytes, if◌then◌else◌}
-use Rattle.std.specs.List.{flat_map, range_with_len}
+use Rattle.std.specs.Prelude.{ℕ, ◌≡◌, ◌++◌, ◌↔◌, ◌⊎◌, List, [], ◌∷◌, Bool, true, false, Option, Some, None, length, Contains, IsSomeAnd, IsTrue, MatchOption, option_and_then, option_map, slice_get, string_bytes, if◌then◌else◌}
+use Rattle.std.specs.List.{AllZip, flat_map, range_with_len}
+use Rattle.std.specs.Option.{option_map_or}
 use Rattle.hack_base.specs.Names.{Name, names_of}
 use Rattle.hack_base.specs.PathTexts.{under_of}
 use Rattle.hack_metadata.specs.Records.{PackageRecord}
@@ -16,8 +17,6 @@ use Rattle.hack_base.specs.Notes.{Note}
 use Rattle.hack_versions.specs.VersionTexts.{IsVersionText, IsVersionFault}
 use Rattle.hack_rules.specs.declared.uses.behavior.WorkspaceBehavior.TheVariants.{Cargo}
 use Rattle.hack_planner.specs.Candidates.{candidates, candidate_notes}
-use Rattle.hack_planner.specs.CandidatesView.{wishes}
-use Rattle.hack_planner.specs.ContextMembers.{known_as}
 use Rattle.hack_planner.specs.Kinds.{AreRuns, AreCovering, AreRunSettings, IsUnsampled, package_choice}
 use Rattle.hack_plan.specs.Runs.{Plain}
 use Rattle.hack_plan.specs.Inputs.{slots_of}
@@ -26,12 +25,7 @@ use Rattle.hack_plan.specs.View.{CallView, PackageView}
 
 -- the path of a package's manifest as a command is given it; none where commands get none
 abbrev pub given_path : Bool → Name → Option PackageRecord → Option Name
-given_path false dir (Some p) = Some (under_of p.manifest_path dir)
-given_path is_left_out dir p = None
-
--- the current package, as cargo locates it
-abbrev pub current_package_of : ContextRecord → Option PackageRecord
-current_package_of cx = option_and_then (package_at cx) cx.current_package
+given_path bare dir p = if bare then None else option_map (λ k. under_of k.manifest_path dir) p
 
 -- what all commands of the call have in common
 abbrev pub call_of : ContextRecord → Name → CallView
@@ -46,20 +40,15 @@ call_of cx rustup = record {
   locked = cx.args.locked;
   clean_per_run = cx.args.clean_per_run;
   clean_per_version = cx.args.clean_per_version;
-  current_manifest = given_path cx.args.no_manifest_path cx.current_dir (current_package_of cx);
+  current_manifest = given_path cx.args.no_manifest_path cx.current_dir
+      (option_and_then (package_at cx) cx.current_package);
   dir = cx.current_dir;
 }
 
--- a text read as a version, where there is a text
-abbrev pub IsOwnText : Option Name → Option Version → Type 0
-IsOwnText None own = own ≡ None
-IsOwnText (Some text) None = ⊥
-IsOwnText (Some text) (Some v) = IsVersionText text v
-
--- an own version is read exactly where a range of versions is given
+-- an own version is that of its text, which is read exactly where a range of versions is given
 abbrev pub IsOwn : Option VersionRange → Option Name → Option Version → Type 0
-IsOwn None text own = own ≡ None
-IsOwn (Some range) text own = IsOwnText text own
+IsOwn range text own = MatchOption (option_and_then (λ _. text) range) (own ≡ None)
+    (λ t. IsSomeAnd own (IsVersionText t))
 
 -- the text isn't a version, and a range is given, so that it is read
 abbrev pub IsBadOwn : Option VersionRange → Option Name → VersionFault → Type 0
@@ -68,15 +57,8 @@ IsBadOwn range text e = ⊥
 
 -- a chosen package, with its name and its own version
 pub record IsMember (cx : ContextRecord) (id : ℕ) (member : PackageVersion) : Type 0 where
-  pub pkg : PackageRecord
-  pub known : package_at cx id ≡ Some pkg
-  pub name : string_bytes member.name ≡ pkg.name
+  pub name : option_map (λ p. p.name) (package_at cx id) ≡ Some (string_bytes member.name)
   pub own : IsOwn cx.args.version_range (rust_version_at cx id) member.rust_version
-
--- the chosen packages, in order
-pub data AreMembers (cx : ContextRecord) : List ℕ → List PackageVersion → Type 0 where
-  starts : AreMembers cx [] []
-  grows : {ids : List ℕ} {members : List PackageVersion} {id : ℕ} {member : PackageVersion} → AreMembers cx ids members → IsMember cx id member → AreMembers cx (ids ++ id ∷ []) (members ++ member ∷ [])
 
 -- what the versions and places of a plan depend on
 pub record IsInputOf (cx : ContextRecord) (ids : List ℕ) (s : PlanInput) : Type 0 where
@@ -85,7 +67,7 @@ pub record IsInputOf (cx : ContextRecord) (ids : List ℕ) (s : PlanInput) : Typ
   pub as_cargo : IsTrue s.as_cargo ↔ (cx.args.workspace_behavior ≡ Cargo)
   pub targets : s.targets ≡ length cx.args.target.items
   pub cargo_minor : s.cargo_minor ≡ cx.cargo_minor
-  pub members : AreMembers cx ids s.packages.items
+  pub members : AllZip (IsMember cx) ids s.packages.items
 
 -- the own version of a chosen package can't be read
 abbrev pub HasBadOwn : ContextRecord → List ℕ → VersionFault → Type 0
@@ -98,25 +80,15 @@ pub record HasNoSampleAt (cx : ContextRecord) (id : ℕ) (name : Name) : Type 0 
   pub known : package_at cx id ≡ Some pkg
   pub loaded : features_at cx id ≡ Some features
   pub called : name ≡ pkg.name
-  pub wide : IsUnsampled (wishes cx.args) (known_as pkg features)
+  pub wide : IsUnsampled cx.args pkg features
 
 -- one of the packages, of this name, has no sample
 abbrev pub HasNoSample : ContextRecord → List ℕ → Name → Type 0
 HasNoSample cx ids name = (id : ℕ) × Contains ids id × HasNoSampleAt cx id name
 
--- a chosen package in the plan has its runs, and its candidates, or none where its one run is plain
-pub record HasPackageRuns (cx : ContextRecord) (id : ℕ) (k : PackageView) : Type 0 where
-  pub pkg : PackageRecord
-  pub features : Features
-  pub known : package_at cx id ≡ Some pkg
-  pub loaded : features_at cx id ≡ Some features
-  pub candidates : (k.candidates ≡ candidates (wishes cx.args) (known_as pkg features)) ⊎ ((k.candidates ≡ []) × (k.runs ≡ Plain ∷ []))
-  pub runs : AreRuns (wishes cx.args) (known_as pkg features) k.runs
-
--- what else the plan says of a chosen package: its texts; the features of `--features` that it gets; that under a powerset
--- without a strength its runs cover each set that has to be covered; with a strength, which candidates are on in each run; and
--- the notices on its features
-pub record IsDescribed (cx : ContextRecord) (single : Bool) (id : ℕ) (k : PackageView) (notes : List Note) : Type 0 where
+-- a chosen package in the plan has its texts, the features of `--features` that it gets, its runs,
+-- and its candidates, or none where its one run is plain
+pub record IsChosenPackage (cx : ContextRecord) (id : ℕ) (k : PackageView) : Type 0 where
   pub pkg : PackageRecord
   pub features : Features
   pub known : package_at cx id ≡ Some pkg
@@ -124,14 +96,27 @@ pub record IsDescribed (cx : ContextRecord) (single : Bool) (id : ℕ) (k : Pack
   pub name : k.name ≡ pkg.name
   pub path : k.manifest_path ≡ given_path cx.args.no_manifest_path cx.current_dir (Some pkg)
   pub given : k.features ≡ passed_for cx (Some id)
-  pub covered : cx.args.feature_powerset ≡ true → cx.args.strength ≡ None → AreCovering (wishes cx.args) (known_as pkg features) k.runs
-  pub settings : AreRunSettings cx.args.strength (package_choice (wishes cx.args) (known_as pkg features)) k.runs k.settings
-  pub told : notes ≡ candidate_notes single (wishes cx.args) (known_as pkg features)
+  pub candidates : (k.candidates ≡ candidates cx.args features)
+      ⊎ ((k.candidates ≡ []) × (k.runs ≡ Plain ∷ []))
+  pub runs : AreRuns cx.args pkg features k.runs
 
--- this of each of the chosen packages, in order, and all their notices
-pub data AreDescribed (cx : ContextRecord) (single : Bool) : List ℕ → List PackageView → List Note → Type 0 where
-  begins : AreDescribed cx single [] [] []
-  adds : {ids : List ℕ} {packages : List PackageView} {notes : List Note} {id : ℕ} {k : PackageView} {more : List Note} → AreDescribed cx single ids packages notes → IsDescribed cx single id k more → AreDescribed cx single (ids ++ id ∷ []) (packages ++ k ∷ []) (notes ++ more)
+-- under a powerset without a strength the runs of a chosen package cover each set that has to be
+-- covered; with a strength the plan says which candidates are on in each run
+pub record HasCoverage (cx : ContextRecord) (id : ℕ) (k : PackageView) : Type 0 where
+  pub pkg : PackageRecord
+  pub features : Features
+  pub known : package_at cx id ≡ Some pkg
+  pub loaded : features_at cx id ≡ Some features
+  pub covered : cx.args.feature_powerset ≡ true → cx.args.strength ≡ None
+      → AreCovering cx.args pkg features k.runs
+  pub settings :
+      AreRunSettings cx.args.strength (package_choice cx.args pkg features) k.runs k.settings
+
+-- the notices on the features of a package
+abbrev pub candidate_notes_at : ContextRecord → Bool → ℕ → List Note
+candidate_notes_at cx single id = option_map_or
+    (λ p. option_map_or (candidate_notes single cx.args p.name) (features_at cx id) [])
+    (package_at cx id) []
 
 -- the notices on features that a version's packages don't get, for each slot
 abbrev pub version_notes : ContextRecord → List ℕ → PlanInput → Option Version → List ℕ → List Note

@@ -6,8 +6,7 @@ use Rattle.hack_load.specs.Contexts.{ContextRecord, package_at, features_at}
 use Rattle.hack_load.specs.declared.features.Features.{Features}
 use Rattle.hack_metadata.specs.Records.{PackageRecord}
 use Rattle.hack_planner.specs.Candidates.{candidates}
-use Rattle.hack_planner.specs.CandidatesView.{wishes}
-use Rattle.hack_planner.specs.ContextMembers.{AreChosen, known_as}
+use Rattle.hack_planner.specs.ContextMembers.{AreChosen}
 use Rattle.hack_planner.specs.Kinds.{package_choice}
 use Rattle.hack_plan.specs.Runs.{Set}
 use Rattle.hack_plan.specs.Inputs.{IsStepList, UsesVersion, slots_of}
@@ -15,10 +14,6 @@ use Rattle.hack_plan.specs.declared.versions.PlanInput.{PlanInput}
 use Rattle.hack_plan.specs.View.{PlanView}
 use Rattle.hack_versions.specs.declared.version.Version.{Version}
 use Rattle.hack_planner.specs.Calls.{IsInputOf}
-
--- the input from which the sets of a package are chosen
-abbrev pub choice_at : ContextRecord → PackageRecord → Features → Choice
-choice_at cx p features = package_choice (wishes cx.args) (known_as p features)
 
 -- the plan holds a place of the version, slot and package, whose run has a set that covers this one
 pub record HoldsCover (plan : PlanView) (version : Option Version) (slot place : ℕ) (choice : Choice) (s : List ℕ) : Type 0 where
@@ -40,5 +35,6 @@ pub record AreCovered (cx : ContextRecord) (latest : Option Version) (plan : Pla
   pub covered : (place id : ℕ) (p : PackageRecord) (features : Features) (version : Option Version) (slot : ℕ) (s : List ℕ)
       → slice_get ids place ≡ Some id → package_at cx id ≡ Some p → features_at cx id ≡ Some features
       → UsesVersion input.range input steps version place → slot < slots_of input version
-      → IsSelection (length (candidates (wishes cx.args) (known_as p features))) s → IsWanted (choice_at cx p features) s
-      → HoldsCover plan version slot place (choice_at cx p features) s
+      → IsSelection (length (candidates cx.args features)) s
+      → IsWanted (package_choice cx.args p features) s
+      → HoldsCover plan version slot place (package_choice cx.args p features) s

@@ -5,7 +5,11 @@ use Rattle.hack_plan.specs.Runs.{PackageRun, Plain}
 use Rattle.hack_plan.specs.RunsView.{runs_in}
 use Rattle.hack_planner.specs.declared.kind.Kind.{Kind}
 use Rattle.hack_planner.specs.declared.kind.Kind.TheVariants.{Normal, Each, Powerset}
-use Rattle.hack_planner.specs.Candidates.{Names, Wishes, Known, candidates}
+use Rattle.hack_base.specs.Names.{Name}
+use Rattle.hack_load.specs.declared.features.Features.{Features}
+use Rattle.hack_metadata.specs.Records.{PackageRecord}
+use Rattle.hack_words.specs.declared.cli.args.Args.{Args}
+use Rattle.hack_planner.specs.Candidates.{candidates}
 use Rattle.hack_planner.specs.Kinds.{HasPlainRun, HasSetRuns, IsUnsampled}
 use Rattle.hack_samples.specs.declared.fault.SampleFault.{SampleFault}
 use Rattle.hack_samples.specs.declared.fault.SampleFault.TheVariants.{Memory, TooManyQuestions}
@@ -17,18 +21,20 @@ runs_of (Each list runs) = runs_in runs
 runs_of (Powerset list runs) = runs_in runs
 
 -- the candidates of a kind
-abbrev pub candidates_in : Kind → List Names
+abbrev pub candidates_in : Kind → List (List Name)
 candidates_in Normal = []
 candidates_in (Each list runs) = groups_of list.items
 candidates_in (Powerset list runs) = groups_of list.items
 
 -- the kind of a package: its plain run alone, each candidate, or sets of them
-abbrev pub IsKind : Wishes → Known → Kind → Type 0
-IsKind w p Normal = HasPlainRun w p
-IsKind w p (Each list runs) = (w.each ≡ true) × (w.powerset ≡ false) × (groups_of list.items ≡ candidates w p) × HasSetRuns w p (runs_in runs)
-IsKind w p (Powerset list runs) = (w.powerset ≡ true) × (groups_of list.items ≡ candidates w p) × HasSetRuns w p (runs_in runs)
+abbrev pub IsKind : Args → PackageRecord → Features → Kind → Type 0
+IsKind args p f Normal = HasPlainRun args p f
+IsKind args p f (Each list runs) = (args.each_feature ≡ true) × (args.feature_powerset ≡ false)
+    × (groups_of list.items ≡ candidates args f) × HasSetRuns args p f (runs_in runs)
+IsKind args p f (Powerset list runs) = (args.feature_powerset ≡ true)
+    × (groups_of list.items ≡ candidates args f) × HasSetRuns args p f (runs_in runs)
 
 -- why a package has no runs, if memory isn't refused: its sample needs too many questions
-abbrev pub IsRunsFault : Wishes → Known → SampleFault → Type 0
-IsRunsFault w p Memory = ⊥
-IsRunsFault w p TooManyQuestions = IsUnsampled w p
+abbrev pub IsRunsFault : Args → PackageRecord → Features → SampleFault → Type 0
+IsRunsFault args p f Memory = ⊥
+IsRunsFault args p f TooManyQuestions = IsUnsampled args p f

@@ -5,7 +5,6 @@ pub mod MembersView
 pub mod InternalListingView
 pub mod PackagesView
 pub mod Candidates
-pub mod CandidatesView
 pub mod Kinds
 pub mod KindsView
 pub mod LeastRuns

@@ -1,6 +1,6 @@
 -- The powersets of a plan's packages.
-use Rattle.std.specs.Prelude.{ℕ, ◌≡◌, ◌≢◌, ◌↔◌, List, Option, Some, None, length, Contains, IsSomeAnd, slice_get}
-use Rattle.std.specs.List.{filter_map}
+use Rattle.std.specs.Prelude.{ℕ, ◌≡◌, ◌≢◌, ◌↔◌, List, Option, Some, None, length, Contains}
+use Rattle.std.specs.List.{AllZip, filter_map}
 use Rattle.hack_features.specs.Rules.{Choice, IsListed}
 use Rattle.hack_features.specs.Sets.{IsSelection, Pairwise}
 use Rattle.hack_load.specs.Contexts.{ContextRecord, package_at, features_at}
@@ -9,7 +9,7 @@ use Rattle.hack_metadata.specs.Records.{PackageRecord}
 use Rattle.hack_planner.specs.ContextMembers.{AreChosen}
 use Rattle.hack_plan.specs.Runs.{PackageRun, Set}
 use Rattle.hack_plan.specs.View.{PlanView}
-use Rattle.hack_planner.specs.CoveredSets.{choice_at}
+use Rattle.hack_planner.specs.Kinds.{package_choice}
 
 -- the set of a run, if the run has one
 abbrev pub set_of : PackageRun → Option (List ℕ)
@@ -29,9 +29,8 @@ pub record IsPowerset (choice : Choice) (runs : List PackageRun) : Type 0 where
 pub record HoldsOfEach (cx : ContextRecord) (plan : PlanView) (P : Choice → List PackageRun → Type 0) : Type 0 where
   pub ids : List ℕ
   pub chosen : AreChosen cx ids
-  pub as_many : length ids ≡ length plan.packages
-  pub each : (place id : ℕ) (p : PackageRecord) (features : Features) → slice_get ids place ≡ Some id → package_at cx id ≡ Some p → features_at cx id ≡ Some features
-      → IsSomeAnd (slice_get plan.packages place) (λ k. P (choice_at cx p features) k.runs)
+  pub each : AllZip (λ id k. (p : PackageRecord) (f : Features) → package_at cx id ≡ Some p
+      → features_at cx id ≡ Some f → P (package_choice cx.args p f) k.runs) ids plan.packages
 
 -- the plan has exactly the chosen packages, and the runs of each have its powerset
 abbrev pub HavePowersets : ContextRecord → PlanView → Type 0

@@ -14,7 +14,8 @@ use Rattle.hack_plan.specs.declared.versions.PlanInput.{PlanInput}
 use Rattle.hack_plan.specs.View.{PlanView}
 use Rattle.hack_versions.specs.declared.version.Version.{Version}
 use Rattle.hack_planner.specs.Calls.{IsInputOf}
-use Rattle.hack_planner.specs.CoveredSets.{choice_at}
+use Rattle.hack_planner.specs.Candidates.{candidates}
+use Rattle.hack_planner.specs.Kinds.{package_choice}
 use Rattle.hack_planner.specs.Powersets.{HoldsOfEach, run_sets_of}
 
 -- the sets of the runs are listed ones, each once, and show each pattern of at most so many candidates that some listed set
@@ -48,5 +49,7 @@ pub record ArePatternsHeld (cx : ContextRecord) (strength : ℕ) (latest : Optio
   pub held : (place id : ℕ) (p : PackageRecord) (features : Features) (version : Option Version) (slot : ℕ) (pattern : List Setting) (s : List ℕ)
       → slice_get ids place ≡ Some id → package_at cx id ≡ Some p → features_at cx id ≡ Some features
       → UsesVersion input.range input steps version place → slot < slots_of input version
-      → length pattern ≤ strength → IsSelection (length (choice_at cx p features).candidates) s → IsListed (choice_at cx p features) s → SetShows (choice_at cx p features) pattern s
-      → HoldsPattern plan version slot place (choice_at cx p features) pattern
+      → length pattern ≤ strength → IsSelection (length (candidates cx.args features)) s
+      → IsListed (package_choice cx.args p features) s
+      → SetShows (package_choice cx.args p features) pattern s
+      → HoldsPattern plan version slot place (package_choice cx.args p features) pattern

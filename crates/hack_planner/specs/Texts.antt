@@ -25,13 +25,10 @@ dependency_text pkg name = codes "specified optional dependency `" ++ (name ++ (
 abbrev pub group_text : Name → List Name → List ℕ
 group_text pkg names = codes "skipped applying group `" ++ (join_with_byte 44 names ++ (codes "` to " ++ pkg))
 
--- a name with a folder
-abbrev pub verbose_text : Name → Name → List ℕ
-verbose_text name folder = name ++ (codes " (" ++ (folder ++ codes ")"))
-
 -- a package's name, under `--verbose` with the folder of its manifest
 abbrev pub name_verbose : Bool → PackageRecord → List ℕ
-name_verbose verbose p = if verbose then verbose_text p.name (parent_of p.manifest_path) else p.name
+name_verbose verbose p =
+    if verbose then p.name ++ (codes " (" ++ (parent_of p.manifest_path ++ codes ")")) else p.name
 
 -- about a private package that is skipped
 abbrev pub private_text : Bool → PackageRecord → List ℕ

@@ -1,7 +1,8 @@
 //! The candidates of a package, and the notices about names that it doesn't have.
 
 ghost use Rattle.std.specs.Prelude.{◌≡◌, ◌==◌, ◌++◌, ◌∷◌, [], ◌&&◌, ◌||◌, IfOk, OnOk, true, false};
-ghost use Rattle.std.specs.Prelude.{filter, map, not, option_map, length, if◌then◌else◌};
+ghost use Rattle.std.specs.Prelude.{filter, map, not, option_map, length, string_bytes};
+ghost use Rattle.std.specs.Prelude.{if◌then◌else◌};
 ghost use Rattle.std.specs.List.{list_all, list_any};
 ghost use Rattle.hack_base.specs.Names.{names_of};
 ghost use Rattle.hack_features.specs.Feature.{group_of, groups_of};
@@ -12,14 +13,13 @@ ghost use Rattle.hack_planner.specs.Texts.{group_text as skipped_group};
 ghost use Rattle.hack_planner.specs.MemberNotes.{warning_note, info_note};
 ghost use Rattle.hack_planner.specs.Candidates.{contains_name as name_in, one_has as one_names};
 ghost use Rattle.hack_planner.specs.Candidates.{is_taken as taken_by, stays as stays_for};
-ghost use Rattle.hack_planner.specs.Candidates.{is_asked as asked_by, is_bare as has_none};
+ghost use Rattle.hack_planner.specs.Candidates.{is_asked as asked_by};
 ghost use Rattle.hack_planner.specs.Candidates.{is_known as known_to, applies as applied_to};
 ghost use Rattle.hack_planner.specs.Candidates.{is_found as found_in, names_asked as asked_names};
 ghost use Rattle.hack_planner.specs.Candidates.{candidates as candidates_of, candidate_notes};
 ghost use Rattle.hack_planner.specs.Candidates.{feature_notes as notes_on_features};
 ghost use Rattle.hack_planner.specs.Candidates.{dependency_notes as notes_on_dependencies};
 ghost use Rattle.hack_planner.specs.Candidates.{group_notes as notes_on_groups};
-ghost use Rattle.hack_planner.specs.CandidatesView.{wishes, known_of_package};
 
 use crate::notes::{dependency_text, feature_text, group_text};
 use hack_base::copies::copies;
@@ -68,14 +68,14 @@ fn shares_name(others: &[String], names: &[String]) -> bool
 
 /// Whether the name is excluded or in a group, so that it is no candidate by itself.
 fn is_taken(args: &Args, name: &str) -> bool
-    ensures { result ≡ taken_by (wishes args.now) name.now }
+    ensures { result ≡ taken_by args.now name.now }
 {
     has_name(&args.exclude_features, name) || one_has(&args.group_features, name)
 }
 
 /// Whether the feature stays a candidate by itself.
 fn stays(args: &Args, feature: &Feature) -> bool
-    ensures { result ≡ stays_for (wishes args.now) (group_of feature.now) }
+    ensures { result ≡ stays_for args.now (group_of feature.now) }
 {
     for name in feature.as_group() {
         if is_taken(args, name.as_str()) {
@@ -87,7 +87,7 @@ fn stays(args: &Args, feature: &Feature) -> bool
 
 /// Whether `--optional-deps` asks for the optional dependency: it has its name, or no names at all.
 fn is_asked(args: &Args, feature: &Feature) -> bool
-    ensures { result ≡ asked_by (wishes args.now).optional_deps (group_of feature.now) }
+    ensures { result ≡ asked_by args.now (group_of feature.now) }
 {
     match &args.optional_deps {
         None => false,
@@ -96,21 +96,19 @@ fn is_asked(args: &Args, feature: &Feature) -> bool
 }
 
 /// Whether a feature or an optional dependency of the package has the name.
-fn is_known(pkg: &Package, features: &Features, name: &str) -> bool
-    ensures { result ≡ known_to (known_of_package pkg.now features.now) name.now }
+fn is_known(features: &Features, name: &str) -> bool
+    ensures { result ≡ known_to features.now name.now }
 {
-    // Only the contract speaks of it.
-    let _ = pkg;
     one_has(features.normal(), name) || one_has(features.optional_deps(), name)
 }
 
 /// Whether a feature or an optional dependency of the package has each of the names.
-fn are_known(pkg: &Package, features: &Features, names: &[String]) -> bool
-    ensures { result ≡ list_all (known_to (known_of_package pkg.now features.now))
+fn are_known(features: &Features, names: &[String]) -> bool
+    ensures { result ≡ list_all (known_to features.now)
         (names_of names.now) }
 {
     for name in names {
-        if !is_known(pkg, features, name.as_str()) {
+        if !is_known(features, name.as_str()) {
             return false;
         }
     }
@@ -119,12 +117,12 @@ fn are_known(pkg: &Package, features: &Features, names: &[String]) -> bool
 
 /// Whether the group is applied to the package. It isn't if it has an unknown name and
 /// `--ignore-unknown-features` is given.
-fn applies(args: &Args, pkg: &Package, features: &Features, group: &Feature) -> bool
-    ensures { result ≡ applied_to (wishes args.now) (known_of_package pkg.now features.now)
+fn applies(args: &Args, features: &Features, group: &Feature) -> bool
+    ensures { result ≡ applied_to args.now features.now
         (group_of
         group.now) }
 {
-    !args.ignore_unknown_features || are_known(pkg, features, group.as_group())
+    !args.ignore_unknown_features || are_known(features, group.as_group())
 }
 
 /// A copy of the feature.
@@ -164,15 +162,15 @@ fn add_if(
 
 /// Whether the feature is wanted and stays a candidate by itself.
 fn stays_if(args: &Args, feature: &Feature, wanted: bool) -> bool
-    ensures { result ≡ (wanted && stays_for (wishes args.now) (group_of feature.now)) }
+    ensures { result ≡ (wanted && stays_for args.now (group_of feature.now)) }
 {
     wanted && stays(args, feature)
 }
 
 /// Whether the optional dependency is asked for, and stays a candidate by itself.
 fn is_offered(args: &Args, feature: &Feature) -> bool
-    ensures { result ≡ (asked_by (wishes args.now).optional_deps (group_of feature.now)
-        && stays_for (wishes args.now) (group_of feature.now)) }
+    ensures { result ≡ (asked_by args.now (group_of feature.now)
+        && stays_for args.now (group_of feature.now)) }
 {
     is_asked(args, feature) && stays(args, feature)
 }
@@ -185,7 +183,7 @@ fn staying_features(
     wanted: bool,
 ) -> Result<Vec<Feature>, AllocError>
     ensures { IfOk result (λ found. groups_of found.items
-        ≡ filter (λ names. wanted && stays_for (wishes args.now) names) (groups_of features.now)) }
+        ≡ filter (λ names. wanted && stays_for args.now names) (groups_of features.now)) }
 {
     let mut found = Vec::new(alloc);
     for feature in features {
@@ -202,8 +200,8 @@ fn asked_dependencies(
     features: &[Feature],
 ) -> Result<Vec<Feature>, AllocError>
     ensures { IfOk result (λ found. groups_of found.items
-        ≡ filter (λ names. asked_by (wishes args.now).optional_deps names
-        && stays_for (wishes args.now) names) (groups_of features.now)) }
+        ≡ filter (λ names. asked_by args.now names
+        && stays_for args.now names) (groups_of features.now)) }
 {
     let mut found = Vec::new(alloc);
     for feature in features {
@@ -217,16 +215,15 @@ fn asked_dependencies(
 fn applied_groups(
     alloc: Global,
     args: &Args,
-    pkg: &Package,
     features: &Features,
 ) -> Result<Vec<Feature>, AllocError>
     ensures { IfOk result (λ found. groups_of found.items
-        ≡ filter (applied_to (wishes args.now) (known_of_package pkg.now features.now))
-        (wishes args.now).groups) }
+        ≡ filter (applied_to args.now features.now)
+        (groups_of args.now.group_features.items)) }
 {
     let mut found = Vec::new(alloc);
     for group in &args.group_features {
-        let taken = applies(args, pkg, features, group);
+        let taken = applies(args, features, group);
         add_if(alloc, &mut found, group, taken)?;
     }
     Ok(found)
@@ -234,7 +231,7 @@ fn applied_groups(
 
 /// Whether there is no feature.
 pub(crate) fn is_bare(features: &[Feature]) -> bool
-    ensures { result ≡ has_none (groups_of features.now) }
+    ensures { result ≡ (length features.now == 0) }
 {
     features.is_empty()
 }
@@ -243,11 +240,10 @@ pub(crate) fn is_bare(features: &[Feature]) -> bool
 pub(crate) fn candidates(
     alloc: Global,
     args: &Args,
-    pkg: &Package,
     features: &Features,
 ) -> Result<Vec<Feature>, AllocError>
     ensures { IfOk result (λ found. groups_of found.items
-        ≡ candidates_of (wishes args.now) (known_of_package pkg.now features.now)) }
+        ≡ candidates_of args.now features.now) }
 {
     if !is_bare(&args.include_features) {
         return staying_features(alloc, args, &args.include_features, true);
@@ -256,7 +252,7 @@ pub(crate) fn candidates(
     let mut optional = asked_dependencies(alloc, args, features.optional_deps())?;
     let wanted = args.include_deps_features;
     let mut of_deps = staying_features(alloc, args, features.deps_features(), wanted)?;
-    let mut groups = applied_groups(alloc, args, pkg, features)?;
+    let mut groups = applied_groups(alloc, args, features)?;
     found.append(&mut optional)?;
     found.append(&mut of_deps)?;
     found.append(&mut groups)?;
@@ -264,10 +260,10 @@ pub(crate) fn candidates(
 }
 
 /// Whether the package has the name in one of its lists of features.
-fn is_found(pkg: &Package, features: &Features, name: &str) -> bool
-    ensures { result ≡ found_in (known_of_package pkg.now features.now) name.now }
+fn is_found(features: &Features, name: &str) -> bool
+    ensures { result ≡ found_in features.now name.now }
 {
-    is_known(pkg, features, name) || one_has(features.deps_features(), name)
+    is_known(features, name) || one_has(features.deps_features(), name)
 }
 
 /// A warning for each excluded name that the package doesn't have.
@@ -278,12 +274,12 @@ fn feature_notes(
     features: &Features,
 ) -> Result<Vec<Notice>, AllocError>
     ensures { IfOk result (λ notices. map note_of notices.items
-        ≡ notes_on_features (wishes args.now) (known_of_package pkg.now features.now)) }
+        ≡ notes_on_features args.now (string_bytes pkg.now.name) features.now) }
 {
     let mut notices = Vec::new(alloc);
     for name in &args.exclude_features {
         let text = feature_text(alloc, name.as_str(), pkg.name.as_str())?;
-        let told = !is_found(pkg, features, name.as_str());
+        let told = !is_found(features, name.as_str());
         tell(&mut notices, told, NoticeKind::Warn, text)?;
     }
     Ok(notices)
@@ -291,7 +287,8 @@ fn feature_notes(
 
 /// The names of `--optional-deps`; none if its list is one empty name.
 fn names_asked(args: &Args) -> &[String]
-    ensures { names_of result.now ≡ asked_names (wishes args.now).optional_deps }
+    ensures { names_of result.now ≡ asked_names
+        (option_map (λ list. names_of list.items) args.now.optional_deps) }
 {
     match &args.optional_deps {
         None => &[],
@@ -317,7 +314,7 @@ fn dependency_notes(
     features: &Features,
 ) -> Result<Vec<Notice>, AllocError>
     ensures { IfOk result (λ notices. map note_of notices.items
-        ≡ notes_on_dependencies (wishes args.now) (known_of_package pkg.now features.now)) }
+        ≡ notes_on_dependencies args.now (string_bytes pkg.now.name) features.now) }
 {
     let mut notices = Vec::new(alloc);
     for name in names_asked(args) {
@@ -336,12 +333,12 @@ fn group_notes(
     features: &Features,
 ) -> Result<Vec<Notice>, AllocError>
     ensures { IfOk result (λ notices. map note_of notices.items
-        ≡ notes_on_groups (wishes args.now) (known_of_package pkg.now features.now)) }
+        ≡ notes_on_groups args.now (string_bytes pkg.now.name) features.now) }
 {
     let mut notices = Vec::new(alloc);
     for group in &args.group_features {
         let text = group_text(alloc, group.as_group(), pkg.name.as_str())?;
-        let told = !applies(args, pkg, features, group);
+        let told = !applies(args, features, group);
         tell(&mut notices, told, NoticeKind::Info, text)?;
     }
     Ok(notices)
@@ -357,7 +354,7 @@ pub(crate) fn notes_on(
     single: bool,
 ) -> Result<Vec<Notice>, AllocError>
     ensures { IfOk result (λ notices. map note_of notices.items
-        ≡ candidate_notes single (wishes args.now) (known_of_package pkg.now features.now)) }
+        ≡ candidate_notes single args.now (string_bytes pkg.now.name) features.now) }
 {
     if !args.each_feature && !args.feature_powerset {
         return Ok(Vec::new(alloc));

@@ -1,7 +1,7 @@
 //! The chosen packages, as a plan needs them.
 
 ghost use Rattle.std.specs.Prelude.{◌≡◌, ◌⊎◌, All, Contains, IfErr, IfOk, map};
-ghost use Rattle.std.specs.List.{AllZip};
+ghost use Rattle.std.specs.List.{AllZip, flat_map};
 ghost use Rattle.hack_features.specs.Feature.{groups_of};
 ghost use Rattle.hack_base.specs.Names.{names_of, names_behind};
 ghost use Rattle.hack_planner.specs.KindsView.{candidates_in, runs_of};
@@ -10,7 +10,7 @@ ghost use Rattle.hack_metadata.specs.RecordViews.{place_at};
 ghost use Rattle.hack_load.specs.ContextView.{context_view};
 ghost use Rattle.hack_base.specs.Notes.{note_of};
 ghost use Rattle.hack_plan.specs.View.{plan_package_view};
-ghost use Rattle.hack_planner.specs.Calls.{HasPackageRuns, IsDescribed, AreDescribed};
+ghost use Rattle.hack_planner.specs.Calls.{IsChosenPackage, HasCoverage, candidate_notes_at};
 ghost use Rattle.hack_planner.specs.Internal.{SaysNoSample, HasRunsFault};
 
 use crate::determine::determine_kind;
@@ -47,10 +47,12 @@ fn chosen_package(
     single: bool,
 ) -> Result<(PlanPackage, Vec<Notice>), PlanFault>
     requires { Contains (context_view cx.now).metadata.workspace_members id.index }
-    ensures ok { IfOk result (λ answer. IsDescribed (context_view cx.now) single id.index
-        (plan_package_view answer.0) (map note_of answer.1.items)) }
-    ensures runs { IfOk result (λ answer. HasPackageRuns (context_view cx.now) id.index
+    ensures ok { IfOk result (λ answer. IsChosenPackage (context_view cx.now) id.index
         (plan_package_view answer.0)) }
+    ensures coverage { IfOk result (λ answer. HasCoverage (context_view cx.now) id.index
+        (plan_package_view answer.0)) }
+    ensures notes { IfOk result (λ answer.
+        map note_of answer.1.items ≡ candidate_notes_at (context_view cx.now) single id.index) }
     ensures err { IfErr result (λ e. (e ≡ PlanFault.Memory)
         ⊎ SaysNoSample (context_view cx.now) id.index e) }
 {
@@ -91,11 +93,12 @@ pub(crate) fn chosen_packages(
 ) -> Result<(Vec<PlanPackage>, Vec<Notice>), PlanFault>
     requires { All (λ id. Contains (context_view cx.now).metadata.workspace_members id.index)
         ids.now }
-    ensures ok { IfOk result (λ answer. AreDescribed (context_view cx.now) single
-        (map place_at ids.now) (map plan_package_view answer.0.items)
-        (map note_of answer.1.items)) }
-    ensures runs { IfOk result (λ answer. AllZip (HasPackageRuns (context_view cx.now))
+    ensures ok { IfOk result (λ answer. AllZip (IsChosenPackage (context_view cx.now))
         (map place_at ids.now) (map plan_package_view answer.0.items)) }
+    ensures coverage { IfOk result (λ answer. AllZip (HasCoverage (context_view cx.now))
+        (map place_at ids.now) (map plan_package_view answer.0.items)) }
+    ensures notes { IfOk result (λ answer. map note_of answer.1.items
+        ≡ flat_map (candidate_notes_at (context_view cx.now) single) (map place_at ids.now)) }
     ensures err { IfErr result (λ e. (e ≡ PlanFault.Memory)
         ⊎ HasRunsFault (context_view cx.now) (map place_at ids.now) e) }
 {

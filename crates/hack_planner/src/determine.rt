@@ -1,7 +1,7 @@
 //! Which packages a call runs on, after its context was loaded, and which runs each of them has.
 
 ghost use Rattle.std.specs.Prelude.{◌≡◌, ◌<◌, ◌⊎◌, Contains, IfOk, IfErr, None, Some, length};
-ghost use Rattle.std.specs.Prelude.{map, option_copied, true};
+ghost use Rattle.std.specs.Prelude.{map, option_copied, option_map, true};
 ghost use Rattle.hack_load.specs.Contexts.{IsWholeContext, package_at, features_at};
 ghost use Rattle.hack_load.specs.ContextView.{context_view};
 ghost use Rattle.hack_load.specs.declared.features.Features.{Features as Loaded};
@@ -9,17 +9,14 @@ ghost use Rattle.hack_metadata.specs.Records.{PackageRecord};
 ghost use Rattle.hack_base.specs.Notes.{note_of};
 ghost use Rattle.hack_planner.specs.MembersView.{member_view};
 ghost use Rattle.hack_planner.specs.Candidates.{candidate_notes};
-ghost use Rattle.hack_planner.specs.CandidatesView.{wishes};
 ghost use Rattle.hack_planner.specs.Kinds.{AreRuns, AreCovering, IsDepthOne, as_each};
 ghost use Rattle.hack_planner.specs.Kinds.{AreRunSettings, package_choice};
 ghost use Rattle.hack_samples.specs.Sets.{rows_of};
 ghost use Rattle.hack_planner.specs.KindsView.{IsKind, IsRunsFault, runs_of};
 ghost use Rattle.hack_planner.specs.LeastRuns.{HasRunsAtLeast};
 ghost use Rattle.hack_planner.specs.ContextMembers.{member_at, members_in};
-ghost use Rattle.hack_planner.specs.ContextMembers.{package_name_at as named_at};
 ghost use Rattle.hack_planner.specs.ContextMembers.{current_name as current_called};
 ghost use Rattle.hack_planner.specs.ContextMembers.{AreChosen, AreChoiceNotes, IsChoiceFault};
-ghost use Rattle.hack_planner.specs.ContextMembers.{known_as};
 
 use crate::fault::PackagesFault;
 use crate::kind::{PackageRuns, determine_runs};
@@ -60,7 +57,8 @@ fn members_of<'a>(alloc: Global, context: &'a Context) -> Result<Vec<Member<'a>>
 /// The name of a package.
 fn name_at(context: &Context, id: PackageId) -> &str
     requires { id.index < length (context_view context.now).metadata.packages }
-    ensures { named_at (context_view context.now) id.index ≡ Some result.now }
+    ensures { option_map (λ p. p.name) (package_at (context_view context.now) id.index)
+        ≡ Some result.now }
 {
     context.packages(id).name.as_str()
 }
@@ -114,12 +112,12 @@ pub fn determine_kind(
         → package_at (context_view context.now) id.index ≡ Some p
         → features_at (context_view context.now) id.index ≡ Some features
         → IfOk result (λ answer.
-        IsKind (wishes (context_view context.now).args) (known_as p features) answer.0.kind) }
+        IsKind (context_view context.now).args p features answer.0.kind) }
     ensures runs { (p : PackageRecord) (features : Loaded)
         → package_at (context_view context.now) id.index ≡ Some p
         → features_at (context_view context.now) id.index ≡ Some features
-        → IfOk result (λ answer. AreRuns (wishes (context_view context.now).args)
-        (known_as p features) (runs_of answer.0.kind)) }
+        → IfOk result (λ answer. AreRuns (context_view context.now).args
+        p features (runs_of answer.0.kind)) }
 
     // Under a powerset of all sets, each set of candidates that has to be covered has a run that
     // covers it.
@@ -128,29 +126,29 @@ pub fn determine_kind(
         → features_at (context_view context.now) id.index ≡ Some features
         → (context_view context.now).args.feature_powerset ≡ true
         → (context_view context.now).args.strength ≡ None
-        → IfOk result (λ answer. AreCovering (wishes (context_view context.now).args)
-        (known_as p features) (runs_of answer.0.kind)) }
+        → IfOk result (λ answer. AreCovering (context_view context.now).args
+        p features (runs_of answer.0.kind)) }
 
     // For a package with optional dependencies, a powerset of depth 1 without strength, exclusion
     // groups and at-least-one groups has the runs of `--each-feature`.
     ensures depth_one { (p : PackageRecord) (features : Loaded)
         → package_at (context_view context.now) id.index ≡ Some p
         → features_at (context_view context.now) id.index ≡ Some features
-        → IfOk result (λ answer. IsDepthOne (wishes (context_view context.now).args)
-        → 0 < length (known_as p features).optional
-        → AreRuns (as_each (wishes (context_view context.now).args)) (known_as p features)
+        → IfOk result (λ answer. IsDepthOne (context_view context.now).args
+        → 0 < length features.optional_deps.items
+        → AreRuns (as_each (context_view context.now).args) p features
         (runs_of answer.0.kind)) }
     ensures notices { (p : PackageRecord) (features : Loaded)
         → package_at (context_view context.now) id.index ≡ Some p
         → features_at (context_view context.now) id.index ≡ Some features
         → IfOk result (λ answer. map note_of answer.1.items
-        ≡ candidate_notes single (wishes (context_view context.now).args) (known_as p features)) }
+        ≡ candidate_notes single (context_view context.now).args p.name features) }
 
     ensures settings { (p : PackageRecord) (features : Loaded)
         → package_at (context_view context.now) id.index ≡ Some p
         → features_at (context_view context.now) id.index ≡ Some features
         → IfOk result (λ answer. AreRunSettings (context_view context.now).args.strength
-        (package_choice (wishes (context_view context.now).args) (known_as p features))
+        (package_choice (context_view context.now).args p features)
         (runs_of answer.0.kind) (rows_of answer.0.settings.items)) }
 
     // The only error besides out of memory is a sample that needs too many questions.
@@ -158,7 +156,7 @@ pub fn determine_kind(
         → package_at (context_view context.now) id.index ≡ Some p
         → features_at (context_view context.now) id.index ≡ Some features
         → IfErr result (λ e. (e ≡ SampleFault.Memory)
-        ⊎ IsRunsFault (wishes (context_view context.now).args) (known_as p features) e) }
+        ⊎ IsRunsFault (context_view context.now).args p features e) }
 {
     // This call promises that what was loaded fits together.
     let _ = context.workspace_members();
@@ -177,7 +175,7 @@ pub fn least_count(alloc: Global, context: &Context, id: PackageId) -> Result<us
         → package_at (context_view context.now) id.index ≡ Some p
         → features_at (context_view context.now) id.index ≡ Some features
         → IfOk result
-        (HasRunsAtLeast (wishes (context_view context.now).args) (known_as p features)) }
+        (HasRunsAtLeast (context_view context.now).args p features) }
 {
     // This call promises that what was loaded fits together.
     let _ = context.workspace_members();

@@ -5,7 +5,8 @@ ghost use Rattle.hack_metadata.specs.RecordViews.{place_at};
 ghost use Rattle.hack_load.specs.ContextView.{context_view};
 ghost use Rattle.hack_load.specs.Contexts.{rust_version_at};
 ghost use Rattle.hack_rules.specs.declared.uses.behavior.WorkspaceBehavior.TheVariants.{Cargo};
-ghost use Rattle.hack_planner.specs.Calls.{IsOwn, IsBadOwn, IsMember, AreMembers, IsInputOf};
+ghost use Rattle.std.specs.List.{AllZip};
+ghost use Rattle.hack_planner.specs.Calls.{IsOwn, IsBadOwn, IsMember, IsInputOf};
 ghost use Rattle.hack_planner.specs.Calls.{HasBadOwn};
 ghost use Rattle.hack_planner.specs.Internal.{IsOwnFault};
 
@@ -67,7 +68,7 @@ fn members(alloc: Global, cx: &Context, ids: &[PackageId]) -> Result<Vec<Package
     requires { All (λ id. Contains (context_view cx.now).metadata.workspace_members id.index)
         ids.now }
     ensures ok { IfOk result (λ members.
-        AreMembers (context_view cx.now) (map place_at ids.now) members.items) }
+        AllZip (IsMember (context_view cx.now)) (map place_at ids.now) members.items) }
     ensures never { IfOk result (λ _. (e : VersionFault)
         → ¬ HasBadOwn (context_view cx.now) (map place_at ids.now) e) }
     ensures err { IfErr result (λ e. (e ≡ PlanFault.Memory)

@@ -1,6 +1,6 @@
 //! The runs of a package, and its candidates.
 
-ghost use Rattle.std.specs.Prelude.{◌≡◌, ◌<◌, ◌⊎◌, ◌++◌, [], IfErr, IfOk};
+ghost use Rattle.std.specs.Prelude.{◌≡◌, ◌<◌, ◌⊎◌, ◌++◌, ◌==◌, [], IfErr, IfOk, false};
 ghost use Rattle.std.specs.Prelude.{None, OnOk, Some, length, map, slice_get, string_bytes, true};
 ghost use Rattle.std.specs.List.{slice_index_or};
 ghost use Rattle.hack_features.specs.Feature.{groups_of, candidates_of};
@@ -11,9 +11,9 @@ ghost use Rattle.hack_load.specs.declared.features.Features.{Features as Loaded}
 ghost use Rattle.hack_plan.specs.Runs.{run_of};
 ghost use Rattle.hack_base.specs.Notes.{note_of};
 ghost use Rattle.hack_planner.specs.Candidates.{candidates as are_candidates, candidate_notes};
-ghost use Rattle.hack_planner.specs.CandidatesView.{wishes, known_of_package};
+ghost use Rattle.hack_metadata.specs.RecordViews.{package_view};
 ghost use Rattle.hack_planner.specs.Kinds.{AreSets, AreRuns, options_of};
-ghost use Rattle.hack_planner.specs.Kinds.{takes_all as all_taken};
+ghost use Rattle.std.specs.Option.{option_map_or};
 ghost use Rattle.hack_plan.specs.Commands.{candidate_names_at};
 ghost use Rattle.hack_planner.specs.Kinds.{AreCovering, package_choice, IsDepthOne, as_each};
 ghost use Rattle.hack_planner.specs.Kinds.{IsRowOf, AreRunSettings};
@@ -177,11 +177,10 @@ pub(crate) fn rules_of<'a>(
     lifted: &'a [bool],
 ) -> Result<Rules<'a>, AllocError>
     ensures choice { (features : Loaded)
-        → candidates_of all.now ≡ are_candidates (wishes args.now)
-        (known_of_package pkg.now features)
-        → lifted.now ≡ lifted_for (wishes args.now) (string_bytes pkg.now.name)
+        → candidates_of all.now ≡ are_candidates args.now features
+        → lifted.now ≡ lifted_for args.now (string_bytes pkg.now.name)
         → IfOk result (λ rules. rules_choice rules
-        ≡ package_choice (wishes args.now) (known_of_package pkg.now features)) }
+        ≡ package_choice args.now (package_view pkg.now) features) }
     ensures size { IfOk result (λ rules. size_of rules ≡ length all.now) }
     ensures fresh { IfOk result (λ rules. questions_asked rules ≡ 0) }
 {
@@ -208,24 +207,21 @@ fn powerset_sets(
     candidates: &[Feature],
 ) -> Result<FeatureSets, SampleFault>
     ensures sets { (features : Loaded)
-        → groups_of candidates.now ≡ are_candidates (wishes args.now)
-        (known_of_package pkg.now features)
-        → IfOk result (λ sets. AreSets true (wishes args.now) (known_of_package pkg.now features)
+        → groups_of candidates.now ≡ are_candidates args.now features
+        → IfOk result (λ sets. AreSets true args.now (package_view pkg.now) features
         (sets_in sets)) }
     ensures covers { (features : Loaded)
-        → groups_of candidates.now ≡ are_candidates (wishes args.now)
-        (known_of_package pkg.now features)
+        → groups_of candidates.now ≡ are_candidates args.now features
         → args.now.strength ≡ None
-        → IfOk result (λ sets. AreCovers (package_choice (wishes args.now)
-        (known_of_package pkg.now features))
-        (length (are_candidates (wishes args.now) (known_of_package pkg.now features)))
+        → IfOk result (λ sets. AreCovers (package_choice args.now
+        (package_view pkg.now) features)
+        (length (are_candidates args.now features))
         (sets_in sets)) }
     ensures err { (features : Loaded)
-        → groups_of candidates.now ≡ are_candidates (wishes args.now)
-        (known_of_package pkg.now features)
+        → groups_of candidates.now ≡ are_candidates args.now features
         → args.now.feature_powerset ≡ true
         → IfErr result (λ e. (e ≡ SampleFault.Memory)
-        ⊎ IsRunsFault (wishes args.now) (known_of_package pkg.now features) e) }
+        ⊎ IsRunsFault args.now (package_view pkg.now) features e) }
 {
     let lifted = lifted_groups(alloc, args, pkg.name.as_str())?;
     let all = all_of(alloc, candidates)?;
@@ -247,24 +243,21 @@ fn sets_of(
     candidates: &[Feature],
 ) -> Result<FeatureSets, SampleFault>
     ensures sets { (features : Loaded)
-        → groups_of candidates.now ≡ are_candidates (wishes args.now)
-        (known_of_package pkg.now features)
-        → IfOk result (λ sets. AreSets args.now.feature_powerset (wishes args.now)
-        (known_of_package pkg.now features) (sets_in sets)) }
+        → groups_of candidates.now ≡ are_candidates args.now features
+        → IfOk result (λ sets. AreSets args.now.feature_powerset args.now
+        (package_view pkg.now) features (sets_in sets)) }
     ensures covers { (features : Loaded)
-        → groups_of candidates.now ≡ are_candidates (wishes args.now)
-        (known_of_package pkg.now features)
+        → groups_of candidates.now ≡ are_candidates args.now features
         → args.now.feature_powerset ≡ true
         → args.now.strength ≡ None
-        → IfOk result (λ sets. AreCovers (package_choice (wishes args.now)
-        (known_of_package pkg.now features))
-        (length (are_candidates (wishes args.now) (known_of_package pkg.now features)))
+        → IfOk result (λ sets. AreCovers (package_choice args.now
+        (package_view pkg.now) features)
+        (length (are_candidates args.now features))
         (sets_in sets)) }
     ensures err { (features : Loaded)
-        → groups_of candidates.now ≡ are_candidates (wishes args.now)
-        (known_of_package pkg.now features)
+        → groups_of candidates.now ≡ are_candidates args.now features
         → IfErr result (λ e. (e ≡ SampleFault.Memory)
-        ⊎ IsRunsFault (wishes args.now) (known_of_package pkg.now features) e) }
+        ⊎ IsRunsFault args.now (package_view pkg.now) features e) }
 {
     if args.feature_powerset {
         powerset_sets(alloc, args, pkg, candidates)
@@ -275,7 +268,8 @@ fn sets_of(
 
 /// Whether `--optional-deps` is given without names.
 fn takes_all(args: &Args) -> bool
-    ensures { result ≡ all_taken (wishes args.now).optional_deps }
+    ensures { result
+        ≡ option_map_or (λ asked. length asked.items == 0) args.now.optional_deps false }
 {
     match &args.optional_deps {
         None => false,
@@ -284,11 +278,9 @@ fn takes_all(args: &Args) -> bool
 }
 
 /// The options that decide, together with its sets, which runs a package has.
-fn options(args: &Args, pkg: &Package, features: &Features) -> RunOptions
-    ensures { result ≡ options_of (wishes args.now) (known_of_package pkg.now features.now) }
+fn options(args: &Args, features: &Features) -> RunOptions
+    ensures { result ≡ options_of args.now features.now }
 {
-    // Only the contract speaks of it.
-    let _ = pkg;
     RunOptions {
         powerset: args.feature_powerset,
         depth: args.depth,
@@ -308,19 +300,19 @@ fn kind_of(
     pkg: &Package,
     features: &Features,
 ) -> Result<Kind, SampleFault>
-    ensures kind { IfOk result (IsKind (wishes args.now) (known_of_package pkg.now features.now)) }
+    ensures kind { IfOk result (IsKind args.now (package_view pkg.now) features.now) }
     ensures covered { IfOk result (λ kind. args.now.feature_powerset ≡ true
         → args.now.strength ≡ None
-        → AreCovering (wishes args.now) (known_of_package pkg.now features.now) (runs_of kind)) }
+        → AreCovering args.now (package_view pkg.now) features.now (runs_of kind)) }
     ensures err { IfErr result (λ e. (e ≡ SampleFault.Memory)
-        ⊎ IsRunsFault (wishes args.now) (known_of_package pkg.now features.now) e) }
+        ⊎ IsRunsFault args.now (package_view pkg.now) features.now e) }
 {
     if !args.each_feature && !args.feature_powerset {
         return Ok(Kind::Normal);
     }
-    let candidates = candidates(alloc, args, pkg, features)?;
+    let candidates = candidates(alloc, args, features)?;
     let sets = sets_of(alloc, args, pkg, &candidates)?;
-    let options = options(args, pkg, features);
+    let options = options(args, features);
     if options.is_plain(sets.len()) {
         return Ok(Kind::Normal);
     }
@@ -376,13 +368,13 @@ fn run_settings(
     kind: &Kind,
 ) -> Result<Vec<Vec<bool>>, AllocError>
     ensures { IfOk result (λ rows. AreRunSettings args.now.strength
-        (package_choice (wishes args.now) (known_of_package pkg.now features.now))
+        (package_choice args.now (package_view pkg.now) features.now)
         (runs_of kind.now) (rows_of rows.items)) }
 {
     if args.strength.is_none() {
         return Ok(Vec::new(alloc));
     }
-    let candidates = candidates(alloc, args, pkg, features)?;
+    let candidates = candidates(alloc, args, features)?;
     let lifted = lifted_groups(alloc, args, pkg.name.as_str())?;
     let all = all_of(alloc, &candidates)?;
     let rules = rules_of(alloc, args, pkg, all.as_slice(), lifted.as_slice())?;
@@ -401,33 +393,34 @@ pub fn determine_runs(
 ) -> Result<(PackageRuns, Vec<Notice>), SampleFault>
     ensures id { IfOk result (λ answer. answer.0.id ≡ id) }
     ensures kind { IfOk result (λ answer.
-        IsKind (wishes args.now) (known_of_package pkg.now features.now) answer.0.kind) }
+        IsKind args.now (package_view pkg.now) features.now answer.0.kind) }
     ensures runs { IfOk result (λ answer.
-        AreRuns (wishes args.now) (known_of_package pkg.now features.now) (runs_of answer.0.kind)) }
+        AreRuns args.now (package_view pkg.now) features.now (runs_of answer.0.kind)) }
 
     // Under a powerset of all sets, each set of candidates that has to be covered has a run that
     // covers it.
     ensures covered { IfOk result (λ answer. args.now.feature_powerset ≡ true
         → args.now.strength ≡ None
-        → AreCovering (wishes args.now) (known_of_package pkg.now features.now)
+        → AreCovering args.now (package_view pkg.now) features.now
         (runs_of answer.0.kind)) }
 
     // For a package with optional dependencies, a powerset of depth 1 without strength, exclusion
     // groups and at-least-one groups has the runs of `--each-feature`.
-    ensures depth_one { IfOk result (λ answer. IsDepthOne (wishes args.now)
-        → 0 < length (known_of_package pkg.now features.now).optional
-        → AreRuns (as_each (wishes args.now)) (known_of_package pkg.now features.now) (runs_of
+    ensures depth_one { IfOk result (λ answer. IsDepthOne args.now
+        → 0 < length features.now.optional_deps.items
+        → AreRuns (as_each args.now) (package_view pkg.now) features.now (runs_of
         answer.0.kind)) }
     ensures notices { IfOk result (λ answer. map note_of answer.1.items
-        ≡ candidate_notes single (wishes args.now) (known_of_package pkg.now features.now)) }
+        ≡ candidate_notes single args.now (string_bytes pkg.now.name)
+        features.now) }
 
     ensures settings { IfOk result (λ answer. AreRunSettings args.now.strength
-        (package_choice (wishes args.now) (known_of_package pkg.now features.now))
+        (package_choice args.now (package_view pkg.now) features.now)
         (runs_of answer.0.kind) (rows_of answer.0.settings.items)) }
 
     // The only error besides out of memory is a sample that needs too many questions.
     ensures err { IfErr result (λ e. (e ≡ SampleFault.Memory)
-        ⊎ IsRunsFault (wishes args.now) (known_of_package pkg.now features.now) e) }
+        ⊎ IsRunsFault args.now (package_view pkg.now) features.now e) }
 {
     let notices = notes_on(alloc, args, pkg, features, single)?;
     let kind = kind_of(alloc, args, pkg, features)?;

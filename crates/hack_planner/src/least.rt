@@ -1,7 +1,7 @@
 //! How many runs a package has at least, found without a list of its sets.
 
 ghost use Rattle.std.specs.Prelude.{◌≡◌, ◌<◌, ◌≤◌, ◌+◌, ◌^◌, IfOk, None, cond, true};
-ghost use Rattle.hack_planner.specs.CandidatesView.{wishes, known_of_package};
+ghost use Rattle.hack_metadata.specs.RecordViews.{package_view};
 ghost use Rattle.hack_planner.specs.LeastRuns.{HasRunsAtLeast};
 
 use crate::candidates::candidates;
@@ -36,9 +36,9 @@ pub(crate) fn least_runs(
     requires powerset { args.now.feature_powerset ≡ true }
     requires all { args.now.strength ≡ None }
     ensures { IfOk result
-        (HasRunsAtLeast (wishes args.now) (known_of_package pkg.now features.now)) }
+        (HasRunsAtLeast args.now (package_view pkg.now) features.now) }
 {
-    let candidates = candidates(alloc, args, pkg, features)?;
+    let candidates = candidates(alloc, args, features)?;
     let lifted = lifted_groups(alloc, args, pkg.name.as_str())?;
     let all = all_of(alloc, &candidates)?;
     let mut rules = rules_of(alloc, args, pkg, all.as_slice(), lifted.as_slice())?;

@@ -86,7 +86,8 @@ pub(crate) fn refuse_too_many(
     requires members { All (λ id. Contains (context_view cx.now).metadata.workspace_members
         id.index) ids.now }
     requires input { IsInputOf (context_view cx.now) (map place_at ids.now) input.now }
-    requires versions { AreVersions input.now versions.now }
+    requires versions { AreVersions input.now.range input.now versions.now.stable
+        versions.now.groups.items }
     ensures { AreChosen (context_view cx.now) (map place_at ids.now)
         → IfErr result (λ e. (e ≡ PlanFault.Memory)
         ⊎ IsCause (context_view cx.now) versions.now.stable e) }

@@ -8,7 +8,9 @@ ghost use Rattle.hack_planner.specs.Texts.{exclusion_text, lift_text as lift_wor
 ghost use Rattle.hack_planner.specs.Members.{MatchesSome, AllMatch, SelectsMembers, Collects};
 ghost use Rattle.hack_planner.specs.Members.{is_called as has_called};
 ghost use Rattle.hack_planner.specs.MemberNotes.{warning_note, info_note};
-ghost use Rattle.hack_planner.specs.Members.{first_called as first_of};
+ghost use Rattle.std.specs.List.{find};
+ghost use Rattle.std.specs.Option.{option_to_list};
+ghost use Rattle.std.specs.Str.{bytes_eq};
 ghost use Rattle.hack_planner.specs.MembersView.{member_view};
 ghost use Rattle.hack_planner.specs.InternalListingView.{IsMatchedAs, IsNamedFault, kept_place};
 
@@ -74,7 +76,7 @@ pub(crate) fn first_called<'a>(
     name: &str,
 ) -> Result<Vec<Member<'a>>, AllocError>
     ensures { IfOk result (λ kept. map member_view kept.items
-        ≡ first_of (map member_view members.now) name.now) }
+        ≡ option_to_list (find (λ m. bytes_eq m.pkg.name name.now) (map member_view members.now))) }
 {
     let mut kept = Vec::new(alloc);
     for member in members {

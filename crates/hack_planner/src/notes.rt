@@ -1,11 +1,11 @@
 //! The texts of notices about packages and their features.
 
-ghost use Rattle.std.specs.Prelude.{◌≡◌, IfOk, string_bytes, if◌then◌else◌, []};
+ghost use Rattle.std.specs.Prelude.{◌≡◌, ◌++◌, IfOk, codes, string_bytes, if◌then◌else◌, []};
 ghost use Rattle.std.specs.List.{join_with_byte};
 ghost use Rattle.hack_base.specs.Names.{names_of};
 ghost use Rattle.hack_planner.specs.Texts.{exclusion_text, lift_text};
 ghost use Rattle.hack_planner.specs.Texts.{feature_text, dependency_text};
-ghost use Rattle.hack_planner.specs.Texts.{group_text, private_text, verbose_text, name_verbose};
+ghost use Rattle.hack_planner.specs.Texts.{group_text, private_text, name_verbose};
 ghost use Rattle.hack_metadata.specs.RecordViews.{package_view};
 
 use hack_base::paths::parent;
@@ -64,7 +64,8 @@ pub(crate) fn group_text(alloc: Global, names: &[String], pkg: &str) -> Result<S
 
 /// A package's name with the folder of its manifest.
 fn verbose_text(alloc: Global, name: &str, folder: &str) -> Result<String, AllocError>
-    ensures { IfOk result (λ text. string_bytes text ≡ verbose_text name.now folder.now) }
+    ensures { IfOk result (λ text. string_bytes text
+        ≡ name.now ++ (codes " (" ++ (folder.now ++ codes ")"))) }
 {
     format!(in alloc; "{name} ({folder})")
 }

@@ -1,14 +1,13 @@
 //! The packages that a call runs on.
 
-ghost use Rattle.std.specs.Prelude.{◌≡◌, ◌==◌, ◌⊎◌, IfOk, IfErr, Option, length, map};
+ghost use Rattle.std.specs.Prelude.{◌≡◌, ◌==◌, ◌⊎◌, IfOk, IfErr, length, map};
 ghost use Rattle.std.specs.Prelude.{option_copied};
-ghost use Rattle.hack_base.specs.Names.{Name, names_of};
 ghost use Rattle.hack_base.specs.Notes.{note_of};
 ghost use Rattle.hack_planner.specs.Members.{IsPackageList, IsAbout};
 ghost use Rattle.hack_planner.specs.MemberNotes.{AreListNotes};
 ghost use Rattle.hack_planner.specs.Members.{names_some as some_named};
 ghost use Rattle.hack_planner.specs.Members.{members_without_names as all_unnamed};
-ghost use Rattle.hack_planner.specs.MembersView.{member_view, choosing_of};
+ghost use Rattle.hack_planner.specs.MembersView.{member_view};
 ghost use Rattle.hack_planner.specs.PackagesView.{IsListFault};
 
 use crate::fault::PackagesFault;
@@ -33,14 +32,14 @@ pub struct PackageList {
 
 /// Whether no specification is given.
 fn is_bare(specs: &[String]) -> bool
-    ensures { result ≡ (length (names_of specs.now) == 0) }
+    ensures { result ≡ (length specs.now == 0) }
 {
     specs.is_empty()
 }
 
 /// Whether the call names packages, and not the whole workspace.
 fn names_some(args: &Args) -> bool
-    ensures { (current : Option Name) → result ≡ some_named (choosing_of args.now current) }
+    ensures { result ≡ some_named args.now }
 {
     !args.workspace && !is_bare(&args.package)
 }
@@ -69,16 +68,13 @@ fn about<'a>(
     members: &[Member<'a>],
     current: Option<&str>,
 ) -> Result<Vec<Member<'a>>, PackagesFault>
-    ensures ok { IfOk result (λ about. IsAbout (some_named (choosing_of args.now (option_copied
-        current.entry)))
-        (choosing_of args.now (option_copied current.entry)) (map member_view members.now)
+    ensures ok { IfOk result (λ about. IsAbout (some_named args.now) args.now
+        (option_copied current.entry) (map member_view members.now)
         (map member_view about.items)) }
     ensures never { IfOk result (λ _. (e : PackagesFault)
-        → ¬ IsListFault (choosing_of args.now (option_copied current.entry)) (map member_view
-        members.now) e) }
+        → ¬ IsListFault args.now (map member_view members.now) e) }
     ensures err { IfErr result (λ e. (e ≡ PackagesFault.Memory)
-        ⊎ IsListFault (choosing_of args.now (option_copied current.entry))
-        (map member_view members.now) e) }
+        ⊎ IsListFault args.now (map member_view members.now) e) }
 {
     if !names_some(args) {
         return Ok(members_without_names(alloc, args.workspace, members, current)?);
@@ -106,17 +102,14 @@ pub fn choose_packages(
     current: Option<&str>,
     root: &str,
 ) -> Result<(PackageList, Vec<Notice>), PackagesFault>
-    ensures ok { IfOk result (λ answer. IsPackageList (choosing_of args.now (option_copied
-        current.entry)) (map member_view members.now) (map (λ id. id.index) answer.0.ids.items)) }
-    ensures notes { IfOk result (λ answer. AreListNotes (choosing_of args.now (option_copied
-        current.entry)) root.now (map member_view members.now) answer.0.is_single
-        (map note_of answer.1.items)) }
+    ensures ok { IfOk result (λ answer. IsPackageList args.now (option_copied current.entry)
+        (map member_view members.now) (map (λ id. id.index) answer.0.ids.items)) }
+    ensures notes { IfOk result (λ answer. AreListNotes args.now (option_copied current.entry)
+        root.now (map member_view members.now) answer.0.is_single (map note_of answer.1.items)) }
     ensures never { IfOk result (λ _. (e : PackagesFault)
-        → ¬ IsListFault (choosing_of args.now (option_copied current.entry)) (map member_view
-        members.now) e) }
+        → ¬ IsListFault args.now (map member_view members.now) e) }
     ensures err { IfErr result (λ e. (e ≡ PackagesFault.Memory)
-        ⊎ IsListFault (choosing_of args.now (option_copied current.entry))
-        (map member_view members.now) e) }
+        ⊎ IsListFault args.now (map member_view members.now) e) }
 {
     let about = match about(alloc, args, members, current) {
         Ok(about) => about,

@@ -169,7 +169,8 @@ fn versions_of(
     latest: Option<Version>,
 ) -> Result<(Versions, Vec<Notice>), PlanFault>
     requires { IfSome input.now.range (λ range. NeedsStable range → IsSome latest) }
-    ensures ok { IfOk result (λ answer. AreVersions input.now answer.0) }
+    ensures ok { IfOk result (λ answer. AreVersions input.now.range input.now
+        answer.0.stable answer.0.groups.items) }
     ensures stable { IfOk result (λ answer. answer.0.stable ≡ latest) }
     ensures notices { IfOk result (λ answer. AreNotices input.now.range input.now latest
         (map note_of answer.1.items)) }

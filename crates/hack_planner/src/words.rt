@@ -1,11 +1,12 @@
 //! What all commands of a call have in common, from what was loaded.
 
-ghost use Rattle.std.specs.Prelude.{◌≡◌, IfOk, option_map};
+ghost use Rattle.std.specs.Prelude.{◌≡◌, IfOk, option_and_then, option_map};
+ghost use Rattle.hack_load.specs.Contexts.{package_at};
 ghost use Rattle.hack_base.specs.Names.{names_of, optional_text};
 ghost use Rattle.hack_metadata.specs.RecordViews.{package_view as package_record};
 ghost use Rattle.hack_load.specs.ContextView.{context_view};
 ghost use Rattle.hack_plan.specs.View.{call_view};
-ghost use Rattle.hack_planner.specs.Calls.{given_path, call_of, current_package_of};
+ghost use Rattle.hack_planner.specs.Calls.{given_path, call_of};
 
 use hack_base::copies::copies;
 use hack_base::paths::under;
@@ -40,7 +41,8 @@ pub(crate) fn given_path(
 /// The current package, as cargo locates it.
 fn current(cx: &Context) -> Option<&Package>
     ensures { option_map (λ p. package_record p.now) result
-        ≡ current_package_of (context_view cx.now) }
+        ≡ option_and_then (package_at (context_view cx.now))
+        (context_view cx.now).current_package }
 {
     match cx.current_package() {
         Some(id) => cx.metadata().find(id),

@@ -11,7 +11,8 @@ use Rattle.hack_features.specs.Questions.{is_whole}
 use Rattle.hack_features.specs.View.{may_of, size_of, whole_of}
 use Rattle.hack_base.proofs.Members.{Contains-head, Contains-tail, Contains-cons_cases}
 use Rattle.hack_features.specs.Walk.{below}
-use Rattle.hack_plan.specs.Runs.{Set, with_last_first}
+use Rattle.hack_plan.specs.Runs.{Set}
+use Rattle.hack_plan.specs.RunsView.{with_last_first}
 use Rattle.hack_base.specs.Names.{Name}
 use Rattle.hack_powerset_list.specs.Lines.{run_line}
 use Rattle.hack_powerset_list.specs.Walks.{EndsIn, is_other, listed_in, set_lines}

@@ -7,7 +7,9 @@ use Rattle.hack_base.specs.Names.{Name}
 use Rattle.hack_features.specs.declared.feature.Feature.{Feature}
 use Rattle.hack_features.proofs.Permitted.{nonzero}
 use Rattle.hack_plan.specs.declared.runs.RunOptions.{RunOptions}
-use Rattle.hack_plan.specs.Runs.{Plain, AllFeatures, NoDefaultFeatures, Set, run_if, keeps_all, is_plain, in_turn, with_last_first, last_first, allows_two, runs_from}
+use Rattle.std.specs.Option.{option_map_or}
+use Rattle.hack_plan.specs.Runs.{Plain, AllFeatures, NoDefaultFeatures, Set, run_if, keeps_all, is_plain, in_turn, last_first, runs_from}
+use Rattle.hack_plan.specs.RunsView.{with_last_first}
 use Rattle.hack_powerset_list.specs.declared.wishes.Wishes.{Wishes}
 use Rattle.hack_powerset_list.specs.ListRuns.{options_from}
 use Rattle.hack_powerset_list.specs.Lines.{run_line, run_lines}
@@ -44,7 +46,7 @@ module _ (w : Wishes) (fs : List Feature) where
       ap (λ b. if b then Plain ∷ [] else run_if (keeps_all o) AllFeatures ++ run_if (not o.exclude_no_default_features) NoDefaultFeatures ++ map Set (in_turn o [])) (alone (length fs == 0))
       ∙ ap (λ b. if length fs == 0 then Plain ∷ [] else run_if b AllFeatures ++ run_if (not o.exclude_no_default_features) NoDefaultFeatures ++ map Set (in_turn o [])) no-all
       ∙ ap (λ b. if length fs == 0 then Plain ∷ [] else run_if b NoDefaultFeatures ++ map Set (in_turn o [])) (is-empty (length w.at_least_one_of.items))
-      ∙ ap (λ (l : List (List ℕ)). if length fs == 0 then Plain ∷ [] else run_if (length w.at_least_one_of.items == 0) NoDefaultFeatures ++ map Set l) (turned-none (o.powerset && not (keeps_all o) && nat_lt 1 0 && allows_two o.depth))
+      ∙ ap (λ (l : List (List ℕ)). if length fs == 0 then Plain ∷ [] else run_if (length w.at_least_one_of.items == 0) NoDefaultFeatures ++ map Set l) (turned-none (o.powerset && not (keeps_all o) && nat_lt 1 0 && option_map_or (nat_lt 1) o.depth true))
       ∙ ap (λ l. if length fs == 0 then Plain ∷ [] else l) (append-nil (run_if (length w.at_least_one_of.items == 0) NoDefaultFeatures))
 
   module _ (sets front : List (List ℕ)) (last : List ℕ) (is : sets ≡ front ++ last ∷ []) where
@@ -65,17 +67,17 @@ module _ (w : Wishes) (fs : List Feature) where
         let long : length front ≡ suc (length more) = ap length e in
         ap (λ c. with_last_first (c && b) sets) (lt-ltb 1 (length sets) (omega (arith, len, length-append front (last ∷ []), long)))
 
-    in-turn : in_turn (options_from w fs) sets ≡ with_last_first (allows_two w.depth) sets
-    in-turn = ap (λ b. with_last_first (not b && nat_lt 1 (length sets) && allows_two w.depth) sets) no-all ∙ turns (allows_two w.depth) front refl
+    in-turn : in_turn (options_from w fs) sets ≡ with_last_first (option_map_or (nat_lt 1) w.depth true) sets
+    in-turn = ap (λ b. with_last_first (not b && nat_lt 1 (length sets) && option_map_or (nat_lt 1) w.depth true) sets) no-all ∙ turns (option_map_or (nat_lt 1) w.depth true) front refl
 
     -- the runs if some sets are listed
     pub runs-some : (names : List Name) → run_lines names (runs_from (options_from w fs) sets)
-        ≡ run_lines names (run_if (length w.at_least_one_of.items == 0) NoDefaultFeatures) ++ set_lines names (with_last_first (allows_two w.depth) sets)
+        ≡ run_lines names (run_if (length w.at_least_one_of.items == 0) NoDefaultFeatures) ++ set_lines names (with_last_first (option_map_or (nat_lt 1) w.depth true) sets)
     runs-some names =
         let o : RunOptions = options_from w fs in
         ap (λ b. run_lines names (if b then Plain ∷ [] else run_if (keeps_all o) AllFeatures ++ run_if (not o.exclude_no_default_features) NoDefaultFeatures ++ map Set (in_turn o sets))) not-plain
         ∙ ap (λ b. run_lines names (run_if b AllFeatures ++ run_if (not o.exclude_no_default_features) NoDefaultFeatures ++ map Set (in_turn o sets))) no-all
         ∙ ap (λ b. run_lines names (run_if b NoDefaultFeatures ++ map Set (in_turn o sets))) (is-empty (length w.at_least_one_of.items))
         ∙ ap (λ l. run_lines names (run_if (length w.at_least_one_of.items == 0) NoDefaultFeatures ++ map Set l)) in-turn
-        ∙ flat_map-append (run_line names) (run_if (length w.at_least_one_of.items == 0) NoDefaultFeatures) (map Set (with_last_first (allows_two w.depth) sets))
-        ∙ ap (λ l. run_lines names (run_if (length w.at_least_one_of.items == 0) NoDefaultFeatures) ++ l) (map-lines names (with_last_first (allows_two w.depth) sets))
+        ∙ flat_map-append (run_line names) (run_if (length w.at_least_one_of.items == 0) NoDefaultFeatures) (map Set (with_last_first (option_map_or (nat_lt 1) w.depth true) sets))
+        ∙ ap (λ l. run_lines names (run_if (length w.at_least_one_of.items == 0) NoDefaultFeatures) ++ l) (map-lines names (with_last_first (option_map_or (nat_lt 1) w.depth true) sets))

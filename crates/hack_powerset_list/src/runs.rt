@@ -7,7 +7,7 @@ ghost use Rattle.hack_features.specs.Feature.{name_of};
 ghost use Rattle.hack_features.specs.View.{size_of};
 ghost use Rattle.hack_base.specs.Writes.{AppendsFront};
 ghost use Rattle.hack_plan.specs.Runs.{Plain, NoDefaultFeatures, run_if, runs_from};
-ghost use Rattle.hack_plan.specs.Runs.{with_last_first};
+ghost use Rattle.hack_plan.specs.RunsView.{with_last_first};
 ghost use Rattle.hack_powerset_list.specs.Lines.{run_lines};
 ghost use Rattle.hack_powerset_list.specs.LineWords.{PrintsText};
 ghost use Rattle.hack_powerset_list.specs.LinesView.{AreTexts};

@@ -57,7 +57,8 @@ fn input_of(alloc: Global, words: &str) -> Result<PlanInput, AllocError> {
 
 /// The versions of an input, where stable is 1.64.
 fn versions_of(alloc: Global, input: &PlanInput) -> Result<Versions, RangeFault>
-    ensures { IfOk result (AreVersions input.now) }
+    ensures { IfOk result (λ versions. AreVersions input.now.range input.now
+        versions.stable versions.groups.items) }
 {
     let stable = Version {
         major: 1,
@@ -128,7 +129,8 @@ fn with_versions(
     words: &str,
     place: Option<usize>,
 ) -> Result<String, AllocError>
-    requires { AreVersions input.now versions.now }
+    requires { AreVersions input.now.range input.now versions.now.stable
+        versions.now.groups.items }
 {
     let counts = numbers(alloc, value(words, "counts=", "1"))?;
     if counts.len() != input.packages.len() {

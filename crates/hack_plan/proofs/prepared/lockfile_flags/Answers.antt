@@ -1,7 +1,6 @@
 use Rattle.std.proofs.Common.{◌∙◌, ap, subst, IfOk}
 use Rattle.std.specs.List.{filter_map}
-use Rattle.hack_plan.specs.Spans.{version_at}
-use Rattle.hack_plan.specs.Internal.{AreFlags}
+use Rattle.hack_plan.specs.Internal.{AreFlags, version_at}
 use Rattle.hack_plan.proofs.CommandJoins.{found-more}
 use Rattle.std.proofs.lemmas.List.{take_all}
 use Rattle.hack_plan.proofs.prepared.lockfile_flags.Goals as goal

@@ -1,7 +1,7 @@
 use Rattle.std.proofs.Common.{◌∙◌, ap, map, sym, subst}
 use Rattle.std.specs.List.{filter_map}
 use Rattle.std.proofs.lemmas.List.{take_all}
-use Rattle.hack_plan.specs.Spans.{version_at}
+use Rattle.hack_plan.specs.Internal.{version_at}
 use Rattle.hack_plan.specs.Prepared.{span_of, preparations_of}
 use Rattle.hack_plan.proofs.Ready.{AreReady, ready-more, prepared-end, spans-more, as-many}
 use Rattle.hack_plan.proofs.prepared.prepared.Goals as goal

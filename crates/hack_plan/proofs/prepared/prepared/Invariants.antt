@@ -1,6 +1,6 @@
 use Rattle.std.proofs.Common.{◌≡◌, map, take}
 use Rattle.std.specs.List.{filter_map}
-use Rattle.hack_plan.specs.Spans.{version_at}
+use Rattle.hack_plan.specs.Internal.{version_at}
 use Rattle.hack_plan.specs.Prepared.{span_of}
 use Rattle.hack_plan.proofs.Ready.{AreReady}
 use Rattle.hack_plan.proofs.prepared.prepared.Given as goal

@@ -1,4 +1,4 @@
-use Rattle.std.proofs.Common.{inl, inr}
+use Rattle.std.proofs.Common.{inl, inr, refl}
 use Rattle.hack_plan.proofs.versions.in_range.Goals as goal
 use Rattle.hack_plan.proofs.versions.in_range.Goals.{else-input-via-then-input+else-have_two, else-input-via-else-input}
 
@@ -6,6 +6,10 @@ pub returns-in-Err-clause-err : goal.returns-in-Err-clause-err
 returns-in-Err-clause-err c =
     let f = rw c.deref-4.ensures.value at c.in-Err.ensures.err in
     elim f [ inl e ↦ inl e | inr w ↦ inr (inr (inl w)) ]
+
+pub returns-then-have_two-clause-err : goal.returns-then-have_two-clause-err
+returns-then-have_two-clause-err c =
+    inr (inr (inr (c.if-input.true, (rw c.deref-then-input.ensures.value at c.have_two.ensures).0 c.if-have_two.true, refl)))
 
 pub returns-clause-never : goal.returns-clause-never
 returns-clause-never c = λ e w.

@@ -1,13 +1,13 @@
 use Rattle.std.proofs.Common.{◌≡◌, map, take, not, string_bytes}
 use Rattle.std.specs.Prelude.{filter}
+use Rattle.hack_features.specs.Feature.{groups_of}
 use Rattle.hack_base.specs.Notes.{note_of}
 use Rattle.hack_base.specs.Names.{names_of}
 use Rattle.hack_planner.specs.Texts.{dependency_text}
 use Rattle.hack_planner.specs.MemberNotes.{warning_note}
 use Rattle.hack_planner.specs.Candidates.{one_has}
-use Rattle.hack_planner.specs.CandidatesView.{known_of_package}
 use Rattle.hack_planner.proofs.candidates.dependency_notes.Given as goal
 
 -- the notices are those on the names so far
 abbrev pub invariant-loop-name : goal.invariant-loop-name
-invariant-loop-name l = map note_of l.notices.items ≡ map (λ x. warning_note (dependency_text (string_bytes l.pkg.name) x)) (filter (λ x. not (one_has (known_of_package l.pkg l.features).optional x)) (take l.name-index (names_of l.name-items)))
+invariant-loop-name l = map note_of l.notices.items ≡ map (λ x. warning_note (dependency_text (string_bytes l.pkg.name) x)) (filter (λ x. not (one_has (groups_of l.features.optional_deps.items) x)) (take l.name-index (names_of l.name-items)))

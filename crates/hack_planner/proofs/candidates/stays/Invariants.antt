@@ -2,9 +2,8 @@ use Rattle.std.proofs.Common.{◌≡◌, drop}
 use Rattle.hack_base.specs.Names.{names_of}
 use Rattle.hack_features.specs.Feature.{group_of}
 use Rattle.hack_planner.specs.Candidates.{stays}
-use Rattle.hack_planner.specs.CandidatesView.{wishes}
 use Rattle.hack_planner.proofs.candidates.stays.Given as goal
 
 -- no name so far is taken
 abbrev pub invariant-loop-name : goal.invariant-loop-name
-invariant-loop-name l = stays (wishes l.args) (names_of (drop l.name-index l.name-items)) ≡ stays (wishes l.args) (group_of l.feature)
+invariant-loop-name l = stays l.args (names_of (drop l.name-index l.name-items)) ≡ stays l.args (group_of l.feature)

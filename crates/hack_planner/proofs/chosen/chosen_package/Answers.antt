@@ -3,14 +3,13 @@ use Rattle.hack_features.specs.Feature.{groups_of}
 use Rattle.hack_base.specs.Names.{names_behind}
 use Rattle.hack_load.specs.ContextView.{context_view}
 use Rattle.hack_metadata.specs.RecordViews.{package_view}
-use Rattle.hack_planner.specs.CandidatesView.{wishes}
-use Rattle.hack_planner.specs.ContextMembers.{known_as}
 use Rattle.hack_planner.specs.Kinds.{AreRuns, AreCovering, AreRunSettings, package_choice}
 use Rattle.hack_plan.specs.Runs.{PackageRun}
 use Rattle.hack_samples.specs.Sets.{rows_of}
 use Rattle.hack_plan.specs.RunsView.{runs_in}
 use Rattle.hack_words.specs.declared.cli.args.Args.{Args}
 use Rattle.hack_planner.specs.Calls.{given_path}
+use Rattle.hack_planner.proofs.NoteLemmas.{notes-at}
 use Rattle.hack_planner.proofs.PlanLemmas.{of-kind}
 use Rattle.hack_planner.proofs.PlanSampleLemmas.{no-sample}
 use Rattle.hack_planner.proofs.chosen.chosen_package.Goals as goal
@@ -34,13 +33,12 @@ returns-clause-ok c =
           ∙ ap (λ (a : Args). given_path a.no_manifest_path c.current_dir.result.now (Some pkg)) c.args-2.ensures
           ∙ ap (λ dir. given_path cx.args.no_manifest_path dir (Some pkg)) c.current_dir.ensures;
       given = c.in_ok-features.ensures ∙ ap names_behind c.as_slice.ensures.value ∙ c.in_ok-given.ensures.names;
-      covered = λ powerset all. subst (AreCovering (wishes cx.args) (known_as pkg features)) (sym parts.runs) (found.covered pkg features known loaded powerset all);
-      settings = subst (λ (rs : List PackageRun). AreRunSettings cx.args.strength (package_choice (wishes cx.args) (known_as pkg features)) rs (rows_of c.in-Ok.answer.0.settings.items)) (sym parts.runs) (found.settings pkg features known loaded);
-      told = found.notices pkg features known loaded;
+      candidates = of-kind cx.args pkg features c.in-Ok.answer.0.kind (groups_of c.in_ok-candidates.candidates.items) (runs_in c.in_ok-candidates.runs) parts.candidates parts.runs (found.kind pkg features known loaded);
+      runs = subst (AreRuns cx.args pkg features) (sym parts.runs) (found.runs pkg features known loaded);
     }
 
-pub returns-clause-runs : goal.returns-clause-runs
-returns-clause-runs c =
+pub returns-clause-coverage : goal.returns-clause-coverage
+returns-clause-coverage c =
     let cx = context_view c.args.cx.now in
     let pkg = package_view c.packages-pkg.result.now in
     let features = c.pkg_features.result.now in
@@ -53,9 +51,17 @@ returns-clause-runs c =
       features = features;
       known = known;
       loaded = loaded;
-      candidates = of-kind (wishes cx.args) (known_as pkg features) c.in-Ok.answer.0.kind (groups_of c.in_ok-candidates.candidates.items) (runs_in c.in_ok-candidates.runs) parts.candidates parts.runs (found.kind pkg features known loaded);
-      runs = subst (AreRuns (wishes cx.args) (known_as pkg features)) (sym parts.runs) (found.runs pkg features known loaded);
+      covered = λ powerset all. subst (AreCovering cx.args pkg features) (sym parts.runs) (found.covered pkg features known loaded powerset all);
+      settings = subst (λ (rs : List PackageRun). AreRunSettings cx.args.strength (package_choice cx.args pkg features) rs (rows_of c.in-Ok.answer.0.settings.items)) (sym parts.runs) (found.settings pkg features known loaded);
     }
+
+pub returns-clause-notes : goal.returns-clause-notes
+returns-clause-notes c =
+    let pkg = package_view c.packages-pkg.result.now in
+    let features = c.pkg_features.result.now in
+    let known = c.packages-pkg.ensures in
+    let loaded = c.pkg_features.ensures in
+    c.in-Ok.ensures.notices pkg features known loaded ∙ sym (notes-at (context_view c.args.cx.now) c.args.single c.args.id.index pkg features known loaded)
 
 pub returns-in-Err-TooManyQuestions-clause-err : goal.returns-in-Err-TooManyQuestions-clause-err
 returns-in-Err-TooManyQuestions-clause-err c =
@@ -68,5 +74,5 @@ returns-in-Err-TooManyQuestions-clause-err c =
       known = c.packages-pkg.ensures;
       loaded = c.pkg_features.ensures;
       called = c.in_ok-name-in-Err-TooManyQuestions.ensures.ok ∙ c.as_str.ensures.value;
-      wide = no-sample (wishes cx.args) (known_as pkg features) c.in-Err-TooManyQuestions.field-0 c.in-Err-TooManyQuestions.field-0-is (c.in-Err-TooManyQuestions.ensures.err pkg features c.packages-pkg.ensures c.pkg_features.ensures);
+      wide = no-sample cx.args pkg features c.in-Err-TooManyQuestions.field-0 c.in-Err-TooManyQuestions.field-0-is (c.in-Err-TooManyQuestions.ensures.err pkg features c.packages-pkg.ensures c.pkg_features.ensures);
     })

@@ -3,8 +3,6 @@ use Rattle.hack_load.specs.ContextView.{context_view}
 use Rattle.hack_load.specs.declared.features.Features.{Features}
 use Rattle.hack_metadata.specs.Records.{PackageRecord}
 use Rattle.hack_words.specs.declared.cli.args.Args.{Args}
-use Rattle.hack_planner.specs.CandidatesView.{wishes}
-use Rattle.hack_planner.specs.ContextMembers.{known_as}
 use Rattle.hack_planner.specs.LeastRuns.{HasRunsAtLeast}
 use Rattle.hack_planner.proofs.KindLemmas.{moved}
 use Rattle.hack_planner.proofs.determine.least_count.Goals as goal
@@ -20,5 +18,5 @@ least_runs-requires-clause-all c = ap (λ (a : Args). a.strength) c.args-2.ensur
 
 pub returns : goal.returns
 returns c = λ (p : PackageRecord) (f : Features) ep ef.
-    moved (λ (args : Args) (q : PackageRecord) (g : Features). IfOk c.least_runs.result (HasRunsAtLeast (wishes args) (known_as q g))) _ _ _ _ _ _
+    moved (λ (args : Args) (q : PackageRecord) (g : Features). IfOk c.least_runs.result (HasRunsAtLeast args q g)) _ _ _ _ _ _
     c.args-2.ensures (sym ep ∙ c.packages-pkg.ensures) (sym ef ∙ c.pkg_features-features.ensures) c.least_runs.ensures

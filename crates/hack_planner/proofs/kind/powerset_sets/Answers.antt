@@ -1,4 +1,7 @@
 use Rattle.std.proofs.Common.{◌≡◌, ◌∙◌, ◌⊎◌, ◌+◌, ◌-◌, ◌^◌, List, Some, true, length, min, sym, ap, subst, arith}
+use Rattle.hack_planner.specs.Kinds.{package_choice}
+use Rattle.hack_metadata.specs.RecordViews.{package_view}
+use Rattle.hack_words.specs.declared.cli.args.Args.{Args}
 use Rattle.hack_features.specs.Feature.{candidates_of}
 use Rattle.hack_features.specs.Samples.{IsSample, CoversPatterns}
 use Rattle.hack_features.specs.Sets.{IsListing}
@@ -9,8 +12,7 @@ use Rattle.hack_features.proofs.CandidateLemmas.{length-candidates_of}
 use Rattle.hack_load.specs.declared.features.Features.{Features}
 use Rattle.hack_samples.specs.Questions.{IsTired}
 use Rattle.hack_samples.specs.declared.fault.SampleFault.TheVariants.{Memory}
-use Rattle.hack_planner.specs.Candidates.{Wishes, Known, candidates, lifted_for}
-use Rattle.hack_planner.specs.CandidatesView.{wishes, known_of_package}
+use Rattle.hack_planner.specs.Candidates.{candidates, lifted_for}
 use Rattle.hack_planner.specs.Kinds as kinds
 use Rattle.hack_planner.specs.KindsView.{IsRunsFault}
 use Rattle.hack_planner.proofs.SampleLemmas.{ok-both, err-weaker, tired}
@@ -19,49 +21,53 @@ use Rattle.hack_planner.proofs.kind.powerset_sets.Goals as goal
 pub returns-in-Some-clause-sets : goal.returns-in-Some-clause-sets
 returns-in-Some-clause-sets c = λ (features : Features) e.
     let r = c.in_ok-rules.rules in
-    let w : Wishes = wishes c.args.args.now in
-    let p : Known = known_of_package c.args.pkg.now features in
-    let same : choice_of r ≡ kinds.package_choice w p = c.in_ok-rules.ensures.choice features (ap candidates_of c.as_slice.ensures.value ∙ c.in_ok-all.ensures ∙ e) (c.as_slice-2.ensures.value ∙ c.in_ok-lifted.ensures ∙ ap (lifted_for w) c.as_str.ensures.value) in
-    let size : size_of r ≡ length (candidates w p) = c.in_ok-rules.ensures.size ∙ ap length c.as_slice.ensures.value ∙ sym (length-candidates_of c.in_ok-all.all.items) ∙ ap length (c.in_ok-all.ensures ∙ e) in
-    ok-both c.sample.result (λ sets. IsSample (choice_of r) (size_of r) (sets_in sets)) (λ sets. CoversPatterns (choice_of r) (size_of r) c.in-Some.strength (sets_in sets)) (λ sets. kinds.AreSets true w p (sets_in sets))
+    let w : Args = c.args.args.now in
+    let p = package_view c.args.pkg.now in
+    let f = features in
+    let same : choice_of r ≡ kinds.package_choice w p f = c.in_ok-rules.ensures.choice features (ap candidates_of c.as_slice.ensures.value ∙ c.in_ok-all.ensures ∙ e) (c.as_slice-2.ensures.value ∙ c.in_ok-lifted.ensures ∙ ap (lifted_for w) c.as_str.ensures.value) in
+    let size : size_of r ≡ length (candidates w f) = c.in_ok-rules.ensures.size ∙ ap length c.as_slice.ensures.value ∙ sym (length-candidates_of c.in_ok-all.all.items) ∙ ap length (c.in_ok-all.ensures ∙ e) in
+    ok-both c.sample.result (λ sets. IsSample (choice_of r) (size_of r) (sets_in sets)) (λ sets. CoversPatterns (choice_of r) (size_of r) c.in-Some.strength (sets_in sets)) (λ sets. kinds.AreSets true w p f (sets_in sets))
     (λ sets sample covers.
-    let both : kinds.ArePowersets (Some c.in-Some.strength) (kinds.package_choice w p) (length (candidates w p)) (sets_in sets) = (
-      subst (λ (q : Choice). IsSample q (length (candidates w p)) (sets_in sets)) same (subst (λ n. IsSample (choice_of r) n (sets_in sets)) size sample),
-      subst (λ (q : Choice). CoversPatterns q (length (candidates w p)) c.in-Some.strength (sets_in sets)) same (subst (λ n. CoversPatterns (choice_of r) n c.in-Some.strength (sets_in sets)) size covers),
+    let both : kinds.ArePowersets (Some c.in-Some.strength) (kinds.package_choice w p f) (length (candidates w f)) (sets_in sets) = (
+      subst (λ (q : Choice). IsSample q (length (candidates w f)) (sets_in sets)) same (subst (λ n. IsSample (choice_of r) n (sets_in sets)) size sample),
+      subst (λ (q : Choice). CoversPatterns q (length (candidates w f)) c.in-Some.strength (sets_in sets)) same (subst (λ n. CoversPatterns (choice_of r) n c.in-Some.strength (sets_in sets)) size covers),
     ) in
-    subst (λ o. kinds.ArePowersets o (kinds.package_choice w p) (length (candidates w p)) (sets_in sets)) (sym c.in-Some.is) both)
+    subst (λ o. kinds.ArePowersets o (kinds.package_choice w p f) (length (candidates w f)) (sets_in sets)) (sym c.in-Some.is) both)
     c.sample.ensures.sample c.sample.ensures.covers
 
 pub returns-in-Some-clause-err : goal.returns-in-Some-clause-err
 returns-in-Some-clause-err c = λ (features : Features) e powerset.
     let r = c.in_ok-rules.rules in
-    let w : Wishes = wishes c.args.args.now in
-    let p : Known = known_of_package c.args.pkg.now features in
-    let same : choice_of r ≡ kinds.package_choice w p = c.in_ok-rules.ensures.choice features (ap candidates_of c.as_slice.ensures.value ∙ c.in_ok-all.ensures ∙ e) (c.as_slice-2.ensures.value ∙ c.in_ok-lifted.ensures ∙ ap (lifted_for w) c.as_str.ensures.value) in
+    let w : Args = c.args.args.now in
+    let p = package_view c.args.pkg.now in
+    let f = features in
+    let same : choice_of r ≡ kinds.package_choice w p f = c.in_ok-rules.ensures.choice features (ap candidates_of c.as_slice.ensures.value ∙ c.in_ok-all.ensures ∙ e) (c.as_slice-2.ensures.value ∙ c.in_ok-lifted.ensures ∙ ap (lifted_for w) c.as_str.ensures.value) in
     let end = min (questions_asked r + kinds.most_questions) (2 ^ 128 - 1) in
-    err-weaker c.sample.result (IsTired end (questions_asked c.sample.new.self)) (λ f. (f ≡ Memory) ⊎ IsRunsFault w p f)
-    (λ f at_end. tired w p c.in-Some.strength c.sample.new.self end f powerset c.in-Some.is (c.sample.ensures.same_choice ∙ same) (omega (arith, c.in_ok-rules.ensures.fresh)) at_end)
+    err-weaker c.sample.result (IsTired end (questions_asked c.sample.new.self)) (λ e. (e ≡ Memory) ⊎ IsRunsFault w p f e)
+    (λ e at_end. tired w p f c.in-Some.strength c.sample.new.self end e powerset c.in-Some.is (c.sample.ensures.same_choice ∙ same) (omega (arith, c.in_ok-rules.ensures.fresh)) at_end)
     c.sample.ensures.tired
 
 pub returns-clause-sets : goal.returns-clause-sets
 returns-clause-sets c = λ (features : Features) e.
     let r = c.in_ok-rules.rules in
-    let w : Wishes = wishes c.args.args.now in
-    let p : Known = known_of_package c.args.pkg.now features in
-    let same : choice_of r ≡ kinds.package_choice w p = c.in_ok-rules.ensures.choice features (ap candidates_of c.as_slice.ensures.value ∙ c.in_ok-all.ensures ∙ e) (c.as_slice-2.ensures.value ∙ c.in_ok-lifted.ensures ∙ ap (lifted_for w) c.as_str.ensures.value) in
-    let size : size_of r ≡ length (candidates w p) = c.in_ok-rules.ensures.size ∙ ap length c.as_slice.ensures.value ∙ sym (length-candidates_of c.in_ok-all.all.items) ∙ ap length (c.in_ok-all.ensures ∙ e) in
+    let w : Args = c.args.args.now in
+    let p = package_view c.args.pkg.now in
+    let f = features in
+    let same : choice_of r ≡ kinds.package_choice w p f = c.in_ok-rules.ensures.choice features (ap candidates_of c.as_slice.ensures.value ∙ c.in_ok-all.ensures ∙ e) (c.as_slice-2.ensures.value ∙ c.in_ok-lifted.ensures ∙ ap (lifted_for w) c.as_str.ensures.value) in
+    let size : size_of r ≡ length (candidates w f) = c.in_ok-rules.ensures.size ∙ ap length c.as_slice.ensures.value ∙ sym (length-candidates_of c.in_ok-all.all.items) ∙ ap length (c.in_ok-all.ensures ∙ e) in
     let sets = sets_in c.in_ok-found-in-None.found.sets in
-    subst (λ o. kinds.ArePowersets o (kinds.package_choice w p) (length (candidates w p)) sets) (sym c.in-None.is)
-    (subst (λ (q : Choice). IsListing (length (candidates w p)) (IsListed q) sets) same
+    subst (λ o. kinds.ArePowersets o (kinds.package_choice w p f) (length (candidates w f)) sets) (sym c.in-None.is)
+    (subst (λ (q : Choice). IsListing (length (candidates w f)) (IsListed q) sets) same
     (subst (λ n. IsListing n (IsListed (choice_of r)) sets) size c.in_ok-found-in-None.ensures.sets))
 
 pub returns-clause-covers : goal.returns-clause-covers
 returns-clause-covers c = λ (features : Features) e all.
     let r = c.in_ok-rules.rules in
-    let w : Wishes = wishes c.args.args.now in
-    let p : Known = known_of_package c.args.pkg.now features in
-    let same : choice_of r ≡ kinds.package_choice w p = c.in_ok-rules.ensures.choice features (ap candidates_of c.as_slice.ensures.value ∙ c.in_ok-all.ensures ∙ e) (c.as_slice-2.ensures.value ∙ c.in_ok-lifted.ensures ∙ ap (lifted_for w) c.as_str.ensures.value) in
-    let size : size_of r ≡ length (candidates w p) = c.in_ok-rules.ensures.size ∙ ap length c.as_slice.ensures.value ∙ sym (length-candidates_of c.in_ok-all.all.items) ∙ ap length (c.in_ok-all.ensures ∙ e) in
+    let w : Args = c.args.args.now in
+    let p = package_view c.args.pkg.now in
+    let f = features in
+    let same : choice_of r ≡ kinds.package_choice w p f = c.in_ok-rules.ensures.choice features (ap candidates_of c.as_slice.ensures.value ∙ c.in_ok-all.ensures ∙ e) (c.as_slice-2.ensures.value ∙ c.in_ok-lifted.ensures ∙ ap (lifted_for w) c.as_str.ensures.value) in
+    let size : size_of r ≡ length (candidates w f) = c.in_ok-rules.ensures.size ∙ ap length c.as_slice.ensures.value ∙ sym (length-candidates_of c.in_ok-all.all.items) ∙ ap length (c.in_ok-all.ensures ∙ e) in
     let sets = sets_in c.in_ok-found-in-None.found.sets in
-    subst (λ (q : Choice). AreCovers q (length (candidates w p)) sets) same
+    subst (λ (q : Choice). AreCovers q (length (candidates w f)) sets) same
     (subst (λ n. AreCovers (choice_of r) n sets) size c.in_ok-found-in-None.ensures.covered)

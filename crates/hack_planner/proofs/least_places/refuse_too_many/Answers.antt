@@ -4,9 +4,8 @@ use Rattle.hack_load.specs.ContextView.{context_view}
 use Rattle.hack_metadata.specs.RecordViews.{place_at}
 use Rattle.hack_plan.specs.Entries.{HasTooMany}
 use Rattle.hack_plan.specs.declared.places.PlacesFault.TheVariants as places
-use Rattle.hack_planner.specs.Calls.{HasPackageRuns}
+use Rattle.hack_planner.specs.Calls.{IsChosenPackage, IsMember}
 use Rattle.hack_planner.proofs.LeastPlaceLemmas.{at_least-length, least-cause}
-use Rattle.hack_planner.proofs.PlanLemmas.{members-length}
 use Rattle.hack_planner.proofs.least_places.refuse_too_many.Goals as goal
 
 pub new-requires-clause-counted : goal.new-requires-clause-counted
@@ -15,8 +14,8 @@ new-requires-clause-counted c = λ each.
     let ids = map place_at c.args.ids.now in
     let have = c.in_ok-counts.ensures in
     ap (λ (l : List ℕ). length l) c.as_slice.ensures.value ∙ at_least-length have.packages c.in_ok-counts.counts.items have.enough
-    ∙ AllZip-long (HasPackageRuns cx) ids have.packages have.each
-    ∙ members-length cx ids c.args.input.now.packages.items c.requires.input.members
+    ∙ AllZip-long (IsChosenPackage cx) ids have.packages have.each
+    ∙ sym (AllZip-long (IsMember cx) ids c.args.input.now.packages.items c.requires.input.members)
 
 pub returns : goal.returns
 returns c = λ chosen.

@@ -1,5 +1,8 @@
 use Rattle.std.proofs.Common.{◌≡◌, drop, map, []}
-use Rattle.hack_planner.specs.Members.{first_called}
+use Rattle.std.specs.List.{find}
+use Rattle.std.specs.Option.{option_to_list}
+use Rattle.std.specs.Str.{bytes_eq}
+use Rattle.hack_planner.specs.Members.{Member}
 use Rattle.hack_planner.specs.MembersView.{member_view}
 use Rattle.hack_planner.proofs.listing.first_called.Given as goal
 
@@ -7,5 +10,6 @@ use Rattle.hack_planner.proofs.listing.first_called.Given as goal
 abbrev pub invariant-loop-member : goal.invariant-loop-member
 invariant-loop-member l = record {
   nothing : l.kept.items ≡ [];
-  same : first_called (map member_view (drop l.member-index l.members)) l.name ≡ first_called (map member_view l.members) l.name;
+  same : option_to_list (find (λ (m : Member). bytes_eq m.pkg.name l.name) (map member_view (drop l.member-index l.members)))
+      ≡ option_to_list (find (λ (m : Member). bytes_eq m.pkg.name l.name) (map member_view l.members));
 }

@@ -13,15 +13,12 @@ loop-spec-preserved c =
 
 pub returns-then-fits : goal.returns-then-fits
 returns-then-fits c = (
-  λ t. record {
-    spec = string_bytes c.spec-item.result;
-    given = here string_bytes c.args.specs.now c.loop-spec.spec-index c.spec-item.result c.loop-spec-test.true c.spec-item.is;
-    matches = subst (Matches (identity_of c.args.member.now.pkg.now)) c.as_str.ensures.value (c.fits.ensures.0 c.if-fits.true);
-  },
+  λ t. let given = here string_bytes c.args.specs.now c.loop-spec.spec-index c.spec-item.result c.loop-spec-test.true c.spec-item.is in
+      (given.0, string_bytes c.spec-item.result, given.1, given.2, subst (Matches (identity_of c.args.member.now.pkg.now)) c.as_str.ensures.value (c.fits.ensures.0 c.if-fits.true)),
   λ m. refl,
 )
 
 pub returns : goal.returns
 returns c =
     let past : length c.args.specs.now ≤ c.loop-spec.spec-index = omega arith in
-    (λ t. cc, λ m. absurd (c.loop-spec.invariant m.spec (subst (λ l. Contains l m.spec) (sym (seen-all string_bytes c.args.specs.now c.loop-spec.spec-index past)) m.given) m.matches))
+    (λ t. cc, λ m. absurd (c.loop-spec.invariant m.1 (subst (λ l. Contains l m.1) (sym (seen-all string_bytes c.args.specs.now c.loop-spec.spec-index past)) (m.0, m.2, m.3)) m.4))

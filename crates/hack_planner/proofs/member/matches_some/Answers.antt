@@ -13,15 +13,12 @@ loop-member-preserved c =
 
 pub returns-then-fits : goal.returns-then-fits
 returns-then-fits c = (
-  λ t. record {
-    member = member_view c.member-item.result;
-    there = here member_view c.args.members.now c.loop-member.member-index c.member-item.result c.loop-member-test.true c.member-item.is;
-    matches = c.fits.ensures.0 c.if-fits.true;
-  },
+  λ t. let there = here member_view c.args.members.now c.loop-member.member-index c.member-item.result c.loop-member-test.true c.member-item.is in
+      (there.0, member_view c.member-item.result, there.1, there.2, c.fits.ensures.0 c.if-fits.true),
   λ m. refl,
 )
 
 pub returns : goal.returns
 returns c =
     let past : length c.args.members.now ≤ c.loop-member.member-index = omega arith in
-    (λ t. cc, λ m. absurd (c.loop-member.invariant m.member (subst (λ l. Contains l m.member) (sym (seen-all member_view c.args.members.now c.loop-member.member-index past)) m.there) m.matches))
+    (λ t. cc, λ m. absurd (c.loop-member.invariant m.1 (subst (λ l. Contains l m.1) (sym (seen-all member_view c.args.members.now c.loop-member.member-index past)) (m.0, m.2, m.3)) m.4))

@@ -1,21 +1,22 @@
 use Rattle.std.proofs.Common.{◌∙◌, List, map, not, ap, subst, string_bytes}
-use Rattle.std.specs.Prelude.{filter, ◌==◌, length, option_copied}
+use Rattle.std.specs.Prelude.{filter, ◌==◌, length}
 use Rattle.std.specs.declared.string.String.{String}
 use Rattle.std.specs.declared.alloc.Global.{Global}
 use Rattle.hack_base.specs.Names.{Name, names_of}
 use Rattle.hack_features.specs.declared.feature.Feature.{Feature}
 use Rattle.hack_base.specs.Notes.{note_of}
 use Rattle.hack_planner.specs.Texts.{exclusion_text, lift_text, private_text}
-use Rattle.hack_planner.specs.Members.{Choosing, SelectsMembers, Collects, IsMatched, MatchesSome, is_called, is_skipped}
+use Rattle.hack_words.specs.declared.cli.args.Args.{Args}
+use Rattle.hack_planner.specs.Members.{SelectsMembers, Collects, IsMatched, MatchesSome, is_called, is_skipped}
 use Rattle.hack_planner.specs.MemberNotes.{warning_note, info_note}
 use Rattle.hack_planner.specs.Members as plain
-use Rattle.hack_planner.specs.MembersView.{member_view, choosing_of}
+use Rattle.hack_planner.specs.MembersView.{member_view}
 use Rattle.hack_planner.proofs.PackageLemmas.{three-lists}
 use Rattle.hack_planner.proofs.packages.choose_packages.Goals as goal
 
 pub returns-clause-ok : goal.returns-clause-ok
 returns-clause-ok c =
-    let w : Choosing = choosing_of c.args.args.now (option_copied c.args.current) in
+    let w : Args = c.args.args.now in
     let left : List plain.Member = map member_view c.in_ok-left.left.items in
     record {
       remaining = left;
@@ -30,7 +31,7 @@ returns-clause-ok c =
 
 pub returns-clause-notes : goal.returns-clause-notes
 returns-clause-notes c =
-    let w : Choosing = choosing_of c.args.args.now (option_copied c.args.current) in
+    let w : Args = c.args.args.now in
     let root = c.args.root.now in
     let ms : List plain.Member = map member_view c.args.members.now in
     let left : List plain.Member = map member_view c.in_ok-left.left.items in

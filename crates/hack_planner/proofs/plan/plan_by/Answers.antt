@@ -1,5 +1,5 @@
 use Rattle.std.proofs.Common.{◌≡◌, ◌⊎◌, ◌∙◌, sym, ap, subst, List, map, All, Contains}
-use Rattle.std.specs.List.{AllZip}
+use Rattle.std.specs.List.{AllZip, flat_map}
 use Rattle.std.proofs.lemmas.List.{length-map}
 use Rattle.std.proofs.lemmas.Slice.Zip.{AllZip-long}
 use Rattle.std.proofs.lemmas.Result.{err_from_is_err_and}
@@ -8,17 +8,18 @@ use Rattle.hack_metadata.specs.RecordViews.{place_at}
 use Rattle.hack_metadata.specs.declared.metadata.resolve.PackageId.{PackageId}
 use Rattle.hack_planner.specs.ContextMembers.{AreChosen}
 use Rattle.hack_plan.specs.Entries.{ArePlaces, HasTooMany}
+use Rattle.hack_plan.specs.Inputs.{AreVersions}
 use Rattle.hack_plan.specs.Plans.{counts_in}
 use Rattle.hack_plan.specs.Prepared.{ArePrepared}
 use Rattle.hack_plan.specs.View.{CallView, plan_package_view}
 use Rattle.hack_base.specs.Notes.{note_of}
 use Rattle.hack_versions.specs.declared.version.VersionFault.{VersionFault}
-use Rattle.hack_planner.specs.Calls.{IsInputOf, HasPackageRuns, AreDescribed, HasBadOwn, left_out_notes}
+use Rattle.hack_planner.specs.Calls.{IsInputOf, IsChosenPackage, IsMember, HasCoverage, HasBadOwn, candidate_notes_at, left_out_notes}
 use Rattle.hack_planner.specs.Internal.{HasRunsFault}
 use Rattle.hack_planner.specs.CallPlan.{IsCause, run_counts}
-use Rattle.hack_planner.proofs.CauseLemmas.{range-cause, places-cause, counts-same, all-told}
+use Rattle.hack_planner.proofs.CauseLemmas.{range-cause, places-cause, counts-same, few-places, all-told}
 use Rattle.hack_planner.proofs.NeverLemmas.{no-cause}
-use Rattle.hack_planner.proofs.PlanLemmas.{members-length, covers}
+use Rattle.hack_planner.proofs.PlanLemmas.{covers}
 use Rattle.hack_planner.proofs.PlanSampleLemmas.{sample-cause}
 use Rattle.hack_planner.specs.declared.fault.PlanFault.TheVariants as fault
 use Rattle.hack_planner.proofs.plan.plan_by.Goals as goal
@@ -44,10 +45,10 @@ of_input-requires-clause-packages c =
     let cx = context_view c.args.cx.now in
     let ids = c.in_ok-list.list.ids.items in
     let of_call = subst (λ l. IsInputOf cx (map place_at l) c.in_ok-input.input) c.as_slice.ensures.value c.in_ok-input.ensures.ok in
-    let each = subst (λ (l : List PackageId). AllZip (HasPackageRuns cx) (map place_at l) (map plan_package_view c.in-Ok.answer.0.items)) c.as_slice-ids.ensures.value c.in-Ok.ensures.runs in
+    let each = subst (λ (l : List PackageId). AllZip (IsChosenPackage cx) (map place_at l) (map plan_package_view c.in-Ok.answer.0.items)) c.as_slice-ids.ensures.value c.in-Ok.ensures.ok in
     sym (length-map c.in-Ok.answer.0.items plan_package_view)
-    ∙ AllZip-long (HasPackageRuns cx) (map place_at ids) (map plan_package_view c.in-Ok.answer.0.items) each
-    ∙ members-length cx (map place_at ids) c.in_ok-input.input.packages.items of_call.members
+    ∙ AllZip-long (IsChosenPackage cx) (map place_at ids) (map plan_package_view c.in-Ok.answer.0.items) each
+    ∙ sym (AllZip-long (IsMember cx) (map place_at ids) c.in_ok-input.input.packages.items of_call.members)
 
 pub refuse_too_many-requires-clause-members : goal.refuse_too_many-requires-clause-members
 refuse_too_many-requires-clause-members c =
@@ -78,7 +79,7 @@ returns-in-Err-of_input-clause-err c =
     let cx = context_view c.args.cx.now in
     let ids = c.in_ok-list.list.ids.items in
     let of_call = subst (λ l. IsInputOf cx (map place_at l) c.in_ok-input.input) c.as_slice.ensures.value c.in_ok-input.ensures.ok in
-    let each = subst (λ (l : List PackageId). AllZip (HasPackageRuns cx) (map place_at l) (map plan_package_view c.in-Ok.answer.0.items)) c.as_slice-ids.ensures.value c.in-Ok.ensures.runs in
+    let each = subst (λ (l : List PackageId). AllZip (IsChosenPackage cx) (map place_at l) (map plan_package_view c.in-Ok.answer.0.items)) c.as_slice-ids.ensures.value c.in-Ok.ensures.ok in
     rw c.of_places.ensures (places-cause cx (map place_at ids) c.in_ok-input.input c.in_ok-versions.versions.stable c.args.latest c.in-Ok.answer.0.items c.in-Err-of_input.fault c.in_ok-list.ensures.ok of_call each c.in_ok-versions.ensures.stable c.in-Err-of_input.ensures.err)
 
 pub returns-clause-ok : goal.returns-clause-ok
@@ -89,39 +90,44 @@ returns-clause-ok c = λ rustup call.
     let input = c.in_ok-input.input in
     let plan = c.in-Ok-of_input.plan in
     let packages = c.in-Ok.answer.0.items in
-    let on_features = map note_of c.in-Ok.answer.1.items in
     let counts = ap run_counts c.in-Ok-of_input.ensures.packages ∙ counts-same packages in
-    let described = subst (λ l. AreDescribed cx single (map place_at l) (map plan_package_view packages) on_features) c.as_slice-ids.ensures.value c.in-Ok.ensures.ok in
-    let each = subst (λ (l : List PackageId). AllZip (HasPackageRuns cx) (map place_at l) (map plan_package_view packages)) c.as_slice-ids.ensures.value c.in-Ok.ensures.runs in
+    let each = subst (λ (l : List PackageId). AllZip (IsChosenPackage cx) (map place_at l) (map plan_package_view packages)) c.as_slice-ids.ensures.value c.in-Ok.ensures.ok in
+    let within : ¬ HasTooMany input (run_counts plan.packages) c.args.latest =
+    λ many. c.in-Ok-of_input.ensures.never (subst (λ v. HasTooMany input (counts_in packages) v) (sym c.in_ok-versions.ensures.stable) (subst (λ ns. HasTooMany input ns c.args.latest) counts many)) in
+    let places = subst (λ ns. ArePlaces input ns c.args.latest plan.entries) (sym counts) (subst (λ v. ArePlaces input (counts_in packages) v plan.entries) c.in_ok-versions.ensures.stable c.in-Ok-of_input.ensures.entries) in
     record {
-      base = record {
-        ids = map place_at ids;
-        input = input;
-        chosen = c.in_ok-list.ensures.ok;
-        of_call = subst (λ l. IsInputOf cx (map place_at l) input) c.as_slice.ensures.value c.in_ok-input.ensures.ok;
-        packages = subst (AllZip (HasPackageRuns cx) (map place_at ids)) (sym c.in-Ok-of_input.ensures.packages) each;
-        places = subst (λ ns. ArePlaces input ns c.args.latest plan.entries) (sym counts) (subst (λ v. ArePlaces input (counts_in packages) v plan.entries) c.in_ok-versions.ensures.stable c.in-Ok-of_input.ensures.entries);
+      performed = record {
+        base = record {
+          ids = map place_at ids;
+          input = input;
+          chosen = c.in_ok-list.ensures.ok;
+          of_call = subst (λ l. IsInputOf cx (map place_at l) input) c.as_slice.ensures.value c.in_ok-input.ensures.ok;
+          packages = subst (AllZip (IsChosenPackage cx) (map place_at ids)) (sym c.in-Ok-of_input.ensures.packages) each;
+          places = places;
+        };
+        groups = c.in_ok-versions.versions.groups.items;
+        of_range = subst (λ v. AreVersions input.range input v c.in_ok-versions.versions.groups.items) c.in_ok-versions.ensures.stable c.in_ok-versions.ensures.ok;
+        single = single;
+        on_packages = map note_of c.in_ok-list.notices.items;
+        on_range = map note_of c.in_ok-versions.on_range.items;
+        noted = c.in_ok-list.ensures.notes;
+        ranged = c.in_ok-versions.ensures.notices;
+        call = c.in-Ok-of_input.ensures.call ∙ call;
+        laid = c.in-Ok-of_input.ensures.spans;
+        prepared = subst (λ (k : CallView). ArePrepared k.locked k.clean_per_version plan.versions) call c.in-Ok-of_input.ensures.prepared;
+        told = all-told c.in_ok-list.notices.items c.in-Ok.answer.1.items c.in_ok-versions.on_range.items c.in_ok-on_left_out.on_left_out.items c.append.new.self.items c.append-2.new.self.items c.append-3.new.self.items
+            (flat_map (candidate_notes_at cx single) (map place_at ids)) (left_out_notes cx (map place_at ids) input c.in_ok-versions.versions.groups.items)
+            c.in_ok-append.ensures.items c.in_ok-append-2.ensures.items c.in_ok-append-3.ensures.items
+            (c.in-Ok.ensures.notes ∙ ap (λ (l : List PackageId). flat_map (candidate_notes_at cx single) (map place_at l)) c.as_slice-ids.ensures.value)
+            (c.in_ok-on_left_out.ensures ∙ ap (λ (l : List PackageId). left_out_notes cx (map place_at l) input c.in_ok-versions.versions.groups.items) c.as_slice-ids.ensures.value);
+        in_range = c.in_ok-versions.ensures.never;
+        fits = few-places input (run_counts plan.packages) c.args.latest plan.entries places within;
       };
-      versions = c.in_ok-versions.versions;
-      of_range = c.in_ok-versions.ensures.ok;
-      newest = c.in_ok-versions.ensures.stable;
-      single = single;
-      on_packages = map note_of c.in_ok-list.notices.items;
-      on_features = on_features;
-      on_range = map note_of c.in_ok-versions.on_range.items;
-      noted = c.in_ok-list.ensures.notes;
-      ranged = c.in_ok-versions.ensures.notices;
-      described = subst (λ ks. AreDescribed cx single (map place_at ids) ks on_features) (sym c.in-Ok-of_input.ensures.packages) described;
-      call = c.in-Ok-of_input.ensures.call ∙ call;
-      laid = c.in-Ok-of_input.ensures.spans;
-      prepared = subst (λ (k : CallView). ArePrepared k.locked k.clean_per_version plan.versions) call c.in-Ok-of_input.ensures.prepared;
-      told = all-told c.in_ok-list.notices.items c.in-Ok.answer.1.items c.in_ok-versions.on_range.items c.in_ok-on_left_out.on_left_out.items c.append.new.self.items c.append-2.new.self.items c.append-3.new.self.items
-          (left_out_notes cx (map place_at ids) input c.in_ok-versions.versions.groups.items)
-          c.in_ok-append.ensures.items c.in_ok-append-2.ensures.items c.in_ok-append-3.ensures.items
-          (c.in_ok-on_left_out.ensures ∙ ap (λ (l : List PackageId). left_out_notes cx (map place_at l) input c.in_ok-versions.versions.groups.items) c.as_slice-ids.ensures.value);
+      covered = subst (AllZip (HasCoverage cx) (map place_at ids)) (sym c.in-Ok-of_input.ensures.packages)
+          (subst (λ (l : List PackageId). AllZip (HasCoverage cx) (map place_at l) (map plan_package_view packages)) c.as_slice-ids.ensures.value c.in-Ok.ensures.coverage);
+      tiled = c.in-Ok-of_input.ensures.tiled;
       readable = subst (λ (l : List PackageId). (e : VersionFault) → ¬ HasBadOwn cx (map place_at l) e) c.as_slice.ensures.value c.in_ok-input.ensures.never;
-      in_range = c.in_ok-versions.ensures.never;
-      fits = λ many. c.in-Ok-of_input.ensures.never (subst (λ v. HasTooMany input (counts_in packages) v) (sym c.in_ok-versions.ensures.stable) (subst (λ ns. HasTooMany input ns c.args.latest) counts many));
+      fits = within;
     }
 
 pub returns-clause-covered : goal.returns-clause-covered
@@ -140,7 +146,7 @@ returns-clause-never c =
       packages = map plan_package_view packages;
       chosen = c.in_ok-list.ensures.ok;
       of_call = subst (λ l. IsInputOf cx (map place_at l) input) c.as_slice.ensures.value c.in_ok-input.ensures.ok;
-      each = subst (λ (l : List PackageId). AllZip (HasPackageRuns cx) (map place_at l) (map plan_package_view packages)) c.as_slice-ids.ensures.value c.in-Ok.ensures.runs;
+      each = subst (λ (l : List PackageId). AllZip (IsChosenPackage cx) (map place_at l) (map plan_package_view packages)) c.as_slice-ids.ensures.value c.in-Ok.ensures.ok;
       known = c.in_ok-list.ensures.never;
       readable = subst (λ (l : List PackageId). (e : VersionFault) → ¬ HasBadOwn cx (map place_at l) e) c.as_slice.ensures.value c.in_ok-input.ensures.never;
       in_range = c.in_ok-versions.ensures.never;

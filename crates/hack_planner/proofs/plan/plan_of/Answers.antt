@@ -33,14 +33,14 @@ pub returns-in-Ok-clause-powersets : goal.returns-in-Ok-clause-powersets
 returns-in-Ok-clause-powersets c = λ _ powerset all.
     let cx = context_view c.args.cx.now in
     IfOk-weaker c.plan_by.result (λ answer. IsPlan cx c.args.rustup.now c.in-Ok.latest answer.0 (map note_of answer.1.items)) (λ answer. HavePowersets cx answer.0)
-    (λ answer h. powersets cx c.in-Ok.latest answer.0 h.base powerset all)
+    (λ answer h. powersets cx c.in-Ok.latest answer.0 h.performed.base powerset all)
     (c.plan_by.ensures.ok c.args.rustup.now c.in_ok-words.ensures)
 
 pub returns-in-Ok-clause-samples : goal.returns-in-Ok-clause-samples
 returns-in-Ok-clause-samples c = λ strength _ powerset given.
     let cx = context_view c.args.cx.now in
     IfOk-weaker c.plan_by.result (λ answer. IsPlan cx c.args.rustup.now c.in-Ok.latest answer.0 (map note_of answer.1.items)) (λ answer. HaveSamples cx strength answer.0)
-    (λ answer h. samples cx c.in-Ok.latest answer.0 strength h.base powerset given)
+    (λ answer h. samples cx c.in-Ok.latest answer.0 strength h.performed.base powerset given)
     (c.plan_by.ensures.ok c.args.rustup.now c.in_ok-words.ensures)
 
 pub returns-in-Ok-clause-patterns : goal.returns-in-Ok-clause-patterns
@@ -49,7 +49,7 @@ returns-in-Ok-clause-patterns c = λ strength latest is _ powerset given each.
     let same = same-latest c.args.stable c.in-Ok.latest latest c.in-Ok.is is in
     subst (λ v. IfOk c.plan_by.result (λ answer. ArePatternsHeld cx strength v answer.0)) same
     (IfOk-weaker c.plan_by.result (λ answer. IsPlan cx c.args.rustup.now c.in-Ok.latest answer.0 (map note_of answer.1.items)) (λ answer. ArePatternsHeld cx strength c.in-Ok.latest answer.0)
-    (λ answer h. patterns cx c.in-Ok.latest answer.0 strength h.base powerset given each)
+    (λ answer h. patterns cx c.in-Ok.latest answer.0 strength h.performed.base powerset given each)
     (c.plan_by.ensures.ok c.args.rustup.now c.in_ok-words.ensures))
 
 pub returns-in-Ok-clause-never : goal.returns-in-Ok-clause-never

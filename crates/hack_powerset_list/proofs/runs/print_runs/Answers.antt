@@ -1,9 +1,11 @@
-use Rattle.std.proofs.Common.{◌≡◌, ◌++◌, ◌∷◌, [], List, ℕ, map, length, ap, ◌∙◌, sym, subst, refl, arith, string_bytes, append-nil}
+use Rattle.std.proofs.Common.{◌≡◌, ◌++◌, ◌∷◌, [], List, ℕ, map, length, ap, ◌∙◌, sym, subst, refl, arith, string_bytes, append-nil, nat_lt, true}
 use Rattle.std.specs.Prelude.{◌==◌, if◌then◌else◌, vec_len}
 use Rattle.hack_base.specs.Writes.{AppendsFront}
 use Rattle.hack_base.specs.Names.{Name}
 use Rattle.hack_features.specs.Feature.{name_of}
-use Rattle.hack_plan.specs.Runs.{Plain, NoDefaultFeatures, allows_two, run_if, runs_from, with_last_first}
+use Rattle.std.specs.Option.{option_map_or}
+use Rattle.hack_plan.specs.Runs.{Plain, NoDefaultFeatures, run_if, runs_from}
+use Rattle.hack_plan.specs.RunsView.{with_last_first}
 use Rattle.hack_powerset_list.specs.Lines.{run_lines}
 use Rattle.hack_powerset_list.specs.LineWords.{PrintsText}
 use Rattle.hack_powerset_list.specs.ListRuns.{options_from}
@@ -100,7 +102,7 @@ returns-in_err-print_front-clause-err g c =
     let last : List ℕ = c.in-Some.last.items in
     let ends : EndsIn sets last = subst (λ l. EndsIn l last) same (subst (Ends (listed_below r (length fs) (set_in c.in_ok-room.room))) c.in-Some.is c.in_ok-last.ensures.last) in
     let front : List ℕ = run_lines names (run_if c.is_empty-bare.result NoDefaultFeatures) in
-    let lines : List ℕ = set_lines names (with_last_first (allows_two w.depth) sets) in
+    let lines : List ℕ = set_lines names (with_last_first (option_map_or (nat_lt 1) w.depth true) sets) in
     let is : all ≡ front ++ lines =
     runs-some w fs sets ends.front last ends.same names
     ∙ ap (λ b. run_lines names (run_if b NoDefaultFeatures) ++ lines) (sym bare) in
@@ -124,7 +126,7 @@ returns-clause-ok g c =
     let last : List ℕ = c.in-Some.last.items in
     let ends : EndsIn sets last = subst (λ l. EndsIn l last) same (subst (Ends (listed_below r (length fs) (set_in c.in_ok-room.room))) c.in-Some.is c.in_ok-last.ensures.last) in
     let front : List ℕ = run_lines names (run_if c.is_empty-bare.result NoDefaultFeatures) in
-    let lines : List ℕ = set_lines names (with_last_first (allows_two w.depth) sets) in
+    let lines : List ℕ = set_lines names (with_last_first (option_map_or (nat_lt 1) w.depth true) sets) in
     let is : all ≡ front ++ lines =
     runs-some w fs sets ends.front last ends.same names
     ∙ ap (λ b. run_lines names (run_if b NoDefaultFeatures) ++ lines) (sym bare) in
@@ -155,7 +157,7 @@ returns-clause-err g c =
     let last : List ℕ = c.in-Some.last.items in
     let ends : EndsIn sets last = subst (λ l. EndsIn l last) same (subst (Ends (listed_below r (length fs) (set_in c.in_ok-room.room))) c.in-Some.is c.in_ok-last.ensures.last) in
     let front : List ℕ = run_lines names (run_if c.is_empty-bare.result NoDefaultFeatures) in
-    let lines : List ℕ = set_lines names (with_last_first (allows_two w.depth) sets) in
+    let lines : List ℕ = set_lines names (with_last_first (option_map_or (nat_lt 1) w.depth true) sets) in
     let is : all ≡ front ++ lines =
     runs-some w fs sets ends.front last ends.same names
     ∙ ap (λ b. run_lines names (run_if b NoDefaultFeatures) ++ lines) (sym bare) in

@@ -3,7 +3,8 @@ use Rattle.hack_base.specs.Writes.{AppendsFront}
 use Rattle.hack_base.specs.Names.{Name}
 use Rattle.hack_features.specs.Feature.{name_of}
 use Rattle.hack_features.specs.View.{may_of}
-use Rattle.hack_plan.specs.Runs.{Set, with_last_first}
+use Rattle.hack_plan.specs.Runs.{Set}
+use Rattle.hack_plan.specs.RunsView.{with_last_first}
 use Rattle.hack_powerset_list.specs.Lines.{run_line}
 use Rattle.hack_powerset_list.specs.LineWords.{PrintsText}
 use Rattle.hack_powerset_list.specs.Room.{set_in}

@@ -4,9 +4,9 @@ use Rattle.std.proofs.lemmas.List.Elements.{Contains-get_or}
 use Rattle.hack_versions.specs.declared.group.VersionGroup.{VersionGroup}
 use Rattle.hack_versions.specs.VersionUses.{UsesAt, AreVersionGroups}
 use Rattle.hack_plan.specs.Inputs.{IsStepList, slots_of}
-use Rattle.hack_plan.specs.Spans.{AreSpans, version_in}
+use Rattle.hack_plan.specs.Spans.{AreSpans}
 use Rattle.hack_plan.proofs.Groups.{in_owns, groups-more, groups-over, groups-all}
-use Rattle.hack_plan.proofs.SpanLemmas.{spans-group}
+use Rattle.hack_plan.proofs.SpanLemmas.{spans-group, version_in}
 use Rattle.hack_plan.proofs.places.Places.with_range.Goals as goal
 
 pub add-requires-clause-within : goal.add-requires-clause-within
@@ -66,4 +66,11 @@ returns-clause-spans c =
     let steps = c.requires.versions.0 in
     let are = subst (λ xs. AreVersionGroups (UsesAt c.args.range steps c.args.input.now.packages.items) xs) (sym v) c.requires.versions.2 in
     let k = rw (take_all c.loop-group.group-index c.as_slice-group-items.result.now c.loop-group-test.false) at (c.loop-group.invariant.0 steps are) in
-    subst (λ (xs : List VersionGroup). AreSpans (map version_in xs) c.loop-group.places) v k.1
+    subst (λ (xs : List VersionGroup). AreSpans (map version_in xs) c.loop-group.places.entries c.loop-group.places.spans) v k.1.spans
+
+pub returns-clause-tiled : goal.returns-clause-tiled
+returns-clause-tiled c =
+    let steps = c.requires.versions.0 in
+    let are = subst (λ xs. AreVersionGroups (UsesAt c.args.range steps c.args.input.now.packages.items) xs) (sym c.as_slice-group-items.ensures.value) c.requires.versions.2 in
+    let k = rw (take_all c.loop-group.group-index c.as_slice-group-items.result.now c.loop-group-test.false) at (c.loop-group.invariant.0 steps are) in
+    k.1.tiled

@@ -19,7 +19,11 @@ returns-in-Ok-clause-ok c =
 
 pub returns-in-Ok-clause-spans : goal.returns-in-Ok-clause-spans
 returns-in-Ok-clause-spans c =
-    spans-alone c.args.input.now.as_cargo None (slots_of c.args.input.now None) c.deref.result.now c.args.counts.now c.empty-places.result c.add.new.self c.empty-places.ensures.entries c.empty-places.ensures.spans c.in-Ok.ensures.ok c.in-Ok.ensures.next
+    (spans-alone c.args.input.now.as_cargo None (slots_of c.args.input.now None) c.deref.result.now c.args.counts.now c.empty-places.result c.add.new.self c.empty-places.ensures.entries c.empty-places.ensures.spans c.in-Ok.ensures.ok c.in-Ok.ensures.next).spans
+
+pub returns-in-Ok-clause-tiled : goal.returns-in-Ok-clause-tiled
+returns-in-Ok-clause-tiled c =
+    (spans-alone c.args.input.now.as_cargo None (slots_of c.args.input.now None) c.deref.result.now c.args.counts.now c.empty-places.result c.add.new.self c.empty-places.ensures.entries c.empty-places.ensures.spans c.in-Ok.ensures.ok c.in-Ok.ensures.next).tiled
 
 pub returns-clause-err : goal.returns-clause-err
 returns-clause-err c =
