@@ -1,5 +1,5 @@
 -- The headline, put together from the plan and its session.
-use Rattle.std.proofs.Common.{◌≡◌, sym, subst, List, ℕ, Option, None, Some, Result, Ok, Err, true, IsSome, Global, String, length}
+use Rattle.std.proofs.Common.{◌≡◌, ap, sym, subst, List, ℕ, Option, None, Some, Result, Ok, Err, true, IsSome, Global, String, length}
 use Rattle.hack_planner.specs.CallPlan.{HasRunsOf, IsPlanOf}
 use Rattle.hack_planner.specs.Powersets.{HavePowersets}
 use Rattle.hack_planner.specs.Samples.{HaveSamples, ArePatternsHeld}
@@ -25,8 +25,8 @@ shared plan = record {
 
 -- the places of a call's plan
 runs-of : (subcommand : Option (String Global)) (stable : Result (Option Version) (String Global)) (cx : ContextRecord) (rustup : Name) (plan : PlanView) (notes : List Note) → IsPlanOf subcommand stable cx rustup plan notes → HasRunsOf subcommand stable cx plan
-runs-of None stable cx rustup plan notes h = h.entries
-runs-of (Some name) (Ok latest) cx rustup plan notes h = h.base
+runs-of None stable cx rustup plan notes h = ap (λ (p : PlanView). p.entries) h.0
+runs-of (Some name) (Ok latest) cx rustup plan notes h = h.performed.base
 runs-of (Some name) (Err text) cx rustup plan notes h = h
 
 -- the session of a context's plan and the chosen piece, driven to its end

@@ -24,6 +24,7 @@ use Rattle.hack_base.specs.Names.{Name}
 use Rattle.hack_load.specs.Contexts.{ContextRecord}
 use Rattle.hack_versions.specs.declared.version.Version.{Version}
 use Rattle.hack_base.specs.Notes.{Note}
+use Rattle.hack_planner.proofs.Performing.{performable}
 use Rattle.hack_planner.specs.CallPlan.{IsPlanOf}
 use Rattle.hack_run.specs.CallTrace.{PerformsOne, Writes}
 use Rattle.hack_session.specs.Handouts.{IsDriven}
@@ -218,7 +219,7 @@ handed_makes whole had has Told Ran cx stable rustup a b (inr l) w calls refused
       course = l.course;
       notes = l.notes;
       cut = did.cut;
-      planned = l.planned;
+      planned = performable cx.args.subcommand stable cx rustup l.course.plan l.notes l.planned;
       driven = l.driven;
       calls = subst (λ (cs : List Call). MakesCalls (λ made. PerformsAll l.course.plan steps made did.cut) cs (calls b)) (told l.notes a l.mid l.told) (record { made = did.made; grown = did.grown; such = did.performed });
       wrote = all_shown false had has (flat_map (lines_written l.course.plan) l.course.handed) (l.wrote w);
@@ -234,7 +235,7 @@ runs_one cx stable rustup course notes old new mid before now term fault same pl
   course = course;
   notes = notes;
   cut = performed.cut;
-  planned = planned;
+  planned = performable cx.args.subcommand stable cx rustup course.plan notes planned;
   driven = driven;
   calls = subst (λ (calls : List Call). MakesCalls (λ made. PerformsAll course.plan course.handed made performed.cut) calls new.calls) same (record { made = performed.made; grown = performed.grown; such = performed.performed });
   wrote = tt;
@@ -249,7 +250,7 @@ runs_some cx stable rustup course notes old new mid before now same planned driv
   course = course;
   notes = notes;
   cut = performed.cut;
-  planned = planned;
+  planned = performable cx.args.subcommand stable cx rustup course.plan notes planned;
   driven = driven;
   calls = subst (λ (calls : List Call). MakesCalls (λ made. PerformsAll course.plan course.handed made performed.cut) calls new.calls) same (record { made = performed.made; grown = performed.grown; such = performed.performed });
   wrote = tt;
@@ -266,7 +267,7 @@ lists_one had has Told Ran cx stable rustup a b l calls before now was term faul
   course = l.over.course;
   notes = l.over.notes;
   cut = performed.cut;
-  planned = l.over.planned;
+  planned = performable cx.args.subcommand stable cx rustup l.over.course.plan l.over.notes l.over.planned;
   driven = l.over.driven;
   calls = subst (λ (cs : List Call). MakesCalls (λ made. PerformsAll l.over.course.plan (filter is_sent l.over.course.handed) made performed.cut) cs (calls b)) same (record { made = performed.made; grown = performed.grown; such = performed.performed });
   wrote = all_shown true had has (flat_map (lines_written l.over.course.plan) l.over.course.handed) (l.over.wrote tt);

@@ -14,7 +14,7 @@ use Rattle.hack_process.specs.Calls.{Asked, Call, IsSuccess, MayAdd}
 use Rattle.hack_process.specs.Commands.{asked_of}
 use Rattle.hack_process.specs.Faults.{GotAnswer}
 use Rattle.hack_plan.specs.Commands.{plain_command}
-use Rattle.hack_planner.specs.CallPlan.{IsPlanOf}
+use Rattle.hack_planner.specs.CallPlan.{IsPerformableOf}
 use Rattle.hack_prepare.specs.Prepared.{IsPrepared}
 use Rattle.hack_prepare.specs.PreparedView.{member_manifests_in, wanted_in}
 use Rattle.hack_session.specs.Histories.{Course, HasPassed}
@@ -55,7 +55,7 @@ pub record PerformsOne (done listing : Bool) (cx : ContextRecord)
   pub course : Course
   pub notes : List Note
   pub cut : ℕ
-  pub planned : IsPlanOf cx.args.subcommand stable cx rustup course.plan notes
+  pub planned : IsPerformableOf cx.args.subcommand stable cx rustup course.plan notes
   pub driven : IsDriven cx.args.partition cx.args.keep_going course
   pub calls : MakesCalls (λ made.
       PerformsAll course.plan (if listing then filter is_sent course.handed else course.handed) made cut) old.calls new.calls
