@@ -1,5 +1,5 @@
 -- The places of each version, as the plan grows version by version.
-use Rattle.std.proofs.Common.{◌≡◌, ℕ, ◌+◌, ◌<◌, ◌≤◌, List, [], ◌∷◌, ◌++◌, length, take, map, arith, refl, ap, sym, ◌∙◌, subst, get_or, length-append, append_assoc, append-nil, Option, Some, Bool}
+use Rattle.std.proofs.Common.{◌≡◌, ℕ, ◌+◌, ◌<◌, ◌≤◌, List, [], ◌∷◌, ◌++◌, length, take, drop, map, arith, refl, ap, sym, ◌∙◌, subst, get_or, length-append, append_assoc, append-nil, Option, Some, Bool}
 use Rattle.std.specs.List.{All, Contains}
 use Rattle.std.proofs.lemmas.List.{length-map, get_or-map, map-append, take_more}
 use Rattle.std.proofs.lemmas.List.Elements.{All-append, All-push, All-map, All-weaker, Contains-get_or}
@@ -21,10 +21,56 @@ use Rattle.hack_plan.proofs.Groups.{InGroups, earlier}
 abbrev pub version_in : VersionGroup → Option Version
 version_in group = Some group.version
 
+-- the plan consists of the places of older versions, this one's from first to end, and those of
+-- later versions
+pub record IsCut (entries : List PlanEntry) (s : Span) : Type 0 where
+  pub older : List PlanEntry
+  pub here : List PlanEntry
+  pub later : List PlanEntry
+  pub all : entries ≡ older ++ here ++ later
+  pub first : s.first ≡ length older
+  pub end : s.end ≡ length older + length here
+  pub before : All (λ q. IsOlder q.version s.version) older
+  pub same : All (λ q. q.version ≡ s.version) here
+  pub behind : All (λ q. IsOlder s.version q.version) later
+
+front-of : (xs ys : List PlanEntry) → take (length xs) (xs ++ ys) ≡ xs
+front-of [] ys = refl
+front-of (x ∷ xs) ys = ap (λ l. x ∷ l) (front-of xs ys)
+
+back-of : (xs ys : List PlanEntry) → drop (length xs) (xs ++ ys) ≡ ys
+back-of [] ys = refl
+back-of (x ∷ xs) ys = back-of xs ys
+
+-- these places are those of the version
+cut-span : (entries : List PlanEntry) (s : Span) → IsCut entries s → IsSpan entries s
+cut-span entries s f =
+    let here_end : s.end ≡ length (f.older ++ f.here) = f.end ∙ sym (length-append f.older f.here) in
+    let old : take s.first entries ≡ f.older =
+    ap (λ n. take n entries) f.first ∙ ap (take (length f.older)) (f.all ∙ append_assoc f.older f.here f.later) ∙ front-of f.older (f.here ++ f.later) in
+    let upto : take s.end entries ≡ f.older ++ f.here =
+    ap (λ n. take n entries) here_end ∙ ap (take (length (f.older ++ f.here))) f.all ∙ front-of (f.older ++ f.here) f.later in
+    let here : drop s.first (take s.end entries) ≡ f.here =
+    ap (drop s.first) upto ∙ ap (λ n. drop n (f.older ++ f.here)) f.first ∙ back-of f.older f.here in
+    let later : drop s.end entries ≡ f.later =
+    ap (λ n. drop n entries) here_end ∙ ap (drop (length (f.older ++ f.here))) f.all ∙ back-of (f.older ++ f.here) f.later in
+    let whole : length entries ≡ length (f.older ++ f.here) + length f.later = ap length f.all ∙ length-append (f.older ++ f.here) f.later in
+    record {
+      within = (omega (arith, f.first, f.end), omega (arith, here_end, whole));
+      before = subst (All (λ q. IsOlder q.version s.version)) (sym old) f.before;
+      same = subst (All (λ (q : PlanEntry). q.version ≡ s.version)) (sym here) f.same;
+      behind = subst (All (λ q. IsOlder s.version q.version)) (sym later) f.behind;
+    }
+
 -- each version with its places, which partition those of the plan
 pub record ArePartition (versions : List (Option Version)) (p : Laid) : Type 0 where
-  pub spans : AreSpans versions p.entries p.spans
+  pub names : map version_at p.spans ≡ versions
+  pub each : All (IsCut p.entries) p.spans
   pub tiled : AreTiled 0 p.spans (length p.entries)
+
+-- then each has its places
+pub spans-in : (versions : List (Option Version)) (p : Laid) → ArePartition versions p → AreSpans versions p.entries p.spans
+spans-in versions p f = record { names = f.names; each = All-weaker (IsCut p.entries) (IsSpan p.entries) (cut-span p.entries) p.spans f.each }
 
 abbrev IsOlderEntry : Option Version → PlanEntry → Type 0
 IsOlderEntry v q = IsOlder q.version v
@@ -38,7 +84,7 @@ IsLater v q = IsOlder v q.version
 abbrev span_of : Option Version → List PlanEntry → List PlanEntry → Span
 span_of v old new = record { version = v; first = length old; end = length new }
 
-span-more : (entries added : List PlanEntry) (s : Span) → IsSpan entries s → All (IsLater s.version) added → IsSpan (entries ++ added) s
+span-more : (entries added : List PlanEntry) (s : Span) → IsCut entries s → All (IsLater s.version) added → IsCut (entries ++ added) s
 span-more entries added s f h = record {
   older = f.older;
   here = f.here;
@@ -51,7 +97,7 @@ span-more entries added s f h = record {
   behind = All-append (IsLater s.version) f.later added f.behind h;
 }
 
-span-last : (v : Option Version) (old added : List PlanEntry) → All (IsOlderEntry v) old → All (IsHere v) added → IsSpan (old ++ added) (span_of v old (old ++ added))
+span-last : (v : Option Version) (old added : List PlanEntry) → All (IsOlderEntry v) old → All (IsHere v) added → IsCut (old ++ added) (span_of v old (old ++ added))
 span-last v old added f g = record {
   older = old;
   here = added;
@@ -78,10 +124,8 @@ tiled-more from (x ∷ ss) s mid to t first le end = (t.0, t.1, tiled-more x.end
 pub spans-next : (names : List (Option Version)) (v : Option Version) (old new : Laid) (added : List PlanEntry) → new.entries ≡ old.entries ++ added → AppendsPlaces v old new → ArePartition names old
     → All (IsOlderEntry v) old.entries → All (IsHere v) added → All (λ w. IsOlder w v) names → ArePartition (names ++ v ∷ []) new
 spans-next names v old new added grown next f before here older = record {
-  spans = record {
-    names = ap (map version_at) next ∙ map-append version_at old.spans (span_of v old.entries new.entries ∷ []) ∙ ap (λ t. t ++ v ∷ []) f.spans.names;
-    each = subst (All (IsSpan new.entries)) (sym next) (All-push (IsSpan new.entries) old.spans (span_of v old.entries new.entries) all last);
-  };
+  names = ap (map version_at) next ∙ map-append version_at old.spans (span_of v old.entries new.entries ∷ []) ∙ ap (λ t. t ++ v ∷ []) f.names;
+  each = subst (All (IsCut new.entries)) (sym next) (All-push (IsCut new.entries) old.spans (span_of v old.entries new.entries) all last);
   tiled = subst (λ ss. AreTiled 0 ss (length new.entries)) (sym next) (tiled-more 0 old.spans (span_of v old.entries new.entries) (length old.entries) (length new.entries) f.tiled refl longer refl);
 }
   where
@@ -89,18 +133,19 @@ spans-next names v old new added grown next f before here older = record {
     longer = omega (arith, ap length grown, length-append old.entries added)
 
     lower : All (λ (s : Span). IsOlder s.version v) old.spans
-    lower = All-unmap version_at (λ w. IsOlder w v) old.spans (subst (All (λ w. IsOlder w v)) (sym f.spans.names) older)
+    lower = All-unmap version_at (λ w. IsOlder w v) old.spans (subst (All (λ w. IsOlder w v)) (sym f.names) older)
 
-    all : All (IsSpan new.entries) old.spans
-    all k d h = subst (λ t. IsSpan t (get_or old.spans k d)) (sym grown)
-        (span-more old.entries added (get_or old.spans k d) (f.spans.each k d h) (later-than v (get_or old.spans k d).version added (lower k d h) here))
+    all : All (IsCut new.entries) old.spans
+    all k d h = subst (λ t. IsCut t (get_or old.spans k d)) (sym grown)
+        (span-more old.entries added (get_or old.spans k d) (f.each k d h) (later-than v (get_or old.spans k d).version added (lower k d h) here))
 
-    last : IsSpan new.entries (span_of v old.entries new.entries)
-    last = subst (λ t. IsSpan t (span_of v old.entries t)) (sym grown) (span-last v old.entries added before here)
+    last : IsCut new.entries (span_of v old.entries new.entries)
+    last = subst (λ t. IsCut t (span_of v old.entries t)) (sym grown) (span-last v old.entries added before here)
 
 pub spans-none : (p : Laid) → p.entries ≡ [] → p.spans ≡ [] → ArePartition [] p
 spans-none p no_entries e = record {
-  spans = record { names = ap (map version_at) e; each = subst (All (IsSpan p.entries)) (sym e) (λ k d h. absurd (omega arith)) };
+  names = ap (map version_at) e;
+  each = subst (All (IsCut p.entries)) (sym e) (λ k d h. absurd (omega arith));
   tiled = subst (λ ss. AreTiled 0 ss (length p.entries)) (sym e) (ap length (sym no_entries));
 }
 

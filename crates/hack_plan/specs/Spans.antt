@@ -1,5 +1,5 @@
 -- The places of each version.
-use Rattle.std.specs.Prelude.{ℕ, ◌≡◌, ◌+◌, ◌≤◌, ◌++◌, List, [], ◌∷◌, map, length, All, Option, Some, None}
+use Rattle.std.specs.Prelude.{ℕ, ◌≡◌, ◌≤◌, List, [], ◌∷◌, map, length, take, drop, All, Option, Some, None}
 use Rattle.hack_versions.specs.declared.version.Version.{Version}
 use Rattle.hack_versions.specs.declared.version.VersionRange.{VersionRange}
 use Rattle.hack_versions.specs.declared.group.VersionGroup.{VersionGroup}
@@ -12,18 +12,12 @@ pub record Laid : Type 0 where
   pub entries : List PlanEntry
   pub spans : List Span
 
--- the plan consists of the places of older versions, this one's from first to end, and those of
--- later versions
+-- a version's places go from first to end; before them are those of older versions, behind them those of later ones
 pub record IsSpan (entries : List PlanEntry) (s : Span) : Type 0 where
-  pub older : List PlanEntry
-  pub here : List PlanEntry
-  pub later : List PlanEntry
-  pub all : entries ≡ older ++ here ++ later
-  pub first : s.first ≡ length older
-  pub end : s.end ≡ length older + length here
-  pub before : All (λ q. IsOlder q.version s.version) older
-  pub same : All (λ q. q.version ≡ s.version) here
-  pub behind : All (λ q. IsOlder s.version q.version) later
+  pub within : (s.first ≤ s.end) × (s.end ≤ length entries)
+  pub before : All (λ q. IsOlder q.version s.version) (take s.first entries)
+  pub same : All (λ q. q.version ≡ s.version) (drop s.first (take s.end entries))
+  pub behind : All (λ q. IsOlder s.version q.version) (drop s.end entries)
 
 -- the versions of groups; without a range just "none"
 abbrev pub versions_of : Option VersionRange → List VersionGroup → List (Option Version)

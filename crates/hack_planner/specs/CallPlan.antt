@@ -25,8 +25,8 @@ use Rattle.hack_planner.specs.declared.fault.PlanFault.TheVariants as fault
 abbrev pub run_counts : List PackageView → List ℕ
 run_counts packages = map (λ k. length k.runs) packages
 
--- a plan has exactly the chosen packages, each with its candidates and its runs; and its places are exactly the admissible
--- runs, in order, where `stable` is this version
+-- a plan has exactly the chosen packages, each with its texts, its candidates and its runs; and its
+-- places are exactly the admissible runs, in order, where `stable` is this version
 pub record HasJustRuns (cx : ContextRecord) (latest : Option Version) (plan : PlanView) : Type 0 where
   pub ids : List ℕ
   pub input : PlanInput

@@ -6,7 +6,7 @@ use Rattle.hack_versions.specs.VersionUses.{UsesAt, AreVersionGroups}
 use Rattle.hack_plan.specs.Inputs.{IsStepList, slots_of}
 use Rattle.hack_plan.specs.Spans.{AreSpans}
 use Rattle.hack_plan.proofs.Groups.{in_owns, groups-more, groups-over, groups-all}
-use Rattle.hack_plan.proofs.SpanLemmas.{spans-group, version_in}
+use Rattle.hack_plan.proofs.SpanLemmas.{spans-group, spans-in, version_in}
 use Rattle.hack_plan.proofs.places.Places.with_range.Goals as goal
 
 pub add-requires-clause-within : goal.add-requires-clause-within
@@ -66,7 +66,7 @@ returns-clause-spans c =
     let steps = c.requires.versions.0 in
     let are = subst (λ xs. AreVersionGroups (UsesAt c.args.range steps c.args.input.now.packages.items) xs) (sym v) c.requires.versions.2 in
     let k = rw (take_all c.loop-group.group-index c.as_slice-group-items.result.now c.loop-group-test.false) at (c.loop-group.invariant.0 steps are) in
-    subst (λ (xs : List VersionGroup). AreSpans (map version_in xs) c.loop-group.places.entries c.loop-group.places.spans) v k.1.spans
+    subst (λ (xs : List VersionGroup). AreSpans (map version_in xs) c.loop-group.places.entries c.loop-group.places.spans) v (spans-in _ c.loop-group.places k.1)
 
 pub returns-clause-tiled : goal.returns-clause-tiled
 returns-clause-tiled c =

@@ -1,8 +1,8 @@
-use Rattle.std.proofs.Common.{rules, ◌≡◌, length, None, inl, inr, arith}
+use Rattle.std.proofs.Common.{rules, ◌≡◌, [], ◌∷◌, length, None, inl, inr, arith}
 use Rattle.std.proofs.lemmas.List.Elements.{Contains-get_or}
 use Rattle.hack_plan.specs.Inputs.{slots_of}
 use Rattle.hack_plan.proofs.Groups.{alone-all, alone-over}
-use Rattle.hack_plan.proofs.SpanLemmas.{spans-alone}
+use Rattle.hack_plan.proofs.SpanLemmas.{spans-alone, spans-in}
 use Rattle.hack_plan.proofs.places.Places.without_range.Goals as goal
 
 pub add-requires-clause-within : goal.add-requires-clause-within
@@ -19,7 +19,8 @@ returns-in-Ok-clause-ok c =
 
 pub returns-in-Ok-clause-spans : goal.returns-in-Ok-clause-spans
 returns-in-Ok-clause-spans c =
-    (spans-alone c.args.input.now.as_cargo None (slots_of c.args.input.now None) c.deref.result.now c.args.counts.now c.empty-places.result c.add.new.self c.empty-places.ensures.entries c.empty-places.ensures.spans c.in-Ok.ensures.ok c.in-Ok.ensures.next).spans
+    spans-in (None ∷ []) c.add.new.self
+    (spans-alone c.args.input.now.as_cargo None (slots_of c.args.input.now None) c.deref.result.now c.args.counts.now c.empty-places.result c.add.new.self c.empty-places.ensures.entries c.empty-places.ensures.spans c.in-Ok.ensures.ok c.in-Ok.ensures.next)
 
 pub returns-in-Ok-clause-tiled : goal.returns-in-Ok-clause-tiled
 returns-in-Ok-clause-tiled c =
