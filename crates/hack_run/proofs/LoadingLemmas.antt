@@ -8,7 +8,7 @@ use Rattle.hack_process.specs.Calls.{Call, MayAdd}
 use Rattle.hack_process.specs.CargoTexts.{host_of, release_part}
 use Rattle.hack_process.specs.CommandTexts.{Command}
 use Rattle.hack_process.specs.Commands.{asked_of}
-use Rattle.hack_process.specs.Faults.{IsReadFault}
+use Rattle.hack_process.specs.Faults.{fault_text}
 use Rattle.hack_process.specs.declared.fault.ProcessFault.{ProcessFault}
 use Rattle.hack_versions.proofs.RangeLemmas.{version-same}
 use Rattle.hack_versions.proofs.TextLemmas.{no-version_fault}
@@ -27,7 +27,7 @@ use Rattle.hack_metadata.specs.declared.metadata.Metadata.{Metadata}
 use Rattle.hack_words.specs.declared.cli.args.Args.{Args}
 use Rattle.hack_words.specs.declared.cli.env.Env.{Env}
 use Rattle.hack_load.specs.Answers.{AreAnswers, IsAskFault, LoadsFromMetadata}
-use Rattle.hack_load.specs.CargoQuestions.{FailsLocate, IsSelf, TellsVersion, locate, self_command, told_version}
+use Rattle.hack_load.specs.CargoQuestions.{FailsLocate, IsSelf, TellsVersion, locate, self_command, shown_self, told_version, unknown_version}
 use Rattle.hack_load.specs.ContextOf.{warnings_of}
 use Rattle.hack_load.specs.declared.answers.Answers.{Answers}
 use Rattle.hack_load.specs.declared.fault.ContextFault.{ContextFault}
@@ -40,7 +40,7 @@ use Rattle.hack_run.proofs.CallLemmas.{fault_may, in_vain, unnamed}
 -- an answer that can't be read has no release
 pub no_release : (answer : Name) (part : Option Name) (e : VersionTextFault) → IsAnswerFault answer part e → (v : Version) → ¬ TellsRelease part v
 no_release answer None e h v told = absurd told
-no_release answer (Some t) (text.Bad e) h v told = no-version_fault t v e told.0 h
+no_release answer (Some t) (text.Version e) h v told = no-version_fault t v e told.0 h
 no_release answer (Some t) (text.Unexpected named) h v told = h.1.2 (subst IsRelease (version-same t v h.1.0 told.0 h.1.1) told.1)
 no_release answer (Some t) text.Memory h v told = absurd h
 
@@ -60,12 +60,11 @@ unknown (Err text) warning e = refl
 -- cargo's own version
 own : (args : Args) (env : Env) (version : Result ℕ (String Global)) (host : Option Name) (old new : List Call) → IsSelf args env (told_version version) host old new
     → AsksFor (λ text. (host ≡ option_and_then host_of text) × IsMinorIn (option_and_then release_part text) (result_ok version)) (self_command (string_bytes env.cargo)) old new
-own args env version host old new (inl h) = inl (h.0, h.1, h.2.named, minor_in _ h.0 version h.2.tells)
+own args env version host old new (inl h) = inl (h.0, h.1, (h.2.named, minor_in (shown_self args env) h.0 version h.2.tells))
 own args env version host old new (inr h) = inr (
   in_vain (Unit {0}) (self_command (string_bytes env.cargo)) _ old new h.0 h.2.memory h.1 tt,
   unnamed (Unit {0}) (self_command (string_bytes env.cargo)) _ old new h.0 h.1 tt,
-  h.2.unnamed,
-  subst (IsMinorIn None) (sym (unknown version _ h.2.warns)) (λ v told. told),
+  (h.2.unnamed, subst (IsMinorIn None) (sym (unknown version (unknown_version (fault_text h.0)) h.2.warns)) (λ v told. told)),
 )
 
 -- a question that ended asked at most for one thing more
@@ -95,7 +94,7 @@ from_metadata tells args env held before now q m old mid new (Ok l) e h =
 from_metadata tells args env held before now q m old mid new (Err f) e (inl h) =
     at_manifests m (answered tells args env held q m old new (subst (λ (calls : List Call). QuestionEndsWith tells q held old calls (Ok m)) (sym h.0) e))
 from_metadata tells args env held before now q m old mid new (Err f) e (inr h) =
-    at_location m mid h.0 (answered tells args env held q m old mid e) h.1 (located _ _ mid new f h.2)
+    at_location m mid h.0 (answered tells args env held q m old mid e) h.1 (located (locate args env) (string_bytes env.current_dir) mid new f h.2)
 
 -- the questions after that for the version
 loads : (tells : Type 0) (args : Args) (env : Env) (held : Contents) (before now : ℕ) (q : Question) (old mid new : List Call) (r : Result Loaded ContextFault) (asked : Result Metadata AskFault)

@@ -6,7 +6,7 @@ use Rattle.hack_process.specs.Calls.{IsSuccess, MayAdd}
 use Rattle.hack_process.specs.CommandTexts.{text_of}
 use Rattle.hack_process.specs.Commands.{asked_of, command_of}
 use Rattle.hack_process.specs.Faults.{without_line_ends}
-use Rattle.hack_run.proofs.CallLemmas.{asks_in_vain, read_may}
+use Rattle.hack_run.proofs.CallLemmas.{asks_in_vain, asks_rustup, read_may}
 use Rattle.hack_run.proofs.ask.rustup_for.Goals as goal
 
 -- src/ask.rt:25:1
@@ -19,3 +19,8 @@ pub returns-clause-asked : goal.returns-clause-asked
 returns-clause-asked g c =
     asks_in_vain g.C.Caller.tells (wants_rustup (names_of c.args.words.now)) (string_bytes c.args.env.now.rustup) (text_of true c.as_str.result.now (command_of c.in_ok-asked.asked)) (command_of c.in_ok-asked.asked) (g.C.Caller.calls c.args.caller.now) (g.C.Caller.calls c.read.new.caller) c.unknown_rustup.result c.in-Err.fault
     (sym c.if-not-wants_rustup.ensures) c.in_ok-asked.ensures c.in-Err.ensures.err c.unknown_rustup.ensures.unknown c.unknown_rustup.ensures.failed
+
+pub returns-in-Ok-clause-asked : goal.returns-in-Ok-clause-asked
+returns-in-Ok-clause-asked g c =
+    asks_rustup g.C.Caller.tells (wants_rustup (names_of c.args.words.now)) (string_bytes c.args.env.now.rustup) c.as_str-in-Ok.result.now (command_of c.in_ok-asked.asked) (g.C.Caller.calls c.args.caller.now) (g.C.Caller.calls c.read.new.caller) c.rustup_in.result
+    (sym c.if-not-wants_rustup.ensures) c.in_ok-asked.ensures (rw c.as_str-in-Ok.ensures.value c.in-Ok.ensures.ok) c.rustup_in.ensures

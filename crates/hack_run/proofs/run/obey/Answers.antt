@@ -27,13 +27,13 @@ pub returns-in-Print-clause-done : goal.returns-in-Print-clause-done
 returns-in-Print-clause-done g c =
     let first = world_of g.F.Files g.C.Caller g.O.Write c.args.files.now c.args.host.now in
     prints g.C.Caller.tells g.F.Files.tells (c.args.host.now.term.now.error ≡ false) c.print.result c.args.parsed c.in-Print.text (map note_of c.args.notices.now) c.args.host.now.env.now
-    first (record first { host = record first.host { out = g.O.Write.contents c.print.new.out } }) c.in-Print.is refl refl c.print.ensures.all
+    first (record first { host = record first.host { out = g.O.Write.contents c.print.new.out } }) c.in-Print.is refl refl (rw c.as_str.ensures.value at c.print.ensures.all)
 
 pub returns-in-Print-clause-made : goal.returns-in-Print-clause-made
 returns-in-Print-clause-made g c = λ t.
     let first = world_of g.F.Files g.C.Caller g.O.Write c.args.files.now c.args.host.now in
     prints_made g.F.Files.tells c.args.parsed c.in-Print.text c.args.host.now.env.now (warned_by c.args.parsed (map note_of c.args.notices.now) c.args.host.now.term.now.warn)
-    first (record first { host = record first.host { out = g.O.Write.contents c.print.new.out } }) c.in-Print.is refl c.print.ensures.front
+    first (record first { host = record first.host { out = g.O.Write.contents c.print.new.out } }) c.in-Print.is refl (rw c.as_str.ensures.value at c.print.ensures.front)
 
 pub returns-in-List-clause-done : goal.returns-in-List-clause-done
 returns-in-List-clause-done g c =
