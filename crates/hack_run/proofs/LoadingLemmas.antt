@@ -72,7 +72,7 @@ stops : (q : Question) (stage : Stage) (mid new : List Call) (e : AskFault) → 
 stops q stage mid new ask.Memory h = h
 stops q stage mid new ask.NoHost h = inl h.2
 stops q stage mid new (ask.Process p) h = inr (h.1.0, h.1.1, fault_may (Unit {0}) _ _ mid new p h.1.2 tt)
-stops q stage mid new (ask.Files f) h = elim h.4 [ | inl same ↦ inl same.0 | inr made ↦ made.0 ]
+stops q stage mid new (ask.Files f) h = elim h.4 [ inl same ↦ inl same.0 | inr made ↦ made.0 ]
 stops q stage mid new (ask.Output shown) h = inl h.0
 stops q stage mid new (ask.Field name) h = inl h.0
 
