@@ -14,5 +14,6 @@ pub mod suspects;
 
 pub use hack_base::{notice, paths};
 pub use hack_load::{cargo, context, metadata, process};
+pub use hack_plan::partition;
 pub use hack_session::session;
-pub use hack_words::{cli, fs, lexopt, lists, partition, restore, term, version};
+pub use hack_words::{cli, fs, lexopt, lists, restore, term, version};

@@ -1,8 +1,7 @@
 -- What stays of a manifest's tree without its development dependencies.
-use Rattle.std.specs.Prelude.{◌&&◌, Bool, true, false, not, if◌then◌else◌, List, filter, Option, Some, None}
+use Rattle.std.specs.Prelude.{◌&&◌, Bool, false, not, if◌then◌else◌, List, filter, Option, Some, None}
 use Rattle.std.specs.Option.{option_map_or}
 use Rattle.toml.specs.Data.{Data, table, Members, no_members}
-use Rattle.hack_base.specs.Names.{Name}
 use Rattle.hack_manifest.specs.Manifest.{features_key}
 use Rattle.hack_edits.specs.KeyPaths.{dev_key, target_key}
 use Rattle.hack_edits.specs.Lookup.{has_dev, item_goes}

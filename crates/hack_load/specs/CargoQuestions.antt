@@ -13,13 +13,12 @@ use Rattle.hack_versions.specs.ToolTexts.{TellsRelease, IsAnswerFault, answer_fa
 use Rattle.hack_process.specs.Calls.{Call, MayAdd}
 use Rattle.hack_process.specs.CargoTexts.{host_of, release_part}
 use Rattle.hack_process.specs.CommandTexts.{Command, text_of}
-use Rattle.hack_process.specs.Commands.{asked_of}
+use Rattle.hack_process.specs.Commands.{asked_of, manifest_words, plain_command}
 use Rattle.hack_process.specs.Faults.{IsReadFault, fault_text}
 use Rattle.hack_process.specs.declared.fault.ProcessFault.{ProcessFault}
 use Rattle.hack_process.specs.declared.fault.ProcessFault.TheVariants as process
 use Rattle.hack_metadata.specs.QuestionCalls.{ReadsOutput}
 use Rattle.hack_metadata.specs.Records.{PackageRecord, MetadataRecord}
-use Rattle.hack_metadata.specs.Requests.{command_line, path_words}
 use Rattle.hack_manifest.specs.ManifestResults.{IsManifest, IsRefusal}
 use Rattle.hack_manifest.specs.declared.manifest.Manifest.{Manifest}
 use Rattle.hack_manifest.specs.declared.manifest.ManifestFault.{ManifestFault}
@@ -34,7 +33,7 @@ use Rattle.hack_load.specs.declared.located.Located.{Located}
 
 -- the command that asks cargo for its version
 abbrev pub self_command : Name → Command
-self_command cargo = command_line cargo (codes "-vV" ∷ [])
+self_command cargo = plain_command cargo [] (codes "-vV" ∷ [])
 
 -- the warning that the version can't be determined
 abbrev pub unknown_version : Name → Name
@@ -115,8 +114,8 @@ IsMemberFault tells held m before now e = (e ≡ faults.Memory) ⊎ ((id : ℕ) 
 
 -- the command that asks cargo for the current manifest
 abbrev pub locate : Args → Env → Command
-locate args env = command_line (string_bytes env.cargo)
-    (codes "locate-project" ∷ path_words (optional_text args.manifest_path))
+locate args env = plain_command (string_bytes env.cargo) []
+    (codes "locate-project" ∷ manifest_words (optional_text args.manifest_path))
 
 -- asking cargo for the current manifest failed; or memory was refused
 abbrev pub FailsLocate : Type 0 → Command → Name → List Call → List Call → ContextFault → Type 0

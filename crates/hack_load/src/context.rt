@@ -6,8 +6,7 @@ ghost use Rattle.std.specs.Prelude.{Contains, Some, IfOk, IfErr, IsTrue, OnOk};
 ghost use Rattle.std.specs.Prelude.{false, not, length, map, option_copied, option_map};
 ghost use Rattle.std.specs.Option.{option_map_or};
 ghost use Rattle.hack_base.specs.Names.{optional_text};
-ghost use Rattle.hack_process.specs.Commands.{command_of};
-ghost use Rattle.hack_metadata.specs.Requests.{command_line};
+ghost use Rattle.hack_process.specs.Commands.{command_of, plain_command};
 ghost use Rattle.hack_metadata.specs.RecordViews.{package_view, place_at};
 ghost use Rattle.hack_metadata.specs.MetadataView.{metadata_view};
 ghost use Rattle.hack_load.specs.Contexts.{IsWholeContext, is_member_or_none, place_among};
@@ -20,7 +19,6 @@ ghost use Rattle.hack_load.specs.ContextOf.{IsLoadCause, IsNodeFault, IsTooOld};
 ghost use Rattle.hack_load.specs.Internal.{IsOfNode};
 ghost use Rattle.hack_load.specs.ContextOf.{warnings_of};
 ghost use Rattle.hack_load.specs.Candidates.{MissesNode};
-ghost use Rattle.hack_load.specs.Features.{IsNodeRefusal};
 ghost use Rattle.hack_load.specs.CargoQuestions.{told_version};
 ghost use Rattle.hack_load.specs.Names.{name_text};
 ghost use Rattle.hack_base.specs.Notes.{note_of};
@@ -168,7 +166,7 @@ impl Context {
     /// Returns the program to run as cargo, as a command without arguments.
     pub fn cargo<'a>(&self, alloc: Global) -> Result<ProcessBuilder<'a>, AllocError>
         ensures { IfOk result (λ builder.
-            command_of builder ≡ command_line (context_view self.now).cargo []) }
+            command_of builder ≡ plain_command (context_view self.now).cargo [] []) }
     {
         ProcessBuilder::new(alloc, self.cargo.as_str())
     }

@@ -17,7 +17,7 @@ use Rattle.hack_files.specs.declared.fs.FsFault.TheVariants as fs
 use Rattle.hack_files.proofs.FilesLemmas.{makes_more}
 use Rattle.hack_process.specs.Calls.{Asked, Call, MayAdd}
 use Rattle.hack_process.specs.CommandTexts.{Command, text_of}
-use Rattle.hack_process.specs.Commands.{asked_of}
+use Rattle.hack_process.specs.Commands.{asked_of, plain_command}
 use Rattle.hack_process.specs.Faults.{IsFault, IsReadFault}
 use Rattle.hack_process.specs.declared.fault.ProcessFault.{ProcessFault}
 use Rattle.hack_process.specs.declared.fault.ProcessFault.TheVariants as p
@@ -27,7 +27,7 @@ use Rattle.hack_metadata.specs.Fields.{object_in_text}
 use Rattle.hack_base.specs.FieldReadings.{FieldReading}
 use Rattle.hack_metadata.specs.FileFaults.{IsUnread, IsUnwritten}
 use Rattle.hack_metadata.specs.MetadataReading.{read_metadata}
-use Rattle.hack_metadata.specs.Requests.{Question, by_stable, command_line, first_command}
+use Rattle.hack_metadata.specs.Requests.{Question, by_stable, first_command}
 use Rattle.hack_metadata.specs.FilesAfterAsking.{LeftBy, LeavesFiles, Spoilt, Whole}
 use Rattle.hack_metadata.specs.Internal.{FailsOver, IsFileFault, IsNoFileFault, IsAskFaultOfFile, KeepsOneMore, PutsHeld}
 use Rattle.hack_metadata.specs.MetadataView.{metadata_view}
@@ -263,7 +263,7 @@ module _ (tells whole : Type 0) (q : Question) (held later : Contents) (before n
   pub cargo-ends : (mid : List Call) (made : List Change) (r : Result Metadata AskFault) → LeadsToStage tells q held start to_cargo mid made → (whole → Makes made before now held later)
       → AsksCargo q mid new r → EndsSo tells q held start new (WroteWhereKnown whole tells before now held later) r
   cargo-ends mid made r way wrote (inl h) = subst (EndsSo tells q held start new (WroteWhereKnown whole tells before now held later)) (sym h.1) (to_cargo, mid, made, way, h.2, wrote)
-  cargo-ends mid made r way wrote (inr h) = counts-ends (command_line q.cargo h.0) h.1 q.cargo_version made r (tells_older h.0 h.1 h.2 way h.3) wrote h.4
+  cargo-ends mid made r way wrote (inr h) = counts-ends (plain_command q.cargo [] h.0) h.1 q.cargo_version made r (tells_older h.0 h.1 h.2 way h.3) wrote h.4
 
   -- stable's cargo failed
   pub fallen-ends : (mid old : List Call) (minor : ℕ) (text : Name) (words : List Name) (r : Result Metadata AskFault) → q.full ≡ Some words → LeadsToStage tells q held start (locked minor text) mid [] → FailsToRead (by_stable q words) mid old

@@ -1,5 +1,5 @@
 -- What a field of a JSON object holds, or its name, where it is missing or has the wrong type.
-use Rattle.std.specs.Prelude.{Bool, List, [], ◌∷◌, Option, Some, None, Ok, option_map, option_and_then}
+use Rattle.std.specs.Prelude.{Bool, List, [], ◌∷◌, Option, Ok, option_map, option_and_then}
 use Rattle.std.specs.Bool.{then_some}
 use Rattle.std.specs.Option.{is_none, ok_or, option_transpose}
 use Rattle.serde_json.specs.Data.{Data, Items, no_items, item, Members}

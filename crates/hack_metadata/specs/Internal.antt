@@ -70,10 +70,6 @@ TakesOptional ds first left = MatchOption first ((optional_in (map dependency_vi
 abbrev pub place_in : BTreeMap (String Global) PackageId → Name → Option ℕ
 place_in ids id = option_map place_at (get_by_text ids id)
 
--- the ids of packages, in order
-abbrev pub ids_in : List Package → List Name
-ids_in packages = map (λ p. string_bytes p.id) packages
-
 -- two parts of a text
 abbrev pub pair_view : Bor Name × Bor Name → Name × Name
 pair_view parts = (parts.0.now, parts.1.now)

@@ -8,7 +8,8 @@ use Rattle.hack_process.specs.declared.fault.ProcessFault.{ProcessFault}
 use Rattle.hack_metadata.specs.Fields.{object_in_text}
 use Rattle.hack_base.specs.FieldReadings.{FieldReading}
 use Rattle.hack_metadata.specs.MetadataReading.{read_metadata}
-use Rattle.hack_metadata.specs.Requests.{Question, command_line, first_command}
+use Rattle.hack_metadata.specs.Requests.{Question, first_command}
+use Rattle.hack_process.specs.Commands.{plain_command}
 use Rattle.hack_metadata.specs.MetadataView.{metadata_view}
 use Rattle.hack_metadata.specs.declared.metadata.Metadata.{Metadata}
 use Rattle.hack_metadata.specs.declared.ask.fault.AskFault.{AskFault}
@@ -23,7 +24,7 @@ UsesAnswer q c text minor now (Err e) = StopsQuestion q (taken c text minor) now
 -- the full request was made to cargo, and its answer is used; or an error ended the question
 abbrev pub AsksCargo : Question → List Call → List Call → Result Metadata AskFault → Type 0
 AsksCargo q old new r = ((e : AskFault) × (r ≡ Err e) × StopsQuestion q to_cargo old new e)
-    ⊎ ((words : List Name) × (text : Name) × (q.full ≡ Some words) × ReadsOutput (command_line q.cargo words) text old new × UsesAnswer q (command_line q.cargo words) text q.cargo_version new r)
+    ⊎ ((words : List Name) × (text : Name) × (q.full ≡ Some words) × ReadsOutput (plain_command q.cargo [] words) text old new × UsesAnswer q (plain_command q.cargo [] words) text q.cargo_version new r)
 
 -- cargo's first answer, this text, is used; or the full request, where dependencies are wanted
 abbrev pub FallsBack : Question → Name → List Call → List Call → Result Metadata AskFault → Type 0

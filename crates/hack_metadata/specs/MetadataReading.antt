@@ -1,7 +1,7 @@
 -- What is read from the data of `cargo metadata`: the records, or the first field that is missing
 -- or has the wrong type, in this order of fields. `minor` is the minor version of the cargo that
 -- wrote the data: some fields came with a later one.
-use Rattle.std.specs.Prelude.{ℕ, ◌+◌, ◌==◌, Bool, true, false, not, List, [], ◌∷◌, Option, Some, None, Ok, codes, filter, fold, map, nat_le, option_map, option_and_then, if◌then◌else◌}
+use Rattle.std.specs.Prelude.{ℕ, ◌==◌, Bool, true, false, not, List, [], ◌∷◌, Option, Some, None, Ok, codes, filter, fold, nat_le, option_map, option_and_then, if◌then◌else◌}
 use Rattle.std.specs.List.{enumerate_from}
 use Rattle.std.specs.Option.{ok_or, option_map_or}
 use Rattle.std.specs.Ordering.{nat_cmp}

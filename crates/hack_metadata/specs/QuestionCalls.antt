@@ -11,13 +11,13 @@ use Rattle.hack_versions.specs.ToolTexts.{TellsRelease, IsAnswerFault}
 use Rattle.hack_process.specs.Calls.{Call, MayAdd, IsSuccess}
 use Rattle.hack_process.specs.CargoTexts.{release_part}
 use Rattle.hack_process.specs.CommandTexts.{Command, text_of}
-use Rattle.hack_process.specs.Commands.{asked_of}
+use Rattle.hack_process.specs.Commands.{asked_of, plain_command}
 use Rattle.hack_process.specs.Faults.{GotAnswer, IsReadFault, without_line_ends}
 use Rattle.hack_base.specs.PathTexts.{join_of}
 use Rattle.hack_metadata.specs.Fields.{object_in_text, string_in}
 use Rattle.hack_base.specs.FieldReadings.{FieldReading}
 use Rattle.hack_metadata.specs.MetadataReading.{read_metadata}
-use Rattle.hack_metadata.specs.Requests.{Question, command_line, by_stable, version_command, first_command, lock_command}
+use Rattle.hack_metadata.specs.Requests.{Question, by_stable, version_command, first_command, lock_command}
 use Rattle.hack_metadata.specs.MetadataView.{metadata_view}
 use Rattle.hack_metadata.specs.declared.metadata.Metadata.{Metadata}
 use Rattle.hack_metadata.specs.declared.ask.fault.AskFault.{AskFault}
@@ -97,13 +97,13 @@ module _ (tells : Type 0) (q : Question) (held : Contents) (old : List Call) whe
         → LeadsToStage (taken (first_command q) text q.cargo_version) new (put ∷ [])
     asks_again : {mid new : List Call} {minor : ℕ} {text : Name} {put : Change} (words : List Name) → q.full ≡ Some words → LeadsToStage (locked minor text) mid [] → FailsToRead (by_stable q words) mid new → PutsBack tells held text put → q.deps ≡ true
         → LeadsToStage to_cargo new (put ∷ [])
-    tells_older : {mid new : List Call} {made : List Change} (words : List Name) (text : Name) → q.full ≡ Some words → LeadsToStage to_cargo mid made → ReadsOutput (command_line q.cargo words) text mid new
-        → LeadsToStage (taken (command_line q.cargo words) text q.cargo_version) new made
+    tells_older : {mid new : List Call} {made : List Change} (words : List Name) (text : Name) → q.full ≡ Some words → LeadsToStage to_cargo mid made → ReadsOutput (plain_command q.cargo [] words) text mid new
+        → LeadsToStage (taken (plain_command q.cargo [] words) text q.cargo_version) new made
 
 -- the command that may be called at a stage
 abbrev pub IsNextCommand : Question → Stage → Command → Type 0
 IsNextCommand q begun c = c ≡ version_command q.rustup
-IsNextCommand q to_cargo c = (words : List Name) × (q.full ≡ Some words) × (c ≡ command_line q.cargo words)
+IsNextCommand q to_cargo c = (words : List Name) × (q.full ≡ Some words) × (c ≡ plain_command q.cargo [] words)
 IsNextCommand q (newer minor) c = c ≡ first_command q
 IsNextCommand q (first minor text) c = c ≡ lock_command q
 IsNextCommand q (locked minor text) c = (words : List Name) × (q.full ≡ Some words) × (c ≡ by_stable q words)

@@ -1,19 +1,10 @@
 -- The commands that ask cargo for the metadata of a workspace, argument by argument.
-use Rattle.std.specs.Prelude.{ℕ, Bool, true, false, List, [], ◌∷◌, ◌++◌, Option, Some, None, codes, map, option_map, string_bytes}
-use Rattle.std.specs.Option.{option_map_or}
+use Rattle.std.specs.Prelude.{ℕ, Bool, true, false, List, [], ◌∷◌, ◌++◌, Option, Some, codes, map, option_map, string_bytes}
 use Rattle.std.specs.List.{flat_map}
 use Rattle.hack_base.specs.Names.{Name, optional_text}
 use Rattle.hack_process.specs.CommandTexts.{Command}
 use Rattle.hack_words.specs.declared.cli.args.Args.{Args}
 use Rattle.hack_words.specs.declared.cli.env.Env.{Env}
-
--- a program with these arguments, and none of a user
-abbrev pub command_line : Name → List Name → Command
-command_line program words = record { program = program; strip_program_path = false; leading = []; passed = []; own = words; features = None; trailing = [] }
-
--- `--manifest-path` and its value, where it is given
-abbrev pub path_words : Option Name → List Name
-path_words o = option_map_or (λ path. codes "--manifest-path" ∷ path ∷ []) o []
 
 -- `--filter-platform` and its value, for each platform
 abbrev pub platform_words : List Name → List Name
@@ -28,7 +19,7 @@ scope_words true targets host = Some (platform_words targets)
 
 -- the arguments of the full request, with these for the dependencies
 abbrev pub full_with : Option Name → List Name → List Name
-full_with path scope = codes "metadata" ∷ codes "--format-version=1" ∷ (path_words path ++ scope)
+full_with path scope = codes "metadata" ∷ codes "--format-version=1" ∷ (manifest_words path ++ scope)
 
 -- the arguments of the full request; none where the host is wanted, and not known
 abbrev pub full_of : Args → Option Name → Option (List Name)
@@ -62,16 +53,16 @@ question args env minor host = record {
 
 -- stable's cargo with these arguments
 abbrev pub by_stable : Question → List Name → Command
-by_stable q words = command_line q.rustup (codes "run" ∷ codes "stable" ∷ codes "cargo" ∷ words)
+by_stable q words = plain_command q.rustup [] (codes "run" ∷ codes "stable" ∷ codes "cargo" ∷ words)
 
 -- the command that asks stable's cargo for its version
 abbrev pub version_command : Name → Command
-version_command rustup = command_line rustup (codes "run" ∷ codes "stable" ∷ codes "cargo" ∷ codes "-vV" ∷ [])
+version_command rustup = plain_command rustup [] (codes "run" ∷ codes "stable" ∷ codes "cargo" ∷ codes "-vV" ∷ [])
 
 -- the first request to cargo, without dependencies
 abbrev pub first_command : Question → Command
-first_command q = command_line q.cargo (codes "metadata" ∷ codes "--format-version=1" ∷ codes "--no-deps" ∷ path_words q.path)
+first_command q = plain_command q.cargo [] (codes "metadata" ∷ codes "--format-version=1" ∷ codes "--no-deps" ∷ manifest_words q.path)
 
 -- the command that makes the lockfile
 abbrev pub lock_command : Question → Command
-lock_command q = command_line q.cargo (codes "generate-lockfile" ∷ path_words q.path)
+lock_command q = plain_command q.cargo [] (codes "generate-lockfile" ∷ manifest_words q.path)

@@ -258,7 +258,7 @@ impl<'a> VersionParts<'a> {
         ensures { result ≡ pointwise agrees_if_given
             (version_view self.now) (version_view full.now) }
     {
-        agrees_if_given(Some(self.major), Some(full.major))
+        self.major == full.major
             && agrees_if_given(self.minor, full.minor)
             && agrees_if_given(self.patch, full.patch)
             && agrees_if_given(self.pre, full.pre)

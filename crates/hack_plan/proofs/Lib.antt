@@ -11,3 +11,6 @@ mod CommandJoins
 mod Ready
 mod Shown
 mod Within
+pub mod PieceLemmas
+mod PieceReading
+mod PieceTexts

@@ -14,7 +14,8 @@ use Rattle.hack_plan.specs.declared.runs.Run.TheVariants as code
 use Rattle.hack_versions.specs.declared.version.Version.{Version}
 use Rattle.hack_process.specs.CommandTexts.{spaced_word, each_spaced, is_manifest_path, listed_of, shown_features, shown_trailing, shown_words, with_names}
 use Rattle.hack_process.proofs.CommandLemmas.{shown-plain}
-use Rattle.hack_plan.specs.Commands.{call_command, rustup_run_words, manifest_words, candidate_names_at, program_of, run_words, target_pair}
+use Rattle.hack_plan.specs.Commands.{call_command, rustup_run_words, candidate_names_at, program_of, run_words, target_pair}
+use Rattle.hack_process.specs.Commands.{manifest_words}
 use Rattle.hack_plan.specs.View.{CallView}
 use Rattle.hack_plan.specs.Lines.{shown_manifest, shown_target}
 use Rattle.hack_plan.specs.Internal.{folder_behind}

@@ -1,11 +1,11 @@
 -- The commands of a plan.
-use Rattle.std.specs.Prelude.{◌≡◌, ℕ, Bool, false, List, [], ◌∷◌, ◌++◌, Option, Some, None, take, drop, length, codes, decimal, slice_get, nat_lt, ◌&&◌, if◌then◌else◌}
+use Rattle.std.specs.Prelude.{◌≡◌, ℕ, false, List, [], ◌∷◌, ◌++◌, Option, Some, None, take, drop, length, codes, decimal, slice_get, if◌then◌else◌}
 use Rattle.std.specs.List.{flat_map, slice_index_or}
 use Rattle.std.specs.Option.{option_and_then, option_map, option_map_or}
 use Rattle.hack_base.specs.Names.{Name}
 use Rattle.hack_versions.specs.declared.version.Version.{Version}
 use Rattle.hack_process.specs.CommandTexts.{Command, with_names}
-use Rattle.hack_process.specs.Commands.{command_of}
+use Rattle.hack_process.specs.Commands.{command_of, manifest_words, plain_command}
 use Rattle.hack_process.specs.declared.process.ProcessBuilder.{ProcessBuilder}
 use Rattle.hack_plan.specs.Runs.{PackageRun, Plain, AllFeatures, Set}
 use Rattle.hack_plan.specs.Inputs.{is_split}
@@ -38,10 +38,6 @@ slot_target c version slot = if is_split (length c.targets) c.cargo_minor versio
 -- a target after its option
 abbrev pub target_pair : List ℕ → List (List ℕ)
 target_pair target = codes "--target" ∷ target ∷ []
-
--- a manifest's path after its option
-abbrev pub manifest_words : Option (List ℕ) → List (List ℕ)
-manifest_words given = option_map_or (λ path. codes "--manifest-path" ∷ path ∷ []) given []
 
 -- the argument that says which features a run has
 abbrev pub run_words : PackageRun → List (List ℕ)
@@ -86,10 +82,6 @@ name_in chosen = option_map (λ k. k.name) chosen
 -- the command of a place
 abbrev pub command_of_entry : PlanView → PlanEntry → Command
 command_of_entry plan q = ranked_command plan.call q.version q.slot (chosen_package_at plan.packages q.package) q.rank
-
--- a command of cargo itself, without arguments that are passed on
-abbrev pub plain_command : List ℕ → List (List ℕ) → List (List ℕ) → Command
-plain_command program leading own = record { program = program; strip_program_path = false; leading = leading; passed = []; own = own; features = None; trailing = [] }
 
 -- the package whose artifacts are removed, if it is a single one
 abbrev pub cleaned_words : Option PackageView → List (List ℕ)

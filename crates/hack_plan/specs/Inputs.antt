@@ -1,5 +1,5 @@
 -- The input of a plan, and the versions that packages use.
-use Rattle.std.specs.Prelude.{ℕ, ◌≡◌, ◌≢◌, ◌<◌, ◌++◌, ◌⊎◌, List, [], length, map, Contains, Bool, Option, Some, None, true, false, nat_lt, ◌&&◌, if◌then◌else◌}
+use Rattle.std.specs.Prelude.{ℕ, ◌≡◌, ◌≢◌, ◌<◌, ◌++◌, ◌⊎◌, List, [], length, map, Bool, Option, Some, None, true, false, nat_lt, ◌&&◌, if◌then◌else◌}
 use Rattle.std.specs.List.{Any}
 use Rattle.std.specs.Option.{option_map_or}
 use Rattle.hack_versions.specs.declared.version.Version.{Version}
@@ -12,6 +12,7 @@ use Rattle.hack_versions.specs.RangeSteps.{AreStepsOf, IsRangeFault, range_notes
 use Rattle.hack_versions.specs.VersionUses.{own_of, UsesAt, AreVersionGroups, IsGroupFault, AreSkipNotes}
 use Rattle.hack_base.specs.Notes.{Note}
 use Rattle.hack_plan.specs.declared.versions.PlanInput.{PlanInput}
+use Rattle.hack_plan.specs.declared.versions.Versions.{Versions}
 
 -- the packages' own versions as their manifests give them
 abbrev pub owns_of : PlanInput → List (Option Version)
@@ -51,6 +52,10 @@ AreVersions None s stable groups = groups ≡ []
 AreVersions (Some range) s stable groups = (steps : List Version)
     × AreStepsOf range s.step (owns_of s) stable steps
     × AreVersionGroups (UsesAt range steps s.packages.items) groups
+
+-- the versions that the packages of the input use
+abbrev pub AreVersionsOf : PlanInput → Versions → Type 0
+AreVersionsOf s versions = AreVersions s.range s versions.stable versions.groups.items
 
 -- each package has a number of runs, where these matter
 abbrev pub AreCounted : PlanInput → List ℕ → Type 0

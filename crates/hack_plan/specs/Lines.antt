@@ -1,5 +1,5 @@
 -- The line of a run, and what its parts show.
-use Rattle.std.specs.Prelude.{ℕ, List, [], ◌∷◌, ◌++◌, ◌-◌, Option, Some, None, codes, map, option_map, string_bytes}
+use Rattle.std.specs.Prelude.{ℕ, List, [], ◌∷◌, ◌++◌, Option, Some, None, codes, map, option_map, string_bytes}
 use Rattle.std.specs.List.{flat_map}
 use Rattle.hack_base.specs.Names.{Name}
 use Rattle.hack_base.specs.PathTexts.{under_of}
@@ -8,7 +8,8 @@ use Rattle.hack_plan.specs.Runs.{run_of}
 use Rattle.hack_process.specs.CommandTexts.{Command, listed_of}
 use Rattle.hack_plan.specs.declared.line.RunLine.{RunLine}
 use Rattle.hack_plan.specs.View.{call_view}
-use Rattle.hack_plan.specs.Commands.{call_command, manifest_words, run_names, run_words, target_pair, targets_in}
+use Rattle.hack_plan.specs.Commands.{call_command, run_names, run_words, target_pair, targets_in}
+use Rattle.hack_process.specs.Commands.{manifest_words}
 
 -- the arguments of a run's own
 abbrev pub own_in : RunLine → List (List ℕ)

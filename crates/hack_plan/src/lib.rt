@@ -6,6 +6,7 @@
 mod blocks;
 mod commands;
 mod line;
+pub mod partition;
 pub mod parts;
 pub mod places;
 pub mod plan;

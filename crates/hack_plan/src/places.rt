@@ -4,7 +4,7 @@
 ghost use Rattle.std.specs.Prelude.{ℕ, ◌≡◌, ◌<◌, ◌^◌, ◌⊎◌, ◌↔◌, ◌∷◌, [], Some, None};
 ghost use Rattle.std.specs.Prelude.{false, length, All, AllPairs, Contains, OnOk};
 ghost use Rattle.std.specs.Prelude.{IfOk, IfErr, slice_get};
-ghost use Rattle.hack_plan.specs.Inputs.{AreVersions, AreCounted, slots_of};
+ghost use Rattle.hack_plan.specs.Inputs.{AreVersions, AreVersionsOf, AreCounted, slots_of};
 ghost use Rattle.hack_plan.specs.Entries.{ArePlaces, HasTooMany, Lists, IsAdmissible, AreTooMany};
 ghost use Rattle.hack_plan.specs.Entries.{AddsEntries, Overfills};
 ghost use Rattle.hack_plan.specs.Parts.{InVersion};
@@ -88,8 +88,7 @@ impl Places {
         versions: &Versions,
         counts: &[usize],
     ) -> Result<Places, PlacesFault>
-        requires versions { AreVersions input.now.range input.now versions.now.stable
-            versions.now.groups.items }
+        requires versions { AreVersionsOf input.now versions.now }
         requires counted { AreCounted input.now counts.now }
         ensures ok { IfOk result (λ p. ArePlaces input.now counts.now versions.now.stable
             p.entries) }

@@ -258,7 +258,7 @@ impl Plan {
 
 impl Plan {
     ghost use Rattle.std.specs.Prelude.{◌⊎◌, IfErr, []};
-    ghost use Rattle.hack_plan.specs.Inputs.{AreVersions};
+    ghost use Rattle.hack_plan.specs.Inputs.{AreVersionsOf};
     ghost use Rattle.hack_plan.specs.Spans.{AreSpans, versions_of};
     ghost use Rattle.hack_plan.specs.Entries.{ArePlaces, HasTooMany};
     ghost use Rattle.hack_plan.specs.View.{call_view};
@@ -288,8 +288,7 @@ impl Plan {
         input: &PlanInput,
         versions: &Versions,
     ) -> Result<Plan, PlacesFault>
-        requires versions { AreVersions input.now.range input.now versions.now.stable
-            versions.now.groups.items }
+        requires versions { AreVersionsOf input.now versions.now }
         requires packages { length packages.items ≡ length input.now.packages.items }
         ensures call { IfOk result (λ plan. plan.call ≡ call_view words) }
         ensures packages { IfOk result (λ plan. plan.packages

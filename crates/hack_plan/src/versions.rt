@@ -6,7 +6,7 @@ ghost use Rattle.std.specs.Prelude.{Contains, map};
 ghost use Rattle.hack_versions.specs.RangeSteps.{NeedsStable};
 ghost use Rattle.hack_versions.specs.VersionUses.{own_of};
 ghost use Rattle.hack_base.specs.Notes.{note_of};
-ghost use Rattle.hack_plan.specs.Inputs.{HaveTwo, AreVersions, AreNotices};
+ghost use Rattle.hack_plan.specs.Inputs.{HaveTwo, AreVersions, AreVersionsOf, AreNotices};
 ghost use Rattle.hack_plan.specs.Inputs.{IsVersionsFault};
 ghost use Rattle.hack_versions.specs.declared.group.PackageVersion.{PackageVersion as Member};
 
@@ -52,8 +52,7 @@ impl Versions {
         stable: Option<Version>,
     ) -> Result<(Versions, Vec<Notice>), RangeFault>
         requires { IfSome input.now.range (λ range. NeedsStable range → IsSome stable) }
-        ensures ok { IfOk result (λ answer. AreVersions input.now.range input.now
-            answer.0.stable answer.0.groups.items) }
+        ensures ok { IfOk result (λ answer. AreVersionsOf input.now answer.0) }
         ensures stable { IfOk result (λ answer. answer.0.stable ≡ stable) }
         ensures notices { IfOk result (λ answer. AreNotices input.now.range input.now stable
             (map note_of answer.1.items)) }

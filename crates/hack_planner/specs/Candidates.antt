@@ -1,5 +1,5 @@
 -- What a package's sets are made of: its candidates, from its features and what a call asks for.
-use Rattle.std.specs.Prelude.{◌==◌, ◌++◌, ℕ, List, [], ◌∷◌, Bool, false, not, ◌&&◌, ◌||◌, Option, None, Some, filter, map, length, option_map, string_bytes, unwrap_or, if◌then◌else◌}
+use Rattle.std.specs.Prelude.{◌==◌, ◌++◌, List, [], ◌∷◌, Bool, false, not, ◌&&◌, ◌||◌, Option, Some, filter, map, length, option_map, string_bytes, unwrap_or, if◌then◌else◌}
 use Rattle.std.specs.List.{list_any, list_all}
 use Rattle.std.specs.Option.{option_map_or}
 use Rattle.std.specs.Str.{bytes_eq}

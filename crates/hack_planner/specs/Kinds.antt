@@ -1,7 +1,7 @@
 -- Which runs a package has.
 use Rattle.std.specs.Prelude.{◌≡◌, ◌≤◌, ◌==◌, ℕ, List, [], ◌∷◌, Bool, true, false, not, ◌||◌, Option, None, Some, length, Contains}
 use Rattle.std.specs.Bool.{MatchBool}
-use Rattle.std.specs.List.{flat_map, slice_index_or, AllZip}
+use Rattle.std.specs.List.{AllZip}
 use Rattle.std.specs.Option.{option_map_or}
 use Rattle.hack_features.specs.Feature.{groups_of}
 use Rattle.hack_features.specs.Sets.{IsListing, IsSelection, singles}

@@ -6,7 +6,7 @@ ghost use Rattle.std.specs.Prelude.{◌≡◌, ◌⊎◌, All, Contains, IfErr, 
 ghost use Rattle.hack_load.specs.ContextView.{context_view};
 ghost use Rattle.hack_metadata.specs.RecordViews.{place_at};
 ghost use Rattle.hack_planner.specs.ContextMembers.{AreChosen};
-ghost use Rattle.hack_plan.specs.Inputs.{AreVersions};
+ghost use Rattle.hack_plan.specs.Inputs.{AreVersionsOf};
 ghost use Rattle.hack_planner.specs.Calls.{IsInputOf};
 ghost use Rattle.hack_planner.specs.InternalLeastPlaces.{HasAtLeast, HaveAtLeast};
 ghost use Rattle.hack_planner.specs.CallPlan.{IsCause};
@@ -86,8 +86,7 @@ pub(crate) fn refuse_too_many(
     requires members { All (λ id. Contains (context_view cx.now).metadata.workspace_members
         id.index) ids.now }
     requires input { IsInputOf (context_view cx.now) (map place_at ids.now) input.now }
-    requires versions { AreVersions input.now.range input.now versions.now.stable
-        versions.now.groups.items }
+    requires versions { AreVersionsOf input.now versions.now }
     ensures { AreChosen (context_view cx.now) (map place_at ids.now)
         → IfErr result (λ e. (e ≡ PlanFault.Memory)
         ⊎ IsCause (context_view cx.now) versions.now.stable e) }

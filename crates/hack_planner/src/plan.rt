@@ -8,7 +8,7 @@ ghost use Rattle.hack_planner.specs.ContextMembers.{AreChosen, AreChoiceNotes, I
 ghost use Rattle.hack_base.specs.Notes.{note_of};
 ghost use Rattle.hack_versions.specs.RangeSteps.{NeedsStable};
 ghost use Rattle.hack_rules.specs.declared.uses.behavior.WorkspaceBehavior.TheVariants.{Cargo};
-ghost use Rattle.hack_plan.specs.Inputs.{AreVersions, AreNotices, IsVersionsFault};
+ghost use Rattle.hack_plan.specs.Inputs.{AreVersionsOf, AreNotices, IsVersionsFault};
 ghost use Rattle.hack_plan.specs.View.{call_view};
 ghost use Rattle.hack_planner.specs.Calls.{IsInputOf, HasBadOwn, call_of};
 ghost use Rattle.hack_planner.specs.CoveredSets.{AreCovered};
@@ -169,8 +169,7 @@ fn versions_of(
     latest: Option<Version>,
 ) -> Result<(Versions, Vec<Notice>), PlanFault>
     requires { IfSome input.now.range (λ range. NeedsStable range → IsSome latest) }
-    ensures ok { IfOk result (λ answer. AreVersions input.now.range input.now
-        answer.0.stable answer.0.groups.items) }
+    ensures ok { IfOk result (λ answer. AreVersionsOf input.now answer.0) }
     ensures stable { IfOk result (λ answer. answer.0.stable ≡ latest) }
     ensures notices { IfOk result (λ answer. AreNotices input.now.range input.now latest
         (map note_of answer.1.items)) }

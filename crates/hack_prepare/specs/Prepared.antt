@@ -1,11 +1,11 @@
 -- What is edited before the runs of a call, and what becomes of it.
-use Rattle.std.specs.Prelude.{◌≡◌, ◌⊎◌, ◌&&◌, ◌||◌, Bool, true, false, not, MatchBool, List, [], ◌∷◌, Some, All, Contains, map}
+use Rattle.std.specs.Prelude.{◌≡◌, ◌⊎◌, ◌&&◌, ◌||◌, Bool, true, false, not, MatchBool, List, Some, All, Contains, map}
 use Rattle.std.specs.List.{filter, list_any}
 use Rattle.std.specs.Str.{bytes_eq}
 use Rattle.hack_base.specs.Names.{Name}
 use Rattle.hack_files.specs.Files.{Contents}
 use Rattle.hack_edits.specs.DevDeps.{IsWithoutDev}
-pub use Rattle.hack_manifest.specs.LineRuns.{has_some}
+use Rattle.hack_manifest.specs.LineRuns.{has_some}
 use Rattle.hack_edits.specs.Members.{in_order}
 use Rattle.hack_edits.specs.PrivateCrates.{IsWithoutPrivate}
 

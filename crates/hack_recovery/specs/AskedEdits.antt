@@ -1,9 +1,8 @@
 -- What a command line asks of manifests.
-use Rattle.std.specs.Prelude.{◌≡◌, ◌||◌, ◌^◌, ◌-◌, Bool, true, false, List, Option, None, if◌then◌else◌}
+use Rattle.std.specs.Prelude.{◌≡◌, ◌||◌, Bool, true, false, List, Option, None, if◌then◌else◌}
 use Rattle.hack_base.specs.Names.{Name, optional_text}
 use Rattle.hack_base.specs.Notes.{Note}
 use Rattle.hack_rules.specs.CliFaults.{Fault}
-use Rattle.hack_versions.specs.declared.rustup.Rustup.{Rustup}
 use Rattle.hack_versions.specs.declared.rustup.Rustup.TheVariants.{Unasked}
 use Rattle.hack_words.specs.ParseAnswers.{AnswersCommandLine as IsAnswer, around_of}
 use Rattle.hack_words.specs.CommandLine.{ComesTo, Faulty}

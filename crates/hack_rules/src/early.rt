@@ -373,46 +373,45 @@ fn check_together(
     check_excluded(lists)
 }
 
-/// What the values of options say that these rules read.
-#[derive(Clone, Copy)]
-struct Said {
-    coloring: Coloring,
-    depth: Option<usize>,
-}
-
-/// Rules on colour, on options that need lists or runs by features, and on the depth.
-fn check_lists(
-    alloc: Global,
-    term_color: Option<&String>,
-    lists: &Lists,
-    uses: &[Use],
-) -> Result<Said, CliFault>
-    requires { AreListsOf (views uses.now) lists.now }
-    ensures rules { Checks result (first_of
-        (early_rules (optional_text_ref term_color.entry) (views uses.now))) }
-    ensures coloring { IfOk result (λ said. said.coloring
-        ≡ coloring_asked (optional_text_ref term_color.entry)
-        (views uses.now)) }
-    ensures depth { IfOk result (λ said.
-        said.depth ≡ from_value Opt.Depth (number_of 64) (views uses.now)) }
-{
-    let coloring = coloring(term_color, uses)?;
-    beside_lists(lists, uses)?;
-    beside_each(lists, uses)?;
-    needs_powerset(Opt::Depth, uses)?;
-    needs_powerset(Opt::GroupFeatures, uses)?;
-    needs_powerset(Opt::MutuallyExclusiveFeatures, uses)?;
-    needs_powerset(Opt::AtLeastOneOf, uses)?;
-    let depth = depth(alloc, uses)?;
-    Ok(Said { coloring, depth })
-}
-
 /// What these rules read while they check.
 #[derive(Drop)]
 pub struct Early {
     pub coloring: Coloring,
     pub depth: Option<usize>,
     pub lists: Lists,
+}
+
+/// Rules on colour, on options that need lists or runs by features, and on the depth. Returns what
+/// they read, with these lists.
+fn check_lists(
+    alloc: Global,
+    term_color: Option<&String>,
+    lists: Lists,
+    uses: &[Use],
+) -> Result<Early, CliFault>
+    requires { AreListsOf (views uses.now) lists }
+    ensures rules { Checks result (first_of
+        (early_rules (optional_text_ref term_color.entry) (views uses.now))) }
+    ensures coloring { IfOk result (λ early. early.coloring
+        ≡ coloring_asked (optional_text_ref term_color.entry)
+        (views uses.now)) }
+    ensures depth { IfOk result (λ early.
+        early.depth ≡ from_value Opt.Depth (number_of 64) (views uses.now)) }
+    ensures lists { IfOk result (λ early. early.lists ≡ lists) }
+{
+    let coloring = coloring(term_color, uses)?;
+    beside_lists(&lists, uses)?;
+    beside_each(&lists, uses)?;
+    needs_powerset(Opt::Depth, uses)?;
+    needs_powerset(Opt::GroupFeatures, uses)?;
+    needs_powerset(Opt::MutuallyExclusiveFeatures, uses)?;
+    needs_powerset(Opt::AtLeastOneOf, uses)?;
+    let depth = depth(alloc, uses)?;
+    Ok(Early {
+        coloring,
+        depth,
+        lists,
+    })
 }
 
 /// Checks the rules before the one on a missing subcommand, and returns what they read.
@@ -435,11 +434,7 @@ pub fn check(
     ensures lists { IfOk result (λ early. AreListsOf (views uses.now) early.lists) }
 {
     let lists = Lists::of(alloc, uses)?;
-    let Said { coloring, depth } = check_lists(alloc, term_color, &lists, uses)?;
-    check_together(behavior, &lists, leading, uses)?;
-    Ok(Early {
-        coloring,
-        depth,
-        lists,
-    })
+    let early = check_lists(alloc, term_color, lists, uses)?;
+    check_together(behavior, &early.lists, leading, uses)?;
+    Ok(early)
 }

@@ -11,9 +11,8 @@ use Rattle.hack_load.specs.ContextOf.{IsContextFrom}
 use Rattle.hack_load.specs.Contexts.{ContextRecord}
 use Rattle.hack_load.specs.declared.answers.Answers.{Answers}
 use Rattle.hack_process.specs.Calls.{Asked, Call, IsSuccess, MayAdd}
-use Rattle.hack_process.specs.Commands.{asked_of}
+use Rattle.hack_process.specs.Commands.{asked_of, plain_command}
 use Rattle.hack_process.specs.Faults.{GotAnswer}
-use Rattle.hack_plan.specs.Commands.{plain_command}
 use Rattle.hack_planner.specs.CallPlan.{IsPerformableOf}
 use Rattle.hack_prepare.specs.Prepared.{IsPrepared}
 use Rattle.hack_prepare.specs.PreparedView.{member_manifests_in, wanted_in}

@@ -6,9 +6,8 @@ use Rattle.hack_metadata.specs.QuestionCalls.{ReadsOutput}
 use Rattle.hack_metadata.specs.Requests.{version_command}
 use Rattle.hack_process.specs.Calls.{Asked, Call, MayAdd}
 use Rattle.hack_process.specs.CargoTexts.{release_part}
-use Rattle.hack_process.specs.Commands.{asked_of}
+use Rattle.hack_process.specs.Commands.{asked_of, plain_command}
 use Rattle.hack_process.specs.CommandTexts.{Command}
-use Rattle.hack_plan.specs.Commands.{plain_command}
 use Rattle.hack_versions.specs.RangeSteps.{NeedsStable}
 use Rattle.hack_versions.specs.ToolTexts.{TellsRelease, rustup_part}
 use Rattle.hack_versions.specs.declared.rustup.Rustup.{Rustup}

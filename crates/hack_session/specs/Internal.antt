@@ -19,10 +19,6 @@ then-nothing a = ap (λ (l : List ℕ). record { out = l; err = a.err ++ [] }) (
 pub prints_as : (P Q : Shown → Type 0) (a b : Streams) → ((s : Shown) → P s → Q s) → Prints P a b → Prints Q a b
 prints_as P Q a b f p = record { shown = p.shown; such = f p.shown p.such; out_written = p.out_written; err_written = p.err_written }
 
--- what a step that was handed out lists
-abbrev pub lines_listed : PlanView → Handed → List ℕ
-lines_listed plan h = step_lines plan h.step
-
 -- a step of the list that failed
 abbrev pub is_unlisted : Handed → Bool
 is_unlisted h = if is_sent_step h.step then false else has_failed h.outcome

@@ -2,7 +2,7 @@
 use Rattle.std.specs.Prelude.{ℕ, ◌==◌, List, [], ◌∷◌, ◌++◌, codes, if◌then◌else◌}
 use Rattle.std.specs.List.{join_by}
 use Rattle.hack_process.specs.CommandTexts.{Command}
-use Rattle.hack_plan.specs.Commands.{plain_command}
+use Rattle.hack_process.specs.Commands.{plain_command}
 
 -- a name without one leading `+`
 abbrev pub toolchain_name : List ℕ → List ℕ

@@ -3,7 +3,7 @@
 ghost use Rattle.std.specs.Prelude.{◌≡◌, All, Bool, Option, length, map};
 ghost use Rattle.hack_session.specs.Handouts.{HandsOut, IsDriven};
 ghost use Rattle.hack_session.specs.Histories.{Course, HasPassed, passed_step};
-ghost use Rattle.hack_term.specs.declared.partition.Partition.{Partition};
+ghost use Rattle.hack_plan.specs.declared.partition.Partition.{Partition};
 
 /// A session that was driven to its end handed out the runs of the chosen piece, in order, each
 /// once, up to one that stopped it; where each step passed, it handed out the whole schedule.

@@ -11,7 +11,7 @@ ghost use Rattle.hack_session.specs.Schedules.{IsSchedule};
 use crate::session::Session;
 use crate::step::{Outcome, Step};
 use hack_plan::plan::Plan;
-use hack_term::partition::Partition;
+use hack_plan::partition::Partition;
 use std::alloc::{AllocError, Global};
 
 /// Performs steps.

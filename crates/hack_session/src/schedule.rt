@@ -12,7 +12,7 @@ use crate::step::Step;
 use hack_plan::parts::PlanVersion;
 use hack_plan::plan::Plan;
 use hack_plan::progress::Progress;
-use hack_term::partition::Partition;
+use hack_plan::partition::Partition;
 
 /// How far the steps of a plan were taken: those of all versions before one, and the first ones of
 /// that version.

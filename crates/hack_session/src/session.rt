@@ -15,7 +15,7 @@ pub use crate::starter::Starter;
 pub use crate::step::{Handed, Outcome, Step};
 pub use hack_plan::parts::Preparation;
 use hack_plan::plan::Plan;
-use hack_term::partition::Partition;
+use hack_plan::partition::Partition;
 use std::alloc::{AllocError, Global};
 use std::marker::Model;
 

@@ -1,8 +1,8 @@
 //! Notices and arguments as texts.
 
 use hack_features::Feature;
+use hack_plan::partition::PartitionKind;
 use hack_words::cli::{Args, WorkspaceBehavior};
-use hack_words::partition::PartitionKind;
 use hack_words::term::{Coloring, LogGroup, Notice, NoticeKind};
 use std::alloc::{AllocError, Global};
 

@@ -1,4 +1,2 @@
 pub mod Groups
 pub mod Lines
-pub mod Partitions
-pub mod Pieces

@@ -1,6 +1,5 @@
-//! Lines for the user, groups of them in a log, and pieces of a plan.
+//! Lines for the user, and groups of them in a log.
 #![tactic(auto)]
 
 mod log_group;
-pub mod partition;
 pub mod term;

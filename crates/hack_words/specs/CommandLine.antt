@@ -63,37 +63,62 @@ ComesFrom around (Cuts behavior cut trailing) outcome = (us : List Use) × (end 
 abbrev pub ComesTo : Around → List (List ℕ) → CommandLineOutcome → Type 0
 ComesTo around words outcome = ComesFrom around (start_of words) outcome
 
--- the notice that unknown features are not ignored everywhere, where they are to be ignored
-abbrev pub unknown_notes : List Use → List Note
-unknown_notes us =
-    note_if (is_given opt.IgnoreUnknownFeatures us && counts opt.IncludeFeatures us)
-    QuietWarn (codes "--ignore-unknown-features for --include-features is not fully implemented"
-    ++ codes " and may not work as intended")
+-- that unknown features are not ignored everywhere
+abbrev pub unknown_words : List ℕ
+unknown_words =
+    codes "--ignore-unknown-features for --include-features is not fully implemented"
+    ++ codes " and may not work as intended"
+
+-- that rustup's version isn't known, for this reason
+abbrev pub rustup_words : List ℕ → List ℕ
+rustup_words why =
+    codes "unable to determine rustup version; assuming latest stable rustup: " ++ why
 
 -- a range rewritten in its new form
 abbrev pub new_form : List ℕ → List ℕ
 new_form text = option_map_or (λ sides. sides.front ++ codes "..=" ++ sides.back) (at_dots text) text
 
--- the text of the notice on a range in the old form
+-- that a range has the old form, with the new one
 abbrev pub old_words : List ℕ → List ℕ
 old_words newer = codes "using `..` for inclusive range is deprecated; consider using `" ++ newer ++ codes "`"
 
 -- the options that edit manifests while commands run
-abbrev pub editing_words : Bool → Bool → List ℕ
-editing_words false no_private = codes "--no-private modifies"
-editing_words true false = codes "--no-dev-deps modifies"
-editing_words true true = codes "--no-dev-deps and --no-private modify"
+abbrev pub editing_options : Bool → Bool → List ℕ
+editing_options false no_private = codes "--no-private modifies"
+editing_options true false = codes "--no-dev-deps modifies"
+editing_options true true = codes "--no-dev-deps and --no-private modify"
 
--- the notices on an accepted command line, in order: on unknown features; where a range is given, on
--- rustup's version if it isn't known, and on the old form; and where commands run on edited manifests
+-- that these options edit manifests while commands run
+abbrev pub editing_words : List ℕ → List ℕ
+editing_words options =
+    options ++ codes " real `Cargo.toml` while cargo-hack is running and restores it when finished"
+
+-- the notice on unknown features, where they are to be ignored and can't be
+abbrev pub unknown_notes : List Use → List Note
+unknown_notes us =
+    note_if (is_given opt.IgnoreUnknownFeatures us && counts opt.IncludeFeatures us)
+    QuietWarn unknown_words
+
+-- the notice on rustup's version, where a range is given and the version isn't known
+abbrev pub rustup_notes : Bool → Option (List ℕ) → List Note
+rustup_notes is_ranged unknown =
+    option_map_or (λ why. note_if is_ranged Warn (rustup_words why)) unknown []
+
+-- the notice on the old form of a range
+abbrev pub old_notes : Bool → Option (List ℕ) → List Note
+old_notes is_old range =
+    option_map_or (λ text. note_if is_old Warn (old_words (new_form text))) range []
+
+-- the notice that commands run on edited manifests
+abbrev pub editing_notes : Bool → Bool → List Note
+editing_notes no_dev_deps no_private =
+    note_if (no_dev_deps || no_private) Info
+    (editing_words (editing_options no_dev_deps no_private))
+
+-- the notices on an accepted command line, in order
 abbrev pub notes_on : Around → List Use → List Note
 notes_on around us =
     unknown_notes us
-    ++ option_map_or (λ why. note_if (has_beside beside.VersionRange us) Warn
-    (codes "unable to determine rustup version; assuming latest stable rustup: " ++ why))
-    around.unknown []
-    ++ option_map_or (λ text. note_if (is_old_asked us) Warn (old_words (new_form text)))
-    (value_given opt.VersionRange us) []
-    ++ note_if (is_given opt.NoDevDeps us || is_given opt.NoPrivate us) Info
-    (editing_words (is_given opt.NoDevDeps us) (is_given opt.NoPrivate us)
-    ++ codes " real `Cargo.toml` while cargo-hack is running and restores it when finished")
+    ++ rustup_notes (has_beside beside.VersionRange us) around.unknown
+    ++ old_notes (is_old_asked us) (value_given opt.VersionRange us)
+    ++ editing_notes (is_given opt.NoDevDeps us) (is_given opt.NoPrivate us)

@@ -1,6 +1,7 @@
 -- What only private functions of the crate promise each other.
-use Rattle.std.specs.Prelude.{◌≡◌, ℕ, List, [], Result, Ok, Err, MatchOption, string_bytes, true, false, not, None, codes, length, nat_lt, if◌then◌else◌}
+use Rattle.std.specs.Prelude.{◌≡◌, ℕ, List, [], Result, Ok, Err, IfSome, MatchOption, string_bytes, true, false, not, None, codes, length, nat_lt, if◌then◌else◌}
 use Rattle.std.specs.List.{filter}
+use Rattle.std.specs.Option.{option_map_or}
 use Rattle.hack_rules.specs.declared.uses.behavior.WorkspaceBehavior.TheVariants.{Cargo, Default}
 use Rattle.hack_words.specs.declared.cli.args.Args.{Args}
 use Rattle.hack_words.specs.declared.cli.args.Read.{Read}
@@ -16,7 +17,6 @@ use Rattle.hack_base.specs.Notes.{Note}
 use Rattle.hack_rules.specs.declared.fault.CliFault.{CliFault}
 use Rattle.hack_rules.specs.declared.fault.CliFault.TheVariants as fault
 use Rattle.hack_words.specs.declared.cli.parse.Checked.{Checked}
-use Rattle.hack_words.specs.declared.cli.parse.Checked.TheVariants as checked
 use Rattle.hack_words.specs.declared.cli.parse.Surroundings.{Surroundings}
 use Rattle.hack_words.specs.declared.cli.parse.Parsed.{Parsed as CodeParsed}
 use Rattle.hack_words.specs.declared.cli.parse.Parsed.TheVariants as code
@@ -53,13 +53,13 @@ around_in around = around_of around.env.now around.rustup.now
 
 -- the rules return the outcome, and what they read
 abbrev pub Judges : Result Checked CliFault → Around → WorkspaceBehavior → List (List ℕ) → List Use → Type 0
-Judges (Ok (checked.List lists)) around behavior trailing us =
-    (outcome_of around behavior trailing us ≡ Listing us) × AreListsOf us lists
-Judges (Ok (checked.Accepted early late)) around behavior trailing us =
-    (outcome_of around behavior trailing us ≡ Parsed behavior trailing us)
-    × (early.coloring ≡ coloring_asked around.term_color us)
-    × (early.depth ≡ from_value opt.Depth (number_of 64) us)
-    × AreListsOf us early.lists × IsLate around.github_actions us late
+Judges (Ok read) around behavior trailing us =
+    (outcome_of around behavior trailing us
+    ≡ option_map_or (λ late. Parsed behavior trailing us) read.late (Listing us))
+    × (read.early.coloring ≡ coloring_asked around.term_color us)
+    × (read.early.depth ≡ from_value opt.Depth (number_of 64) us)
+    × AreListsOf us read.early.lists
+    × IfSome read.late (IsLate around.github_actions us)
 Judges (Err e) around behavior trailing us = MatchOption (fault_of e) (e ≡ fault.Memory) (λ told. outcome_of around behavior trailing us ≡ Faulty told)
 
 -- the answer to uses that are judged, with its notices

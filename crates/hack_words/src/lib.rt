@@ -6,5 +6,5 @@ pub mod cli;
 pub use hack_base::lists;
 pub use hack_files::{fs, restore};
 pub use hack_lexopt as lexopt;
-pub use hack_term::{partition, term};
+pub use hack_term::term;
 pub use hack_versions::{rustup, version};

@@ -8,7 +8,7 @@ use hack_plan::plan::PlannedCommand;
 use hack_plan::progress::Progress;
 use hack_planner::plan::Plan;
 use hack_process::process::ProcessBuilder;
-use hack_term::partition::{Partition, PartitionFault};
+use hack_plan::partition::{Partition, PartitionFault};
 use std::alloc::{AllocError, Global};
 
 fn push_run(

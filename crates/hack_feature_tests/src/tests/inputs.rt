@@ -10,7 +10,7 @@
 //! - `piece 1/3 2 of 4`: whether the piece has the place after the first two of four.
 
 ghost use Rattle.std.specs.Prelude.{IfOk};
-ghost use Rattle.hack_plan.specs.Inputs.{AreVersions};
+ghost use Rattle.hack_plan.specs.Inputs.{AreVersionsOf};
 
 use crate::tests::given::{numbers, value, word_at};
 use crate::tests::shown::told;
@@ -18,7 +18,7 @@ use hack_holds::{Ask, Wrong, hold};
 use hack_plan::places::Places;
 use hack_plan::progress::Progress;
 use hack_plan::versions::{PlanInput, Versions};
-use hack_term::partition::{Partition, PartitionFault};
+use hack_plan::partition::{Partition, PartitionFault};
 use hack_versions::rustup::{PackageVersion, RangeFault};
 use hack_versions::version::{Version, VersionRange};
 use std::alloc::{AllocError, Global};
@@ -57,8 +57,7 @@ fn input_of(alloc: Global, words: &str) -> Result<PlanInput, AllocError> {
 
 /// The versions of an input, where stable is 1.64.
 fn versions_of(alloc: Global, input: &PlanInput) -> Result<Versions, RangeFault>
-    ensures { IfOk result (λ versions. AreVersions input.now.range input.now
-        versions.stable versions.groups.items) }
+    ensures { IfOk result (λ versions. AreVersionsOf input.now versions) }
 {
     let stable = Version {
         major: 1,
@@ -129,8 +128,7 @@ fn with_versions(
     words: &str,
     place: Option<usize>,
 ) -> Result<String, AllocError>
-    requires { AreVersions input.now.range input.now versions.now.stable
-        versions.now.groups.items }
+    requires { AreVersionsOf input.now versions.now }
 {
     let counts = numbers(alloc, value(words, "counts=", "1"))?;
     if counts.len() != input.packages.len() {

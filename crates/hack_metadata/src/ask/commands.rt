@@ -5,9 +5,9 @@ ghost use Rattle.std.specs.Prelude.{◌≡◌, ◌⊎◌, ◌++◌, ◌∷◌, [
 ghost use Rattle.std.specs.Prelude.{codes, map, option_copied, string_bytes, true};
 ghost use Rattle.hack_base.specs.Names.{optional_text};
 ghost use Rattle.hack_process.specs.Calls.{MayAdd};
-ghost use Rattle.hack_process.specs.Commands.{asked_of, command_of};
+ghost use Rattle.hack_process.specs.Commands.{asked_of, command_of, manifest_words, plain_command};
 ghost use Rattle.hack_metadata.specs.QuestionCalls.{MinorOf, TellsStableMinor};
-ghost use Rattle.hack_metadata.specs.Requests.{command_line, full_of, path_words};
+ghost use Rattle.hack_metadata.specs.Requests.{full_of};
 ghost use Rattle.hack_metadata.specs.Requests.{platform_words, scope_words, version_command};
 
 use crate::ask::answers::try_read;
@@ -21,7 +21,7 @@ use std::alloc::{AllocError, Global};
 /// Returns `--manifest-path` and its value, where it is given.
 pub(crate) fn manifest_words(alloc: Global, args: &Args) -> Result<Vec<String>, AllocError>
     ensures { IfOk result (λ words. map string_bytes words.items
-        ≡ path_words (optional_text args.now.manifest_path)) }
+        ≡ manifest_words (optional_text args.now.manifest_path)) }
 {
     let mut words = Vec::new(alloc);
     match &args.manifest_path {
@@ -121,7 +121,7 @@ pub(crate) fn command<'a>(
     front: &[&str],
     rest: &[String],
 ) -> Result<ProcessBuilder<'a>, AllocError>
-    ensures { IfOk result (λ builder. command_of builder ≡ command_line program.now
+    ensures { IfOk result (λ builder. command_of builder ≡ plain_command program.now []
         (map (λ word. word.now) front.now ++ map string_bytes rest.now)) }
 {
     let mut command = ProcessBuilder::new(alloc, program)?;

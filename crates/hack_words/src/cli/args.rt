@@ -26,7 +26,7 @@ use hack_rules::late::Late;
 use hack_rules::listed::Lists;
 use hack_rules::named;
 use hack_rules::uses::{Use, WorkspaceBehavior, count, given, subcommand, value, values};
-use hack_term::partition::Partition;
+use hack_plan::partition::Partition;
 use hack_term::term::{Coloring, LogGroup};
 use hack_versions::rustup::Rustup;
 use hack_versions::version::VersionRange;

@@ -1,11 +1,12 @@
 //! Notices on an accepted command line.
 
-ghost use Rattle.std.specs.Prelude.{◌≡◌, ◌++◌, ◌||◌, [], IfOk, OnOk, true, codes, string_bytes};
-ghost use Rattle.std.specs.Option.{option_map_or};
+ghost use Rattle.std.specs.Prelude.{◌≡◌, ◌++◌, IfOk, OnOk, codes, string_bytes};
 ghost use Rattle.hack_base.specs.Names.{optional_text_ref};
 ghost use Rattle.hack_base.specs.Notes.{AddsNotes};
 ghost use Rattle.hack_base.specs.Notes.{note_if};
-ghost use Rattle.hack_words.specs.CommandLine.{old_words, editing_words};
+ghost use Rattle.hack_words.specs.CommandLine.{editing_notes, editing_words, old_notes, old_words};
+ghost use Rattle.hack_words.specs.CommandLine.{rustup_notes, rustup_words, unknown_words};
+ghost use Rattle.hack_words.specs.CommandLine.{editing_options as options_that_edit};
 ghost use Rattle.hack_words.specs.CommandLine.{new_form as newer_form};
 ghost use Rattle.hack_words.specs.RustupView.{unknown_of};
 
@@ -14,9 +15,7 @@ use hack_versions::rustup::Rustup;
 use std::alloc::{AllocError, Global};
 
 fn unknown_text(alloc: Global) -> Result<String, AllocError>
-    ensures { IfOk result (λ text. string_bytes text
-        ≡ codes "--ignore-unknown-features for --include-features is not fully implemented"
-        ++ codes " and may not work as intended") }
+    ensures { IfOk result (λ text. string_bytes text ≡ unknown_words) }
 {
     String::from_str(
         alloc,
@@ -27,9 +26,7 @@ fn unknown_text(alloc: Global) -> Result<String, AllocError>
 /// Reports that unknown features are not ignored everywhere.
 pub fn tell_unknown(alloc: Global, notices: &mut Vec<Notice>, told: bool) -> Result<(), AllocError>
     ensures { OnOk result (AddsNotes notices.old notices.new
-        (note_if told NoticeKind.QuietWarn
-        (codes "--ignore-unknown-features for --include-features is not fully implemented"
-        ++ codes " and may not work as intended"))) }
+        (note_if told NoticeKind.QuietWarn unknown_words)) }
 {
     if told {
         tell(notices, true, NoticeKind::QuietWarn, unknown_text(alloc)?)?;
@@ -38,8 +35,7 @@ pub fn tell_unknown(alloc: Global, notices: &mut Vec<Notice>, told: bool) -> Res
 }
 
 fn rustup_text(alloc: Global, why: &str) -> Result<String, AllocError>
-    ensures { IfOk result (λ text. string_bytes text
-        ≡ codes "unable to determine rustup version; assuming latest stable rustup: " ++ why.now) }
+    ensures { IfOk result (λ text. string_bytes text ≡ rustup_words why.now) }
 {
     format!(in alloc; "unable to determine rustup version; assuming latest stable rustup: {why}")
 }
@@ -52,9 +48,7 @@ pub fn tell_rustup(
     rustup: &Rustup,
 ) -> Result<(), AllocError>
     ensures { OnOk result (AddsNotes notices.old notices.new
-        (option_map_or (λ why. note_if ranged NoticeKind.Warn
-        (codes "unable to determine rustup version; assuming latest stable rustup: " ++ why))
-        (unknown_of rustup.now) [])) }
+        (rustup_notes ranged (unknown_of rustup.now))) }
 {
     match rustup {
         Rustup::Unknown(why) if ranged => {
@@ -95,8 +89,7 @@ pub fn tell_old(
     range: Option<&String>,
 ) -> Result<(), AllocError>
     ensures { OnOk result (AddsNotes notices.old notices.new
-        (option_map_or (λ text. note_if is_old NoticeKind.Warn (old_words (newer_form text)))
-        (optional_text_ref range.entry) [])) }
+        (old_notes is_old (optional_text_ref range.entry))) }
 {
     match range {
         Some(range) if is_old => {
@@ -111,7 +104,7 @@ pub fn tell_old(
 
 /// The options that edit manifests while commands run.
 fn editing_options(no_dev_deps: bool, no_private: bool) -> &'static str
-    ensures { result.now ≡ editing_words no_dev_deps no_private }
+    ensures { result.now ≡ options_that_edit no_dev_deps no_private }
 {
     if !no_dev_deps {
         "--no-private modifies"
@@ -122,12 +115,11 @@ fn editing_options(no_dev_deps: bool, no_private: bool) -> &'static str
     }
 }
 
-fn edits_text(alloc: Global, flags: &str) -> Result<String, AllocError>
-    ensures { IfOk result (λ text. string_bytes text ≡ flags.now
-        ++ codes " real `Cargo.toml` while cargo-hack is running and restores it when finished") }
+fn edits_text(alloc: Global, options: &str) -> Result<String, AllocError>
+    ensures { IfOk result (λ text. string_bytes text ≡ editing_words options.now) }
 {
     format!(in alloc;
-        "{flags} real `Cargo.toml` while cargo-hack is running and restores it when finished"
+        "{options} real `Cargo.toml` while cargo-hack is running and restores it when finished"
     )
 }
 
@@ -139,8 +131,7 @@ pub fn tell_edits(
     no_private: bool,
 ) -> Result<(), AllocError>
     ensures { OnOk result (AddsNotes notices.old notices.new
-        (note_if (no_dev_deps || no_private) NoticeKind.Info (editing_words no_dev_deps no_private
-        ++ codes " real `Cargo.toml` while cargo-hack is running and restores it when finished"))) }
+        (editing_notes no_dev_deps no_private)) }
 {
     let edits = no_dev_deps || no_private;
     if edits {

@@ -1,13 +1,13 @@
 //! A command line into arguments, or the first error.
 
-ghost use Rattle.std.specs.Prelude.{List, ◌≡◌, ◌++◌, ◌&&◌, ◌||◌, [], IfOk, IfErr, MatchOption, OnOk, map};
-ghost use Rattle.std.specs.Prelude.{codes, string_bytes};
+ghost use Rattle.std.specs.Prelude.{◌≡◌, ◌++◌, ◌&&◌, IfOk, IfErr, MatchOption, OnOk, map};
+ghost use Rattle.std.specs.Prelude.{string_bytes};
 ghost use Rattle.hack_base.specs.Names.{names_of};
 ghost use Rattle.hack_rules.specs.PassedWords.{leading_of};
 ghost use Rattle.hack_rules.specs.Rules.{counts, has_beside};
 ghost use Rattle.hack_rules.specs.Uses.{is_given, views};
 ghost use Rattle.hack_rules.specs.Values.{value_given};
-ghost use Rattle.hack_base.specs.Notes.{note_if, note_of, AddsNotes};
+ghost use Rattle.hack_base.specs.Notes.{note_of, AddsNotes};
 ghost use Rattle.hack_words.specs.ParseAnswers.{IsText};
 ghost use Rattle.hack_words.specs.Internal.{Judges, IsJudged, IsPrinted};
 ghost use Rattle.hack_words.specs.ParseAnswers.{AnswersCommandLine};
@@ -15,9 +15,7 @@ ghost use Rattle.hack_words.specs.ParseAnswers.{Refuses};
 ghost use Rattle.hack_words.specs.Internal.{GivesCuts, around_in};
 ghost use Rattle.hack_rules.specs.AskedFields.{is_old_asked};
 ghost use Rattle.hack_words.specs.CommandLine.{ComesFrom, ComesTo, Faulty, outcome_of};
-ghost use Rattle.hack_words.specs.CommandLine.{editing_words, new_form, old_words};
-ghost use Rattle.hack_base.specs.declared.notice.NoticeKind.TheVariants.{Info, Warn};
-ghost use Rattle.std.specs.Option.{option_map_or};
+ghost use Rattle.hack_words.specs.CommandLine.{editing_notes, old_notes, rustup_notes};
 ghost use Rattle.hack_rules.specs.CliFaults.{fault_of};
 ghost use Rattle.hack_rules.specs.ListsView.{AreListsOf};
 ghost use Rattle.hack_words.specs.StartView.{start_in};
@@ -56,11 +54,11 @@ pub(crate) struct Surroundings<'a> {
     pub(crate) rustup: &'a Rustup,
 }
 
-/// What the rules return.
+/// What the rules read. Where cargo's list is asked for, the later ones read nothing.
 #[derive(Drop)]
-enum Checked {
-    List { lists: Lists },
-    Accepted { early: Early, late: Late },
+struct Checked {
+    early: Early,
+    late: Option<Late>,
 }
 
 fn known_minor(rustup: &Rustup) -> Option<u32>
@@ -93,7 +91,7 @@ fn keep_rules(
     let term_color = env.term_color.as_ref();
     let early = early::check(alloc, *behavior, term_color, passed, uses)?;
     if lists_commands(passed, uses)? {
-        return Ok(Checked::List { lists: early.lists });
+        return Ok(Checked { early, late: None });
     }
     let exclusive = early.lists.mutually_exclusive_features.as_slice();
     let late = late::check(
@@ -103,7 +101,10 @@ fn keep_rules(
         exclusive,
         uses,
     )?;
-    Ok(Checked::Accepted { early, late })
+    Ok(Checked {
+        early,
+        late: Some(late),
+    })
 }
 
 /// Adds the remaining notices on an accepted command line.
@@ -116,16 +117,10 @@ fn tell(
 ) -> Result<(), AllocError>
     requires { is_old ≡ is_old_asked (views uses.now) }
     ensures { OnOk result (AddsNotes notices.old notices.new
-        (option_map_or (λ why. note_if (has_beside Beside.VersionRange (views uses.now)) Warn
-        (codes "unable to determine rustup version; assuming latest stable rustup: " ++ why))
-        (unknown_of rustup.now) []
-        ++ option_map_or (λ text.
-        note_if (is_old_asked (views uses.now)) Warn (old_words (new_form text)))
-        (value_given Opt.VersionRange (views uses.now)) []
-        ++ note_if (is_given Opt.NoDevDeps (views uses.now) || is_given Opt.NoPrivate (views uses.now))
-        Info (editing_words (is_given Opt.NoDevDeps (views uses.now))
-        (is_given Opt.NoPrivate (views uses.now))
-        ++ codes " real `Cargo.toml` while cargo-hack is running and restores it when finished"))) }
+        (rustup_notes (has_beside Beside.VersionRange (views uses.now)) (unknown_of rustup.now)
+        ++ old_notes (is_old_asked (views uses.now)) (value_given Opt.VersionRange (views uses.now))
+        ++ editing_notes (is_given Opt.NoDevDeps (views uses.now))
+        (is_given Opt.NoPrivate (views uses.now)))) }
 {
     tell_rustup(alloc, notices, is_ranged(uses), rustup)?;
     tell_old(alloc, notices, is_old, value(Opt::VersionRange, uses))?;
@@ -163,15 +158,12 @@ fn judge_uses(
         passed: leading(alloc, behavior, uses)?,
         trailing,
     };
+    let Checked { early, late } = keep_rules(alloc, around, &call, uses)?;
     let mut notices = Vec::new(alloc);
-    let (early, late) = match keep_rules(alloc, around, &call, uses)? {
-        Checked::List { lists } => {
-            tell_unknown(alloc, &mut notices, ignores_in_vain(&lists, uses))?;
-            return Ok((Parsed::List, notices));
-        }
-        Checked::Accepted { early, late } => (early, late),
-    };
     tell_unknown(alloc, &mut notices, ignores_in_vain(&early.lists, uses))?;
+    let Some(late) = late else {
+        return Ok((Parsed::List, notices));
+    };
     tell(
         alloc,
         &mut notices,

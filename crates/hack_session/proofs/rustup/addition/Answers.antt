@@ -1,7 +1,7 @@
 use Rattle.std.proofs.Common.{ℕ, List, [], ◌∷◌, ◌++◌, ap, ◌∙◌}
 use Rattle.std.specs.Prelude.{codes}
 use Rattle.hack_process.specs.CommandTexts.{Command}
-use Rattle.hack_plan.specs.Commands.{plain_command}
+use Rattle.hack_process.specs.Commands.{plain_command}
 use Rattle.hack_session.proofs.ToolchainLemmas.{joined_targets}
 use Rattle.hack_session.proofs.rustup.addition.Goals as goal
 

@@ -3,7 +3,8 @@ use Rattle.std.specs.Fmt.{HasWritten}
 use Rattle.std.specs.List.{flat_map}
 use Rattle.hack_plan.specs.Runs.{run_of}
 use Rattle.hack_process.specs.CommandTexts.{each_spaced, shown_words}
-use Rattle.hack_plan.specs.Commands.{manifest_words, run_words, target_pair}
+use Rattle.hack_plan.specs.Commands.{run_words, target_pair}
+use Rattle.hack_process.specs.Commands.{manifest_words}
 use Rattle.hack_plan.specs.Lines.{shown_manifest, shown_target}
 use Rattle.hack_plan.proofs.Shown.{own-shown}
 use Rattle.hack_plan.proofs.line.OwnDisplay.fmt.Goals as goal

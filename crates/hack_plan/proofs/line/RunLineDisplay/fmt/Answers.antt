@@ -5,7 +5,8 @@ use Rattle.hack_base.specs.PathTexts.{stem_of}
 use Rattle.hack_features.specs.Feature.{groups_of}
 use Rattle.hack_process.specs.CommandTexts.{each_spaced, shown_features, shown_trailing, shown_words, with_names}
 use Rattle.hack_plan.specs.View.{call_view}
-use Rattle.hack_plan.specs.Commands.{manifest_words, target_pair}
+use Rattle.hack_plan.specs.Commands.{target_pair}
+use Rattle.hack_process.specs.Commands.{manifest_words}
 use Rattle.hack_plan.specs.Lines.{names_in, own_in}
 use Rattle.hack_plan.proofs.Shown.{line-joined, run-same}
 use Rattle.hack_plan.proofs.line.RunLineDisplay.fmt.Goals as goal

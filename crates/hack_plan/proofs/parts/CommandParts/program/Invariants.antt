@@ -1,7 +1,7 @@
 use Rattle.std.proofs.Common.{◌≡◌, [], map, string_bytes, take}
-use Rattle.hack_process.specs.Commands.{command_of}
+use Rattle.hack_process.specs.Commands.{command_of, plain_command}
 use Rattle.hack_plan.specs.View.{call_view}
-use Rattle.hack_plan.specs.Commands.{plain_command, program_of}
+use Rattle.hack_plan.specs.Commands.{program_of}
 use Rattle.hack_plan.proofs.parts.CommandParts.program.Given as goal
 
 abbrev pub invariant-loop-word : goal.invariant-loop-word

@@ -37,9 +37,13 @@ returns-then-branch c =
     let early = first_of (first_of (early_rules around.term_color us) ∷ first_of (together_rules behavior us) ∷ []) in
     let after = first_of (rules_after around.rustup (groups_given opt.MutuallyExclusiveFeatures us) us) in
     let kept : early ≡ None = search rules in
-    let asked = c.in_ok-lists_commands.ensures.asked behavior (search rules) in (
+    let asked = c.in_ok-lists_commands.ensures.asked behavior (search rules) in
+    let coloring : c.in_ok-early.early.coloring ≡ coloring_asked (optional_text c.args.around.env.now.term_color) us = search rules in (
       listing-outcome early (lists_commands behavior us) (missing_subcommand us) after (Listing us) (Parsed behavior (names_of c.args.call.now.trailing.items) us) kept (sym asked ∙ c.if-branch.true),
+      coloring,
+      c.in_ok-early.ensures.depth,
       c.in_ok-early.ensures.lists,
+      tt,
     )
 
 pub returns-in_err-late : goal.returns-in_err-late

@@ -8,8 +8,8 @@ use Rattle.hack_base.specs.Numbers.{number_of}
 use Rattle.hack_base.specs.Cuts.{front_of, rest_of}
 use Rattle.hack_base.proofs.NumberLemmas.{number-read, number-holds}
 use Rattle.hack_base.proofs.CutLemmas.{front-joined, rest-joined, rest-cut}
-use Rattle.hack_term.specs.Partitions.{IsPiece, IsNoPiece, piece_if, piece_of}
-use Rattle.hack_term.proofs.TextLemmas.{IsNumber-no_slash}
+use Rattle.hack_plan.specs.Partitions.{IsPiece, IsNoPiece, piece_if, piece_of}
+use Rattle.hack_plan.proofs.PieceTexts.{IsNumber-no_slash}
 
 Some-same : {A : Type 0} {a b : A} → Some a ≡ Some b → a ≡ b
 Some-same e = cc

@@ -1,6 +1,6 @@
 use Rattle.std.proofs.Common.{arith}
-use Rattle.hack_term.proofs.PieceLemmas.{joined-all, in_just_one}
-use Rattle.hack_term.proofs.partition.Partition.holds.Goals as goal
+use Rattle.hack_plan.proofs.PieceLemmas.{joined-all, in_just_one}
+use Rattle.hack_plan.proofs.partition.Partition.holds.Goals as goal
 
 pub returns-in-Block-clause-once : goal.returns-in-Block-clause-once
 returns-in-Block-clause-once c = in_just_one c.args.self.now.count c.args.total (omega arith)

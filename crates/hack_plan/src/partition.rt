@@ -2,10 +2,10 @@
 
 ghost use Rattle.std.specs.Prelude.{◌≡◌, ◌<◌, ◌≤◌, ◌↔◌, ◌⊎◌, List, ℕ, IsTrue};
 ghost use Rattle.std.specs.Prelude.{IfOk, IfErr, MatchResult, IfSome, IfNone, Some, None};
-ghost use Rattle.hack_term.specs.declared.partition.PartitionKind.{PartitionKind as Kind};
-ghost use Rattle.hack_term.specs.Pieces.{InPiece, InJustOnePiece, joined_blocks};
-ghost use Rattle.hack_term.specs.Partitions.{IsPiece, IsNoPiece, RefusesPiece, piece_of};
-ghost use Rattle.hack_term.specs.Partitions.{kind_name, RefusesKind, kind_of};
+ghost use Rattle.hack_plan.specs.declared.partition.PartitionKind.{PartitionKind as Kind};
+ghost use Rattle.hack_plan.specs.Pieces.{InPiece, InJustOnePiece, joined_blocks};
+ghost use Rattle.hack_plan.specs.Partitions.{IsPiece, IsNoPiece, RefusesPiece, piece_of};
+ghost use Rattle.hack_plan.specs.Partitions.{kind_name, RefusesKind, kind_of};
 
 use std::alloc::{AllocError, Global};
 use thiserror::Error;
@@ -24,7 +24,7 @@ pub enum PartitionFault {
 }
 
 impl From<AllocError> for PartitionFault {
-    ghost use Rattle.hack_term.specs.declared.partition.PartitionFault.TheVariants.{Memory};
+    ghost use Rattle.hack_plan.specs.declared.partition.PartitionFault.TheVariants.{Memory};
 
     ghost from_gives = { λ _ e. e ≡ Memory };
 

@@ -1,6 +1,6 @@
 use Rattle.std.proofs.Common.{inr}
-use Rattle.hack_term.proofs.ReadingLemmas.{piece-read, piece-unread}
-use Rattle.hack_term.proofs.partition.Partition.parse.Goals as goal
+use Rattle.hack_plan.proofs.PieceReading.{piece-read, piece-unread}
+use Rattle.hack_plan.proofs.partition.Partition.parse.Goals as goal
 
 pub returns-in-Some-clause-value : goal.returns-in-Some-clause-value
 returns-in-Some-clause-value c = piece-read c.args.text.now c.in-Some.partition.piece c.in-Some.partition.count c.in-Some.ensures.piece

@@ -6,7 +6,7 @@ use Rattle.std.proofs.lemmas.Str.Parse.{IsNumeralModel, numerals_by_value, tells
 use Rattle.std.proofs.lemmas.Str.Pattern.{IsSplitOnceResult, split_after, split_parts}
 use Rattle.std.specs.Str.Parse.{AllDigits, digits_value}
 use Rattle.hack_base.specs.Numbers.{IsNumber}
-use Rattle.hack_term.specs.Partitions.{IsPiece, IsNoPiece}
+use Rattle.hack_plan.specs.Partitions.{IsPiece, IsNoPiece}
 
 decimals : IsNumeralModel (AllDigits 10) (digits_value 10)
 decimals = numerals_by_value (AllDigits 10) tells_digits

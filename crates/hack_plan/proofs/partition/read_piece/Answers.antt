@@ -1,8 +1,8 @@
 use Rattle.std.proofs.Common.{arith, sym}
 use Rattle.hack_base.proofs.NumberLemmas.{number-parsed, number-unparsed}
-use Rattle.hack_term.proofs.TextLemmas.{uncut-no_piece, cut-piece, joined-piece}
-use Rattle.hack_term.proofs.partition.read_piece.Goals as goal
-use Rattle.hack_term.proofs.partition.read_piece.Goals.{then-piece-eq0-via-then-piece-eq0, then-piece-eq0-via-else-piece-eq0+then-count-piece}
+use Rattle.hack_plan.proofs.PieceTexts.{uncut-no_piece, cut-piece, joined-piece}
+use Rattle.hack_plan.proofs.partition.read_piece.Goals as goal
+use Rattle.hack_plan.proofs.partition.read_piece.Goals.{then-piece-eq0-via-then-piece-eq0, then-piece-eq0-via-else-piece-eq0+then-count-piece}
 
 pub returns-in_err-piece-clause-none : goal.returns-in_err-piece-clause-none
 returns-in_err-piece-clause-none c = rw c.from_residual.ensures (uncut-no_piece c.args.text.now c.in_err-piece.ensures.cases)

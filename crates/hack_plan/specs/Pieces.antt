@@ -2,8 +2,8 @@
 use Rattle.std.specs.Prelude.{◌≡◌, ℕ, ◌-◌, ◌*◌, ◌%◌, ◌<◌, ◌≤◌, List, length}
 use Rattle.std.specs.Int.{div_ceil}
 use Rattle.std.specs.List.{slice_range, flat_map, range_with_len}
-use Rattle.hack_term.specs.declared.partition.PartitionKind.{PartitionKind}
-use Rattle.hack_term.specs.declared.partition.PartitionKind.TheVariants.{Block, Turn}
+use Rattle.hack_plan.specs.declared.partition.PartitionKind.{PartitionKind}
+use Rattle.hack_plan.specs.declared.partition.PartitionKind.TheVariants.{Block, Turn}
 
 -- piece m of count has the place: under block its slice does, where all slices are as long as the
 -- total divided by count, rounded up; under turn the places are assigned to the pieces in rotation

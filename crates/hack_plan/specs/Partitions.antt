@@ -3,10 +3,10 @@ use Rattle.std.specs.Prelude.{◌≡◌, ℕ, ◌<◌, ◌≤◌, ◌&&◌, not,
 use Rattle.std.specs.Prelude.{Option, Some, None, option_and_then, string_bytes, if◌then◌else◌}
 use Rattle.hack_base.specs.Numbers.{IsNumber, number_of}
 use Rattle.hack_base.specs.Cuts.{front_of, rest_of}
-use Rattle.hack_term.specs.declared.partition.PartitionKind.{PartitionKind}
-use Rattle.hack_term.specs.declared.partition.PartitionKind.TheVariants.{Block, Turn}
-use Rattle.hack_term.specs.declared.partition.PartitionFault.{PartitionFault}
-use Rattle.hack_term.specs.declared.partition.PartitionFault.TheVariants.{Piece, Kind, Memory}
+use Rattle.hack_plan.specs.declared.partition.PartitionKind.{PartitionKind}
+use Rattle.hack_plan.specs.declared.partition.PartitionKind.TheVariants.{Block, Turn}
+use Rattle.hack_plan.specs.declared.partition.PartitionFault.{PartitionFault}
+use Rattle.hack_plan.specs.declared.partition.PartitionFault.TheVariants.{Piece, Kind, Memory}
 
 -- the text is m/n, for piece m of n
 abbrev pub IsPiece : List ℕ → ℕ → ℕ → Type 0

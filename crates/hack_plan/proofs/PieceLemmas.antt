@@ -4,9 +4,9 @@ use Rattle.std.specs.Int.{div_ceil}
 use Rattle.std.specs.List.{slice_range, flat_map, range_with_len}
 use Rattle.std.proofs.lemmas.List.{append-nil, append_assoc, take-append-drop, take-take, drop-take, take_all}
 use Rattle.std.proofs.Math.Nat.{div-eq_of_lt-le, div-mul-le_self, lt-div-mul-add, div-lt_iff_lt-mul}
-use Rattle.hack_term.specs.declared.partition.PartitionKind.{PartitionKind}
-use Rattle.hack_term.specs.declared.partition.PartitionKind.TheVariants.{Block, Turn}
-use Rattle.hack_term.specs.Pieces.{InPiece, InJustOnePiece, joined_blocks}
+use Rattle.hack_plan.specs.declared.partition.PartitionKind.{PartitionKind}
+use Rattle.hack_plan.specs.declared.partition.PartitionKind.TheVariants.{Block, Turn}
+use Rattle.hack_plan.specs.Pieces.{InPiece, InJustOnePiece, joined_blocks}
 
 -- count times a quotient that is rounded up is the total or more
 pub div_ceil-covers : (total count : ℕ) → 0 < count → total ≤ count * div_ceil total count
