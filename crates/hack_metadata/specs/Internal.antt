@@ -1,5 +1,5 @@
 -- What only private functions of the crate promise each other.
-use Rattle.std.specs.Prelude.{◌≡◌, ◌⊎◌, ◌++◌, ◌∷◌, [], ℕ, List, Some, Result, Ok, Err, true, Option, nat_lt, map, MatchOption, option_map, string_bytes, option_copied}
+use Rattle.std.specs.Prelude.{◌≡◌, ◌⊎◌, ◌++◌, ◌∷◌, [], ℕ, List, Some, Result, Ok, Err, true, Option, nat_lt, map, MatchOption, option_map, option_copied}
 use Rattle.hack_base.specs.Names.{Name}
 use Rattle.hack_files.specs.Files.{Change, Contents, KeepsOthers, puts}
 use Rattle.hack_base.specs.Counters.{GrowsBy}
@@ -17,7 +17,6 @@ use Rattle.hack_metadata.specs.Optional.{optional_in}
 use Rattle.std.specs.BTreeMap.{BTreeMap, get_by_text}
 use Rattle.std.specs.declared.string.String.{String}
 use Rattle.std.specs.declared.alloc.Global.{Global}
-use Rattle.hack_metadata.specs.declared.metadata.package.Package.{Package}
 use Rattle.hack_metadata.specs.declared.metadata.resolve.PackageId.{PackageId}
 use Rattle.hack_metadata.specs.PackageSpecs.{Url}
 use Rattle.hack_metadata.specs.declared.cargo.VersionParts.{VersionParts}

@@ -4,6 +4,7 @@ use Rattle.std.specs.Prelude.{◌≤◌, ◌<◌, ◌^◌, nat_lt}
 use Rattle.std.specs.List.{flat_map}
 use Rattle.std.specs.Io.KnownBytes.{Appends, Keeps, append_known}
 use Rattle.std.proofs.KnownBytes.{Appends-kept, Appends-nil, Appends-trans}
+use Rattle.std.proofs.lemmas.List.{append_cancel_left}
 use Rattle.std.proofs.lemmas.List.Elements.{All-cons, All-head, All-tail}
 use Rattle.std.proofs.lemmas.Bool.{lt-ltb}
 use Rattle.hack_process.specs.Calls.{Call}
@@ -28,7 +29,7 @@ use Rattle.hack_planner.proofs.Performing.{performable}
 use Rattle.hack_planner.specs.CallPlan.{IsPlanOf}
 use Rattle.hack_run.specs.CallTrace.{PerformsOne, Writes}
 use Rattle.hack_session.specs.Handouts.{IsDriven}
-use Rattle.hack_run.specs.Internal.{HandsOverAtMostOne, ListsOver, PerformsAtMostOne, host_writing}
+use Rattle.hack_run.specs.Internal.{Grows, HandsOverAtMostOne, ListsOver, PerformsAtMostOne, host_writing}
 use Rattle.hack_run.specs.Warnings.{Warned}
 use Rattle.hack_run.proofs.TraceLemmas.{all_shown, unended}
 use Rattle.hack_run.specs.Worlds.{HostView}
@@ -142,9 +143,7 @@ all_handed (h ∷ steps) sent listed = go (is_sent h) refl sent (λ l. all_hande
 
 -- what a list wrote to its end, where what is gathered is written after it
 wrote_end : (had has out : Option (List ℕ)) (text : List ℕ) → Writes true true had has text → Keeps has out → Writes true true had out text
-wrote_end had has out text w kept =
-    let whole : Appends had has text = subst (λ (o : Option (List ℕ)). Appends had o text) (ap (append_known has) (w.1 refl) ∙ known-none has) w.2 in
-    ([], (λ e. refl), subst (λ (o : Option (List ℕ)). Appends had o text) (sym (known-none out)) (Appends-kept had has out text whole kept))
+wrote_end had has out text w kept = Appends-kept had has out text w kept
 
 -- a list whose end was written: its output grew by its lines
 pub list_ends : {T E : Type 0} (r : Result T E) (refused none short flushed quiet tells : Type 0) (cx : ContextRecord) (stable : Result (Option Version) (String Global)) (rustup : Name) (warned : Bool) (old mid : HostView) (begun gathered : List ℕ) (out : Option (List ℕ))
@@ -167,20 +166,27 @@ list_ends (Ok v) refused none short flushed quiet tells cx stable rustup warned 
       warns = d.warns;
     }
 
--- what was written stays so where what is gathered is written after it
-shown_then : (a b c : Option (List ℕ)) (left text : List ℕ) → Writes false true a b text → Keeps b (append_known c left) → Writes false true a c text
-shown_then None b c left text w k = ([], (λ e. refl), tt)
-shown_then (Some x) None c left text w k = absurd w.2
-shown_then (Some x) (Some y) None left text w k = absurd k
-shown_then (Some x) (Some y) (Some z) left text w k = (left ++ w.0, (λ e. unended e), sym (append_assoc z left w.0) ∙ ap (λ l. l ++ w.0) k ∙ w.2)
+-- bytes that grow twice
+pub grows_then : (a b c : Option (List ℕ)) → Grows a b → Grows b c → Grows a c
+grows_then a b c p q = (p.0 ++ q.0, Appends-trans a b c p.0 q.0 p.1 q.1)
+
+-- of a front that was written or gathered, what was written is a front, where the output only grew
+shown_then : (a b c : Option (List ℕ)) (left text : List ℕ) → Writes false true a b text → Keeps b (append_known c left) → Grows a c → Writes false true a c text
+shown_then None b c left text w k g = (text, [], sym (append-nil text), tt)
+shown_then (Some x) None c left text w k g = absurd w.3
+shown_then (Some x) (Some y) None left text w k g = absurd k
+shown_then (Some x) (Some y) (Some z) left text w k g =
+    let wrote : x ++ (g.0 ++ left) ≡ x ++ w.0 = sym (append_assoc x g.0 left) ∙ ap (λ l. l ++ left) (sym g.1) ∙ k ∙ w.3 in
+    let front : g.0 ++ left ≡ w.0 = append_cancel_left x (g.0 ++ left) w.0 wrote in
+    (g.0, left ++ w.1, w.2 ∙ ap (λ l. l ++ w.1) (sym front) ∙ append_assoc g.0 left w.1, g.1)
 
 -- a list whose end was written, or a part of it
 pub list_shows : (cx : ContextRecord) (stable : Result (Option Version) (String Global)) (rustup : Name) (old mid : HostView) (begun gathered left : List ℕ) (out : Option (List ℕ))
-    → begun ≡ [] → PerformsAtMostOne true cx stable rustup (host_writing begun old) (host_writing gathered mid) → Keeps (append_known mid.out gathered) (append_known out left) → PerformsAtMostOne true cx stable rustup old (record mid { out = out })
-list_shows cx stable rustup old mid begun gathered left out empty made kept = go made
+    → begun ≡ [] → PerformsAtMostOne true cx stable rustup (host_writing begun old) (host_writing gathered mid) → Keeps (append_known mid.out gathered) (append_known out left) → Grows old.out out → PerformsAtMostOne true cx stable rustup old (record mid { out = out })
+list_shows cx stable rustup old mid begun gathered left out empty made kept grown = go made
   where
     shown : (text : List ℕ) → Writes false true (append_known old.out begun) (append_known mid.out gathered) text → Writes false true old.out out text
-    shown text w = shown_then old.out (append_known mid.out gathered) out left text (subst (λ (o : Option (List ℕ)). Writes false true o (append_known mid.out gathered) text) (ap (append_known old.out) empty ∙ known-none old.out) w) kept
+    shown text w = shown_then old.out (append_known mid.out gathered) out left text (subst (λ (o : Option (List ℕ)). Writes false true o (append_known mid.out gathered) text) (ap (append_known old.out) empty ∙ known-none old.out) w) kept grown
 
     go : PerformsAtMostOne true cx stable rustup (host_writing begun old) (host_writing gathered mid) → PerformsAtMostOne true cx stable rustup old (record mid { out = out })
     go (inl none) = inl (none.0, shown [] none.1)

@@ -1,5 +1,5 @@
 -- What a call did, put together from its stages.
-use Rattle.std.proofs.Common.{◌≡◌, ◌⊎◌, inl, inr, refl, sym, subst, ◌∙◌, ap, string_bytes, ℕ, Bool, true, false, List, [], ◌++◌, append_assoc, Some, None, Option, Result, Ok, Err, OnOk, OnErr, IsErr, IsTrue, Global, String}
+use Rattle.std.proofs.Common.{◌≡◌, ◌⊎◌, inl, inr, refl, sym, subst, ◌∙◌, ap, string_bytes, ℕ, Bool, true, false, List, [], ◌++◌, append-nil, Some, None, Option, Result, Ok, Err, OnOk, OnErr, IsErr, IsTrue, Global, String}
 use Rattle.std.specs.Prelude.{◌||◌}
 use Rattle.std.specs.Result.{is_err}
 use Rattle.std.specs.Io.KnownBytes.{Appends}
@@ -37,7 +37,7 @@ use Rattle.hack_run.specs.Internal.{PerformsAtMostOne}
 use Rattle.hack_run.specs.Loading.{AreLoaded}
 use Rattle.hack_run.specs.Questions.{AsksRustup, AsksStable, MayAskStable, NeedsAnswer, rustup_asked}
 use Rattle.hack_run.specs.Warnings.{Warned, after_notes, have_warning}
-use Rattle.hack_run.proofs.GatherLemmas.{known-none}
+use Rattle.std.proofs.KnownBytes.{Appends-nil}
 use Rattle.hack_run.specs.Worlds.{FilesView, HostView, World, host_at, world_at}
 
 -- calls that end with an error failed, or memory was refused
@@ -60,18 +60,12 @@ on_ok P Q (Err e) f p = tt
 
 -- a whole text is a front of it
 pub all_shown : (done : Bool) (a b : Option (List ℕ)) (text : List ℕ) → Appends a b text → Writes done true a b text
-all_shown done a b text w = ([], (λ e. refl), subst (λ (o : Option (List ℕ)). Appends a o text) (sym (known-none b)) w)
-
--- a front of a text was written
-front_shown : (a b : Option (List ℕ)) (text : List ℕ) → AppendsFront a b text → Writes false true a b text
-front_shown None b text w = ([], (λ e. refl), tt)
-front_shown (Some x) None text w = absurd w.3
-front_shown (Some x) (Some y) text w = (w.1, (λ e. unended e), ap (λ l. l ++ w.1) w.3 ∙ append_assoc x w.0 w.1 ∙ ap (λ l. x ++ l) (sym w.2))
+all_shown true a b text w = w
+all_shown false a b text w = (text, [], sym (append-nil text), w)
 
 -- nothing is printed
 pub shows_nothing : (listing : Bool) (had : Option (List ℕ)) → Writes false listing had had []
-shows_nothing true None = ([], (λ e. refl), tt)
-shows_nothing true (Some x) = ([], (λ e. refl), refl)
+shows_nothing true had = ([], [], refl, Appends-nil had)
 shows_nothing false had = tt
 
 -- ---- what was reported before doesn't matter, nor after it where no more is warned of
@@ -242,7 +236,7 @@ prints tells told quiet r answer text notes env old new is calls same wrote =
 pub prints_made : (told : Type 0) (answer : Parsed) (text : String Global) (env : Env) (warned : Bool) (old new : World) → answer ≡ parsed.Print text → new.host.calls ≡ old.host.calls → AppendsFront old.host.out new.host.out (string_bytes text)
     → Obeys false told answer env warned old new
 prints_made told answer text env warned old new is calls front =
-    subst (λ (a : Parsed). Obeys false told a env warned old new) (sym is) (calls, front_shown old.host.out new.host.out (string_bytes text) front, λ e. unended e)
+    subst (λ (a : Parsed). Obeys false told a env warned old new) (sym is) (calls, front, λ e. unended e)
 
 -- cargo listed its commands, and nothing more is warned of
 pub lists : {T E : Type 0} (tells told quiet : Type 0) (r : Result T E) (answer : Parsed) (env : Env) (warned : Bool) (old new : World) → answer ≡ parsed.List → new.host.term.warn ≡ warned → new.host.out ≡ old.host.out

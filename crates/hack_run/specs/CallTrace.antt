@@ -3,10 +3,11 @@
 use Rattle.std.specs.Prelude.{ℕ, ◌≡◌, ◌⊎◌, ◌||◌, ◌∷◌, [], All, Bool, List, Ok, None, Option, Result, codes, false, filter, if◌then◌else◌, string_bytes, true}
 use Rattle.std.specs.List.{flat_map}
 use Rattle.std.specs.Result.{is_err}
-use Rattle.std.specs.Io.KnownBytes.{Appends, append_known}
+use Rattle.std.specs.Io.KnownBytes.{Appends}
 use Rattle.std.proofs.Common.{Global, String}
 use Rattle.hack_base.specs.Names.{Name}
 use Rattle.hack_base.specs.Notes.{Note}
+use Rattle.hack_base.specs.Writes.{AppendsFront}
 use Rattle.hack_load.specs.ContextOf.{IsContextFrom}
 use Rattle.hack_load.specs.Contexts.{ContextRecord}
 use Rattle.hack_load.specs.declared.answers.Answers.{Answers}
@@ -40,8 +41,8 @@ Stops done calls old new = (done ≡ false) × (new.calls ≡ calls) × (new.out
 
 -- this text was written, or a front of it where an error ended the call; of runs nothing is said
 abbrev pub Writes : Bool → Bool → Option (List ℕ) → Option (List ℕ) → List ℕ → Type 0
-Writes done true had has text =
-    (rest : List ℕ) × (done ≡ true → rest ≡ []) × Appends had (append_known has rest) text
+Writes true true had has text = Appends had has text
+Writes false true had has text = AppendsFront had has text
 Writes done false had has text = Unit {0}
 
 -- One history of a context's plan, made with this answer on stable's version, was handed out. Its

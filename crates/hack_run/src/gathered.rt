@@ -4,6 +4,7 @@ ghost use Rattle.std.specs.Prelude.{◌≡◌, ◌≤◌, ◌++◌, [], IfOk, If
 ghost use Rattle.std.specs.Prelude.{vec_len};
 ghost use Rattle.std.specs.Fmt.{with_newline};
 ghost use Rattle.std.specs.Io.KnownBytes.{Appends, Keeps, append_known};
+ghost use Rattle.hack_run.specs.Internal.{Grows};
 
 use hack_session::session::{LineFault, Lines};
 use std::alloc::{AllocError, Global};
@@ -28,7 +29,8 @@ pub(crate) struct GatheredLines<'a, O: Write> {
 }
 
 impl<O: Write> Lines for GatheredLines<'_, O> {
-    ghost use Rattle.std.proofs.Common.{◌∙◌, refl};
+    ghost use Rattle.std.proofs.Common.{◌∙◌, ◌++◌, [], refl};
+    ghost use Rattle.std.proofs.KnownBytes.{Appends-nil, Appends-trans};
 
     ghost contents = { λ w. append_known (O.contents w.out.now) w.gathered.now.items };
 
@@ -37,11 +39,14 @@ impl<O: Write> Lines for GatheredLines<'_, O> {
     ghost failed = { λ w. w.failed };
 
     ghost stays = { λ a b. (a.out.ghost_name ≡ b.out.ghost_name)
-        × (a.gathered.ghost_name ≡ b.gathered.ghost_name) };
+        × (a.gathered.ghost_name ≡ b.gathered.ghost_name)
+        × Grows (O.contents a.out.now) (O.contents b.out.now) };
 
-    ghost stays_none = { λ a. (refl, refl) };
+    ghost stays_none = { λ a. (refl, refl, [], Appends-nil (O.contents a.out.now)) };
 
-    ghost stays_more = { λ a b c p q. (p.0 ∙ q.0, p.1 ∙ q.1) };
+    ghost stays_more = { λ a b c p q. (p.0 ∙ q.0, p.1 ∙ q.1, p.2 ++ q.2,
+      Appends-trans (O.contents a.out.now) (O.contents b.out.now) (O.contents c.out.now)
+          p.2 q.2 p.3 q.3) };
 
     fn line<D: fmt::Display + Drop>(&mut self, text: D) -> Result<(), fmt::Error> {
         match put_line(self.out, self.gathered, self.line, text) {
@@ -96,6 +101,7 @@ fn put_line<O: Write, D: fmt::Display + Drop>(
         (append_known (O.contents out.new) gathered.new.items))) }
     ensures missed { OnErr result (Keeps (append_known (O.contents out.old) gathered.old.items)
         (append_known (O.contents out.new) gathered.new.items)) }
+    ensures grown { Grows (O.contents out.old) (O.contents out.new) }
 {
     line.clear();
     match line.writeln(text) {
@@ -110,6 +116,7 @@ fn gather<O: Write>(out: &mut O, gathered: &mut Vec<u8>, text: &str) -> Result<(
         (append_known (O.contents out.new) gathered.new.items) text.now) }
     ensures missed { OnErr result (Keeps (append_known (O.contents out.old) gathered.old.items)
         (append_known (O.contents out.new) gathered.new.items)) }
+    ensures grown { Grows (O.contents out.old) (O.contents out.new) }
 {
     if text.len() <= ROOM.saturating_sub(gathered.len()) {
         return push(gathered, text);
@@ -136,6 +143,7 @@ fn write_gathered<O: Write>(out: &mut O, gathered: &mut Vec<u8>) -> io::Result<(
     ensures none { OnOk result (gathered.new.items ≡ []) }
     ensures bytes { Keeps (append_known (O.contents out.old) gathered.old.items)
         (append_known (O.contents out.new) gathered.new.items) }
+    ensures grown { Grows (O.contents out.old) (O.contents out.new) }
 {
     for _ in 0..u64::MAX {
         if gathered.is_empty() {
@@ -148,8 +156,9 @@ fn write_gathered<O: Write>(out: &mut O, gathered: &mut Vec<u8>) -> io::Result<(
 
 /// Writes as much of what is gathered as the writer takes at once; nothing where it is interrupted.
 fn write_some<O: Write>(out: &mut O, gathered: &mut Vec<u8>) -> io::Result<()>
-    ensures { Keeps (append_known (O.contents out.old) gathered.old.items)
+    ensures bytes { Keeps (append_known (O.contents out.old) gathered.old.items)
         (append_known (O.contents out.new) gathered.new.items) }
+    ensures grown { Grows (O.contents out.old) (O.contents out.new) }
 {
     match out.write(gathered.as_slice()) {
         Ok(0) => Err(io::Error::from(ErrorKind::WriteZero)),
@@ -180,6 +189,7 @@ fn drop_front(gathered: &mut Vec<u8>, n: usize)
 pub(crate) fn write_last<O: Write>(out: &mut O, gathered: &mut Vec<u8>) -> bool
     ensures kept { Keeps (append_known (O.contents out.old) gathered.old.items)
         (append_known (O.contents out.new) gathered.new.items) }
+    ensures grown { Grows (O.contents out.old) (O.contents out.new) }
     ensures all { result ≡ true → Keeps (append_known (O.contents out.old) gathered.old.items)
         (O.contents out.new) }
 {

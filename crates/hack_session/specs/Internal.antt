@@ -2,12 +2,11 @@
 use Rattle.std.proofs.Common.{◌≡◌, ◌+◌, ℕ, List, [], ◌++◌, ◌∙◌, ap, append-nil}
 use Rattle.hack_session.specs.StepOutput.{Shown, on_err, both_shown, Streams, Prints, Manner, end_line}
 use Rattle.std.specs.Prelude.{Bool, false, Result, Ok, Err, if◌then◌else◌, string_bytes, ◌⊎◌, ◌∷◌, Contains}
-use Rattle.hack_plan.specs.View.{PlanView}
 use Rattle.hack_session.specs.declared.step.Handed.{Handed}
 use Rattle.hack_session.specs.declared.lines.LineFault.{LineFault}
 use Rattle.hack_session.specs.declared.lines.LineFault.TheVariants.{Unwritten, Memory}
 use Rattle.hack_base.specs.Counters.{GrowsBy}
-use Rattle.hack_session.specs.ListLines.{has_failed, is_sent_step, step_lines}
+use Rattle.hack_session.specs.ListLines.{has_failed, is_sent_step}
 use Rattle.hack_session.specs.declared.report.Failure.{Failure}
 use Rattle.hack_session.specs.Reports.{FailedRun}
 use Rattle.hack_term.specs.Groups.{opening_line, message_line}

@@ -42,3 +42,8 @@ returns-clause-made g c = λ t.
     rw (gathered_is, sym c.gather_on-lines.ensures.out.1, sym c.gather_on-lines.ensures.gathered.1, sym (ap (λ s. s.caller.now) c.set_manner.ensures ∙ c.new-starter.ensures.caller.1), sym c.as_str-rustup.ensures.value)
     (handed_makes (Unit {0}) had has _ _ (context_view c.args.cx.now) c.args.stable c.as_str-rustup.result.now _ last c.list_over-refused.ensures.made tt (λ s. calls s.caller.now) (λ s. s.refused) c.args.host.now.term.now last.term.now
     (λ notes x y told. ap calls told.3) (λ plan steps x y ran. ran.3 t))
+
+pub returns-clause-grown : goal.returns-clause-grown
+returns-clause-grown g c =
+    let stays = c.list_over-refused.ensures.stays in
+    rw (sym c.gather_on-lines.ensures.out.1) (stays.2, stays.3)
