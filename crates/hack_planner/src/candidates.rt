@@ -266,25 +266,6 @@ fn is_found(features: &Features, name: &str) -> bool
     is_known(features, name) || one_has(features.deps_features(), name)
 }
 
-/// A warning for each excluded name that the package doesn't have.
-fn feature_notes(
-    alloc: Global,
-    args: &Args,
-    pkg: &Package,
-    features: &Features,
-) -> Result<Vec<Notice>, AllocError>
-    ensures { IfOk result (λ notices. map note_of notices.items
-        ≡ notes_on_features args.now (string_bytes pkg.now.name) features.now) }
-{
-    let mut notices = Vec::new(alloc);
-    for name in &args.exclude_features {
-        let text = feature_text(alloc, name.as_str(), pkg.name.as_str())?;
-        let told = !is_found(features, name.as_str());
-        tell(&mut notices, told, NoticeKind::Warn, text)?;
-    }
-    Ok(notices)
-}
-
 /// The names of `--optional-deps`; none if its list is one empty name.
 fn names_asked(args: &Args) -> &[String]
     ensures { names_of result.now ≡ asked_names
@@ -306,42 +287,55 @@ fn without_empty(names: &[String]) -> &[String]
     }
 }
 
-/// A warning for each optional dependency that is asked for and that the package doesn't have.
-fn dependency_notes(
-    alloc: Global,
-    args: &Args,
-    pkg: &Package,
-    features: &Features,
-) -> Result<Vec<Notice>, AllocError>
-    ensures { IfOk result (λ notices. map note_of notices.items
-        ≡ notes_on_dependencies args.now (string_bytes pkg.now.name) features.now) }
-{
-    let mut notices = Vec::new(alloc);
-    for name in names_asked(args) {
-        let text = dependency_text(alloc, name.as_str(), pkg.name.as_str())?;
-        let told = !one_has(features.optional_deps(), name.as_str());
-        tell(&mut notices, told, NoticeKind::Warn, text)?;
-    }
-    Ok(notices)
+/// A package whose features notices are about.
+struct About<'a> {
+    args: &'a Args,
+    pkg: &'a Package,
+    features: &'a Features,
 }
 
-/// A notice for each group that isn't applied to the package.
-fn group_notes(
-    alloc: Global,
-    args: &Args,
-    pkg: &Package,
-    features: &Features,
-) -> Result<Vec<Notice>, AllocError>
-    ensures { IfOk result (λ notices. map note_of notices.items
-        ≡ notes_on_groups args.now (string_bytes pkg.now.name) features.now) }
-{
-    let mut notices = Vec::new(alloc);
-    for group in &args.group_features {
-        let text = group_text(alloc, group.as_group(), pkg.name.as_str())?;
-        let told = !applies(args, features, group);
-        tell(&mut notices, told, NoticeKind::Info, text)?;
+impl About<'_> {
+    /// A warning for each excluded name that the package doesn't have.
+    fn feature_notes(&self, alloc: Global) -> Result<Vec<Notice>, AllocError>
+        ensures { IfOk result (λ notices. map note_of notices.items ≡ notes_on_features
+            self.now.args.now (string_bytes self.now.pkg.now.name) self.now.features.now) }
+    {
+        let mut notices = Vec::new(alloc);
+        for name in &self.args.exclude_features {
+            let text = feature_text(alloc, name.as_str(), self.pkg.name.as_str())?;
+            let told = !is_found(self.features, name.as_str());
+            tell(&mut notices, told, NoticeKind::Warn, text)?;
+        }
+        Ok(notices)
     }
-    Ok(notices)
+
+    /// A warning for each optional dependency that is asked for and that the package doesn't have.
+    fn dependency_notes(&self, alloc: Global) -> Result<Vec<Notice>, AllocError>
+        ensures { IfOk result (λ notices. map note_of notices.items ≡ notes_on_dependencies
+            self.now.args.now (string_bytes self.now.pkg.now.name) self.now.features.now) }
+    {
+        let mut notices = Vec::new(alloc);
+        for name in names_asked(self.args) {
+            let text = dependency_text(alloc, name.as_str(), self.pkg.name.as_str())?;
+            let told = !one_has(self.features.optional_deps(), name.as_str());
+            tell(&mut notices, told, NoticeKind::Warn, text)?;
+        }
+        Ok(notices)
+    }
+
+    /// A notice for each group that isn't applied to the package.
+    fn group_notes(&self, alloc: Global) -> Result<Vec<Notice>, AllocError>
+        ensures { IfOk result (λ notices. map note_of notices.items ≡ notes_on_groups
+            self.now.args.now (string_bytes self.now.pkg.now.name) self.now.features.now) }
+    {
+        let mut notices = Vec::new(alloc);
+        for group in &self.args.group_features {
+            let text = group_text(alloc, group.as_group(), self.pkg.name.as_str())?;
+            let told = !applies(self.args, self.features, group);
+            tell(&mut notices, told, NoticeKind::Info, text)?;
+        }
+        Ok(notices)
+    }
 }
 
 /// The notices about the features of a package. `single` says whether no other package is left:
@@ -362,12 +356,17 @@ pub(crate) fn notes_on(
     if !is_bare(&args.include_features) {
         return Ok(Vec::new(alloc));
     }
-    let mut groups = group_notes(alloc, args, pkg, features)?;
+    let about = About {
+        args,
+        pkg,
+        features,
+    };
+    let mut groups = about.group_notes(alloc)?;
     if !single {
         return Ok(groups);
     }
-    let mut notices = feature_notes(alloc, args, pkg, features)?;
-    let mut dependencies = dependency_notes(alloc, args, pkg, features)?;
+    let mut notices = about.feature_notes(alloc)?;
+    let mut dependencies = about.dependency_notes(alloc)?;
     notices.append(&mut dependencies)?;
     notices.append(&mut groups)?;
     Ok(notices)

@@ -29,7 +29,7 @@ use Rattle.hack_planner.proofs.Performing.{performable}
 use Rattle.hack_planner.specs.CallPlan.{IsPlanOf}
 use Rattle.hack_run.specs.CallTrace.{PerformsOne, Writes}
 use Rattle.hack_session.specs.Handouts.{IsDriven}
-use Rattle.hack_run.specs.Internal.{Grows, HandsOverAtMostOne, ListsOver, PerformsAtMostOne, host_writing}
+use Rattle.hack_run.specs.Internal.{Extends, HandsOverAtMostOne, ListsOver, PerformsAtMostOne, host_writing}
 use Rattle.hack_run.specs.Warnings.{Warned}
 use Rattle.hack_run.proofs.TraceLemmas.{all_shown, unended}
 use Rattle.hack_run.specs.Worlds.{HostView}
@@ -167,11 +167,11 @@ list_ends (Ok v) refused none short flushed quiet tells cx stable rustup warned 
     }
 
 -- bytes that grow twice
-pub grows_then : (a b c : Option (List ℕ)) → Grows a b → Grows b c → Grows a c
-grows_then a b c p q = (p.0 ++ q.0, Appends-trans a b c p.0 q.0 p.1 q.1)
+pub extends_then : (a b c : Option (List ℕ)) → Extends a b → Extends b c → Extends a c
+extends_then a b c p q = (p.0 ++ q.0, Appends-trans a b c p.0 q.0 p.1 q.1)
 
 -- of a front that was written or gathered, what was written is a front, where the output only grew
-shown_then : (a b c : Option (List ℕ)) (left text : List ℕ) → Writes false true a b text → Keeps b (append_known c left) → Grows a c → Writes false true a c text
+shown_then : (a b c : Option (List ℕ)) (left text : List ℕ) → Writes false true a b text → Keeps b (append_known c left) → Extends a c → Writes false true a c text
 shown_then None b c left text w k g = (text, [], sym (append-nil text), tt)
 shown_then (Some x) None c left text w k g = absurd w.3
 shown_then (Some x) (Some y) None left text w k g = absurd k
@@ -182,7 +182,7 @@ shown_then (Some x) (Some y) (Some z) left text w k g =
 
 -- a list whose end was written, or a part of it
 pub list_shows : (cx : ContextRecord) (stable : Result (Option Version) (String Global)) (rustup : Name) (old mid : HostView) (begun gathered left : List ℕ) (out : Option (List ℕ))
-    → begun ≡ [] → PerformsAtMostOne true cx stable rustup (host_writing begun old) (host_writing gathered mid) → Keeps (append_known mid.out gathered) (append_known out left) → Grows old.out out → PerformsAtMostOne true cx stable rustup old (record mid { out = out })
+    → begun ≡ [] → PerformsAtMostOne true cx stable rustup (host_writing begun old) (host_writing gathered mid) → Keeps (append_known mid.out gathered) (append_known out left) → Extends old.out out → PerformsAtMostOne true cx stable rustup old (record mid { out = out })
 list_shows cx stable rustup old mid begun gathered left out empty made kept grown = go made
   where
     shown : (text : List ℕ) → Writes false true (append_known old.out begun) (append_known mid.out gathered) text → Writes false true old.out out text

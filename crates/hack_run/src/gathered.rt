@@ -4,7 +4,7 @@ ghost use Rattle.std.specs.Prelude.{◌≡◌, ◌≤◌, ◌++◌, [], IfOk, If
 ghost use Rattle.std.specs.Prelude.{vec_len};
 ghost use Rattle.std.specs.Fmt.{with_newline};
 ghost use Rattle.std.specs.Io.KnownBytes.{Appends, Keeps, append_known};
-ghost use Rattle.hack_run.specs.Internal.{Grows};
+ghost use Rattle.hack_run.specs.Internal.{Extends};
 
 use hack_session::session::{LineFault, Lines};
 use std::alloc::{AllocError, Global};
@@ -40,7 +40,7 @@ impl<O: Write> Lines for GatheredLines<'_, O> {
 
     ghost stays = { λ a b. (a.out.ghost_name ≡ b.out.ghost_name)
         × (a.gathered.ghost_name ≡ b.gathered.ghost_name)
-        × Grows (O.contents a.out.now) (O.contents b.out.now) };
+        × Extends (O.contents a.out.now) (O.contents b.out.now) };
 
     ghost stays_none = { λ a. (refl, refl, [], Appends-nil (O.contents a.out.now)) };
 
@@ -101,7 +101,7 @@ fn put_line<O: Write, D: fmt::Display + Drop>(
         (append_known (O.contents out.new) gathered.new.items))) }
     ensures missed { OnErr result (Keeps (append_known (O.contents out.old) gathered.old.items)
         (append_known (O.contents out.new) gathered.new.items)) }
-    ensures grown { Grows (O.contents out.old) (O.contents out.new) }
+    ensures grown { Extends (O.contents out.old) (O.contents out.new) }
 {
     line.clear();
     match line.writeln(text) {
@@ -116,7 +116,7 @@ fn gather<O: Write>(out: &mut O, gathered: &mut Vec<u8>, text: &str) -> Result<(
         (append_known (O.contents out.new) gathered.new.items) text.now) }
     ensures missed { OnErr result (Keeps (append_known (O.contents out.old) gathered.old.items)
         (append_known (O.contents out.new) gathered.new.items)) }
-    ensures grown { Grows (O.contents out.old) (O.contents out.new) }
+    ensures grown { Extends (O.contents out.old) (O.contents out.new) }
 {
     if text.len() <= ROOM.saturating_sub(gathered.len()) {
         return push(gathered, text);
@@ -143,7 +143,7 @@ fn write_gathered<O: Write>(out: &mut O, gathered: &mut Vec<u8>) -> io::Result<(
     ensures none { OnOk result (gathered.new.items ≡ []) }
     ensures bytes { Keeps (append_known (O.contents out.old) gathered.old.items)
         (append_known (O.contents out.new) gathered.new.items) }
-    ensures grown { Grows (O.contents out.old) (O.contents out.new) }
+    ensures grown { Extends (O.contents out.old) (O.contents out.new) }
 {
     for _ in 0..u64::MAX {
         if gathered.is_empty() {
@@ -158,7 +158,7 @@ fn write_gathered<O: Write>(out: &mut O, gathered: &mut Vec<u8>) -> io::Result<(
 fn write_some<O: Write>(out: &mut O, gathered: &mut Vec<u8>) -> io::Result<()>
     ensures bytes { Keeps (append_known (O.contents out.old) gathered.old.items)
         (append_known (O.contents out.new) gathered.new.items) }
-    ensures grown { Grows (O.contents out.old) (O.contents out.new) }
+    ensures grown { Extends (O.contents out.old) (O.contents out.new) }
 {
     match out.write(gathered.as_slice()) {
         Ok(0) => Err(io::Error::from(ErrorKind::WriteZero)),
@@ -189,7 +189,7 @@ fn drop_front(gathered: &mut Vec<u8>, n: usize)
 pub(crate) fn write_last<O: Write>(out: &mut O, gathered: &mut Vec<u8>) -> bool
     ensures kept { Keeps (append_known (O.contents out.old) gathered.old.items)
         (append_known (O.contents out.new) gathered.new.items) }
-    ensures grown { Grows (O.contents out.old) (O.contents out.new) }
+    ensures grown { Extends (O.contents out.old) (O.contents out.new) }
     ensures all { result ≡ true → Keeps (append_known (O.contents out.old) gathered.old.items)
         (O.contents out.new) }
 {

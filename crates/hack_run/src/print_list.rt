@@ -5,7 +5,7 @@ ghost use Rattle.hack_load.specs.ContextView.{context_view};
 ghost use Rattle.hack_run.specs.Internal.{HandsOverAtMostOne, PerformsAtMostOne};
 ghost use Rattle.hack_run.specs.Questions.{IsAnswered};
 ghost use Rattle.hack_run.specs.CallTrace.{PerformsOne};
-ghost use Rattle.hack_run.specs.Internal.{Grows, ListsOver};
+ghost use Rattle.hack_run.specs.Internal.{Extends, ListsOver};
 ghost use Rattle.hack_run.specs.Worlds.{IsSameHost, host_of};
 ghost use Rattle.hack_run.specs.Internal.{host_writing};
 
@@ -78,7 +78,7 @@ fn hand_to_lister<C: Caller, O: Write, E: Write>(
         (string_bytes host.old.env.now.rustup)
         (host_writing gathered.old.items (host_of C.Caller O.Write host.old))
         (host_writing gathered.new.items (host_of C.Caller O.Write host.new)) }
-    ensures grown { Grows (O.contents host.old.out.now) (O.contents host.new.out.now) }
+    ensures grown { Extends (O.contents host.old.out.now) (O.contents host.new.out.now) }
 {
     let rustup = host.env.rustup.as_str();
     let mut nothing = io::sink();

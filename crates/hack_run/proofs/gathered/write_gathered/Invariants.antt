@@ -1,8 +1,8 @@
 use Rattle.std.specs.Io.KnownBytes.{Keeps, append_known}
-use Rattle.hack_run.specs.Internal.{Grows}
+use Rattle.hack_run.specs.Internal.{Extends}
 use Rattle.hack_run.proofs.gathered.write_gathered.Given as goal
 
 abbrev pub invariant-loop : goal.invariant-loop
 invariant-loop g l =
     Keeps (append_known (g.O.Write.contents l.fn.out) l.fn.gathered.items) (append_known (g.O.Write.contents l.out) l.gathered.items)
-    × Grows (g.O.Write.contents l.fn.out) (g.O.Write.contents l.out)
+    × Extends (g.O.Write.contents l.fn.out) (g.O.Write.contents l.out)
