@@ -1,8 +1,7 @@
 //! A whole call: what an interrupted one left is restored first, and what this one edits is kept in
 //! a journal meanwhile.
 
-ghost use Rattle.std.specs.Prelude.{IfSome, IsTrue, OnOk, [], string_bytes, true, ◌↔◌, ◌≡◌, ◌≤◌};
-ghost use Rattle.std.specs.Prelude.{◌⊎◌};
+ghost use Rattle.std.specs.Prelude.{IfSome, OnOk, [], string_bytes, true, ◌≡◌};
 ghost use Rattle.hack_base.specs.Names.{names_of};
 ghost use Rattle.hack_files.specs.Files.{KeepsAll, Makes};
 ghost use Rattle.hack_recovery.specs.LockEvents.{LocksView};
@@ -11,6 +10,7 @@ ghost use Rattle.hack_recovery.specs.CallCourses.{IsJournaledCall, IsLockedCours
 ghost use Rattle.hack_recovery.specs.CallCourses.{scene_of};
 ghost use Rattle.hack_run.specs.Readings.{IsEarlyReading};
 ghost use Rattle.hack_run.specs.Worlds.{IsSameHost, files_of};
+ghost use Rattle.hack_term.specs.Lines.{IsExitStatus};
 
 use crate::admit::{Way, admit};
 use crate::asked::Edits;
@@ -42,9 +42,7 @@ pub fn perform<F: Files, L: Files, K: Locks, C: Caller, O: Write, E: Write>(
     host: &mut Host<'_, C, O, E>,
 ) -> (u8, F, L)
     ensures host { IsSameHost host.old host.new }
-    ensures one { (result.0 ≡ 1) ↔ (IsTrue host.new.term.now.error
-        ⊎ (IsTrue host.new.term.now.warn × IsTrue host.old.env.now.deny_warnings)) }
-    ensures at_most_one { result.0 ≤ 1 }
+    ensures status { IsExitStatus host.old.env.now.deny_warnings host.new.term.now result.0 }
     ensures goes { IsCallCourse F.tells F.whole L.tells C.tells K.tells (names_of words.now)
         host.old.env.now
         (scene_of F.Files L.Files C.Caller O.Write files lockfiles
@@ -99,9 +97,7 @@ fn guarded<F: Files, L: Files, K: Locks, C: Caller, O: Write, E: Write>(
 ) -> (u8, F, L)
     requires { IfSome begun.reading (IsEarlyReading host.old.env.now (names_of words.now)) }
     ensures host { IsSameHost host.old host.new }
-    ensures one { (result.0 ≡ 1) ↔ (IsTrue host.new.term.now.error
-        ⊎ (IsTrue host.new.term.now.warn × IsTrue host.old.env.now.deny_warnings)) }
-    ensures at_most_one { result.0 ≤ 1 }
+    ensures status { IsExitStatus host.old.env.now.deny_warnings host.new.term.now result.0 }
     ensures goes { IsLockedCourse F.tells F.whole L.tells C.tells K.tells (names_of words.now)
         host.old.env.now begun.edits (string_bytes begun.folder) (string_bytes begun.journal)
         (scene_of F.Files L.Files C.Caller O.Write files lockfiles
@@ -140,9 +136,7 @@ fn go_on<F: Files, L: Files, K: Locks, C: Caller, O: Write, E: Write>(
 ) -> (u8, F, L)
     requires { IfSome begun.reading (IsEarlyReading host.old.env.now (names_of words.now)) }
     ensures host { IsSameHost host.old host.new }
-    ensures one { (result.0 ≡ 1) ↔ (IsTrue host.new.term.now.error
-        ⊎ (IsTrue host.new.term.now.warn × IsTrue host.old.env.now.deny_warnings)) }
-    ensures at_most_one { result.0 ≤ 1 }
+    ensures status { IsExitStatus host.old.env.now.deny_warnings host.new.term.now result.0 }
     ensures goes { Continues F.tells F.whole L.tells C.tells K.tells (names_of words.now)
         host.old.env.now begun.edits (string_bytes begun.journal)
         (scene_of F.Files L.Files C.Caller O.Write files lockfiles
@@ -183,9 +177,7 @@ fn journaled<F: Files, L: Files, C: Caller, O: Write, E: Write>(
 ) -> (u8, F, L)
     requires { IfSome reading (IsEarlyReading host.old.env.now (names_of words.now)) }
     ensures host { IsSameHost host.old host.new }
-    ensures one { (result.0 ≡ 1) ↔ (IsTrue host.new.term.now.error
-        ⊎ (IsTrue host.new.term.now.warn × IsTrue host.old.env.now.deny_warnings)) }
-    ensures at_most_one { result.0 ≤ 1 }
+    ensures status { IsExitStatus host.old.env.now.deny_warnings host.new.term.now result.0 }
     ensures goes { (locks : LocksView) → IsJournaledCall F.tells F.whole L.tells C.tells
         (names_of words.now) host.old.env.now (string_bytes journal)
         (scene_of F.Files L.Files C.Caller O.Write files lockfiles locks host.old)

@@ -1,6 +1,6 @@
 //! A whole call over files with a journal: wherever it ends, nothing is lost.
 
-ghost use Rattle.std.specs.Prelude.{◌≡◌, ◌↔◌, ◌⊎◌, ◌≤◌, ◌+◌, ◌-◌, ◌^◌, IsTrue, None, false, min};
+ghost use Rattle.std.specs.Prelude.{◌≡◌, ◌⊎◌, ◌≤◌, ◌+◌, ◌-◌, ◌^◌, None, false, min};
 ghost use Rattle.std.specs.Prelude.{IfSome, string_bytes, true};
 ghost use Rattle.hack_base.specs.Names.{names_of};
 ghost use Rattle.hack_files.specs.Files.{KeepsAll, KeepsOthers};
@@ -12,6 +12,7 @@ ghost use Rattle.hack_run.specs.Readings.{IsEarlyReadingOrRefusal};
 ghost use Rattle.hack_run.specs.TemporaryEdits.{BringsBack, RestoresEdits};
 ghost use Rattle.hack_run.specs.Refusals.{AreRefused, Refuses};
 ghost use Rattle.hack_run.specs.Worlds.{IsSameHost, host_of};
+ghost use Rattle.hack_term.specs.Lines.{IsExitStatus};
 
 use crate::host::Host;
 use crate::reading::Reading;
@@ -36,9 +37,7 @@ pub fn run_journaled<F: Files, L: Files, C: Caller, O: Write, E: Write>(
 ) -> (u8, F, L, u64)
     requires { IfSome reading (IsEarlyReadingOrRefusal host.old.env.now (names_of words.now)) }
     ensures host { IsSameHost host.old host.new }
-    ensures one { (result.0 ≡ 1) ↔ (IsTrue host.new.term.now.error
-        ⊎ (IsTrue host.new.term.now.warn × IsTrue host.old.env.now.deny_warnings)) }
-    ensures at_most_one { result.0 ≤ 1 }
+    ensures status { IsExitStatus host.old.env.now.deny_warnings host.new.term.now result.0 }
 
     // The clauses `refused`, `done` and `made` promise what those of `run` do; and where no error
     // was reported each path holds what it held, unless the command line asks for edits that stay.

@@ -1,6 +1,6 @@
 //! A whole call of `cargo hack`: does what its command line asks for, and reports on the way.
 
-ghost use Rattle.std.specs.Prelude.{◌≡◌, ◌↔◌, ◌⊎◌, ◌≤◌, IsErr, IsTrue, OnOk, false, true};
+ghost use Rattle.std.specs.Prelude.{◌≡◌, IsErr, OnOk, false, true};
 ghost use Rattle.std.specs.Prelude.{IfSome, map, string_bytes};
 ghost use Rattle.std.specs.Io.KnownBytes.{Appends};
 ghost use Rattle.hack_base.specs.Names.{names_of};
@@ -14,6 +14,7 @@ ghost use Rattle.hack_run.specs.Readings.{IsEarlyReadingOrRefusal};
 ghost use Rattle.hack_run.specs.TemporaryEdits.{BringsBack, ComesBack, IsClean, RestoresEdits};
 ghost use Rattle.hack_run.specs.Refusals.{AreRefused, Refuses};
 ghost use Rattle.hack_run.specs.Worlds.{IsSameHost, files_of, host_of, world_of};
+ghost use Rattle.hack_term.specs.Lines.{IsExitStatus};
 
 use crate::fault::RunFault;
 use crate::host::Host;
@@ -42,9 +43,7 @@ pub fn run<F: Files, C: Caller, O: Write, E: Write>(
     // What is read already is what these arguments are read into before anything is asked.
     requires { IfSome reading (IsEarlyReadingOrRefusal host.old.env.now (names_of words.now)) }
     ensures host { IsSameHost host.old host.new }
-    ensures one { (result ≡ 1) ↔ (IsTrue host.new.term.now.error
-        ⊎ (IsTrue host.new.term.now.warn × IsTrue host.old.env.now.deny_warnings)) }
-    ensures at_most_one { result ≤ 1 }
+    ensures status { IsExitStatus host.old.env.now.deny_warnings host.new.term.now result }
 
     // What each single call of the files keeps (`F.stays`) is kept by all of them together.
     ensures stays { F.stays files.old files.new }

@@ -1,5 +1,5 @@
 -- The lines that are printed for a user.
-use Rattle.std.specs.Prelude.{◌≡◌, ℕ, List, [], ◌∷◌, ◌++◌, codes, bytes_eq, true}
+use Rattle.std.specs.Prelude.{◌≡◌, ◌≤◌, ◌↔◌, ◌⊎◌, ℕ, Bool, IsTrue, List, [], ◌∷◌, ◌++◌, codes, bytes_eq, true}
 use Rattle.std.specs.Prelude.{Option, Some, None, if◌then◌else◌}
 use Rattle.hack_base.specs.declared.notice.NoticeKind.{NoticeKind}
 use Rattle.hack_base.specs.declared.notice.NoticeKind.TheVariants.{Info, Warn, QuietWarn}
@@ -72,3 +72,8 @@ abbrev pub after_notice : Term → NoticeKind → Term
 after_notice term Info = term
 after_notice term Warn = record term { warn = true }
 after_notice term QuietWarn = term
+
+-- the exit status: 1 where an error was reported, or a warning that is to count as one; else 0
+abbrev pub IsExitStatus : Bool → Term → ℕ → Type 0
+IsExitStatus deny_warnings term status =
+    ((status ≡ 1) ↔ (IsTrue term.error ⊎ (IsTrue term.warn × IsTrue deny_warnings))) × (status ≤ 1)

@@ -4,7 +4,7 @@
 //! counts its failures shows that an error comes only with one: where it never fails, lines are
 //! written.
 
-ghost use Rattle.std.specs.Prelude.{◌≡◌, ◌↔◌, ◌≤◌, ◌⊎◌, IsTrue, IfSome, IfNone, OnOk, true, false};
+ghost use Rattle.std.specs.Prelude.{◌≡◌, IfSome, IfNone, OnOk, true, false};
 ghost use Rattle.std.specs.Prelude.{string_bytes};
 ghost use Rattle.std.specs.Io.KnownBytes.{Appends};
 ghost use Rattle.hack_base.specs.Writes.{AppendsFront, CountsErrors};
@@ -12,7 +12,7 @@ ghost use Rattle.hack_term.specs.Lines.{coloring_name, IsNoColoring, coloring_of
 ghost use Rattle.hack_term.specs.Lines.{info_label as label_of_info};
 ghost use Rattle.hack_term.specs.Lines.{warning_label as label_of_warnings};
 ghost use Rattle.hack_term.specs.Lines.{error_label as label_of_errors, info_line, warning_line};
-ghost use Rattle.hack_term.specs.Lines.{error_line, notice_line, after_notice};
+ghost use Rattle.hack_term.specs.Lines.{error_line, notice_line, after_notice, IsExitStatus};
 
 pub use crate::log_group::{LogGroup, LogGroupFault, LogGroupGuard};
 pub use hack_base::notice::{Notice, NoticeKind};
@@ -152,9 +152,7 @@ impl Term {
 
     /// The exit status: 1 after an error, or after a warning where warnings are denied; else 0.
     pub fn status(&self, deny_warnings: bool) -> u8
-        ensures one { (result ≡ 1)
-            ↔ (IsTrue self.now.error ⊎ (IsTrue self.now.warn × IsTrue deny_warnings)) }
-        ensures at_most_one { result ≤ 1 }
+        ensures { IsExitStatus deny_warnings self.now result }
     {
         if self.error || (self.warn && deny_warnings) {
             1
