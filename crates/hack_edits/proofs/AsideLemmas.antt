@@ -11,7 +11,7 @@ use Rattle.std.specs.List.{before_first, position_or_len}
 use Rattle.toml.specs.Data.{Data, string, integer, float, boolean, datetime, array, table, Members, no_members, member, get_member, as_table, same_key}
 use Rattle.toml.specs.View.{items_of}
 use Rattle.hack_base.specs.Names.{Name}
-use Rattle.hack_manifest.specs.Manifest.{table_at, features_key, list_of}
+use Rattle.hack_manifest.specs.Manifest.{table_at, features_key, list_of_items}
 use Rattle.hack_edits.specs.KeyPaths.{dev_key, target_key}
 use Rattle.hack_edits.specs.Lookup.{some_table, lists, depends, is_dev_only, item_goes}
 use Rattle.hack_base.specs.PathTexts.{is_slash}
@@ -66,7 +66,7 @@ items-aside old [] = refl
 items-aside old (d ∷ ds) = rw (goes-aside old d, items-aside old ds) refl
 
 array-aside : (old : Members) (d : Data) → in_array (items_left (remove_member features_key old)) d ≡ in_array (items_left old) d
-array-aside old (array ds) = ap (λ xs. array (items_of xs)) (items-aside old (list_of ds))
+array-aside old (array ds) = ap (λ xs. array (items_of xs)) (items-aside old (list_of_items ds))
 array-aside old (string s) = refl
 array-aside old (integer z) = refl
 array-aside old (float x) = refl

@@ -4,7 +4,7 @@ use Rattle.std.specs.Option.{option_map_or}
 use Rattle.std.specs.List.{before_first, position_or_len}
 use Rattle.toml.specs.Data.{Data, Members, no_members, member, get_member, as_str, as_array, as_table}
 use Rattle.hack_base.specs.Names.{Name}
-use Rattle.hack_manifest.specs.Manifest.{table_at, list_of}
+use Rattle.hack_manifest.specs.Manifest.{table_at, list_of_items}
 use Rattle.hack_edits.specs.KeyPaths.{dev_key, target_key}
 use Rattle.hack_base.specs.PathTexts.{is_slash}
 
@@ -53,4 +53,4 @@ item_goes old d = option_map_or (is_dropped_text old) (as_str d) false
 
 -- the items of a value that is an array, else none
 abbrev pub items_in : Option Data → List Data
-items_in o = option_map_or list_of (option_and_then as_array o) []
+items_in o = option_map_or list_of_items (option_and_then as_array o) []

@@ -6,7 +6,7 @@ use Rattle.std.specs.Cmp.Lexicographic.{slice_cmp}
 use Rattle.toml.specs.Data.{Data, array, table, Members, no_members, member, get_member, same_key}
 use Rattle.toml.specs.View.{items_of}
 use Rattle.hack_base.specs.Names.{Name}
-use Rattle.hack_manifest.specs.Manifest.{list_of}
+use Rattle.hack_manifest.specs.Manifest.{list_of_items}
 
 -- the members without one
 abbrev pub remove_member : Name → Members → Members
@@ -38,5 +38,5 @@ in_table f d = d
 
 -- f of the items of an array; another value stays
 abbrev pub in_array : (List Data → List Data) → Data → Data
-in_array f (array ds) = array (items_of (f (list_of ds)))
+in_array f (array ds) = array (items_of (f (list_of_items ds)))
 in_array f d = d

@@ -6,7 +6,7 @@ ghost use Rattle.std.specs.Prelude.{string_bytes};
 ghost use Rattle.toml.specs.Data.{no_members, table};
 ghost use Rattle.toml.specs.Parse.{parse_document};
 ghost use Rattle.toml.specs.View.{view, items_of, table_view, array_view};
-ghost use Rattle.hack_manifest.specs.Manifest.{features_key, list_of};
+ghost use Rattle.hack_manifest.specs.Manifest.{features_key, list_of_items};
 ghost use Rattle.hack_edits.specs.DevTree.{items_left, without_texts};
 ghost use Rattle.hack_edits.specs.DevTree.{unless_empty};
 ghost use Rattle.hack_edits.specs.InternalTreeEquality.{same};
@@ -117,7 +117,7 @@ fn strip_array(alloc: Global, old: &Table, value: Value) -> Result<Value, AllocE
 /// Returns what stays of an array: all items but the texts that are removed.
 fn kept_items(alloc: Global, old: &Table, items: Array) -> Result<Array, AllocError>
     ensures { IfOk result (λ v. array_view v
-        ≡ items_of (items_left (table_view old.now) (list_of (array_view items)))) }
+        ≡ items_of (items_left (table_view old.now) (list_of_items (array_view items)))) }
 {
     let mut kept = Array::new(alloc);
     for item in items {

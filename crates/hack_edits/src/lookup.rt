@@ -4,7 +4,7 @@ ghost use Rattle.std.specs.Prelude.{◌≡◌, is_some, option_map, option_and_t
 ghost use Rattle.std.specs.List.{list_any};
 ghost use Rattle.toml.specs.Data.{get_member};
 ghost use Rattle.toml.specs.View.{view, table_view, array_view};
-ghost use Rattle.hack_manifest.specs.Manifest.{features_key, table_at, list_of};
+ghost use Rattle.hack_manifest.specs.Manifest.{features_key, table_at, list_of_items};
 ghost use Rattle.hack_edits.specs.KeyPaths.{dev_key};
 ghost use Rattle.hack_edits.specs.Lookup.{some_table, lists, depends, has_target_dev};
 ghost use Rattle.hack_edits.specs.Lookup.{has_dev_under, has_dev, is_dev_only, is_dropped_text};
@@ -99,7 +99,7 @@ pub fn feature_loses(old: &Table, name: &str) -> bool
 
 /// Returns whether texts are removed from an array.
 fn any_goes(old: &Table, array: &Array) -> bool
-    ensures { result ≡ list_any (item_goes (table_view old.now)) (list_of (array_view array.now)) }
+    ensures { result ≡ list_any (item_goes (table_view old.now)) (list_of_items (array_view array.now)) }
 {
     'items: for value in array {
         if value_goes(old, value) {

@@ -10,7 +10,7 @@ ghost use Rattle.std.specs.Cmp.Lexicographic.{slice_cmp};
 ghost use Rattle.std.specs.Ordering.{nat_cmp};
 ghost use Rattle.toml.specs.Data.{get_member};
 ghost use Rattle.hack_base.specs.PathTexts.{join_of, normal_of};
-ghost use Rattle.hack_manifest.specs.Manifest.{list_of};
+ghost use Rattle.hack_manifest.specs.Manifest.{list_of_items};
 ghost use Rattle.toml.specs.View.{view, table_view, array_view};
 ghost use Rattle.hack_base.specs.Names.{names_behind};
 ghost use Rattle.hack_edits.specs.KeyPaths.{members_key};
@@ -106,10 +106,10 @@ pub fn chosen<'a>(
 /// Returns the same for the items of the members.
 fn choose<'a>(alloc: Global, private: &Private<'a>, items: &Array) -> Result<Choice<'a>, AllocError>
     ensures some { IfOk result (λ c. c.some ≡ list_any (item_led private.now.root.now
-        (names_behind private.now.paths.now)) (list_of (array_view items.now))) }
+        (names_behind private.now.paths.now)) (list_of_items (array_view items.now))) }
     ensures paths { IfOk result (λ c. names_behind c.paths.items ≡ fold
         (unled_by private.now.root.now)
-        (names_behind private.now.paths.now) (list_of (array_view items.now))) }
+        (names_behind private.now.paths.now) (list_of_items (array_view items.now))) }
 {
     let mut goes = Vec::new(alloc);
     let mut some = false;

@@ -5,7 +5,7 @@ ghost use Rattle.std.specs.Prelude.{◌≡◌, map, IfOk, OnOk, option_and_then,
 ghost use Rattle.std.specs.Prelude.{◌++◌, Some};
 ghost use Rattle.toml.specs.Data.{string};
 ghost use Rattle.toml.specs.View.{view, items_of, table_view, array_view};
-ghost use Rattle.hack_manifest.specs.Manifest.{list_of};
+ghost use Rattle.hack_manifest.specs.Manifest.{list_of_items};
 ghost use Rattle.hack_edits.specs.Exclude.{is_read_as};
 ghost use Rattle.hack_edits.specs.Lookup.{items_in};
 ghost use Rattle.hack_base.specs.PathTexts.{parent_of};
@@ -163,7 +163,7 @@ fn members_of(alloc: Global, private: &Private<'_>, value: Value) -> Result<Valu
 /// The members that stay.
 fn kept_members(alloc: Global, private: &Private<'_>, items: Array) -> Result<Array, AllocError>
     ensures { IfOk result (λ v. array_view v ≡ items_of (members_left private.now.root.now
-        (names_behind private.now.paths.now) (list_of (array_view items)))) }
+        (names_behind private.now.paths.now) (list_of_items (array_view items)))) }
 {
     let mut left = Vec::from_slice(alloc, private.paths)?;
     let mut kept = Array::new(alloc);
@@ -195,7 +195,7 @@ fn put_exclude(alloc: Global, paths: &[&str], workspace: Table) -> Result<Table,
 
 /// The items of a value that is an array, else none.
 fn into_items(alloc: Global, value: Option<Value>) -> Array
-    ensures { list_of (array_view result) ≡ items_in (option_map view value) }
+    ensures { list_of_items (array_view result) ≡ items_in (option_map view value) }
 {
     match value {
         Some(found) => match found {
@@ -208,7 +208,7 @@ fn into_items(alloc: Global, value: Option<Value>) -> Array
 
 /// Appends the folders of paths to items.
 fn push_folders(alloc: Global, items: Array, paths: &[&str]) -> Result<Array, AllocError>
-    ensures { IfOk result (λ a. list_of (array_view a) ≡ list_of (array_view items)
+    ensures { IfOk result (λ a. list_of_items (array_view a) ≡ list_of_items (array_view items)
         ++ map string (map parent_of (names_behind paths.now))) }
 {
     let mut all = items;

@@ -49,13 +49,13 @@ abbrev pub read_below : {A : Type 0} → ℕ → ℕ → FieldReading (Option A)
 read_below bound minor read = if nat_lt minor bound then read else Ok None
 
 -- the items of an array as a list
-abbrev pub list_of : Items → List Data
-list_of no_items = []
-list_of (item d ds) = d ∷ list_of ds
+abbrev pub list_of_items : Items → List Data
+list_of_items no_items = []
+list_of_items (item d ds) = d ∷ list_of_items ds
 
 -- the strings among items
 abbrev pub texts_in : Items → List Name
-texts_in ds = filter_map as_str (list_of ds)
+texts_in ds = filter_map as_str (list_of_items ds)
 
 -- the members as a feature map: each is a feature with the strings of its array; none where one is
 -- no array

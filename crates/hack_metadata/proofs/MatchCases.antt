@@ -6,7 +6,7 @@ use Rattle.std.specs.Cmp.Lexicographic.{bytes_decides}
 use Rattle.std.proofs.lemmas.Bool.{cases_Bool}
 use Rattle.std.proofs.lemmas.List.{append_cancel_left}
 use Rattle.hack_base.specs.Names.{Name}
-use Rattle.hack_metadata.specs.PackageSpecs.{is_byte, unless_empty, Url, IsUrl, Identity, IsPlace, AsksVersion, of_name, of_fragment, alone, Matches, named, placed, name_at, versioned, HasBadId, HasBadVersion, has_byte, behind_first_byte, separates, trimmed_end}
+use Rattle.hack_metadata.specs.PackageSpecs.{is_byte, filled_part, Url, IsUrl, Identity, IsPlace, AsksVersion, of_name, of_fragment, alone, Matches, named, placed, name_at, versioned, HasBadId, HasBadVersion, has_byte, behind_first_byte, separates, trimmed_end}
 use Rattle.std.specs.Char.{is_ascii_digit}
 use Rattle.std.specs.Prelude.{slice_index}
 use Rattle.hack_metadata.specs.InternalSpecAnswers.{MatchAnswer, fits, parts_at_separator, behind_name, with_version, alone_in, in_fragment, of_fragments, is_same_place, of_urls, IsUrlOrNone, IsBehind}
@@ -45,8 +45,8 @@ url-same text a b h k =
     let same = scheme-same text h.scheme h.rest k.scheme k.rest (record { whole = h.whole; first = h.first }) (record { whole = k.whole; first = k.first }) in
     let protocols : a.protocol ≡ b.protocol = h.protocol ∙ ap (λ s. unwrap_or (behind_first_byte (is_byte 43) s) s) same.0 ∙ sym k.protocol in
     let paths : a.path ≡ b.path = h.path ∙ ap (λ r. before_first (is_byte 63) (before_first (is_byte 35) r)) same.1 ∙ sym k.path in
-    let queries : a.query ≡ b.query = h.query ∙ ap (λ r. unless_empty (after_first (is_byte 63) (before_first (is_byte 35) r))) same.1 ∙ sym k.query in
-    let fragments : a.fragment ≡ b.fragment = h.fragment ∙ ap (λ r. unless_empty (after_first (is_byte 35) r)) same.1 ∙ sym k.fragment in
+    let queries : a.query ≡ b.query = h.query ∙ ap (λ r. filled_part (after_first (is_byte 63) (before_first (is_byte 35) r))) same.1 ∙ sym k.query in
+    let fragments : a.fragment ≡ b.fragment = h.fragment ∙ ap (λ r. filled_part (after_first (is_byte 35) r)) same.1 ∙ sym k.fragment in
     λ i. record { protocol = protocols i; path = paths i; query = queries i; fragment = fragments i }
 
 read-same : (text : Name) (o : Option Url) (u : Url) → IsUrlOrNone text o → IsUrl text u → o ≡ Some u

@@ -17,9 +17,9 @@ abbrev pub behind_first_byte : (ℕ → Bool) → Name → Option Name
 behind_first_byte p text = if has_byte p text then Some (after_first p text) else None
 
 -- a part, where it isn't empty
-abbrev pub unless_empty : Name → Option Name
-unless_empty [] = None
-unless_empty (x ∷ xs) = Some (x ∷ xs)
+abbrev pub filled_part : Name → Option Name
+filled_part [] = None
+filled_part (x ∷ xs) = Some (x ∷ xs)
 
 -- `@` or `:`
 abbrev pub separates : ℕ → Bool
@@ -51,8 +51,8 @@ version_parts_of text =
     Some (before_first (is_byte 46) text)
     ∷ option_map (before_first (is_byte 46)) (behind_first_byte (is_byte 46) text)
     ∷ option_map (before_first (is_byte 45)) core
-    ∷ option_and_then (λ c. unless_empty (after_first (is_byte 45) c)) core
-    ∷ option_and_then (λ last. unless_empty (after_first (is_byte 43) last)) (third text) ∷ []
+    ∷ option_and_then (λ c. filled_part (after_first (is_byte 45) c)) core
+    ∷ option_and_then (λ last. filled_part (after_first (is_byte 43) last)) (third text) ∷ []
 
 -- the version fits one of three parts or more: each part that is given equals that of the other
 pub record Fits (given full : Name) : Type 0 where
@@ -76,8 +76,8 @@ pub record IsUrl (text : Name) (url : Url) : Type 0 where
   pub first : (x y : Name) → text ≡ x ++ (codes "://" ++ y) → length scheme ≤ length x
   pub protocol : url.protocol ≡ unwrap_or (behind_first_byte (is_byte 43) scheme) scheme
   pub path : url.path ≡ before_first (is_byte 63) (before_first (is_byte 35) rest)
-  pub query : url.query ≡ unless_empty (after_first (is_byte 63) (before_first (is_byte 35) rest))
-  pub fragment : url.fragment ≡ unless_empty (after_first (is_byte 35) rest)
+  pub query : url.query ≡ filled_part (after_first (is_byte 63) (before_first (is_byte 35) rest))
+  pub fragment : url.fragment ≡ filled_part (after_first (is_byte 35) rest)
 
 -- ---- the match
 

@@ -4,7 +4,7 @@
 ghost use Rattle.std.specs.Prelude.{◌≡◌, ◌↔◌, ◌<◌, ◌==◌, true, false, Ok, Err, option_map};
 ghost use Rattle.std.specs.Prelude.{MatchOption, is_some, option_copied, slice_index};
 ghost use Rattle.std.specs.List.{before_first, after_first};
-ghost use Rattle.hack_metadata.specs.PackageSpecs.{behind_first_byte, is_byte, unless_empty};
+ghost use Rattle.hack_metadata.specs.PackageSpecs.{behind_first_byte, is_byte, filled_part};
 ghost use Rattle.hack_metadata.specs.PackageSpecs.{third, version_parts_of};
 ghost use Rattle.std.specs.Char.{is_ascii_digit};
 ghost use Rattle.std.specs.Cmp.Lexicographic.{pointwise};
@@ -307,16 +307,16 @@ fn cut(text: &str, at: char) -> (&str, Option<&str>)
 fn cut_part(text: &str, at: char) -> (&str, Option<&str>)
     requires { at < 128 }
     ensures front { result.0.now ≡ before_first (is_byte at) text.now }
-    ensures rest { option_copied result.1 ≡ unless_empty (after_first (is_byte at) text.now) }
+    ensures rest { option_copied result.1 ≡ filled_part (after_first (is_byte at) text.now) }
 {
     match text.split_once(at) {
-        Some((front, rest)) => (front, unless_empty(rest)),
+        Some((front, rest)) => (front, filled_part(rest)),
         None => (text, None),
     }
 }
 
-fn unless_empty(text: &str) -> Option<&str>
-    ensures { option_copied result ≡ unless_empty text.now }
+fn filled_part(text: &str) -> Option<&str>
+    ensures { option_copied result ≡ filled_part text.now }
 {
     if text.is_empty() {
         return None;

@@ -16,12 +16,12 @@ abbrev pub own_in : RunLine → List (List ℕ)
 own_in line = flat_map target_pair (targets_in (call_view line.words.now) line.version line.slot) ++ manifest_words (option_map (λ path. path.now) line.manifest_path) ++ run_words (run_of line.run line.positions.items)
 
 -- the names of a run's features
-abbrev pub names_in : RunLine → List Name
-names_in line = map string_bytes line.features.now ++ run_names (groups_of line.candidates.now) (run_of line.run line.positions.items)
+abbrev pub line_names : RunLine → List Name
+line_names line = map string_bytes line.features.now ++ run_names (groups_of line.candidates.now) (run_of line.run line.positions.items)
 
 -- the command of a run
 abbrev pub command_in : RunLine → Command
-command_in line = call_command (call_view line.words.now) line.version (own_in line) (names_in line)
+command_in line = call_command (call_view line.words.now) line.version (own_in line) (line_names line)
 
 -- what a run shows: its command, as a list of commands shows it
 abbrev pub listed_text : RunLine → List ℕ

@@ -15,7 +15,7 @@ ghost use Rattle.hack_plan.specs.View.{call_view, plan_package_view};
 ghost use Rattle.hack_plan.specs.Commands.{rustup_run_words, candidate_names_at};
 ghost use Rattle.hack_plan.specs.Commands.{run_command};
 ghost use Rattle.hack_plan.specs.Commands.{run_names, run_words, target_pair, whole_command};
-ghost use Rattle.hack_plan.specs.Lines.{command_in, listed_text, names_in, own_in};
+ghost use Rattle.hack_plan.specs.Lines.{command_in, listed_text, line_names, own_in};
 ghost use Rattle.hack_plan.specs.Internal.{folder_behind};
 ghost use Rattle.hack_plan.specs.Lines.{shown_manifest, shown_target};
 ghost use Rattle.hack_plan.specs.Internal.{before_name, joined_names};
@@ -124,7 +124,7 @@ impl<'a> RunLine<'a> {
 
     /// The names of the run's features: those of `--features`, and after them those of its set.
     fn names(&self, alloc: Global) -> Result<Vec<&'a str>, AllocError>
-        ensures { IfOk result (λ names. names_behind names.items ≡ names_in self.now) }
+        ensures { IfOk result (λ names. names_behind names.items ≡ line_names self.now) }
     {
         let set = self.set();
         let mut names = Vec::with_capacity(alloc, self.features.len() + set.len())?;

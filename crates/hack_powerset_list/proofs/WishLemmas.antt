@@ -12,11 +12,11 @@ use Rattle.hack_features.specs.declared.feature.Feature.TheVariants.{Normal, Gro
 use Rattle.hack_base.proofs.Members.{Contains-map}
 use Rattle.hack_base.proofs.NameLemmas.{shown-more}
 use Rattle.hack_base.specs.Lists.{HasSeparator, group_names}
-use Rattle.hack_powerset_list.specs.Words.{Written, with_value, with_words, AreGroups, LacksSeparator}
+use Rattle.hack_powerset_list.specs.Words.{Written, with_option_value, with_words, AreGroups, LacksSeparator}
 
 -- an option and its value are taken, before the arguments that are left
 pub words-more : {Y : Type 0} (w more : Written) (texts : List (String Y)) (option value : String Y)
-    → 2 ≤ length texts → option ≡ get_or texts 0 option → value ≡ get_or texts 1 value → with_value w (string_bytes option) (string_bytes value) ≡ Some more
+    → 2 ≤ length texts → option ≡ get_or texts 0 option → value ≡ get_or texts 1 value → with_option_value w (string_bytes option) (string_bytes value) ≡ Some more
     → with_words w (names_of texts) ≡ with_words more (names_of (take (length texts - 2) (drop 2 texts)))
 words-more w more [] option value l e f taken = absurd (omega arith)
 words-more w more (x ∷ []) option value l e f taken = absurd (omega arith)

@@ -27,8 +27,8 @@ with_depth w value = if_first w.depth (record w { depth = Some value })
     if_first (Some depth) more = None
 
 -- with the value of an option; None if there is no such option, or the value is a second depth
-abbrev pub with_value : Written → Name → Name → Option Written
-with_value w option value = if bytes_eq option (codes "--depth") then with_depth w value
+abbrev pub with_option_value : Written → Name → Name → Option Written
+with_option_value w option value = if bytes_eq option (codes "--depth") then with_depth w value
     else if bytes_eq option (codes "--at-least-one-of") then Some (record w { at_least_one_of = w.at_least_one_of ++ value ∷ [] })
     else if bytes_eq option (codes "--mutually-exclusive-features") then Some (record w { exclusive = w.exclusive ++ value ∷ [] })
     else None
@@ -37,7 +37,7 @@ with_value w option value = if bytes_eq option (codes "--depth") then with_depth
 abbrev pub with_words : Written → List Name → Option Written
 with_words w [] = Some w
 with_words w (option ∷ []) = None
-with_words w (option ∷ value ∷ words) = option_and_then (λ more. with_words more words) (with_value w option value)
+with_words w (option ∷ value ∷ words) = option_and_then (λ more. with_words more words) (with_option_value w option value)
 
 -- the depth that is written, if any, is this number
 abbrev pub IsDepth : Option Name → Option ℕ → Type 0

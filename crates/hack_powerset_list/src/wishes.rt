@@ -4,7 +4,7 @@ ghost use Rattle.std.specs.Prelude.{◌≡◌, IfOk, IfErr, Some, None, option_m
 ghost use Rattle.std.specs.Prelude.{MatchBool, MatchOption};
 ghost use Rattle.hack_base.specs.Names.{names_of, names_behind};
 ghost use Rattle.hack_features.specs.Feature.{groups_of as names_in_groups};
-ghost use Rattle.hack_powerset_list.specs.Words.{none_written, with_value, with_words, Asks};
+ghost use Rattle.hack_powerset_list.specs.Words.{none_written, with_option_value, with_words, Asks};
 ghost use Rattle.hack_powerset_list.specs.Words.{RefusesWords, IsDepth, IsNoDepth, AreGroups};
 ghost use Rattle.hack_powerset_list.specs.Words.{LacksSeparator};
 ghost use Rattle.hack_powerset_list.specs.InternalWishesView.{shown_text, written_in};
@@ -71,8 +71,8 @@ impl<'a> Values<'a> {
     /// second value.
     fn take(&mut self, option: &str, value: &'a str) -> Result<bool, AllocError>
         ensures { IfOk result (λ taken. MatchBool taken
-            (with_value (written_in self.old) option.now value.now ≡ Some (written_in self.new))
-            (with_value (written_in self.old) option.now value.now ≡ None)) }
+            (with_option_value (written_in self.old) option.now value.now ≡ Some (written_in self.new))
+            (with_option_value (written_in self.old) option.now value.now ≡ None)) }
     {
         if option == DEPTH {
             if self.depth.is_some() {

@@ -22,9 +22,9 @@ use Rattle.hack_words.specs.declared.cli.env.Env.{Env}
 use Rattle.hack_words.specs.declared.cli.parse.Parsed.TheVariants as answer
 use Rattle.hack_recovery.specs.declared.asked.Edits.{Edits}
 use Rattle.hack_recovery.specs.declared.asked.Edits.TheVariants as edits
-use Rattle.hack_recovery.specs.AskedEdits.{AsksFor}
+use Rattle.hack_recovery.specs.AskedEdits.{AsksForEdits}
 use Rattle.hack_versions.specs.declared.rustup.Rustup.TheVariants.{Unasked}
-use Rattle.hack_recovery.specs.AskedEdits.AsksFor.{parsed, faulty}
+use Rattle.hack_recovery.specs.AskedEdits.AsksForEdits.{parsed, faulty}
 
 -- parsed arguments are those of the uses that broke no rule
 accepted : (behavior b : WorkspaceBehavior) (trailing t : List Name) (found us : List Use) (early late : Option Fault) (lists : Bool) → Parsed b t us ≡ option_map_or Faulty early (if lists then Listing found else option_map_or Faulty late (Parsed behavior trailing found)) → us ≡ found
@@ -58,7 +58,7 @@ not_good : (removes leaves : Bool) → edits.Back ≡ (if removes then edits.Goo
 not_good false leaves e = refl
 not_good true leaves e = cc
 
-pub back_restores : (env : Env) (words : List Name) (does : Edits) (path : Option Name) → AsksFor env words does path → does ≡ edits.Back → RestoresEdits env words
+pub back_restores : (env : Env) (words : List Name) (does : Edits) (path : Option Name) → AsksForEdits env words does path → does ≡ edits.Back → RestoresEdits env words
 back_restores env words does path (parsed (answer.Args args) notes h is at) back rustup (answer.Args more) told k =
     let same = same_uses (around_of env rustup) (around_of env Unasked) words k.0 h.0 k.1 h.1 k.2 h.2 k.3 h.3 in
     k.4.flags.remove_dev_deps ∙ ap (λ (us : List Use). is_given opt.RemoveDevDeps us) same ∙ sym h.4.flags.remove_dev_deps ∙ not_good args.remove_dev_deps (args.no_dev_deps || args.no_private) (sym back ∙ is)

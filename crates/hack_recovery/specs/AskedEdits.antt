@@ -39,7 +39,7 @@ manifest_by answer.List = None
 -- what a command line does to manifests, and the one that it names: what it is parsed into says
 -- so, and one that is refused does nothing and names none; what is known of rustup matters only for
 -- whether it is refused
-pub data AsksFor (env : Env) (words : List Name) (does : Edits) (path : Option Name) : Type 0 where
+pub data AsksForEdits (env : Env) (words : List Name) (does : Edits) (path : Option Name) : Type 0 where
   parsed : (read : Parsed) (notes : List Note) → IsAnswer (around_of env Unasked) (ComesTo (around_of env Unasked) words) read notes
-      → does ≡ edits_by read → path ≡ manifest_by read → AsksFor env words does path
-  faulty : (told : Fault) → ComesTo (around_of env Unasked) words (Faulty told) → does ≡ edits.None → path ≡ None → AsksFor env words does path
+      → does ≡ edits_by read → path ≡ manifest_by read → AsksForEdits env words does path
+  faulty : (told : Fault) → ComesTo (around_of env Unasked) words (Faulty told) → does ≡ edits.None → path ≡ None → AsksForEdits env words does path

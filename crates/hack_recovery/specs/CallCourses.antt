@@ -12,8 +12,8 @@ use Rattle.hack_process.specs.declared.caller.Caller.{Ghosts as Calling}
 use Rattle.hack_run.specs.Journals.{contents_seen, files_seen, world_seen}
 use Rattle.hack_run.specs.CallTrace.{IsCallTrace}
 use Rattle.hack_run.specs.TemporaryEdits.{BringsBack, IsClean, RestoresEdits}
-use Rattle.hack_run.specs.Refusals.{AreRefused, Refuses}
-use Rattle.hack_run.specs.Worlds.{FilesView, HostView, World, files_of, host_of}
+use Rattle.hack_run.specs.Refusals.{AreRefused, ReportsRefusal}
+use Rattle.hack_run.specs.Worlds.{FilesView, HostView, World, files_view, host_view}
 use Rattle.hack_run.specs.declared.host.Host.{Host}
 use Rattle.hack_term.specs.declared.term.Term.{Term}
 use Rattle.hack_words.specs.declared.cli.env.Env.{Env}
@@ -22,7 +22,7 @@ use Rattle.hack_recovery.specs.declared.admit.Way.TheVariants.{Plain, Guarded}
 use Rattle.hack_recovery.specs.declared.asked.Edits.{Edits}
 use Rattle.hack_recovery.specs.declared.asked.Edits.TheVariants as edits
 use Rattle.hack_recovery.specs.declared.fault.CallFault.{CallFault}
-use Rattle.hack_recovery.specs.AskedEdits.{AsksFor}
+use Rattle.hack_recovery.specs.AskedEdits.{AsksForEdits}
 use Rattle.hack_recovery.specs.LockEvents.{LocksView, after_release}
 use Rattle.hack_recovery.specs.Folders.{journal_of, start_at, workspace_from}
 use Rattle.hack_recovery.specs.Admission.{IsAdmitted}
@@ -39,7 +39,7 @@ pub record Scene : Type 0 where
   pub host : HostView
 
 abbrev pub scene_of : {F L C O E : Type 0} → Filing F → Filing L → Calling C → Writing O → F → L → LocksView → Host C O E → Scene
-scene_of f l c o files lockfiles locks host = record { files = files_of f files; lockfiles = l.bytes_at lockfiles; locks = locks; host = host_of c o host }
+scene_of f l c o files lockfiles locks host = record { files = files_view f files; lockfiles = l.bytes_at lockfiles; locks = locks; host = host_view c o host }
 
 -- what `run` sees of it
 abbrev pub world_in : Scene → World
@@ -66,7 +66,7 @@ IsFailed new = new.host.term.error ≡ true
 -- is at the journal's path; where edits are to come back, the call asks for none that stay
 pub record FindsJournal (tells : Type 0) (words : List Name) (env : Env) (does : Edits) (folder journal : Name) (there : Bool) (old new : FilesView) : Type 0 where
   pub path : Option Name
-  pub asked : AsksFor env words does path
+  pub asked : AsksForEdits env words does path
   pub back : does ≡ edits.Back → RestoresEdits env words
   pub place : journal ≡ journal_of folder
   pub found : Finds tells old.failed new.failed (folder ≡ workspace_from old.held (start_at path (string_bytes env.current_dir)))
@@ -129,7 +129,7 @@ pub data Restores (tells whole : Type 0) (folder journal : Name) (old new : File
 
 -- the call was performed without a journal: it meets what `run` promises
 pub record PerformsUnjournaled (tells talks : Type 0) (words : List Name) (env : Env) (old new : Scene) : Type 0 where
-  pub refused : AreRefused env words → Refuses talks env old.host new.host
+  pub refused : AreRefused env words → ReportsRefusal talks env old.host new.host
   pub done : new.host.term.error ≡ false → talks → IsCallTrace true tells words env (world_in old) (world_in new)
   pub made : talks → IsCallTrace false tells words env (world_in old) (world_in new)
   pub back : RestoresEdits env words → tells → BringsBack old.files new.files
@@ -140,7 +140,7 @@ pub record PerformsUnjournaled (tells talks : Type 0) (words : List Name) (env :
 -- the call was performed with a journal at this path, and so many calls of files failed: it meets
 -- what `run_journaled` promises
 pub record Journals (tells whole locked talks : Type 0) (words : List Name) (env : Env) (journal : Name) (failed : ℕ) (old new : Scene) : Type 0 where
-  pub refused : AreRefused env words → Refuses talks env old.host new.host
+  pub refused : AreRefused env words → ReportsRefusal talks env old.host new.host
   pub done : new.host.term.error ≡ false → talks → IsCallTrace true (tells × locked) words env
       (world_seen journal old.files.held old.lockfiles 0 old.host) (world_seen journal new.files.held new.lockfiles failed new.host)
   pub made : talks → IsCallTrace false (tells × locked) words env

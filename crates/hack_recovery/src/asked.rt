@@ -6,7 +6,7 @@ ghost use Rattle.hack_rules.specs.declared.fault.CliFault.TheVariants.{Memory};
 ghost use Rattle.hack_words.specs.Start.{wants_rustup as rustup_wanted};
 ghost use Rattle.hack_run.specs.Readings.{IsEarlyReading};
 ghost use Rattle.hack_run.specs.TemporaryEdits.{RestoresEdits};
-ghost use Rattle.hack_recovery.specs.AskedEdits.{AsksFor, edits_asked, edits_by, is_edit};
+ghost use Rattle.hack_recovery.specs.AskedEdits.{AsksForEdits, edits_asked, edits_by, is_edit};
 ghost use Rattle.hack_recovery.specs.AskedEdits.{manifest_by};
 
 use hack_base::copies::copy_of;
@@ -64,7 +64,7 @@ impl Asked {
     /// What this command line asks for. One that is refused, or that asks for a text, does nothing
     /// to manifests.
     pub fn of(alloc: Global, words: &[String], env: &Env) -> Result<Asked, AllocError>
-        ensures asks { IfOk result (λ asked. AsksFor env.now (names_of words.now)
+        ensures asks { IfOk result (λ asked. AsksForEdits env.now (names_of words.now)
             asked.edits (optional_text asked.manifest_path)) }
         // Where edits come back, none is asked for that stays, whatever rustup answers.
         ensures back { IfOk result (λ asked. asked.edits ≡ Edits.Back

@@ -5,7 +5,7 @@ ghost use Rattle.hack_base.specs.Names.{names_of};
 ghost use Rattle.hack_files.specs.Files.{KeepsAll, Makes};
 ghost use Rattle.hack_recovery.specs.CallCourses.{FindsJournal};
 ghost use Rattle.hack_run.specs.Readings.{IsEarlyReading};
-ghost use Rattle.hack_run.specs.Worlds.{files_of};
+ghost use Rattle.hack_run.specs.Worlds.{files_view};
 
 use crate::asked::{Asked, Edits};
 use crate::journal::journal_in;
@@ -41,8 +41,8 @@ pub(crate) fn begin<F: Files>(
     ensures begun { IfOk result (λ begun. FindsJournal F.tells
         (names_of words.now) env.now begun.edits
         (string_bytes begun.folder) (string_bytes begun.journal) begun.is_there
-        (files_of F.Files files.old)
-        (files_of F.Files files.new)) }
+        (files_view F.Files files.old)
+        (files_view F.Files files.new)) }
     ensures reading { IfOk result (λ begun. IfSome begun.reading
         (IsEarlyReading env.now (names_of words.now))) }
     ensures same { F.tells → KeepsAll (F.bytes_at files.old) (F.bytes_at files.new) }

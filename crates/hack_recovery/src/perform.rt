@@ -9,7 +9,7 @@ ghost use Rattle.hack_recovery.specs.CallCourses.{IsCallCourse, Continues, IsJou
 ghost use Rattle.hack_recovery.specs.CallCourses.{IsJournaledCall, IsLockedCourse};
 ghost use Rattle.hack_recovery.specs.CallCourses.{scene_of};
 ghost use Rattle.hack_run.specs.Readings.{IsEarlyReading};
-ghost use Rattle.hack_run.specs.Worlds.{IsSameHost, files_of};
+ghost use Rattle.hack_run.specs.Worlds.{IsSameHost, files_view};
 ghost use Rattle.hack_term.specs.Lines.{IsExitStatus};
 
 use crate::admit::{Way, admit};
@@ -215,8 +215,8 @@ fn close<F: Files, E: Write>(
     err: &mut E,
 ) -> Result<(), AllocError>
     ensures told { OnOk result (IsJournalClosed F.tells journal.now
-        (files_of F.Files files.old)
-        (files_of F.Files files.new)
+        (files_view F.Files files.old)
+        (files_view F.Files files.new)
         term.old term.new) }
     ensures same { F.tells → KeepsAll (F.bytes_at files.old) (F.bytes_at files.new) }
     ensures untraced { F.whole → Makes [] (F.trace files.old) (F.trace files.new)

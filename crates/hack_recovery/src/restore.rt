@@ -6,7 +6,7 @@ ghost use Rattle.hack_files.specs.Files.{KeepsAll, Makes};
 ghost use Rattle.hack_recovery.specs.FileLooks.{Finds};
 ghost use Rattle.hack_recovery.specs.Strangers.{NamesStranger, NamesNone};
 ghost use Rattle.hack_recovery.specs.CallCourses.{IsBroughtBack, Restores, noted};
-ghost use Rattle.hack_run.specs.Worlds.{files_of};
+ghost use Rattle.hack_run.specs.Worlds.{files_view};
 
 use crate::fault::CallFault;
 use crate::journal::stranger;
@@ -28,8 +28,8 @@ pub(crate) fn restore<F: Files, E: Write>(
     err: &mut E,
 ) -> Result<bool, CallFault>
     ensures { Restores F.tells F.whole folder.now journal.now
-        (files_of F.Files files.old)
-        (files_of F.Files files.new)
+        (files_view F.Files files.old)
+        (files_view F.Files files.new)
         term.old term.new result }
 {
     match stranger_in(alloc, folder, journal, files)? {
@@ -87,8 +87,8 @@ fn bring_back<F: Files, E: Write>(
     err: &mut E,
 ) -> Result<bool, CallFault>
     ensures { IsBroughtBack F.tells F.whole journal.now
-        (files_of F.Files files.old)
-        (files_of F.Files files.new)
+        (files_view F.Files files.old)
+        (files_view F.Files files.new)
         term.old term.new result }
 {
     match recover(alloc, files, journal) {

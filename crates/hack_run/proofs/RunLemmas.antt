@@ -27,7 +27,7 @@ use Rattle.hack_versions.specs.declared.version.Version.{Version}
 use Rattle.hack_base.specs.Notes.{Note}
 use Rattle.hack_planner.proofs.Performing.{performable}
 use Rattle.hack_planner.specs.CallPlan.{IsPlanOf}
-use Rattle.hack_run.specs.CallTrace.{PerformsOne, Writes}
+use Rattle.hack_run.specs.CallTrace.{PerformsOne, WritesText}
 use Rattle.hack_session.specs.Handouts.{IsDriven}
 use Rattle.hack_run.specs.Internal.{Extends, HandsOverAtMostOne, ListsOver, PerformsAtMostOne, host_writing}
 use Rattle.hack_run.specs.Warnings.{Warned}
@@ -142,7 +142,7 @@ all_handed (h ∷ steps) sent listed = go (is_sent h) refl sent (λ l. all_hande
     go false is all rest = let l = rw is at all in All-cons HasPassed h steps (passed_by h is (All-head IsListedStep h steps listed)) (rest l)
 
 -- what a list wrote to its end, where what is gathered is written after it
-wrote_end : (had has out : Option (List ℕ)) (text : List ℕ) → Writes true true had has text → Keeps has out → Writes true true had out text
+wrote_end : (had has out : Option (List ℕ)) (text : List ℕ) → WritesText true true had has text → Keeps has out → WritesText true true had out text
 wrote_end had has out text w kept = Appends-kept had has out text w kept
 
 -- a list whose end was written: its output grew by its lines
@@ -161,7 +161,7 @@ list_ends (Ok v) refused none short flushed quiet tells cx stable rustup warned 
       driven = d.driven;
       calls = d.calls;
       wrote = wrote_end old.out (append_known mid.out gathered) out (flat_map (lines_written d.course.plan) d.course.handed)
-          (subst (λ (x : Option (List ℕ)). Writes true true x (append_known mid.out gathered) (flat_map (lines_written d.course.plan) d.course.handed)) start d.wrote) (kept came.3);
+          (subst (λ (x : Option (List ℕ)). WritesText true true x (append_known mid.out gathered) (flat_map (lines_written d.course.plan) d.course.handed)) start d.wrote) (kept came.3);
       passed = d.passed;
       warns = d.warns;
     }
@@ -171,7 +171,7 @@ pub extends_then : (a b c : Option (List ℕ)) → Extends a b → Extends b c �
 extends_then a b c p q = (p.0 ++ q.0, Appends-trans a b c p.0 q.0 p.1 q.1)
 
 -- of a front that was written or gathered, what was written is a front, where the output only grew
-shown_then : (a b c : Option (List ℕ)) (left text : List ℕ) → Writes false true a b text → Keeps b (append_known c left) → Extends a c → Writes false true a c text
+shown_then : (a b c : Option (List ℕ)) (left text : List ℕ) → WritesText false true a b text → Keeps b (append_known c left) → Extends a c → WritesText false true a c text
 shown_then None b c left text w k g = (text, [], sym (append-nil text), tt)
 shown_then (Some x) None c left text w k g = absurd w.3
 shown_then (Some x) (Some y) None left text w k g = absurd k
@@ -185,8 +185,8 @@ pub list_shows : (cx : ContextRecord) (stable : Result (Option Version) (String 
     → begun ≡ [] → PerformsAtMostOne true cx stable rustup (host_writing begun old) (host_writing gathered mid) → Keeps (append_known mid.out gathered) (append_known out left) → Extends old.out out → PerformsAtMostOne true cx stable rustup old (record mid { out = out })
 list_shows cx stable rustup old mid begun gathered left out empty made kept grown = go made
   where
-    shown : (text : List ℕ) → Writes false true (append_known old.out begun) (append_known mid.out gathered) text → Writes false true old.out out text
-    shown text w = shown_then old.out (append_known mid.out gathered) out left text (subst (λ (o : Option (List ℕ)). Writes false true o (append_known mid.out gathered) text) (ap (append_known old.out) empty ∙ known-none old.out) w) kept grown
+    shown : (text : List ℕ) → WritesText false true (append_known old.out begun) (append_known mid.out gathered) text → WritesText false true old.out out text
+    shown text w = shown_then old.out (append_known mid.out gathered) out left text (subst (λ (o : Option (List ℕ)). WritesText false true o (append_known mid.out gathered) text) (ap (append_known old.out) empty ∙ known-none old.out) w) kept grown
 
     go : PerformsAtMostOne true cx stable rustup (host_writing begun old) (host_writing gathered mid) → PerformsAtMostOne true cx stable rustup old (record mid { out = out })
     go (inl none) = inl (none.0, shown [] none.1)

@@ -32,7 +32,7 @@ use Rattle.hack_words.specs.declared.cli.args.Args.{Args}
 use Rattle.hack_words.specs.declared.cli.env.Env.{Env}
 use Rattle.hack_words.specs.declared.cli.parse.Parsed.{Parsed}
 use Rattle.hack_words.specs.declared.cli.parse.Parsed.TheVariants as parsed
-use Rattle.hack_run.specs.CallTrace.{AfterLoading, IsCallTrace, LoadsAndPerforms, Obeys, PerformsOne, PerformsPlan, ReadsAndObeys, Stops, Writes, listing_asked, warned_by}
+use Rattle.hack_run.specs.CallTrace.{AfterLoading, IsCallTrace, LoadsAndPerforms, Obeys, PerformsOne, PerformsPlan, ReadsAndObeys, Stops, WritesText, listing_asked, warned_by}
 use Rattle.hack_run.specs.Internal.{PerformsAtMostOne}
 use Rattle.hack_run.specs.Loading.{AreLoaded}
 use Rattle.hack_run.specs.Questions.{AsksRustup, AsksStable, MayAskStable, NeedsAnswer, rustup_asked}
@@ -59,12 +59,12 @@ on_ok P Q (Ok v) f p = f p
 on_ok P Q (Err e) f p = tt
 
 -- a whole text is a front of it
-pub all_shown : (done : Bool) (a b : Option (List ℕ)) (text : List ℕ) → Appends a b text → Writes done true a b text
+pub all_shown : (done : Bool) (a b : Option (List ℕ)) (text : List ℕ) → Appends a b text → WritesText done true a b text
 all_shown true a b text w = w
 all_shown false a b text w = (text, [], sym (append-nil text), w)
 
 -- nothing is printed
-pub shows_nothing : (listing : Bool) (had : Option (List ℕ)) → Writes false listing had had []
+pub shows_nothing : (listing : Bool) (had : Option (List ℕ)) → WritesText false listing had had []
 shows_nothing true had = ([], [], refl, Appends-nil had)
 shows_nothing false had = tt
 

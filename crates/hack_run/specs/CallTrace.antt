@@ -40,10 +40,10 @@ abbrev pub Stops : Bool → List Call → HostView → HostView → Type 0
 Stops done calls old new = (done ≡ false) × (new.calls ≡ calls) × (new.out ≡ old.out)
 
 -- this text was written, or a front of it where an error ended the call; of runs nothing is said
-abbrev pub Writes : Bool → Bool → Option (List ℕ) → Option (List ℕ) → List ℕ → Type 0
-Writes true true had has text = Appends had has text
-Writes false true had has text = AppendsFront had has text
-Writes done false had has text = Unit {0}
+abbrev pub WritesText : Bool → Bool → Option (List ℕ) → Option (List ℕ) → List ℕ → Type 0
+WritesText true true had has text = Appends had has text
+WritesText false true had has text = AppendsFront had has text
+WritesText done false had has text = Unit {0}
 
 -- One history of a context's plan, made with this answer on stable's version, was handed out. Its
 -- steps made just these calls, one after the other, of a list those that aren't listed, which wrote
@@ -59,7 +59,7 @@ pub record PerformsOne (done listing : Bool) (cx : ContextRecord)
   pub driven : IsDriven cx.args.partition cx.args.keep_going course
   pub calls : MakesCalls (λ made.
       PerformsAll course.plan (if listing then filter is_sent course.handed else course.handed) made cut) old.calls new.calls
-  pub wrote : Writes done listing old.out new.out (flat_map (lines_written course.plan) course.handed)
+  pub wrote : WritesText done listing old.out new.out (flat_map (lines_written course.plan) course.handed)
   pub passed : done ≡ true → All HasPassed course.handed
   pub warns : done ≡ true → Warned notes warned new.term.warn
 
@@ -68,7 +68,7 @@ pub record PerformsOne (done listing : Bool) (cx : ContextRecord)
 abbrev pub PerformsPlan : Bool → ContextRecord → Name → Bool → HostView → HostView → Type 0
 PerformsPlan done cx rustup warned old new =
     ((mid : List Call) × MayAskStable rustup old.calls mid × (¬ NeedsAnswer cx.args → mid ≡ old.calls)
-    × (done ≡ false) × (new.calls ≡ mid) × Writes false cx.args.print_command_list old.out new.out [])
+    × (done ≡ false) × (new.calls ≡ mid) × WritesText false cx.args.print_command_list old.out new.out [])
     ⊎ ((mid : List Call) × (stable : Result (Option Version) (String Global))
     × AsksStable rustup stable old.calls mid × (¬ NeedsAnswer cx.args → stable ≡ Ok None)
     × PerformsOne done cx.args.print_command_list cx stable rustup warned (host_at mid old) new)
@@ -105,7 +105,7 @@ Obeys done tells (parsed.Args args) env warned old new =
     LoadsAndPerforms done tells args env warned old new
 Obeys done tells (parsed.Print text) env warned old new =
     (new.host.calls ≡ old.host.calls)
-    × Writes done true old.host.out new.host.out (string_bytes text)
+    × WritesText done true old.host.out new.host.out (string_bytes text)
     × (done ≡ true → new.host.term.warn ≡ warned)
 Obeys done tells parsed.List env warned old new =
     MayAdd (listing_asked (string_bytes env.cargo)) old.host.calls new.host.calls

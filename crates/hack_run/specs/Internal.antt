@@ -9,7 +9,7 @@ use Rattle.hack_session.specs.declared.step.Handed.{Handed}
 use Rattle.hack_base.specs.Notes.{Note}
 use Rattle.hack_versions.specs.declared.version.Version.{Version}
 use Rattle.hack_run.specs.Worlds.{HostView}
-use Rattle.hack_run.specs.CallTrace.{PerformsOne, Writes}
+use Rattle.hack_run.specs.CallTrace.{PerformsOne, WritesText}
 use Rattle.hack_process.specs.Calls.{Call}
 use Rattle.hack_versions.specs.ToolTexts.{rustup_part}
 use Rattle.hack_versions.specs.declared.rustup.Rustup.{Rustup}
@@ -36,7 +36,7 @@ Extends old new = (bs : List ℕ) × Appends old new bs
 -- one history was performed, or nothing was called and nothing listed
 abbrev pub PerformsAtMostOne : Bool → ContextRecord → Result (Option Version) (String Global) → Name → HostView → HostView → Type 0
 PerformsAtMostOne listing cx stable rustup old new =
-    ((new.calls ≡ old.calls) × Writes false listing old.out new.out [])
+    ((new.calls ≡ old.calls) × WritesText false listing old.out new.out [])
     ⊎ PerformsOne false listing cx stable rustup old.term.warn old new
 
 -- a context's list was handed out to its end, and its steps that aren't listed to a runner,

@@ -15,5 +15,5 @@ abbrev pub AreRefused : Env → List Name → Type 0
 AreRefused env words = (rustup : Rustup) → (told : Fault) × ComesTo (around_of env rustup) words (Faulty told)
 
 -- an error was reported, and nothing was called, or just rustup for its version
-abbrev pub Refuses : Type 0 → Env → HostView → HostView → Type 0
-Refuses talks env old new = (new.term.error ≡ true) × (talks → MayAdd (rustup_asked (string_bytes env.rustup)) old.calls new.calls)
+abbrev pub ReportsRefusal : Type 0 → Env → HostView → HostView → Type 0
+ReportsRefusal talks env old new = (new.term.error ≡ true) × (talks → MayAdd (rustup_asked (string_bytes env.rustup)) old.calls new.calls)

@@ -25,14 +25,14 @@ pub record World : Type 0 where
   pub files : FilesView
   pub host : HostView
 
-abbrev pub files_of : {F : Type 0} → Filing F → F → FilesView
-files_of f files = record { held = f.bytes_at files; trace = f.trace files; failed = f.failed files }
+abbrev pub files_view : {F : Type 0} → Filing F → F → FilesView
+files_view f files = record { held = f.bytes_at files; trace = f.trace files; failed = f.failed files }
 
-abbrev pub host_of : {C O E : Type 0} → Calling C → Writing O → Host C O E → HostView
-host_of c o host = record { calls = c.calls host.caller.now; out = o.contents host.out.now; term = host.term.now }
+abbrev pub host_view : {C O E : Type 0} → Calling C → Writing O → Host C O E → HostView
+host_view c o host = record { calls = c.calls host.caller.now; out = o.contents host.out.now; term = host.term.now }
 
 abbrev pub world_of : {F C O E : Type 0} → Filing F → Calling C → Writing O → F → Host C O E → World
-world_of f c o files host = record { files = files_of f files; host = host_of c o host }
+world_of f c o files host = record { files = files_view f files; host = host_view c o host }
 
 -- a host, or a world, at which these programs were called so far
 abbrev pub host_at : List Call → HostView → HostView

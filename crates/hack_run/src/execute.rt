@@ -5,7 +5,7 @@ ghost use Rattle.hack_load.specs.ContextView.{context_view};
 ghost use Rattle.hack_run.specs.Internal.{PerformsAtMostOne};
 ghost use Rattle.hack_run.specs.Questions.{IsAnswered};
 ghost use Rattle.hack_run.specs.CallTrace.{PerformsOne};
-ghost use Rattle.hack_run.specs.Worlds.{IsSameHost, host_of};
+ghost use Rattle.hack_run.specs.Worlds.{IsSameHost, host_view};
 
 use crate::drive::drive_context;
 use crate::fault::RunFault;
@@ -32,10 +32,10 @@ pub(crate) fn execute<C: Caller, O: Write, E: Write>(
     ensures done { OnOk result (host.new.term.now.error ≡ false → C.tells
         → PerformsOne true false (context_view cx.now) stable
         (string_bytes host.old.env.now.rustup) host.old.term.now.warn
-        (host_of C.Caller O.Write host.old) (host_of C.Caller O.Write host.new)) }
+        (host_view C.Caller O.Write host.old) (host_view C.Caller O.Write host.new)) }
     ensures made { C.tells → PerformsAtMostOne false (context_view cx.now) stable
         (string_bytes host.old.env.now.rustup)
-        (host_of C.Caller O.Write host.old) (host_of C.Caller O.Write host.new) }
+        (host_view C.Caller O.Write host.old) (host_view C.Caller O.Write host.new) }
 {
     let mut fault = None;
     let session = match hand_to_starter(cx, stable, &mut fault, host) {
@@ -62,10 +62,10 @@ fn hand_to_starter<C: Caller, O: Write, E: Write>(
     ensures done { OnOk result (fault.new ≡ None → host.new.term.now.error ≡ false → C.tells
         → PerformsOne true false (context_view cx.now) stable
         (string_bytes host.old.env.now.rustup) host.old.term.now.warn
-        (host_of C.Caller O.Write host.old) (host_of C.Caller O.Write host.new)) }
+        (host_view C.Caller O.Write host.old) (host_view C.Caller O.Write host.new)) }
     ensures made { C.tells → PerformsAtMostOne false (context_view cx.now) stable
         (string_bytes host.old.env.now.rustup)
-        (host_of C.Caller O.Write host.old) (host_of C.Caller O.Write host.new) }
+        (host_view C.Caller O.Write host.old) (host_view C.Caller O.Write host.new) }
 {
     let rustup = host.env.rustup.as_str();
     let (log_group, keep_going) = manner(cx.args());

@@ -10,8 +10,8 @@ ghost use Rattle.hack_run.specs.Journals.{contents_seen, files_seen, world_seen}
 ghost use Rattle.hack_run.specs.CallTrace.{IsCallTrace};
 ghost use Rattle.hack_run.specs.Readings.{IsEarlyReadingOrRefusal};
 ghost use Rattle.hack_run.specs.TemporaryEdits.{BringsBack, RestoresEdits};
-ghost use Rattle.hack_run.specs.Refusals.{AreRefused, Refuses};
-ghost use Rattle.hack_run.specs.Worlds.{IsSameHost, host_of};
+ghost use Rattle.hack_run.specs.Refusals.{AreRefused, ReportsRefusal};
+ghost use Rattle.hack_run.specs.Worlds.{IsSameHost, host_view};
 ghost use Rattle.hack_term.specs.Lines.{IsExitStatus};
 
 use crate::host::Host;
@@ -42,20 +42,20 @@ pub fn run_journaled<F: Files, L: Files, C: Caller, O: Write, E: Write>(
     // The clauses `refused`, `done` and `made` promise what those of `run` do; and where no error
     // was reported each path holds what it held, unless the command line asks for edits that stay.
     ensures refused { AreRefused host.old.env.now (names_of words.now)
-        → Refuses C.tells host.old.env.now
-        (host_of C.Caller O.Write host.old) (host_of C.Caller O.Write host.new) }
+        → ReportsRefusal C.tells host.old.env.now
+        (host_view C.Caller O.Write host.old) (host_view C.Caller O.Write host.new) }
     ensures done { host.new.term.now.error ≡ false → C.tells
         → IsCallTrace true (F.tells × L.tells) (names_of words.now) host.old.env.now
         (world_seen (string_bytes journal) (F.bytes_at files) (L.bytes_at lockfiles) 0
-        (host_of C.Caller O.Write host.old))
+        (host_view C.Caller O.Write host.old))
         (world_seen (string_bytes journal) (F.bytes_at result.1) (L.bytes_at result.2) result.3
-        (host_of C.Caller O.Write host.new)) }
+        (host_view C.Caller O.Write host.new)) }
     ensures made { C.tells
         → IsCallTrace false (F.tells × L.tells) (names_of words.now) host.old.env.now
         (world_seen (string_bytes journal) (F.bytes_at files) (L.bytes_at lockfiles) 0
-        (host_of C.Caller O.Write host.old))
+        (host_view C.Caller O.Write host.old))
         (world_seen (string_bytes journal) (F.bytes_at result.1) (L.bytes_at result.2) result.3
-        (host_of C.Caller O.Write host.new)) }
+        (host_view C.Caller O.Write host.new)) }
     ensures clean { host.new.term.now.error ≡ false
         → RestoresEdits host.old.env.now (names_of words.now) → F.tells → L.tells → KeepsAll
         (contents_seen (string_bytes journal) (F.bytes_at files) (L.bytes_at lockfiles))

@@ -6,7 +6,7 @@ ghost use Rattle.hack_run.specs.Internal.{HandsOverAtMostOne, PerformsAtMostOne}
 ghost use Rattle.hack_run.specs.Questions.{IsAnswered};
 ghost use Rattle.hack_run.specs.CallTrace.{PerformsOne};
 ghost use Rattle.hack_run.specs.Internal.{Extends, ListsOver};
-ghost use Rattle.hack_run.specs.Worlds.{IsSameHost, host_of};
+ghost use Rattle.hack_run.specs.Worlds.{IsSameHost, host_view};
 ghost use Rattle.hack_run.specs.Internal.{host_writing};
 
 use crate::drive::{Teller, drive_context};
@@ -48,10 +48,10 @@ pub(crate) fn print_list<C: Caller, O: Write, E: Write>(
     ensures done { OnOk result (host.new.term.now.error ≡ false → C.tells
         → PerformsOne true true (context_view cx.now) stable
         (string_bytes host.old.env.now.rustup) host.old.term.now.warn
-        (host_of C.Caller O.Write host.old) (host_of C.Caller O.Write host.new)) }
+        (host_view C.Caller O.Write host.old) (host_view C.Caller O.Write host.new)) }
     ensures made { C.tells → PerformsAtMostOne true (context_view cx.now) stable
         (string_bytes host.old.env.now.rustup)
-        (host_of C.Caller O.Write host.old) (host_of C.Caller O.Write host.new) }
+        (host_view C.Caller O.Write host.old) (host_view C.Caller O.Write host.new) }
 {
     let mut gathered = room(host.alloc)?;
     let came = hand_to_lister(cx, stable, &mut gathered, host);
@@ -72,12 +72,12 @@ fn hand_to_lister<C: Caller, O: Write, E: Write>(
         → host.new.term.now.error ≡ false → C.tells
         → PerformsOne true true (context_view cx.now) stable
         (string_bytes host.old.env.now.rustup) host.old.term.now.warn
-        (host_writing gathered.old.items (host_of C.Caller O.Write host.old))
-        (host_writing gathered.new.items (host_of C.Caller O.Write host.new)) }
+        (host_writing gathered.old.items (host_view C.Caller O.Write host.old))
+        (host_writing gathered.new.items (host_view C.Caller O.Write host.new)) }
     ensures made { C.tells → PerformsAtMostOne true (context_view cx.now) stable
         (string_bytes host.old.env.now.rustup)
-        (host_writing gathered.old.items (host_of C.Caller O.Write host.old))
-        (host_writing gathered.new.items (host_of C.Caller O.Write host.new)) }
+        (host_writing gathered.old.items (host_view C.Caller O.Write host.old))
+        (host_writing gathered.new.items (host_view C.Caller O.Write host.new)) }
     ensures grown { Extends (O.contents host.old.out.now) (O.contents host.new.out.now) }
 {
     let rustup = host.env.rustup.as_str();

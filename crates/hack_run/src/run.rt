@@ -12,8 +12,8 @@ ghost use Rattle.hack_run.specs.CallTrace.{IsCallTrace, Obeys, listing_asked, wa
 ghost use Rattle.hack_run.specs.Questions.{rustup_asked};
 ghost use Rattle.hack_run.specs.Readings.{IsEarlyReadingOrRefusal};
 ghost use Rattle.hack_run.specs.TemporaryEdits.{BringsBack, ComesBack, IsClean, RestoresEdits};
-ghost use Rattle.hack_run.specs.Refusals.{AreRefused, Refuses};
-ghost use Rattle.hack_run.specs.Worlds.{IsSameHost, files_of, host_of, world_of};
+ghost use Rattle.hack_run.specs.Refusals.{AreRefused, ReportsRefusal};
+ghost use Rattle.hack_run.specs.Worlds.{IsSameHost, files_view, host_view, world_of};
 ghost use Rattle.hack_term.specs.Lines.{IsExitStatus};
 
 use crate::fault::RunFault;
@@ -51,8 +51,8 @@ pub fn run<F: Files, C: Caller, O: Write, E: Write>(
     // A command line that is refused whatever rustup answers is reported as an error, and then
     // nothing was called, or just rustup for its version.
     ensures refused { AreRefused host.old.env.now (names_of words.now)
-        → Refuses C.tells host.old.env.now
-        (host_of C.Caller O.Write host.old) (host_of C.Caller O.Write host.new) }
+        → ReportsRefusal C.tells host.old.env.now
+        (host_view C.Caller O.Write host.old) (host_view C.Caller O.Write host.new) }
 
     // Where no error was reported, what the command line asks for was done: the calls end with
     // those of the whole schedule of the plan, which follows from what this call asked and read. A
@@ -74,13 +74,13 @@ pub fn run<F: Files, C: Caller, O: Write, E: Write>(
     // The files are restored: unless the command line asks for edits that stay, each path holds
     // what it held, except for at most as many paths as calls of the files failed.
     ensures back { RestoresEdits host.old.env.now (names_of words.now) → F.tells
-        → BringsBack (files_of F.Files files.old) (files_of F.Files files.new) }
+        → BringsBack (files_view F.Files files.old) (files_view F.Files files.new) }
 
     // A call of the files that failed is reported as an error: where none was reported, none
     // failed, and each path holds what it held, unless the command line asks for edits that stay.
     ensures clean { host.new.term.now.error ≡ false
         → IsClean (RestoresEdits host.old.env.now (names_of words.now)) F.tells
-        (files_of F.Files files.old) (files_of F.Files files.new) }
+        (files_view F.Files files.old) (files_view F.Files files.new) }
 {
     let env = host.env;
     let came = read(words, reading, files, host);
@@ -109,10 +109,10 @@ fn read<F: Files, C: Caller, O: Write, E: Write>(
         (world_of F.Files C.Caller O.Write files.old host.old)
         (world_of F.Files C.Caller O.Write files.new host.new) }
     ensures back { RestoresEdits host.old.env.now (names_of words.now) → F.tells
-        → BringsBack (files_of F.Files files.old) (files_of F.Files files.new) }
+        → BringsBack (files_view F.Files files.old) (files_view F.Files files.new) }
     ensures clean { OnOk result (host.new.term.now.error ≡ false
         → IsClean (RestoresEdits host.old.env.now (names_of words.now)) F.tells
-        (files_of F.Files files.old) (files_of F.Files files.new)) }
+        (files_view F.Files files.old) (files_view F.Files files.new)) }
 {
     let env = host.env;
     match reading_of(
@@ -147,10 +147,10 @@ fn obey<F: Files, C: Caller, O: Write, E: Write>(
         (world_of F.Files C.Caller O.Write files.old host.old)
         (world_of F.Files C.Caller O.Write files.new host.new) }
     ensures back { ComesBack parsed → F.tells
-        → BringsBack (files_of F.Files files.old) (files_of F.Files files.new) }
+        → BringsBack (files_view F.Files files.old) (files_view F.Files files.new) }
     ensures clean { OnOk result (host.new.term.now.error ≡ false
         → IsClean (ComesBack parsed) F.tells
-        (files_of F.Files files.old) (files_of F.Files files.new)) }
+        (files_view F.Files files.old) (files_view F.Files files.new)) }
 {
     match parsed {
         Parsed::Args(args) => {

@@ -15,7 +15,7 @@ ghost use Rattle.hack_run.specs.Internal.{PerformsAtMostOne};
 ghost use Rattle.hack_run.specs.TemporaryEdits.{BringsBack, IsClean};
 ghost use Rattle.hack_run.specs.Questions.{IsAnswered};
 ghost use Rattle.hack_run.specs.Warnings.{after_notes};
-ghost use Rattle.hack_run.specs.Worlds.{IsSameHost, files_of, host_of, world_of};
+ghost use Rattle.hack_run.specs.Worlds.{IsSameHost, files_view, host_view, world_of};
 
 use crate::ask::stable_for;
 use crate::execute::execute;
@@ -52,10 +52,10 @@ pub(crate) fn perform<F: Files, C: Caller, O: Write, E: Write>(
         (world_of F.Files C.Caller O.Write files.old host.old)
         (world_of F.Files C.Caller O.Write files.new host.new) }
     ensures back { args.remove_dev_deps ≡ false → F.tells
-        → BringsBack (files_of F.Files files.old) (files_of F.Files files.new) }
+        → BringsBack (files_view F.Files files.old) (files_view F.Files files.new) }
     ensures clean { OnOk result (host.new.term.now.error ≡ false
         → IsClean (args.remove_dev_deps ≡ false) F.tells
-        (files_of F.Files files.old) (files_of F.Files files.new)) }
+        (files_view F.Files files.old) (files_view F.Files files.new)) }
 {
     let mut manager = Manager::new(host.alloc, !args.remove_dev_deps);
     let answers = Answers::ask(
@@ -174,10 +174,10 @@ fn run_plan<C: Caller, O: Write, E: Write>(
     ensures done { OnOk result (host.new.term.now.error ≡ false → C.tells
         → PerformsOne true (context_view cx.now).args.print_command_list (context_view cx.now)
         stable (string_bytes host.old.env.now.rustup) host.old.term.now.warn
-        (host_of C.Caller O.Write host.old) (host_of C.Caller O.Write host.new)) }
+        (host_view C.Caller O.Write host.old) (host_view C.Caller O.Write host.new)) }
     ensures made { C.tells → PerformsAtMostOne (context_view cx.now).args.print_command_list
         (context_view cx.now) stable (string_bytes host.old.env.now.rustup)
-        (host_of C.Caller O.Write host.old) (host_of C.Caller O.Write host.new) }
+        (host_view C.Caller O.Write host.old) (host_view C.Caller O.Write host.new) }
 {
     if cx.args().print_command_list {
         return print_list(cx, stable, host);

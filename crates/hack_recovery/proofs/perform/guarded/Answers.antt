@@ -1,6 +1,6 @@
 use Rattle.std.proofs.Common.{ap, refl}
 use Rattle.hack_term.specs.declared.term.Term.{Term}
-use Rattle.hack_run.specs.Worlds.{files_of}
+use Rattle.hack_run.specs.Worlds.{files_view}
 use Rattle.hack_recovery.specs.CallCourses.IsLockedCourse.{cut_short, ended, went_on}
 use Rattle.hack_recovery.proofs.WayLemmas.{not_restored}
 use Rattle.hack_recovery.proofs.perform.guarded.Goals as goal
@@ -12,7 +12,7 @@ returns-then-not-is_back-clause-goes g c =
 
 pub returns-else-not-is_back-clause-goes : goal.returns-else-not-is_back-clause-goes
 returns-else-not-is_back-clause-goes g c =
-    went_on (files_of g.F.Files c.restore.new.files) c.restore.new.term (rw (c.as_str.ensures.value, c.as_str-2.ensures.value, c.if-not-is_back.false) at c.in-Ok.ensures) c.go_on.ensures.goes
+    went_on (files_view g.F.Files c.restore.new.files) c.restore.new.term (rw (c.as_str.ensures.value, c.as_str-2.ensures.value, c.if-not-is_back.false) at c.in-Ok.ensures) c.go_on.ensures.goes
 
 pub returns-in-Err-clause-goes : goal.returns-in-Err-clause-goes
 returns-in-Err-clause-goes g c =

@@ -1,6 +1,6 @@
 use Rattle.std.proofs.Common.{string_bytes}
 use Rattle.std.proofs.lemmas.Result.{err_from_is_err_and}
-use Rattle.hack_run.specs.Worlds.{FilesView, files_of}
+use Rattle.hack_run.specs.Worlds.{FilesView, files_view}
 use Rattle.hack_recovery.specs.CallCourses.Restores.{trusted, unread}
 use Rattle.hack_recovery.proofs.WayLemmas.{strange_told}
 use Rattle.hack_recovery.proofs.restore.restore.Goals as goal
@@ -17,7 +17,7 @@ returns-in-Some g c =
 
 pub returns-in-None : goal.returns-in-None
 returns-in-None g c =
-    let at : FilesView = files_of g.F.Files c.stranger_in.new.files in
+    let at : FilesView = files_view g.F.Files c.stranger_in.new.files in
     trusted at
     (record { unchanged = record { same = c.stranger_in.ensures.same; untraced = c.stranger_in.ensures.untraced }; none = rw c.in-None.is at c.in_ok-path.ensures.found })
     c.bring_back.ensures

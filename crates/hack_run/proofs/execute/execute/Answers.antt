@@ -1,11 +1,11 @@
 use Rattle.std.proofs.Common.{string_bytes, true, false}
 use Rattle.hack_load.specs.ContextView.{context_view}
-use Rattle.hack_run.specs.Worlds.{host_of}
+use Rattle.hack_run.specs.Worlds.{host_view}
 use Rattle.hack_run.proofs.TraceLemmas.{one_told}
 use Rattle.hack_run.proofs.execute.execute.Goals as goal
 
 pub returns-clause-done : goal.returns-clause-done
 returns-clause-done g c = λ quiet t.
-    let first = host_of g.C.Caller g.O.Write c.args.host.now in
-    one_told true false (context_view c.args.cx.now) c.args.stable (string_bytes c.args.host.now.env.now.rustup) first.term.warn first (host_of g.C.Caller g.O.Write c.hand_to_starter.new.host)
+    let first = host_view g.C.Caller g.O.Write c.args.host.now in
+    one_told true false (context_view c.args.cx.now) c.args.stable (string_bytes c.args.host.now.env.now.rustup) first.term.warn first (host_view g.C.Caller g.O.Write c.hand_to_starter.new.host)
     first.term c.report_all-reported.new.term (λ e. c.report_all-reported.ensures.warn) (c.in-Ok.ensures.done c.in-None.is (c.report_all-reported.ensures.error quiet) t)

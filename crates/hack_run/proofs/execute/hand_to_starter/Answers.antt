@@ -1,6 +1,6 @@
 use Rattle.std.proofs.Common.{sym, ◌∙◌, ap, string_bytes}
 use Rattle.hack_load.specs.ContextView.{context_view}
-use Rattle.hack_run.specs.Worlds.{HostView, host_of}
+use Rattle.hack_run.specs.Worlds.{HostView, host_view}
 use Rattle.hack_run.proofs.RunLemmas.{runs_one, runs_some}
 use Rattle.hack_run.proofs.ToldLemmas.{warned_run}
 use Rattle.hack_run.proofs.execute.hand_to_starter.Goals as goal
@@ -19,7 +19,7 @@ returns-clause-done g c = λ none quiet t.
     let made = c.set_manner.ensures in
     let after : HostView = record { calls = calls last.caller.now; out = g.O.Write.contents last.out.now; term = last.term.now } in
     let fault_is = c.fault-1.given.1 (sym c.new-starter.ensures.fault.0 ∙ ap (λ s. s.fault.ghost_name) (sym made) ∙ told.2 ∙ ran.2) in
-    runs_one cx c.args.stable (string_bytes c.args.host.now.env.now.rustup) session notes (host_of g.C.Caller g.O.Write c.args.host.now) after (calls mid.caller.now) mid.refused last.refused last.term.now last.fault.now
+    runs_one cx c.args.stable (string_bytes c.args.host.now.env.now.rustup) session notes (host_view g.C.Caller g.O.Write c.args.host.now) after (calls mid.caller.now) mid.refused last.refused last.term.now last.fault.now
     (ap calls (told.3 ∙ ap (λ s. s.caller.now) made ∙ c.new-starter.ensures.caller.1)) (rw c.as_str-rustup.ensures.value at c.in_ok-session.ensures.ran.2) headline.driven (ran.3 t) ran.5
     (warned_run c.args.host.now.term.now c.set_manner.new.self.term.now mid.term.now last.term.now notes (ap (λ s. s.term.now) made ∙ c.new-starter.ensures.term.1) told.6 ran.6) (sym fault_is ∙ none) quiet
 
@@ -33,5 +33,5 @@ returns-clause-made g c = λ t.
     let ran = c.in_ok-session.ensures.ran.4 in
     let last = c.drive_context.new.runner in
     let after : HostView = record { calls = calls last.caller.now; out = g.O.Write.contents last.out.now; term = last.term.now } in
-    runs_some cx c.args.stable (string_bytes c.args.host.now.env.now.rustup) session c.in_ok-session.ensures.ran.0 (host_of g.C.Caller g.O.Write c.args.host.now) after (calls mid.caller.now) mid.refused last.refused
+    runs_some cx c.args.stable (string_bytes c.args.host.now.env.now.rustup) session c.in_ok-session.ensures.ran.0 (host_view g.C.Caller g.O.Write c.args.host.now) after (calls mid.caller.now) mid.refused last.refused
     (ap calls (told.3 ∙ ap (λ s. s.caller.now) c.set_manner.ensures ∙ c.new-starter.ensures.caller.1)) (rw c.as_str-rustup.ensures.value at c.in_ok-session.ensures.ran.2) c.in_ok-session.ensures.headline.driven (ran.3 t)

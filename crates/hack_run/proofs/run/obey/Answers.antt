@@ -4,7 +4,7 @@ use Rattle.hack_term.specs.declared.term.Term.{Term}
 use Rattle.hack_words.specs.declared.cli.parse.Parsed.{Parsed}
 use Rattle.hack_run.specs.TemporaryEdits.{ComesBack, IsClean}
 use Rattle.hack_run.specs.CallTrace.{warned_by}
-use Rattle.hack_run.specs.Worlds.{files_of, world_of}
+use Rattle.hack_run.specs.Worlds.{files_view, world_of}
 use Rattle.hack_run.proofs.BackLemmas.{clean_rest}
 use Rattle.hack_run.proofs.TraceLemmas.{dressed, lists, lists_made, obeys, obeys_done, prints, prints_made}
 use Rattle.hack_run.proofs.run.obey.Goals as goal
@@ -51,13 +51,13 @@ returns-in-List-clause-made g c = λ t.
 
 pub returns-in-Args-clause-clean : goal.returns-in-Args-clause-clean
 returns-in-Args-clause-clean g c =
-    subst (λ (p : Parsed). OnOk c.perform.result (c.perform.new.host.term.now.error ≡ false → IsClean (ComesBack p) g.F.Files.tells (files_of g.F.Files c.args.files.now) (files_of g.F.Files c.perform.new.files)))
+    subst (λ (p : Parsed). OnOk c.perform.result (c.perform.new.host.term.now.error ≡ false → IsClean (ComesBack p) g.F.Files.tells (files_view g.F.Files c.args.files.now) (files_view g.F.Files c.perform.new.files)))
     (sym c.in-Args.is) c.perform.ensures.clean
 
 pub returns-in-Print-clause-clean : goal.returns-in-Print-clause-clean
 returns-in-Print-clause-clean g c =
-    clean_rest (c.args.host.now.term.now.error ≡ false) (ComesBack c.args.parsed) g.F.Files.tells (files_of g.F.Files c.args.files.now) c.print.result
+    clean_rest (c.args.host.now.term.now.error ≡ false) (ComesBack c.args.parsed) g.F.Files.tells (files_view g.F.Files c.args.files.now) c.print.result
 
 pub returns-in-List-clause-clean : goal.returns-in-List-clause-clean
 returns-in-List-clause-clean g c =
-    clean_rest (c.tell_all-in-List.new.term.error ≡ false) (ComesBack c.args.parsed) g.F.Files.tells (files_of g.F.Files c.args.files.now) c.list_commands.result
+    clean_rest (c.tell_all-in-List.new.term.error ≡ false) (ComesBack c.args.parsed) g.F.Files.tells (files_view g.F.Files c.args.files.now) c.list_commands.result

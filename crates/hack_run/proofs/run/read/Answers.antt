@@ -4,7 +4,7 @@ use Rattle.hack_base.specs.Notes.{note_of}
 use Rattle.hack_words.proofs.AnswerLemmas.{answers-never}
 use Rattle.hack_words.specs.ParseAnswers.{around_of}
 use Rattle.hack_run.specs.TemporaryEdits.{ComesBack, RestoresEdits}
-use Rattle.hack_run.specs.Worlds.{files_of, world_of}
+use Rattle.hack_run.specs.Worlds.{files_view, world_of}
 use Rattle.hack_run.proofs.BackLemmas.{clean_by}
 use Rattle.hack_run.proofs.TraceLemmas.{done}
 use Rattle.hack_run.proofs.run.read.Goals as goal
@@ -25,5 +25,5 @@ returns-in-Accepted-clause-done g c =
 pub returns-in-Accepted-clause-clean : goal.returns-in-Accepted-clause-clean
 returns-in-Accepted-clause-clean g c =
     let after = rw c.in-Accepted.is at c.in_ok-parsed.ensures.read in
-    clean_by (ComesBack c.in-Accepted.parsed) (RestoresEdits c.args.host.now.env.now (names_of c.args.words.now)) (c.obey.new.host.term.now.error ≡ false) g.F.Files.tells (files_of g.F.Files c.args.files.now) (files_of g.F.Files c.obey.new.files) c.obey.result
+    clean_by (ComesBack c.in-Accepted.parsed) (RestoresEdits c.args.host.now.env.now (names_of c.args.words.now)) (c.obey.new.host.term.now.error ≡ false) g.F.Files.tells (files_view g.F.Files c.args.files.now) (files_view g.F.Files c.obey.new.files) c.obey.result
     (λ back. back after.rustup c.in-Accepted.parsed (map note_of c.in-Accepted.notices.items) after.read) c.obey.ensures.clean

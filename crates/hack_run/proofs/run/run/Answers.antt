@@ -2,7 +2,7 @@ use Rattle.std.proofs.Common.{true, false}
 use Rattle.hack_base.specs.Names.{names_of}
 use Rattle.hack_run.specs.TemporaryEdits.{IsClean, RestoresEdits}
 use Rattle.hack_run.specs.CallTrace.{IsCallTrace}
-use Rattle.hack_run.specs.Worlds.{files_of, host_of, world_of}
+use Rattle.hack_run.specs.Worlds.{files_view, host_view, world_of}
 use Rattle.hack_term.specs.declared.term.Term.{Term}
 use Rattle.hack_run.proofs.TraceLemmas.{call_moved, comes, told_fault, unended}
 use Rattle.hack_run.proofs.run.run.Goals as goal
@@ -13,15 +13,15 @@ returns-clause-refused g c = λ refused. let h = c.read-came.ensures.refused ref
 pub returns-clause-done : goal.returns-clause-done
 returns-clause-done g c =
     comes (λ (k : Term). g.C.Caller.tells → IsCallTrace true g.F.Files.tells (names_of c.args.words.now) c.args.host.now.env.now (world_of g.F.Files g.C.Caller g.O.Write c.args.files.now c.args.host.now)
-    (record { files = files_of g.F.Files c.read-came.new.files; host = record (host_of g.C.Caller g.O.Write c.read-came.new.host) { term = k } }))
+    (record { files = files_view g.F.Files c.read-came.new.files; host = record (host_view g.C.Caller g.O.Write c.read-came.new.host) { term = k } }))
     c.read-came.result c.read-came.new.host.term.now c.tell_end.new.term c.read-came.ensures.done c.tell_end.ensures.ok c.tell_end.ensures.err
 
 pub returns-clause-made : goal.returns-clause-made
 returns-clause-made g c = λ t.
     call_moved false g.F.Files.tells (names_of c.args.words.now) c.args.host.now.env.now (world_of g.F.Files g.C.Caller g.O.Write c.args.files.now c.args.host.now) (world_of g.F.Files g.C.Caller g.O.Write c.read-came.new.files c.read-came.new.host)
-    (files_of g.F.Files c.read-came.new.files) c.tell_end.new.term (λ e. unended e) (λ e. unended e) (c.read-came.ensures.made t)
+    (files_view g.F.Files c.read-came.new.files) c.tell_end.new.term (λ e. unended e) (λ e. unended e) (c.read-came.ensures.made t)
 
 pub returns-clause-clean : goal.returns-clause-clean
 returns-clause-clean g c =
-    comes (λ (k : Term). IsClean (RestoresEdits c.args.host.now.env.now (names_of c.args.words.now)) g.F.Files.tells (files_of g.F.Files c.args.files.now) (files_of g.F.Files c.read-came.new.files))
+    comes (λ (k : Term). IsClean (RestoresEdits c.args.host.now.env.now (names_of c.args.words.now)) g.F.Files.tells (files_view g.F.Files c.args.files.now) (files_view g.F.Files c.read-came.new.files))
     c.read-came.result c.read-came.new.host.term.now c.tell_end.new.term c.read-came.ensures.clean c.tell_end.ensures.ok c.tell_end.ensures.err

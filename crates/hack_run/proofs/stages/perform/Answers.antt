@@ -3,7 +3,7 @@ use Rattle.std.specs.Prelude.{IfOk, not}
 use Rattle.hack_load.specs.Answers.{IsLoaded}
 use Rattle.hack_files.specs.Restore.{registered_files}
 use Rattle.hack_run.proofs.BackLemmas.{brings_none, cleans, kept_none, leaves, safe_new, whole_keeps}
-use Rattle.hack_run.specs.Worlds.{files_of, host_of}
+use Rattle.hack_run.specs.Worlds.{files_view, host_view}
 use Rattle.hack_term.specs.declared.term.Term.{Term}
 use Rattle.hack_run.proofs.LoadingLemmas.{loaded}
 use Rattle.hack_run.proofs.TraceLemmas.{made, performs}
@@ -11,12 +11,12 @@ use Rattle.hack_run.proofs.stages.perform.Goals as goal
 
 pub returns-clause-done : goal.returns-clause-done
 returns-clause-done g c =
-    let first = files_of g.F.Files c.args.files.now in
-    let asked = files_of g.F.Files c.ask-answers.new.files in
-    let prepared = files_of g.F.Files c.follow-came.new.files in
-    let last = files_of g.F.Files c.finish.new.files in
+    let first = files_view g.F.Files c.args.files.now in
+    let asked = files_view g.F.Files c.ask-answers.new.files in
+    let prepared = files_view g.F.Files c.follow-came.new.files in
+    let last = files_view g.F.Files c.finish.new.files in
     performs g.C.Caller.tells g.F.Files.tells (g.F.Files.tells × IfOk c.ask-answers.result.loaded (IsLoaded g.F.Files.tells asked.held c.args.host.now.env.now)) (0 < c.finish.result) c.follow-came.result c.args.args c.args.host.now.env.now
-    first asked prepared last (host_of g.C.Caller g.O.Write c.args.host.now) (host_of g.C.Caller g.O.Write c.follow-came.new.host) (g.C.Caller.calls c.ask-answers.new.caller) c.finish.new.term
+    first asked prepared last (host_view g.C.Caller g.O.Write c.args.host.now) (host_view g.C.Caller g.O.Write c.follow-came.new.host) (g.C.Caller.calls c.ask-answers.new.caller) c.finish.new.term
     c.ask-answers.result (ap (λ (k : Term). k.warn) c.finish.ensures.term)
     (λ t. loaded g.F.Files.tells c.args.args c.args.host.now.env.now first.held first.failed asked.failed (g.C.Caller.calls c.args.host.now.caller.now) (g.C.Caller.calls c.ask-answers.new.caller) c.ask-answers.result (c.ask-answers.ensures.asked t))
     c.finish.ensures.noted.1 (λ t. (t, c.ask-answers.ensures.read)) (whole_keeps g.F.Files.tells first.held asked.held first.failed asked.failed c.ask-answers.result.loaded c.ask-answers.ensures.whole)
@@ -28,10 +28,10 @@ returns-clause-done g c =
 
 pub returns-clause-made : goal.returns-clause-made
 returns-clause-made g c = λ t.
-    let first = files_of g.F.Files c.args.files.now in
-    let asked = files_of g.F.Files c.ask-answers.new.files in
-    made g.F.Files.tells c.args.args c.args.host.now.env.now first asked (files_of g.F.Files c.follow-came.new.files) (files_of g.F.Files c.finish.new.files)
-    (host_of g.C.Caller g.O.Write c.args.host.now) (host_of g.C.Caller g.O.Write c.follow-came.new.host) (g.C.Caller.calls c.ask-answers.new.caller) c.finish.new.term c.ask-answers.result
+    let first = files_view g.F.Files c.args.files.now in
+    let asked = files_view g.F.Files c.ask-answers.new.files in
+    made g.F.Files.tells c.args.args c.args.host.now.env.now first asked (files_view g.F.Files c.follow-came.new.files) (files_view g.F.Files c.finish.new.files)
+    (host_view g.C.Caller g.O.Write c.args.host.now) (host_view g.C.Caller g.O.Write c.follow-came.new.host) (g.C.Caller.calls c.ask-answers.new.caller) c.finish.new.term c.ask-answers.result
     (loaded g.F.Files.tells c.args.args c.args.host.now.env.now first.held first.failed asked.failed (g.C.Caller.calls c.args.host.now.caller.now) (g.C.Caller.calls c.ask-answers.new.caller) c.ask-answers.result (c.ask-answers.ensures.asked t))
     (c.follow-came.ensures.made t)
 
@@ -46,9 +46,9 @@ returns-clause-back g c = λ kept t.
 
 pub returns-clause-clean : goal.returns-clause-clean
 returns-clause-clean g c =
-    let asked = files_of g.F.Files c.ask-answers.new.files in
+    let asked = files_view g.F.Files c.ask-answers.new.files in
     cleans g.F.Files.tells (c.args.args.remove_dev_deps ≡ false) c.follow-came.result c.ask-answers.result.loaded (registered_files c.follow-came.new.manager)
-    (files_of g.F.Files c.args.files.now) asked (files_of g.F.Files c.follow-came.new.files) (files_of g.F.Files c.finish.new.files) c.finish.result c.finish.new.term.error
+    (files_view g.F.Files c.args.files.now) asked (files_view g.F.Files c.follow-came.new.files) (files_view g.F.Files c.finish.new.files) c.finish.result c.finish.new.term.error
     c.ask-answers.ensures.whole c.follow-came.ensures.counted
     (λ kept t. c.follow-came.ensures.safe t c.ask-answers.ensures.read (c.ask-answers.ensures.needs ∙ c.new-manager.ensures.needs ∙ ap not kept) (safe_new c.new-manager.result c.ask-answers.new.manager asked.held c.new-manager.ensures.nothing c.ask-answers.ensures.kept))
     c.finish.ensures.counted (λ some. c.finish.ensures.noted.1 (inr some)) c.finish.ensures.restored

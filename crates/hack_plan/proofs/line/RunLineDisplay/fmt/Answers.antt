@@ -7,7 +7,7 @@ use Rattle.hack_process.specs.CommandTexts.{each_spaced, shown_features, shown_t
 use Rattle.hack_plan.specs.View.{call_view}
 use Rattle.hack_plan.specs.Commands.{target_pair}
 use Rattle.hack_process.specs.Commands.{manifest_words}
-use Rattle.hack_plan.specs.Lines.{names_in, own_in}
+use Rattle.hack_plan.specs.Lines.{line_names, own_in}
 use Rattle.hack_plan.proofs.Shown.{line-joined, run-same}
 use Rattle.hack_plan.proofs.line.RunLineDisplay.fmt.Goals as goal
 
@@ -18,7 +18,7 @@ returns-clause-writes g c = λ p ok.
     let path = manifest_words (option_map (λ path. path.now) line.manifest_path) in
     let features = map string_bytes line.features.now in
     subst (λ (t : List ℕ). HasWritten g.W.Write.write_str_gives c.args.f.now t c.write.new.self)
-    (line-joined call line.version (own_in line) (names_in line) _ _ _ _ _
+    (line-joined call line.version (own_in line) (line_names line) _ _ _ _ _
     (c.stem-program.ensures ∙ ap stem_of c.program_of.ensures)
     (ap (λ words. each_spaced (map string_bytes words)) c.as_slice.ensures.value)
     (λ i. each_spaced (shown_words true (c.as_str.ensures.value i) (flat_map target_pair (c.targets_in.ensures i) ++ path ++ run-same line.run line.positions.items i)))

@@ -4,7 +4,7 @@ use Rattle.hack_base.specs.Notes.{note_of}
 use Rattle.hack_versions.specs.declared.rustup.Rustup.TheVariants.{Unasked}
 use Rattle.hack_words.specs.CommandLine.{ComesTo}
 use Rattle.hack_words.specs.ParseAnswers.{around_of}
-use Rattle.hack_recovery.specs.AskedEdits.AsksFor.{faulty, parsed}
+use Rattle.hack_recovery.specs.AskedEdits.AsksForEdits.{faulty, parsed}
 use Rattle.hack_recovery.proofs.AskLemmas.{refusal}
 use Rattle.hack_recovery.proofs.BackLemmas.{back_restores}
 use Rattle.hack_recovery.proofs.asked.Asked.of.Goals as goal
