@@ -44,9 +44,13 @@ impl<O: Write> Lines for GatheredLines<'_, O> {
 
     ghost stays_none = { λ a. (refl, refl, [], Appends-nil (O.contents a.out.now)) };
 
-    ghost stays_more = { λ a b c p q. (p.0 ∙ q.0, p.1 ∙ q.1, p.2 ++ q.2,
+    ghost stays_more = { λ a b c p q. (
+      p.0 ∙ q.0,
+      p.1 ∙ q.1,
+      p.2 ++ q.2,
       Appends-trans (O.contents a.out.now) (O.contents b.out.now) (O.contents c.out.now)
-          p.2 q.2 p.3 q.3) };
+          p.2 q.2 p.3 q.3,
+    ) };
 
     fn line<D: fmt::Display + Drop>(&mut self, text: D) -> Result<(), fmt::Error> {
         match put_line(self.out, self.gathered, self.line, text) {

@@ -7,8 +7,8 @@ ghost use Rattle.hack_session.specs.Schedules.{all_steps};
 
 use crate::schedule::Cursor;
 use crate::step::{Handed, Outcome};
-use hack_plan::plan::Plan;
 use hack_plan::partition::Partition;
+use hack_plan::plan::Plan;
 use std::marker::Model;
 
 /// The steps that a session handed out, in order, each with its outcome. It takes no memory: the

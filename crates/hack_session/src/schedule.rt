@@ -9,10 +9,10 @@ ghost use Rattle.hack_session.specs.Schedules.{steps_of};
 ghost use Rattle.hack_session.specs.Cursors.{steps_left};
 
 use crate::step::Step;
+use hack_plan::partition::Partition;
 use hack_plan::parts::PlanVersion;
 use hack_plan::plan::Plan;
 use hack_plan::progress::Progress;
-use hack_plan::partition::Partition;
 
 /// How far the steps of a plan were taken: those of all versions before one, and the first ones of
 /// that version.

@@ -3,12 +3,12 @@
 use crate::tests::shown::push_notices;
 use crate::tests::workspace::push_all;
 use hack_base::notice::Notice;
+use hack_plan::partition::{Partition, PartitionFault};
 use hack_plan::parts::{PlanVersion, Preparation};
 use hack_plan::plan::PlannedCommand;
 use hack_plan::progress::Progress;
 use hack_planner::plan::Plan;
 use hack_process::process::ProcessBuilder;
-use hack_plan::partition::{Partition, PartitionFault};
 use std::alloc::{AllocError, Global};
 
 fn push_run(
