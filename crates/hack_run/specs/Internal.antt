@@ -8,7 +8,10 @@ use Rattle.hack_plan.specs.View.{PlanView}
 use Rattle.hack_session.specs.declared.step.Handed.{Handed}
 use Rattle.hack_base.specs.Notes.{Note}
 use Rattle.hack_versions.specs.declared.version.Version.{Version}
-use Rattle.hack_run.specs.Worlds.{HostView}
+use Rattle.hack_run.specs.Worlds.{HostView, host_view}
+use Rattle.hack_run.specs.declared.host.Host.{Host}
+use Rattle.std.specs.declared.io.traits.Write.{Ghosts as Writing}
+use Rattle.hack_process.specs.declared.caller.Caller.{Ghosts as Calling}
 use Rattle.hack_run.specs.CallTrace.{PerformsOne, WritesText}
 use Rattle.hack_process.specs.Calls.{Call}
 use Rattle.hack_versions.specs.ToolTexts.{rustup_part}
@@ -38,6 +41,20 @@ abbrev pub PerformsAtMostOne : Bool → ContextRecord → Result (Option Version
 PerformsAtMostOne listing cx stable rustup old new =
     ((new.calls ≡ old.calls) × WritesText false listing old.out new.out [])
     ⊎ PerformsOne false listing cx stable rustup old.term.warn old new
+
+-- where no error was reported, one history of a context's plan was performed to its end
+abbrev pub PerformsItsPlan : {C O E : Type 0} → Calling C → Writing O → Bool → ContextRecord
+    → Result (Option Version) (String Global) → Host C O E → Host C O E → Type 0
+PerformsItsPlan c o listing cx stable old new = new.term.now.error ≡ false → c.tells
+    → PerformsOne true listing cx stable (string_bytes old.env.now.rustup) old.term.now.warn
+    (host_view c o old) (host_view c o new)
+
+-- whatever came of it, one history of a context's plan was performed at most
+abbrev pub MayPerformItsPlan : {C O E : Type 0} → Calling C → Writing O → Bool → ContextRecord
+    → Result (Option Version) (String Global) → Host C O E → Host C O E → Type 0
+MayPerformItsPlan c o listing cx stable old new = c.tells
+    → PerformsAtMostOne listing cx stable (string_bytes old.env.now.rustup)
+    (host_view c o old) (host_view c o new)
 
 -- a context's list was handed out to its end, and its steps that aren't listed to a runner,
 -- whatever came of them; where lines are written whole or not at all, the output grew by just those

@@ -1,11 +1,10 @@
 //! The runs of a plan, and the report of those that failed.
 
-ghost use Rattle.std.specs.Prelude.{◌≡◌, None, OnOk, false, string_bytes, true};
+ghost use Rattle.std.specs.Prelude.{◌≡◌, None, OnOk, false, true};
 ghost use Rattle.hack_load.specs.ContextView.{context_view};
-ghost use Rattle.hack_run.specs.Internal.{PerformsAtMostOne};
+ghost use Rattle.hack_run.specs.Internal.{MayPerformItsPlan, PerformsItsPlan};
 ghost use Rattle.hack_run.specs.Questions.{IsAnswered};
-ghost use Rattle.hack_run.specs.CallTrace.{PerformsOne};
-ghost use Rattle.hack_run.specs.Worlds.{IsSameHost, host_view};
+ghost use Rattle.hack_run.specs.Worlds.{IsSameHost};
 
 use crate::drive::drive_context;
 use crate::fault::RunFault;
@@ -29,13 +28,10 @@ pub(crate) fn execute<C: Caller, O: Write, E: Write>(
 ) -> Result<(), RunFault>
     requires { IsAnswered (context_view cx.now).args stable }
     ensures host { IsSameHost host.old host.new }
-    ensures done { OnOk result (host.new.term.now.error ≡ false → C.tells
-        → PerformsOne true false (context_view cx.now) stable
-        (string_bytes host.old.env.now.rustup) host.old.term.now.warn
-        (host_view C.Caller O.Write host.old) (host_view C.Caller O.Write host.new)) }
-    ensures made { C.tells → PerformsAtMostOne false (context_view cx.now) stable
-        (string_bytes host.old.env.now.rustup)
-        (host_view C.Caller O.Write host.old) (host_view C.Caller O.Write host.new) }
+    ensures done { OnOk result (PerformsItsPlan C.Caller O.Write false
+        (context_view cx.now) stable host.old host.new) }
+    ensures made { MayPerformItsPlan C.Caller O.Write false
+        (context_view cx.now) stable host.old host.new }
 {
     let mut fault = None;
     let session = match hand_to_starter(cx, stable, &mut fault, host) {
@@ -59,13 +55,10 @@ fn hand_to_starter<C: Caller, O: Write, E: Write>(
 ) -> Result<Session, PlanFault>
     requires { IsAnswered (context_view cx.now).args stable }
     ensures host { IsSameHost host.old host.new }
-    ensures done { OnOk result (fault.new ≡ None → host.new.term.now.error ≡ false → C.tells
-        → PerformsOne true false (context_view cx.now) stable
-        (string_bytes host.old.env.now.rustup) host.old.term.now.warn
-        (host_view C.Caller O.Write host.old) (host_view C.Caller O.Write host.new)) }
-    ensures made { C.tells → PerformsAtMostOne false (context_view cx.now) stable
-        (string_bytes host.old.env.now.rustup)
-        (host_view C.Caller O.Write host.old) (host_view C.Caller O.Write host.new) }
+    ensures done { OnOk result (fault.new ≡ None → PerformsItsPlan C.Caller O.Write false
+        (context_view cx.now) stable host.old host.new) }
+    ensures made { MayPerformItsPlan C.Caller O.Write false
+        (context_view cx.now) stable host.old host.new }
 {
     let rustup = host.env.rustup.as_str();
     let (log_group, keep_going) = manner(cx.args());

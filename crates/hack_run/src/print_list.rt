@@ -2,12 +2,12 @@
 
 ghost use Rattle.std.specs.Prelude.{◌≡◌, None, Ok, OnOk, false, string_bytes, true};
 ghost use Rattle.hack_load.specs.ContextView.{context_view};
-ghost use Rattle.hack_run.specs.Internal.{HandsOverAtMostOne, PerformsAtMostOne};
-ghost use Rattle.hack_run.specs.Questions.{IsAnswered};
 ghost use Rattle.hack_run.specs.CallTrace.{PerformsOne};
-ghost use Rattle.hack_run.specs.Internal.{Extends, ListsOver};
-ghost use Rattle.hack_run.specs.Worlds.{IsSameHost, host_view};
+ghost use Rattle.hack_run.specs.Internal.{Extends, HandsOverAtMostOne, ListsOver};
+ghost use Rattle.hack_run.specs.Internal.{MayPerformItsPlan, PerformsAtMostOne, PerformsItsPlan};
 ghost use Rattle.hack_run.specs.Internal.{host_writing};
+ghost use Rattle.hack_run.specs.Questions.{IsAnswered};
+ghost use Rattle.hack_run.specs.Worlds.{IsSameHost, host_view};
 
 use crate::drive::{Teller, drive_context};
 use crate::fault::RunFault;
@@ -45,13 +45,10 @@ pub(crate) fn print_list<C: Caller, O: Write, E: Write>(
 ) -> Result<(), RunFault>
     requires { IsAnswered (context_view cx.now).args stable }
     ensures host { IsSameHost host.old host.new }
-    ensures done { OnOk result (host.new.term.now.error ≡ false → C.tells
-        → PerformsOne true true (context_view cx.now) stable
-        (string_bytes host.old.env.now.rustup) host.old.term.now.warn
-        (host_view C.Caller O.Write host.old) (host_view C.Caller O.Write host.new)) }
-    ensures made { C.tells → PerformsAtMostOne true (context_view cx.now) stable
-        (string_bytes host.old.env.now.rustup)
-        (host_view C.Caller O.Write host.old) (host_view C.Caller O.Write host.new) }
+    ensures done { OnOk result (PerformsItsPlan C.Caller O.Write true
+        (context_view cx.now) stable host.old host.new) }
+    ensures made { MayPerformItsPlan C.Caller O.Write true
+        (context_view cx.now) stable host.old host.new }
 {
     let mut gathered = room(host.alloc)?;
     let came = hand_to_lister(cx, stable, &mut gathered, host);

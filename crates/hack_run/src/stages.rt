@@ -10,12 +10,11 @@ ghost use Rattle.hack_load.specs.ContextView.{context_view};
 ghost use Rattle.hack_load.specs.CargoQuestions.{told_version};
 ghost use Rattle.hack_prepare.specs.PreparedView.{HoldTextsIn, IsPreparedIn, notes_in};
 ghost use Rattle.hack_prepare.specs.EditSteps.{Grows};
-ghost use Rattle.hack_run.specs.CallTrace.{AfterLoading, LoadsAndPerforms, PerformsOne};
-ghost use Rattle.hack_run.specs.Internal.{PerformsAtMostOne};
+ghost use Rattle.hack_run.specs.CallTrace.{AfterLoading, LoadsAndPerforms};
 ghost use Rattle.hack_run.specs.TemporaryEdits.{BringsBack, IsClean};
 ghost use Rattle.hack_run.specs.Questions.{IsAnswered};
 ghost use Rattle.hack_run.specs.Warnings.{after_notes};
-ghost use Rattle.hack_run.specs.Worlds.{IsSameHost, files_view, host_view, world_of};
+ghost use Rattle.hack_run.specs.Worlds.{IsSameHost, files_view, world_of};
 
 use crate::ask::stable_for;
 use crate::execute::execute;
@@ -171,13 +170,12 @@ fn run_plan<C: Caller, O: Write, E: Write>(
 ) -> Result<(), RunFault>
     requires { IsAnswered (context_view cx.now).args stable }
     ensures host { IsSameHost host.old host.new }
-    ensures done { OnOk result (host.new.term.now.error ≡ false → C.tells
-        → PerformsOne true (context_view cx.now).args.print_command_list (context_view cx.now)
-        stable (string_bytes host.old.env.now.rustup) host.old.term.now.warn
-        (host_view C.Caller O.Write host.old) (host_view C.Caller O.Write host.new)) }
-    ensures made { C.tells → PerformsAtMostOne (context_view cx.now).args.print_command_list
-        (context_view cx.now) stable (string_bytes host.old.env.now.rustup)
-        (host_view C.Caller O.Write host.old) (host_view C.Caller O.Write host.new) }
+    ensures done { OnOk result (PerformsItsPlan C.Caller O.Write
+        (context_view cx.now).args.print_command_list
+        (context_view cx.now) stable host.old host.new) }
+    ensures made { MayPerformItsPlan C.Caller O.Write
+        (context_view cx.now).args.print_command_list
+        (context_view cx.now) stable host.old host.new }
 {
     if cx.args().print_command_list {
         return print_list(cx, stable, host);
