@@ -39,29 +39,17 @@ fn flags_without_a_writer(rt: HostRuntime) -> Result<(), Wrong> {
     on_plain(
         rt.alloc(),
         "
-            > info told / broken at 0
+            > each told / broken at 0
             | broken, 1 writes, nothing noted: ''
-            > warn told / broken at 0
             | broken, 1 writes, warning noted: ''
-            > error told / broken at 0
             | broken, 1 writes, both noted: ''
-
-            > status nothing
-            | 0
-            > info told / broken at 1
+            > each told / broken at 1
             | broken, 2 writes, nothing noted: 'inf'
-            > warn told / broken at 1
             | broken, 2 writes, warning noted: 'war'
-            > error told / broken at 1
             | broken, 2 writes, both noted: 'err'
-
-            > status nothing
-            | 0
-            > info told / broken at 3
+            > each told / broken at 3
             | broken, 4 writes, nothing noted: 'info: tol'
-            > warn told / broken at 3
             | broken, 4 writes, warning noted: 'warning: '
-            > error told / broken at 3
             | broken, 4 writes, both noted: 'error: '
 
             > status nothing

@@ -1,11 +1,13 @@
 //! Lines for the user, as questions to one terminal. `info TEXT`, `warn TEXT` and `error TEXT`, and
 //! as notices `note-info TEXT`, `note-warn TEXT` and `note-quiet TEXT`, write a line to a new page:
 //! how that ended, how often the page was written to, what the terminal has recorded so far, and
-//! the page. `group none TEXT` and `group github TEXT` print the line of a group on two pages, and
-//! end the group: how the line ended, how the end did where the group was open, and the pages. How
-//! a page fails is given after ` / `. With `broken at 0..=5` a line is written to six pages in
-//! turn, one for each of these places, and the answer has a line for each. `status FLAGS` records
-//! `error`, `warning`, both or nothing, and asks for the status, where `denied` denies warnings.
+//! the page. `each TEXT` lets the terminal record nothing, and then does the first three in turn,
+//! each with a page of its own. `group none TEXT` and `group github TEXT` print the line of a group
+//! on two pages, and end the group: how the line ended, how the end did where the group was open,
+//! and the pages. How a page fails is given after ` / `. With `broken at 0..=5` a line is written
+//! to six pages in turn, one for each of these places, and the answer has a line for each. `status
+//! FLAGS` records `error`, `warning`, both or nothing, and asks for the status, where `denied`
+//! denies warnings.
 
 use crate::asks::{halves, push_line};
 use crate::page::{Page, name_of};
@@ -25,6 +27,7 @@ impl Ask for Terminal {
         let (kind, text) = halves(call, " ");
         match kind {
             "status" => self.status(alloc, text),
+            "each" => self.each(alloc, text, pages),
             "group" => self.group(alloc, text, pages),
             _ => self.lines(alloc, kind, text, pages),
         }
@@ -59,6 +62,17 @@ impl Terminal {
         let noted = self.noted();
         let text = page.text(alloc)?;
         format!(in alloc; "{end}, {} writes, {noted}: '{text}'", page.writes)
+    }
+
+    /// What writing a message, a warning and an error did, where nothing had been recorded.
+    fn each(&mut self, alloc: Global, text: &str, how: &str) -> Result<String, AllocError> {
+        self.term.error = false;
+        self.term.warn = false;
+        let mut told = String::new(alloc);
+        for kind in ["info", "warn", "error"] {
+            push_line(&mut told, self.line(alloc, kind, text, how)?.as_str())?;
+        }
+        Ok(told)
     }
 
     /// What writing a line did: on one page, or on a page for each of several places.

@@ -170,8 +170,6 @@ fn an_own_start_has_major_1(rt: HostRuntime) -> Result<(), Wrong> {
     on(
         rt.alloc(),
         "
-            > range: own
-            | .. to own versions, without stable
             > steps: own by 1 own 2.0
             | major version must be 1
         ",

@@ -6,11 +6,12 @@ ghost use Rattle.std.specs.Vec.Iter.{into_iter_items};
 ghost use Rattle.hack_stand.specs.Calls.{AnswersArguments};
 
 use crate::stand::{Tool, stand};
-use hack_files::fs::{Files, FsFault};
+use hack_files::fs::{Disk, Files, FsFault};
 use std::alloc::{AllocError, Global};
 use std::env::{Args, VarError};
-use std::io;
 use std::io::Write;
+use std::process::ExitCode;
+use std::{env, io};
 use thiserror::Error;
 
 /// Why a stand-in can't answer.
@@ -65,6 +66,24 @@ pub fn call<F: Files, O: Write, E: Write>(
             2
         }
     }
+}
+
+/// Does what the stand-in for a tool does, with the arguments, the variable `STAND_DIR`, the files
+/// and the streams of this process. See `call`; no contract can say what a process is given, or
+/// what becomes of its output.
+pub fn call_here(rt: &HostRuntime, tool: Tool) -> ExitCode {
+    let status = call(
+        rt.alloc(),
+        Start {
+            tool,
+            dir: env::var(rt, "STAND_DIR"),
+            arguments: env::args(rt),
+        },
+        &mut Disk::new(rt),
+        &mut io::writer(rt),
+        &mut rt.stderr(),
+    );
+    ExitCode::from(status)
 }
 
 /// The status of a call that could be answered.

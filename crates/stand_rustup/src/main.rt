@@ -1,23 +1,10 @@
 //! Replaces rustup in tests: it answers from the files of the folder `STAND_DIR`.
 #![tactic(auto)]
 
-use hack_files::fs::Disk;
-use hack_stand::call::{Start, call};
+use hack_stand::call::call_here;
 use hack_stand::stand::Tool;
 use std::process::ExitCode;
-use std::{env, io};
 
 fn main(rt: HostRuntime) -> ExitCode {
-    let status = call(
-        rt.alloc(),
-        Start {
-            tool: Tool::Rustup,
-            dir: env::var(&rt, "STAND_DIR"),
-            arguments: env::args(&rt),
-        },
-        &mut Disk::new(&rt),
-        &mut io::writer(&rt),
-        &mut rt.stderr(),
-    );
-    ExitCode::from(status)
+    call_here(&rt, Tool::Rustup)
 }

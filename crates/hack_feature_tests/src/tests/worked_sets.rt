@@ -3,21 +3,21 @@
 
 use crate::tests::calls::on;
 use hack_holds::Wrong;
+use std::alloc::Global;
 
 const FOUR: &str = "a:;b: a;c: b;d: a b $ a b c d";
 
 const RUNTIMES: &str = "async-std:;tokio: $ async-std tokio";
 
+/// Checks which sets are listed for an input under these rules.
+fn lists(alloc: Global, input: &str, rules: &str, sets: &str) -> Result<(), Wrong> {
+    let row = format!(in alloc; "> list {rules}\n| {sets}")?;
+    on(alloc, input, row.as_str())
+}
+
 #[test]
 fn what_another_feature_enables_is_left_out(rt: HostRuntime) -> Result<(), Wrong> {
-    on(
-        rt.alloc(),
-        FOUR,
-        "
-            > list
-            | [a] [b] [c] [d] [c,d]
-        ",
-    )
+    lists(rt.alloc(), FOUR, "", "[a] [b] [c] [d] [c,d]")
 }
 
 #[test]
@@ -56,25 +56,21 @@ fn runtimes_that_exclude_each_other(rt: HostRuntime) -> Result<(), Wrong> {
 
 #[test]
 fn names_of_dependencies(rt: HostRuntime) -> Result<(), Wrong> {
-    on(
+    lists(
         rt.alloc(),
         "actual: alias;alias: dep:actual actual/feat;entry: alias;x:;y: $ actual alias entry x y",
-        "
-            > list apart=x,y
-            | [actual] [alias] [entry] [actual,entry] [x] [actual,x] [alias,x] [entry,x] [actual,entry,x] [y] [actual,y] [alias,y] [entry,y] [actual,entry,y]
-        ",
+        "apart=x,y",
+        "[actual] [alias] [entry] [actual,entry] [x] [actual,x] [alias,x] [entry,x] [actual,entry,x] [y] [actual,y] [alias,y] [entry,y] [actual,entry,y]",
     )
 }
 
 #[test]
 fn exclusion_of_what_is_enabled(rt: HostRuntime) -> Result<(), Wrong> {
-    on(
+    lists(
         rt.alloc(),
         "a:;b: a;c:;d: b $ a b c d",
-        "
-            > list apart=a,c
-            | [a] [b] [c] [d]
-        ",
+        "apart=a,c",
+        "[a] [b] [c] [d]",
     )
 }
 
@@ -94,30 +90,9 @@ fn features_of_dependencies_reach_their_groups(rt: HostRuntime) -> Result<(), Wr
 
 #[test]
 fn cycles(rt: HostRuntime) -> Result<(), Wrong> {
-    on(
-        rt.alloc(),
-        "a: a $ a",
-        "
-            > list
-            | [a]
-        ",
-    )?;
-    on(
-        rt.alloc(),
-        "a: b;b: a $ a b",
-        "
-            > list
-            | [a] [b]
-        ",
-    )?;
-    on(
-        rt.alloc(),
-        "a: b;b: c;c: a $ a b c",
-        "
-            > list
-            | [a] [b] [c]
-        ",
-    )
+    lists(rt.alloc(), "a: a $ a", "", "[a]")?;
+    lists(rt.alloc(), "a: b;b: a $ a b", "", "[a] [b]")?;
+    lists(rt.alloc(), "a: b;b: c;c: a $ a b c", "", "[a] [b] [c]")
 }
 
 #[test]
@@ -179,70 +154,36 @@ fn sets_that_miss_a_required_group_have_no_cover(rt: HostRuntime) -> Result<(), 
 #[test]
 fn odd_names(rt: HostRuntime) -> Result<(), Wrong> {
     // The key and the candidate are empty names.
-    on(
-        rt.alloc(),
-        ": $ ",
-        "
-            > list
-            | []
-        ",
-    )?;
-    on(
+    lists(rt.alloc(), ": $ ", "", "[]")?;
+    lists(
         rt.alloc(),
         "a: dep:x;b: dep:x $ a b",
-        "
-            > list apart=dep:x,y
-            | [a] [b]
-        ",
+        "apart=dep:x,y",
+        "[a] [b]",
     )?;
-    on(
-        rt.alloc(),
-        "a: x y $ x y a",
-        "
-            > list
-            | [x] [y] [x,y] [a]
-        ",
-    )?;
-    on(
-        rt.alloc(),
-        "a: $ a a",
-        "
-            > list
-            | [a] [a] [a,a]
-        ",
-    )
+    lists(rt.alloc(), "a: x y $ x y a", "", "[x] [y] [x,y] [a]")?;
+    lists(rt.alloc(), "a: $ a a", "", "[a] [a] [a,a]")
 }
 
 #[test]
 fn groups_as_candidates(rt: HostRuntime) -> Result<(), Wrong> {
-    on(
+    lists(
         rt.alloc(),
         "a:;b:;c:;default: $ c default [a|b]",
-        "
-            > list
-            | [c] [default] [c,default] [a,b] [c,a,b] [default,a,b] [c,default,a,b]
-        ",
+        "",
+        "[c] [default] [c,default] [a,b] [c,a,b] [default,a,b] [c,default,a,b]",
     )?;
-    on(
+    lists(
         rt.alloc(),
         "a:;b: a;c: b;d: m;e: b d $ a c e [b|d]",
-        "
-            > list
-            | [a] [c] [e] [c,e] [b,d] [c,b,d]
-        ",
+        "",
+        "[a] [c] [e] [c,e] [b,d] [c,b,d]",
     )
 }
 
 #[test]
 fn a_group_that_repeats_a_name_excludes_itself(rt: HostRuntime) -> Result<(), Wrong> {
-    on(
-        rt.alloc(),
-        "a:;b: $ [a|a] a b",
-        "
-            > list apart=a,b
-            | [a] [b]
-        ",
-    )
+    lists(rt.alloc(), "a:;b: $ [a|a] a b", "apart=a,b", "[a] [b]")
 }
 
 #[test]
@@ -265,25 +206,21 @@ fn lifted_groups(rt: HostRuntime) -> Result<(), Wrong> {
 
 #[test]
 fn a_package_with_nothing_lifted(rt: HostRuntime) -> Result<(), Wrong> {
-    on(
+    lists(
         rt.alloc(),
         RUNTIMES,
-        "
-            > list apart=tokio,async-std
-            | [async-std] [tokio]
-        ",
+        "apart=tokio,async-std",
+        "[async-std] [tokio]",
     )
 }
 
 #[test]
 fn a_package_with_its_group_lifted(rt: HostRuntime) -> Result<(), Wrong> {
-    on(
+    lists(
         rt.alloc(),
         RUNTIMES,
-        "
-            > list lifted=tokio,async-std
-            | [async-std] [tokio] [async-std,tokio]
-        ",
+        "lifted=tokio,async-std",
+        "[async-std] [tokio] [async-std,tokio]",
     )
 }
 

@@ -3,9 +3,10 @@
 //!
 //! Of a whole call the sections of `shown` are shown; if none is named, these are the calls, both
 //! streams and the changes of files. The status comes last. The other questions are those of the
-//! modules `edits`, `journaled`, `listed`, `sessions`, `steps` and `toolchains`.
+//! modules `edits`, `failing`, `journaled`, `listed`, `sessions`, `steps` and `toolchains`.
 
 use crate::tests::edits::edits;
+use crate::tests::failing::failing;
 use crate::tests::journaled::journaled;
 use crate::tests::listed::{cuts, list};
 use crate::tests::scene::{scene_of, told};
@@ -47,12 +48,18 @@ fn answered(alloc: Global, kind: &str, world: &str, words: &str) -> Result<Strin
         "cuts" => told(cuts(alloc, world, words)),
         "steps" => told(steps(alloc, world, words)),
         "toolchain" => toolchain(alloc, world, words),
+        "each broken call" => failing(alloc, world, words),
         sections => called(alloc, world, words, sections),
     }
 }
 
 /// A whole call: the sections, and its status.
-fn called(alloc: Global, world: &str, words: &str, sections: &str) -> Result<String, AllocError> {
+pub fn called(
+    alloc: Global,
+    world: &str,
+    words: &str,
+    sections: &str,
+) -> Result<String, AllocError> {
     let mut scene = scene_of(alloc, world, words)?;
     let (words, files, mut host) = scene.parts(alloc);
     let status = run(words, None, files, &mut host);

@@ -3,6 +3,7 @@
 use crate::tests::asked::on;
 use crate::tests::worlds::{ROOT, VIRTUAL};
 use hack_holds::Wrong;
+use std::alloc::Global;
 
 #[test]
 fn development_dependencies(rt: HostRuntime) -> Result<(), Wrong> {
@@ -101,27 +102,19 @@ fn a_private_root(rt: HostRuntime) -> Result<(), Wrong> {
 /// No text names the private member, and there is no header after which its folder could be
 /// excluded.
 const UNPLACED: &str = r#"
-    members p /w/p/Cargo.toml, q! /w/q/Cargo.toml
+    + p and a private q
     file: /w/Cargo.toml
     | workspace.members = ["*"]
-    file: /w/p/Cargo.toml
-    | [package]
-    file: /w/q/Cargo.toml
-    | [package]
 "#;
 
 /// No text names the private member, and the list of excluded folders has a value that is no
 /// string.
 const NUMBERED: &str = r#"
-    members p /w/p/Cargo.toml, q! /w/q/Cargo.toml
+    + p and a private q
     file: /w/Cargo.toml
     | [workspace]
     | members = ["*"]
     | exclude = [1]
-    file: /w/p/Cargo.toml
-    | [package]
-    file: /w/q/Cargo.toml
-    | [package]
 "#;
 
 /// A member's development dependencies are in an inline table.
@@ -138,31 +131,28 @@ const INLINE: &str = r#"
     | [package]
 "#;
 
+/// Checks that private members stay in this workspace: the call ends with the error.
+fn refused(alloc: Global, world: &str, error: &str) -> Result<(), Wrong> {
+    let call = "> err changes: hack check --no-private --workspace\n+ no-private told";
+    let rows = format!(in alloc; "{call}\n| error: {error}\n| status 1")?;
+    on(alloc, world, rows.as_str())
+}
+
 #[test]
 fn a_member_that_no_text_names(rt: HostRuntime) -> Result<(), Wrong> {
-    on(
+    refused(
         rt.alloc(),
         UNPLACED,
-        r#"
-            > err changes: hack check --no-private --workspace
-            + no-private told
-            | error: unsupported form of manifest `/w/Cargo.toml`
-            | status 1
-        "#,
+        "unsupported form of manifest `/w/Cargo.toml`",
     )
 }
 
 #[test]
 fn an_excluded_folder_that_is_no_text(rt: HostRuntime) -> Result<(), Wrong> {
-    on(
+    refused(
         rt.alloc(),
         NUMBERED,
-        r#"
-            > err changes: hack check --no-private --workspace
-            + no-private told
-            | error: failed to edit manifest `/w/Cargo.toml`
-            | status 1
-        "#,
+        "failed to edit manifest `/w/Cargo.toml`",
     )
 }
 

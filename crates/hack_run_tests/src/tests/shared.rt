@@ -3,7 +3,7 @@
 
 use std::alloc::{AllocError, Global};
 
-static SHARED: [(&str, &str); 17] = [
+static SHARED: [(&str, &str); 18] = [
     // Arguments.
     (
         "+ no subcommand",
@@ -53,6 +53,14 @@ static SHARED: [(&str, &str); 17] = [
 |
 | [dev-dependencies]
 | d = "1""#,
+    ),
+    (
+        "+ p and a private q",
+        "members p /w/p/Cargo.toml, q! /w/q/Cargo.toml
+file: /w/p/Cargo.toml
+| [package]
+file: /w/q/Cargo.toml
+| [package]",
     ),
     // Preparations of toolchains.
     (

@@ -1,8 +1,9 @@
 //! Calls on files of which one call fails. A write that fails leaves its file empty.
 //!
-//! `edit N` edits the file `a`, makes a new one, `c`, and restores both, on files of which call N
-//! fails. It ends at the first failure. The answer is how many files a recovery restores then, or
-//! its error, and the contents at the paths.
+//! `edit FIRST..=LAST` edits the file `a`, makes a new one, `c`, and restores both, again and
+//! again: the call of the files with the first of these numbers fails, then the next, and so on. An
+//! edit ends at its first failure. The answer has a line for each: the contents at the paths after
+//! a recovery, and how many files that restored, or its error.
 
 use crate::tests::files::held;
 use crate::tests::journal::{journaled, on, recovered, replayed};
@@ -12,19 +13,31 @@ use hack_holds::Wrong;
 use hack_journal::journaled::Journaled;
 use std::alloc::{AllocError, Global};
 
-fn edit<F: Files>(files: &mut Journaled<F>) -> Result<bool, FileFault> {
-    files.write("a", b"x")?;
-    files.write("c", b"new")?;
-    files.write("a", b"one")?;
-    files.remove("c")?;
-    files.finish()
+/// What is left for each of the calls that fail.
+pub fn left(alloc: Global, calls: &str) -> Result<String, AllocError> {
+    let (first, last) = calls.split_once("..=").unwrap_or((calls, calls));
+    let first = number_of(first);
+    let mut text = left_by(alloc, first)?;
+    for call in first.saturating_add(1)..=number_of(last) {
+        text.push('\n')?;
+        text.push_str(left_by(alloc, call)?.as_str())?;
+    }
+    Ok(text)
 }
 
-/// The files that such a call leaves.
-fn edited(alloc: Global, call: &str) -> Result<MemoryFiles, AllocError> {
+/// The contents at the paths after the recovery, and its result.
+fn left_by(alloc: Global, call: u64) -> Result<String, AllocError> {
+    let mut files = edited(alloc, call)?;
+    let told = recovered(alloc, &mut files)?;
+    let held = held(alloc, &mut files, "a c")?;
+    format!(in alloc; "{call}: {held}, {told}")
+}
+
+/// The files that such an edit leaves.
+fn edited(alloc: Global, call: u64) -> Result<MemoryFiles, AllocError> {
     let mut files = MemoryFiles::new(alloc);
     let _ = files.write("a", b"one");
-    let mut files = journaled(alloc, FailingFiles::new(files, number_of(call)))?;
+    let mut files = journaled(alloc, FailingFiles::new(files, call))?;
     let _ = edit(&mut files);
     let done = files.into_inner();
     match replayed(alloc, done.inner().steps()) {
@@ -33,12 +46,12 @@ fn edited(alloc: Global, call: &str) -> Result<MemoryFiles, AllocError> {
     }
 }
 
-/// The result of the recovery, and the contents at the paths then.
-pub fn left(alloc: Global, call: &str) -> Result<String, AllocError> {
-    let mut files = edited(alloc, call)?;
-    let told = recovered(alloc, &mut files)?;
-    let held = held(alloc, &mut files, "a c")?;
-    format!(in alloc; "{told}\n{held}")
+fn edit<F: Files>(files: &mut Journaled<F>) -> Result<bool, FileFault> {
+    files.write("a", b"x")?;
+    files.write("c", b"new")?;
+    files.write("a", b"one")?;
+    files.remove("c")?;
+    files.finish()
 }
 
 // The journal is written by calls 3 and 6, the files by 4, 7 and 8. Where one of these leaves its
@@ -49,54 +62,23 @@ fn each_call_fails_in_turn(rt: HostRuntime) -> Result<(), Wrong> {
         rt.alloc(),
         &[
             "
-            > edit 0
-            | 0
-            | a 'one' c -
-            > edit 1
-            | 0
-            | a 'one' c -
-            > edit 2
-            | 0
-            | a 'one' c -
-            > edit 3
-            | `j` is not a whole journal of edited files; put back by hand what it tells, and remove it
-            | a 'one' c -
-            > edit 4
-            | `a` was changed after an interrupted call had edited it; put back by hand what `j` tells, and remove `j`
-            | a '' c -
-            > edit 5
-            | 1
-            | a 'one' c -
-            > edit 6
-            | `j` is not a whole journal of edited files; put back by hand what it tells, and remove it
-            | a 'x' c -
-            > edit 7
-            | `c` was changed after an interrupted call had edited it; put back by hand what `j` tells, and remove `j`
-            | a 'x' c ''
-            > edit 8
-            | `a` was changed after an interrupted call had edited it; put back by hand what `j` tells, and remove `j`
-            | a '' c 'new'
-            > edit 9
-            | 1
-            | a 'one' c -
-            > edit 10
-            | 0
-            | a 'one' c -
-            > edit 11
-            | 0
-            | a 'one' c -
-            > edit 12
-            | 0
-            | a 'one' c -
-            > edit 13
-            | 0
-            | a 'one' c -
-            > edit 14
-            | 0
-            | a 'one' c -
-            > edit 15
-            | 0
-            | a 'one' c -
+            > edit 0..=15
+            | 0: a 'one' c -, 0
+            | 1: a 'one' c -, 0
+            | 2: a 'one' c -, 0
+            | 3: a 'one' c -, `j` is not a whole journal of edited files; put back by hand what it tells, and remove it
+            | 4: a '' c -, `a` was changed after an interrupted call had edited it; put back by hand what `j` tells, and remove `j`
+            | 5: a 'one' c -, 1
+            | 6: a 'x' c -, `j` is not a whole journal of edited files; put back by hand what it tells, and remove it
+            | 7: a 'x' c '', `c` was changed after an interrupted call had edited it; put back by hand what `j` tells, and remove `j`
+            | 8: a '' c 'new', `a` was changed after an interrupted call had edited it; put back by hand what `j` tells, and remove `j`
+            | 9: a 'one' c -, 1
+            | 10: a 'one' c -, 0
+            | 11: a 'one' c -, 0
+            | 12: a 'one' c -, 0
+            | 13: a 'one' c -, 0
+            | 14: a 'one' c -, 0
+            | 15: a 'one' c -, 0
         ",
         ],
     )
