@@ -1,5 +1,5 @@
 -- What only private functions of the crate promise each other.
-use Rattle.std.specs.Prelude.{◌≡◌, ◌⊎◌, ℕ, true, false, List, Some, None, Result, Ok, Err, string_bytes}
+use Rattle.std.specs.Prelude.{◌≡◌, ◌⊎◌, ℕ, true, false, List, [], Some, None, Result, Ok, Err, string_bytes}
 use Rattle.serde_json.specs.Data.{Members}
 use Rattle.hack_base.specs.Names.{Name}
 use Rattle.hack_process.specs.Calls.{Call}

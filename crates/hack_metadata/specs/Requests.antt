@@ -3,6 +3,7 @@ use Rattle.std.specs.Prelude.{ℕ, Bool, true, false, List, [], ◌∷◌, ◌++
 use Rattle.std.specs.List.{flat_map}
 use Rattle.hack_base.specs.Names.{Name, optional_text}
 use Rattle.hack_process.specs.CommandTexts.{Command}
+use Rattle.hack_process.specs.Commands.{manifest_words, plain_command}
 use Rattle.hack_words.specs.declared.cli.args.Args.{Args}
 use Rattle.hack_words.specs.declared.cli.env.Env.{Env}
 

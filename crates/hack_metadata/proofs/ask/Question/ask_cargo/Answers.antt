@@ -1,4 +1,4 @@
-use Rattle.std.proofs.Common.{◌≡◌, inl, inr, refl, subst, map, string_bytes, rules}
+use Rattle.std.proofs.Common.{◌≡◌, inl, inr, refl, subst, map, string_bytes, rules, []}
 use Rattle.std.proofs.lemmas.Result.{err_from_is_err_and}
 use Rattle.hack_process.specs.Commands.{command_of, plain_command}
 use Rattle.hack_metadata.specs.InternalAskView.{question_of}
