@@ -1,13 +1,13 @@
 -- The journal is removed where nothing is to be put back.
-use Rattle.std.proofs.Common.{◌≡◌, ◌≢◌, ◌⊎◌, inl, inr, ℕ, List, [], ◌∷◌, ◌++◌, Option, Some, None, refl, sym, ◌∙◌, subst, true, false, Bool}
+use Rattle.std.proofs.Common.{◌≡◌, ◌≢◌, ◌⊎◌, inl, inr, ℕ, List, [], ◌∷◌, ◌++◌, Option, Some, None, refl, sym, ◌∙◌, subst, true, false, Bool, Result, OnOk, OnErr}
 use Rattle.std.specs.Prelude.{IsTrue, IsSome, ◌↔◌}
 use Rattle.std.proofs.Math.Path.{fun_ext}
 use Rattle.hack_files.specs.Files.{Change, Contents, Makes, MakesOrNot, removes, KeepsAll}
 use Rattle.hack_journal.specs.Journal.{Edit, journal_text}
 use Rattle.hack_journal.specs.SafeFiles.{SomeEntryHasBytes, KeepFirst, IsJournalOf, HoldFirstOrTold, IsSafe, IsJournaled, StaysSafe, Stays, AreBack}
-use Rattle.hack_journal.specs.SafeLaws.{safe_of, stay_none, holds_left}
+use Rattle.hack_journal.specs.SafeLaws.{safe_of, stay_none, stays_none, stays_more, holds_left}
 use Rattle.hack_journal.proofs.ChangeLemmas.{makes_here, makes_others}
-use Rattle.hack_journal.proofs.SafeLemmas.{stay_one}
+use Rattle.hack_journal.proofs.SafeLemmas.{at_either, stay_one}
 
 pub all_same : (m n : Contents) → KeepsAll m n → n ≡ m
 all_same m n h = fun_ext h
@@ -48,6 +48,15 @@ finish_stays j es t u m n all makes o k =
       removed_safe j o t u m n makes (safe_of j o es m k) same,
       elim makes [ inl none ↦ subst (λ (x : Contents). IsJournaled j o [] x) (sym none.holds) (forget j o es m k same) | inr made ↦ removed_by j o t u m n made same ],
     )
+
+-- after two looks, the second of which found each path back, the journal is removed, or that fails
+pub removed_stays : {A E W : Type 0} (r : Result A E) (i j : List ℕ) (ds es fs : List Edit) (s t u v : List Change) (k l m n : Contents) → i ≡ j → ds ≡ es → [] ≡ fs → Makes [] s t k l → Makes [] t u l m → AreBack ds l
+    → OnOk r (W → Makes (removes i ∷ []) u v m n) → OnErr r (W → MakesOrNot (removes i) u v m n) → W → Stays j es fs s v k n
+removed_stays r i j ds es fs s t u v k l m n name same none looked again all ok err w =
+    let back : AreBack ds m = subst (λ (x : Contents). AreBack ds x) (sym again.holds) all in
+    subst (λ (x : List ℕ). Stays x es fs s v k n) name (subst (λ (x : List Edit). Stays i x fs s v k n) same (subst (λ (x : List Edit). Stays i ds x s v k n) none
+    (stays_more i ds ds [] s t v k l n (stays_none i ds s t k l looked) (stays_more i ds ds [] t u v l m n (stays_none i ds t u l m again)
+    (finish_stays i ds u v m n back (at_either r (removes i) u v m n ok err w))))))
 
 -- where no journal is there, each path holds what it held at first
 pub absent_first : (j : List ℕ) (o : Contents) (es : List Edit) (m : Contents) → IsJournalOf j m es → HoldFirstOrTold j o es m → m j ≡ None → (q : List ℕ) → q ≢ j → m q ≡ o q

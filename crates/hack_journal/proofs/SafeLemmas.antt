@@ -4,7 +4,7 @@ use Rattle.std.specs.Str.{bytes_eq, IsUtf8}
 use Rattle.std.proofs.Math.Path.{fun_ext}
 use Rattle.std.proofs.lemmas.Slice.Eq.{bytes_eq-Decides}
 use Rattle.std.proofs.lemmas.Bool.{cases_Bool}
-use Rattle.hack_files.specs.Files.{Change, Contents, after_change, after, Makes, MakesOrNot, puts}
+use Rattle.hack_files.specs.Files.{Change, Contents, after_change, after, KeepsAll, Makes, MakesOrNot, puts}
 use Rattle.hack_journal.specs.Journal.{Edit, journal_text}
 use Rattle.hack_journal.specs.SafeFiles.{gives, SomeEntryHasBytes, first_entry_of, KeepFirst, IsJournalOf, HoldFirstOrTold, IsSafe, IsJournaled, StaysSafe, Stays, changes_besides, without}
 use Rattle.hack_journal.specs.Internal.{Hidden, IsHeld}
@@ -158,6 +158,9 @@ without_after j (c ∷ cs) m = elim (cases_Bool (bytes_eq c.path j)) [
   | inl t ↦ without_after j cs (after_change c m) ∙ ap (after (changes_besides j cs)) (without_in j c m t) ∙ sym (ap (λ b. after (cond b (changes_besides j cs) (c ∷ changes_besides j cs)) (without j m)) t)
   | inr f ↦ without_after j cs (after_change c m) ∙ ap (after (changes_besides j cs)) (without_out j c m f) ∙ sym (ap (λ b. after (cond b (changes_besides j cs) (c ∷ changes_besides j cs)) (without j m)) f)
 ]
+
+pub without_all : (j : List ℕ) (m n : Contents) → KeepsAll m n → KeepsAll (without j m) (without j n)
+without_all j m n same q = ap (λ x. cond (bytes_eq j q) None x) (same q)
 
 pub hides : (j : List ℕ) (cs t u : List Change) (m n : Contents) → Makes cs t u m n → Makes (changes_besides j cs) (changes_besides j t) (changes_besides j u) (without j m) (without j n)
 hides j cs t u m n h = record { traced = ap (changes_besides j) h.traced ∙ but_append j t cs; holds = ap (without j) h.holds ∙ without_after j cs m }

@@ -1,11 +1,12 @@
 -- What only private functions of the crate promise each other.
 use Rattle.std.specs.Prelude.{◌≢◌, [], ◌∷◌, ℕ, List, ◌≡◌, string_bytes, Option, Some, None}
+use Rattle.hack_base.specs.Counters.{GrowsBy}
 use Rattle.hack_files.specs.Files.{Change, Contents, Makes}
 use Rattle.hack_journal.specs.Journal.{Edit}
 use Rattle.hack_journal.specs.SafeFiles.{SomeEntryHasBytes, gives, changes_besides}
 use Rattle.hack_journal.specs.declared.recover.RecoverFault.{RecoverFault}
 use Rattle.hack_journal.specs.declared.recover.RecoverFault.TheVariants.{Memory, NotJournal, Changed, Files}
-use Rattle.hack_journal.specs.Recovery.{HasEntry, IsNoJournal, NamesPath}
+use Rattle.hack_journal.specs.Recovery.{CountsRecoverFault, HasEntry, IsJournalRefusal, IsNoJournal, NamesPath}
 
 -- the text does not begin with a space
 abbrev pub BeginsWithoutSpace : List ℕ → Type 0
@@ -23,6 +24,12 @@ FailsAt P Memory = Unit {0}
 FailsAt P (NotJournal j) = ⊥
 FailsAt P (Changed p j) = ⊥
 FailsAt P (Files f) = NamesPath P f
+
+-- the error of a failed call of files at this path, or of refused memory: no refusal of the journal
+pub record IsFileFault (path : List ℕ) (fault : RecoverFault) : Type 0 where
+  pub failures : (old new : ℕ) → GrowsBy 1 old new → CountsRecoverFault old new fault
+  pub kind : ¬ IsJournalRefusal fault
+  pub named : FailsAt (λ p. p ≡ path) fault
 
 -- the error says that this path holds no journal; or memory was refused
 abbrev pub NamesNoJournal : List ℕ → RecoverFault → Type 0

@@ -3,4 +3,5 @@ pub mod SafeFiles
 pub mod SafeLaws
 pub mod Recovery
 pub mod LockfilesApart
+pub mod FileCalls
 pub mod Internal

@@ -4,7 +4,6 @@
 //! other files have a journal, writes of lockfiles don't go through it.
 
 ghost use Rattle.std.specs.Prelude.{◌≡◌, ◌↔◌, [], None, Some, IfOk, OnOk, IsTrue, IsSome};
-ghost use Rattle.hack_files.specs.Files.{CountsFailedCall, KeepsOthers, KeepsAll};
 ghost use Rattle.hack_journal.specs.LockfilesApart.{is_lockfile, apart, KeepsLockfiles};
 
 use hack_files::fs::{FileFault, Files, counted};
@@ -43,6 +42,7 @@ impl<A: Files, B: Files> Apart<A, B> {
 
 impl<A: Files, B: Files> Files for Apart<A, B> {
     ghost use Rattle.std.proofs.Common.{refl, ◌∙◌};
+    ghost use Rattle.hack_journal.specs.FileCalls.{OnlyLooks, ChangesOnly, GoesToOne};
 
     ghost tells = { A.tells × B.tells };
 
@@ -68,20 +68,11 @@ impl<A: Files, B: Files> Files for Apart<A, B> {
     ghost failed = { λ s. s.failures };
 
     fn read(&mut self, alloc: Global, path: &str) -> Result<Vec<u8>, FileFault>
-        ensures stays { A.stays self.old.files self.new.files ×
-            B.stays self.old.lockfiles self.new.lockfiles ×
-            (A.tells → KeepsLockfiles (A.bytes_at self.old.files) (A.bytes_at self.new.files)) }
-        ensures counted { CountsFailedCall self.old.failures self.new.failures result }
+        ensures looks { OnlyLooks ⟦<Apart<A, B> as Files>⟧ self.old self.new result }
         ensures bytes { IfOk result (λ bytes. A.tells × B.tells →
             apart (A.bytes_at self.old.files) (B.bytes_at self.old.lockfiles) path.now ≡
             Some bytes.items) }
-        ensures same { A.tells × B.tells → KeepsAll
-            (apart (A.bytes_at self.old.files) (B.bytes_at self.old.lockfiles))
-            (apart (A.bytes_at self.new.files) (B.bytes_at self.new.lockfiles)) }
-        // A call at a lockfile leaves the other files alone, and any other call the lockfiles.
-        ensures files { IsTrue (is_lockfile path.now) → self.new.files ≡ self.old.files }
-        ensures lockfiles { ¬ IsTrue (is_lockfile path.now) →
-            self.new.lockfiles ≡ self.old.lockfiles }
+        ensures one { GoesToOne path.now self.old self.new }
     {
         let outcome = if is_lockfile(path) {
             self.lockfiles.read(alloc, path)
@@ -92,20 +83,11 @@ impl<A: Files, B: Files> Files for Apart<A, B> {
     }
 
     fn write(&mut self, path: &str, bytes: &[u8]) -> Result<(), FileFault>
-        ensures stays { A.stays self.old.files self.new.files ×
-            B.stays self.old.lockfiles self.new.lockfiles ×
-            (A.tells → KeepsLockfiles (A.bytes_at self.old.files) (A.bytes_at self.new.files)) }
-        ensures counted { CountsFailedCall self.old.failures self.new.failures result }
+        ensures changes { ChangesOnly ⟦<Apart<A, B> as Files>⟧ path.now self.old self.new result }
         ensures written { OnOk result (A.tells × B.tells →
             apart (A.bytes_at self.new.files) (B.bytes_at self.new.lockfiles) path.now ≡
             Some bytes.now) }
-        ensures others { A.tells × B.tells → KeepsOthers path.now
-            (apart (A.bytes_at self.old.files) (B.bytes_at self.old.lockfiles))
-            (apart (A.bytes_at self.new.files) (B.bytes_at self.new.lockfiles)) }
-        // A call at a lockfile leaves the other files alone, and any other call the lockfiles.
-        ensures files { IsTrue (is_lockfile path.now) → self.new.files ≡ self.old.files }
-        ensures lockfiles { ¬ IsTrue (is_lockfile path.now) →
-            self.new.lockfiles ≡ self.old.lockfiles }
+        ensures one { GoesToOne path.now self.old self.new }
     {
         let outcome = if is_lockfile(path) {
             self.lockfiles.write(path, bytes)
@@ -116,19 +98,10 @@ impl<A: Files, B: Files> Files for Apart<A, B> {
     }
 
     fn exists(&mut self, path: &str) -> Result<bool, FileFault>
-        ensures stays { A.stays self.old.files self.new.files ×
-            B.stays self.old.lockfiles self.new.lockfiles ×
-            (A.tells → KeepsLockfiles (A.bytes_at self.old.files) (A.bytes_at self.new.files)) }
-        ensures counted { CountsFailedCall self.old.failures self.new.failures result }
+        ensures looks { OnlyLooks ⟦<Apart<A, B> as Files>⟧ self.old self.new result }
         ensures there { IfOk result (λ there. A.tells × B.tells → IsTrue there ↔
             IsSome (apart (A.bytes_at self.old.files) (B.bytes_at self.old.lockfiles) path.now)) }
-        ensures same { A.tells × B.tells → KeepsAll
-            (apart (A.bytes_at self.old.files) (B.bytes_at self.old.lockfiles))
-            (apart (A.bytes_at self.new.files) (B.bytes_at self.new.lockfiles)) }
-        // A call at a lockfile leaves the other files alone, and any other call the lockfiles.
-        ensures files { IsTrue (is_lockfile path.now) → self.new.files ≡ self.old.files }
-        ensures lockfiles { ¬ IsTrue (is_lockfile path.now) →
-            self.new.lockfiles ≡ self.old.lockfiles }
+        ensures one { GoesToOne path.now self.old self.new }
     {
         let outcome = if is_lockfile(path) {
             self.lockfiles.exists(path)
@@ -139,20 +112,11 @@ impl<A: Files, B: Files> Files for Apart<A, B> {
     }
 
     fn remove(&mut self, path: &str) -> Result<(), FileFault>
-        ensures stays { A.stays self.old.files self.new.files ×
-            B.stays self.old.lockfiles self.new.lockfiles ×
-            (A.tells → KeepsLockfiles (A.bytes_at self.old.files) (A.bytes_at self.new.files)) }
-        ensures counted { CountsFailedCall self.old.failures self.new.failures result }
+        ensures changes { ChangesOnly ⟦<Apart<A, B> as Files>⟧ path.now self.old self.new result }
         ensures removed { OnOk result (A.tells × B.tells →
             apart (A.bytes_at self.new.files) (B.bytes_at self.new.lockfiles) path.now ≡
             None) }
-        ensures others { A.tells × B.tells → KeepsOthers path.now
-            (apart (A.bytes_at self.old.files) (B.bytes_at self.old.lockfiles))
-            (apart (A.bytes_at self.new.files) (B.bytes_at self.new.lockfiles)) }
-        // A call at a lockfile leaves the other files alone, and any other call the lockfiles.
-        ensures files { IsTrue (is_lockfile path.now) → self.new.files ≡ self.old.files }
-        ensures lockfiles { ¬ IsTrue (is_lockfile path.now) →
-            self.new.lockfiles ≡ self.old.lockfiles }
+        ensures one { GoesToOne path.now self.old self.new }
     {
         let outcome = if is_lockfile(path) {
             self.lockfiles.remove(path)

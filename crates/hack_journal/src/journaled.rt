@@ -4,7 +4,7 @@
 //! Wherever the program ends, each path holds what it held at first, or the journal has it, and
 //! [`crate::recover::recover`] puts it back.
 
-ghost use Rattle.std.specs.Prelude.{◌≡◌, ◌≢◌, ◌++◌, ◌⊎◌, [], ◌∷◌, List, ℕ, None, Some, false};
+ghost use Rattle.std.specs.Prelude.{◌≡◌, ◌≢◌, ◌++◌, [], ◌∷◌, None, Some, false};
 ghost use Rattle.std.specs.Prelude.{IfOk, OnOk, OnErr, IsTrue, IsSome, ◌↔◌, string_bytes};
 ghost use Rattle.std.specs.Option.{option_map};
 ghost use Rattle.hack_files.specs.Files.{Contents, CountsFailedCall, KeepsOthers, KeepsAll};
@@ -33,6 +33,8 @@ pub struct Journaled<F: Files> {
 }
 
 impl<F: Files> Journaled<F> {
+    ghost use Rattle.hack_journal.specs.FileCalls.{StaysJournaled};
+
     /// Files over these, of which nothing is kept yet, with no failed call counted. The journal is
     /// written to this path before the first change; one that is there already would be lost, so
     /// call `recover` first.
@@ -173,11 +175,8 @@ impl<F: Files> Journaled<F> {
         ensures hidden { F.whole → Hidden (string_bytes self.old.journal)
             (F.trace self.old.files) (F.trace self.new.files)
             (F.bytes_at self.old.files) (F.bytes_at self.new.files) }
-        ensures stays { F.tells → F.whole → path.now ≢ string_bytes self.old.journal →
-            Stays (string_bytes self.old.journal)
-            (edits_of self.old.entries.items) (edits_of self.new.entries.items)
-            (F.trace self.old.files) (F.trace self.new.files)
-            (F.bytes_at self.old.files) (F.bytes_at self.new.files) }
+        ensures stays { path.now ≢ string_bytes self.old.journal →
+            StaysJournaled F.Files self.old self.new }
     {
         if tells(&self.entries, path, bytes) {
             return Ok(());
@@ -209,10 +208,7 @@ impl<F: Files> Journaled<F> {
             (changes_besides (string_bytes self.old.journal) (F.trace self.new.files))
             (without (string_bytes self.old.journal) (F.bytes_at self.old.files))
             (without (string_bytes self.old.journal) (F.bytes_at self.new.files))) }
-        ensures stays { F.tells → F.whole → Stays (string_bytes self.old.journal)
-            (edits_of self.old.entries.items) (edits_of self.new.entries.items)
-            (F.trace self.old.files) (F.trace self.new.files)
-            (F.bytes_at self.old.files) (F.bytes_at self.new.files) }
+        ensures stays { StaysJournaled F.Files self.old self.new }
     {
         if path == self.journal.as_str() {
             return Err(FileFault::Device);
@@ -221,44 +217,10 @@ impl<F: Files> Journaled<F> {
         put(&mut self.files, path, bytes)
     }
 
-    // Removes the journal where the path of each entry holds what it held at first, and returns
-    // whether no journal is there.
-    #[tactic(auto, using(crate::proofs::CountLemmas::grows_then))]
-    fn close(&mut self) -> Result<bool, FileFault>
-        ensures handed { F.stays self.old.files self.new.files }
-        ensures journal { self.new.journal ≡ self.old.journal }
-        ensures below { CountsFailedCall (F.failed self.old.files)
-            (F.failed self.new.files) result }
-        ensures failures { self.new.failures ≡ self.old.failures }
-        ensures others { F.tells → KeepsOthers (string_bytes self.old.journal)
-            (F.bytes_at self.old.files) (F.bytes_at self.new.files) }
-        ensures stays { F.tells → F.whole → Stays (string_bytes self.old.journal)
-            (edits_of self.old.entries.items) (edits_of self.new.entries.items)
-            (F.trace self.old.files) (F.trace self.new.files)
-            (F.bytes_at self.old.files) (F.bytes_at self.new.files) }
-        ensures gone { IfOk result (λ gone. IsTrue gone → F.tells →
-            F.bytes_at self.new.files (string_bytes self.old.journal) ≡ None) }
-        ensures back { IfOk result (λ gone. IsTrue gone → F.tells →
-            (F.bytes_at self.old.files (string_bytes self.old.journal) ≡ None) ⊎
-            AreBack (edits_of self.old.entries.items) (F.bytes_at self.old.files)) }
-        ensures needed { IfOk result (λ gone. (gone ≡ false) → F.tells →
-            ¬ AreBack (edits_of self.old.entries.items) (F.bytes_at self.old.files)) }
-    {
-        if !self.files.exists(self.journal.as_str())? {
-            return Ok(true);
-        }
-        if !are_back(self.alloc, &mut self.files, &self.entries)? {
-            return Ok(false);
-        }
-        // A removal that fails may be made all the same, and then the journal has no entries.
-        self.entries.clear();
-        self.files.remove(self.journal.as_str())?;
-        Ok(true)
-    }
-
     /// Removes the journal where each kept path holds again what it held at first. Returns whether
     /// no journal is there: where it is false, a path holds something else. After an error the
     /// journal is still there, or it was removed where nothing was to be put back.
+    #[tactic(auto, using(crate::proofs::CountLemmas::grows_then))]
     pub fn finish(&mut self) -> Result<bool, FileFault>
         ensures handed { F.stays self.old.files self.new.files }
         ensures journal { self.new.journal ≡ self.old.journal }
@@ -269,10 +231,7 @@ impl<F: Files> Journaled<F> {
             (F.failed self.new.files) result }
         ensures others { F.tells → KeepsOthers (string_bytes self.old.journal)
             (F.bytes_at self.old.files) (F.bytes_at self.new.files) }
-        ensures stays { F.tells → F.whole → Stays (string_bytes self.old.journal)
-            (edits_of self.old.entries.items) (edits_of self.new.entries.items)
-            (F.trace self.old.files) (F.trace self.new.files)
-            (F.bytes_at self.old.files) (F.bytes_at self.new.files) }
+        ensures stays { StaysJournaled F.Files self.old self.new }
         ensures gone { IfOk result (λ gone. IsTrue gone → F.tells →
             F.bytes_at self.new.files (string_bytes self.old.journal) ≡ None) }
         ensures back { IfOk result (λ gone. IsTrue gone → F.tells → (first : Contents) →
@@ -282,19 +241,26 @@ impl<F: Files> Journaled<F> {
         ensures needed { IfOk result (λ gone. (gone ≡ false) → F.tells →
             ¬ AreBack (edits_of self.old.entries.items) (F.bytes_at self.old.files)) }
     {
-        match self.close() {
-            Ok(gone) => Ok(gone),
-            Err(fault) => {
-                count_failure(&mut self.failures);
-                Err(fault)
-            }
+        let there = self.files.exists(self.journal.as_str());
+        if !counted(&mut self.failures, there)? {
+            return Ok(true);
         }
+        let back = are_back(self.alloc, &mut self.files, &self.entries);
+        if !counted(&mut self.failures, back)? {
+            return Ok(false);
+        }
+        // A removal that fails may be made all the same, and then the journal has no entries.
+        self.entries.clear();
+        let removed = self.files.remove(self.journal.as_str());
+        counted(&mut self.failures, removed)?;
+        Ok(true)
     }
 }
 
 impl<F: Files> Files for Journaled<F> {
     ghost use Rattle.std.proofs.Common.{refl, ◌∙◌};
     ghost use Rattle.hack_journal.specs.SafeLaws.{stays_none, stays_join, makes_none};
+    ghost use Rattle.hack_journal.specs.FileCalls.{OnlyLooks};
 
     ghost tells = { F.tells };
 
@@ -328,23 +294,9 @@ impl<F: Files> Files for Journaled<F> {
     ghost failed = { λ files. files.failures };
 
     fn read(&mut self, alloc: Global, path: &str) -> Result<Vec<u8>, FileFault>
-        ensures stays { (string_bytes self.old.journal ≡ string_bytes self.new.journal) ×
-            (F.tells → F.whole → Stays (string_bytes self.old.journal)
-            (edits_of self.old.entries.items) (edits_of self.new.entries.items)
-            (F.trace self.old.files) (F.trace self.new.files)
-            (F.bytes_at self.old.files) (F.bytes_at self.new.files)) ×
-            F.stays self.old.files self.new.files }
-        ensures counted { CountsFailedCall self.old.failures self.new.failures result }
+        ensures looks { OnlyLooks ⟦<Journaled<F> as Files>⟧ self.old self.new result }
         ensures bytes { IfOk result (λ bytes. F.tells → without (string_bytes self.old.journal)
             (F.bytes_at self.old.files) path.now ≡ Some bytes.items) }
-        ensures same { F.tells → KeepsAll
-            (without (string_bytes self.old.journal) (F.bytes_at self.old.files))
-            (without (string_bytes self.new.journal) (F.bytes_at self.new.files)) }
-        ensures untraced { F.tells × F.whole → Makes []
-            (changes_besides (string_bytes self.old.journal) (F.trace self.old.files))
-            (changes_besides (string_bytes self.new.journal) (F.trace self.new.files))
-            (without (string_bytes self.old.journal) (F.bytes_at self.old.files))
-            (without (string_bytes self.new.journal) (F.bytes_at self.new.files)) }
         // Not even a journal is written.
         ensures below { F.whole → Makes [] (F.trace self.old.files) (F.trace self.new.files)
             (F.bytes_at self.old.files) (F.bytes_at self.new.files) }
@@ -363,23 +315,9 @@ impl<F: Files> Files for Journaled<F> {
     }
 
     fn exists(&mut self, path: &str) -> Result<bool, FileFault>
-        ensures stays { (string_bytes self.old.journal ≡ string_bytes self.new.journal) ×
-            (F.tells → F.whole → Stays (string_bytes self.old.journal)
-            (edits_of self.old.entries.items) (edits_of self.new.entries.items)
-            (F.trace self.old.files) (F.trace self.new.files)
-            (F.bytes_at self.old.files) (F.bytes_at self.new.files)) ×
-            F.stays self.old.files self.new.files }
-        ensures counted { CountsFailedCall self.old.failures self.new.failures result }
+        ensures looks { OnlyLooks ⟦<Journaled<F> as Files>⟧ self.old self.new result }
         ensures there { IfOk result (λ there. F.tells → IsTrue there ↔ IsSome
             (without (string_bytes self.old.journal) (F.bytes_at self.old.files) path.now)) }
-        ensures same { F.tells → KeepsAll
-            (without (string_bytes self.old.journal) (F.bytes_at self.old.files))
-            (without (string_bytes self.new.journal) (F.bytes_at self.new.files)) }
-        ensures untraced { F.tells × F.whole → Makes []
-            (changes_besides (string_bytes self.old.journal) (F.trace self.old.files))
-            (changes_besides (string_bytes self.new.journal) (F.trace self.new.files))
-            (without (string_bytes self.old.journal) (F.bytes_at self.old.files))
-            (without (string_bytes self.new.journal) (F.bytes_at self.new.files)) }
         // Not even a journal is written.
         ensures below { F.whole → Makes [] (F.trace self.old.files) (F.trace self.new.files)
             (F.bytes_at self.old.files) (F.bytes_at self.new.files) }

@@ -17,7 +17,7 @@ ghost use Rattle.hack_journal.specs.Recovery.{IsJournalRefusal, CountsRecoverFau
 ghost use Rattle.hack_journal.specs.Recovery.{IsFailureCounted};
 ghost use Rattle.hack_journal.specs.Internal.{NamesNoJournal};
 ghost use Rattle.hack_journal.specs.Recovery.{HasEntry};
-ghost use Rattle.hack_journal.specs.Internal.{FailsAt};
+ghost use Rattle.hack_journal.specs.Internal.{FailsAt, IsFileFault};
 
 use crate::contents::{look, put};
 use crate::entries::{are_of_call, same, tells};
@@ -58,9 +58,7 @@ impl From<AllocError> for RecoverFault {
 
 // The error of reading a path.
 fn read_fault(alloc: Global, path: &str, fault: FileFault) -> RecoverFault
-    ensures failures { (old new : ℕ) → GrowsBy 1 old new → CountsRecoverFault old new result }
-    ensures kind { ¬ IsJournalRefusal result }
-    ensures named { FailsAt (λ p. p ≡ path.now) result }
+    ensures { IsFileFault path.now result }
 {
     match fault {
         FileFault::Memory => RecoverFault::Memory,
@@ -73,9 +71,7 @@ fn read_fault(alloc: Global, path: &str, fault: FileFault) -> RecoverFault
 
 // The error of a write or a removal.
 fn write_fault(alloc: Global, path: &str, fault: FileFault) -> RecoverFault
-    ensures failures { (old new : ℕ) → GrowsBy 1 old new → CountsRecoverFault old new result }
-    ensures kind { ¬ IsJournalRefusal result }
-    ensures named { FailsAt (λ p. p ≡ path.now) result }
+    ensures { IsFileFault path.now result }
 {
     match fault {
         FileFault::Memory => RecoverFault::Memory,

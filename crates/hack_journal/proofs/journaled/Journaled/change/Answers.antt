@@ -26,4 +26,4 @@ pub returns-clause-stays : goal.returns-clause-stays
 returns-clause-stays g c = λ tells whole.
     let ne : c.args.path.now ≢ string_bytes c.args.self.now.journal = unequal _ _ _ _ c.eq.ensures c.if-eq.false c.as_str.ensures.value in
     let makes = at_either c.put.result _ _ _ _ _ c.put.ensures.traced c.put.ensures.refused whole in
-    stays_more _ _ _ _ _ _ _ _ _ _ (c.in_ok-keep.ensures.stays tells whole ne) (put_or_not_stays _ _ _ _ _ _ _ _ ne c.in_ok-keep.ensures.told makes)
+    stays_more _ _ _ _ _ _ _ _ _ _ (c.in_ok-keep.ensures.stays ne tells whole) (put_or_not_stays _ _ _ _ _ _ _ _ ne c.in_ok-keep.ensures.told makes)

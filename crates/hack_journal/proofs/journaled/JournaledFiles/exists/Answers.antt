@@ -1,9 +1,20 @@
-use Rattle.std.proofs.Common.{refl}
+use Rattle.std.proofs.Common.{refl, rules, []}
 use Rattle.hack_journal.specs.SafeLaws.{stays_none, makes_none}
+use Rattle.hack_journal.proofs.SafeLemmas.{hides, without_all}
 use Rattle.hack_journal.proofs.journaled.JournaledFiles.exists.Goals as goal
 
-pub returns-then-eq-clause-stays : goal.returns-then-eq-clause-stays
-returns-then-eq-clause-stays g c = (refl, λ tells whole. stays_none _ _ _ _ _ _ (makes_none _ _), g.F.Files.stays_none c.args.self.now.files)
+pub returns-then-eq-clause-looks : goal.returns-then-eq-clause-looks
+returns-then-eq-clause-looks g c = record {
+  stays = (refl, λ tells whole. stays_none _ _ _ _ _ _ (makes_none _ _), g.F.Files.stays_none c.args.self.now.files);
+  counted = search rules;
+  same = λ tells q. refl;
+  untraced = λ both. makes_none _ _;
+}
 
-pub returns-clause-stays : goal.returns-clause-stays
-returns-clause-stays g c = (refl, λ tells whole. stays_none _ _ _ _ _ _ (c.exists-outcome.ensures.untraced whole), c.exists-outcome.ensures.stays)
+pub returns-clause-looks : goal.returns-clause-looks
+returns-clause-looks g c = record {
+  stays = (refl, λ tells whole. stays_none _ _ _ _ _ _ (c.exists-outcome.ensures.untraced whole), c.exists-outcome.ensures.stays);
+  counted = rw c.counted.ensures.same c.counted.ensures.counted;
+  same = λ tells. without_all _ _ _ (c.exists-outcome.ensures.same tells);
+  untraced = λ both. hides _ [] _ _ _ _ (c.exists-outcome.ensures.untraced both.1);
+}

@@ -1,0 +1,32 @@
+-- What calls of files keep.
+use Rattle.std.specs.Prelude.{◌≡◌, [], ℕ, List, IsTrue, Result, string_bytes}
+use Rattle.hack_files.specs.Files.{CountsFailedCall, KeepsAll, KeepsOthers, Makes}
+use Rattle.hack_files.specs.declared.fs.Files.{Ghosts as Filing}
+use Rattle.hack_journal.specs.Journal.{edits_of}
+use Rattle.hack_journal.specs.LockfilesApart.{is_lockfile}
+use Rattle.hack_journal.specs.SafeFiles.{Stays}
+use Rattle.hack_journal.specs.declared.apart.Apart.{Apart}
+use Rattle.hack_journal.specs.declared.journaled.Journaled.{Journaled}
+
+-- a call that only looks: nothing is changed
+pub record OnlyLooks {F T E : Type 0} (f : Filing F) (old new : F) (result : Result T E) : Type 0 where
+  pub stays : f.stays old new
+  pub counted : CountsFailedCall (f.failed old) (f.failed new) result
+  pub same : f.tells → KeepsAll (f.bytes_at old) (f.bytes_at new)
+  pub untraced : f.whole → Makes [] (f.trace old) (f.trace new) (f.bytes_at old) (f.bytes_at new)
+
+-- a call that changes at most what this path holds
+pub record ChangesOnly {F T E : Type 0} (f : Filing F) (path : List ℕ) (old new : F) (result : Result T E) : Type 0 where
+  pub stays : f.stays old new
+  pub counted : CountsFailedCall (f.failed old) (f.failed new) result
+  pub others : f.tells → KeepsOthers path (f.bytes_at old) (f.bytes_at new)
+
+-- a call at a lockfile leaves the other files alone, and any other call the lockfiles
+pub record GoesToOne {A B : Type 0} (path : List ℕ) (old new : Apart A B) : Type 0 where
+  pub files : IsTrue (is_lockfile path) → new.files ≡ old.files
+  pub lockfiles : ¬ IsTrue (is_lockfile path) → new.lockfiles ≡ old.lockfiles
+
+-- whatever the paths held at first: files that are journaled stay safe and journaled
+abbrev pub StaysJournaled : {F : Type 0} → Filing F → Journaled F → Journaled F → Type 0
+StaysJournaled f old new = f.tells → f.whole
+    → Stays (string_bytes old.journal) (edits_of old.entries.items) (edits_of new.entries.items) (f.trace old.files) (f.trace new.files) (f.bytes_at old.files) (f.bytes_at new.files)
