@@ -288,6 +288,7 @@ fn without_empty(names: &[String]) -> &[String]
 }
 
 /// A package whose features notices are about.
+#[derive(Clone, Copy)]
 struct About<'a> {
     args: &'a Args,
     pkg: &'a Package,

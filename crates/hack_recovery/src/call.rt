@@ -1,0 +1,64 @@
+//! A call of the program, from what the system tells of it.
+
+ghost use Rattle.hack_recovery.specs.ProgramCalls.{IsProgramCall, scene_on};
+
+use crate::locks::Locks;
+use crate::perform::perform;
+use crate::started::Started;
+use crate::system::System;
+use hack_files::fs::Files;
+use hack_process::process::Caller;
+use hack_run::host::Host;
+use hack_term::term::{Coloring, Term};
+use std::alloc::Global;
+use std::io::Write;
+
+/// The programs that a call starts, and where it writes.
+#[derive(Drop)]
+pub struct Outside<'a, C: Caller, O: Write, E: Write> {
+    /// Who runs programs.
+    pub caller: &'a mut C,
+    /// Where output goes.
+    pub out: &'a mut O,
+    /// Where messages go.
+    pub err: &'a mut E,
+    /// Whether messages go to a terminal.
+    pub is_terminal: bool,
+}
+
+/// Performs the call whose arguments and environment the system tells, as `perform` does, and
+/// returns its exit status, the files and the lockfiles. Where these can't be read, that is
+/// reported, and nothing else is done.
+pub fn call<S: System, F: Files, L: Files, K: Locks, C: Caller, O: Write, E: Write>(
+    alloc: Global,
+    system: &S,
+    files: F,
+    lockfiles: L,
+    locks: &mut K,
+    outside: &mut Outside<'_, C, O, E>,
+) -> (u8, F, L)
+    ensures { IsProgramCall S.tells F.tells F.whole L.tells C.tells K.tells (S.shown system.now)
+        outside.old.is_terminal (E.contents outside.old.err.now) (E.contents outside.new.err.now)
+        (scene_on F.Files L.Files C.Caller O.Write files lockfiles (K.shown locks.old) outside.old)
+        (scene_on F.Files L.Files C.Caller O.Write result.1 result.2 (K.shown locks.new)
+        outside.new) result.0 }
+{
+    let mut term = Term::new(Coloring::Auto, false);
+    let came = Started::of(alloc, system, outside.is_terminal, &mut term.coloring);
+    let Started { words, env } = match came {
+        Ok(started) => started,
+        Err(fault) => {
+            let _ = term.error(fault.text(), outside.err);
+            return (1, files, lockfiles);
+        }
+    };
+    let mut host = Host::new(
+        alloc,
+        &env,
+        &mut term,
+        outside.caller,
+        outside.out,
+        outside.err,
+    );
+    perform(&words, files, lockfiles, locks, &mut host)
+}
