@@ -1,5 +1,6 @@
 -- What only private functions of the crate promise each other.
-use Rattle.std.specs.Prelude.{◌≡◌, ℕ, List, [], Result, Ok, Err, MatchOption, string_bytes, true, false, not, None, codes, length, nat_lt, if◌then◌else◌}
+use Rattle.std.specs.Prelude.{◌≡◌, ℕ, List, [], Option, Result, Ok, Err, MatchOption, string_bytes, true, false, not, None, codes, length, nat_lt, if◌then◌else◌}
+use Rattle.std.proofs.Common.{Global, String}
 use Rattle.std.specs.List.{filter}
 use Rattle.hack_rules.specs.declared.uses.behavior.WorkspaceBehavior.TheVariants.{Cargo, Default}
 use Rattle.hack_words.specs.declared.cli.args.Args.{Args}
@@ -29,10 +30,14 @@ use Rattle.hack_words.specs.CommandLine.{Around, Faulty, Listing, Parsed, outcom
 use Rattle.hack_rules.specs.CliFaults.{fault_of, Cut}
 use Rattle.hack_rules.specs.LateView.{IsLate}
 use Rattle.hack_words.specs.ParseAnswers.{IsText, around_of}
-use Rattle.hack_base.specs.Names.{names_of}
+use Rattle.hack_base.specs.Names.{names_of, optional_text}
 use Rattle.hack_options.specs.declared.opt.Opt.TheVariants as opt
 use Rattle.hack_words.specs.declared.cli.start.Front.{Front}
 use Rattle.hack_words.specs.Start.{is_behavior}
+use Rattle.hack_words.specs.declared.cli.started.StartFault.{StartFault}
+use Rattle.hack_words.specs.declared.cli.started.StartFault.TheVariants as start
+use Rattle.hack_words.specs.Started.{is_not_text, text_in}
+use Rattle.hack_words.specs.SystemView.{VariableState}
 
 -- what the rules read is carried over unchanged
 pub record Carries (read : Read) (args : Args) : Type 0 where
@@ -88,3 +93,11 @@ TakesOut (Ok taken) front =
     × (taken.behavior ≡ (if nat_lt 0 (length (filter is_behavior front)) then Cargo else Default))
     × (names_of taken.words.items ≡ filter (λ w. not (is_behavior w)) front)
 TakesOut (Err e) front = MatchOption (fault_of e) (e ≡ fault.Memory) (λ told. (nat_lt 1 (length (filter is_behavior front)) ≡ true) × (told ≡ Cut (Repeat (LongFlag (codes "workspace-behavior")) opt.WorkspaceBehavior None)))
+
+-- the text of a variable, if it is set; else memory was refused, or it is not UTF-8
+abbrev pub GivesText : Type 0 → VariableState → Result (Option (String Global)) StartFault → Type 0
+GivesText tells state (Ok text) =
+    tells → (is_not_text state ≡ false) × (optional_text text ≡ text_in state)
+GivesText tells state (Err start.Memory) = Unit {0}
+GivesText tells state (Err start.Words) = ⊥
+GivesText tells state (Err start.Variables) = tells → is_not_text state ≡ true

@@ -2,7 +2,10 @@ pub mod ParseAnswers
 pub mod ArgsView
 pub mod CommandLine
 pub mod EnvView
+pub mod FakeSystemView
 pub mod RustupView
 pub mod Start
 pub mod StartView
+pub mod Started
+pub mod SystemView
 pub mod Internal
