@@ -26,7 +26,7 @@ FailsAt P (Changed p j) = ⊥
 FailsAt P (Files f) = NamesPath P f
 
 -- the error of a failed call of files at this path, or of refused memory: no refusal of the journal
-pub record IsFileFault (path : List ℕ) (fault : RecoverFault) : Type 0 where
+pub record FaultsAtPath (path : List ℕ) (fault : RecoverFault) : Type 0 where
   pub failures : (old new : ℕ) → GrowsBy 1 old new → CountsRecoverFault old new fault
   pub kind : ¬ IsJournalRefusal fault
   pub named : FailsAt (λ p. p ≡ path) fault

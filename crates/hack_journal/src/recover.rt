@@ -17,7 +17,7 @@ ghost use Rattle.hack_journal.specs.Recovery.{IsJournalRefusal, CountsRecoverFau
 ghost use Rattle.hack_journal.specs.Recovery.{IsFailureCounted};
 ghost use Rattle.hack_journal.specs.Internal.{NamesNoJournal};
 ghost use Rattle.hack_journal.specs.Recovery.{HasEntry};
-ghost use Rattle.hack_journal.specs.Internal.{FailsAt, IsFileFault};
+ghost use Rattle.hack_journal.specs.Internal.{FailsAt, FaultsAtPath};
 
 use crate::contents::{look, put};
 use crate::entries::{are_of_call, same, tells};
@@ -58,7 +58,7 @@ impl From<AllocError> for RecoverFault {
 
 // The error of reading a path.
 fn read_fault(alloc: Global, path: &str, fault: FileFault) -> RecoverFault
-    ensures { IsFileFault path.now result }
+    ensures { FaultsAtPath path.now result }
 {
     match fault {
         FileFault::Memory => RecoverFault::Memory,
@@ -71,7 +71,7 @@ fn read_fault(alloc: Global, path: &str, fault: FileFault) -> RecoverFault
 
 // The error of a write or a removal.
 fn write_fault(alloc: Global, path: &str, fault: FileFault) -> RecoverFault
-    ensures { IsFileFault path.now result }
+    ensures { FaultsAtPath path.now result }
 {
     match fault {
         FileFault::Memory => RecoverFault::Memory,

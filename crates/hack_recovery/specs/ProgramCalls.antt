@@ -12,7 +12,7 @@ use Rattle.hack_term.specs.declared.term.Coloring.TheVariants.{Auto}
 use Rattle.hack_term.specs.declared.term.Term.{Term}
 use Rattle.hack_recovery.specs.CallCourses.{IsCallCourse, Scene}
 use Rattle.hack_recovery.specs.LockEvents.{LocksView}
-use Rattle.hack_recovery.specs.Started.{GivesStart, SetsColoring, coloring_of, fault_text}
+use Rattle.hack_recovery.specs.Started.{GivesStart, SetsColoring, auto_coloring_of, start_fault_text}
 use Rattle.hack_recovery.specs.SystemView.{SystemView}
 use Rattle.hack_recovery.specs.declared.call.Outside.{Outside}
 use Rattle.hack_recovery.specs.declared.started.StartFault.{StartFault}
@@ -37,11 +37,11 @@ begun_term coloring = record { coloring = coloring; verbose = false; error = fal
 pub data IsProgramCall (informs tells whole locked talks records : Type 0) (system : SystemView)
     (is_terminal : Bool) (had has : Option (List ℕ)) (old new : Term → Scene) (status : ℕ) : Type 0 where
   performed : (started : Started) (coloring : Coloring) (term : Term) → GivesStart informs system (Ok started)
-      → (informs → SetsColoring (coloring_of is_terminal system) Auto coloring (Ok started))
+      → (informs → SetsColoring (auto_coloring_of is_terminal system) Auto coloring (Ok started))
       → IsExitStatus started.env.deny_warnings term status
       → IsCallCourse tells whole locked talks records (names_of started.words.items) started.env (old (begun_term coloring)) (new term)
       → IsProgramCall informs tells whole locked talks records system is_terminal had has old new status
   unread : (fault : StartFault) (coloring : Coloring) → GivesStart informs system (Err fault)
-      → (informs → SetsColoring (coloring_of is_terminal system) Auto coloring (Err fault))
-      → AppendsFront had has (error_line coloring (fault_text fault)) → ((term : Term) → new term ≡ old term) → status ≡ 1
+      → (informs → SetsColoring (auto_coloring_of is_terminal system) Auto coloring (Err fault))
+      → AppendsFront had has (error_line coloring (start_fault_text fault)) → ((term : Term) → new term ≡ old term) → status ≡ 1
       → IsProgramCall informs tells whole locked talks records system is_terminal had has old new status

@@ -5,10 +5,13 @@
 pub mod admit;
 pub mod asked;
 mod begin;
+pub mod call;
 pub mod fault;
 pub mod journal;
 pub mod locks;
 mod look;
 pub mod perform;
 mod restore;
+pub mod started;
+pub mod system;
 pub mod workspace;

@@ -5,6 +5,9 @@ ghost use Rattle.hack_recovery.specs.LockEvents.{LocksView, after_asking, after_
 ghost use Rattle.hack_recovery.specs.LockEvents.{has_lock_after};
 ghost use Rattle.hack_recovery.specs.MemoryLocks.{taking_of};
 
+mod folders;
+
+pub use self::folders::FolderLocks;
 use std::alloc::{AllocError, Global};
 
 /// Who has the lock of a folder.

@@ -1,28 +1,32 @@
 //! Locks on the folders of the operating system. No contract says who has them; tests check it.
 
+ghost use Rattle.std.specs.Prelude.{◌≡◌, [], None, false};
 ghost use Rattle.hack_recovery.specs.LockEvents.{LocksView};
-ghost use Rattle.std.specs.Prelude.{[], false};
 
-use hack_recovery::locks::{Holder, Locks};
+use crate::locks::{Holder, Locks};
 use std::alloc::{AllocError, Global};
 use std::fs::{File, OpenOptions, TryLockError};
 use std::rt;
 
-/// Locks on folders. What was taken ends with the value, and with the program.
+/// Locks on folders of the operating system. What was taken ends with the value, and with the
+/// program.
 #[derive(Drop)]
-pub struct Folders<R: rt::Files<File = File> + Drop> {
+pub struct FolderLocks<R: rt::Files<File = File> + Drop> {
     rt: R,
     held: Option<File>,
 }
 
-impl<R: rt::Files<File = File> + Drop> Folders<R> {
-    /// Locks on the folders of the operating system, of which none is taken.
-    pub fn new(rt: R) -> Self {
-        Folders { rt, held: None }
+impl<R: rt::Files<File = File> + Drop> FolderLocks<R> {
+    /// Locks by this handle of the runtime, of which none is taken.
+    pub fn new(rt: R) -> Self
+        ensures rt { result.rt ≡ rt }
+        ensures held { result.held ≡ None }
+    {
+        FolderLocks { rt, held: None }
     }
 }
 
-impl<R: rt::Files<File = File> + Drop> Locks for Folders<R> {
+impl<R: rt::Files<File = File> + Drop> Locks for FolderLocks<R> {
     ghost tells = { ⊥ };
 
     ghost shown = { λ _. record { takings = []; is_held = false } };
