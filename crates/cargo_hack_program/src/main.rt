@@ -6,7 +6,7 @@ use hack_files::fs::Disk;
 use hack_process::process::Child;
 use hack_recovery::call::{Outside, call};
 use hack_recovery::locks::FolderLocks;
-use hack_recovery::system::HostSystem;
+use hack_start::system::HostSystem;
 use std::io;
 use std::io::IsTerminal;
 use std::process::ExitCode;

@@ -22,6 +22,7 @@ mod records;
 mod shared;
 mod shown;
 mod specs;
+mod started;
 mod unreadable;
 mod workspace;
 mod world;

@@ -6,8 +6,5 @@ pub mod LockEvents
 pub mod MemoryLocks
 pub mod Admission
 pub mod CallCourses
-pub mod SystemView
-pub mod FakeSystemView
-pub mod Started
 pub mod ProgramCalls
 pub mod Internal

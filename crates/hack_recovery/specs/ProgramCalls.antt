@@ -12,11 +12,11 @@ use Rattle.hack_term.specs.declared.term.Coloring.TheVariants.{Auto}
 use Rattle.hack_term.specs.declared.term.Term.{Term}
 use Rattle.hack_recovery.specs.CallCourses.{IsCallCourse, Scene}
 use Rattle.hack_recovery.specs.LockEvents.{LocksView}
-use Rattle.hack_recovery.specs.Started.{GivesStart, SetsColoring, auto_coloring_of, start_fault_text}
-use Rattle.hack_recovery.specs.SystemView.{SystemView}
+use Rattle.hack_start.specs.Started.{GivesStart, SetsColoring, auto_coloring_of, start_fault_text}
+use Rattle.hack_start.specs.SystemView.{SystemView}
 use Rattle.hack_recovery.specs.declared.call.Outside.{Outside}
-use Rattle.hack_recovery.specs.declared.started.StartFault.{StartFault}
-use Rattle.hack_recovery.specs.declared.started.Started.{Started}
+use Rattle.hack_start.specs.declared.started.StartFault.{StartFault}
+use Rattle.hack_start.specs.declared.started.Started.{Started}
 
 -- what a call sees and changes, by its terminal
 abbrev pub scene_on : {F L C O E : Type 0} → Filing F → Filing L → Calling C → Writing O → F → L

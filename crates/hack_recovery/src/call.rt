@@ -4,11 +4,11 @@ ghost use Rattle.hack_recovery.specs.ProgramCalls.{IsProgramCall, scene_on};
 
 use crate::locks::Locks;
 use crate::perform::perform;
-use crate::started::Started;
-use crate::system::System;
 use hack_files::fs::Files;
 use hack_process::process::Caller;
 use hack_run::host::Host;
+use hack_start::started::Started;
+use hack_start::system::System;
 use hack_term::term::{Coloring, Term};
 use std::alloc::Global;
 use std::io::Write;

@@ -12,6 +12,4 @@ pub mod locks;
 mod look;
 pub mod perform;
 mod restore;
-pub mod started;
-pub mod system;
 pub mod workspace;

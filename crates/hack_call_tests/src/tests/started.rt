@@ -1,0 +1,172 @@
+//! What a call is started with, over a system in memory. A question is the variables that are set,
+//! each `NAME=TEXT`, or `NAME` where it is not UTF-8, and after a colon all arguments, or `?` where
+//! one is not UTF-8. Before the variables stand `terminal` and `nowhere`, where there is no folder.
+
+use hack_holds::{Ask, Wrong, hold};
+use hack_start::started::Started;
+use hack_start::system::{FakeSystem, Variable};
+use hack_term::term::Coloring;
+use std::alloc::{AllocError, Global};
+
+fn variable_of(alloc: Global, word: &str) -> Result<(String, Variable), AllocError> {
+    match word.split_once('=') {
+        Some((name, text)) => {
+            let text = String::from_str(alloc, text)?;
+            Ok((String::from_str(alloc, name)?, Variable::Text(text)))
+        }
+        None => Ok((String::from_str(alloc, word)?, Variable::NotText)),
+    }
+}
+
+fn variables_of(alloc: Global, text: &str) -> Result<Vec<(String, Variable)>, AllocError> {
+    let mut variables = Vec::new(alloc);
+    for word in text.split_whitespace() {
+        variables.push(variable_of(alloc, word)?)?;
+    }
+    Ok(variables)
+}
+
+fn arguments_of(alloc: Global, text: &str) -> Result<Option<Vec<String>>, AllocError> {
+    let mut arguments = Vec::new(alloc);
+    for word in text.split_whitespace() {
+        if word == "?" {
+            return Ok(None);
+        }
+        arguments.push(String::from_str(alloc, word)?)?;
+    }
+    Ok(Some(arguments))
+}
+
+fn folder_of(alloc: Global, text: &str) -> Result<Option<String>, AllocError> {
+    if text.contains("nowhere") {
+        return Ok(None);
+    }
+    Ok(Some(String::from_str(alloc, "/w")?))
+}
+
+fn started(alloc: Global, system: &FakeSystem, is_terminal: bool) -> Result<String, AllocError> {
+    let mut coloring = Coloring::Never;
+    match Started::of(alloc, system, is_terminal, &mut coloring) {
+        Ok(started) => {
+            let words = &started.words;
+            let env = &started.env;
+            format!(in alloc; "{coloring:?}\n{words:?}\n{env:?}")
+        }
+        Err(fault) => {
+            let text = fault.text();
+            format!(in alloc; "{coloring:?}\n{text}")
+        }
+    }
+}
+
+#[derive(Clone, Copy)]
+struct Systems {}
+
+impl Ask for Systems {
+    fn answer(&mut self, alloc: Global, question: &str) -> Result<String, AllocError> {
+        let Some((set, arguments)) = question.split_once(':') else {
+            return String::from_str(alloc, "no such question");
+        };
+        let system = FakeSystem::new(
+            arguments_of(alloc, arguments)?,
+            variables_of(alloc, set)?,
+            folder_of(alloc, set)?,
+        );
+        started(alloc, &system, set.contains("terminal"))
+    }
+}
+
+#[test]
+fn starts(rt: HostRuntime) -> Result<(), Wrong> {
+    hold(
+        rt.alloc(),
+        &mut Systems {},
+        r#"
+            > : cargo-hack hack check
+            | Auto
+            | ["hack", "check"]
+            | Env { term_color: None, github_actions: false, deny_warnings: false, cargo: "cargo", rustup: "rustup", current_dir: "/w" }
+            > nowhere :
+            | Auto
+            | []
+            | Env { term_color: None, github_actions: false, deny_warnings: false, cargo: "cargo", rustup: "rustup", current_dir: "" }
+            > terminal TERM=xterm CARGO=c CARGO_HACK_CARGO_SRC=s CARGO_HACK_RUSTUP=r CARGO_TERM_COLOR=always : cargo-hack
+            | Always
+            | []
+            | Env { term_color: Some("always"), github_actions: false, deny_warnings: false, cargo: "s", rustup: "r", current_dir: "/w" }
+            > CARGO=c GITHUB_ACTIONS= CARGO_HACK_DENY_WARNINGS=0 : cargo-hack hack
+            | Auto
+            | ["hack"]
+            | Env { term_color: None, github_actions: true, deny_warnings: true, cargo: "c", rustup: "rustup", current_dir: "/w" }
+        "#,
+    )
+}
+
+#[test]
+fn colorings(rt: HostRuntime) -> Result<(), Wrong> {
+    hold(
+        rt.alloc(),
+        &mut Systems {},
+        "
+            > terminal TERM=xterm : ?
+            | Always
+            | the words must be UTF-8
+            > terminal TERM= : ?
+            | Always
+            | the words must be UTF-8
+            > TERM=xterm : ?
+            | Auto
+            | the words must be UTF-8
+            > terminal : ?
+            | Auto
+            | the words must be UTF-8
+            > terminal TERM=dumb : ?
+            | Auto
+            | the words must be UTF-8
+            > terminal TERM : ?
+            | Auto
+            | the words must be UTF-8
+            > terminal TERM=xterm NO_COLOR= : ?
+            | Auto
+            | the words must be UTF-8
+            > terminal TERM=xterm NO_COLOR : ?
+            | Auto
+            | the words must be UTF-8
+        ",
+    )
+}
+
+#[test]
+fn faults(rt: HostRuntime) -> Result<(), Wrong> {
+    hold(
+        rt.alloc(),
+        &mut Systems {},
+        r#"
+            > CARGO : ?
+            | Auto
+            | the words must be UTF-8
+            > CARGO_TERM_COLOR : cargo-hack
+            | Auto
+            | the variables of the environment must be UTF-8
+            > GITHUB_ACTIONS : cargo-hack
+            | Auto
+            | the variables of the environment must be UTF-8
+            > CARGO_HACK_DENY_WARNINGS : cargo-hack
+            | Auto
+            | the variables of the environment must be UTF-8
+            > CARGO_HACK_CARGO_SRC=s CARGO : cargo-hack
+            | Auto
+            | the variables of the environment must be UTF-8
+            > CARGO=c CARGO_HACK_CARGO_SRC : cargo-hack
+            | Auto
+            | the variables of the environment must be UTF-8
+            > terminal TERM=xterm CARGO_HACK_RUSTUP : cargo-hack
+            | Always
+            | the variables of the environment must be UTF-8
+            > OTHER : cargo-hack
+            | Auto
+            | []
+            | Env { term_color: None, github_actions: false, deny_warnings: false, cargo: "cargo", rustup: "rustup", current_dir: "/w" }
+        "#,
+    )
+}

@@ -1,0 +1,16 @@
+-- What only private functions of the crate promise each other.
+use Rattle.std.specs.Prelude.{◌≡◌, Option, Result, Ok, Err, false, true}
+use Rattle.std.proofs.Common.{Global, String}
+use Rattle.hack_base.specs.Names.{optional_text}
+use Rattle.hack_start.specs.Started.{is_not_text, variable_text}
+use Rattle.hack_start.specs.SystemView.{VariableState}
+use Rattle.hack_start.specs.declared.started.StartFault.{StartFault}
+use Rattle.hack_start.specs.declared.started.StartFault.TheVariants as start
+
+-- the text of a variable, if it is set; else memory was refused, or it is not UTF-8
+abbrev pub GivesText : Type 0 → VariableState → Result (Option (String Global)) StartFault → Type 0
+GivesText tells state (Ok text) =
+    tells → (is_not_text state ≡ false) × (optional_text text ≡ variable_text state)
+GivesText tells state (Err start.Memory) = Unit {0}
+GivesText tells state (Err start.Words) = ⊥
+GivesText tells state (Err start.Variables) = tells → is_not_text state ≡ true

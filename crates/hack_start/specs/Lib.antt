@@ -1,0 +1,4 @@
+pub mod SystemView
+pub mod FakeSystemView
+pub mod Started
+pub mod Internal
