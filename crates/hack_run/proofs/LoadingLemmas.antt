@@ -5,7 +5,7 @@ use Rattle.std.specs.Result.{is_err, result_ok, result_unwrap_or}
 use Rattle.hack_base.specs.Names.{Name}
 use Rattle.hack_files.specs.Files.{Change, Contents}
 use Rattle.hack_process.specs.Calls.{Call, MayAdd}
-use Rattle.hack_process.specs.CargoTexts.{host_view, release_part}
+use Rattle.hack_process.specs.CargoTexts.{host_of, release_part}
 use Rattle.hack_process.specs.CommandTexts.{Command}
 use Rattle.hack_process.specs.Commands.{asked_of}
 use Rattle.hack_process.specs.Faults.{fault_text}
@@ -59,7 +59,7 @@ unknown (Err text) warning e = refl
 
 -- cargo's own version
 own : (args : Args) (env : Env) (version : Result ℕ (String Global)) (host : Option Name) (old new : List Call) → IsSelf args env (told_version version) host old new
-    → AsksFor (λ text. (host ≡ option_and_then host_view text) × IsMinorIn (option_and_then release_part text) (result_ok version)) (self_command (string_bytes env.cargo)) old new
+    → AsksFor (λ text. (host ≡ option_and_then host_of text) × IsMinorIn (option_and_then release_part text) (result_ok version)) (self_command (string_bytes env.cargo)) old new
 own args env version host old new (inl h) = inl (h.0, h.1, (h.2.named, minor_in (shown_self args env) h.0 version h.2.tells))
 own args env version host old new (inr h) = inr (
   in_vain (Unit {0}) (self_command (string_bytes env.cargo)) _ old new h.0 h.2.memory h.1 tt,

@@ -4,7 +4,7 @@ use Rattle.std.specs.Result.{result_ok, result_unwrap_or}
 use Rattle.hack_base.specs.Names.{Name}
 use Rattle.hack_files.specs.Files.{Change, Contents}
 use Rattle.hack_process.specs.Calls.{Call, MayAdd}
-use Rattle.hack_process.specs.CargoTexts.{host_view, release_part}
+use Rattle.hack_process.specs.CargoTexts.{host_of, release_part}
 use Rattle.hack_process.specs.CommandTexts.{Command}
 use Rattle.hack_process.specs.Commands.{asked_of}
 use Rattle.hack_versions.specs.ToolTexts.{TellsRelease}
@@ -66,7 +66,7 @@ module _ (tells : Type 0) (args : Args) (env : Env) (held : Contents) where
   pub record AsksAll (old new : List Call) (a : Answers) : Type 0 where
     pub host : Option Name
     pub mid : List Call
-    pub own : AsksFor (λ text. (host ≡ option_and_then host_view text)
+    pub own : AsksFor (λ text. (host ≡ option_and_then host_of text)
         × IsMinorIn (option_and_then release_part text) (result_ok a.cargo_version))
         (self_command (string_bytes env.cargo)) old mid
     pub loads : Loads (question args env (result_unwrap_or a.cargo_version 0) host) mid new
