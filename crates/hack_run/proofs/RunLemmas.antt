@@ -166,10 +166,6 @@ list_ends (Ok v) refused none short flushed quiet tells cx stable rustup warned 
       warns = d.warns;
     }
 
--- bytes that grow twice
-pub extends_then : (a b c : Option (List ℕ)) → Extends a b → Extends b c → Extends a c
-extends_then a b c p q = (p.0 ++ q.0, Appends-trans a b c p.0 q.0 p.1 q.1)
-
 -- of a front that was written or gathered, what was written is a front, where the output only grew
 shown_then : (a b c : Option (List ℕ)) (left text : List ℕ) → WritesText false true a b text → Keeps b (append_known c left) → Extends a c → WritesText false true a c text
 shown_then None b c left text w k g = (text, [], sym (append-nil text), tt)

@@ -6,6 +6,7 @@ use Rattle.hack_base.specs.Notes.{Note, note_if}
 use Rattle.hack_base.specs.declared.notice.NoticeKind.{NoticeKind}
 use Rattle.hack_base.specs.declared.notice.NoticeKind.TheVariants.{Info, Warn, QuietWarn}
 use Rattle.hack_load.specs.Contexts.{ContextRecord}
+use Rattle.hack_manifest.specs.LineRuns.{has_some}
 use Rattle.hack_prepare.specs.Prepared.{MemberManifest, Wanted, drops_at_root, gone_manifests, is_alone}
 use Rattle.hack_prepare.specs.PreparedView.{member_manifests_in, notes_in, wanted_in}
 use Rattle.hack_prepare.specs.EditNotes.{dev_note, edit_notes, member_notes, private_note, root_notes}

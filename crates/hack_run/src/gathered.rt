@@ -29,8 +29,9 @@ pub(crate) struct GatheredLines<'a, O: Write> {
 }
 
 impl<O: Write> Lines for GatheredLines<'_, O> {
-    ghost use Rattle.std.proofs.Common.{◌∙◌, ◌++◌, [], refl};
-    ghost use Rattle.std.proofs.KnownBytes.{Appends-nil, Appends-trans};
+    ghost use Rattle.std.proofs.Common.{◌∙◌, [], refl};
+    ghost use Rattle.std.proofs.KnownBytes.{Appends-nil};
+    ghost use Rattle.hack_run.proofs.GatherLemmas.{extends_then};
 
     ghost contents = { λ w. append_known (O.contents w.out.now) w.gathered.now.items };
 
@@ -42,14 +43,12 @@ impl<O: Write> Lines for GatheredLines<'_, O> {
         × (a.gathered.ghost_name ≡ b.gathered.ghost_name)
         × Extends (O.contents a.out.now) (O.contents b.out.now) };
 
-    ghost stays_none = { λ a. (refl, refl, [], Appends-nil (O.contents a.out.now)) };
+    ghost stays_none = { λ a. (refl, refl, ([], Appends-nil (O.contents a.out.now))) };
 
     ghost stays_more = { λ a b c p q. (
       p.0 ∙ q.0,
       p.1 ∙ q.1,
-      p.2 ++ q.2,
-      Appends-trans (O.contents a.out.now) (O.contents b.out.now) (O.contents c.out.now)
-          p.2 q.2 p.3 q.3,
+      extends_then (O.contents a.out.now) (O.contents b.out.now) (O.contents c.out.now) p.2 q.2,
     ) };
 
     fn line<D: fmt::Display + Drop>(&mut self, text: D) -> Result<(), fmt::Error> {

@@ -46,4 +46,4 @@ returns-clause-made g c = λ t.
 pub returns-clause-grown : goal.returns-clause-grown
 returns-clause-grown g c =
     let stays = c.list_over-refused.ensures.stays in
-    rw (sym c.gather_on-lines.ensures.out.1) (stays.2, stays.3)
+    rw (sym c.gather_on-lines.ensures.out.1) stays.2
