@@ -29,7 +29,8 @@ use Rattle.hack_planner.proofs.Performing.{performable}
 use Rattle.hack_planner.specs.CallPlan.{IsPlanOf}
 use Rattle.hack_run.specs.CallTrace.{PerformsOne, WritesText}
 use Rattle.hack_session.specs.Handouts.{IsDriven}
-use Rattle.hack_run.specs.Internal.{Extends, HandsOverAtMostOne, ListsOver, PerformsAtMostOne, host_writing}
+use Rattle.hack_run.specs.InternalExtensions.{Extends}
+use Rattle.hack_run.specs.Internal.{HandsOverAtMostOne, ListsOver, PerformsAtMostOne, host_writing}
 use Rattle.hack_run.specs.Warnings.{Warned}
 use Rattle.hack_run.proofs.TraceLemmas.{all_shown, unended}
 use Rattle.hack_run.specs.Worlds.{HostView}

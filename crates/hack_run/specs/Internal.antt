@@ -32,10 +32,6 @@ use Rattle.hack_session.specs.ListLines.{is_sent, lines_written}
 use Rattle.hack_session.specs.Internal.{IsListedStep}
 use Rattle.hack_session.specs.Handouts.{IsDriven}
 
--- known bytes stay, and others may follow
-abbrev pub Extends : Option (List ℕ) → Option (List ℕ) → Type 0
-Extends old new = (bs : List ℕ) × Appends old new bs
-
 -- one history was performed, or nothing was called and nothing listed
 abbrev pub PerformsAtMostOne : Bool → ContextRecord → Result (Option Version) (String Global) → Name → HostView → HostView → Type 0
 PerformsAtMostOne listing cx stable rustup old new =

@@ -8,4 +8,5 @@ pub mod Warnings
 pub mod Refusals
 pub mod Worlds
 pub mod Readings
+pub mod InternalExtensions
 pub mod Internal

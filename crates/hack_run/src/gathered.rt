@@ -4,7 +4,7 @@ ghost use Rattle.std.specs.Prelude.{◌≡◌, ◌≤◌, ◌++◌, [], IfOk, If
 ghost use Rattle.std.specs.Prelude.{vec_len};
 ghost use Rattle.std.specs.Fmt.{with_newline};
 ghost use Rattle.std.specs.Io.KnownBytes.{Appends, Keeps, append_known};
-ghost use Rattle.hack_run.specs.Internal.{Extends};
+ghost use Rattle.hack_run.specs.InternalExtensions.{Extends};
 
 use hack_session::session::{LineFault, Lines};
 use std::alloc::{AllocError, Global};
@@ -29,9 +29,8 @@ pub(crate) struct GatheredLines<'a, O: Write> {
 }
 
 impl<O: Write> Lines for GatheredLines<'_, O> {
-    ghost use Rattle.std.proofs.Common.{◌∙◌, [], refl};
-    ghost use Rattle.std.proofs.KnownBytes.{Appends-nil};
-    ghost use Rattle.hack_run.proofs.GatherLemmas.{extends_then};
+    ghost use Rattle.std.proofs.Common.{◌∙◌, refl};
+    ghost use Rattle.hack_run.specs.InternalExtensions.{extends_none, extends_then};
 
     ghost contents = { λ w. append_known (O.contents w.out.now) w.gathered.now.items };
 
@@ -43,7 +42,7 @@ impl<O: Write> Lines for GatheredLines<'_, O> {
         × (a.gathered.ghost_name ≡ b.gathered.ghost_name)
         × Extends (O.contents a.out.now) (O.contents b.out.now) };
 
-    ghost stays_none = { λ a. (refl, refl, ([], Appends-nil (O.contents a.out.now))) };
+    ghost stays_none = { λ a. (refl, refl, extends_none (O.contents a.out.now)) };
 
     ghost stays_more = { λ a b c p q. (
       p.0 ∙ q.0,

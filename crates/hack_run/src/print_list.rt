@@ -3,9 +3,10 @@
 ghost use Rattle.std.specs.Prelude.{◌≡◌, None, Ok, OnOk, false, string_bytes, true};
 ghost use Rattle.hack_load.specs.ContextView.{context_view};
 ghost use Rattle.hack_run.specs.CallTrace.{PerformsOne};
-ghost use Rattle.hack_run.specs.Internal.{Extends, HandsOverAtMostOne, ListsOver};
+ghost use Rattle.hack_run.specs.Internal.{HandsOverAtMostOne, ListsOver};
 ghost use Rattle.hack_run.specs.Internal.{MayPerformItsPlan, PerformsAtMostOne, PerformsItsPlan};
 ghost use Rattle.hack_run.specs.Internal.{host_writing};
+ghost use Rattle.hack_run.specs.InternalExtensions.{Extends};
 ghost use Rattle.hack_run.specs.Questions.{IsAnswered};
 ghost use Rattle.hack_run.specs.Worlds.{IsSameHost, host_view};
 

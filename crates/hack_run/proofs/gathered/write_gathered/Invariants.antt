@@ -1,5 +1,5 @@
 use Rattle.std.specs.Io.KnownBytes.{Keeps, append_known}
-use Rattle.hack_run.specs.Internal.{Extends}
+use Rattle.hack_run.specs.InternalExtensions.{Extends}
 use Rattle.hack_run.proofs.gathered.write_gathered.Given as goal
 
 abbrev pub invariant-loop : goal.invariant-loop

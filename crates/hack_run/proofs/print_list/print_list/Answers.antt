@@ -1,7 +1,7 @@
 use Rattle.std.proofs.Common.{string_bytes}
 use Rattle.hack_load.specs.ContextView.{context_view}
 use Rattle.hack_run.specs.Worlds.{host_view}
-use Rattle.hack_run.proofs.GatherLemmas.{extends_then}
+use Rattle.hack_run.specs.InternalExtensions.{extends_then}
 use Rattle.hack_run.proofs.RunLemmas.{list_ends, list_shows}
 use Rattle.hack_run.proofs.print_list.print_list.Goals as goal
 
