@@ -7,16 +7,19 @@ use hack_process::process::Child;
 use hack_recovery::call::{Outside, call};
 use hack_recovery::locks::FolderLocks;
 use hack_start::system::HostSystem;
+use hack_term::term::{Coloring, Term};
 use std::io;
 use std::io::IsTerminal;
 use std::process::ExitCode;
 
 fn main(rt: HostRuntime) -> ExitCode {
+    let mut term = Term::new(Coloring::Auto, false);
     let mut caller = Child::new(&rt);
     let mut out = io::writer(&rt);
     let mut err = rt.stderr();
     let is_terminal = err.is_terminal();
     let mut outside = Outside {
+        term: &mut term,
         caller: &mut caller,
         out: &mut out,
         err: &mut err,

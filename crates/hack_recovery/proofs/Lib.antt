@@ -4,3 +4,4 @@ pub mod FolderLemmas
 pub mod StrangerLemmas
 pub mod WayLemmas
 pub mod BackLemmas
+mod CallLemmas

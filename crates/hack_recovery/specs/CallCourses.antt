@@ -203,7 +203,7 @@ pub data IsLockedCourse (tells whole locked talks records : Type 0) (words : Lis
 -- how a call goes
 pub data IsCallCourse (tells whole locked talks records : Type 0) (words : List Name) (env : Env) (old new : Scene) : Type 0 where
   -- memory was refused before it began: nothing was changed or called
-  starved : Untouched tells whole old new → IsFailed new → IsCallCourse tells whole locked talks records words env old new
+  starved : Untouched tells whole old new → new.locks ≡ old.locks → IsFailed new → IsCallCourse tells whole locked talks records words env old new
   -- another call has the lock, there is none, or memory was refused: nothing was changed or called
   turned_away : (does : Edits) (folder journal : Name) (fault : CallFault) → DecidesHowToGoOn tells whole records words env does folder journal old new (Err fault) → IsFailed new
       → IsCallCourse tells whole locked talks records words env old new

@@ -1,47 +1,65 @@
 -- How a call of the program goes, from what the system tells of it.
-use Rattle.std.specs.Prelude.{◌≡◌, ◌≢◌, ◌⊎◌, ℕ, Bool, false, List, Option, Ok, Err}
+use Rattle.std.specs.Prelude.{◌≡◌, ℕ, Bool, true, List, Option, Ok, Err}
 use Rattle.std.specs.declared.io.traits.Write.{Ghosts as Writing}
 use Rattle.hack_base.specs.Names.{names_of}
 use Rattle.hack_base.specs.Writes.{AppendsFront}
 use Rattle.hack_files.specs.declared.fs.Files.{Ghosts as Filing}
 use Rattle.hack_process.specs.declared.caller.Caller.{Ghosts as Calling}
 use Rattle.hack_run.specs.Worlds.{files_view}
+use Rattle.hack_start.specs.Started.{GivesStart, SetsColoring, auto_coloring_of, start_fault_text}
+use Rattle.hack_start.specs.SystemView.{SystemView}
+use Rattle.hack_start.specs.declared.started.StartFault.{StartFault}
+use Rattle.hack_start.specs.declared.started.Started.{Started}
 use Rattle.hack_term.specs.Lines.{IsExitStatus, error_line}
 use Rattle.hack_term.specs.declared.term.Coloring.{Coloring}
-use Rattle.hack_term.specs.declared.term.Coloring.TheVariants.{Auto}
 use Rattle.hack_term.specs.declared.term.Term.{Term}
 use Rattle.hack_recovery.specs.CallCourses.{IsCallCourse, Scene}
 use Rattle.hack_recovery.specs.LockEvents.{LocksView}
-use Rattle.hack_start.specs.Started.{GivesStart, SetsColoring, auto_coloring_of, start_fault_text}
-use Rattle.hack_start.specs.SystemView.{SystemView}
 use Rattle.hack_recovery.specs.declared.call.Outside.{Outside}
-use Rattle.hack_start.specs.declared.started.StartFault.{StartFault}
-use Rattle.hack_start.specs.declared.started.Started.{Started}
 
--- what a call sees and changes, by its terminal
-abbrev pub scene_on : {F L C O E : Type 0} → Filing F → Filing L → Calling C → Writing O → F → L
-    → LocksView → Outside C O E → Term → Scene
-scene_on f l c o files lockfiles locks outside term = record {
+-- what a call sees and changes
+abbrev pub scene_outside : {F L C O E : Type 0} → Filing F → Filing L → Calling C → Writing O → F → L
+    → LocksView → Outside C O E → Scene
+scene_outside f l c o files lockfiles locks outside = record {
   files = files_view f files;
   lockfiles = l.bytes_at lockfiles;
   locks = locks;
-  host = record { calls = c.calls outside.caller.now; out = o.contents outside.out.now; term = term };
+  host = record {
+    calls = c.calls outside.caller.now;
+    out = o.contents outside.out.now;
+    term = outside.term.now;
+  };
 }
 
--- a terminal on which nothing was reported yet
-abbrev pub begun_term : Coloring → Term
-begun_term coloring = record { coloring = coloring; verbose = false; error = false; warn = false }
+-- its references are still the same
+pub record IsSameOutside {C O E : Type 0} (old new : Outside C O E) : Type 0 where
+  pub term : new.term.ghost_name ≡ old.term.ghost_name
+  pub caller : new.caller.ghost_name ≡ old.caller.ghost_name
+  pub out : new.out.ghost_name ≡ old.out.ghost_name
+  pub err : new.err.ghost_name ≡ old.err.ghost_name
+  pub is_terminal : new.is_terminal ≡ old.is_terminal
 
--- Arguments and environment were read, and the call was performed. Or an error says why they could
--- not be read, and nothing else was done.
+-- a scene whose terminal is this
+abbrev pub scene_on : Term → Scene → Scene
+scene_on term scene = record scene { host = record scene.host { term = term } }
+
+-- a terminal that colours so
+abbrev pub colored : Coloring → Term → Term
+colored coloring term = record term { coloring = coloring }
+
+-- Arguments and environment were read, and the call was performed with them. Or an error says why
+-- they could not be read, a front of its line was written after what was written to `err` before,
+-- and nothing else was done.
 pub data IsProgramCall (informs tells whole locked talks records : Type 0) (system : SystemView)
-    (is_terminal : Bool) (had has : Option (List ℕ)) (old new : Term → Scene) (status : ℕ) : Type 0 where
-  performed : (started : Started) (coloring : Coloring) (term : Term) → GivesStart informs system (Ok started)
-      → (informs → SetsColoring (auto_coloring_of is_terminal system) Auto coloring (Ok started))
-      → IsExitStatus started.env.deny_warnings term status
-      → IsCallCourse tells whole locked talks records (names_of started.words.items) started.env (old (begun_term coloring)) (new term)
-      → IsProgramCall informs tells whole locked talks records system is_terminal had has old new status
+    (is_terminal : Bool) (err_before err_after : Option (List ℕ)) (old new : Scene) (status : ℕ) : Type 0 where
+  performed : (started : Started) (coloring : Coloring) → GivesStart informs system (Ok started)
+      → (informs → SetsColoring (auto_coloring_of is_terminal system) old.host.term.coloring coloring (Ok started))
+      → IsExitStatus started.env.deny_warnings new.host.term status
+      → IsCallCourse tells whole locked talks records (names_of started.words.items) started.env
+      (scene_on (colored coloring old.host.term) old) new
+      → IsProgramCall informs tells whole locked talks records system is_terminal err_before err_after old new status
   unread : (fault : StartFault) (coloring : Coloring) → GivesStart informs system (Err fault)
-      → (informs → SetsColoring (auto_coloring_of is_terminal system) Auto coloring (Err fault))
-      → AppendsFront had has (error_line coloring (start_fault_text fault)) → ((term : Term) → new term ≡ old term) → status ≡ 1
-      → IsProgramCall informs tells whole locked talks records system is_terminal had has old new status
+      → (informs → SetsColoring (auto_coloring_of is_terminal system) old.host.term.coloring coloring (Err fault))
+      → AppendsFront err_before err_after (error_line coloring (start_fault_text fault))
+      → new ≡ scene_on (record (colored coloring old.host.term) { error = true }) old → status ≡ 1
+      → IsProgramCall informs tells whole locked talks records system is_terminal err_before err_after old new status

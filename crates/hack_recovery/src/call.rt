@@ -1,6 +1,6 @@
 //! A call of the program, from what the system tells of it.
 
-ghost use Rattle.hack_recovery.specs.ProgramCalls.{IsProgramCall, scene_on};
+ghost use Rattle.hack_recovery.specs.ProgramCalls.{IsProgramCall, IsSameOutside, scene_outside};
 
 use crate::locks::Locks;
 use crate::perform::perform;
@@ -9,13 +9,15 @@ use hack_process::process::Caller;
 use hack_run::host::Host;
 use hack_start::started::Started;
 use hack_start::system::System;
-use hack_term::term::{Coloring, Term};
+use hack_term::term::Term;
 use std::alloc::Global;
 use std::io::Write;
 
-/// The programs that a call starts, and where it writes.
+/// What a call reaches of the world before its environment is read: all of a `Host` but that.
 #[derive(Drop)]
 pub struct Outside<'a, C: Caller, O: Write, E: Write> {
+    /// How messages look, and whether an error or a warning was reported.
+    pub term: &'a mut Term,
     /// Who runs programs.
     pub caller: &'a mut C,
     /// Where output goes.
@@ -37,25 +39,28 @@ pub fn call<S: System, F: Files, L: Files, K: Locks, C: Caller, O: Write, E: Wri
     locks: &mut K,
     outside: &mut Outside<'_, C, O, E>,
 ) -> (u8, F, L)
-    ensures { IsProgramCall S.tells F.tells F.whole L.tells C.tells K.tells (S.shown system.now)
-        outside.old.is_terminal (E.contents outside.old.err.now) (E.contents outside.new.err.now)
-        (scene_on F.Files L.Files C.Caller O.Write files lockfiles (K.shown locks.old) outside.old)
-        (scene_on F.Files L.Files C.Caller O.Write result.1 result.2 (K.shown locks.new)
-        outside.new) result.0 }
+    ensures outside { IsSameOutside outside.old outside.new }
+    ensures goes { IsProgramCall S.tells F.tells F.whole L.tells C.tells K.tells
+        (S.shown system.now) outside.old.is_terminal
+        (E.contents outside.old.err.now) (E.contents outside.new.err.now)
+        (scene_outside F.Files L.Files C.Caller O.Write files lockfiles
+        (K.shown locks.old) outside.old)
+        (scene_outside F.Files L.Files C.Caller O.Write result.1 result.2
+        (K.shown locks.new) outside.new) result.0 }
 {
-    let mut term = Term::new(Coloring::Auto, false);
-    let came = Started::of(alloc, system, outside.is_terminal, &mut term.coloring);
+    let is_terminal = outside.is_terminal;
+    let came = Started::of(alloc, system, is_terminal, &mut outside.term.coloring);
     let Started { words, env } = match came {
         Ok(started) => started,
         Err(fault) => {
-            let _ = term.error(fault.text(), outside.err);
+            let _ = outside.term.error(fault.text(), outside.err);
             return (1, files, lockfiles);
         }
     };
     let mut host = Host::new(
         alloc,
         &env,
-        &mut term,
+        outside.term,
         outside.caller,
         outside.out,
         outside.err,

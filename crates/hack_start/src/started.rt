@@ -78,8 +78,9 @@ impl Started {
         ensures started { GivesStart S.tells (S.shown system.now) result }
         ensures coloring { S.tells → SetsColoring (auto_coloring_of is_terminal (S.shown system.now))
             coloring.old coloring.new result }
+        ensures plain { is_terminal ≡ false → coloring.old ≡ Auto → coloring.new ≡ Auto }
     {
-        *coloring = auto_coloring(alloc, system, is_terminal)?;
+        *coloring = auto_coloring(system, is_terminal)?;
         Ok(Started {
             words: words_of(alloc, system)?,
             env: env_of(alloc, system)?,
@@ -106,27 +107,27 @@ pub fn words_of<S: System>(alloc: Global, system: &S) -> Result<Vec<String>, Sta
 pub fn env_of<S: System>(alloc: Global, system: &S) -> Result<Env, StartFault>
     ensures { GivesEnv S.tells (S.shown system.now) result }
 {
-    let term_color = text_of(alloc, system, "CARGO_TERM_COLOR")?;
-    let github_actions = text_of(alloc, system, "GITHUB_ACTIONS")?.is_some();
-    let deny_warnings = text_of(alloc, system, "CARGO_HACK_DENY_WARNINGS")?.is_some();
-    let source = text_of(alloc, system, "CARGO_HACK_CARGO_SRC")?;
-    let cargo = text_of(alloc, system, "CARGO")?;
-    let rustup = text_of(alloc, system, "CARGO_HACK_RUSTUP")?;
+    let term_color = text_of(system, "CARGO_TERM_COLOR")?;
+    let github_actions = text_of(system, "GITHUB_ACTIONS")?.is_some();
+    let deny_warnings = text_of(system, "CARGO_HACK_DENY_WARNINGS")?.is_some();
+    let source = text_of(system, "CARGO_HACK_CARGO_SRC")?;
+    let cargo = text_of(system, "CARGO")?;
+    let rustup = text_of(system, "CARGO_HACK_RUSTUP")?;
     Ok(Env {
         term_color,
         github_actions,
         deny_warnings,
         cargo: text_or(alloc, source.or(cargo), "cargo")?,
         rustup: text_or(alloc, rustup, "rustup")?,
-        current_dir: text_or(alloc, system.current_dir(alloc)?, "")?,
+        current_dir: text_or(alloc, system.current_dir()?, "")?,
     })
 }
 
 /// The text of a variable, if it is set.
-fn text_of<S: System>(alloc: Global, system: &S, name: &str) -> Result<Option<String>, StartFault>
+fn text_of<S: System>(system: &S, name: &str) -> Result<Option<String>, StartFault>
     ensures { GivesText S.tells ((S.shown system.now).variable name.now) result }
 {
-    match system.variable(alloc, name)? {
+    match system.variable(name)? {
         Variable::Unset => Ok(None),
         Variable::Text(text) => Ok(Some(text)),
         Variable::NotText => Err(StartFault::Variables),
@@ -143,20 +144,16 @@ fn text_or(alloc: Global, text: Option<String>, other: &str) -> Result<String, A
     }
 }
 
-/// The meaning of `--color auto`: lines are coloured on a terminal that can show it, unless
-/// `NO_COLOR` is set.
-pub fn auto_coloring<S: System>(
-    alloc: Global,
-    system: &S,
-    is_terminal: bool,
-) -> Result<Coloring, AllocError>
+/// How lines are coloured until the command line says otherwise: on a terminal that can show it,
+/// unless `NO_COLOR` is set.
+pub fn auto_coloring<S: System>(system: &S, is_terminal: bool) -> Result<Coloring, AllocError>
     ensures told { IfOk result (λ coloring. S.tells
         → coloring ≡ auto_coloring_of is_terminal (S.shown system.now)) }
     ensures plain { is_terminal ≡ false → IfOk result (λ coloring. coloring ≡ Auto) }
 {
     if is_terminal
-        && can_color(&system.variable(alloc, "TERM")?)
-        && is_unset(&system.variable(alloc, "NO_COLOR")?)
+        && can_color(&system.variable("TERM")?)
+        && is_unset(&system.variable("NO_COLOR")?)
     {
         return Ok(Coloring::Always);
     }

@@ -1,7 +1,7 @@
 //! What the operating system tells a program: its arguments, its variables and its folder. Code
 //! works with any `System`: that of this process, or one in memory that tells what a test gave it.
 
-ghost use Rattle.std.specs.Prelude.{◌≡◌, IfOk, map, None};
+ghost use Rattle.std.specs.Prelude.{◌≡◌, IfOk, None};
 ghost use Rattle.hack_base.specs.Names.{optional_text};
 ghost use Rattle.hack_start.specs.SystemView.{SystemView, argument_names, state_of};
 ghost use Rattle.hack_start.specs.SystemView.{Unset};
@@ -37,12 +37,12 @@ pub trait System {
             → argument_names all ≡ (shown self.now).arguments) };
 
     /// The environment variable of this name.
-    fn variable(&self, alloc: Global, name: &str) -> Result<Variable, AllocError>
+    fn variable(&self, name: &str) -> Result<Variable, AllocError>
         ensures { IfOk result (λ variable. tells
             → state_of variable ≡ (shown self.now).variable name.now) };
 
     /// The current folder; `None` where it can't be read.
-    fn current_dir(&self, alloc: Global) -> Result<Option<String>, AllocError>
+    fn current_dir(&self) -> Result<Option<String>, AllocError>
         ensures { IfOk result (λ folder. tells
             → optional_text folder ≡ (shown self.now).folder) };
 }
@@ -75,7 +75,7 @@ impl<R: rt::Env + AllocGlobal + Drop> System for HostSystem<R> {
         }
     }
 
-    fn variable(&self, _alloc: Global, name: &str) -> Result<Variable, AllocError> {
+    fn variable(&self, name: &str) -> Result<Variable, AllocError> {
         match env::var(&self.rt, name) {
             Ok(text) => Ok(Variable::Text(text)),
             Err(VarError::NotPresent) => Ok(Variable::Unset),
@@ -84,7 +84,7 @@ impl<R: rt::Env + AllocGlobal + Drop> System for HostSystem<R> {
         }
     }
 
-    fn current_dir(&self, _alloc: Global) -> Result<Option<String>, AllocError> {
+    fn current_dir(&self) -> Result<Option<String>, AllocError> {
         match env::current_dir(&self.rt) {
             Ok(path) => Ok(Some(path.into_string())),
             Err(e) if e.kind() == io::ErrorKind::OutOfMemory => Err(AllocError),
@@ -135,7 +135,7 @@ impl System for FakeSystem {
         }
     }
 
-    fn variable(&self, _alloc: Global, name: &str) -> Result<Variable, AllocError> {
+    fn variable(&self, name: &str) -> Result<Variable, AllocError> {
         for (key, variable) in &self.variables {
             if key.as_str() == name {
                 return variable.copy();
@@ -144,7 +144,7 @@ impl System for FakeSystem {
         Ok(Variable::Unset)
     }
 
-    fn current_dir(&self, _alloc: Global) -> Result<Option<String>, AllocError> {
+    fn current_dir(&self) -> Result<Option<String>, AllocError> {
         match &self.folder {
             Some(folder) => Ok(Some(folder.clone()?)),
             None => Ok(None),

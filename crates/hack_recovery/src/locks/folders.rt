@@ -6,6 +6,7 @@ ghost use Rattle.hack_recovery.specs.LockEvents.{LocksView};
 use crate::locks::{Holder, Locks};
 use std::alloc::{AllocError, Global};
 use std::fs::{File, OpenOptions, TryLockError};
+use std::io::ErrorKind;
 use std::rt;
 
 /// Locks on folders of the operating system. What was taken ends with the value, and with the
@@ -33,8 +34,10 @@ impl<R: rt::Files<File = File> + Drop> Locks for FolderLocks<R> {
 
     fn take(&mut self, _alloc: Global, folder: &str) -> Result<Holder, AllocError> {
         let mut options = OpenOptions::new();
-        let Ok(file) = options.read(true).open(&self.rt, folder) else {
-            return Ok(Holder::Unknown);
+        let file = match options.read(true).open(&self.rt, folder) {
+            Ok(file) => file,
+            Err(e) if e.kind() == ErrorKind::OutOfMemory => return Err(AllocError),
+            Err(_) => return Ok(Holder::Unknown),
         };
         match file.try_lock() {
             Ok(()) => {
