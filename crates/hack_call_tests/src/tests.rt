@@ -22,7 +22,6 @@ mod records;
 mod shared;
 mod shown;
 mod specs;
-mod started;
 mod unreadable;
 mod workspace;
 mod world;

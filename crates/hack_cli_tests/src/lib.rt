@@ -28,6 +28,8 @@ mod options;
 #[cfg(test)]
 mod page;
 #[cfg(test)]
+mod program;
+#[cfg(test)]
 mod started;
 #[cfg(test)]
 mod terminal;

@@ -1,11 +1,16 @@
-//! What a call is started with, over a system in memory. A question is the variables that are set,
-//! each `NAME=TEXT`, or `NAME` where it is not UTF-8, and after a colon all arguments, or `?` where
-//! one is not UTF-8. Before the variables stand `terminal` and `nowhere`, where there is no folder.
+//! Calls of the program, over a system, files, locks, a caller and streams in memory, and what they
+//! are started with. A question is the variables that are set, each `NAME=TEXT`, or `NAME` where it
+//! is not UTF-8, and after a colon all arguments, or `?` where one is not UTF-8. Before the variables
+//! stand `terminal` and `nowhere`, where there is no folder.
 
+use hack_files::fs::MemoryFiles;
 use hack_holds::{Ask, Wrong, hold};
+use hack_process::process::{End, FakeCaller};
+use hack_recovery::call::{Outside, call};
+use hack_recovery::locks::{FakeLocks, Holder};
 use hack_start::started::Started;
 use hack_start::system::{FakeSystem, Variable};
-use hack_term::term::Coloring;
+use hack_term::term::{Coloring, Term};
 use std::alloc::{AllocError, Global};
 
 fn variable_of(alloc: Global, word: &str) -> Result<(String, Variable), AllocError> {
@@ -59,20 +64,63 @@ fn started(alloc: Global, system: &FakeSystem, is_terminal: bool) -> Result<Stri
     }
 }
 
-#[derive(Clone, Copy)]
-struct Systems {}
+/// The system of a question, and whether messages go to a terminal.
+fn system_of(alloc: Global, question: &str) -> Result<(FakeSystem, bool), AllocError> {
+    let (set, arguments) = question.split_once(':').unwrap_or((question, ""));
+    let system = FakeSystem::new(
+        arguments_of(alloc, arguments)?,
+        variables_of(alloc, set)?,
+        folder_of(alloc, set)?,
+    );
+    Ok((system, set.contains("terminal")))
+}
 
-impl Ask for Systems {
+/// What calls are started with.
+#[derive(Clone, Copy)]
+struct Starts {}
+
+impl Ask for Starts {
     fn answer(&mut self, alloc: Global, question: &str) -> Result<String, AllocError> {
-        let Some((set, arguments)) = question.split_once(':') else {
-            return String::from_str(alloc, "no such question");
+        let (system, is_terminal) = system_of(alloc, question)?;
+        started(alloc, &system, is_terminal)
+    }
+}
+
+fn text_in(bytes: &[u8]) -> &str {
+    std::str::from_utf8(bytes).unwrap_or("not UTF-8")
+}
+
+/// Whole calls: what was written to both streams, how many programs were called, which folders were
+/// to be locked, and the status.
+#[derive(Clone, Copy)]
+struct Calls {}
+
+impl Ask for Calls {
+    fn answer(&mut self, alloc: Global, question: &str) -> Result<String, AllocError> {
+        let (system, is_terminal) = system_of(alloc, question)?;
+        let mut term = Term::new(Coloring::Auto, false);
+        let mut caller = FakeCaller::new(alloc, End::Status(1));
+        let mut locks = FakeLocks::new(alloc, Holder::Ours);
+        let (mut out, mut err) = (Vec::new(alloc), Vec::new(alloc));
+        let mut outside = Outside {
+            term: &mut term,
+            caller: &mut caller,
+            out: &mut out,
+            err: &mut err,
+            is_terminal,
         };
-        let system = FakeSystem::new(
-            arguments_of(alloc, arguments)?,
-            variables_of(alloc, set)?,
-            folder_of(alloc, set)?,
+        let (status, _, _) = call(
+            alloc,
+            &system,
+            MemoryFiles::new(alloc),
+            MemoryFiles::new(alloc),
+            &mut locks,
+            &mut outside,
         );
-        started(alloc, &system, set.contains("terminal"))
+        let calls = caller.made().len();
+        let locked = locks.taken().len();
+        let (out, err) = (text_in(&out), text_in(&err));
+        format!(in alloc; "{out}{err}{calls} calls, {locked} locks, status {status}")
     }
 }
 
@@ -80,7 +128,7 @@ impl Ask for Systems {
 fn starts(rt: HostRuntime) -> Result<(), Wrong> {
     hold(
         rt.alloc(),
-        &mut Systems {},
+        &mut Starts {},
         r#"
             > : cargo-hack hack check
             | Auto
@@ -106,7 +154,7 @@ fn starts(rt: HostRuntime) -> Result<(), Wrong> {
 fn colorings(rt: HostRuntime) -> Result<(), Wrong> {
     hold(
         rt.alloc(),
-        &mut Systems {},
+        &mut Starts {},
         "
             > terminal TERM=xterm : ?
             | Always
@@ -140,7 +188,7 @@ fn colorings(rt: HostRuntime) -> Result<(), Wrong> {
 fn faults(rt: HostRuntime) -> Result<(), Wrong> {
     hold(
         rt.alloc(),
-        &mut Systems {},
+        &mut Starts {},
         r#"
             > CARGO : ?
             | Auto
@@ -167,6 +215,31 @@ fn faults(rt: HostRuntime) -> Result<(), Wrong> {
             | Auto
             | []
             | Env { term_color: None, github_actions: false, deny_warnings: false, cargo: "cargo", rustup: "rustup", current_dir: "/w" }
+        "#,
+    )
+}
+
+#[test]
+fn calls_of_the_program(rt: HostRuntime) -> Result<(), Wrong> {
+    hold(
+        rt.alloc(),
+        &mut Calls {},
+        r#"
+            > : cargo-hack hack --version
+            | cargo-hack 0.6.46
+            | 0 calls, 0 locks, status 0
+            > CARGO_HACK_DENY_WARNINGS= : cargo-hack hack --version
+            | cargo-hack 0.6.46
+            | 0 calls, 0 locks, status 0
+            > : cargo-hack
+            | error: expected subcommand 'hack'
+            | 0 calls, 0 locks, status 1
+            > : ?
+            | error: the words must be UTF-8
+            | 0 calls, 0 locks, status 1
+            > CARGO : cargo-hack hack check
+            | error: the variables of the environment must be UTF-8
+            | 0 calls, 0 locks, status 1
         "#,
     )
 }
