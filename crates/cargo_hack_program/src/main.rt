@@ -13,9 +13,14 @@ use std::io::IsTerminal;
 use std::process::ExitCode;
 
 fn main(rt: HostRuntime) -> ExitCode {
+    ExitCode::from(call_here(&rt))
+}
+
+/// Performs the call of this process, and returns its exit status.
+fn call_here(rt: &HostRuntime) -> u8 {
     let mut term = Term::new(Coloring::Auto, false);
-    let mut caller = Child::new(&rt);
-    let mut out = io::writer(&rt);
+    let mut caller = Child::new(rt);
+    let mut out = io::writer(rt);
     let mut err = rt.stderr();
     let is_terminal = err.is_terminal();
     let mut outside = Outside {
@@ -25,13 +30,15 @@ fn main(rt: HostRuntime) -> ExitCode {
         err: &mut err,
         is_terminal,
     };
+    let system = HostSystem::new(rt);
+    let mut locks = FolderLocks::new(rt);
     let (status, _, _) = call(
         rt.alloc(),
-        &HostSystem::new(&rt),
-        Disk::new(&rt),
-        Disk::new(&rt),
-        &mut FolderLocks::new(&rt),
+        &system,
+        Disk::new(rt),
+        Disk::new(rt),
+        &mut locks,
         &mut outside,
     );
-    ExitCode::from(status)
+    status
 }

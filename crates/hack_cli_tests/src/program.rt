@@ -125,7 +125,7 @@ impl Ask for Calls {
 }
 
 #[test]
-fn starts(rt: HostRuntime) -> Result<(), Wrong> {
+fn starts_of_calls(rt: HostRuntime) -> Result<(), Wrong> {
     hold(
         rt.alloc(),
         &mut Starts {},
