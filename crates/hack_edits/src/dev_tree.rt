@@ -1,23 +1,21 @@
 //! What stays of a manifest's tree without its development dependencies, and whether a text is read
 //! as that.
 
-ghost use Rattle.std.specs.Prelude.{◌≡◌, Some, IfOk, OnOk, option_map, option_and_then};
-ghost use Rattle.std.specs.Prelude.{string_bytes};
+ghost use Rattle.std.specs.Prelude.{◌≡◌, Some, IfOk, option_map, option_and_then};
 ghost use Rattle.toml.specs.Data.{no_members, table};
 ghost use Rattle.toml.specs.Parse.{parse_document};
 ghost use Rattle.toml.specs.View.{view, items_of, table_view, array_view};
-ghost use Rattle.hack_manifest.specs.Manifest.{features_key, list_of_items};
+ghost use Rattle.hack_manifest.specs.Manifest.{list_of_items};
 ghost use Rattle.hack_edits.specs.DevTree.{items_left, without_texts};
 ghost use Rattle.hack_edits.specs.DevTree.{unless_empty};
 ghost use Rattle.hack_edits.specs.InternalTreeEquality.{same};
 ghost use Rattle.hack_edits.specs.DevTree.{tidied_tree, reads_as_left};
-ghost use Rattle.hack_edits.specs.KeyPaths.{dev_key, target_key};
-ghost use Rattle.hack_edits.specs.Tables.{remove_member, with_value, put_each};
-ghost use Rattle.hack_edits.specs.Tables.{in_table, in_array};
+ghost use Rattle.hack_edits.specs.KeyPaths.{dev_key};
+ghost use Rattle.hack_edits.specs.Tables.{remove_member, put_each, in_table, in_array};
 
 use crate::lookup::{DEV, FEATURES, TARGET, holds_dev, value_goes};
 use crate::same::same_table;
-use crate::tables::{put_at, tree_of, without};
+use crate::tables::{put_at, put_back, tree_of, without};
 use std::alloc::{AllocError, Global};
 use toml::value::Array;
 use toml::{Table, Value};
@@ -52,38 +50,30 @@ fn drop_texts(alloc: Global, old: Table) -> Result<Table, AllocError>
 {
     let mut top = old;
     let features = top.remove(FEATURES);
-    put_features(alloc, &mut top, features)?;
+    let kept = strip_features(alloc, &top, features)?;
+    put_back(alloc, &mut top, FEATURES, kept)?;
     Ok(top)
 }
 
-/// Puts back what stays of the features.
-fn put_features(alloc: Global, top: &mut Table, features: Option<Value>) -> Result<(), AllocError>
-    ensures { OnOk result (table_view top.new ≡ with_value features_key
-        (option_and_then (λ d. Some (in_table (put_each
-        (λ v. Some (in_array (items_left (table_view top.old)) v)) no_members) d))
-        (option_map view features)) (table_view top.old)) }
+/// What stays at `features`.
+fn strip_features(
+    alloc: Global,
+    old: &Table,
+    features: Option<Value>,
+) -> Result<Option<Value>, AllocError>
+    ensures { IfOk result (λ o. option_map view o ≡ option_and_then (λ d. Some (in_table (put_each
+        (λ v. Some (in_array (items_left (table_view old.now)) v)) no_members) d))
+        (option_map view features)) }
 {
-    match features {
-        Some(value) => {
-            let kept = strip_features(alloc, top, value)?;
-            let key = String::from_str(alloc, FEATURES)?;
-            put_at(top, key, kept)
-        }
-        None => Ok(()),
-    }
-}
-
-fn strip_features(alloc: Global, old: &Table, features: Value) -> Result<Value, AllocError>
-    ensures { IfOk result (λ v. view v
-        ≡ in_table (put_each (λ d. Some (in_array (items_left (table_view old.now)) d)) no_members)
-        (view features)) }
-{
-    match features {
+    let Some(value) = features else {
+        return Ok(None);
+    };
+    match value {
         Value::Table(table) => {
             let kept = strip_arrays(alloc, old, table)?;
-            Ok(Value::Table(kept))
+            Ok(Some(Value::Table(kept)))
         }
-        other => Ok(other),
+        other => Ok(Some(other)),
     }
 }
 
@@ -134,37 +124,26 @@ fn tidy(alloc: Global, table: Table) -> Result<Table, AllocError>
 {
     let mut top = without(table, DEV);
     let target = top.remove(TARGET);
-    put_target(alloc, &mut top, target)?;
+    let kept = strip_target(alloc, target)?;
+    put_back(alloc, &mut top, TARGET, kept)?;
     Ok(top)
 }
 
-/// Puts back what stays of `target`.
-fn put_target(alloc: Global, top: &mut Table, target: Option<Value>) -> Result<(), AllocError>
-    ensures { OnOk result (table_view top.new ≡ with_value target_key
-        (option_and_then (λ d. unless_empty (in_table (put_each
-        (λ v. unless_empty (in_table (remove_member dev_key) v)) no_members) d))
-        (option_map view target)) (table_view top.old)) }
+/// What stays at `target`.
+fn strip_target(alloc: Global, target: Option<Value>) -> Result<Option<Value>, AllocError>
+    ensures { IfOk result (λ o. option_map view o ≡ option_and_then (λ d. unless_empty (in_table
+        (put_each (λ v. unless_empty (in_table (remove_member dev_key) v)) no_members) d))
+        (option_map view target)) }
 {
-    match target {
-        Some(value) => {
-            let kept = strip_target(alloc, value)?;
-            let key = String::from_str(alloc, TARGET)?;
-            put_value(top, key, kept)
-        }
-        None => Ok(()),
-    }
-}
-
-fn strip_target(alloc: Global, target: Value) -> Result<Value, AllocError>
-    ensures { IfOk result (λ v. view v ≡ in_table (put_each
-        (λ d. unless_empty (in_table (remove_member dev_key) d)) no_members) (view target)) }
-{
-    match target {
+    let Some(value) = target else {
+        return Ok(None);
+    };
+    match value {
         Value::Table(targets) => {
             let kept = strip_targets(alloc, targets)?;
-            Ok(Value::Table(kept))
+            Ok(filled(Value::Table(kept)))
         }
-        other => Ok(other),
+        other => Ok(filled(other)),
     }
 }
 
@@ -176,7 +155,7 @@ fn strip_targets(alloc: Global, targets: Table) -> Result<Table, AllocError>
 {
     let mut kept = Table::new(alloc);
     'targets: for (name, value) in targets {
-        put_value(&mut kept, name, strip(value))?;
+        put_back(alloc, &mut kept, &name, filled(strip(value)))?;
     }
     Ok(kept)
 }
@@ -191,15 +170,11 @@ fn strip(value: Value) -> Value
     }
 }
 
-/// Puts a value at a key, unless it is an empty table.
-fn put_value(kept: &mut Table, key: String, value: Value) -> Result<(), AllocError>
-    ensures { OnOk result (table_view kept.new
-        ≡ with_value (string_bytes key) (unless_empty (view value)) (table_view kept.old)) }
+/// A value, unless it is an empty table.
+fn filled(value: Value) -> Option<Value>
+    ensures { option_map view result ≡ unless_empty (view value) }
 {
-    if is_empty(&value) {
-        return Ok(());
-    }
-    put_at(kept, key, value)
+    if is_empty(&value) { None } else { Some(value) }
 }
 
 fn is_empty(value: &Value) -> bool

@@ -1,9 +1,9 @@
-//! Tables: of a text, with a key taken out, and with one put in.
+//! Tables: of a text, with a key taken out, with one put in, and with one put back.
 
 ghost use Rattle.std.specs.Prelude.{◌≡◌, IfOk, OnOk, option_map, string_bytes};
 ghost use Rattle.toml.specs.Parse.{parse_document};
 ghost use Rattle.toml.specs.View.{view, table_view};
-ghost use Rattle.hack_edits.specs.Tables.{with_member, remove_member};
+ghost use Rattle.hack_edits.specs.Tables.{with_member, with_value, remove_member};
 
 use std::alloc::{AllocError, Global};
 use toml::{Table, Value};
@@ -47,4 +47,23 @@ pub fn put_at(kept: &mut Table, key: String, value: Value) -> Result<(), AllocEr
 {
     kept.insert(key, value)?;
     Ok(())
+}
+
+/// Puts the value of a key that was taken out back, where there is one.
+pub fn put_back(
+    alloc: Global,
+    table: &mut Table,
+    key: &str,
+    value: Option<Value>,
+) -> Result<(), AllocError>
+    ensures { OnOk result (table_view table.new
+        ≡ with_value key.now (option_map view value) (table_view table.old)) }
+{
+    match value {
+        Some(found) => {
+            let owned = String::from_str(alloc, key)?;
+            put_at(table, owned, found)
+        }
+        None => Ok(()),
+    }
 }

@@ -1,8 +1,7 @@
 //! The tree of a manifest whose workspace is without private crates, and whether a text is read as
 //! that.
 
-ghost use Rattle.std.specs.Prelude.{◌≡◌, map, IfOk, OnOk, option_and_then, option_map};
-ghost use Rattle.std.specs.Prelude.{◌++◌, Some};
+ghost use Rattle.std.specs.Prelude.{◌≡◌, ◌++◌, map, IfOk, Some, option_and_then, option_map};
 ghost use Rattle.toml.specs.Data.{string};
 ghost use Rattle.toml.specs.View.{view, items_of, table_view, array_view};
 ghost use Rattle.hack_manifest.specs.Manifest.{list_of_items};
@@ -11,14 +10,14 @@ ghost use Rattle.hack_edits.specs.Lookup.{items_in};
 ghost use Rattle.hack_base.specs.PathTexts.{parent_of};
 ghost use Rattle.hack_base.specs.Names.{names_behind};
 ghost use Rattle.hack_edits.specs.Members.{members_left};
-ghost use Rattle.hack_edits.specs.KeyPaths.{workspace_key, members_key};
-ghost use Rattle.hack_edits.specs.Tables.{with_value, with_changed, in_table, in_array};
+ghost use Rattle.hack_edits.specs.KeyPaths.{members_key};
+ghost use Rattle.hack_edits.specs.Tables.{with_changed, in_table, in_array};
 ghost use Rattle.hack_edits.specs.WorkspaceTree.{with_exclude, workspace_left, tree_left};
 
 use crate::exclude::has_paths;
 use crate::members::{MEMBERS, Private, chosen, value_led, value_unled};
 use crate::same::same_table;
-use crate::tables::{put_at, tree_of};
+use crate::tables::{put_at, put_back, tree_of};
 use hack_base::paths::parent;
 use std::alloc::{AllocError, Global};
 use toml::value::Array;
@@ -56,44 +55,30 @@ fn expected_tree(alloc: Global, private: &Private<'_>, table: Table) -> Result<T
 {
     let mut top = table;
     let workspace = top.remove(WORKSPACE);
-    put_workspace(alloc, private, &mut top, workspace)?;
+    let expected = expected_value(alloc, private, workspace)?;
+    put_back(alloc, &mut top, WORKSPACE, expected)?;
     Ok(top)
 }
 
-/// Puts back what is expected at `workspace`.
-fn put_workspace(
+/// What is expected at `workspace`.
+fn expected_value(
     alloc: Global,
     private: &Private<'_>,
-    top: &mut Table,
-    workspace: Option<Value>,
-) -> Result<(), AllocError>
-    ensures { OnOk result (table_view top.new ≡ with_value workspace_key (option_and_then
+    value: Option<Value>,
+) -> Result<Option<Value>, AllocError>
+    ensures { IfOk result (λ o. option_map view o ≡ option_and_then
         (λ d. Some (in_table (workspace_left private.now.root.now
-        (names_behind private.now.paths.now)) d)) (option_map view workspace))
-        (table_view top.old)) }
+        (names_behind private.now.paths.now)) d)) (option_map view value)) }
 {
-    match workspace {
-        Some(value) => {
-            let left = expected_value(alloc, private, value)?;
-            let key = String::from_str(alloc, WORKSPACE)?;
-            put_at(top, key, left)
-        }
-        None => Ok(()),
-    }
-}
-
-/// The table that is expected at `workspace`.
-fn expected_value(alloc: Global, private: &Private<'_>, value: Value) -> Result<Value, AllocError>
-    ensures { IfOk result (λ v. view v
-        ≡ in_table (workspace_left private.now.root.now (names_behind private.now.paths.now))
-        (view value)) }
-{
+    let Some(value) = value else {
+        return Ok(None);
+    };
     match value {
         Value::Table(workspace) => {
             let left = expected_workspace(alloc, private, workspace)?;
-            Ok(Value::Table(left))
+            Ok(Some(Value::Table(left)))
         }
-        other => Ok(other),
+        other => Ok(Some(other)),
     }
 }
 
@@ -120,41 +105,25 @@ fn keep_members(alloc: Global, private: &Private<'_>, workspace: Table) -> Resul
 {
     let mut all = workspace;
     let members = all.remove(MEMBERS);
-    put_members(alloc, private, &mut all, members)?;
+    let kept = members_of(alloc, private, members)?;
+    put_back(alloc, &mut all, MEMBERS, kept)?;
     Ok(all)
 }
 
-/// Puts back what stays of the members.
-fn put_members(
+/// What stays at `members`.
+fn members_of(
     alloc: Global,
     private: &Private<'_>,
-    top: &mut Table,
-    members: Option<Value>,
-) -> Result<(), AllocError>
-    ensures { OnOk result (table_view top.new ≡ with_value members_key (option_and_then
+    value: Option<Value>,
+) -> Result<Option<Value>, AllocError>
+    ensures { IfOk result (λ o. option_map view o ≡ option_and_then
         (λ d. Some (in_array (members_left private.now.root.now
-        (names_behind private.now.paths.now)) d)) (option_map view members))
-        (table_view top.old)) }
-{
-    match members {
-        Some(value) => {
-            let kept = members_of(alloc, private, value)?;
-            let key = String::from_str(alloc, MEMBERS)?;
-            put_at(top, key, kept)
-        }
-        None => Ok(()),
-    }
-}
-
-fn members_of(alloc: Global, private: &Private<'_>, value: Value) -> Result<Value, AllocError>
-    ensures { IfOk result (λ v. view v
-        ≡ in_array (members_left private.now.root.now (names_behind private.now.paths.now))
-        (view value)) }
+        (names_behind private.now.paths.now)) d)) (option_map view value)) }
 {
     match value {
-        Value::Array(items) => {
+        Some(Value::Array(items)) => {
             let kept = kept_members(alloc, private, items)?;
-            Ok(Value::Array(kept))
+            Ok(Some(Value::Array(kept)))
         }
         other => Ok(other),
     }

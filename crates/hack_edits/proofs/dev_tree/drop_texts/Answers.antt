@@ -13,4 +13,4 @@ returns c =
     let found : option_map view c.remove-features.result ≡ get_member features_key (table_view c.args.old) = ap (option_map view) c.remove-features.ensures.value ∙ view-lookup features_key c.args.old.entries in
     let rest : table_view c.remove-features.new.self ≡ remove_member features_key (table_view c.args.old) = rw c.remove-features.ensures.entries (members_view-remove_entry features_key c.args.old.entries) in
     let old = table_view c.args.old in
-    c.in_ok-put_features.ensures ∙ rw (found, rest) (with_features-aside old (get_member features_key old) (remove_member features_key old))
+    c.in_ok-put_back.ensures ∙ rw (c.in_ok-kept.ensures, found, rest) (with_features-aside old (get_member features_key old) (remove_member features_key old))

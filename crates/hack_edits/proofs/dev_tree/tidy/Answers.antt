@@ -11,4 +11,4 @@ pub returns : goal.returns
 returns c =
     let found : option_map view c.remove-target.result ≡ get_member target_key (table_view c.without-top.result) = ap (option_map view) c.remove-target.ensures.value ∙ view-lookup target_key c.without-top.result.entries in
     let rest : table_view c.remove-target.new.self ≡ remove_member target_key (table_view c.without-top.result) = rw c.remove-target.ensures.entries (members_view-remove_entry target_key c.without-top.result.entries) in
-    c.in_ok-put_target.ensures ∙ rw (found, rest, c.without-top.ensures) refl
+    c.in_ok-put_back.ensures ∙ rw (c.in_ok-kept.ensures, found, rest, c.without-top.ensures) refl

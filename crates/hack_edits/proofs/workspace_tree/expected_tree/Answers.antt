@@ -11,4 +11,4 @@ pub returns : goal.returns
 returns c =
     let found : option_map view c.remove-workspace.result ≡ get_member workspace_key (table_view c.args.table) = ap (option_map view) c.remove-workspace.ensures.value ∙ view-lookup workspace_key c.args.table.entries in
     let rest : table_view c.remove-workspace.new.self ≡ remove_member workspace_key (table_view c.args.table) = rw c.remove-workspace.ensures.entries (members_view-remove_entry workspace_key c.args.table.entries) in
-    c.in_ok-put_workspace.ensures ∙ rw (found, rest) refl
+    c.in_ok-put_back.ensures ∙ rw (c.in_ok-expected.ensures, found, rest) refl

@@ -11,4 +11,4 @@ pub returns : goal.returns
 returns c =
     let found : option_map view c.remove-members.result ≡ get_member members_key (table_view c.args.workspace) = ap (option_map view) c.remove-members.ensures.value ∙ view-lookup members_key c.args.workspace.entries in
     let rest : table_view c.remove-members.new.self ≡ remove_member members_key (table_view c.args.workspace) = rw c.remove-members.ensures.entries (members_view-remove_entry members_key c.args.workspace.entries) in
-    c.in_ok-put_members.ensures ∙ rw (found, rest) refl
+    c.in_ok-put_back.ensures ∙ rw (c.in_ok-kept.ensures, found, rest) refl
