@@ -98,9 +98,10 @@ fn statuses(rt: HostRuntime) -> Result<(), Wrong> {
     )
 }
 
-// The line takes five writes: two for `info: `, two for its text, one for the line feed.
+// The line takes five writes: two for `info: `, two for its text, one for the line feed. One that is
+// interrupted is made again; after one that fails nothing is written.
 #[test]
-fn an_interrupted_write_is_tried_again(rt: HostRuntime) -> Result<(), Wrong> {
+fn writes_of_a_line_that_fail(rt: HostRuntime) -> Result<(), Wrong> {
     on_plain(
         rt.alloc(),
         r"
@@ -112,16 +113,7 @@ fn an_interrupted_write_is_tried_again(rt: HostRuntime) -> Result<(), Wrong> {
             | ok, 6 writes, nothing noted: 'info: told\n'
             > info told / interrupted at 5
             | ok, 5 writes, nothing noted: 'info: told\n'
-        ",
-    )
-}
 
-// Nothing is written after the error.
-#[test]
-fn another_fault_ends_the_line(rt: HostRuntime) -> Result<(), Wrong> {
-    on_plain(
-        rt.alloc(),
-        "
             > error told / broken at 0..=5
             | broken, 1 writes, error noted: ''
             | broken, 2 writes, error noted: 'err'

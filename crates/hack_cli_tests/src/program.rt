@@ -146,16 +146,7 @@ fn starts_of_calls(rt: HostRuntime) -> Result<(), Wrong> {
             | Auto
             | ["hack"]
             | Env { term_color: None, github_actions: true, deny_warnings: true, cargo: "c", rustup: "rustup", current_dir: "/w" }
-        "#,
-    )
-}
 
-#[test]
-fn colorings(rt: HostRuntime) -> Result<(), Wrong> {
-    hold(
-        rt.alloc(),
-        &mut Starts {},
-        "
             > terminal TERM=xterm : ?
             | Always
             | the words must be UTF-8
@@ -180,16 +171,7 @@ fn colorings(rt: HostRuntime) -> Result<(), Wrong> {
             > terminal TERM=xterm NO_COLOR : ?
             | Auto
             | the words must be UTF-8
-        ",
-    )
-}
 
-#[test]
-fn faults(rt: HostRuntime) -> Result<(), Wrong> {
-    hold(
-        rt.alloc(),
-        &mut Starts {},
-        r#"
             > CARGO : ?
             | Auto
             | the words must be UTF-8
