@@ -166,36 +166,23 @@ fn the_range_of_rust_version_prints_as_two_dots(rt: HostRuntime) -> Result<(), W
 }
 
 #[test]
-fn an_own_start_has_major_1(rt: HostRuntime) -> Result<(), Wrong> {
+fn steps_of_ranges(rt: HostRuntime) -> Result<(), Wrong> {
     on(
         rt.alloc(),
         "
+            # An own start has the major version 1.
             > steps: own by 1 own 2.0
             | major version must be 1
-        ",
-    )
-}
 
-#[test]
-fn given_patches_are_noticed(rt: HostRuntime) -> Result<(), Wrong> {
-    on(
-        rt.alloc(),
-        "
+            # Patches that are given are noticed.
             > steps: 1.60.1..=1.62.0 by 1
             | 1.60
             | 1.61
             | 1.62
             | warning: --version-range always selects the latest patch release per minor release, not the specified patch release `1`
             | warning: --version-range always selects the latest patch release per minor release, not the specified patch release `0`
-        ",
-    )
-}
 
-#[test]
-fn a_step_of_0_stays_at_the_start(rt: HostRuntime) -> Result<(), Wrong> {
-    on(
-        rt.alloc(),
-        "
+            # A step of 0 stays at the start.
             > steps: 1.60..=1.60 by 0
             | 1.60
             > steps: 1.60..=1.66 by 0
