@@ -8,20 +8,20 @@ use Rattle.hack_recovery.specs.declared.fault.CallFault.{CallFault}
 use Rattle.hack_recovery.specs.declared.fault.CallFault.TheVariants.{Memory, Busy, Unlocked}
 use Rattle.hack_recovery.specs.declared.locks.Holder.{Holder}
 use Rattle.hack_recovery.specs.declared.locks.Holder.TheVariants.{Ours, Theirs, Unknown}
-use Rattle.hack_recovery.specs.AskedEdits.{is_edit}
+use Rattle.hack_recovery.specs.AskedEdits.{is_change, is_edit}
 use Rattle.hack_recovery.specs.LockEvents.{LocksView, after_asking}
 
--- there is something to guard: the call edits manifests, or a journal is there
+-- there is something to guard: the call edits manifests, or an interrupted one left something
 abbrev pub needs_lock : Edits → Bool → Bool
 needs_lock does there = is_edit does || there
 
--- How a call may go on, by what it does, whether a journal is there, and who has the lock. Under
--- another call's lock it may not edit. Without a lock it may not edit where a journal is there, and
--- a journal of its own would be useless.
+-- How a call may go on, by what it does, whether an interrupted one left something, and who has the
+-- lock. Under another call's lock it may not edit. Without a lock it may neither edit nor restore
+-- where something is left, and a journal of its own would be useless.
 abbrev pub way_of : Edits → Bool → Holder → Result Way CallFault
 way_of does there Ours = Ok Guarded
 way_of does there Theirs = if is_edit does then Err Busy else Ok Plain
-way_of does there Unknown = if is_edit does && there then Err Unlocked else Ok Plain
+way_of does there Unknown = if is_change does && there then Err Unlocked else Ok Plain
 
 -- the answer to a call on how it may go on: plainly, where there is nothing to guard; else what
 -- follows from who has the lock of the folder; or memory was refused

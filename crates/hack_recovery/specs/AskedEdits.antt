@@ -13,10 +13,11 @@ use Rattle.hack_words.specs.declared.cli.parse.Parsed.TheVariants as answer
 use Rattle.hack_recovery.specs.declared.asked.Edits.{Edits}
 use Rattle.hack_recovery.specs.declared.asked.Edits.TheVariants as edits
 
--- what arguments do to manifests: `--remove-dev-deps` edits them permanently, `--no-dev-deps` and
--- `--no-private` edit them and bring them back, and all others leave them
+-- what arguments do to manifests: `--restore` restores what an interrupted call left,
+-- `--remove-dev-deps` edits them permanently, `--no-dev-deps` and `--no-private` edit them and bring
+-- them back, and all others leave them
 abbrev pub edits_asked : Args → Edits
-edits_asked args = if args.remove_dev_deps then edits.Good else (if args.no_dev_deps || args.no_private then edits.Back else edits.None)
+edits_asked args = if args.restore then edits.Restore else (if args.remove_dev_deps then edits.Good else (if args.no_dev_deps || args.no_private then edits.Back else edits.None))
 
 -- what a parsed command line does to manifests: nothing, where it asks for a text or a list
 abbrev pub edits_by : Parsed → Edits
@@ -29,6 +30,18 @@ abbrev pub is_edit : Edits → Bool
 is_edit edits.None = false
 is_edit edits.Back = true
 is_edit edits.Good = true
+is_edit edits.Restore = false
+
+-- a call restores what an interrupted one left, and does nothing else
+abbrev pub is_restore : Edits → Bool
+is_restore edits.None = false
+is_restore edits.Back = false
+is_restore edits.Good = false
+is_restore edits.Restore = true
+
+-- a call changes manifests, by an edit or by restoring them
+abbrev pub is_change : Edits → Bool
+is_change does = is_edit does || is_restore does
 
 -- the manifest that a parsed command line names
 abbrev pub manifest_by : Parsed → Option Name

@@ -11,14 +11,14 @@ use std::alloc::Global;
 /// How a call may go on.
 #[derive(Clone, Copy, Debug, PartialEq, Eq)]
 pub enum Way {
-    /// Without a journal, and without looking at one that is there.
+    /// Without a journal, and without looking at what an interrupted call left.
     Plain,
     /// Under its own lock of the workspace's folder.
     Guarded,
 }
 
-/// How a call may go on that does this to manifests, where a journal is in its workspace's folder
-/// or isn't. Takes the lock of the folder, unless there is nothing to guard.
+/// How a call may go on that does this to manifests, where an interrupted call of its workspace left
+/// something or didn't. Takes the lock of the folder, unless there is nothing to guard.
 pub fn admit<K: Locks>(
     alloc: Global,
     edits: Edits,
@@ -57,7 +57,7 @@ fn decided(edits: Edits, is_there: bool, holder: Holder) -> Result<Way, CallFaul
         }
         // Without a lock a journal of this call would be useless.
         Holder::Unknown => {
-            if edits.is_edit() && is_there {
+            if edits.is_change() && is_there {
                 return Err(CallFault::Unlocked);
             }
             Ok(Way::Plain)

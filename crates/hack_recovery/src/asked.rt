@@ -6,7 +6,7 @@ ghost use Rattle.hack_rules.specs.declared.fault.CliFault.TheVariants.{Memory};
 ghost use Rattle.hack_words.specs.Start.{wants_rustup as rustup_wanted};
 ghost use Rattle.hack_run.specs.Readings.{IsEarlyReading};
 ghost use Rattle.hack_run.specs.TemporaryEdits.{RestoresEdits};
-ghost use Rattle.hack_recovery.specs.AskedEdits.{AsksForEdits, edits_asked, edits_by, is_edit};
+ghost use Rattle.hack_recovery.specs.AskedEdits.{AsksForEdits, edits_asked, edits_by, is_change, is_edit};
 ghost use Rattle.hack_recovery.specs.AskedEdits.{manifest_by};
 
 use hack_base::copies::copy_of;
@@ -24,6 +24,9 @@ pub enum Edits {
     Back,
     /// They are edited permanently.
     Good,
+    /// They stay unchanged, but for what an interrupted call left: that is restored, and nothing
+    /// else is done.
+    Restore,
 }
 
 impl Edits {
@@ -32,8 +35,18 @@ impl Edits {
         ensures { result ≡ is_edit self }
     {
         match self {
-            Edits::None => false,
+            Edits::None | Edits::Restore => false,
             Edits::Back | Edits::Good => true,
+        }
+    }
+
+    /// Whether manifests are changed at all, by an edit or by restoring them.
+    pub fn is_change(self) -> bool
+        ensures { result ≡ is_change self }
+    {
+        match self {
+            Edits::None => false,
+            Edits::Back | Edits::Good | Edits::Restore => true,
         }
     }
 }
@@ -42,6 +55,8 @@ impl Edits {
 #[derive(Drop)]
 pub struct Asked {
     pub edits: Edits,
+    /// Whether it asks for more messages.
+    pub verbose: bool,
     pub manifest_path: Option<String>,
     /// What the command line is read into, unless an argument needs rustup's version.
     pub reading: Option<Reading>,
@@ -51,7 +66,9 @@ pub struct Asked {
 pub fn edits_of(args: &Args) -> Edits
     ensures { result ≡ edits_asked args.now }
 {
-    if args.remove_dev_deps {
+    if args.restore {
+        Edits::Restore
+    } else if args.remove_dev_deps {
         Edits::Good
     } else if args.no_dev_deps || args.no_private {
         Edits::Back
@@ -76,9 +93,11 @@ impl Asked {
         match Reading::of(alloc, words, env, Rustup::Unasked) {
             Reading::Accepted(parsed, notices) => {
                 let edits = edits_by(&parsed);
+                let verbose = is_verbose(&parsed);
                 let manifest_path = manifest_by(&parsed)?;
                 Ok(Asked {
                     edits,
+                    verbose,
                     manifest_path,
                     reading: early(words, Reading::Accepted(parsed, notices)),
                 })
@@ -87,6 +106,7 @@ impl Asked {
                 let fault = lasting(fault)?;
                 Ok(Asked {
                     edits: Edits::None,
+                    verbose: false,
                     manifest_path: None,
                     reading: early(words, Reading::Refused(fault)),
                 })
@@ -112,6 +132,14 @@ fn edits_by(parsed: &Parsed) -> Edits
     match parsed {
         Parsed::Args(args) => edits_of(args),
         Parsed::Print(_) | Parsed::List => Edits::None,
+    }
+}
+
+/// Whether a parsed command line asks for more messages.
+fn is_verbose(parsed: &Parsed) -> bool {
+    match parsed {
+        Parsed::Args(args) => args.verbose,
+        Parsed::Print(_) | Parsed::List => false,
     }
 }
 

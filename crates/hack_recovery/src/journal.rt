@@ -1,82 +1,111 @@
-//! The journal of a call that edits manifests: where it lies, and whether it was written there.
+//! Where the journal of a call lies: in the own folder of the workspace's repository, so that it is
+//! in no package and in no `git status`; or else beside the workspace's manifest.
 
-ghost use Rattle.std.specs.Prelude.{◌≡◌, ◌≢◌, ◌↔◌, IfOk, IsTrue, codes, nat_eq, option_map};
-ghost use Rattle.std.specs.Prelude.{string_bytes};
-ghost use Rattle.std.specs.List.{ends_with};
-ghost use Rattle.std.specs.Str.Iter.{HasSubslice};
+ghost use Rattle.std.specs.Prelude.{◌≡◌, [], IfOk, map, string_bytes};
+ghost use Rattle.std.specs.List.{list_all};
 ghost use Rattle.hack_base.specs.Names.{optional_text};
-ghost use Rattle.hack_base.specs.PathTexts.{under_of};
-ghost use Rattle.hack_journal.specs.Journal.{edit_of, edits_of};
-ghost use Rattle.hack_recovery.specs.Folders.{journal_of};
-ghost use Rattle.hack_recovery.specs.Strangers.{IsFirstStranger, IsManifestIn, IsStranger};
+ghost use Rattle.hack_files.specs.Files.{KeepsAll, Makes};
+ghost use Rattle.hack_recovery.specs.FileLooks.{Finds};
+ghost use Rattle.hack_recovery.specs.JournalPlaces.{is_plain_byte, journal_beside, journal_name};
+ghost use Rattle.hack_recovery.specs.JournalPlaces.{journal_of, journal_within, lockfile_copy};
+ghost use Rattle.hack_recovery.specs.JournalPlaces.{percent_for_slash, workspace_name};
+ghost use Rattle.hack_recovery.specs.RepositoryView.{repository_of};
 
+use crate::repository::{Repository, repository};
+use crate::workspace::text_of;
 use hack_base::paths::{join, under};
-use hack_journal::journal::{Entry, JournalFault, read_back};
+use hack_files::fs::Files;
 use std::alloc::{AllocError, Global};
 
-/// The journal's name, in the folder of the workspace.
-const NAME: &str = ".cargo-hack-journal";
-
-/// The path of the journal in a folder.
-pub fn journal_in(alloc: Global, folder: &str) -> Result<String, AllocError>
-    ensures { IfOk result (λ path. string_bytes path ≡ journal_of folder.now) }
+/// The path of the journal of a workspace's folder.
+pub fn journal_of<F: Files>(
+    alloc: Global,
+    folder: &str,
+    files: &mut F,
+) -> Result<String, AllocError>
+    ensures found { IfOk result (λ path. Finds F.tells (F.failed files.old) (F.failed files.new)
+        (string_bytes path ≡ journal_of (F.bytes_at files.old) folder.now)) }
+    ensures same { F.tells → KeepsAll (F.bytes_at files.old) (F.bytes_at files.new) }
+    ensures untraced { F.whole → Makes [] (F.trace files.old) (F.trace files.new)
+        (F.bytes_at files.old) (F.bytes_at files.new) }
 {
-    join(alloc, folder, NAME)
-}
-
-/// The first path in the bytes of a journal that is no manifest inside the folder. Such a journal
-/// was written elsewhere, and is not used.
-pub fn stranger(alloc: Global, folder: &str, bytes: &[u8]) -> Result<Option<String>, AllocError>
-    ensures { IfOk result (λ found. IsStranger folder.now bytes.now (optional_text found)) }
-{
-    match read_back(alloc, bytes) {
-        Ok(entries) => match first_stranger(folder, &entries) {
-            Some(entry) => Ok(Some(String::from_str(alloc, entry.path.as_str())?)),
-            None => Ok(None),
-        },
-        Err(JournalFault::NotJournal) => Ok(None),
-        Err(JournalFault::Memory) => Err(AllocError),
+    match repository(alloc, folder.len(), folder, files)? {
+        Some(found) => journal_within(alloc, folder, &found),
+        None => journal_beside(alloc, folder),
     }
 }
 
-/// The first entry whose path is no manifest inside the folder.
-fn first_stranger<'a>(folder: &str, entries: &'a [Entry]) -> Option<&'a Entry>
-    ensures { IsFirstStranger folder.now (edits_of entries.now)
-        (option_map (λ entry. (edit_of entry.now).path) result) }
+/// The path of a journal beside the workspace's manifest, where each was once.
+pub fn journal_beside(alloc: Global, folder: &str) -> Result<String, AllocError>
+    ensures { IfOk result (λ path. string_bytes path ≡ journal_beside folder.now) }
 {
-    match entries {
-        [] => None,
-        [entry, rest @ ..] => {
-            if is_manifest_in(folder, entry.path.as_str()) {
-                first_stranger(folder, rest)
-            } else {
-                Some(entry)
-            }
-        }
+    join(alloc, folder, ".cargo-hack-journal")
+}
+
+/// The path of the copy of the lockfile that is kept with a journal.
+pub fn lockfile_copy(alloc: Global, journal: &str) -> Result<String, AllocError>
+    ensures { IfOk result (λ path. string_bytes path ≡ lockfile_copy journal.now) }
+{
+    format!(in alloc; "{journal}~lock")
+}
+
+/// The path of the journal of a folder that is in this repository.
+fn journal_within(
+    alloc: Global,
+    folder: &str,
+    repository: &Repository,
+) -> Result<String, AllocError>
+    ensures { IfOk result (λ path. string_bytes path
+        ≡ journal_within folder.now (repository_of repository.now)) }
+{
+    if folder == repository.top.as_str() {
+        return join(alloc, repository.own.as_str(), "cargo-hack-journal");
+    }
+    let path = under(folder, repository.top.as_str());
+    match journal_name(alloc, path)? {
+        Some(name) => join(alloc, repository.own.as_str(), name.as_str()),
+        None => journal_beside(alloc, folder),
     }
 }
 
-/// Whether a path is that of a manifest inside a folder.
-fn is_manifest_in(folder: &str, path: &str) -> bool
-    ensures { IsTrue result ↔ IsManifestIn folder.now path.now }
+/// The name of the journal of a workspace at this path in its repository. A path that is long, or
+/// has a mark of such names, has none.
+fn journal_name(alloc: Global, path: &str) -> Result<Option<String>, AllocError>
+    ensures { IfOk result (λ name. optional_text name ≡ journal_name path.now) }
 {
-    is_manifest(path) && !leads_up(path) && is_inside(folder, path)
+    if path.len() > 200 || !is_plain(path.as_bytes()) {
+        return Ok(None);
+    }
+    match workspace_name(alloc, path)? {
+        Some(name) => Ok(Some(format!(in alloc; "cargo-hack-journal-{name}")?)),
+        None => Ok(None),
+    }
 }
 
-fn is_manifest(path: &str) -> bool
-    ensures { result ≡ ends_with nat_eq path.now (codes "/Cargo.toml") }
+/// Whether bytes have neither `%`, which stands for a slash, nor `~`, after which comes what tells
+/// the files of a journal apart.
+fn is_plain(bytes: &[u8]) -> bool
+    ensures { result ≡ list_all is_plain_byte bytes.now }
 {
-    path.ends_with("/Cargo.toml")
+    match bytes {
+        [] => true,
+        [byte, rest @ ..] => *byte != b'%' && *byte != b'~' && is_plain(rest),
+    }
 }
 
-fn leads_up(path: &str) -> bool
-    ensures { IsTrue result ↔ HasSubslice path.now (codes "/../") }
+/// A path with each slash turned into `%`.
+fn workspace_name(alloc: Global, path: &str) -> Result<Option<String>, AllocError>
+    ensures { IfOk result (λ name. optional_text name ≡ workspace_name path.now) }
 {
-    path.contains("/../")
+    let mut bytes = Vec::new(alloc);
+    for byte in path.as_bytes() {
+        bytes.push(percent_for_slash(*byte))?;
+    }
+    Ok(text_of(Some(bytes)))
 }
 
-fn is_inside(folder: &str, path: &str) -> bool
-    ensures { IsTrue result ↔ (under_of path.now folder.now ≢ path.now) }
+fn percent_for_slash(byte: u8) -> u8
+    ensures { result ≡ percent_for_slash byte }
 {
-    under(path, folder) != path
+    if byte == b'/' { b'%' } else { byte }
 }

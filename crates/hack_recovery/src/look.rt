@@ -1,6 +1,6 @@
 //! Looks at files, where a file that can't be read counts as one that isn't there.
 
-ghost use Rattle.std.specs.Prelude.{◌≡◌, ◌↔◌, [], IfOk, IfSome, IsSome, IsTrue, Some, option_map};
+ghost use Rattle.std.specs.Prelude.{◌≡◌, [], IfOk, IfSome, IsSome, IsTrue, Some, is_some, option_map};
 ghost use Rattle.hack_files.specs.Files.{KeepsAll, Makes};
 ghost use Rattle.hack_recovery.specs.FileLooks.{Finds};
 
@@ -10,7 +10,7 @@ use std::alloc::{AllocError, Global};
 /// Whether a file exists at a path.
 pub fn is_there<F: Files>(path: &str, files: &mut F) -> Result<bool, AllocError>
     ensures found { IfOk result (λ there. Finds F.tells (F.failed files.old) (F.failed files.new)
-        (IsTrue there ↔ IsSome (F.bytes_at files.old path.now))) }
+        (there ≡ is_some (F.bytes_at files.old path.now))) }
     ensures some { IfOk result (λ there. IsTrue there → F.tells
         → IsSome (F.bytes_at files.old path.now)) }
     ensures same { F.tells → KeepsAll (F.bytes_at files.old) (F.bytes_at files.new) }

@@ -1,25 +1,35 @@
 //! A whole call: what an interrupted one left is restored first, and what this one edits is kept in
-//! a journal meanwhile.
+//! a journal meanwhile, under the eyes of a guard.
 
-ghost use Rattle.std.specs.Prelude.{IfSome, OnOk, [], string_bytes, true, ◌≡◌};
+ghost use Rattle.std.specs.Prelude.{IfSome, IfOk, OnOk, Ok, [], string_bytes, true, false, ◌≡◌};
 ghost use Rattle.hack_base.specs.Names.{names_of};
 ghost use Rattle.hack_files.specs.Files.{KeepsAll, Makes};
+ghost use Rattle.hack_recovery.specs.AskedEdits.{is_restore};
+ghost use Rattle.hack_recovery.specs.GuardEvents.{GuardsView, after_start};
+ghost use Rattle.hack_recovery.specs.KeepersView.{keepers_view};
 ghost use Rattle.hack_recovery.specs.LockEvents.{LocksView};
+ghost use Rattle.hack_recovery.specs.Scenes.{scene_of, scene_with};
 ghost use Rattle.hack_recovery.specs.CallCourses.{IsCallCourse, Continues, IsJournalClosed};
 ghost use Rattle.hack_recovery.specs.CallCourses.{IsJournaledCall, IsLockedCourse};
-ghost use Rattle.hack_recovery.specs.CallCourses.{scene_of};
+ghost use Rattle.hack_recovery.specs.CallCourses.{RunsOverJournal, TakesBack, IsWatched};
+ghost use Rattle.hack_recovery.specs.PlacesView.{places_view};
 ghost use Rattle.hack_run.specs.Readings.{IsEarlyReading};
-ghost use Rattle.hack_run.specs.Worlds.{IsSameHost, files_view};
+ghost use Rattle.hack_run.specs.Worlds.{IsSameHost, files_view, host_view};
 ghost use Rattle.hack_term.specs.Lines.{IsExitStatus};
 
 use crate::admit::{Way, admit};
 use crate::asked::Edits;
 use crate::begin::{Begun, begin};
 use crate::fault::CallFault;
+use crate::guards::Guards;
+use crate::keepers::Keepers;
 use crate::locks::Locks;
+use crate::lockfile::{keep_copy, settle};
 use crate::look::is_there;
+use crate::places::Places;
 use crate::restore::restore;
 use hack_files::fs::Files;
+use hack_journal::place::Place;
 use hack_process::process::Caller;
 use hack_run::host::Host;
 use hack_run::journaled::run_journaled;
@@ -31,24 +41,25 @@ use std::io::Write;
 
 /// Performs a call as `run` does, and returns its exit status, the files and the lockfiles. Before
 /// anything else it restores what an interrupted call left edited, unless another call is running;
-/// and where it edits manifests and restores them itself, it keeps a journal of its edits, under a
-/// lock of its workspace's folder. `files` and `lockfiles` are the same file system.
+/// with `--restore` that is all. Where it edits manifests and restores them itself, it keeps a
+/// journal of its edits, under a lock of its workspace's folder, and a guard restores them where it
+/// ends early. `files` and `lockfiles` are the same file system.
 #[tactic(auto, using(hack_run::proofs::ReadingLemmas::some_or_refusal))]
-pub fn perform<F: Files, L: Files, K: Locks, C: Caller, O: Write, E: Write>(
+pub fn perform<F: Files, L: Files, K: Locks, G: Guards, C: Caller, O: Write, E: Write>(
     words: &[String],
     files: F,
     lockfiles: L,
-    locks: &mut K,
+    keepers: &mut Keepers<K, G>,
     host: &mut Host<'_, C, O, E>,
 ) -> (u8, F, L)
     ensures host { IsSameHost host.old host.new }
     ensures status { IsExitStatus host.old.env.now.deny_warnings host.new.term.now result.0 }
-    ensures goes { IsCallCourse F.tells F.whole L.tells C.tells K.tells (names_of words.now)
-        host.old.env.now
-        (scene_of F.Files L.Files C.Caller O.Write files lockfiles
-        (K.shown locks.old) host.old)
-        (scene_of F.Files L.Files C.Caller O.Write result.1 result.2
-        (K.shown locks.new) host.new) }
+    ensures goes { IsCallCourse F.tells F.whole L.tells C.tells K.tells G.tells
+        (names_of words.now) host.old.env.now
+        (scene_of F.Files L.Files K.Locks G.Guards C.Caller O.Write
+        files lockfiles keepers.old host.old)
+        (scene_of F.Files L.Files K.Locks G.Guards C.Caller O.Write
+        result.1 result.2 keepers.new host.new) }
 {
     let mut files = files;
     let begun = match begin(host.alloc, words, host.env, &mut files) {
@@ -64,15 +75,15 @@ pub fn perform<F: Files, L: Files, K: Locks, C: Caller, O: Write, E: Write>(
     match admit(
         host.alloc,
         begun.edits,
-        begun.folder.as_str(),
-        begun.is_there,
-        locks,
+        begun.places.folder.as_str(),
+        begun.is_left,
+        &mut keepers.locks,
     ) {
         Ok(Way::Plain) => {
-            let status = run(words, begun.reading, &mut files, host);
+            let status = plainly(words, begun, &mut files, host);
             (status, files, lockfiles)
         }
-        Ok(Way::Guarded) => guarded(words, begun, files, lockfiles, locks, host),
+        Ok(Way::Guarded) => guarded(words, begun, files, lockfiles, keepers, host),
         Err(fault) => (report(fault, host.term, host.err), files, lockfiles),
     }
 }
@@ -86,106 +97,175 @@ fn report<E: Write>(fault: CallFault, term: &mut Term, err: &mut E) -> u8
     1
 }
 
+/// Performs a call without a journal. Where it is to restore, there is nothing that it may.
+#[tactic(auto, using(hack_run::proofs::ReadingLemmas::some_or_refusal))]
+fn plainly<F: Files, C: Caller, O: Write, E: Write>(
+    words: &[String],
+    begun: Begun,
+    files: &mut F,
+    host: &mut Host<'_, C, O, E>,
+) -> u8
+{
+    if begun.edits == Edits::Restore {
+        if !host.env.by_guard {
+            tell_unrestored(begun.is_left, host.term, host.err);
+        }
+        return host.term.status(host.env.deny_warnings);
+    }
+    run(words, begun.reading, files, host)
+}
+
+/// Says why nothing is restored.
+fn tell_unrestored<E: Write>(is_left: bool, term: &Term, err: &mut E) {
+    let text = if is_left {
+        "another call is editing the manifests of this workspace, and restores them"
+    } else {
+        "nothing is left to restore"
+    };
+    let _ = term.info(text, err);
+}
+
 /// Performs a call under its own lock.
-fn guarded<F: Files, L: Files, K: Locks, C: Caller, O: Write, E: Write>(
+fn guarded<F: Files, L: Files, K: Locks, G: Guards, C: Caller, O: Write, E: Write>(
     words: &[String],
     begun: Begun,
     files: F,
     lockfiles: L,
-    locks: &mut K,
+    keepers: &mut Keepers<K, G>,
     host: &mut Host<'_, C, O, E>,
 ) -> (u8, F, L)
-    requires { IfSome begun.reading (IsEarlyReading host.old.env.now (names_of words.now)) }
-    ensures host { IsSameHost host.old host.new }
-    ensures status { IsExitStatus host.old.env.now.deny_warnings host.new.term.now result.0 }
-    ensures goes { IsLockedCourse F.tells F.whole L.tells C.tells K.tells (names_of words.now)
-        host.old.env.now begun.edits (string_bytes begun.folder) (string_bytes begun.journal)
-        (scene_of F.Files L.Files C.Caller O.Write files lockfiles
-        (K.shown locks.old) host.old)
-        (scene_of F.Files L.Files C.Caller O.Write result.1 result.2
-        (K.shown locks.new) host.new) }
 {
     let mut files = files;
-    match restore(
-        host.alloc,
-        begun.folder.as_str(),
-        begun.journal.as_str(),
-        &mut files,
-        host.term,
-        host.err,
-    ) {
+    let mut lockfiles = lockfiles;
+    match take_back(&begun.places, &mut files, &mut lockfiles, host) {
         Ok(is_back) => {
             if !is_back {
                 return (1, files, lockfiles);
             }
-            go_on(words, begun, files, lockfiles, locks, host)
+            go_on(words, begun, files, lockfiles, keepers, host)
         }
         Err(fault) => (report(fault, host.term, host.err), files, lockfiles),
     }
 }
 
+/// Restores all that an interrupted call left. Returns whether it is back; if not, an error was
+/// reported.
+fn take_back<F: Files, L: Files, C: Caller, O: Write, E: Write>(
+    places: &Places,
+    files: &mut F,
+    lockfiles: &mut L,
+    host: &mut Host<'_, C, O, E>,
+) -> Result<bool, CallFault>
+{
+    let dir = host.env.current_dir.as_str();
+    let place = places.place(host.alloc)?;
+    if !restore(host.alloc, dir, &place, files, host.term, host.err)? {
+        return Ok(false);
+    }
+    let older = places.older_place(host.alloc)?;
+    if !restore(host.alloc, dir, &older, files, host.term, host.err)? {
+        return Ok(false);
+    }
+    settle(places, files, lockfiles, host)
+}
+
 /// Performs a call under its own lock, where nothing of an interrupted call is left.
 #[tactic(auto, using(hack_run::proofs::ReadingLemmas::some_or_refusal))]
-fn go_on<F: Files, L: Files, K: Locks, C: Caller, O: Write, E: Write>(
+fn go_on<F: Files, L: Files, K: Locks, G: Guards, C: Caller, O: Write, E: Write>(
     words: &[String],
     begun: Begun,
     files: F,
     lockfiles: L,
-    locks: &mut K,
+    keepers: &mut Keepers<K, G>,
     host: &mut Host<'_, C, O, E>,
 ) -> (u8, F, L)
-    requires { IfSome begun.reading (IsEarlyReading host.old.env.now (names_of words.now)) }
-    ensures host { IsSameHost host.old host.new }
-    ensures status { IsExitStatus host.old.env.now.deny_warnings host.new.term.now result.0 }
-    ensures goes { Continues F.tells F.whole L.tells C.tells K.tells (names_of words.now)
-        host.old.env.now begun.edits (string_bytes begun.journal)
-        (scene_of F.Files L.Files C.Caller O.Write files lockfiles
-        (K.shown locks.old) host.old)
-        (scene_of F.Files L.Files C.Caller O.Write result.1 result.2
-        (K.shown locks.new) host.new) }
 {
     let mut files = files;
-    let Begun {
-        edits,
-        journal,
-        reading,
-        ..
-    } = begun;
-    match edits {
+    match begun.edits {
         Edits::None => {
-            locks.release();
-            let status = run(words, reading, &mut files, host);
+            keepers.locks.release();
+            let status = run(words, begun.reading, &mut files, host);
             (status, files, lockfiles)
         }
         Edits::Good => {
-            let status = run(words, reading, &mut files, host);
+            let status = run(words, begun.reading, &mut files, host);
             (status, files, lockfiles)
         }
-        Edits::Back => journaled(words, reading, files, lockfiles, journal, host),
+        Edits::Back => journaled(words, begun, files, lockfiles, &mut keepers.guards, host),
+        Edits::Restore => {
+            let status = host.term.status(host.env.deny_warnings);
+            (status, files, lockfiles)
+        }
     }
 }
 
-/// Performs a call with a journal at this path, and warns where the journal stays.
+/// Performs a call with a journal, after the lockfile was copied.
+fn journaled<F: Files, L: Files, G: Guards, C: Caller, O: Write, E: Write>(
+    words: &[String],
+    begun: Begun,
+    files: F,
+    lockfiles: L,
+    guards: &mut G,
+    host: &mut Host<'_, C, O, E>,
+) -> (u8, F, L)
+{
+    let mut files = files;
+    let mut lockfiles = lockfiles;
+    match keep_copy(host.alloc, &begun.places, &mut files, &mut lockfiles) {
+        Ok(()) => watched(words, begun, files, lockfiles, guards, host),
+        Err(fault) => (report(fault, host.term, host.err), files, lockfiles),
+    }
+}
+
+/// Performs a call with a journal, under the eyes of a guard.
+fn watched<F: Files, L: Files, G: Guards, C: Caller, O: Write, E: Write>(
+    words: &[String],
+    begun: Begun,
+    files: F,
+    lockfiles: L,
+    guards: &mut G,
+    host: &mut Host<'_, C, O, E>,
+) -> (u8, F, L)
+{
+    match guards.start(host.alloc, begun.places.folder.as_str()) {
+        Ok(watches) => {
+            if !watches && begun.verbose {
+                tell_unwatched(host.term, host.err);
+            }
+        }
+        Err(fault) => {
+            return (
+                report(CallFault::from(fault), host.term, host.err),
+                files,
+                lockfiles,
+            );
+        }
+    }
+    let ended = over_journal(words, begun.reading, files, lockfiles, &begun.places, host);
+    guards.leave();
+    ended
+}
+
+/// Says that nobody restores the manifests where this call ends early.
+fn tell_unwatched<E: Write>(term: &Term, err: &mut E) {
+    let text = "no guard could be started: where this call is interrupted, the next one restores the manifests";
+    let _ = term.info(text, err);
+}
+
+/// Performs a call over a journal, and closes it.
 #[tactic(auto, using(hack_run::proofs::ReadingLemmas::some_or_refusal))]
-fn journaled<F: Files, L: Files, C: Caller, O: Write, E: Write>(
+fn over_journal<F: Files, L: Files, C: Caller, O: Write, E: Write>(
     words: &[String],
     reading: Option<Reading>,
     files: F,
     lockfiles: L,
-    journal: String,
+    places: &Places,
     host: &mut Host<'_, C, O, E>,
 ) -> (u8, F, L)
-    requires { IfSome reading (IsEarlyReading host.old.env.now (names_of words.now)) }
-    ensures host { IsSameHost host.old host.new }
-    ensures status { IsExitStatus host.old.env.now.deny_warnings host.new.term.now result.0 }
-    ensures goes { (locks : LocksView) → IsJournaledCall F.tells F.whole L.tells C.tells
-        (names_of words.now) host.old.env.now (string_bytes journal)
-        (scene_of F.Files L.Files C.Caller O.Write files lockfiles locks host.old)
-        (scene_of F.Files L.Files C.Caller O.Write result.1 result.2 locks host.new) }
 {
     let env = host.env;
-    let path = match String::from_str(host.alloc, journal.as_str()) {
-        Ok(path) => path,
+    let place = match places.place(host.alloc) {
+        Ok(place) => place,
         Err(fault) => {
             return (
                 report(CallFault::from(fault), host.term, host.err),
@@ -194,9 +274,9 @@ fn journaled<F: Files, L: Files, C: Caller, O: Write, E: Write>(
             );
         }
     };
-    let (_, files, lockfiles, _) = run_journaled(words, reading, files, lockfiles, journal, host);
+    let (_, files, lockfiles, _) = run_journaled(words, reading, files, lockfiles, place, host);
     let mut files = files;
-    match close(host.alloc, path.as_str(), &mut files, host.term, host.err) {
+    match close(host.alloc, places, &mut files, host.term, host.err) {
         Ok(()) => (host.term.status(env.deny_warnings), files, lockfiles),
         Err(fault) => (
             report(CallFault::from(fault), host.term, host.err),
@@ -206,26 +286,26 @@ fn journaled<F: Files, L: Files, C: Caller, O: Write, E: Write>(
     }
 }
 
-/// Warns where a journal stays.
+/// Warns where a journal stays; where none does, the lockfile's copy is removed, and one that stays
+/// is warned of.
 fn close<F: Files, E: Write>(
     alloc: Global,
-    journal: &str,
+    places: &Places,
     files: &mut F,
     term: &mut Term,
     err: &mut E,
 ) -> Result<(), AllocError>
-    ensures told { OnOk result (IsJournalClosed F.tells journal.now
-        (files_view F.Files files.old)
-        (files_view F.Files files.new)
-        term.old term.new) }
-    ensures same { F.tells → KeepsAll (F.bytes_at files.old) (F.bytes_at files.new) }
-    ensures untraced { F.whole → Makes [] (F.trace files.old) (F.trace files.new)
-        (F.bytes_at files.old) (F.bytes_at files.new) }
 {
-    if !is_there(journal, files)? {
+    let journal = places.journal.as_str();
+    if is_there(journal, files)? {
+        let text = format!(in alloc; "`{journal}` stays: the next call brings back what it tells")?;
+        let _ = term.warn(&text, err);
         return Ok(());
     }
-    let text = format!(in alloc; "`{journal}` stays: the next call brings back what it tells")?;
-    let _ = term.warn(&text, err);
+    let copy = places.copy.as_str();
+    if files.remove(copy).is_err() {
+        let text = format!(in alloc; "`{copy}` stays: the next call removes it")?;
+        let _ = term.warn(&text, err);
+    }
     Ok(())
 }

@@ -55,7 +55,7 @@ fn start(alloc: Global, manifest_path: Option<&str>, dir: &str) -> Result<String
 }
 
 /// A path that is given relative to a folder.
-fn within(alloc: Global, folder: &str, path: &str) -> Result<String, AllocError>
+pub(crate) fn within(alloc: Global, folder: &str, path: &str) -> Result<String, AllocError>
     ensures { IfOk result (λ full. string_bytes full ≡ normal_of (join_of folder.now path.now)) }
 {
     let path = join(alloc, folder, path)?;
@@ -165,7 +165,7 @@ fn manifest<F: Files>(
 }
 
 /// The bytes of a file as text, where they are text.
-fn text_of(bytes: Option<Vec<u8>>) -> Option<String>
+pub(crate) fn text_of(bytes: Option<Vec<u8>>) -> Option<String>
     ensures { optional_text result ≡ text_in_bytes (option_map (λ bytes. bytes.items) bytes) }
 {
     match bytes {

@@ -1,0 +1,13 @@
+-- The places of a call as clauses see them.
+use Rattle.std.specs.Prelude.{string_bytes}
+use Rattle.hack_recovery.specs.CallPlaces.{PlacesAt}
+use Rattle.hack_recovery.specs.declared.places.Places.{Places}
+
+abbrev pub places_view : Places → PlacesAt
+places_view places = record {
+  folder = string_bytes places.folder;
+  journal = string_bytes places.journal;
+  older = string_bytes places.older;
+  lockfile = string_bytes places.lockfile;
+  copy = string_bytes places.copy;
+}

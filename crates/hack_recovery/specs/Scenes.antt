@@ -1,0 +1,57 @@
+-- What a call sees and changes.
+use Rattle.std.specs.Prelude.{◌≡◌, true, List}
+use Rattle.std.specs.declared.io.traits.Write.{Ghosts as Writing}
+use Rattle.hack_files.specs.Files.{Contents}
+use Rattle.hack_files.specs.declared.fs.Files.{Ghosts as Filing}
+use Rattle.hack_process.specs.declared.caller.Caller.{Ghosts as Calling}
+use Rattle.hack_run.specs.Worlds.{FilesView, HostView, World, files_view, host_view}
+use Rattle.hack_run.specs.declared.host.Host.{Host}
+use Rattle.hack_term.specs.declared.term.Term.{Term}
+use Rattle.hack_recovery.specs.FileLooks.{Unchanged}
+use Rattle.hack_recovery.specs.GuardEvents.{GuardsView}
+use Rattle.hack_recovery.specs.LockEvents.{LocksView}
+
+-- the files, what lockfiles hold, the locks, the guards, and the host
+pub record Scene : Type 0 where
+  pub files : FilesView
+  pub lockfiles : Contents
+  pub locks : LocksView
+  pub guards : GuardsView
+  pub host : HostView
+
+abbrev pub scene_of : {F L C O E : Type 0} → Filing F → Filing L → Calling C → Writing O → F → L
+    → LocksView → GuardsView → Host C O E → Scene
+scene_of f l c o files lockfiles locks guards host = record {
+  files = files_view f files;
+  lockfiles = l.bytes_at lockfiles;
+  locks = locks;
+  guards = guards;
+  host = host_view c o host;
+}
+
+-- what `run` sees of it
+abbrev pub world_in : Scene → World
+world_in scene = record { files = scene.files; host = scene.host }
+
+-- a scene in which the files are these, and what was reported is this
+abbrev pub scene_with : FilesView → Term → Scene → Scene
+scene_with files term scene = record scene { files = files; host = record scene.host { term = term } }
+
+-- nothing was called or printed, and no lock or guard came or went
+pub record IsQuiet (old new : Scene) : Type 0 where
+  pub calls : new.host.calls ≡ old.host.calls
+  pub out : new.host.out ≡ old.host.out
+  pub locks : new.locks ≡ old.locks
+  pub guards : new.guards ≡ old.guards
+
+-- files were looked at, and a lock may have been taken: nothing was changed, called or printed
+pub record Untouched (tells whole : Type 0) (old new : Scene) : Type 0 where
+  pub files : Unchanged tells whole old.files new.files
+  pub lockfiles : new.lockfiles ≡ old.lockfiles
+  pub guards : new.guards ≡ old.guards
+  pub calls : new.host.calls ≡ old.host.calls
+  pub out : new.host.out ≡ old.host.out
+
+-- an error was reported
+abbrev pub IsFailed : Scene → Type 0
+IsFailed new = new.host.term.error ≡ true

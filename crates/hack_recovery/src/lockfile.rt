@@ -1,0 +1,225 @@
+//! The copy of the lockfile that is kept while manifests are edited, since cargo rewrites the
+//! lockfile meanwhile.
+//!
+//! A guard acts at once, so it gives the lockfile back what the copy has. Any later call can't tell
+//! cargo's change from a person's, so it leaves the lockfile as it is.
+
+ghost use Rattle.std.specs.Prelude.{◌≡◌, ◌≢◌, None, Ok, OnOk, Some, false, string_bytes, true};
+ghost use Rattle.std.specs.Option.{option_or};
+ghost use Rattle.hack_base.specs.Names.{Name};
+ghost use Rattle.hack_files.specs.Files.{KeepsAll, KeepsOthers, MakesOrNot, puts, removes};
+ghost use Rattle.hack_recovery.specs.Lockfiles.{Tells};
+ghost use Rattle.hack_run.specs.Worlds.{IsSameHost, host_view};
+
+use crate::fault::CallFault;
+use crate::places::Places;
+use crate::restore::tell_restored;
+use hack_base::paths::under;
+use hack_files::fs::{FileFault, Files};
+use hack_journal::contents::look;
+use hack_journal::entries::same;
+use hack_process::process::Caller;
+use hack_run::host::Host;
+use hack_term::term::Term;
+use std::alloc::Global;
+use std::io::Write;
+
+/// Copies the lockfile, if there is one.
+pub(crate) fn keep_copy<F: Files, L: Files>(
+    alloc: Global,
+    places: &Places,
+    files: &mut F,
+    lockfiles: &mut L,
+) -> Result<(), CallFault>
+    ensures copied { OnOk result (F.tells → L.tells
+        → F.bytes_at files.new (string_bytes places.now.copy)
+        ≡ option_or (L.bytes_at lockfiles.old (string_bytes places.now.lockfile))
+        (F.bytes_at files.old (string_bytes places.now.copy))) }
+    ensures others { F.tells → KeepsOthers (string_bytes places.now.copy)
+        (F.bytes_at files.old) (F.bytes_at files.new) }
+    ensures made { F.whole → (bytes : Name)
+        × MakesOrNot (puts (string_bytes places.now.copy) bytes)
+        (F.trace files.old) (F.trace files.new) (F.bytes_at files.old) (F.bytes_at files.new) }
+    ensures same { L.tells → KeepsAll (L.bytes_at lockfiles.old) (L.bytes_at lockfiles.new) }
+{
+    match look(alloc, lockfiles, places.lockfile.as_str()) {
+        Ok(None) => Ok(()),
+        Ok(Some(bytes)) => match files.write(places.copy.as_str(), &bytes) {
+            Ok(()) => Ok(()),
+            Err(fault) => Err(copy_fault(fault)),
+        },
+        Err(fault) => Err(copy_fault(fault)),
+    }
+}
+
+fn copy_fault(fault: FileFault) -> CallFault {
+    match fault {
+        FileFault::Memory => CallFault::Memory,
+        FileFault::Device => CallFault::NoCopy,
+    }
+}
+
+/// Gives the lockfile back what its copy has, where the guard calls, and removes the copy. Returns
+/// whether that is done; if not, an error was reported.
+pub(crate) fn settle<F: Files, L: Files, C: Caller, O: Write, E: Write>(
+    places: &Places,
+    files: &mut F,
+    lockfiles: &mut L,
+    host: &mut Host<'_, C, O, E>,
+) -> Result<bool, CallFault>
+    ensures host { IsSameHost host.old host.new }
+    ensures view { host_view C.Caller O.Write host.new
+        ≡ record (host_view C.Caller O.Write host.old) { term = host.new.term.now } }
+    ensures told { Tells host.old.term.now host.new.term.now result }
+
+    // The copy is gone, no other file is changed, and the guard gives the lockfile what it has.
+    ensures gone { result ≡ Ok true → F.tells
+        → F.bytes_at files.new (string_bytes places.now.copy) ≡ None }
+    ensures others { F.tells → KeepsOthers (string_bytes places.now.copy)
+        (F.bytes_at files.old) (F.bytes_at files.new) }
+    ensures made { F.whole → MakesOrNot (removes (string_bytes places.now.copy))
+        (F.trace files.old) (F.trace files.new) (F.bytes_at files.old) (F.bytes_at files.new) }
+    ensures given { result ≡ Ok true → host.old.env.now.by_guard ≡ true → F.tells → L.tells
+        → (bytes : Name) → F.bytes_at files.old (string_bytes places.now.copy) ≡ Some bytes
+        → L.bytes_at lockfiles.new (string_bytes places.now.lockfile) ≡ Some bytes }
+
+    // Nobody else changes it, and nobody where there is no copy.
+    ensures left { host.old.env.now.by_guard ≡ false → L.tells
+        → KeepsAll (L.bytes_at lockfiles.old) (L.bytes_at lockfiles.new) }
+    ensures none { F.tells → F.bytes_at files.old (string_bytes places.now.copy) ≡ None
+        → L.tells → KeepsAll (L.bytes_at lockfiles.old) (L.bytes_at lockfiles.new) }
+    ensures apart { L.tells → KeepsOthers (string_bytes places.now.lockfile)
+        (L.bytes_at lockfiles.old) (L.bytes_at lockfiles.new) }
+{
+    let bytes = match look(host.alloc, files, places.copy.as_str()) {
+        Ok(None) => return Ok(true),
+        Ok(Some(bytes)) => bytes,
+        Err(fault) => return tell_fault(host.alloc, places.copy.as_str(), fault, host.term, host.err),
+    };
+    let is_settled = if host.env.by_guard {
+        give_back(&bytes, places, lockfiles, host)?
+    } else {
+        leave(&bytes, places, lockfiles, host)?
+    };
+    if !is_settled {
+        return Ok(false);
+    }
+    drop_copy(host.alloc, places, files, host.term, host.err)
+}
+
+/// Gives the lockfile these bytes, unless it holds them, and reports it.
+fn give_back<L: Files, C: Caller, O: Write, E: Write>(
+    bytes: &[u8],
+    places: &Places,
+    lockfiles: &mut L,
+    host: &mut Host<'_, C, O, E>,
+) -> Result<bool, CallFault>
+    ensures host { IsSameHost host.old host.new }
+    ensures view { host_view C.Caller O.Write host.new
+        ≡ record (host_view C.Caller O.Write host.old) { term = host.new.term.now } }
+    ensures told { Tells host.old.term.now host.new.term.now result }
+    ensures given { result ≡ Ok true → L.tells
+        → L.bytes_at lockfiles.new (string_bytes places.now.lockfile) ≡ Some bytes.now }
+    ensures apart { L.tells → KeepsOthers (string_bytes places.now.lockfile)
+        (L.bytes_at lockfiles.old) (L.bytes_at lockfiles.new) }
+{
+    let path = places.lockfile.as_str();
+    match holds(host.alloc, path, bytes, lockfiles) {
+        Ok(true) => return Ok(true),
+        Ok(false) => {}
+        Err(fault) => return tell_fault(host.alloc, path, fault, host.term, host.err),
+    }
+    match lockfiles.write(path, bytes) {
+        Ok(()) => {
+            let dir = host.env.current_dir.as_str();
+            tell_restored(host.alloc, dir, path, host.term, host.err)
+        }
+        Err(fault) => tell_fault(host.alloc, path, fault, host.term, host.err),
+    }
+}
+
+/// Leaves the lockfile as it is, and reports that where it doesn't hold these bytes.
+fn leave<L: Files, C: Caller, O: Write, E: Write>(
+    bytes: &[u8],
+    places: &Places,
+    lockfiles: &mut L,
+    host: &mut Host<'_, C, O, E>,
+) -> Result<bool, CallFault>
+    ensures host { IsSameHost host.old host.new }
+    ensures view { host_view C.Caller O.Write host.new
+        ≡ record (host_view C.Caller O.Write host.old) { term = host.new.term.now } }
+    ensures told { Tells host.old.term.now host.new.term.now result }
+    ensures same { L.tells → KeepsAll (L.bytes_at lockfiles.old) (L.bytes_at lockfiles.new) }
+{
+    let path = places.lockfile.as_str();
+    match holds(host.alloc, path, bytes, lockfiles) {
+        Ok(true) => Ok(true),
+        Ok(false) => {
+            let path = under(path, host.env.current_dir.as_str());
+            let text = format!(in host.alloc;
+                "left `{path}` as it is: in the interrupted call cargo may have changed it"
+            )?;
+            let _ = host.term.info(&text, host.err);
+            Ok(true)
+        }
+        Err(fault) => tell_fault(host.alloc, path, fault, host.term, host.err),
+    }
+}
+
+/// Whether a path holds these bytes.
+fn holds<F: Files>(
+    alloc: Global,
+    path: &str,
+    bytes: &[u8],
+    files: &mut F,
+) -> Result<bool, FileFault>
+    ensures held { result ≡ Ok true → F.tells → F.bytes_at files.new path.now ≡ Some bytes.now }
+    ensures same { F.tells → KeepsAll (F.bytes_at files.old) (F.bytes_at files.new) }
+{
+    let held = look(alloc, files, path)?;
+    Ok(same(held.as_deref(), Some(bytes)))
+}
+
+/// Removes the copy. Returns whether that is done; if not, an error was reported.
+fn drop_copy<F: Files, E: Write>(
+    alloc: Global,
+    places: &Places,
+    files: &mut F,
+    term: &mut Term,
+    err: &mut E,
+) -> Result<bool, CallFault>
+    ensures told { Tells term.old term.new result }
+    ensures gone { result ≡ Ok true → F.tells
+        → F.bytes_at files.new (string_bytes places.now.copy) ≡ None }
+    ensures others { F.tells → KeepsOthers (string_bytes places.now.copy)
+        (F.bytes_at files.old) (F.bytes_at files.new) }
+    ensures made { F.whole → MakesOrNot (removes (string_bytes places.now.copy))
+        (F.trace files.old) (F.trace files.new) (F.bytes_at files.old) (F.bytes_at files.new) }
+{
+    let copy = places.copy.as_str();
+    match files.remove(copy) {
+        Ok(()) => Ok(true),
+        Err(fault) => tell_fault(alloc, copy, fault, term, err),
+    }
+}
+
+/// Reports that a file can't be read or written.
+fn tell_fault<E: Write>(
+    alloc: Global,
+    path: &str,
+    fault: FileFault,
+    term: &mut Term,
+    err: &mut E,
+) -> Result<bool, CallFault>
+    ensures told { Tells term.old term.new result }
+    ensures never { result ≢ Ok true }
+{
+    match fault {
+        FileFault::Memory => Err(CallFault::Memory),
+        FileFault::Device => {
+            let text = format!(in alloc; "failed to read or write file `{path}`")?;
+            let _ = term.error(&text, err);
+            Ok(false)
+        }
+    }
+}
