@@ -20,6 +20,7 @@ HIDDEN = [
     ("--all-features", "Run with all features. This is Cargo's own option."),
     ("--include-deps-features", "Use the features of dependencies as features of the package."),
     ("--strength <NUM>", "Run a sample of the powerset, a few sets that show each pattern of at most NUM features."),
+    ("--restore", "Bring back what an interrupted call left edited, and run nothing."),
 ]
 
 # The values that an option takes, where they are few.

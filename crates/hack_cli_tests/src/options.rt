@@ -88,7 +88,7 @@ fn options_by_name(rt: HostRuntime) -> Result<(), Wrong> {
         rt.alloc(),
         "
             > all by name
-            | 46
+            | 47
             > long:
             | none
             > long: al
@@ -167,6 +167,8 @@ fn rows(rt: HostRuntime) -> Result<(), Wrong> {
             | PartitionKind partition-kind Value once
             > row: strength
             | Strength strength Value once
+            > row: restore
+            | Restore restore Flag once
             > row: workspace-behavior
             | WorkspaceBehavior workspace-behavior Refused often
             > row: help
@@ -196,8 +198,10 @@ fn options_in_messages(rt: HostRuntime) -> Result<(), Wrong> {
 | --include-deps-features|--include-deps-features|no
 > strength
 | --strength|--strength|no
+> restore
+| --restore|--restore|no
 ",
-        "0 of 7 are wrong",
+        "0 of 8 are wrong",
     )
 }
 

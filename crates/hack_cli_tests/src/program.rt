@@ -133,19 +133,27 @@ fn starts_of_calls(rt: HostRuntime) -> Result<(), Wrong> {
             > : cargo-hack hack check
             | Auto
             | ["hack", "check"]
-            | Env { term_color: None, github_actions: false, deny_warnings: false, cargo: "cargo", rustup: "rustup", current_dir: "/w" }
+            | Env { term_color: None, github_actions: false, deny_warnings: false, cargo: "cargo", rustup: "rustup", current_dir: "/w", by_guard: false }
             > nowhere :
             | Auto
             | []
-            | Env { term_color: None, github_actions: false, deny_warnings: false, cargo: "cargo", rustup: "rustup", current_dir: "" }
+            | Env { term_color: None, github_actions: false, deny_warnings: false, cargo: "cargo", rustup: "rustup", current_dir: "", by_guard: false }
             > terminal TERM=xterm CARGO=c CARGO_HACK_CARGO_SRC=s CARGO_HACK_RUSTUP=r CARGO_TERM_COLOR=always : cargo-hack
             | Always
             | []
-            | Env { term_color: Some("always"), github_actions: false, deny_warnings: false, cargo: "s", rustup: "r", current_dir: "/w" }
+            | Env { term_color: Some("always"), github_actions: false, deny_warnings: false, cargo: "s", rustup: "r", current_dir: "/w", by_guard: false }
             > CARGO=c GITHUB_ACTIONS= CARGO_HACK_DENY_WARNINGS=0 : cargo-hack hack
             | Auto
             | ["hack"]
-            | Env { term_color: None, github_actions: true, deny_warnings: true, cargo: "c", rustup: "rustup", current_dir: "/w" }
+            | Env { term_color: None, github_actions: true, deny_warnings: true, cargo: "c", rustup: "rustup", current_dir: "/w", by_guard: false }
+            > CARGO_HACK_GUARD= : cargo-hack hack --restore
+            | Auto
+            | ["hack", "--restore"]
+            | Env { term_color: None, github_actions: false, deny_warnings: false, cargo: "cargo", rustup: "rustup", current_dir: "/w", by_guard: true }
+            > CARGO_HACK_GUARD=0 CARGO_HACK_RUSTUP=r : cargo-hack
+            | Auto
+            | []
+            | Env { term_color: None, github_actions: false, deny_warnings: false, cargo: "cargo", rustup: "r", current_dir: "/w", by_guard: true }
 
             > terminal TERM=xterm : ?
             | Always
@@ -193,10 +201,13 @@ fn starts_of_calls(rt: HostRuntime) -> Result<(), Wrong> {
             > terminal TERM=xterm CARGO_HACK_RUSTUP : cargo-hack
             | Always
             | the variables of the environment must be UTF-8
+            > CARGO_HACK_GUARD : cargo-hack
+            | Auto
+            | the variables of the environment must be UTF-8
             > OTHER : cargo-hack
             | Auto
             | []
-            | Env { term_color: None, github_actions: false, deny_warnings: false, cargo: "cargo", rustup: "rustup", current_dir: "/w" }
+            | Env { term_color: None, github_actions: false, deny_warnings: false, cargo: "cargo", rustup: "rustup", current_dir: "/w", by_guard: false }
         "#,
     )
 }

@@ -296,6 +296,33 @@ const LATE: &str = r"[words] There is a subcommand, or a list is asked for.
 |
 | For more information try --help
 |
+[words] Edits are brought back, and nothing else is asked for.
+> hack --restore
+| args
+> hack --restore -v --color never
+| args
+> hack --restore --list
+| list
+> hack check --restore
+| --restore may not be used together with other arguments
+> hack --restore -- check
+| --restore may not be used together with other arguments
+> hack --restore --foo
+| --restore may not be used together with other arguments
+> hack --restore --workspace-behavior=cargo
+| --restore may not be used together with other arguments
+> hack --restore --remove-dev-deps
+| --restore may not be used together with other arguments
+> hack --restore --strength 2
+| --strength can only be used together with --feature-powerset
+> hack --restore --restore
+| The argument '--restore' was provided more than once, but cannot be used multiple times
+|
+| USAGE:
+|     cargo hack --restore
+|
+| For more information try --help
+|
 [words] Notices.
 > hack check --each-feature --ignore-unknown-features --include-features a
 | args
@@ -307,5 +334,5 @@ const LATE: &str = r"[words] There is a subcommand, or a list is asked for.
 
 #[test]
 fn rules_behind_the_subcommand(rt: HostRuntime) -> Result<(), Wrong> {
-    checked(rt.alloc(), LATE, "0 of 23 are wrong")
+    checked(rt.alloc(), LATE, "0 of 33 are wrong")
 }

@@ -58,6 +58,7 @@ long_option-name opt.NoDefaultFeatures = refl
 long_option-name opt.AllFeatures = refl
 long_option-name opt.IncludeDepsFeatures = refl
 long_option-name opt.Strength = refl
+long_option-name opt.Restore = refl
 
 pub short_option-letter : (o : Opt) → IfSome (entry_of o).letter (λ c. short_option c ≡ Some o)
 short_option-letter opt.Package = refl
@@ -106,6 +107,7 @@ short_option-letter opt.NoDefaultFeatures = tt
 short_option-letter opt.AllFeatures = tt
 short_option-letter opt.IncludeDepsFeatures = tt
 short_option-letter opt.Strength = tt
+short_option-letter opt.Restore = tt
 
 -- ---- an option that is found has the name, or the letter
 

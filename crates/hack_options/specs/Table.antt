@@ -85,6 +85,7 @@ entry_of opt.NoDefaultFeatures = many (codes "no-default-features") Flag []
 entry_of opt.AllFeatures = many (codes "all-features") Flag []
 entry_of opt.IncludeDepsFeatures = flag (codes "include-deps-features")
 entry_of opt.Strength = once (codes "strength") Value (codes "<NUM>")
+entry_of opt.Restore = flag (codes "restore")
 
 -- the option that an alias means
 abbrev pub meaning_of : Opt → Opt

@@ -63,6 +63,7 @@ pub enum Opt {
     AllFeatures,
     IncludeDepsFeatures,
     Strength,
+    Restore,
 }
 
 /// The option as messages name it. `--workspace-behavior` is shown with `cargo`, the only value

@@ -22,8 +22,8 @@ pub struct Row {
     /// What the help shows after the name, such as `<PATH>`; empty where the option takes no value,
     /// or has it in its name, as in `--workspace-behavior=cargo`.
     pub value: &'static str,
-    /// The texts of the help. Two options of Cargo, `--include-deps-features` and `--strength` have
-    /// no row there.
+    /// The texts of the help. Two options of Cargo, `--include-deps-features`, `--strength` and
+    /// `--restore` have no row there.
     pub(crate) told: Option<HelpText>,
 }
 
@@ -56,7 +56,7 @@ pub enum Kind {
 }
 
 /// All options, in the order of the help; those that the help doesn't show come last.
-pub const ALL: [Opt; 46] = [
+pub const ALL: [Opt; 47] = [
     Opt::Package,
     Opt::All,
     Opt::Workspace,
@@ -103,6 +103,7 @@ pub const ALL: [Opt; 46] = [
     Opt::AllFeatures,
     Opt::IncludeDepsFeatures,
     Opt::Strength,
+    Opt::Restore,
 ];
 
 impl Row {
@@ -194,6 +195,7 @@ fn syntax(option: Opt) -> Row
         Opt::AllFeatures => many("all-features", Kind::Flag, ""),
         Opt::IncludeDepsFeatures => flag("include-deps-features"),
         Opt::Strength => once("strength", Kind::Value, "<NUM>"),
+        Opt::Restore => flag("restore"),
     }
 }
 
@@ -364,7 +366,7 @@ fn help_text(option: Opt) -> Option<HelpText>
         Opt::Help => brief("Prints help information"),
         Opt::Version => brief("Prints version information"),
         Opt::NoDefaultFeatures | Opt::AllFeatures => None,
-        Opt::IncludeDepsFeatures | Opt::Strength => None,
+        Opt::IncludeDepsFeatures | Opt::Strength | Opt::Restore => None,
     }
 }
 

@@ -38,7 +38,7 @@ end_uses : (around : Around) (behavior b : WorkspaceBehavior) (trailing t : List
 end_uses around behavior b trailing t found us (Met one left) h = absurd h
 end_uses around behavior b trailing t found us End h =
     let early = first_of (first_of (early_rules around.term_color found) ∷ first_of (together_rules behavior found) ∷ []) in
-    let late = first_of (missing_subcommand found ∷ rules_after around.rustup (groups_given opt.MutuallyExclusiveFeatures found) found) in
+    let late = first_of (missing_subcommand found ∷ rules_after around.rustup (groups_given opt.MutuallyExclusiveFeatures found) behavior trailing found) in
     (accepted behavior b trailing t found us early late (lists_commands behavior found) h, tt)
 end_uses around behavior b trailing t found us (Prints print) h = cc
 end_uses around behavior b trailing t found us (Fails cut) h = cc

@@ -40,6 +40,7 @@ pub data Fault : Type 0 where
   PartitionKind : List ℕ → Fault
   LiftForm : List ℕ → Fault
   LiftGroup : List ℕ → Fault
+  RestoreAlone : Fault
 
 -- the error of a log group; none where memory ran out
 abbrev pub log_group_fault_of : LogGroupFault → Option Fault
@@ -76,6 +77,7 @@ fault_of (code.LogGroup fault) = log_group_fault_of fault
 fault_of (code.Partition fault) = partition_fault_of fault
 fault_of (code.LiftForm found) = Some (LiftForm (string_bytes found))
 fault_of (code.LiftGroup found) = Some (LiftGroup (string_bytes found))
+fault_of code.RestoreAlone = Some RestoreAlone
 
 -- a parse error as an error of the command line; out of memory is reported alone
 abbrev pub told_of_cut : CutFault → CliFault

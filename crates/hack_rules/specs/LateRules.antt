@@ -1,6 +1,6 @@
 -- The rules that are checked after the one on a missing subcommand.
-use Rattle.std.specs.Prelude.{ℕ, ◌==◌, ◌&&◌, not, List, [], ◌∷◌, map, Option, Some, nat_lt, option_and_then, option_map}
-use Rattle.std.specs.List.{find}
+use Rattle.std.specs.Prelude.{ℕ, ◌==◌, ◌&&◌, not, List, [], ◌∷◌, map, Bool, Option, Some, length, nat_lt, option_and_then, option_map}
+use Rattle.std.specs.List.{find, list_all, list_any}
 use Rattle.std.specs.Option.{is_none, option_map_or, option_or}
 use Rattle.std.specs.Result.{result_err}
 use Rattle.hack_base.specs.Numbers.{number_of}
@@ -9,10 +9,12 @@ use Rattle.hack_plan.specs.Partitions.{piece_of, kind_of}
 use Rattle.hack_versions.specs.Readings.{range_of}
 use Rattle.hack_options.specs.declared.opt.Opt.{Opt}
 use Rattle.hack_options.specs.declared.opt.Opt.TheVariants as opt
-use Rattle.hack_rules.specs.Uses.{Use, is_given}
+use Rattle.hack_rules.specs.declared.uses.behavior.WorkspaceBehavior.{WorkspaceBehavior}
+use Rattle.hack_rules.specs.Behavior.{is_cargo}
+use Rattle.hack_rules.specs.Uses.{Use, is_given, is_use_of}
 use Rattle.hack_rules.specs.Values.{from_value, values_given}
 use Rattle.hack_rules.specs.declared.fault.Beside.TheVariants as beside
-use Rattle.hack_rules.specs.CliFaults.{Fault, LiftForm, LiftGroup, LogGroup, Number, OldRustup, Partition, PartitionKind, Range, Zero}
+use Rattle.hack_rules.specs.CliFaults.{Fault, LiftForm, LiftGroup, LogGroup, Number, OldRustup, Partition, PartitionKind, Range, RestoreAlone, Zero}
 use Rattle.hack_rules.specs.CliLists.{lift_of, lifts_one_of}
 use Rattle.hack_rules.specs.Rules.{fault_if, first_of, needs, clash}
 
@@ -39,10 +41,26 @@ lift_rule exclusive texts =
     option_or (option_map LiftForm (find (λ text. is_none (lift_of text)) texts))
     (option_map LiftGroup (find (λ text. not (lifts_one_of exclusive text)) texts))
 
--- the rules that are checked after the one on a missing subcommand, given the exclusive groups: on
--- ranges, the log group, pieces, lifted groups, and the strength of a sample
-abbrev pub rules_after : Option ℕ → List (List (List ℕ)) → List Use → List (Option Fault)
-rules_after rustup exclusive us =
+-- a use of --restore, or of an option that may stand beside it
+abbrev pub is_beside_restore : Use → Bool
+is_beside_restore u = list_any (λ o. is_use_of o u) (opt.Restore ∷ opt.Verbose ∷ opt.Color ∷ [])
+
+-- there are no other arguments than these: Cargo doesn't handle the workspace, each use is one of
+-- them, and nothing stands after --
+abbrev pub is_restore_alone : WorkspaceBehavior → List (List ℕ) → List Use → Bool
+is_restore_alone behavior trailing us =
+    not (is_cargo behavior) && list_all is_beside_restore us && not (nat_lt 0 (length trailing))
+
+-- --restore has no other arguments beside it
+abbrev pub restore_rule : WorkspaceBehavior → List (List ℕ) → List Use → Option Fault
+restore_rule behavior trailing us =
+    fault_if (is_given opt.Restore us && not (is_restore_alone behavior trailing us)) RestoreAlone
+
+-- the rules that are checked after the one on a missing subcommand, given the exclusive groups, who
+-- handles workspaces, and the arguments after --: on ranges, the log group, pieces, lifted groups,
+-- the strength of a sample, and --restore
+abbrev pub rules_after : Option ℕ → List (List (List ℕ)) → WorkspaceBehavior → List (List ℕ) → List Use → List (Option Fault)
+rules_after rustup exclusive behavior trailing us =
     first_of (range_rules rustup us)
     ∷ from_value opt.LogGroup (λ text. fault_if (is_none (log_group_of text)) (LogGroup text)) us
     ∷ first_of (from_value opt.Partition (λ t. fault_if (is_none (piece_of t)) (Partition t)) us
@@ -52,4 +70,5 @@ rules_after rustup exclusive us =
     ∷ lift_rule exclusive (values_given opt.AllowTogether us)
     ∷ needs opt.Strength beside.Powerset us
     ∷ from_value opt.Strength (unless_counted opt.Strength 64) us
+    ∷ restore_rule behavior trailing us
     ∷ []

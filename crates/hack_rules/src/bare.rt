@@ -29,7 +29,7 @@ pub fn lists_commands(passed: &[String], uses: &[Use]) -> Result<bool, CliFault>
     if has(passed, "--list") {
         return Ok(true);
     }
-    if given(Opt::RemoveDevDeps, uses) {
+    if given(Opt::RemoveDevDeps, uses) || given(Opt::Restore, uses) {
         return Ok(false);
     }
     Err(CliFault::NoSubcommand)

@@ -94,6 +94,9 @@ pub enum CliFault {
     LiftForm { found: String },
     #[error("--allow-together names no group of --mutually-exclusive-features: `{found}`")]
     LiftGroup { found: String },
+    /// `--restore` has another argument beside it than `--verbose` and `--color`.
+    #[error("--restore may not be used together with other arguments")]
+    RestoreAlone,
     #[error("out of memory")]
     Memory,
 }

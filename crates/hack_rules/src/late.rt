@@ -1,11 +1,12 @@
 //! The rules that are checked after the one on a missing subcommand: on ranges of versions, log
-//! groups, pieces of a plan, lifted groups and the strength of a sample.
+//! groups, pieces of a plan, lifted groups, the strength of a sample and `--restore`.
 
 ghost use Rattle.std.specs.Prelude.{◌≡◌, ◌&&◌, [], ◌∷◌, false, IfOk, IfSome};
 ghost use Rattle.std.specs.Prelude.{option_map, option_and_then, nat_lt};
-ghost use Rattle.std.specs.List.{list_any};
+ghost use Rattle.std.specs.List.{list_all, list_any};
 ghost use Rattle.std.specs.Option.{is_none, option_map_or, unwrap_or};
 ghost use Rattle.std.specs.Result.{result_err, result_ok};
+ghost use Rattle.hack_base.specs.Names.{names_of};
 ghost use Rattle.hack_base.specs.Numbers.{number_of};
 ghost use Rattle.hack_term.specs.Groups.{log_group_of};
 ghost use Rattle.hack_plan.specs.Partitions.{piece_of, kind_of};
@@ -21,10 +22,11 @@ ghost use Rattle.hack_rules.specs.CliFaults.{Partition as WrongPiece, PartitionK
 ghost use Rattle.hack_rules.specs.LateView.{IsLate};
 ghost use Rattle.hack_rules.specs.Rules.{fault_if, first_of, has_beside, needs as needs_rule};
 ghost use Rattle.hack_rules.specs.LateRules.{unless_counted, range_rules, rules_after};
+ghost use Rattle.hack_rules.specs.LateRules.{is_beside_restore as beside_restore, restore_rule};
 
 use crate::checks::{clash, needs};
 use crate::fault::{Beside, CliFault};
-use crate::uses::{OwnedFlag, Use, given, value};
+use crate::uses::{OwnedFlag, Use, WorkspaceBehavior, given, value};
 use crate::{named, values};
 use hack_features::Feature;
 use hack_options::Opt;
@@ -213,6 +215,43 @@ fn strength(alloc: Global, uses: &[Use]) -> Result<Option<usize>, CliFault>
     }
 }
 
+/// Whether this is a use of `--restore`, or of an option that may stand beside it.
+fn is_beside_restore(one: &Use) -> bool
+    ensures { result ≡ beside_restore (view one.now) }
+{
+    one.is_of(Opt::Restore) || one.is_of(Opt::Verbose) || one.is_of(Opt::Color)
+}
+
+/// Whether all uses are of these options.
+fn are_beside_restore(uses: &[Use]) -> bool
+    ensures { result ≡ list_all beside_restore (views uses.now) }
+{
+    for one in uses {
+        if !is_beside_restore(one) {
+            return false;
+        }
+    }
+    true
+}
+
+/// Refuses other arguments beside `--restore`.
+fn restore_alone(
+    behavior: WorkspaceBehavior,
+    trailing: &[String],
+    uses: &[Use],
+) -> Result<(), CliFault>
+    ensures { Checks result
+        (restore_rule behavior (names_of trailing.now) (views uses.now)) }
+{
+    let is_alone = behavior == WorkspaceBehavior::Default
+        && are_beside_restore(uses)
+        && trailing.is_empty();
+    if given(Opt::Restore, uses) && !is_alone {
+        return Err(CliFault::RestoreAlone);
+    }
+    Ok(())
+}
+
 /// What these rules read while they check.
 #[derive(Drop)]
 pub struct Late {
@@ -225,16 +264,19 @@ pub struct Late {
 }
 
 /// Checks the rules after the one on a missing subcommand, and returns what they read. `rustup` is
-/// its minor version, where known, and `exclusive` has the groups of exclusive features.
+/// its minor version, where known, `exclusive` has the groups of exclusive features, and `trailing`
+/// the arguments after `--`.
 pub fn check(
     alloc: Global,
     rustup: Option<u32>,
     github_actions: bool,
     exclusive: &[Feature],
+    behavior: WorkspaceBehavior,
+    trailing: &[String],
     uses: &[Use],
 ) -> Result<Late, CliFault>
-    ensures rules { Checks result (first_of
-        (rules_after rustup (groups_of exclusive.now) (views uses.now))) }
+    ensures rules { Checks result (first_of (rules_after rustup (groups_of exclusive.now)
+        behavior (names_of trailing.now) (views uses.now))) }
     ensures late { IfOk result (IsLate github_actions (views uses.now)) }
 {
     let versions = check_versions(alloc, rustup, uses)?;
@@ -253,6 +295,7 @@ pub fn check(
     let there = given(Opt::FeaturePowerset, uses);
     needs(given(option, uses), option, Beside::Powerset, there)?;
     let strength = strength(alloc, uses)?;
+    restore_alone(behavior, trailing, uses)?;
     Ok(Late {
         versions,
         log_group,

@@ -53,7 +53,8 @@ AreWords system words = option_map (drop 1) system.arguments ≡ Some (names_of 
 -- the variables that a call reads
 abbrev pub variables_read : List Name
 variables_read = codes "CARGO_TERM_COLOR" ∷ codes "GITHUB_ACTIONS" ∷ codes "CARGO_HACK_DENY_WARNINGS"
-    ∷ codes "CARGO_HACK_CARGO_SRC" ∷ codes "CARGO" ∷ codes "CARGO_HACK_RUSTUP" ∷ []
+    ∷ codes "CARGO_HACK_CARGO_SRC" ∷ codes "CARGO" ∷ codes "CARGO_HACK_RUSTUP"
+    ∷ codes "CARGO_HACK_GUARD" ∷ []
 
 -- one of them is not UTF-8
 abbrev pub has_unreadable : SystemView → Bool
@@ -63,7 +64,8 @@ has_unreadable system = list_any (λ name. is_not_text (system.variable name)) v
 abbrev pub HasEnv : SystemView → Env → Type 0
 HasEnv system env =
     (has_unreadable system ≡ false)
-    × IsEnvBy (λ name. variable_text (system.variable name)) (unwrap_or system.folder []) env
+    × IsEnvBy (λ name. variable_text (system.variable name)) (unwrap_or system.folder [])
+    (is_some (variable_text (system.variable (codes "CARGO_HACK_GUARD")))) env
 
 -- the arguments; else memory was refused, or one of them is not UTF-8
 abbrev pub GivesWords : Type 0 → SystemView → Result (Vec (String Global) Global) StartFault → Type 0

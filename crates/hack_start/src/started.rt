@@ -113,6 +113,7 @@ pub fn env_of<S: System>(alloc: Global, system: &S) -> Result<Env, StartFault>
     let source = text_of(system, "CARGO_HACK_CARGO_SRC")?;
     let cargo = text_of(system, "CARGO")?;
     let rustup = text_of(system, "CARGO_HACK_RUSTUP")?;
+    let by_guard = text_of(system, "CARGO_HACK_GUARD")?.is_some();
     Ok(Env {
         term_color,
         github_actions,
@@ -120,6 +121,7 @@ pub fn env_of<S: System>(alloc: Global, system: &S) -> Result<Env, StartFault>
         cargo: text_or(alloc, source.or(cargo), "cargo")?,
         rustup: text_or(alloc, rustup, "rustup")?,
         current_dir: text_or(alloc, system.current_dir()?, "")?,
+        by_guard,
     })
 }
 

@@ -38,6 +38,7 @@ fn env_of(alloc: Global, color: Option<&str>, github_actions: bool) -> Result<En
         cargo: String::from_str(alloc, "cargo")?,
         rustup: String::from_str(alloc, "rustup")?,
         current_dir: String::new(alloc),
+        by_guard: false,
     })
 }
 
@@ -124,7 +125,7 @@ fn env_text(alloc: Global, vars: &[String]) -> Result<String, AllocError> {
         .as_ref()
         .map_or("none", |color| color.as_str());
     format!(in alloc;
-        "{color}; {}; {}; {}; {}; {}",
-        env.github_actions, env.deny_warnings, env.cargo, env.rustup, env.current_dir
+        "{color}; {}; {}; {}; {}; {}; {}",
+        env.github_actions, env.deny_warnings, env.cargo, env.rustup, env.current_dir, env.by_guard
     )
 }

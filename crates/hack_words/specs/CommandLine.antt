@@ -44,7 +44,8 @@ outcome_of around behavior trailing us =
     ∷ first_of (together_rules behavior us) ∷ []))
     (if lists_commands behavior us then Listing us
     else option_map_or Faulty (first_of (missing_subcommand us ∷ rules_after around.rustup
-    (groups_given opt.MutuallyExclusiveFeatures us) us)) (Parsed behavior trailing us))
+    (groups_given opt.MutuallyExclusiveFeatures us) behavior trailing us))
+    (Parsed behavior trailing us))
 
 -- the outcome, given how parsing ended
 abbrev pub IsEnd : Around → WorkspaceBehavior → List (List ℕ) → List Use → Reading → CommandLineOutcome → Type 0

@@ -278,6 +278,7 @@ pub fn env_of(alloc: Global, world: &str) -> Result<Env, AllocError> {
         cargo,
         rustup,
         current_dir,
+        by_guard: false,
     })
 }
 

@@ -53,6 +53,8 @@ pub struct Args {
     pub feature_powerset: bool,
     pub no_dev_deps: bool,
     pub remove_dev_deps: bool,
+    /// What an interrupted call left edited is brought back, and nothing else is done.
+    pub restore: bool,
     pub no_private: bool,
     /// Private packages are skipped; `--no-private` implies it.
     pub ignore_private: bool,
@@ -249,6 +251,7 @@ impl Args {
             feature_powerset: given(Opt::FeaturePowerset, uses),
             no_dev_deps: given(Opt::NoDevDeps, uses),
             remove_dev_deps: given(Opt::RemoveDevDeps, uses),
+            restore: given(Opt::Restore, uses),
             no_private: given(Opt::NoPrivate, uses),
             ignore_private: ignores_private(uses),
             ignore_unknown_features: given(Opt::IgnoreUnknownFeatures, uses),

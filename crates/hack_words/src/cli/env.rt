@@ -24,6 +24,8 @@ pub struct Env {
     pub rustup: String,
     /// The current folder; empty where it isn't known.
     pub current_dir: String,
+    /// Whether `CARGO_HACK_GUARD` is set: the call was started by the guard of another call.
+    pub by_guard: bool,
 }
 
 /// The value of the first variable of this name.
@@ -56,7 +58,8 @@ fn value_or(alloc: Global, value: Option<&String>, other: &str) -> Result<String
 }
 
 impl Env {
-    /// Reads the variables, each a name and its value, and the current folder.
+    /// Reads the variables, each a name and its value, and the current folder, for a call that no
+    /// guard started.
     pub fn new(
         alloc: Global,
         vars: &[(String, String)],
@@ -72,6 +75,7 @@ impl Env {
             cargo: value_or(alloc, cargo, "cargo")?,
             rustup: value_or(alloc, variable(vars, "CARGO_HACK_RUSTUP"), "rustup")?,
             current_dir,
+            by_guard: false,
         })
     }
 }

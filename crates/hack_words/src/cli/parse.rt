@@ -86,7 +86,7 @@ fn keep_rules(
     let Call {
         behavior,
         passed,
-        ..
+        trailing,
     } = call;
     let term_color = env.term_color.as_ref();
     let early = early::check(alloc, *behavior, term_color, passed, uses)?;
@@ -99,6 +99,8 @@ fn keep_rules(
         known_minor(rustup),
         env.github_actions,
         exclusive,
+        *behavior,
+        trailing,
         uses,
     )?;
     Ok(Checked {
