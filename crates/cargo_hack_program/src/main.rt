@@ -1,10 +1,12 @@
 //! The command `cargo hack`: it gives what the system tells, and this process's files, locks,
-//! programs and streams, to `hack_recovery::call`.
+//! guards, programs and streams, to `hack_recovery::call`.
 #![tactic(auto)]
 
 use hack_files::fs::Disk;
 use hack_process::process::Child;
 use hack_recovery::call::{Outside, call};
+use hack_recovery::guards::ShellGuards;
+use hack_recovery::keepers::Keepers;
 use hack_recovery::locks::FolderLocks;
 use hack_start::system::HostSystem;
 use hack_term::term::{Coloring, Term};
@@ -31,13 +33,13 @@ fn call_here(rt: &HostRuntime) -> u8 {
         is_terminal,
     };
     let system = HostSystem::new(rt);
-    let mut locks = FolderLocks::new(rt);
+    let mut keepers = Keepers::new(FolderLocks::new(rt), ShellGuards::new(rt));
     let (status, _, _) = call(
         rt.alloc(),
         &system,
         Disk::new(rt),
         Disk::new(rt),
-        &mut locks,
+        &mut keepers,
         &mut outside,
     );
     status

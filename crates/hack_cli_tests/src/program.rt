@@ -7,6 +7,8 @@ use hack_files::fs::MemoryFiles;
 use hack_holds::{Ask, Wrong, hold};
 use hack_process::process::{End, FakeCaller};
 use hack_recovery::call::{Outside, call};
+use hack_recovery::guards::FakeGuards;
+use hack_recovery::keepers::Keepers;
 use hack_recovery::locks::{FakeLocks, Holder};
 use hack_start::started::Started;
 use hack_start::system::{FakeSystem, Variable};
@@ -100,7 +102,8 @@ impl Ask for Calls {
         let (system, is_terminal) = system_of(alloc, question)?;
         let mut term = Term::new(Coloring::Auto, false);
         let mut caller = FakeCaller::new(alloc, End::Status(1));
-        let mut locks = FakeLocks::new(alloc, Holder::Ours);
+        let locks = FakeLocks::new(alloc, Holder::Ours);
+        let mut keepers = Keepers::new(locks, FakeGuards::new(alloc, true));
         let (mut out, mut err) = (Vec::new(alloc), Vec::new(alloc));
         let mut outside = Outside {
             term: &mut term,
@@ -114,11 +117,11 @@ impl Ask for Calls {
             &system,
             MemoryFiles::new(alloc),
             MemoryFiles::new(alloc),
-            &mut locks,
+            &mut keepers,
             &mut outside,
         );
         let calls = caller.made().len();
-        let locked = locks.taken().len();
+        let locked = keepers.locks.taken().len();
         let (out, err) = (text_in(&out), text_in(&err));
         format!(in alloc; "{out}{err}{calls} calls, {locked} locks, status {status}")
     }

@@ -1,6 +1,6 @@
 -- Looks at files, one after another.
 use Rattle.std.proofs.Common.{◌≡◌, ◌+◌, ◌∙◌, [], ℕ, Bool, true, false, IsTrue, arith, refl, subst}
-use Rattle.std.specs.Prelude.{◌↔◌, IsSome, Option, Some, None, List}
+use Rattle.std.specs.Prelude.{◌↔◌, IsSome, Option, Some, None, List, is_some}
 use Rattle.std.proofs.Math.Path.{fun_ext}
 use Rattle.hack_files.specs.Files.{Contents, KeepsAll}
 use Rattle.hack_base.specs.Counters.{GrowsBy}
@@ -47,16 +47,27 @@ unchanged_then T W a b c f g = record {
   untraced = λ w. makes_append [] [] _ _ _ _ _ _ (f.untraced w) (g.untraced w);
 }
 
--- where nothing is there, it is none
-pub none_there : (o : Option (List ℕ)) (there : Bool) → there ≡ false → (IsTrue there ↔ IsSome o) → o ≡ None
-none_there None there off h = refl
-none_there (Some x) there off h = let on : there ≡ true = h.1 refl in cc
+-- a test of whether something is there
+pub is_some_of : (o : Option (List ℕ)) (there : Bool) → (IsTrue there ↔ IsSome o) → there ≡ is_some o
+is_some_of None true h = absurd (h.0 refl)
+is_some_of None false h = refl
+is_some_of (Some x) there h = h.1 refl
 
--- a look after others: what is seen there is what was there at first
-pub seen_first : (T P : Type 0) (there : Bool) (path : List ℕ) (first mid : Contents) (x y z : ℕ) → Finds T x y P → (T → KeepsAll first mid)
-    → Finds T y z (IsTrue there ↔ IsSome (mid path)) → Finds T x z (IsTrue there ↔ IsSome (first path))
-seen_first T P there path first mid x y z f same g =
-    finds_both T P (IsTrue there ↔ IsSome (mid path)) (IsTrue there ↔ IsSome (first path)) x y z f g (λ t p q. subst (λ (o : Option (List ℕ)). IsTrue there ↔ IsSome o) (same t path) q)
+-- where nothing is there, it is none
+pub none_there : (o : Option (List ℕ)) (there : Bool) → there ≡ false → there ≡ is_some o → o ≡ None
+none_there None there off h = refl
+none_there (Some x) there off h = cc
+
+-- where something is there
+pub some_there : (o : Option (List ℕ)) (there : Bool) → IsTrue there → there ≡ is_some o → IsSome o
+some_there None there on h = cc
+some_there (Some x) there on h = tt
+
+-- a look after others: what is seen then is what was there at first
+pub seen_first : (T P : Type 0) (Q : Contents → Type 0) (first mid : Contents) (x y z : ℕ) → Finds T x y P → (T → KeepsAll first mid)
+    → Finds T y z (Q mid) → Finds T x z (Q first)
+seen_first T P Q first mid x y z f same g =
+    finds_both T P (Q mid) (Q first) x y z f g (λ t p q. subst Q (all_same first mid (same t)) q)
 
 -- a later look doesn't change what was found
 pub found_first : (T P Q : Type 0) (x y z : ℕ) → Finds T x y P → Finds T y z Q → Finds T x z P

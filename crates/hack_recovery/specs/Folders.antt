@@ -92,7 +92,3 @@ workspace_from held start = unwrap_or (first_some (said_in held) (folders start)
 abbrev pub start_at : Option Name → Name → Name
 start_at None dir = dir
 start_at (Some path) dir = parent_of (normal_of (join_of dir path))
-
--- the path of the journal in the workspace's folder
-abbrev pub journal_of : Name → Name
-journal_of folder = join_of folder (codes ".cargo-hack-journal")

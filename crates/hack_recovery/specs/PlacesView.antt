@@ -5,9 +5,9 @@ use Rattle.hack_recovery.specs.declared.places.Places.{Places}
 
 abbrev pub places_view : Places → PlacesAt
 places_view places = record {
-  folder = string_bytes places.folder;
-  journal = string_bytes places.journal;
-  older = string_bytes places.older;
+  folder = string_bytes places.place.folder;
+  journal = string_bytes places.place.journal;
+  older = string_bytes places.older.journal;
   lockfile = string_bytes places.lockfile;
   copy = string_bytes places.copy;
 }

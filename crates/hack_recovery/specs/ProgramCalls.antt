@@ -13,17 +13,20 @@ use Rattle.hack_start.specs.declared.started.Started.{Started}
 use Rattle.hack_term.specs.Lines.{IsExitStatus, error_line}
 use Rattle.hack_term.specs.declared.term.Coloring.{Coloring}
 use Rattle.hack_term.specs.declared.term.Term.{Term}
-use Rattle.hack_recovery.specs.CallCourses.{IsCallCourse, Scene}
+use Rattle.hack_recovery.specs.CallCourses.{IsCallCourse}
+use Rattle.hack_recovery.specs.GuardEvents.{GuardsView}
 use Rattle.hack_recovery.specs.LockEvents.{LocksView}
+use Rattle.hack_recovery.specs.Scenes.{Scene}
 use Rattle.hack_recovery.specs.declared.call.Outside.{Outside}
 
 -- what a call sees and changes
 abbrev pub scene_outside : {F L C O E : Type 0} → Filing F → Filing L → Calling C → Writing O → F → L
-    → LocksView → Outside C O E → Scene
-scene_outside f l c o files lockfiles locks outside = record {
+    → LocksView → GuardsView → Outside C O E → Scene
+scene_outside f l c o files lockfiles locks guards outside = record {
   files = files_view f files;
   lockfiles = l.bytes_at lockfiles;
   locks = locks;
+  guards = guards;
   host = record {
     calls = c.calls outside.caller.now;
     out = o.contents outside.out.now;
@@ -50,16 +53,16 @@ colored coloring term = record term { coloring = coloring }
 -- Arguments and environment were read, and the call was performed with them. Or an error says why
 -- they could not be read, a front of its line was written after what was written to `err` before,
 -- and nothing else was done.
-pub data IsProgramCall (informs tells whole locked talks records : Type 0) (system : SystemView)
+pub data IsProgramCall (informs tells whole locked talks records watched : Type 0) (system : SystemView)
     (is_terminal : Bool) (err_before err_after : Option (List ℕ)) (old new : Scene) (status : ℕ) : Type 0 where
   performed : (started : Started) (coloring : Coloring) → GivesStart informs system (Ok started)
       → (informs → SetsColoring (auto_coloring_of is_terminal system) old.host.term.coloring coloring (Ok started))
       → IsExitStatus started.env.deny_warnings new.host.term status
-      → IsCallCourse tells whole locked talks records (names_of started.words.items) started.env
+      → IsCallCourse tells whole locked talks records watched (names_of started.words.items) started.env
       (scene_on (colored coloring old.host.term) old) new
-      → IsProgramCall informs tells whole locked talks records system is_terminal err_before err_after old new status
+      → IsProgramCall informs tells whole locked talks records watched system is_terminal err_before err_after old new status
   unread : (fault : StartFault) (coloring : Coloring) → GivesStart informs system (Err fault)
       → (informs → SetsColoring (auto_coloring_of is_terminal system) old.host.term.coloring coloring (Err fault))
       → AppendsFront err_before err_after (error_line coloring (start_fault_text fault))
       → new ≡ scene_on (record (colored coloring old.host.term) { error = true }) old → status ≡ 1
-      → IsProgramCall informs tells whole locked talks records system is_terminal err_before err_after old new status
+      → IsProgramCall informs tells whole locked talks records watched system is_terminal err_before err_after old new status

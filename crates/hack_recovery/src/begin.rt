@@ -10,10 +10,11 @@ ghost use Rattle.hack_run.specs.Readings.{IsEarlyReading};
 ghost use Rattle.hack_run.specs.Worlds.{files_view};
 
 use crate::asked::{Asked, Edits};
-use crate::places::Places;
+use crate::places::{Places, place_at};
 use crate::workspace::workspace;
 use hack_base::copies::text_in;
 use hack_files::fs::Files;
+use hack_journal::place::Place;
 use hack_run::reading::Reading;
 use hack_words::cli::Env;
 use std::alloc::{AllocError, Global};
@@ -24,6 +25,8 @@ pub(crate) struct Begun {
     pub edits: Edits,
     pub verbose: bool,
     pub places: Places,
+    /// The place of the journal once more, for the call itself.
+    pub place: Place,
     /// Whether an interrupted call left anything there.
     pub is_left: bool,
     /// What the command line is read into, unless an argument needs rustup's version.
@@ -54,12 +57,15 @@ pub(crate) fn begin<F: Files>(
     } = Asked::of(alloc, words, env)?;
     let named = text_in(&manifest_path);
     let folder = workspace(alloc, named, env.current_dir.as_str(), files)?;
-    let places = Places::of(alloc, folder, files)?;
+    let places = Places::of(alloc, folder.as_str(), files)?;
     let is_left = places.is_left(files)?;
+    let journal = String::from_str(alloc, places.place.journal.as_str())?;
+    let place = place_at(alloc, folder.as_str(), journal)?;
     Ok(Begun {
         edits,
         verbose,
         places,
+        place,
         is_left,
         reading,
     })

@@ -2,6 +2,8 @@
 
 ghost use Rattle.hack_recovery.specs.ProgramCalls.{IsProgramCall, IsSameOutside, scene_outside};
 
+use crate::guards::Guards;
+use crate::keepers::Keepers;
 use crate::locks::Locks;
 use crate::perform::perform;
 use hack_files::fs::Files;
@@ -31,22 +33,22 @@ pub struct Outside<'a, C: Caller, O: Write, E: Write> {
 /// Performs the call whose arguments and environment the system tells, as `perform` does, and
 /// returns its exit status, the files and the lockfiles. Where these can't be read, that is
 /// reported, and nothing else is done.
-pub fn call<S: System, F: Files, L: Files, K: Locks, C: Caller, O: Write, E: Write>(
+pub fn call<S: System, F: Files, L: Files, K: Locks, G: Guards, C: Caller, O: Write, E: Write>(
     alloc: Global,
     system: &S,
     files: F,
     lockfiles: L,
-    locks: &mut K,
+    keepers: &mut Keepers<K, G>,
     outside: &mut Outside<'_, C, O, E>,
 ) -> (u8, F, L)
     ensures outside { IsSameOutside outside.old outside.new }
-    ensures goes { IsProgramCall S.tells F.tells F.whole L.tells C.tells K.tells
+    ensures goes { IsProgramCall S.tells F.tells F.whole L.tells C.tells K.tells G.tells
         (S.shown system.now) outside.old.is_terminal
         (E.contents outside.old.err.now) (E.contents outside.new.err.now)
         (scene_outside F.Files L.Files C.Caller O.Write files lockfiles
-        (K.shown locks.old) outside.old)
+        (K.shown keepers.old.locks) (G.shown keepers.old.guards) outside.old)
         (scene_outside F.Files L.Files C.Caller O.Write result.1 result.2
-        (K.shown locks.new) outside.new) result.0 }
+        (K.shown keepers.new.locks) (G.shown keepers.new.guards) outside.new) result.0 }
 {
     let is_terminal = outside.is_terminal;
     let came = Started::of(alloc, system, is_terminal, &mut outside.term.coloring);
@@ -65,5 +67,5 @@ pub fn call<S: System, F: Files, L: Files, K: Locks, C: Caller, O: Write, E: Wri
         outside.out,
         outside.err,
     );
-    perform(&words, files, lockfiles, locks, &mut host)
+    perform(&words, files, lockfiles, keepers, &mut host)
 }

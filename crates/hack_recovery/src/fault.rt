@@ -10,6 +10,8 @@ pub enum CallFault {
     Busy,
     /// An interrupted call left a journal, and the folder of the workspace can't be locked.
     Unlocked,
+    /// The lockfile can't be read, or not be copied to where the journal lies.
+    NoCopy,
 }
 
 impl CallFault {
@@ -21,6 +23,7 @@ impl CallFault {
             CallFault::Unlocked => {
                 "there is a journal of edited manifests, and the folder of the workspace can't be locked"
             }
+            CallFault::NoCopy => "the lockfile can't be copied to where the journal lies",
         }
     }
 }

@@ -1,5 +1,6 @@
 //! A whole call that restores first what an interrupted one left, and keeps a journal while it
-//! edits: which calls are journaled, where the journal lies, who may use it, and what it may tell.
+//! edits, under the eyes of a guard: which calls are journaled, where the journal lies, who may use
+//! it, and what it may tell.
 #![tactic(auto)]
 
 pub mod admit;
@@ -7,9 +8,15 @@ pub mod asked;
 mod begin;
 pub mod call;
 pub mod fault;
+pub mod guards;
 pub mod journal;
+pub mod keepers;
+mod lockfile;
 pub mod locks;
 mod look;
 pub mod perform;
+pub mod places;
+pub mod repository;
 mod restore;
+mod strangers;
 pub mod workspace;

@@ -29,7 +29,6 @@ use crate::look::is_there;
 use crate::places::Places;
 use crate::restore::restore;
 use hack_files::fs::Files;
-use hack_journal::place::Place;
 use hack_process::process::Caller;
 use hack_run::host::Host;
 use hack_run::journaled::run_journaled;
@@ -56,10 +55,10 @@ pub fn perform<F: Files, L: Files, K: Locks, G: Guards, C: Caller, O: Write, E: 
     ensures status { IsExitStatus host.old.env.now.deny_warnings host.new.term.now result.0 }
     ensures goes { IsCallCourse F.tells F.whole L.tells C.tells K.tells G.tells
         (names_of words.now) host.old.env.now
-        (scene_of F.Files L.Files K.Locks G.Guards C.Caller O.Write
-        files lockfiles keepers.old host.old)
-        (scene_of F.Files L.Files K.Locks G.Guards C.Caller O.Write
-        result.1 result.2 keepers.new host.new) }
+        (scene_of F.Files L.Files C.Caller O.Write files lockfiles
+        (K.shown keepers.old.locks) (G.shown keepers.old.guards) host.old)
+        (scene_of F.Files L.Files C.Caller O.Write result.1 result.2
+        (K.shown keepers.new.locks) (G.shown keepers.new.guards) host.new) }
 {
     let mut files = files;
     let begun = match begin(host.alloc, words, host.env, &mut files) {
@@ -75,7 +74,7 @@ pub fn perform<F: Files, L: Files, K: Locks, G: Guards, C: Caller, O: Write, E: 
     match admit(
         host.alloc,
         begun.edits,
-        begun.places.folder.as_str(),
+        begun.places.place.folder.as_str(),
         begun.is_left,
         &mut keepers.locks,
     ) {
@@ -158,12 +157,10 @@ fn take_back<F: Files, L: Files, C: Caller, O: Write, E: Write>(
 ) -> Result<bool, CallFault>
 {
     let dir = host.env.current_dir.as_str();
-    let place = places.place(host.alloc)?;
-    if !restore(host.alloc, dir, &place, files, host.term, host.err)? {
+    if !restore(host.alloc, dir, &places.place, files, host.term, host.err)? {
         return Ok(false);
     }
-    let older = places.older_place(host.alloc)?;
-    if !restore(host.alloc, dir, &older, files, host.term, host.err)? {
+    if !restore(host.alloc, dir, &places.older, files, host.term, host.err)? {
         return Ok(false);
     }
     settle(places, files, lockfiles, host)
@@ -227,7 +224,7 @@ fn watched<F: Files, L: Files, G: Guards, C: Caller, O: Write, E: Write>(
     host: &mut Host<'_, C, O, E>,
 ) -> (u8, F, L)
 {
-    match guards.start(host.alloc, begun.places.folder.as_str()) {
+    match guards.start(host.alloc, begun.places.place.folder.as_str()) {
         Ok(watches) => {
             if !watches && begun.verbose {
                 tell_unwatched(host.term, host.err);
@@ -241,7 +238,7 @@ fn watched<F: Files, L: Files, G: Guards, C: Caller, O: Write, E: Write>(
             );
         }
     }
-    let ended = over_journal(words, begun.reading, files, lockfiles, &begun.places, host);
+    let ended = over_journal(words, begun, files, lockfiles, host);
     guards.leave();
     ended
 }
@@ -256,27 +253,22 @@ fn tell_unwatched<E: Write>(term: &Term, err: &mut E) {
 #[tactic(auto, using(hack_run::proofs::ReadingLemmas::some_or_refusal))]
 fn over_journal<F: Files, L: Files, C: Caller, O: Write, E: Write>(
     words: &[String],
-    reading: Option<Reading>,
+    begun: Begun,
     files: F,
     lockfiles: L,
-    places: &Places,
     host: &mut Host<'_, C, O, E>,
 ) -> (u8, F, L)
 {
     let env = host.env;
-    let place = match places.place(host.alloc) {
-        Ok(place) => place,
-        Err(fault) => {
-            return (
-                report(CallFault::from(fault), host.term, host.err),
-                files,
-                lockfiles,
-            );
-        }
-    };
+    let Begun {
+        places,
+        place,
+        reading,
+        ..
+    } = begun;
     let (_, files, lockfiles, _) = run_journaled(words, reading, files, lockfiles, place, host);
     let mut files = files;
-    match close(host.alloc, places, &mut files, host.term, host.err) {
+    match close(host.alloc, &places, &mut files, host.term, host.err) {
         Ok(()) => (host.term.status(env.deny_warnings), files, lockfiles),
         Err(fault) => (
             report(CallFault::from(fault), host.term, host.err),
@@ -296,7 +288,7 @@ fn close<F: Files, E: Write>(
     err: &mut E,
 ) -> Result<(), AllocError>
 {
-    let journal = places.journal.as_str();
+    let journal = places.place.journal.as_str();
     if is_there(journal, files)? {
         let text = format!(in alloc; "`{journal}` stays: the next call brings back what it tells")?;
         let _ = term.warn(&text, err);

@@ -10,17 +10,16 @@ use crate::journal::{journal_beside, journal_of, lockfile_copy};
 use crate::look::is_there;
 use hack_base::paths::join;
 use hack_files::fs::Files;
+use hack_journal::place::Place;
 use std::alloc::{AllocError, Global};
 
 /// Where a call's workspace is, its journal, and what else is kept while manifests are edited.
 #[derive(Drop)]
 pub struct Places {
-    /// The folder of the workspace.
-    pub folder: String,
-    /// The path of the journal.
-    pub journal: String,
-    /// The path at which an older version had it.
-    pub older: String,
+    /// The folder of the workspace, and its journal.
+    pub place: Place,
+    /// The same folder, and where an older version had the journal.
+    pub older: Place,
     pub lockfile: String,
     /// The path of the lockfile's copy.
     pub copy: String,
@@ -30,24 +29,23 @@ impl Places {
     /// The places of a workspace's folder.
     pub fn of<F: Files>(
         alloc: Global,
-        folder: String,
+        folder: &str,
         files: &mut F,
     ) -> Result<Places, AllocError>
         ensures found { IfOk result (λ places. ArePlacesOf F.tells
             (F.failed files.old) (F.failed files.new) (F.bytes_at files.old)
-            (string_bytes folder) (places_view places)) }
+            folder.now (places_view places)) }
         ensures same { F.tells → KeepsAll (F.bytes_at files.old) (F.bytes_at files.new) }
         ensures untraced { F.whole → Makes [] (F.trace files.old) (F.trace files.new)
             (F.bytes_at files.old) (F.bytes_at files.new) }
     {
-        let journal = journal_of(alloc, folder.as_str(), files)?;
-        let older = journal_beside(alloc, folder.as_str())?;
-        let lockfile = join(alloc, folder.as_str(), "Cargo.lock")?;
+        let journal = journal_of(alloc, folder, files)?;
+        let older = journal_beside(alloc, folder)?;
+        let lockfile = join(alloc, folder, "Cargo.lock")?;
         let copy = lockfile_copy(alloc, journal.as_str())?;
         Ok(Places {
-            folder,
-            journal,
-            older,
+            place: place_at(alloc, folder, journal)?,
+            older: place_at(alloc, folder, older)?,
             lockfile,
             copy,
         })
@@ -62,9 +60,20 @@ impl Places {
         ensures untraced { F.whole → Makes [] (F.trace files.old) (F.trace files.new)
             (F.bytes_at files.old) (F.bytes_at files.new) }
     {
-        let journal = is_there(self.journal.as_str(), files)?;
-        let older = is_there(self.older.as_str(), files)?;
+        let journal = is_there(self.place.journal.as_str(), files)?;
+        let older = is_there(self.older.journal.as_str(), files)?;
         let copy = is_there(self.copy.as_str(), files)?;
         Ok(journal || older || copy)
     }
+}
+
+/// A journal at this path, and the folder that its paths are relative to.
+pub(crate) fn place_at(alloc: Global, folder: &str, journal: String) -> Result<Place, AllocError>
+    ensures { IfOk result (λ place. (string_bytes place.folder ≡ folder.now)
+        × (string_bytes place.journal ≡ string_bytes journal)) }
+{
+    Ok(Place {
+        folder: String::from_str(alloc, folder)?,
+        journal,
+    })
 }
