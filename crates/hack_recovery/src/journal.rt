@@ -11,7 +11,7 @@ ghost use Rattle.hack_recovery.specs.JournalPlaces.{journal_of, journal_within, 
 ghost use Rattle.hack_recovery.specs.JournalPlaces.{percent_for_slash, workspace_name};
 ghost use Rattle.hack_recovery.specs.RepositoryView.{repository_of};
 
-use crate::repository::{Repository, repository};
+use crate::repository::{Repository, nearest_repository};
 use crate::workspace::text_of;
 use hack_base::paths::{join, under};
 use hack_files::fs::Files;
@@ -29,7 +29,7 @@ pub fn journal_of<F: Files>(
     ensures untraced { F.whole → Makes [] (F.trace files.old) (F.trace files.new)
         (F.bytes_at files.old) (F.bytes_at files.new) }
 {
-    match repository(alloc, folder.len(), folder, files)? {
+    match nearest_repository(alloc, folder.len(), folder, files)? {
         Some(found) => journal_within(alloc, folder, &found),
         None => journal_beside(alloc, folder),
     }

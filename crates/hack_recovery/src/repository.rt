@@ -24,7 +24,7 @@ pub struct Repository {
 }
 
 /// The nearest repository among a folder and so many folders above it.
-pub fn repository<F: Files>(
+pub fn nearest_repository<F: Files>(
     alloc: Global,
     steps: usize,
     folder: &str,
@@ -42,7 +42,7 @@ pub fn repository<F: Files>(
     }
     match repository_in(alloc, folder, files)? {
         Some(found) => Ok(Some(found)),
-        None => repository(alloc, steps - 1, parent(folder), files),
+        None => nearest_repository(alloc, steps - 1, parent(folder), files),
     }
 }
 
