@@ -2,8 +2,8 @@
 use Rattle.std.specs.Prelude.{◌≡◌, [], ℕ, List, IsTrue, Result, string_bytes}
 use Rattle.hack_files.specs.Files.{CountsFailedCall, KeepsAll, KeepsOthers, Makes}
 use Rattle.hack_files.specs.declared.fs.Files.{Ghosts as Filing}
-use Rattle.hack_journal.specs.Journal.{edits_of}
 use Rattle.hack_journal.specs.LockfilesApart.{is_lockfile}
+use Rattle.hack_journal.specs.Rows.{Spot}
 use Rattle.hack_journal.specs.SafeFiles.{Stays}
 use Rattle.hack_journal.specs.declared.apart.Apart.{Apart}
 use Rattle.hack_journal.specs.declared.journaled.Journaled.{Journaled}
@@ -26,7 +26,11 @@ pub record GoesToOne {A B : Type 0} (path : List ℕ) (old new : Apart A B) : Ty
   pub files : IsTrue (is_lockfile path) → new.files ≡ old.files
   pub lockfiles : ¬ IsTrue (is_lockfile path) → new.lockfiles ≡ old.lockfiles
 
+-- where the journal of these files lies
+abbrev pub spot_in : {F : Type 0} → Journaled F → Spot
+spot_in files = record { folder = string_bytes files.folder; journal = files.notes.journal }
+
 -- whatever the paths held at first: files that are journaled stay safe and journaled
 abbrev pub StaysJournaled : {F : Type 0} → Filing F → Journaled F → Journaled F → Type 0
 StaysJournaled f old new = f.tells → f.whole
-    → Stays (string_bytes old.journal) (edits_of old.entries.items) (edits_of new.entries.items) (f.trace old.files) (f.trace new.files) (f.bytes_at old.files) (f.bytes_at new.files)
+    → Stays (spot_in old) old.notes.entries new.notes.entries (f.trace old.files) (f.trace new.files) (f.bytes_at old.files) (f.bytes_at new.files)

@@ -1,22 +1,20 @@
 -- What only private functions of the crate promise each other.
-use Rattle.std.specs.Prelude.{◌≢◌, [], ◌∷◌, ℕ, List, ◌≡◌, string_bytes, Option, Some, None}
+use Rattle.std.specs.Prelude.{◌≡◌, ◌≢◌, ◌⊎◌, ◌++◌, [], ◌∷◌, ℕ, false, List, Option, Some, None, IsSome, string_bytes}
 use Rattle.hack_base.specs.Counters.{GrowsBy}
 use Rattle.hack_files.specs.Files.{Change, Contents, Makes}
 use Rattle.hack_journal.specs.Journal.{Edit}
-use Rattle.hack_journal.specs.SafeFiles.{SomeEntryHasBytes, gives, changes_besides}
+use Rattle.hack_journal.specs.Rows.{Spot, AreFirst, IsFresh, IsTextOf, file_at, is_of_journal}
+use Rattle.hack_journal.specs.SafeFiles.{KeepFirst, SomeEntryHasBytes, StaysSafe, gives, changes_besides, IsJournaled, first_entry_of}
 use Rattle.hack_journal.specs.declared.recover.RecoverFault.{RecoverFault}
 use Rattle.hack_journal.specs.declared.recover.RecoverFault.TheVariants.{Memory, NotJournal, Changed, Files}
-use Rattle.hack_journal.specs.Recovery.{CountsRecoverFault, HasEntry, IsJournalRefusal, IsNoJournal, NamesPath}
+use Rattle.hack_journal.specs.Recovery.{AreChanged, CountsRecoverFault, HasEntry, IsJournalRefusal, IsNoJournal, IsReached, NamesPath}
 
 -- the text does not begin with a space
 abbrev pub BeginsWithoutSpace : List ℕ → Type 0
 BeginsWithoutSpace [] = Unit {0}
 BeginsWithoutSpace (b ∷ bs) = b ≢ 32
 
--- what entries keep is put back, the first one first
-abbrev pub backs : List Edit → List Change
-backs [] = []
-backs (e ∷ es) = gives e.path e.held ∷ backs es
+-- ---- errors
 
 -- a file at a path of which P holds can't be read or written, or memory was refused
 abbrev pub FailsAt : (List ℕ → Type 0) → RecoverFault → Type 0
@@ -24,6 +22,13 @@ FailsAt P Memory = Unit {0}
 FailsAt P (NotJournal j) = ⊥
 FailsAt P (Changed p j) = ⊥
 FailsAt P (Files f) = NamesPath P f
+
+-- memory was refused
+abbrev pub IsMemoryRefused : RecoverFault → Type 0
+IsMemoryRefused Memory = Unit {0}
+IsMemoryRefused (NotJournal j) = ⊥
+IsMemoryRefused (Changed p j) = ⊥
+IsMemoryRefused (Files f) = ⊥
 
 -- the error of a failed call of files at this path, or of refused memory: no refusal of the journal
 pub record FaultsAtPath (path : List ℕ) (fault : RecoverFault) : Type 0 where
@@ -38,12 +43,24 @@ NamesNoJournal journal (NotJournal j) = string_bytes j ≡ journal
 NamesNoJournal journal (Changed p j) = ⊥
 NamesNoJournal journal (Files f) = ⊥
 
+-- a file holds something, but no text of entries
+abbrev pub HoldsNoText : Spot → ℕ → Contents → Type 0
+HoldsNoText spot k old =
+    IsSome (old (file_at spot.journal k)) × ((es : List Edit) → ¬ IsTextOf spot.folder (old (file_at spot.journal k)) es)
+
+-- why the k-th file can't be read
+abbrev pub IsWhyTorn : Spot → ℕ → Type 0 → Contents → RecoverFault → Type 0
+IsWhyTorn spot k tells old Memory = Unit {0}
+IsWhyTorn spot k tells old (NotJournal j) = (string_bytes j ≡ spot.journal) × (tells → HoldsNoText spot k old)
+IsWhyTorn spot k tells old (Changed p j) = ⊥
+IsWhyTorn spot k tells old (Files f) = NamesPath (λ p. p ≡ file_at spot.journal k) f
+
 -- why the journal can't be read
-abbrev pub IsWhyUnread : List ℕ → Type 0 → Contents → RecoverFault → Type 0
-IsWhyUnread journal tells old Memory = Unit {0}
-IsWhyUnread journal tells old (NotJournal j) = (string_bytes j ≡ journal) × (tells → IsNoJournal journal old)
-IsWhyUnread journal tells old (Changed p j) = ⊥
-IsWhyUnread journal tells old (Files f) = NamesPath (λ p. p ≡ journal) f
+abbrev pub IsWhyUnread : Spot → Type 0 → Contents → RecoverFault → Type 0
+IsWhyUnread spot tells old Memory = Unit {0}
+IsWhyUnread spot tells old (NotJournal j) = (string_bytes j ≡ spot.journal) × (tells → IsNoJournal spot old)
+IsWhyUnread spot tells old (Changed p j) = ⊥
+IsWhyUnread spot tells old (Files f) = NamesPath (IsReached spot tells old) f
 
 -- why checking what the paths of these entries hold fails
 abbrev pub IsWhyNotTold : List ℕ → Type 0 → List Edit → List Edit → Contents → RecoverFault → Type 0
@@ -53,14 +70,69 @@ IsWhyNotTold journal tells all es old (Changed p j) =
     (string_bytes j ≡ journal) × HasEntry es (string_bytes p) × (tells → ¬ SomeEntryHasBytes all (string_bytes p) (old (string_bytes p)))
 IsWhyNotTold journal tells all es old (Files f) = NamesPath (HasEntry es) f
 
+-- ---- reading
+
+-- a file was read as these entries: it holds a text of them, and of no others
+pub record IsRead (folder : List ℕ) (held : Option (List ℕ)) (es : List Edit) : Type 0 where
+  pub text : IsTextOf folder held es
+  pub only : (fs : List Edit) → IsTextOf folder held fs → es ≡ fs
+
+-- the entries of a file were added to others
+pub record IsReadMore (folder : List ℕ) (held : Option (List ℕ)) (before now : List Edit) : Type 0 where
+  pub es : List Edit
+  pub read : IsRead folder held es
+  pub added : now ≡ before ++ es
+
+-- ---- putting back
+
+-- what entries keep is put back, the first one first
+abbrev pub backs : List Edit → List Change
+backs [] = []
+backs (e ∷ es) = gives e.path e.held ∷ backs es
+
+-- the path of the entry was added to others where it held something else
+abbrev pub AddsIfOther : Edit → Contents → List (List ℕ) → List (List ℕ) → Type 0
+AddsIfOther e old before now =
+    ((old e.path ≡ e.held) × (now ≡ before)) ⊎ ((old e.path ≢ e.held) × (now ≡ before ++ e.path ∷ []))
+
+-- the paths that these entries changed were added to others
+pub record AddsChanged (old new : Contents) (es : List Edit) (before now : List (List ℕ)) : Type 0 where
+  pub paths : List (List ℕ)
+  pub are : AreChanged old new es paths
+  pub added : now ≡ before ++ paths
+
+-- all is put back but the row, which has `count` files
+pub record IsBackBut (spot : Spot) (first : Contents) (count : ℕ) (now : Contents) : Type 0 where
+  pub entries : List Edit
+  pub files : AreFirst spot now count entries
+  pub ends : now (file_at spot.journal count) ≡ None
+  pub fresh : IsFresh spot.journal count first now
+  pub keeps : KeepFirst spot.journal first entries
+  pub same : (q : List ℕ) → is_of_journal spot.journal q ≡ false → now q ≡ first q
+
+-- ---- files with a journal
+
 -- these bytes are what the path held at first: what its first entry says, or, without one, what the
 -- path holds now
 abbrev pub IsHeld : Option Edit → Option (List ℕ) → Option (List ℕ) → Type 0
 IsHeld None now held = now ≡ held
 IsHeld (Some e) now held = e.held ≡ held
 
+-- an entry that may be noted: its path is text, not set aside for the journal, and it keeps what that
+-- held at first
+pub record IsNotable (journal : List ℕ) (entries : List Edit) (now : Contents) (e : Edit) : Type 0 where
+  pub apart : is_of_journal journal e.path ≡ false
+  pub held : IsHeld (first_entry_of entries e.path) (now e.path) e.held
+
 -- changes of the journal alone were made
 pub record Hidden (journal : List ℕ) (old_trace new_trace : List Change) (old new : Contents) : Type 0 where
   pub added : List Change
   pub makes : Makes added old_trace new_trace old new
   pub journals : changes_besides journal added ≡ []
+
+-- whatever the paths held at first: where the files are journaled and all is back, the row was made
+-- shorter, up to these entries
+abbrev pub ShortensRow : Spot → List Edit → List Edit → List Change → List Change → Contents → Contents → Type 0
+ShortensRow spot es fs old_trace new_trace old new =
+    (first : Contents) → IsJournaled spot first es old → ((q : List ℕ) → is_of_journal spot.journal q ≡ false → old q ≡ first q)
+    → StaysSafe spot first old_trace new_trace old new × IsJournaled spot first fs new

@@ -1,4 +1,5 @@
 pub mod Journal
+pub mod Rows
 pub mod SafeFiles
 pub mod SafeLaws
 pub mod Recovery

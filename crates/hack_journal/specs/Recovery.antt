@@ -1,12 +1,13 @@
 -- What an interrupted call had edited is put back.
-use Rattle.std.specs.Prelude.{◌≡◌, ◌≢◌, ◌⊎◌, ◌+◌, [], ◌∷◌, ℕ, List, Option, Some, None, Result, Ok, Err, string_bytes}
+use Rattle.std.specs.Prelude.{◌≡◌, ◌≢◌, ◌⊎◌, ◌<◌, [], ◌∷◌, ℕ, List, Option, Some, None, IsSome, false, Result, Ok, Err, string_bytes}
 use Rattle.std.specs.Str.{IsUtf8}
-use Rattle.hack_files.specs.Files.{Contents, KeepsAll, KeepsOthers}
+use Rattle.hack_files.specs.Files.{Contents, KeepsAll, after_change}
 use Rattle.hack_base.specs.Counters.{GrowsBy}
 use Rattle.hack_files.specs.declared.fs.FsFault.{FsFault}
 use Rattle.hack_files.specs.declared.fs.FsFault.TheVariants as fs
-use Rattle.hack_journal.specs.Journal.{Edit, journal_text}
-use Rattle.hack_journal.specs.SafeFiles.{SomeEntryHasBytes, AreBack, first_entry_of, without}
+use Rattle.hack_journal.specs.Journal.{Edit}
+use Rattle.hack_journal.specs.Rows.{Spot, IsBeside, IsRowOf, file_at, is_of_journal}
+use Rattle.hack_journal.specs.SafeFiles.{SomeEntryHasBytes, AreBack, first_entry_of, gives}
 use Rattle.hack_journal.specs.declared.recover.RecoverFault.{RecoverFault}
 use Rattle.hack_journal.specs.declared.recover.RecoverFault.TheVariants.{Memory, NotJournal, Changed, Files}
 
@@ -20,9 +21,10 @@ abbrev pub AgreesOnHeld : Option Edit → Option (List ℕ) → Type 0
 AgreesOnHeld None held = Unit {0}
 AgreesOnHeld (Some e) held = e.held ≡ held
 
--- an entry as a call writes it: a text path, not the journal's; the path's first entry agrees
+-- an entry as a call writes it: a text path, not set aside for the journal; the path's first entry
+-- agrees
 abbrev pub IsOfCall : List ℕ → List Edit → Edit → Type 0
-IsOfCall journal all e = (e.path ≢ journal) × IsUtf8 e.path × AgreesOnHeld (first_entry_of all e.path) e.held
+IsOfCall journal all e = (is_of_journal journal e.path ≡ false) × IsUtf8 e.path × AgreesOnHeld (first_entry_of all e.path) e.held
 
 -- each of these entries is as a call writes it
 abbrev pub AreOfCall : List ℕ → List Edit → List Edit → Type 0
@@ -33,36 +35,39 @@ AreOfCall journal all (e ∷ es) = IsOfCall journal all e × AreOfCall journal a
 abbrev pub AreTold : List Edit → List Edit → Contents → Type 0
 AreTold all es now = (path : List ℕ) → HasEntry es path → SomeEntryHasBytes all path (now path)
 
--- k paths hold something else than before
-pub data Differ : ℕ → Contents → Contents → Type 0 where
-  in_none : {old new : Contents} → KeepsAll old new → Differ 0 old new
-  in_one : {k : ℕ} {old mid new : Contents} (path : List ℕ) → new path ≢ old path → mid path ≡ new path → KeepsOthers path old mid → Differ k mid new → Differ (k + 1) old new
+-- those paths of these entries that hold something else than before, in order: each stands where its
+-- first entry does, and counts from there on as one that holds the same
+abbrev pub AreChanged : Contents → Contents → List Edit → List (List ℕ) → Type 0
+AreChanged old new [] paths = paths ≡ []
+AreChanged old new (e ∷ es) paths =
+    ((new e.path ≡ old e.path) × AreChanged old new es paths)
+    ⊎ ((new e.path ≢ old e.path) × ((others : List (List ℕ)) × (paths ≡ e.path ∷ others) × AreChanged (after_change (gives e.path (new e.path)) old) new es others))
 
 -- what these entries keep was put back: no path had been changed by others, each holds what it held
--- at first, `count` of them held something else, no path but theirs was changed, and the journal is
--- gone
-pub record Restored (journal : List ℕ) (edits : List Edit) (count : ℕ) (old new : Contents) : Type 0 where
-  pub text : old journal ≡ Some (journal_text edits)
+-- at first, `paths` are those that held something else, no path but theirs was changed, and the
+-- files of the row are gone
+pub record Restored (spot : Spot) (edits : List Edit) (paths : List (List ℕ)) (old new : Contents) : Type 0 where
+  pub row : IsRowOf spot old edits
   pub told : AreTold edits edits old
   pub back : AreBack edits new
-  pub others : (path : List ℕ) → path ≢ journal → ¬ HasEntry edits path → new path ≡ old path
-  pub gone : new journal ≡ None
-  pub counted : Differ count (without journal old) (without journal new)
+  pub others : (path : List ℕ) → IsBeside spot.journal row.count path → ¬ HasEntry edits path → new path ≡ old path
+  pub gone : (i : ℕ) → i < row.count → new (file_at spot.journal i) ≡ None
+  pub changed : AreChanged old new edits paths
 
 -- no journal was there, and nothing was changed; or what its entries keep was put back
-abbrev pub IsRestored : List ℕ → ℕ → Contents → Contents → Type 0
-IsRestored journal count old new =
-    ((old journal ≡ None) × (count ≡ 0) × KeepsAll old new) ⊎ ((edits : List Edit) × Restored journal edits count old new)
+abbrev pub IsRestored : Spot → List (List ℕ) → Contents → Contents → Type 0
+IsRestored spot paths old new =
+    ((old spot.journal ≡ None) × (paths ≡ []) × KeepsAll old new) ⊎ ((edits : List Edit) × Restored spot edits paths old new)
 
--- the journal's path holds a text that no call writes
-abbrev pub IsNoJournal : List ℕ → Contents → Type 0
-IsNoJournal journal old =
-    (text : List ℕ) × (old journal ≡ Some text) × ((edits : List Edit) → AreOfCall journal edits edits → text ≢ journal_text edits)
+-- a file is at the journal's path, and its row holds no entries as a call writes them
+abbrev pub IsNoJournal : Spot → Contents → Type 0
+IsNoJournal spot old =
+    (text : List ℕ) × (old spot.journal ≡ Some text) × ((edits : List Edit) → AreOfCall spot.journal edits edits → ¬ IsRowOf spot old edits)
 
 -- the journal has an entry of the path, which holds neither what it held nor what was written there
-abbrev pub HasChanged : List ℕ → List ℕ → Contents → Type 0
-HasChanged journal path old =
-    (edits : List Edit) × (old journal ≡ Some (journal_text edits)) × HasEntry edits path × (¬ SomeEntryHasBytes edits path (old path))
+abbrev pub HasChanged : Spot → List ℕ → Contents → Type 0
+HasChanged spot path old =
+    (edits : List Edit) × IsRowOf spot old edits × HasEntry edits path × (¬ SomeEntryHasBytes edits path (old path))
 
 -- the error names a path of which P holds
 abbrev pub NamesPath : (List ℕ → Type 0) → FsFault → Type 0
@@ -71,17 +76,22 @@ NamesPath P (fs.Write p) = P (string_bytes p)
 NamesPath P (fs.NotText p) = ⊥
 NamesPath P fs.Memory = ⊥
 
--- the journal's path, or one of which the journal has an entry
-abbrev pub IsJournalOrItsEntry : List ℕ → Type 0 → Contents → List ℕ → Type 0
-IsJournalOrItsEntry journal tells old path =
-    (path ≡ journal) ⊎ (tells → (edits : List Edit) × (old journal ≡ Some (journal_text edits)) × HasEntry edits path)
+-- the path of a file of the row, or of the one after its last
+abbrev pub IsReached : Spot → Type 0 → Contents → List ℕ → Type 0
+IsReached spot tells old path =
+    (k : ℕ) × (path ≡ file_at spot.journal k) × (tells → (i : ℕ) → i < k → IsSome (old (file_at spot.journal i)))
+
+-- such a path, or one of which the journal has an entry
+abbrev pub IsJournalOrItsEntry : Spot → Type 0 → Contents → List ℕ → Type 0
+IsJournalOrItsEntry spot tells old path =
+    IsReached spot tells old path ⊎ (tells → (edits : List Edit) × IsRowOf spot old edits × HasEntry edits path)
 
 -- why nothing is put back, or not everything
-abbrev pub IsWhy : List ℕ → Type 0 → Contents → RecoverFault → Type 0
-IsWhy journal tells old Memory = Unit {0}
-IsWhy journal tells old (NotJournal j) = (string_bytes j ≡ journal) × (tells → IsNoJournal journal old)
-IsWhy journal tells old (Changed p j) = (string_bytes j ≡ journal) × (tells → HasChanged journal (string_bytes p) old)
-IsWhy journal tells old (Files f) = NamesPath (IsJournalOrItsEntry journal tells old) f
+abbrev pub IsWhy : Spot → Type 0 → Contents → RecoverFault → Type 0
+IsWhy spot tells old Memory = Unit {0}
+IsWhy spot tells old (NotJournal j) = (string_bytes j ≡ spot.journal) × (tells → IsNoJournal spot old)
+IsWhy spot tells old (Changed p j) = (string_bytes j ≡ spot.journal) × (tells → HasChanged spot (string_bytes p) old)
+IsWhy spot tells old (Files f) = NamesPath (IsJournalOrItsEntry spot tells old) f
 
 -- the journal is refused: the error is neither that of a file nor `Memory`
 abbrev pub IsJournalRefusal : RecoverFault → Type 0

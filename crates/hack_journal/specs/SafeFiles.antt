@@ -1,8 +1,9 @@
 -- What a journal keeps while files are edited.
-use Rattle.std.specs.Prelude.{◌≡◌, ◌≢◌, ◌⊎◌, ◌++◌, [], ◌∷◌, ℕ, List, Option, Some, None, take, cond}
+use Rattle.std.specs.Prelude.{◌≡◌, ◌⊎◌, ◌++◌, [], ◌∷◌, ℕ, suc, List, Option, Some, None, false, length, take, cond}
 use Rattle.std.specs.Str.{bytes_eq, IsUtf8}
 use Rattle.hack_files.specs.Files.{Change, Contents, after, Makes}
-use Rattle.hack_journal.specs.Journal.{Edit, journal_text}
+use Rattle.hack_journal.specs.Journal.{Edit}
+use Rattle.hack_journal.specs.Rows.{Spot, file_at, is_of_journal, AreEach, IsFresh, IsRowOf, IsTextOf}
 
 -- the change by which a path is given these bytes, or removed
 abbrev pub gives : List ℕ → Option (List ℕ) → Change
@@ -31,57 +32,64 @@ AreBack (e ∷ es) now = (now e.path ≡ e.held) × AreBack es now
 
 -- ---- safe files
 
--- each entry keeps what its path held at first; the path is text, and not the journal's
+-- each entry keeps what its path held at first; the path is text, and not set aside for the journal
 abbrev pub KeepFirst : List ℕ → Contents → List Edit → Type 0
 KeepFirst journal first [] = Unit {0}
-KeepFirst journal first (e ∷ es) = (first e.path ≡ e.held) × (e.path ≢ journal) × IsUtf8 e.path × KeepFirst journal first es
+KeepFirst journal first (e ∷ es) =
+    (first e.path ≡ e.held) × (is_of_journal journal e.path ≡ false) × IsUtf8 e.path × KeepFirst journal first es
 
--- the journal has the text of these entries; where there are none, it may be absent
-abbrev pub IsJournalOf : List ℕ → Contents → List Edit → Type 0
-IsJournalOf journal now es = (now journal ≡ Some (journal_text es)) ⊎ ((now journal ≡ None) × (es ≡ []))
-
--- each path changes_besides the journal's holds what it held at first, or bytes that an entry of the path has
+-- each path that isn't set aside for the journal holds what it held at first, or bytes that an entry
+-- of the path has
 abbrev pub HoldFirstOrTold : List ℕ → Contents → List Edit → Contents → Type 0
-HoldFirstOrTold journal first es now = (q : List ℕ) → q ≢ journal → (now q ≡ first q) ⊎ SomeEntryHasBytes es q (now q)
+HoldFirstOrTold journal first es now =
+    (q : List ℕ) → is_of_journal journal q ≡ false → (now q ≡ first q) ⊎ SomeEntryHasBytes es q (now q)
 
 -- the journal has these entries; each path holds what it held at first, or an entry keeps that
-pub record IsSafeBy (journal : List ℕ) (first : Contents) (entries : List Edit) (now : Contents) : Type 0 where
-  pub is_in : IsJournalOf journal now entries
-  pub keeps : KeepFirst journal first entries
-  pub holds : HoldFirstOrTold journal first entries now
+pub record IsSafeBy (spot : Spot) (first : Contents) (entries : List Edit) (now : Contents) : Type 0 where
+  pub row : IsRowOf spot now entries
+  pub fresh : IsFresh spot.journal row.count first now
+  pub keeps : KeepFirst spot.journal first entries
+  pub holds : HoldFirstOrTold spot.journal first entries now
 
 -- each path holds what it held at first, or the journal keeps that
-pub record IsSafe (journal : List ℕ) (first now : Contents) : Type 0 where
+pub record IsSafe (spot : Spot) (first now : Contents) : Type 0 where
   pub entries : List Edit
-  pub by : IsSafeBy journal first entries now
+  pub by : IsSafeBy spot first entries now
 
--- the same of the entries in memory: the journal has all of them, and perhaps more, where a write of
--- it failed and yet was made
-pub record IsJournaled (journal : List ℕ) (first : Contents) (entries : List Edit) (now : Contents) : Type 0 where
+-- no file is at the path where the row goes on, or one whose write failed and yet was made: it holds
+-- these entries, and no file follows it
+abbrev pub EndsWith : Spot → Contents → ℕ → List Edit → Type 0
+EndsWith spot now k more =
+    ((now (file_at spot.journal k) ≡ None) × (more ≡ [])) ⊎ (IsTextOf spot.folder (now (file_at spot.journal k)) more × (now (file_at spot.journal (suc k)) ≡ None))
+
+-- the same of the entries in memory: each has a file of the row, and perhaps there is one file more
+pub record IsJournaled (spot : Spot) (first : Contents) (entries : List Edit) (now : Contents) : Type 0 where
   pub more : List Edit
-  pub is_in : IsJournalOf journal now (entries ++ more)
-  pub keeps : KeepFirst journal first (entries ++ more)
-  pub holds : HoldFirstOrTold journal first entries now
+  pub each : AreEach spot now 0 entries
+  pub ends : EndsWith spot now (length entries) more
+  pub fresh : IsFresh spot.journal (suc (length entries)) first now
+  pub keeps : KeepFirst spot.journal first (entries ++ more)
+  pub holds : HoldFirstOrTold spot.journal first entries now
 
 -- changes were made, and after every front of them the files are safe
-pub record StaysSafe (journal : List ℕ) (first : Contents) (old_trace new_trace : List Change) (old new : Contents) : Type 0 where
+pub record StaysSafe (spot : Spot) (first : Contents) (old_trace new_trace : List Change) (old new : Contents) : Type 0 where
   pub added : List Change
   pub makes : Makes added old_trace new_trace old new
-  pub fronts : (k : ℕ) → IsSafe journal first (after (take k added) old)
+  pub fronts : (k : ℕ) → IsSafe spot first (after (take k added) old)
 
 -- whatever the paths held at first: where the files are journaled, the changes keep them safe, and
 -- the files are journaled after them
-abbrev pub Stays : List ℕ → List Edit → List Edit → List Change → List Change → Contents → Contents → Type 0
-Stays journal es fs old_trace new_trace old new =
-    (first : Contents) → IsJournaled journal first es old → StaysSafe journal first old_trace new_trace old new × IsJournaled journal first fs new
+abbrev pub Stays : Spot → List Edit → List Edit → List Change → List Change → Contents → Contents → Type 0
+Stays spot es fs old_trace new_trace old new =
+    (first : Contents) → IsJournaled spot first es old → StaysSafe spot first old_trace new_trace old new × IsJournaled spot first fs new
 
 -- ---- the files without the journal
 
--- the changes except those of the journal
+-- the changes except those of paths that are set aside for the journal
 abbrev pub changes_besides : List ℕ → List Change → List Change
 changes_besides journal [] = []
-changes_besides journal (c ∷ cs) = cond (bytes_eq c.path journal) (changes_besides journal cs) (c ∷ changes_besides journal cs)
+changes_besides journal (c ∷ cs) = cond (is_of_journal journal c.path) (changes_besides journal cs) (c ∷ changes_besides journal cs)
 
--- what the paths hold, as if the journal were not there
+-- what the paths hold, as if nothing were at those that are set aside for the journal
 abbrev pub without : List ℕ → Contents → Contents
-without journal m q = cond (bytes_eq journal q) None (m q)
+without journal m q = cond (is_of_journal journal q) None (m q)

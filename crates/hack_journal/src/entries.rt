@@ -7,6 +7,7 @@ ghost use Rattle.hack_journal.specs.SafeFiles.{EntryHasBytes, SomeEntryHasBytes,
 ghost use Rattle.hack_journal.specs.Recovery.{AgreesOnHeld, IsOfCall, AreOfCall};
 
 use crate::journal::Entry;
+use crate::place::is_of_journal;
 use std::alloc::{AllocError, Global};
 
 /// Returns whether two files hold the same bytes, or both are absent.
@@ -83,19 +84,20 @@ fn agrees(first: Option<&Entry>, entry: &Entry) -> bool
 }
 
 fn is_of_call(journal: &str, all: &[Entry], entry: &Entry) -> bool
-    ensures { IsTrue result ↔ IsOfCall journal.now (edits_of all.now) (edit_of entry.now) }
+    ensures { IsTrue result ↔
+        IsOfCall journal.now (edits_of all.now) (edit_of entry.now) }
 {
-    if entry.path.as_str() == journal {
+    if is_of_journal(journal, entry.path.as_str()) {
         return false;
     }
     agrees(first(all, entry.path.as_str()), entry)
 }
 
 /// Returns whether these entries, of a journal that has `all`, are as a call writes them: none has
-/// the journal's path, and those of one path agree on what it held.
+/// a path that is set aside for the journal, and those of one path agree on what it held.
 pub fn are_of_call(journal: &str, all: &[Entry], entries: &[Entry]) -> bool
-    ensures { IsTrue result ↔
-        AreOfCall journal.now (edits_of all.now) (edits_of entries.now) }
+    ensures { IsTrue result ↔ AreOfCall journal.now
+        (edits_of all.now) (edits_of entries.now) }
 {
     match entries {
         [] => true,

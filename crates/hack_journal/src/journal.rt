@@ -3,8 +3,8 @@
 //! A person can read it. Each line of a file begins with a space, as does each line of a path but
 //! the first, so a line that begins with a letter is the journal's own.
 
-ghost use Rattle.std.specs.Prelude.{◌≡◌, ◌++◌, ◌<◌, ◌≤◌, ℕ, List, Option, OnOk, IfOk, length};
-ghost use Rattle.std.specs.Prelude.{string_bytes};
+ghost use Rattle.std.specs.Prelude.{◌≡◌, ◌++◌, ◌<◌, ◌≤◌, [], ◌∷◌, ℕ, List, Option, OnOk, IfOk};
+ghost use Rattle.std.specs.Prelude.{length, string_bytes};
 ghost use Rattle.std.specs.Option.{option_map};
 ghost use Rattle.std.specs.Str.{IsUtf8};
 ghost use Rattle.hack_journal.specs.Journal.{Edit, edit_of, edits_of, HaveTextPaths};
@@ -82,11 +82,13 @@ fn put_content(text: &mut Vec<u8>, bytes: Option<&[u8]>) -> Result<(), AllocErro
     }
 }
 
-fn put_entry(text: &mut Vec<u8>, entry: &Entry) -> Result<(), AllocError>
-    ensures { OnOk result (text.new.items ≡ text.old.items ++ edit_text (edit_of entry.now)) }
+// Adds an entry, with this path in place of its own.
+fn put_entry(text: &mut Vec<u8>, path: &str, entry: &Entry) -> Result<(), AllocError>
+    ensures { OnOk result (text.new.items ≡
+        text.old.items ++ edit_text (record (edit_of entry.now) { path = path.now })) }
 {
     text.extend_from_slice(b"path ")?;
-    put_lines(text, entry.path.as_bytes())?;
+    put_lines(text, path.as_bytes())?;
     text.extend_from_slice(b"held")?;
     put_content(text, entry.held.as_deref())?;
     text.extend_from_slice(b"wrote")?;
@@ -98,7 +100,7 @@ fn put_entries(text: &mut Vec<u8>, entries: &[Entry]) -> Result<(), AllocError>
     ensures { OnOk result (text.new.items ≡ text.old.items ++ edits_text (edits_of entries.now)) }
 {
     for entry in entries {
-        put_entry(text, entry)?;
+        put_entry(text, &entry.path, entry)?;
     }
     text.extend_from_slice(b"end\n")
 }
@@ -110,6 +112,18 @@ pub fn spell(alloc: Global, entries: &[Entry]) -> Result<Vec<u8>, AllocError>
     let mut text = Vec::new(alloc);
     text.extend_from_slice(b"edited files\n")?;
     put_entries(&mut text, entries)?;
+    Ok(text)
+}
+
+/// Returns the text of a journal of this entry alone, with this path in place of its own.
+pub fn spell_at(alloc: Global, path: &str, entry: &Entry) -> Result<Vec<u8>, AllocError>
+    ensures { IfOk result (λ text. text.items ≡
+        journal_text (record (edit_of entry.now) { path = path.now } ∷ [])) }
+{
+    let mut text = Vec::new(alloc);
+    text.extend_from_slice(b"edited files\n")?;
+    put_entry(&mut text, path, entry)?;
+    text.extend_from_slice(b"end\n")?;
     Ok(text)
 }
 

@@ -4,53 +4,57 @@
 //! Wherever the program ends, each path holds what it held at first, or the journal has it, and
 //! [`crate::recover::recover`] puts it back.
 
-ghost use Rattle.std.specs.Prelude.{◌≡◌, ◌≢◌, ◌++◌, [], ◌∷◌, None, Some, false};
+ghost use Rattle.std.specs.Prelude.{◌≡◌, ◌<◌, ◌++◌, ◌+◌, [], ◌∷◌, ℕ, None, Some, false, length};
 ghost use Rattle.std.specs.Prelude.{IfOk, OnOk, OnErr, IsTrue, IsSome, ◌↔◌, string_bytes};
 ghost use Rattle.std.specs.Option.{option_map};
 ghost use Rattle.hack_files.specs.Files.{Contents, CountsFailedCall, KeepsOthers, KeepsAll};
-ghost use Rattle.hack_files.specs.Files.{Makes, MakesOrNot, puts};
-ghost use Rattle.hack_journal.specs.Journal.{edit_of, edits_of, journal_text};
+ghost use Rattle.hack_files.specs.Files.{Makes, MakesOrNot};
+ghost use Rattle.hack_journal.specs.Journal.{edit_of};
+ghost use Rattle.hack_journal.specs.Rows.{spot_of, file_at, is_of_journal, IsNoteOf, KeepsBeside};
 ghost use Rattle.hack_journal.specs.SafeFiles.{SomeEntryHasBytes, first_entry_of, AreBack, gives};
-ghost use Rattle.hack_journal.specs.Internal.{IsHeld};
 ghost use Rattle.hack_journal.specs.SafeFiles.{IsJournaled, Stays, changes_besides, without};
-ghost use Rattle.hack_journal.specs.Internal.{Hidden};
+ghost use Rattle.hack_journal.specs.Internal.{Hidden, IsHeld, IsNotable, ShortensRow};
 
 use crate::contents::{are_back, look, put};
 use crate::entries::{copy, first, tells};
-use crate::journal::{Entry, spell};
+use crate::journal::{Entry, spell_at};
+use crate::notes::Notes;
+use crate::place::{Place, relative};
 use hack_files::fs::{FileFault, Files, count_failure, counted};
 use std::alloc::Global;
 
-/// Files over other files, with a journal. The journal is none of the files: its path holds
-/// nothing, and can't be read, written or removed.
+/// Files over other files, with a journal. The journal is none of the files: paths that begin with
+/// its own hold nothing, and can't be read, written or removed.
+///
+/// Each edit adds a file to the journal's row, so its cost doesn't grow with the edits before it.
 #[derive(Drop)]
 pub struct Journaled<F: Files> {
     alloc: Global,
     files: F,
-    journal: String,
-    entries: Vec<Entry>,
+    folder: String,
+    notes: Notes,
     failures: u64,
 }
 
 impl<F: Files> Journaled<F> {
-    ghost use Rattle.hack_journal.specs.FileCalls.{StaysJournaled};
+    ghost use Rattle.hack_journal.specs.FileCalls.{StaysJournaled, spot_in};
 
     /// Files over these, of which nothing is kept yet, with no failed call counted. The journal is
-    /// written to this path before the first change; one that is there already would be lost, so
+    /// written to this place before the first change; one that is there already would be lost, so
     /// call `recover` first.
-    pub fn new(alloc: Global, files: F, journal: String) -> Self
-        ensures journal { string_bytes result.journal ≡ string_bytes journal }
+    pub fn new(alloc: Global, files: F, place: Place) -> Self
+        ensures place { spot_in result ≡ spot_of place }
         ensures files { result.files ≡ files }
         ensures failures { result.failures ≡ 0 }
-        ensures begun { F.bytes_at files (string_bytes journal) ≡ None →
-            IsJournaled (string_bytes result.journal) (F.bytes_at files)
-            (edits_of result.entries.items) (F.bytes_at result.files) }
+        ensures begun { F.bytes_at files (string_bytes place.journal) ≡ None →
+            IsJournaled (spot_in result) (F.bytes_at files)
+            result.notes.entries (F.bytes_at result.files) }
     {
         Journaled {
             alloc,
             files,
-            journal,
-            entries: Vec::new(alloc),
+            folder: place.folder,
+            notes: Notes::new(alloc, place.journal),
             failures: 0,
         }
     }
@@ -67,14 +71,14 @@ impl<F: Files> Journaled<F> {
         ensures handed { F.stays self.old.files self.new.files }
         ensures rest { self.new ≡ record self.old { files = self.new.files } }
         ensures held { IfOk result (λ held. F.tells →
-            IsHeld (first_entry_of (edits_of self.old.entries.items) path.now)
+            IsHeld (first_entry_of self.old.notes.entries path.now)
             (F.bytes_at self.old.files path.now) (option_map (λ bytes. bytes.items) held)) }
         ensures same { F.tells →
             KeepsAll (F.bytes_at self.old.files) (F.bytes_at self.new.files) }
         ensures untraced { F.whole → Makes [] (F.trace self.old.files) (F.trace self.new.files)
             (F.bytes_at self.old.files) (F.bytes_at self.new.files) }
     {
-        match first(&self.entries, path) {
+        match first(self.notes.entries(), path) {
             Some(entry) => match copy(self.alloc, entry.held.as_deref()) {
                 Ok(held) => Ok(held),
                 Err(_) => Err(FileFault::Memory),
@@ -91,7 +95,7 @@ impl<F: Files> Journaled<F> {
         ensures wrote { IfOk result (λ entry.
             (edit_of entry).wrote ≡ option_map (λ bytes. bytes.now) bytes.entry) }
         ensures held { IfOk result (λ entry. F.tells →
-            IsHeld (first_entry_of (edits_of self.old.entries.items) path.now)
+            IsHeld (first_entry_of self.old.notes.entries path.now)
             (F.bytes_at self.old.files path.now) (edit_of entry).held) }
         ensures same { F.tells →
             KeepsAll (F.bytes_at self.old.files) (F.bytes_at self.new.files) }
@@ -108,77 +112,89 @@ impl<F: Files> Journaled<F> {
         Ok(Entry { path, held, wrote })
     }
 
-    // Writes the journal with all entries.
-    fn write_journal(&mut self) -> Result<(), FileFault>
-        ensures handed { F.stays self.old.files self.new.files }
-        ensures rest { self.new ≡ record self.old { files = self.new.files } }
-        ensures others { F.tells → KeepsOthers (string_bytes self.old.journal)
-            (F.bytes_at self.old.files) (F.bytes_at self.new.files) }
-        ensures traced { OnOk result (F.whole → Makes
-            (puts (string_bytes self.old.journal) (journal_text (edits_of self.old.entries.items))
-            ∷ [])
-            (F.trace self.old.files) (F.trace self.new.files)
-            (F.bytes_at self.old.files) (F.bytes_at self.new.files)) }
-        ensures refused { OnErr result (F.whole → MakesOrNot
-            (puts (string_bytes self.old.journal) (journal_text (edits_of self.old.entries.items)))
-            (F.trace self.old.files) (F.trace self.new.files)
-            (F.bytes_at self.old.files) (F.bytes_at self.new.files)) }
+    // The text that keeps an entry. It is refused where no way leads from the folder to the path.
+    fn note_of(&self, entry: &Entry) -> Result<Vec<u8>, FileFault>
+        ensures { IfOk result (λ text. IsNoteOf (string_bytes self.now.folder)
+            (Some text.items) (edit_of entry.now)) }
     {
-        let Ok(text) = spell(self.alloc, &self.entries) else {
-            return Err(FileFault::Memory);
-        };
-        self.files.write(self.journal.as_str(), &text)
-    }
-
-    // Writes a journal with this entry at its end.
-    fn append(&mut self, entry: Entry) -> Result<(), FileFault>
-        ensures handed { F.stays self.old.files self.new.files }
-        ensures rest { self.new ≡
-            record self.old { files = self.new.files; entries = self.new.entries } }
-        ensures added { OnOk result (edits_of self.new.entries.items ≡
-            edits_of self.old.entries.items ++ edit_of entry ∷ []) }
-        ensures kept { OnErr result (edits_of self.new.entries.items ≡
-            edits_of self.old.entries.items) }
-        ensures others { F.tells → KeepsOthers (string_bytes self.old.journal)
-            (F.bytes_at self.old.files) (F.bytes_at self.new.files) }
-        ensures traced { OnOk result (F.whole → Makes (puts (string_bytes self.old.journal)
-            (journal_text (edits_of self.old.entries.items ++ edit_of entry ∷ [])) ∷ [])
-            (F.trace self.old.files) (F.trace self.new.files)
-            (F.bytes_at self.old.files) (F.bytes_at self.new.files)) }
-        ensures refused { OnErr result (F.whole → MakesOrNot (puts (string_bytes self.old.journal)
-            (journal_text (edits_of self.old.entries.items ++ edit_of entry ∷ [])))
-            (F.trace self.old.files) (F.trace self.new.files)
-            (F.bytes_at self.old.files) (F.bytes_at self.new.files)) }
-    {
-        let Ok(()) = self.entries.push(entry) else {
-            return Err(FileFault::Memory);
-        };
-        match self.write_journal() {
-            Ok(()) => Ok(()),
-            Err(fault) => {
-                let _ = self.entries.pop();
-                Err(fault)
-            }
+        match relative(self.alloc, &self.folder, &entry.path) {
+            Ok(Some(way)) => match spell_at(self.alloc, &way, entry) {
+                Ok(text) => Ok(text),
+                Err(_) => Err(FileFault::Memory),
+            },
+            Ok(None) => Err(FileFault::Device),
+            Err(_) => Err(FileFault::Memory),
         }
     }
 
-    // Keeps what the path holds before it is to hold these bytes, or be removed: writes a journal
-    // with one more entry, unless one of the path has these bytes already.
+    // Looks that the row will end behind the file that comes next, and returns the path there: what
+    // is there already would become part of the row.
+    fn look_ahead(&mut self) -> Result<String, FileFault>
+        ensures handed { F.stays self.old.files self.new.files }
+        ensures rest { self.new ≡ record self.old { files = self.new.files } }
+        ensures path { IfOk result (λ path. string_bytes path ≡
+            file_at self.old.notes.journal (length self.old.notes.entries + 1)) }
+        ensures absent { OnOk result (F.tells → F.bytes_at self.old.files
+            (file_at self.old.notes.journal (length self.old.notes.entries + 1)) ≡ None) }
+        ensures same { F.tells →
+            KeepsAll (F.bytes_at self.old.files) (F.bytes_at self.new.files) }
+        ensures untraced { F.whole → Makes [] (F.trace self.old.files) (F.trace self.new.files)
+            (F.bytes_at self.old.files) (F.bytes_at self.new.files) }
+    {
+        let Ok(path) = self.notes.after_next(self.alloc) else {
+            return Err(FileFault::Memory);
+        };
+        match self.files.exists(&path) {
+            Ok(false) => Ok(path),
+            Ok(true) => Err(FileFault::Device),
+            Err(fault) => Err(fault),
+        }
+    }
+
+    // Adds a file to the row that keeps this entry.
+    fn append(&mut self, entry: Entry) -> Result<(), FileFault>
+        ensures handed { F.stays self.old.files self.new.files }
+        ensures rest { self.new ≡
+            record self.old { files = self.new.files; notes = self.new.notes } }
+        ensures added { OnOk result (self.new.notes.entries ≡
+            self.old.notes.entries ++ edit_of entry ∷ []) }
+        ensures others { F.tells → KeepsAll
+            (without self.old.notes.journal (F.bytes_at self.old.files))
+            (without self.old.notes.journal (F.bytes_at self.new.files)) }
+        ensures hidden { F.whole → Hidden self.old.notes.journal
+            (F.trace self.old.files) (F.trace self.new.files)
+            (F.bytes_at self.old.files) (F.bytes_at self.new.files) }
+        ensures stays { (F.tells → IsNotable self.old.notes.journal
+            self.old.notes.entries (F.bytes_at self.old.files) (edit_of entry)) →
+            StaysJournaled F.Files self.old self.new }
+    {
+        let text = self.note_of(&entry)?;
+        let after = self.look_ahead()?;
+        self.files.write(self.notes.next(), &text)?;
+        match self.notes.push(entry, after) {
+            Ok(()) => Ok(()),
+            Err(_) => Err(FileFault::Memory),
+        }
+    }
+
+    // Keeps what the path holds before it is to hold these bytes, or be removed: adds an entry to
+    // the journal, unless one of the path has these bytes already.
     fn keep(&mut self, path: &str, bytes: Option<&[u8]>) -> Result<(), FileFault>
         ensures handed { F.stays self.old.files self.new.files }
         ensures rest { self.new ≡
-            record self.old { files = self.new.files; entries = self.new.entries } }
-        ensures told { OnOk result (SomeEntryHasBytes (edits_of self.new.entries.items) path.now
+            record self.old { files = self.new.files; notes = self.new.notes } }
+        ensures told { OnOk result (SomeEntryHasBytes self.new.notes.entries path.now
             (option_map (λ bytes. bytes.now) bytes.entry)) }
-        ensures others { F.tells → KeepsOthers (string_bytes self.old.journal)
-            (F.bytes_at self.old.files) (F.bytes_at self.new.files) }
-        ensures hidden { F.whole → Hidden (string_bytes self.old.journal)
+        ensures others { F.tells → KeepsAll
+            (without self.old.notes.journal (F.bytes_at self.old.files))
+            (without self.old.notes.journal (F.bytes_at self.new.files)) }
+        ensures hidden { F.whole → Hidden self.old.notes.journal
             (F.trace self.old.files) (F.trace self.new.files)
             (F.bytes_at self.old.files) (F.bytes_at self.new.files) }
-        ensures stays { path.now ≢ string_bytes self.old.journal →
+        ensures stays { is_of_journal self.old.notes.journal path.now ≡ false →
             StaysJournaled F.Files self.old self.new }
     {
-        if tells(&self.entries, path, bytes) {
+        if tells(self.notes.entries(), path, bytes) {
             return Ok(());
         }
         let entry = self.entry(path, bytes)?;
@@ -189,69 +205,97 @@ impl<F: Files> Journaled<F> {
     fn change(&mut self, path: &str, bytes: Option<&[u8]>) -> Result<(), FileFault>
         ensures handed { F.stays self.old.files self.new.files }
         ensures rest { self.new ≡
-            record self.old { files = self.new.files; entries = self.new.entries } }
+            record self.old { files = self.new.files; notes = self.new.notes } }
         ensures put { OnOk result (F.tells →
-            without (string_bytes self.old.journal) (F.bytes_at self.new.files) path.now ≡
+            without self.old.notes.journal (F.bytes_at self.new.files) path.now ≡
             option_map (λ bytes. bytes.now) bytes.entry) }
         ensures others { F.tells → KeepsOthers path.now
-            (without (string_bytes self.old.journal) (F.bytes_at self.old.files))
-            (without (string_bytes self.old.journal) (F.bytes_at self.new.files)) }
+            (without self.old.notes.journal (F.bytes_at self.old.files))
+            (without self.old.notes.journal (F.bytes_at self.new.files)) }
         ensures traced { OnOk result (F.whole →
             Makes (gives path.now (option_map (λ bytes. bytes.now) bytes.entry) ∷ [])
-            (changes_besides (string_bytes self.old.journal) (F.trace self.old.files))
-            (changes_besides (string_bytes self.old.journal) (F.trace self.new.files))
-            (without (string_bytes self.old.journal) (F.bytes_at self.old.files))
-            (without (string_bytes self.old.journal) (F.bytes_at self.new.files))) }
+            (changes_besides self.old.notes.journal (F.trace self.old.files))
+            (changes_besides self.old.notes.journal (F.trace self.new.files))
+            (without self.old.notes.journal (F.bytes_at self.old.files))
+            (without self.old.notes.journal (F.bytes_at self.new.files))) }
         ensures refused { OnErr result (F.whole →
             MakesOrNot (gives path.now (option_map (λ bytes. bytes.now) bytes.entry))
-            (changes_besides (string_bytes self.old.journal) (F.trace self.old.files))
-            (changes_besides (string_bytes self.old.journal) (F.trace self.new.files))
-            (without (string_bytes self.old.journal) (F.bytes_at self.old.files))
-            (without (string_bytes self.old.journal) (F.bytes_at self.new.files))) }
+            (changes_besides self.old.notes.journal (F.trace self.old.files))
+            (changes_besides self.old.notes.journal (F.trace self.new.files))
+            (without self.old.notes.journal (F.bytes_at self.old.files))
+            (without self.old.notes.journal (F.bytes_at self.new.files))) }
         ensures stays { StaysJournaled F.Files self.old self.new }
     {
-        if path == self.journal.as_str() {
+        if self.notes.is_of_journal(path) {
             return Err(FileFault::Device);
         }
         self.keep(path, bytes)?;
         put(&mut self.files, path, bytes)
     }
 
-    /// Removes the journal where each kept path holds again what it held at first. Returns whether
-    /// no journal is there: where it is false, a path holds something else. After an error the
-    /// journal is still there, or it was removed where nothing was to be put back.
+    // Removes the row, from its last file on. The file that would come next may be there too, after
+    // a write that failed.
+    fn remove_row(&mut self) -> Result<(), FileFault>
+        ensures handed { F.stays self.old.files self.new.files }
+        ensures journal { self.new.notes.journal ≡ self.old.notes.journal }
+        ensures rest { self.new ≡
+            record self.old { files = self.new.files; notes = self.new.notes } }
+        ensures below { CountsFailedCall (F.failed self.old.files)
+            (F.failed self.new.files) result }
+        ensures gone { OnOk result (F.tells → (i : ℕ) → i < length self.old.notes.entries + 1 →
+            F.bytes_at self.new.files (file_at self.old.notes.journal i) ≡ None) }
+        ensures others { F.tells → KeepsBeside self.old.notes.journal
+            (length self.old.notes.entries + 1)
+            (F.bytes_at self.old.files) (F.bytes_at self.new.files) }
+        ensures stays { F.tells → F.whole → ShortensRow (spot_in self.old)
+            self.old.notes.entries self.new.notes.entries
+            (F.trace self.old.files) (F.trace self.new.files)
+            (F.bytes_at self.old.files) (F.bytes_at self.new.files) }
+    {
+        self.files.remove(self.notes.next())?;
+        if self.notes.pop() {
+            self.remove_row()
+        } else {
+            Ok(())
+        }
+    }
+
+    /// Removes the journal where each kept path holds again what it held at first: its row of
+    /// files, from the last one on. Returns whether no journal is there: where it is false, a path
+    /// holds something else. After an error the journal is still there, or it was removed where
+    /// nothing was to be put back.
     #[tactic(auto, using(crate::proofs::CountLemmas::grows_then))]
     pub fn finish(&mut self) -> Result<bool, FileFault>
         ensures handed { F.stays self.old.files self.new.files }
-        ensures journal { self.new.journal ≡ self.old.journal }
+        ensures place { spot_in self.new ≡ spot_in self.old }
         ensures counted { CountsFailedCall self.old.failures self.new.failures result }
 
         // It fails only where a call of the files below failed.
         ensures below { CountsFailedCall (F.failed self.old.files)
             (F.failed self.new.files) result }
-        ensures others { F.tells → KeepsOthers (string_bytes self.old.journal)
+        // Nothing but the files of the row and the one that would come next is changed.
+        ensures others { F.tells → KeepsBeside self.old.notes.journal
+            (length self.old.notes.entries + 1)
             (F.bytes_at self.old.files) (F.bytes_at self.new.files) }
         ensures stays { StaysJournaled F.Files self.old self.new }
         ensures gone { IfOk result (λ gone. IsTrue gone → F.tells →
-            F.bytes_at self.new.files (string_bytes self.old.journal) ≡ None) }
+            F.bytes_at self.new.files self.old.notes.journal ≡ None) }
         ensures back { IfOk result (λ gone. IsTrue gone → F.tells → (first : Contents) →
-            IsJournaled (string_bytes self.old.journal) first
-            (edits_of self.old.entries.items) (F.bytes_at self.old.files) →
-            KeepsOthers (string_bytes self.old.journal) first (F.bytes_at self.new.files)) }
+            IsJournaled (spot_in self.old) first
+            self.old.notes.entries (F.bytes_at self.old.files) →
+            KeepsAll first (F.bytes_at self.new.files)) }
         ensures needed { IfOk result (λ gone. (gone ≡ false) → F.tells →
-            ¬ AreBack (edits_of self.old.entries.items) (F.bytes_at self.old.files)) }
+            ¬ AreBack self.old.notes.entries (F.bytes_at self.old.files)) }
     {
-        let there = self.files.exists(self.journal.as_str());
+        let there = self.files.exists(self.notes.journal());
         if !counted(&mut self.failures, there)? {
             return Ok(true);
         }
-        let back = are_back(self.alloc, &mut self.files, &self.entries);
+        let back = are_back(self.alloc, &mut self.files, self.notes.entries());
         if !counted(&mut self.failures, back)? {
             return Ok(false);
         }
-        // A removal that fails may be made all the same, and then the journal has no entries.
-        self.entries.clear();
-        let removed = self.files.remove(self.journal.as_str());
+        let removed = self.remove_row();
         counted(&mut self.failures, removed)?;
         Ok(true)
     }
@@ -260,15 +304,14 @@ impl<F: Files> Journaled<F> {
 impl<F: Files> Files for Journaled<F> {
     ghost use Rattle.std.proofs.Common.{refl, ◌∙◌};
     ghost use Rattle.hack_journal.specs.SafeLaws.{stays_none, stays_join, makes_none};
-    ghost use Rattle.hack_journal.specs.FileCalls.{OnlyLooks};
+    ghost use Rattle.hack_journal.specs.FileCalls.{OnlyLooks, spot_in};
 
     ghost tells = { F.tells };
 
     ghost whole = { F.tells × F.whole };
 
-    ghost stays = { λ a b. (string_bytes a.journal ≡ string_bytes b.journal) ×
-        (F.tells → F.whole → Stays (string_bytes a.journal)
-        (edits_of a.entries.items) (edits_of b.entries.items)
+    ghost stays = { λ a b. (spot_in a ≡ spot_in b) ×
+        (F.tells → F.whole → Stays (spot_in a) a.notes.entries b.notes.entries
         (F.trace a.files) (F.trace b.files) (F.bytes_at a.files) (F.bytes_at b.files)) ×
         F.stays a.files b.files };
 
@@ -282,26 +325,26 @@ impl<F: Files> Files for Journaled<F> {
     ghost stays_more = { λ a b c f g. (
       f.0 ∙ g.0,
       λ tells whole.
-          stays_join _ _ _ (edits_of b.entries.items) _ _ (F.trace b.files) _ _ (F.bytes_at b.files)
+          stays_join _ _ _ b.notes.entries _ _ (F.trace b.files) _ _ (F.bytes_at b.files)
           _ f.0 (f.1 tells whole) (g.1 tells whole),
       F.stays_more a.files b.files c.files f.2 g.2,
     ) };
 
-    ghost bytes_at = { λ files. without (string_bytes files.journal) (F.bytes_at files.files) };
+    ghost bytes_at = { λ files. without files.notes.journal (F.bytes_at files.files) };
 
-    ghost trace = { λ files. changes_besides (string_bytes files.journal) (F.trace files.files) };
+    ghost trace = { λ files. changes_besides files.notes.journal (F.trace files.files) };
 
     ghost failed = { λ files. files.failures };
 
     fn read(&mut self, alloc: Global, path: &str) -> Result<Vec<u8>, FileFault>
         ensures looks { OnlyLooks ⟦<Journaled<F> as Files>⟧ self.old self.new result }
-        ensures bytes { IfOk result (λ bytes. F.tells → without (string_bytes self.old.journal)
+        ensures bytes { IfOk result (λ bytes. F.tells → without self.old.notes.journal
             (F.bytes_at self.old.files) path.now ≡ Some bytes.items) }
         // Not even a journal is written.
         ensures below { F.whole → Makes [] (F.trace self.old.files) (F.trace self.new.files)
             (F.bytes_at self.old.files) (F.bytes_at self.new.files) }
     {
-        if path == self.journal.as_str() {
+        if self.notes.is_of_journal(path) {
             count_failure(&mut self.failures);
             return Err(FileFault::Device);
         }
@@ -317,12 +360,12 @@ impl<F: Files> Files for Journaled<F> {
     fn exists(&mut self, path: &str) -> Result<bool, FileFault>
         ensures looks { OnlyLooks ⟦<Journaled<F> as Files>⟧ self.old self.new result }
         ensures there { IfOk result (λ there. F.tells → IsTrue there ↔ IsSome
-            (without (string_bytes self.old.journal) (F.bytes_at self.old.files) path.now)) }
+            (without self.old.notes.journal (F.bytes_at self.old.files) path.now)) }
         // Not even a journal is written.
         ensures below { F.whole → Makes [] (F.trace self.old.files) (F.trace self.new.files)
             (F.bytes_at self.old.files) (F.bytes_at self.new.files) }
     {
-        if path == self.journal.as_str() {
+        if self.notes.is_of_journal(path) {
             return Ok(false);
         }
         let outcome = self.files.exists(path);

@@ -6,4 +6,7 @@ mod contents;
 mod entries;
 pub mod journal;
 pub mod journaled;
+mod notes;
+pub mod place;
 pub mod recover;
+pub mod rows;
