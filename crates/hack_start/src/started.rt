@@ -5,7 +5,7 @@ ghost use Rattle.std.specs.Option.{unwrap_or};
 ghost use Rattle.hack_base.specs.Names.{optional_text};
 ghost use Rattle.hack_term.specs.declared.term.Coloring.TheVariants.{Auto};
 ghost use Rattle.hack_start.specs.SystemView.{state_of};
-ghost use Rattle.hack_start.specs.Internal.{GivesText};
+ghost use Rattle.hack_start.specs.Internal.{GivesFlag, GivesText};
 ghost use Rattle.hack_start.specs.Started.{GivesEnv, GivesStart, GivesWords};
 ghost use Rattle.hack_start.specs.Started.{SetsColoring, auto_coloring_of, start_fault_text, is_capable};
 ghost use Rattle.hack_start.specs.Started.{is_unset as unset};
@@ -108,12 +108,12 @@ pub fn env_of<S: System>(alloc: Global, system: &S) -> Result<Env, StartFault>
     ensures { GivesEnv S.tells (S.shown system.now) result }
 {
     let term_color = text_of(system, "CARGO_TERM_COLOR")?;
-    let github_actions = text_of(system, "GITHUB_ACTIONS")?.is_some();
-    let deny_warnings = text_of(system, "CARGO_HACK_DENY_WARNINGS")?.is_some();
+    let github_actions = is_given(system, "GITHUB_ACTIONS")?;
+    let deny_warnings = is_given(system, "CARGO_HACK_DENY_WARNINGS")?;
     let source = text_of(system, "CARGO_HACK_CARGO_SRC")?;
     let cargo = text_of(system, "CARGO")?;
     let rustup = text_of(system, "CARGO_HACK_RUSTUP")?;
-    let by_guard = text_of(system, "CARGO_HACK_GUARD")?.is_some();
+    let by_guard = is_given(system, "CARGO_HACK_GUARD")?;
     Ok(Env {
         term_color,
         github_actions,
@@ -134,6 +134,13 @@ fn text_of<S: System>(system: &S, name: &str) -> Result<Option<String>, StartFau
         Variable::Text(text) => Ok(Some(text)),
         Variable::NotText => Err(StartFault::Variables),
     }
+}
+
+/// Whether a variable is set, to any text.
+fn is_given<S: System>(system: &S, name: &str) -> Result<bool, StartFault>
+    ensures { GivesFlag S.tells ((S.shown system.now).variable name.now) result }
+{
+    Ok(text_of(system, name)?.is_some())
 }
 
 fn text_or(alloc: Global, text: Option<String>, other: &str) -> Result<String, AllocError>

@@ -62,9 +62,15 @@ impl Use {
         match self {
             Use::Known {
                 option: used,
-                value: Some(value),
+                value,
                 ..
-            } if used.is(option) => Some(value),
+            } => {
+                if used.is(option) {
+                    value.as_ref()
+                } else {
+                    None
+                }
+            }
             _ => None,
         }
     }

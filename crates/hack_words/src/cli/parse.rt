@@ -86,7 +86,7 @@ fn keep_rules(
     let Call {
         behavior,
         passed,
-        trailing,
+        ..
     } = call;
     let term_color = env.term_color.as_ref();
     let early = early::check(alloc, *behavior, term_color, passed, uses)?;
@@ -94,6 +94,7 @@ fn keep_rules(
         return Ok(Checked { early, late: None });
     }
     let exclusive = early.lists.mutually_exclusive_features.as_slice();
+    let trailing = call.trailing.as_slice();
     let late = late::check(
         alloc,
         known_minor(rustup),
