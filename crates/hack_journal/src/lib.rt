@@ -2,8 +2,8 @@
 #![tactic(auto)]
 
 pub mod apart;
-mod contents;
-mod entries;
+pub mod contents;
+pub mod entries;
 pub mod journal;
 pub mod journaled;
 mod notes;

@@ -22,7 +22,7 @@ use Rattle.hack_recovery.specs.FileLooks.{Finds}
 use Rattle.hack_recovery.specs.Folders.{start_at, workspace_from}
 use Rattle.hack_recovery.specs.GuardEvents.{GuardsView, after_leave, after_start}
 use Rattle.hack_recovery.specs.LockEvents.{LocksView, after_release}
-use Rattle.hack_recovery.specs.Restoring.{KeepsCopy, TakesBack}
+use Rattle.hack_recovery.specs.Restoring.{KeepsCopy, TakesBack, journal_spot}
 use Rattle.hack_recovery.specs.Scenes.{IsFailed, IsQuiet, Scene, Untouched, scene_with, world_in}
 
 -- ---- the beginning
@@ -55,22 +55,23 @@ pub record PerformsUnjournaled (tells talks : Type 0) (words : List Name) (env :
   pub locks : new.locks ≡ old.locks
   pub guards : new.guards ≡ old.guards
 
--- the call was performed with a journal at this path, and so many calls of files failed: it meets
--- what `run_journaled` promises
-pub record Journals (tells whole locked talks : Type 0) (words : List Name) (env : Env) (journal : Name) (failed : ℕ) (old new : Scene) : Type 0 where
+-- the call was performed with a journal, and so many calls of files failed: it meets what
+-- `run_journaled` promises
+pub record Journals (tells whole locked talks : Type 0) (words : List Name) (env : Env) (places : PlacesAt) (failed : ℕ) (old new : Scene) : Type 0 where
   pub refused : AreRefused env words → ReportsRefusal talks env old.host new.host
   pub done : new.host.term.error ≡ false → talks → IsCallTrace true (tells × locked) words env
-      (world_seen journal old.files.held old.lockfiles 0 old.host) (world_seen journal new.files.held new.lockfiles failed new.host)
+      (world_seen places.journal old.files.held old.lockfiles 0 old.host) (world_seen places.journal new.files.held new.lockfiles failed new.host)
   pub made : talks → IsCallTrace false (tells × locked) words env
-      (world_seen journal old.files.held old.lockfiles 0 old.host) (world_seen journal new.files.held new.lockfiles failed new.host)
+      (world_seen places.journal old.files.held old.lockfiles 0 old.host) (world_seen places.journal new.files.held new.lockfiles failed new.host)
   pub clean : new.host.term.error ≡ false → RestoresEdits env words → tells → locked
-      → KeepsAll (contents_seen journal old.files.held old.lockfiles) (contents_seen journal new.files.held new.lockfiles)
+      → KeepsAll (contents_seen places.journal old.files.held old.lockfiles) (contents_seen places.journal new.files.held new.lockfiles)
   pub back : RestoresEdits env words → tells → locked
-      → BringsBack (files_seen journal old.files.held old.lockfiles 0) (files_seen journal new.files.held new.lockfiles failed)
+      → BringsBack (files_seen places.journal old.files.held old.lockfiles 0) (files_seen places.journal new.files.held new.lockfiles failed)
   pub few : new.host.term.error ≡ false → failed ≤ 1
-  pub gone : RestoresEdits env words → tells → whole → locked → failed ≡ 0 → old.files.held journal ≡ None → new.files.held journal ≡ None
-  pub safe : tells → whole → old.files.held journal ≡ None → StaysSafe journal old.files.held old.files.trace new.files.trace old.files.held new.files.held
+  pub gone : RestoresEdits env words → tells → whole → locked → failed ≡ 0 → old.files.held places.journal ≡ None → new.files.held places.journal ≡ None
+  pub safe : tells → whole → old.files.held places.journal ≡ None → StaysSafe (journal_spot places) old.files.held old.files.trace new.files.trace old.files.held new.files.held
   pub locks : new.locks ≡ old.locks
+  pub guards : new.guards ≡ old.guards
 
 -- after it no file is at the journal's path, and the lockfile's copy is gone; or one of them stays,
 -- which is reported as a warning
@@ -90,13 +91,20 @@ pub record Closes (tells whole : Type 0) (places : PlacesAt) (old new : Scene) :
 
 -- ---- the ways
 
+-- the call was performed with a journal, and what stays of it was reported
+pub record RunsOverJournal (tells whole locked talks : Type 0) (words : List Name) (env : Env) (places : PlacesAt) (old new : Scene) : Type 0 where
+  pub failed : ℕ
+  pub last : Scene
+  pub journals : Journals tells whole locked talks words env places failed old last
+  pub closes : Closes tells whole places last new
+
 -- how a call goes once the lockfile is copied: a guard of the workspace's folder is started, the
 -- call is performed with a journal, and the guard is left, whatever came of it; nothing hangs on
 -- whether the guard came; or memory was refused for its start
 pub data IsWatchedCall (tells whole locked talks watched : Type 0) (words : List Name) (env : Env) (places : PlacesAt) (old new : Scene) : Type 0 where
-  performed : (came : Bool) (guards last : GuardsView) (failed : ℕ) (ran closed : Scene) → (watched → guards ≡ after_start places.folder came old.guards)
-      → Journals tells whole locked talks words env places failed (record old { guards = guards }) ran → Closes tells whole places ran closed
-      → (watched → last ≡ after_leave closed.guards) → new ≡ record closed { guards = last }
+  performed : (came : Bool) (guards last : GuardsView) (ran : Scene) → (watched → guards ≡ after_start places.folder came old.guards)
+      → RunsOverJournal tells whole locked talks words env places (record old { guards = guards }) ran
+      → (watched → last ≡ after_leave guards) → new ≡ record ran { guards = last }
       → IsWatchedCall tells whole locked talks watched words env places old new
   unwatched : (guards : GuardsView) → (watched → guards ≡ old.guards) → new ≡ record (scene_with old.files new.host.term old) { guards = guards } → IsFailed new
       → IsWatchedCall tells whole locked talks watched words env places old new

@@ -14,7 +14,7 @@ pub mod MemoryGuards
 pub mod Admission
 pub mod Scenes
 pub mod Restoring
-pub mod Lockfiles
+pub mod Telling
 pub mod CallCourses
 pub mod ProgramCalls
 pub mod Internal

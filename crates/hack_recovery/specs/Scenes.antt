@@ -19,15 +19,12 @@ pub record Scene : Type 0 where
   pub guards : GuardsView
   pub host : HostView
 
+abbrev pub scene_by : FilesView → Contents → LocksView → GuardsView → HostView → Scene
+scene_by files lockfiles locks guards host = record { files = files; lockfiles = lockfiles; locks = locks; guards = guards; host = host }
+
 abbrev pub scene_of : {F L C O E : Type 0} → Filing F → Filing L → Calling C → Writing O → F → L
     → LocksView → GuardsView → Host C O E → Scene
-scene_of f l c o files lockfiles locks guards host = record {
-  files = files_view f files;
-  lockfiles = l.bytes_at lockfiles;
-  locks = locks;
-  guards = guards;
-  host = host_view c o host;
-}
+scene_of f l c o files lockfiles locks guards host = scene_by (files_view f files) (l.bytes_at lockfiles) locks guards (host_view c o host)
 
 -- what `run` sees of it
 abbrev pub world_in : Scene → World

@@ -4,6 +4,7 @@
 ghost use Rattle.std.specs.Prelude.{◌≡◌, [], IfOk, IfSome};
 ghost use Rattle.hack_base.specs.Names.{names_of};
 ghost use Rattle.hack_files.specs.Files.{KeepsAll, Makes};
+ghost use Rattle.hack_journal.specs.Rows.{spot_of};
 ghost use Rattle.hack_recovery.specs.CallCourses.{Begins};
 ghost use Rattle.hack_recovery.specs.PlacesView.{places_view};
 ghost use Rattle.hack_run.specs.Readings.{IsEarlyReading};
@@ -43,6 +44,7 @@ pub(crate) fn begin<F: Files>(
     ensures begun { IfOk result (λ begun. Begins F.tells (names_of words.now) env.now
         begun.edits (places_view begun.places) begun.is_left
         (files_view F.Files files.old) (files_view F.Files files.new)) }
+    ensures place { IfOk result (λ begun. spot_of begun.place ≡ spot_of begun.places.place) }
     ensures reading { IfOk result (λ begun. IfSome begun.reading
         (IsEarlyReading env.now (names_of words.now))) }
     ensures same { F.tells → KeepsAll (F.bytes_at files.old) (F.bytes_at files.new) }

@@ -8,7 +8,7 @@ ghost use Rattle.std.specs.Prelude.{◌≡◌, ◌≢◌, None, Ok, OnOk, Some, 
 ghost use Rattle.std.specs.Option.{option_or};
 ghost use Rattle.hack_base.specs.Names.{Name};
 ghost use Rattle.hack_files.specs.Files.{KeepsAll, KeepsOthers, MakesOrNot, puts, removes};
-ghost use Rattle.hack_recovery.specs.Lockfiles.{Tells};
+ghost use Rattle.hack_recovery.specs.Telling.{Tells};
 ghost use Rattle.hack_run.specs.Worlds.{IsSameHost, host_view};
 
 use crate::fault::CallFault;
@@ -94,7 +94,13 @@ pub(crate) fn settle<F: Files, L: Files, C: Caller, O: Write, E: Write>(
     let bytes = match look(host.alloc, files, places.copy.as_str()) {
         Ok(None) => return Ok(true),
         Ok(Some(bytes)) => bytes,
-        Err(fault) => return tell_fault(host.alloc, places.copy.as_str(), fault, host.term, host.err),
+        Err(fault) => return tell_fault(
+            host.alloc,
+            places.copy.as_str(),
+            fault,
+            host.term,
+            host.err,
+        ),
     };
     let is_settled = if host.env.by_guard {
         give_back(&bytes, places, lockfiles, host)?

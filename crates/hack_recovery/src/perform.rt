@@ -1,18 +1,19 @@
 //! A whole call: what an interrupted one left is restored first, and what this one edits is kept in
 //! a journal meanwhile, under the eyes of a guard.
 
-ghost use Rattle.std.specs.Prelude.{IfSome, IfOk, OnOk, Ok, [], string_bytes, true, false, ◌≡◌};
+ghost use Rattle.std.specs.Prelude.{◌≡◌, IfSome, Ok, OnOk, false, string_bytes, true};
 ghost use Rattle.hack_base.specs.Names.{names_of};
-ghost use Rattle.hack_files.specs.Files.{KeepsAll, Makes};
+ghost use Rattle.hack_files.specs.Files.{Contents, KeepsOthers, MakesOrNot, removes};
+ghost use Rattle.hack_journal.specs.Rows.{spot_of};
 ghost use Rattle.hack_recovery.specs.AskedEdits.{is_restore};
-ghost use Rattle.hack_recovery.specs.GuardEvents.{GuardsView, after_start};
-ghost use Rattle.hack_recovery.specs.KeepersView.{keepers_view};
+ghost use Rattle.hack_recovery.specs.CallCourses.{Continues, IsCallCourse, IsJournalClosed};
+ghost use Rattle.hack_recovery.specs.CallCourses.{IsJournaledCall, IsLockedCourse, IsWatchedCall};
+ghost use Rattle.hack_recovery.specs.CallCourses.{PerformsUnjournaled, RunsOverJournal};
+ghost use Rattle.hack_recovery.specs.GuardEvents.{GuardsView};
 ghost use Rattle.hack_recovery.specs.LockEvents.{LocksView};
-ghost use Rattle.hack_recovery.specs.Scenes.{scene_of, scene_with};
-ghost use Rattle.hack_recovery.specs.CallCourses.{IsCallCourse, Continues, IsJournalClosed};
-ghost use Rattle.hack_recovery.specs.CallCourses.{IsJournaledCall, IsLockedCourse};
-ghost use Rattle.hack_recovery.specs.CallCourses.{RunsOverJournal, TakesBack, IsWatched};
 ghost use Rattle.hack_recovery.specs.PlacesView.{places_view};
+ghost use Rattle.hack_recovery.specs.Restoring.{TakesBack};
+ghost use Rattle.hack_recovery.specs.Scenes.{scene_by, scene_of};
 ghost use Rattle.hack_run.specs.Readings.{IsEarlyReading};
 ghost use Rattle.hack_run.specs.Worlds.{IsSameHost, files_view, host_view};
 ghost use Rattle.hack_term.specs.Lines.{IsExitStatus};
@@ -23,8 +24,8 @@ use crate::begin::{Begun, begin};
 use crate::fault::CallFault;
 use crate::guards::Guards;
 use crate::keepers::Keepers;
-use crate::locks::Locks;
 use crate::lockfile::{keep_copy, settle};
+use crate::locks::Locks;
 use crate::look::is_there;
 use crate::places::Places;
 use crate::restore::restore;
@@ -104,6 +105,19 @@ fn plainly<F: Files, C: Caller, O: Write, E: Write>(
     files: &mut F,
     host: &mut Host<'_, C, O, E>,
 ) -> u8
+    requires { IfSome begun.reading (IsEarlyReading host.old.env.now (names_of words.now)) }
+    ensures host { IsSameHost host.old host.new }
+    ensures status { IsExitStatus host.old.env.now.deny_warnings host.new.term.now result }
+    ensures restores { is_restore begun.edits ≡ true
+        → (files.new ≡ files.old) × (host_view C.Caller O.Write host.new
+        ≡ host_view C.Caller O.Write host.old) }
+    ensures runs { is_restore begun.edits ≡ false → (lockfiles : Contents) (locks : LocksView)
+        (guards : GuardsView) → PerformsUnjournaled F.tells C.tells
+        (names_of words.now) host.old.env.now
+        (scene_by (files_view F.Files files.old) lockfiles locks guards
+        (host_view C.Caller O.Write host.old))
+        (scene_by (files_view F.Files files.new) lockfiles locks guards
+        (host_view C.Caller O.Write host.new)) }
 {
     if begun.edits == Edits::Restore {
         if !host.env.by_guard {
@@ -133,6 +147,17 @@ fn guarded<F: Files, L: Files, K: Locks, G: Guards, C: Caller, O: Write, E: Writ
     keepers: &mut Keepers<K, G>,
     host: &mut Host<'_, C, O, E>,
 ) -> (u8, F, L)
+    requires reading { IfSome begun.reading
+        (IsEarlyReading host.old.env.now (names_of words.now)) }
+    requires place { spot_of begun.place ≡ spot_of begun.places.place }
+    ensures host { IsSameHost host.old host.new }
+    ensures status { IsExitStatus host.old.env.now.deny_warnings host.new.term.now result.0 }
+    ensures goes { IsLockedCourse F.tells F.whole L.tells C.tells K.tells G.tells
+        (names_of words.now) host.old.env.now begun.edits (places_view begun.places)
+        (scene_of F.Files L.Files C.Caller O.Write files lockfiles
+        (K.shown keepers.old.locks) (G.shown keepers.old.guards) host.old)
+        (scene_of F.Files L.Files C.Caller O.Write result.1 result.2
+        (K.shown keepers.new.locks) (G.shown keepers.new.guards) host.new) }
 {
     let mut files = files;
     let mut lockfiles = lockfiles;
@@ -155,6 +180,14 @@ fn take_back<F: Files, L: Files, C: Caller, O: Write, E: Write>(
     lockfiles: &mut L,
     host: &mut Host<'_, C, O, E>,
 ) -> Result<bool, CallFault>
+    ensures host { IsSameHost host.old host.new }
+    ensures stopped { result ≡ Ok false → host.new.term.now.error ≡ true }
+    ensures goes { (locks : LocksView) (guards : GuardsView)
+        → TakesBack F.tells F.whole L.tells host.old.env.now.by_guard (places_view places.now)
+        (scene_by (files_view F.Files files.old) (L.bytes_at lockfiles.old) locks guards
+        (host_view C.Caller O.Write host.old))
+        (scene_by (files_view F.Files files.new) (L.bytes_at lockfiles.new) locks guards
+        (host_view C.Caller O.Write host.new)) result }
 {
     let dir = host.env.current_dir.as_str();
     if !restore(host.alloc, dir, &places.place, files, host.term, host.err)? {
@@ -176,6 +209,17 @@ fn go_on<F: Files, L: Files, K: Locks, G: Guards, C: Caller, O: Write, E: Write>
     keepers: &mut Keepers<K, G>,
     host: &mut Host<'_, C, O, E>,
 ) -> (u8, F, L)
+    requires reading { IfSome begun.reading
+        (IsEarlyReading host.old.env.now (names_of words.now)) }
+    requires place { spot_of begun.place ≡ spot_of begun.places.place }
+    ensures host { IsSameHost host.old host.new }
+    ensures status { IsExitStatus host.old.env.now.deny_warnings host.new.term.now result.0 }
+    ensures goes { Continues F.tells F.whole L.tells C.tells K.tells G.tells
+        (names_of words.now) host.old.env.now begun.edits (places_view begun.places)
+        (scene_of F.Files L.Files C.Caller O.Write files lockfiles
+        (K.shown keepers.old.locks) (G.shown keepers.old.guards) host.old)
+        (scene_of F.Files L.Files C.Caller O.Write result.1 result.2
+        (K.shown keepers.new.locks) (G.shown keepers.new.guards) host.new) }
 {
     let mut files = files;
     match begun.edits {
@@ -205,6 +249,17 @@ fn journaled<F: Files, L: Files, G: Guards, C: Caller, O: Write, E: Write>(
     guards: &mut G,
     host: &mut Host<'_, C, O, E>,
 ) -> (u8, F, L)
+    requires reading { IfSome begun.reading
+        (IsEarlyReading host.old.env.now (names_of words.now)) }
+    requires place { spot_of begun.place ≡ spot_of begun.places.place }
+    ensures host { IsSameHost host.old host.new }
+    ensures status { IsExitStatus host.old.env.now.deny_warnings host.new.term.now result.0 }
+    ensures goes { (locks : LocksView) → IsJournaledCall F.tells F.whole L.tells C.tells G.tells
+        (names_of words.now) host.old.env.now (places_view begun.places)
+        (scene_of F.Files L.Files C.Caller O.Write files lockfiles locks
+        (G.shown guards.old) host.old)
+        (scene_of F.Files L.Files C.Caller O.Write result.1 result.2 locks
+        (G.shown guards.new) host.new) }
 {
     let mut files = files;
     let mut lockfiles = lockfiles;
@@ -223,6 +278,17 @@ fn watched<F: Files, L: Files, G: Guards, C: Caller, O: Write, E: Write>(
     guards: &mut G,
     host: &mut Host<'_, C, O, E>,
 ) -> (u8, F, L)
+    requires reading { IfSome begun.reading
+        (IsEarlyReading host.old.env.now (names_of words.now)) }
+    requires place { spot_of begun.place ≡ spot_of begun.places.place }
+    ensures host { IsSameHost host.old host.new }
+    ensures status { IsExitStatus host.old.env.now.deny_warnings host.new.term.now result.0 }
+    ensures goes { (locks : LocksView) → IsWatchedCall F.tells F.whole L.tells C.tells G.tells
+        (names_of words.now) host.old.env.now (places_view begun.places)
+        (scene_of F.Files L.Files C.Caller O.Write files lockfiles locks
+        (G.shown guards.old) host.old)
+        (scene_of F.Files L.Files C.Caller O.Write result.1 result.2 locks
+        (G.shown guards.new) host.new) }
 {
     match guards.start(host.alloc, begun.places.place.folder.as_str()) {
         Ok(watches) => {
@@ -245,7 +311,8 @@ fn watched<F: Files, L: Files, G: Guards, C: Caller, O: Write, E: Write>(
 
 /// Says that nobody restores the manifests where this call ends early.
 fn tell_unwatched<E: Write>(term: &Term, err: &mut E) {
-    let text = "no guard could be started: where this call is interrupted, the next one restores the manifests";
+    let text =
+        "no guard could be started: where this call is interrupted, the next one restores the manifests";
     let _ = term.info(text, err);
 }
 
@@ -258,6 +325,16 @@ fn over_journal<F: Files, L: Files, C: Caller, O: Write, E: Write>(
     lockfiles: L,
     host: &mut Host<'_, C, O, E>,
 ) -> (u8, F, L)
+    requires reading { IfSome begun.reading
+        (IsEarlyReading host.old.env.now (names_of words.now)) }
+    requires place { spot_of begun.place ≡ spot_of begun.places.place }
+    ensures host { IsSameHost host.old host.new }
+    ensures status { IsExitStatus host.old.env.now.deny_warnings host.new.term.now result.0 }
+    ensures goes { (locks : LocksView) (guards : GuardsView) → RunsOverJournal
+        F.tells F.whole L.tells C.tells
+        (names_of words.now) host.old.env.now (places_view begun.places)
+        (scene_of F.Files L.Files C.Caller O.Write files lockfiles locks guards host.old)
+        (scene_of F.Files L.Files C.Caller O.Write result.1 result.2 locks guards host.new) }
 {
     let env = host.env;
     let Begun {
@@ -287,6 +364,12 @@ fn close<F: Files, E: Write>(
     term: &mut Term,
     err: &mut E,
 ) -> Result<(), AllocError>
+    ensures told { OnOk result (IsJournalClosed F.tells (places_view places.now)
+        (files_view F.Files files.old) (files_view F.Files files.new) term.old term.new) }
+    ensures others { F.tells → KeepsOthers (string_bytes places.now.copy)
+        (F.bytes_at files.old) (F.bytes_at files.new) }
+    ensures made { F.whole → MakesOrNot (removes (string_bytes places.now.copy))
+        (F.trace files.old) (F.trace files.new) (F.bytes_at files.old) (F.bytes_at files.new) }
 {
     let journal = places.place.journal.as_str();
     if is_there(journal, files)? {

@@ -27,11 +27,7 @@ pub struct Places {
 
 impl Places {
     /// The places of a workspace's folder.
-    pub fn of<F: Files>(
-        alloc: Global,
-        folder: &str,
-        files: &mut F,
-    ) -> Result<Places, AllocError>
+    pub fn of<F: Files>(alloc: Global, folder: &str, files: &mut F) -> Result<Places, AllocError>
         ensures found { IfOk result (λ places. ArePlacesOf F.tells
             (F.failed files.old) (F.failed files.new) (F.bytes_at files.old)
             folder.now (places_view places)) }

@@ -1,10 +1,11 @@
 //! Restores what an interrupted call left edited, and reports it.
 
-ghost use Rattle.std.specs.Prelude.{◌≡◌, [], IfOk, MatchOption, OnErr, OnOk, false, true};
-ghost use Rattle.std.specs.Prelude.{string_bytes};
+ghost use Rattle.std.specs.Prelude.{◌≡◌, ◌≢◌, [], IfOk, MatchOption, Ok, string_bytes, true};
 ghost use Rattle.hack_files.specs.Files.{KeepsAll, Makes};
+ghost use Rattle.hack_journal.specs.Rows.{spot_of};
+ghost use Rattle.hack_recovery.specs.Restoring.{IsBroughtBack, Restores};
 ghost use Rattle.hack_recovery.specs.Strangers.{NamesStranger, NamesNone};
-ghost use Rattle.hack_recovery.specs.CallCourses.{IsBroughtBack, Restores};
+ghost use Rattle.hack_recovery.specs.Telling.{Tells};
 ghost use Rattle.hack_run.specs.Worlds.{files_view};
 
 use crate::fault::CallFault;
@@ -13,6 +14,7 @@ use hack_base::paths::under;
 use hack_files::fs::Files;
 use hack_journal::place::Place;
 use hack_journal::recover::{RecoverFault, recover};
+use hack_journal::rows::row_at;
 use hack_term::term::Term;
 use std::alloc::{AllocError, Global};
 use std::io::Write;
@@ -28,7 +30,7 @@ pub(crate) fn restore<F: Files, E: Write>(
     term: &mut Term,
     err: &mut E,
 ) -> Result<bool, CallFault>
-    ensures { Restores F.tells F.whole place.now
+    ensures { Restores F.tells F.whole (spot_of place.now)
         (files_view F.Files files.old)
         (files_view F.Files files.new)
         term.old term.new result }
@@ -44,9 +46,49 @@ fn stranger_at<F: Files>(
     alloc: Global,
     place: &Place,
     files: &mut F,
-) -> Result<Option<String>, CallFault>
+) -> Result<Option<String>, AllocError>
+    ensures found { IfOk result (λ found. MatchOption found
+        (F.tells → NamesNone (spot_of place.now) (F.bytes_at files.old))
+        (λ path. F.tells → NamesStranger (spot_of place.now) (F.bytes_at files.old)
+        (string_bytes path))) }
+    ensures same { F.tells → KeepsAll (F.bytes_at files.old) (F.bytes_at files.new) }
+    ensures untraced { F.whole → Makes [] (F.trace files.old) (F.trace files.new)
+        (F.bytes_at files.old) (F.bytes_at files.new) }
 {
-    todo
+    match row_at(alloc, files, place) {
+        Ok(Some(row)) => match first_stranger(&row.entries) {
+            Some(entry) => Ok(Some(String::from_str(alloc, entry.path.as_str())?)),
+            None => Ok(None),
+        },
+        Ok(None) => Ok(None),
+        Err(fault) => unread(fault),
+    }
+}
+
+/// Why a journal can't be read is told where it is to be followed.
+fn unread(fault: RecoverFault) -> Result<Option<String>, AllocError> {
+    if is_memory(&fault) {
+        return Err(AllocError);
+    }
+    Ok(None)
+}
+
+/// Reports that the journal names a stranger.
+fn tell_stranger<E: Write>(
+    alloc: Global,
+    journal: &str,
+    path: &str,
+    term: &mut Term,
+    err: &mut E,
+) -> Result<bool, CallFault>
+    ensures told { Tells term.old term.new result }
+    ensures never { result ≢ Ok true }
+{
+    let text = format!(in alloc;
+        "`{journal}` tells of `{path}`, which no call edits; put back by hand what it tells, and remove it"
+    )?;
+    let _ = term.error(&text, err);
+    Ok(false)
 }
 
 /// Restores what the journal keeps, and reports it.
@@ -58,10 +100,9 @@ fn bring_back<F: Files, E: Write>(
     term: &mut Term,
     err: &mut E,
 ) -> Result<bool, CallFault>
-    ensures { IsBroughtBack F.tells F.whole place.now
-        (files_view F.Files files.old)
-        (files_view F.Files files.new)
-        term.old term.new result }
+    ensures came { IsBroughtBack F.tells F.whole (spot_of place.now)
+        (files_view F.Files files.old) (files_view F.Files files.new) result }
+    ensures told { Tells term.old term.new result }
 {
     match recover(alloc, files, place) {
         Ok(paths) => tell_all(alloc, dir, &paths, term, err),
@@ -99,4 +140,29 @@ pub(crate) fn tell_restored<E: Write>(
     let text = format!(in alloc; "restored `{path}` after an interrupted call")?;
     let _ = term.info(&text, err);
     Ok(true)
+}
+
+/// Reports why files can't be restored.
+fn tell_fault<E: Write>(
+    alloc: Global,
+    fault: RecoverFault,
+    term: &mut Term,
+    err: &mut E,
+) -> Result<bool, CallFault>
+    ensures told { Tells term.old term.new result }
+    ensures never { result ≢ Ok true }
+{
+    if is_memory(&fault) {
+        return Err(CallFault::Memory);
+    }
+    let text = format!(in alloc; "{fault}")?;
+    let _ = term.error(&text, err);
+    Ok(false)
+}
+
+fn is_memory(fault: &RecoverFault) -> bool {
+    match fault {
+        RecoverFault::Memory => true,
+        _ => false,
+    }
 }

@@ -5,11 +5,9 @@ ghost use Rattle.hack_recovery.specs.GuardEvents.{GuardsView};
 
 use crate::guards::Guards;
 use std::alloc::{AllocError, Global};
-use std::env;
-use std::io;
 use std::io::{ErrorKind, Write};
 use std::process::{Child, Command, OpenProcess, Processes, Stdio};
-use std::rt;
+use std::{env, io, rt};
 
 /// What the shell does. Interrupts reach the whole group of a terminal, so it ignores them, as its
 /// children then do. It waits for a line; where its input ends without one, this call has ended. It

@@ -1,0 +1,97 @@
+-- What becomes of what an interrupted call left.
+use Rattle.std.specs.Prelude.{◌≡◌, ◌≢◌, ◌×◌, Bool, true, false, List, Option, Some, None, Ok, Err, Result}
+use Rattle.std.specs.Option.{option_or}
+use Rattle.hack_base.specs.Counters.{GrowsBy}
+use Rattle.hack_base.specs.Names.{Name}
+use Rattle.hack_files.specs.Files.{Contents, KeepsAll, KeepsOthers, Makes, MakesOrNot, puts, removes}
+use Rattle.hack_journal.specs.Recovery.{CountsRecoverFault, IsJournalRefusal, IsRestored, IsWhy}
+use Rattle.hack_journal.specs.Rows.{Spot}
+use Rattle.hack_journal.specs.SafeFiles.{IsSafe, StaysSafe}
+use Rattle.hack_journal.specs.declared.recover.RecoverFault.{RecoverFault}
+use Rattle.hack_run.specs.Worlds.{FilesView}
+use Rattle.hack_term.specs.declared.term.Term.{Term}
+use Rattle.hack_recovery.specs.CallPlaces.{PlacesAt}
+use Rattle.hack_recovery.specs.FileLooks.{Unchanged}
+use Rattle.hack_recovery.specs.Scenes.{IsQuiet, Scene, scene_with}
+use Rattle.hack_recovery.specs.Strangers.{NamesNone, NamesStranger}
+use Rattle.hack_recovery.specs.Telling.{Tells}
+use Rattle.hack_recovery.specs.declared.fault.CallFault.{CallFault}
+
+-- ---- a journal
+
+-- what it keeps was brought back: these paths held something else, and the journal is gone
+pub record Recovers (tells whole : Type 0) (spot : Spot) (paths : List Name) (old new : FilesView) : Type 0 where
+  pub failures : GrowsBy 0 old.failed new.failed
+  pub restored : tells → IsRestored spot paths old.held new.held
+  pub comes_back : tells → (first : Contents) → IsSafe spot first old.held → KeepsAll first new.held
+  pub safe : tells → whole → (first : Contents) → IsSafe spot first old.held → StaysSafe spot first old.trace new.trace old.held new.held
+
+-- it could not be brought back, or not all of it: the error says why, and what isn't back is still
+-- in the journal
+pub record FailsToRestore (tells whole : Type 0) (spot : Spot) (fault : RecoverFault) (old new : FilesView) : Type 0 where
+  pub failures : CountsRecoverFault old.failed new.failed fault
+  pub why : IsWhy spot tells old.held fault
+  pub refused : IsJournalRefusal fault → tells → KeepsAll old.held new.held
+  pub never : IsJournalRefusal fault → tells → (first : Contents) → ¬ IsSafe spot first old.held
+  pub safe : tells → whole → (first : Contents) → IsSafe spot first old.held → StaysSafe spot first old.trace new.trace old.held new.held
+
+-- what came of bringing it back; either may not be reported, for want of memory
+pub data IsBroughtBack (tells whole : Type 0) (spot : Spot) (old new : FilesView) (came : Result Bool CallFault) : Type 0 where
+  brought : (paths : List Name) → Recovers tells whole spot paths old new → came ≢ Ok false → IsBroughtBack tells whole spot old new came
+  stopped : (fault : RecoverFault) → FailsToRestore tells whole spot fault old new → came ≢ Ok true → IsBroughtBack tells whole spot old new came
+
+-- what became of a journal: it names a file that no call edits, and nothing is changed; or it names
+-- none, and what it keeps was brought back; or memory was refused before that, and nothing is
+-- changed. An error was reported where it isn't back
+pub data Restores (tells whole : Type 0) (spot : Spot) (old new : FilesView) (was now : Term) (came : Result Bool CallFault) : Type 0 where
+  strange : (path : Name) → (tells → NamesStranger spot old.held path) → Unchanged tells whole old new → came ≢ Ok true → Tells was now came
+      → Restores tells whole spot old new was now came
+  trusted : (at : FilesView) → Unchanged tells whole old at → (tells → NamesNone spot old.held) → IsBroughtBack tells whole spot at new came → Tells was now came
+      → Restores tells whole spot old new was now came
+  unread : (fault : CallFault) → Unchanged tells whole old new → came ≡ Err fault → Restores tells whole spot old new was now came
+
+-- ---- the copy of the lockfile
+
+-- the lockfile was copied, if there is one, and no other file is changed; where it isn't done, at
+-- most the copy is changed
+pub record KeepsCopy (tells whole locked : Type 0) (done : Bool) (places : PlacesAt) (old new : Scene) : Type 0 where
+  pub copied : done ≡ true → tells → locked → new.files.held places.copy ≡ option_or (old.lockfiles places.lockfile) (old.files.held places.copy)
+  pub others : tells → KeepsOthers places.copy old.files.held new.files.held
+  pub made : whole → (bytes : Name) × MakesOrNot (puts places.copy bytes) old.files.trace new.files.trace old.files.held new.files.held
+  pub same : locked → KeepsAll old.lockfiles new.lockfiles
+  pub host : new.host ≡ old.host
+  pub quiet : IsQuiet old new
+
+-- the copy is gone, and no other file is changed; the guard gives the lockfile what the copy has, and
+-- nobody else changes it
+pub record Settles (tells whole locked : Type 0) (by_guard : Bool) (places : PlacesAt) (old new : Scene) (came : Result Bool CallFault) : Type 0 where
+  pub gone : came ≡ Ok true → tells → new.files.held places.copy ≡ None
+  pub others : tells → KeepsOthers places.copy old.files.held new.files.held
+  pub made : whole → MakesOrNot (removes places.copy) old.files.trace new.files.trace old.files.held new.files.held
+  pub given : came ≡ Ok true → by_guard ≡ true → tells → locked → (bytes : Name) → old.files.held places.copy ≡ Some bytes → new.lockfiles places.lockfile ≡ Some bytes
+  pub left : by_guard ≡ false → locked → KeepsAll old.lockfiles new.lockfiles
+  pub none : tells → old.files.held places.copy ≡ None → locked → KeepsAll old.lockfiles new.lockfiles
+  pub apart : locked → KeepsOthers places.lockfile old.lockfiles new.lockfiles
+  pub told : Tells old.host.term new.host.term came
+  pub quiet : IsQuiet old new
+
+-- ---- all of it
+
+-- the journal, and where an older version had it
+abbrev pub journal_spot : PlacesAt → Spot
+journal_spot places = record { folder = places.folder; journal = places.journal }
+
+abbrev pub older_spot : PlacesAt → Spot
+older_spot places = record { folder = places.folder; journal = places.older }
+
+-- what an interrupted call left is taken back: the journal first, then one of an older version, and
+-- then the lockfile's copy; it ends where one of these can't be
+pub data TakesBack (tells whole locked : Type 0) (by_guard : Bool) (places : PlacesAt) (old new : Scene) (came : Result Bool CallFault) : Type 0 where
+  unrestored : Restores tells whole (journal_spot places) old.files new.files old.host.term new.host.term came → came ≢ Ok true → new ≡ scene_with new.files new.host.term old
+      → TakesBack tells whole locked by_guard places old new came
+  older_unrestored : (files : FilesView) (term : Term) → Restores tells whole (journal_spot places) old.files files old.host.term term (Ok true)
+      → Restores tells whole (older_spot places) files new.files term new.host.term came → came ≢ Ok true → new ≡ scene_with new.files new.host.term old
+      → TakesBack tells whole locked by_guard places old new came
+  settled : (files later : FilesView) (term after : Term) → Restores tells whole (journal_spot places) old.files files old.host.term term (Ok true)
+      → Restores tells whole (older_spot places) files later term after (Ok true) → Settles tells whole locked by_guard places (scene_with later after old) new came
+      → TakesBack tells whole locked by_guard places old new came
