@@ -49,7 +49,7 @@ unchanged_then T W a b c f g = record {
 
 -- a test of whether something is there
 pub is_some_of : (o : Option (List ℕ)) (there : Bool) → (IsTrue there ↔ IsSome o) → there ≡ is_some o
-is_some_of None true h = absurd (h.0 refl)
+is_some_of None true h = let e : IsSome {T = List ℕ} None = h.0 refl in cc
 is_some_of None false h = refl
 is_some_of (Some x) there h = h.1 refl
 
@@ -61,7 +61,7 @@ none_there (Some x) there off h = cc
 -- where something is there
 pub some_there : (o : Option (List ℕ)) (there : Bool) → IsTrue there → there ≡ is_some o → IsSome o
 some_there None there on h = cc
-some_there (Some x) there on h = tt
+some_there (Some x) there on h = refl
 
 -- a look after others: what is seen then is what was there at first
 pub seen_first : (T P : Type 0) (Q : Contents → Type 0) (first mid : Contents) (x y z : ℕ) → Finds T x y P → (T → KeepsAll first mid)

@@ -1,6 +1,6 @@
 -- The repository that a folder is in.
 use Rattle.std.specs.Prelude.{ℕ, Bool, List, Option, Some, None, codes, drop, is_some, length, nat_eq, option_and_then, option_map, take, if◌then◌else◌}
-use Rattle.std.specs.List.{pointwise}
+use Rattle.std.specs.Cmp.Lexicographic.{pointwise}
 use Rattle.std.specs.Str.{trim_end}
 use Rattle.hack_base.specs.Names.{Name}
 use Rattle.hack_base.specs.PathTexts.{join_of, normal_of}
