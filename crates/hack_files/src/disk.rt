@@ -13,12 +13,13 @@ use std::{fs, io, rt};
 
 /// The files of the operating system.
 ///
-/// A file is written as a whole: its bytes are written to a new file in the same folder and flushed
-/// to the disk, and that file is renamed to the path, with the permissions and owner of the one
-/// that was there. So neither a full disk nor the end of the program during a write loses what the
-/// file held, or leaves a file that is written in part. A symbolic link is followed. What can't be
-/// replaced is written in place: the target of a broken link, a file with several hard links, a
-/// device, and a file in a folder where no new file can be made.
+/// A file is written as a whole: its bytes are written to a new file in the same folder, and that
+/// file is renamed to the path, with the permissions and owner of the one that was there. So neither
+/// a full disk nor the end of the program during a write loses what the file held, or leaves a file
+/// that is written in part. A write doesn't wait for the disk: what was written shortly before a
+/// power cut may be lost. A symbolic link is followed. What can't be replaced is written in place:
+/// the target of a broken link, a file with several hard links, a device, and a file in a folder
+/// where no new file can be made.
 #[derive(Drop)]
 pub struct Disk<R: rt::Files + AllocGlobal + Drop> {
     rt: R,
@@ -96,15 +97,6 @@ fn successor_of<R: rt::Files + AllocGlobal>(rt: &R, path: &str) -> Option<Succes
     Some(Successor { file, name, target })
 }
 
-// Writes all bytes, and waits until they are on the disk, where the file is a regular one.
-fn fill<F: Write + OpenFile>(file: &mut F, bytes: &[u8]) -> io::Result<()> {
-    file.write_all(bytes)?;
-    if file.metadata()?.is_file() {
-        file.sync_all()?;
-    }
-    Ok(())
-}
-
 // Writes the bytes to the new file, and renames it to its target. Where that fails, the new file is
 // removed.
 fn replace<R: rt::Files>(rt: &R, successor: Successor<R::File>, bytes: &[u8]) -> io::Result<()> {
@@ -113,7 +105,7 @@ fn replace<R: rt::Files>(rt: &R, successor: Successor<R::File>, bytes: &[u8]) ->
         name,
         target,
     } = successor;
-    let placed = match fill(&mut file, bytes) {
+    let placed = match file.write_all(bytes) {
         Ok(()) => fs::rename(rt, name.as_str(), target.as_path()),
         Err(e) => Err(e),
     };
@@ -131,7 +123,7 @@ fn write_file<R: rt::Files + AllocGlobal>(rt: &R, path: &str, bytes: &[u8]) -> i
     };
     match successor {
         Some(successor) => replace(rt, successor, bytes),
-        None => fill(&mut fs::create(rt, path)?, bytes),
+        None => fs::create(rt, path)?.write_all(bytes),
     }
 }
 

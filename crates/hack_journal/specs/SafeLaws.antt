@@ -70,23 +70,23 @@ fresh_less j k o m h none = record {
 pub safe_of : (s : Spot) (o : Contents) (es : List Edit) (m : Contents) → IsJournaled s o es m → IsSafe s o m
 safe_of s o es m k = elim k.ends [
   | inl none ↦ record {
-      entries = es;
-      by = record {
-        row = record { count = length es; files = each_row s m es k.each; ends = none.0 };
-        fresh = fresh_less s.journal (length es) o m k.fresh none.0;
-        keeps = subst (λ (l : List Edit). KeepFirst s.journal o l) (ap (λ (l : List Edit). es ++ l) none.1 ∙ append-nil es) k.keeps;
-        holds = k.holds;
-      };
-    }
+    entries = es;
+    by = record {
+      row = record { count = length es; files = each_row s m es k.each; ends = none.0 };
+      fresh = fresh_less s.journal (length es) o m k.fresh none.0;
+      keeps = subst (λ (l : List Edit). KeepFirst s.journal o l) (ap (λ (l : List Edit). es ++ l) none.1 ∙ append-nil es) k.keeps;
+      holds = k.holds;
+    };
+  }
   | inr last ↦ record {
-      entries = es ++ k.more;
-      by = record {
-        row = record { count = suc (length es); files = (es, k.more, each_row s m es k.each, last.0, refl); ends = last.1 };
-        fresh = k.fresh;
-        keeps = k.keeps;
-        holds = holds_left s.journal o es k.more m k.holds;
-      };
-    }
+    entries = es ++ k.more;
+    by = record {
+      row = record { count = suc (length es); files = (es, k.more, each_row s m es k.each, last.0, refl); ends = last.1 };
+      fresh = k.fresh;
+      keeps = k.keeps;
+      holds = holds_left s.journal o es k.more m k.holds;
+    };
+  }
 ]
 
 -- ---- changes

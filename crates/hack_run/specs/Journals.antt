@@ -5,8 +5,8 @@ use Rattle.hack_journal.specs.LockfilesApart.{apart}
 use Rattle.hack_journal.specs.SafeFiles.{without}
 use Rattle.hack_run.specs.Worlds.{FilesView, HostView, World}
 
--- what the paths hold: lockfiles what `lockfiles` holds, all others what `files` holds, and the
--- journal nothing
+-- what the paths hold: lockfiles what `lockfiles` holds, all others what `files` holds, and those
+-- that are set aside for the journal nothing
 abbrev pub contents_seen : List ℕ → Contents → Contents → Contents
 contents_seen journal files lockfiles = apart (without journal files) lockfiles
 

@@ -1,10 +1,11 @@
 //! A whole call over files with a journal: wherever it ends, nothing is lost.
 
 ghost use Rattle.std.specs.Prelude.{◌≡◌, ◌⊎◌, ◌≤◌, ◌+◌, ◌-◌, ◌^◌, None, false, min};
-ghost use Rattle.std.specs.Prelude.{IfSome, string_bytes, true};
+ghost use Rattle.std.specs.Prelude.{IfSome, length, string_bytes, true};
 ghost use Rattle.hack_base.specs.Names.{names_of};
-ghost use Rattle.hack_files.specs.Files.{KeepsAll, KeepsOthers};
-ghost use Rattle.hack_journal.specs.Journal.{edits_of};
+ghost use Rattle.hack_files.specs.Files.{KeepsAll};
+ghost use Rattle.hack_journal.specs.FileCalls.{spot_in};
+ghost use Rattle.hack_journal.specs.Rows.{KeepsBeside, spot_of};
 ghost use Rattle.hack_journal.specs.SafeFiles.{AreBack, Stays, StaysSafe};
 ghost use Rattle.hack_run.specs.Journals.{contents_seen, files_seen, world_seen};
 ghost use Rattle.hack_run.specs.CallTrace.{IsCallTrace};
@@ -20,11 +21,12 @@ use crate::run::run;
 use hack_files::fs::Files;
 use hack_journal::apart::Apart;
 use hack_journal::journaled::Journaled;
+use hack_journal::place::Place;
 use hack_process::process::Caller;
 use std::io::Write;
 
 /// Performs a call as [`run`] does, and returns its exit status, the files, the lockfiles, and how
-/// many of their calls failed. Each change of the files is first noted in a journal at this path,
+/// many of their calls failed. Each change of the files is first noted in a journal at this place,
 /// where no file may be yet; at the end the journal is removed, unless some file isn't restored.
 /// Lockfiles, which cargo changes too, are those of `lockfiles`.
 pub fn run_journaled<F: Files, L: Files, C: Caller, O: Write, E: Write>(
@@ -32,7 +34,7 @@ pub fn run_journaled<F: Files, L: Files, C: Caller, O: Write, E: Write>(
     reading: Option<Reading>,
     files: F,
     lockfiles: L,
-    journal: String,
+    place: Place,
     host: &mut Host<'_, C, O, E>,
 ) -> (u8, F, L, u64)
     requires { IfSome reading (IsEarlyReadingOrRefusal host.old.env.now (names_of words.now)) }
@@ -46,47 +48,47 @@ pub fn run_journaled<F: Files, L: Files, C: Caller, O: Write, E: Write>(
         (host_view C.Caller O.Write host.old) (host_view C.Caller O.Write host.new) }
     ensures done { host.new.term.now.error ≡ false → C.tells
         → IsCallTrace true (F.tells × L.tells) (names_of words.now) host.old.env.now
-        (world_seen (string_bytes journal) (F.bytes_at files) (L.bytes_at lockfiles) 0
+        (world_seen (string_bytes place.journal) (F.bytes_at files) (L.bytes_at lockfiles) 0
         (host_view C.Caller O.Write host.old))
-        (world_seen (string_bytes journal) (F.bytes_at result.1) (L.bytes_at result.2) result.3
+        (world_seen (string_bytes place.journal) (F.bytes_at result.1) (L.bytes_at result.2) result.3
         (host_view C.Caller O.Write host.new)) }
     ensures made { C.tells
         → IsCallTrace false (F.tells × L.tells) (names_of words.now) host.old.env.now
-        (world_seen (string_bytes journal) (F.bytes_at files) (L.bytes_at lockfiles) 0
+        (world_seen (string_bytes place.journal) (F.bytes_at files) (L.bytes_at lockfiles) 0
         (host_view C.Caller O.Write host.old))
-        (world_seen (string_bytes journal) (F.bytes_at result.1) (L.bytes_at result.2) result.3
+        (world_seen (string_bytes place.journal) (F.bytes_at result.1) (L.bytes_at result.2) result.3
         (host_view C.Caller O.Write host.new)) }
     ensures clean { host.new.term.now.error ≡ false
         → RestoresEdits host.old.env.now (names_of words.now) → F.tells → L.tells → KeepsAll
-        (contents_seen (string_bytes journal) (F.bytes_at files) (L.bytes_at lockfiles))
-        (contents_seen (string_bytes journal) (F.bytes_at result.1) (L.bytes_at result.2)) }
+        (contents_seen (string_bytes place.journal) (F.bytes_at files) (L.bytes_at lockfiles))
+        (contents_seen (string_bytes place.journal) (F.bytes_at result.1) (L.bytes_at result.2)) }
 
     // The files are restored, lockfiles too: unless the command line asks for edits that stay, each
     // path holds what it held, except for at most as many paths as calls of the files failed. Where
     // no error was reported, only the removal of the journal can have failed.
     ensures back { RestoresEdits host.old.env.now (names_of words.now) → F.tells → L.tells
         → BringsBack
-        (files_seen (string_bytes journal) (F.bytes_at files) (L.bytes_at lockfiles) 0)
-        (files_seen (string_bytes journal) (F.bytes_at result.1) (L.bytes_at result.2) result.3) }
+        (files_seen (string_bytes place.journal) (F.bytes_at files) (L.bytes_at lockfiles) 0)
+        (files_seen (string_bytes place.journal) (F.bytes_at result.1) (L.bytes_at result.2) result.3) }
     ensures few { host.new.term.now.error ≡ false → result.3 ≤ 1 }
 
     // The journal is removed: where none existed before, edits don't stay and no call failed, none
     // exists at the end.
     ensures gone { RestoresEdits host.old.env.now (names_of words.now)
         → F.tells → F.whole → L.tells → result.3 ≡ 0
-        → F.bytes_at files (string_bytes journal) ≡ None
-        → F.bytes_at result.1 (string_bytes journal) ≡ None }
+        → F.bytes_at files (string_bytes place.journal) ≡ None
+        → F.bytes_at result.1 (string_bytes place.journal) ≡ None }
 
     // What each single call of the files and of the lockfiles keeps is kept by all of them.
     ensures stays { F.stays files result.1 × L.stays lockfiles result.2 }
 
     // After each front of its changes each path holds what it held at first, or the journal has it:
     // wherever the call is interrupted, `recover` restores everything.
-    ensures safe { F.tells → F.whole → F.bytes_at files (string_bytes journal) ≡ None
-        → StaysSafe (string_bytes journal) (F.bytes_at files)
+    ensures safe { F.tells → F.whole → F.bytes_at files (string_bytes place.journal) ≡ None
+        → StaysSafe (spot_of place) (F.bytes_at files)
         (F.trace files) (F.trace result.1) (F.bytes_at files) (F.bytes_at result.1) }
 {
-    let mut files = Apart::new(Journaled::new(host.alloc, files, journal), lockfiles);
+    let mut files = Apart::new(Journaled::new(host.alloc, files, place), lockfiles);
     let status = run(words, reading, &mut files, host);
     let known = files.failures();
     let failed = end_journal(&mut files.files, known);
@@ -97,17 +99,17 @@ pub fn run_journaled<F: Files, L: Files, C: Caller, O: Write, E: Write>(
 /// an error of that counted. What the journal still has to keep is left to the next call.
 fn end_journal<F: Files>(files: &mut Journaled<F>, failed: u64) -> u64
     ensures handed { F.stays files.old.files files.new.files }
-    ensures journal { files.new.journal ≡ files.old.journal }
+    ensures place { spot_in files.new ≡ spot_in files.old }
     ensures failed { (result ≡ failed) ⊎ (result ≡ min (failed + 1) (2 ^ 64 - 1)) }
-    ensures others { F.tells → KeepsOthers (string_bytes files.old.journal)
-        (F.bytes_at files.old.files) (F.bytes_at files.new.files) }
-    ensures stays { F.tells → F.whole → Stays (string_bytes files.old.journal)
-        (edits_of files.old.entries.items) (edits_of files.new.entries.items)
+    ensures others { F.tells → KeepsBeside files.old.notes.journal
+        (length files.old.notes.entries + 1) (F.bytes_at files.old.files) (F.bytes_at files.new.files) }
+    ensures stays { F.tells → F.whole → Stays (spot_in files.old)
+        files.old.notes.entries files.new.notes.entries
         (F.trace files.old.files) (F.trace files.new.files)
         (F.bytes_at files.old.files) (F.bytes_at files.new.files) }
     ensures gone { result ≡ 0 → F.tells
-        → AreBack (edits_of files.old.entries.items) (F.bytes_at files.old.files)
-        → F.bytes_at files.new.files (string_bytes files.old.journal) ≡ None }
+        → AreBack files.old.notes.entries (F.bytes_at files.old.files)
+        → F.bytes_at files.new.files files.old.notes.journal ≡ None }
 {
     match files.finish() {
         Ok(_) => failed,

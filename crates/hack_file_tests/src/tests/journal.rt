@@ -10,32 +10,45 @@
 //!
 //! Without a place it is about the files over the journal. `begin` takes the files below into a
 //! call, `finish` asks whether no journal is left, and `end` gives the files below back. `cut N`
-//! makes the files that the first N changes leave, and `front N` recovers these too: it shows how
-//! many files were restored, or the error, and the contents at the paths. The modules below have
-//! more questions.
+//! makes the files that the first N changes leave, and `front N` recovers these too: it shows the
+//! paths that were restored, or the error, and the contents at the paths. `begin` and `recover` may
+//! be followed by the folder that the journal lies in. The modules below have more questions.
 
 mod apart;
 mod failing;
 mod fronts;
+mod row;
 mod spelled;
 
 use crate::tests::files::memory::in_memory;
 use crate::tests::files::{answer, held, truth};
 use crate::tests::journal::failing::left;
 use crate::tests::journal::spelled::{entries, spelled, torn};
-use crate::tests::text::number;
+use hack_base::paths::join;
 use hack_files::fs::{FileFault, Files, MemoryFiles, Step};
 use hack_holds::{Ask, Wrong, hold};
 use hack_journal::apart::Apart;
 use hack_journal::journaled::Journaled;
+use hack_journal::place::Place;
 use hack_journal::recover::recover;
 use std::alloc::{AllocError, Global};
 use std::mem;
 
-/// These files with a journal over them.
-fn journaled<F: Files + Drop>(alloc: Global, files: F) -> Result<Journaled<F>, AllocError> {
-    let journal = String::from_str(alloc, "j")?;
-    Ok(Journaled::new(alloc, files, journal))
+/// The journal `j` in a folder.
+fn place(alloc: Global, folder: &str) -> Result<Place, AllocError> {
+    Ok(Place {
+        folder: String::from_str(alloc, folder)?,
+        journal: join(alloc, folder, "j")?,
+    })
+}
+
+/// These files with a journal over them, in this folder.
+fn journaled<F: Files + Drop>(
+    alloc: Global,
+    files: F,
+    folder: &str,
+) -> Result<Journaled<F>, AllocError> {
+    Ok(Journaled::new(alloc, files, place(alloc, folder)?))
 }
 
 /// The files that these steps make.
@@ -50,19 +63,21 @@ fn replayed(alloc: Global, steps: &[Step]) -> Result<MemoryFiles, FileFault> {
     Ok(files)
 }
 
-/// The number of files that were restored, or the error.
-fn recovered<F: Files>(alloc: Global, files: &mut F) -> Result<String, AllocError> {
-    match recover(alloc, files, "j") {
-        Ok(count) => number(alloc, count),
+/// The paths that were restored, or the error.
+fn recovered<F: Files>(alloc: Global, files: &mut F, folder: &str) -> Result<String, AllocError> {
+    let place = place(alloc, folder)?;
+    match recover(alloc, files, &place) {
+        Ok(paths) if paths.is_empty() => String::from_str(alloc, "nothing"),
+        Ok(paths) => paths.join(alloc, " "),
         Err(fault) => format!(in alloc; "{fault}"),
     }
 }
 
 /// Answers a question about files in memory or their recovery.
 fn memory(alloc: Global, files: &mut MemoryFiles, question: &str) -> Result<String, AllocError> {
-    match question {
-        "recover" => recovered(alloc, files),
-        _ => in_memory(alloc, files, question),
+    match question.strip_prefix("recover") {
+        Some(folder) => recovered(alloc, files, folder.trim_start()),
+        None => in_memory(alloc, files, question),
     }
 }
 
@@ -74,16 +89,16 @@ struct Call {
 }
 
 impl Call {
-    fn begin(&mut self, alloc: Global) -> Result<String, AllocError> {
+    fn begin(&mut self, alloc: Global, folder: &str) -> Result<String, AllocError> {
         let below = mem::replace(&mut self.below, MemoryFiles::new(alloc));
-        let files = journaled(alloc, below)?;
+        let files = journaled(alloc, below, folder)?;
         let lockfiles = mem::replace(&mut self.over.lockfiles, MemoryFiles::new(alloc));
         self.over = Apart::new(files, lockfiles);
         String::from_str(alloc, "ok")
     }
 
     fn end(&mut self, alloc: Global) -> Result<String, AllocError> {
-        let none = journaled(alloc, MemoryFiles::new(alloc))?;
+        let none = journaled(alloc, MemoryFiles::new(alloc), "")?;
         self.below = mem::replace(&mut self.over.files, none).into_inner();
         String::from_str(alloc, "ok")
     }
@@ -102,8 +117,8 @@ impl Call {
 
     fn front(&mut self, alloc: Global, count: &str) -> Result<String, AllocError> {
         self.cut(alloc, count)?;
-        let told = recovered(alloc, &mut self.front)?;
-        let held = held(alloc, &mut self.front, "a b c j")?;
+        let told = recovered(alloc, &mut self.front, "")?;
+        let held = held(alloc, &mut self.front, "a b c j j~1")?;
         format!(in alloc; "{told}\n{held}")
     }
 
@@ -111,7 +126,7 @@ impl Call {
     fn step(&mut self, alloc: Global, question: &str) -> Result<String, AllocError> {
         let (kind, rest) = question.split_once(' ').unwrap_or((question, ""));
         match kind {
-            "begin" => self.begin(alloc),
+            "begin" => self.begin(alloc, rest),
             "finish" => truth(alloc, self.over.files.finish()),
             "end" => self.end(alloc),
             "cut" => self.cut(alloc, rest),
@@ -141,7 +156,7 @@ impl Ask for Call {
 fn on(alloc: Global, parts: &[&str]) -> Result<(), Wrong> {
     let mut call = Call {
         over: Apart::new(
-            journaled(alloc, MemoryFiles::new(alloc))?,
+            journaled(alloc, MemoryFiles::new(alloc), "")?,
             MemoryFiles::new(alloc),
         ),
         below: MemoryFiles::new(alloc),

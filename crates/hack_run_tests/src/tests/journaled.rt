@@ -8,6 +8,7 @@ use crate::tests::world::files_of;
 use crate::tests::worlds::{ROOT, VIRTUAL};
 use hack_files::fs::{MemoryFiles, Step};
 use hack_holds::Wrong;
+use hack_journal::place::Place;
 use hack_run::journaled::run_journaled;
 use std::alloc::{AllocError, Global};
 
@@ -26,10 +27,13 @@ pub fn journaled(alloc: Global, world: &str, words: &str) -> Result<String, Allo
     let mut scene = scene_of(alloc, world, words)?;
     let files = files_of(alloc, world)?;
     let lockfiles = files_of(alloc, world)?;
-    let journal = String::from_str(alloc, "/w/journal")?;
+    let place = Place {
+        folder: String::from_str(alloc, "/w")?,
+        journal: String::from_str(alloc, "/w/journal")?,
+    };
     let (words, _, mut host) = scene.parts(alloc);
     let (status, files, lockfiles, failed): (u8, MemoryFiles, MemoryFiles, u64) = run_journaled(
-        words, None, files, lockfiles, journal, &mut host,
+        words, None, files, lockfiles, place, &mut host,
     );
     let mut text = format!(in alloc; "status {status}, {failed} failed")?;
     push_paths(&mut text, files.steps(), scene.first)?;
@@ -47,9 +51,10 @@ fn journals(rt: HostRuntime) -> Result<(), Wrong> {
             > journal: hack check
             | status 0, 0 failed |
 
-            # The journal, the edit, its undoing, which the journal has already, and no journal.
+            # The journal, the edit, its undoing, which the journal has already, and no journal: its
+            # next file, which no edit wrote, is removed too.
             > journal: hack check --no-dev-deps
-            | status 0, 0 failed /w/journal /w/Cargo.toml /w/Cargo.toml -/w/journal | /w/Cargo.lock
+            | status 0, 0 failed /w/journal /w/Cargo.toml /w/Cargo.toml -/w/journal~1 -/w/journal | /w/Cargo.lock
         "#,
     )
 }
@@ -61,7 +66,7 @@ fn journals_of_a_workspace(rt: HostRuntime) -> Result<(), Wrong> {
         VIRTUAL,
         r#"
             > journal: hack check --no-private --workspace
-            | status 0, 0 failed /w/journal /w/Cargo.toml /w/Cargo.toml -/w/journal |
+            | status 0, 0 failed /w/journal /w/Cargo.toml /w/Cargo.toml -/w/journal~1 -/w/journal |
         "#,
     )
 }
@@ -76,16 +81,16 @@ fn journaled_calls_that_fail(rt: HostRuntime) -> Result<(), Wrong> {
         ROOT,
         r#"
             > journal: hack check --no-dev-deps; fails 101 cargo check --manifest-path Cargo.toml
-            | status 1, 0 failed /w/journal /w/Cargo.toml /w/Cargo.toml -/w/journal | /w/Cargo.lock
+            | status 1, 0 failed /w/journal /w/Cargo.toml /w/Cargo.toml -/w/journal~1 -/w/journal | /w/Cargo.lock
 
             > journal: hack check --each-feature --keep-going --no-dev-deps; fails 101 cargo check --manifest-path Cargo.toml --no-default-features
-            | status 1, 0 failed /w/journal /w/Cargo.toml /w/Cargo.toml -/w/journal | /w/Cargo.lock
+            | status 1, 0 failed /w/journal /w/Cargo.toml /w/Cargo.toml -/w/journal~1 -/w/journal | /w/Cargo.lock
 
             > journal: hack check --no-dev-deps --version-range 1.60..=1.50
-            | status 1, 0 failed /w/journal /w/Cargo.toml /w/Cargo.toml -/w/journal | /w/Cargo.lock
+            | status 1, 0 failed /w/journal /w/Cargo.toml /w/Cargo.toml -/w/journal~1 -/w/journal | /w/Cargo.lock
 
             > journal: hack check --no-dev-deps --print-command-list; broken write 1
-            | status 1, 0 failed /w/journal /w/Cargo.toml /w/Cargo.toml -/w/journal | /w/Cargo.lock
+            | status 1, 0 failed /w/journal /w/Cargo.toml /w/Cargo.toml -/w/journal~1 -/w/journal | /w/Cargo.lock
 
             > journal: hack check --no-dev-deps --each-feature --feature-powerset
             | status 1, 0 failed |

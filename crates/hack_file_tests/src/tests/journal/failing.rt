@@ -3,7 +3,7 @@
 //! `edit FIRST..=LAST` edits the file `a`, makes a new one, `c`, and restores both, again and
 //! again: the call of the files with the first of these numbers fails, then the next, and so on. An
 //! edit ends at its first failure. The answer has a line for each: the contents at the paths after
-//! a recovery, and how many files that restored, or its error.
+//! a recovery, and the paths that it restored, or its error.
 
 use crate::tests::files::held;
 use crate::tests::journal::{journaled, on, recovered, replayed};
@@ -28,7 +28,7 @@ pub fn left(alloc: Global, calls: &str) -> Result<String, AllocError> {
 /// The contents at the paths after the recovery, and its result.
 fn left_by(alloc: Global, call: u64) -> Result<String, AllocError> {
     let mut files = edited(alloc, call)?;
-    let told = recovered(alloc, &mut files)?;
+    let told = recovered(alloc, &mut files, "")?;
     let held = held(alloc, &mut files, "a c")?;
     format!(in alloc; "{call}: {held}, {told}")
 }
@@ -37,7 +37,7 @@ fn left_by(alloc: Global, call: u64) -> Result<String, AllocError> {
 fn edited(alloc: Global, call: u64) -> Result<MemoryFiles, AllocError> {
     let mut files = MemoryFiles::new(alloc);
     let _ = files.write("a", b"one");
-    let mut files = journaled(alloc, FailingFiles::new(files, call))?;
+    let mut files = journaled(alloc, FailingFiles::new(files, call), "")?;
     let _ = edit(&mut files);
     let done = files.into_inner();
     match replayed(alloc, done.inner().steps()) {
@@ -54,31 +54,36 @@ fn edit<F: Files>(files: &mut Journaled<F>) -> Result<bool, FileFault> {
     files.finish()
 }
 
-// The journal is written by calls 3 and 6, the files by 4, 7 and 8. Where one of these leaves its
-// file empty, a user has to look at it. On a disk that writes whole files they are like all others.
+// The files of the journal are written by calls 4 and 8, and looked for by 3 and 7, the other files
+// are written by 5, 9 and 10. Where one of these leaves its file empty, a user has to look at it. On
+// a disk that writes whole files they are like all others. The journal is removed by 16 to 18.
 #[test]
 fn each_call_fails_in_turn(rt: HostRuntime) -> Result<(), Wrong> {
     on(
         rt.alloc(),
         &[
             "
-            > edit 0..=15
-            | 0: a 'one' c -, 0
-            | 1: a 'one' c -, 0
-            | 2: a 'one' c -, 0
-            | 3: a 'one' c -, `j` is not a whole journal of edited files; put back by hand what it tells, and remove it
-            | 4: a '' c -, `a` was changed after an interrupted call had edited it; put back by hand what `j` tells, and remove `j`
-            | 5: a 'one' c -, 1
-            | 6: a 'x' c -, `j` is not a whole journal of edited files; put back by hand what it tells, and remove it
-            | 7: a 'x' c '', `c` was changed after an interrupted call had edited it; put back by hand what `j` tells, and remove `j`
-            | 8: a '' c 'new', `a` was changed after an interrupted call had edited it; put back by hand what `j` tells, and remove `j`
-            | 9: a 'one' c -, 1
-            | 10: a 'one' c -, 0
-            | 11: a 'one' c -, 0
-            | 12: a 'one' c -, 0
-            | 13: a 'one' c -, 0
-            | 14: a 'one' c -, 0
-            | 15: a 'one' c -, 0
+            > edit 0..=19
+            | 0: a 'one' c -, nothing
+            | 1: a 'one' c -, nothing
+            | 2: a 'one' c -, nothing
+            | 3: a 'one' c -, nothing
+            | 4: a 'one' c -, `j` is not a whole journal of edited files; put back by hand what it tells, and remove it
+            | 5: a '' c -, `a` was changed after an interrupted call had edited it; put back by hand what `j` tells, and remove `j`
+            | 6: a 'one' c -, a
+            | 7: a 'one' c -, a
+            | 8: a 'x' c -, `j` is not a whole journal of edited files; put back by hand what it tells, and remove it
+            | 9: a 'x' c '', `c` was changed after an interrupted call had edited it; put back by hand what `j` tells, and remove `j`
+            | 10: a '' c 'new', `a` was changed after an interrupted call had edited it; put back by hand what `j` tells, and remove `j`
+            | 11: a 'one' c -, c
+            | 12: a 'one' c -, nothing
+            | 13: a 'one' c -, nothing
+            | 14: a 'one' c -, nothing
+            | 15: a 'one' c -, nothing
+            | 16: a 'one' c -, nothing
+            | 17: a 'one' c -, nothing
+            | 18: a 'one' c -, nothing
+            | 19: a 'one' c -, nothing
         ",
         ],
     )

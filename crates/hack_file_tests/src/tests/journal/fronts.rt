@@ -3,8 +3,9 @@
 use crate::tests::journal::on;
 use hack_holds::Wrong;
 
-/// Edits two files, one of them twice, makes a new one, and restores all. The journal is written
-/// before each edit, and the last change is the removal of the journal.
+/// Edits two files, one of them twice, makes a new one, and restores all. A file of the journal is
+/// written before each edit, and the last changes are the removal of the journal, from the last file
+/// on: the one that was not written yet is removed too.
 static EDITED: &str = r"
     > below: write a one\n\ntwo\n
     | ok
@@ -31,7 +32,7 @@ static EDITED: &str = r"
     > end
     | ok
     > below: changes
-    | 14
+    | 18
 ";
 
 #[test]
@@ -42,44 +43,56 @@ fn each_front_comes_back(rt: HostRuntime) -> Result<(), Wrong> {
             EDITED,
             r"
                 > front 2
-                | 0
-                | a 'one\n\ntwo\n' b '' c - j -
+                | nothing
+                | a 'one\n\ntwo\n' b '' c - j - j~1 -
                 > front 3
-                | 0
-                | a 'one\n\ntwo\n' b '' c - j -
+                | nothing
+                | a 'one\n\ntwo\n' b '' c - j - j~1 -
                 > front 4
-                | 1
-                | a 'one\n\ntwo\n' b '' c - j -
+                | a
+                | a 'one\n\ntwo\n' b '' c - j - j~1 -
                 > front 5
-                | 1
-                | a 'one\n\ntwo\n' b '' c - j -
+                | a
+                | a 'one\n\ntwo\n' b '' c - j - j~1 -
                 > front 6
-                | 2
-                | a 'one\n\ntwo\n' b '' c - j -
+                | a b
+                | a 'one\n\ntwo\n' b '' c - j - j~1 -
                 > front 7
-                | 2
-                | a 'one\n\ntwo\n' b '' c - j -
+                | a b
+                | a 'one\n\ntwo\n' b '' c - j - j~1 -
                 > front 8
-                | 2
-                | a 'one\n\ntwo\n' b '' c - j -
+                | a b
+                | a 'one\n\ntwo\n' b '' c - j - j~1 -
                 > front 9
-                | 2
-                | a 'one\n\ntwo\n' b '' c - j -
+                | a b
+                | a 'one\n\ntwo\n' b '' c - j - j~1 -
                 > front 10
-                | 3
-                | a 'one\n\ntwo\n' b '' c - j -
+                | a b c
+                | a 'one\n\ntwo\n' b '' c - j - j~1 -
                 > front 11
-                | 2
-                | a 'one\n\ntwo\n' b '' c - j -
+                | b c
+                | a 'one\n\ntwo\n' b '' c - j - j~1 -
                 > front 12
-                | 1
-                | a 'one\n\ntwo\n' b '' c - j -
+                | b
+                | a 'one\n\ntwo\n' b '' c - j - j~1 -
                 > front 13
-                | 0
-                | a 'one\n\ntwo\n' b '' c - j -
+                | nothing
+                | a 'one\n\ntwo\n' b '' c - j - j~1 -
                 > front 14
-                | 0
-                | a 'one\n\ntwo\n' b '' c - j -
+                | nothing
+                | a 'one\n\ntwo\n' b '' c - j - j~1 -
+                > front 15
+                | nothing
+                | a 'one\n\ntwo\n' b '' c - j - j~1 -
+                > front 16
+                | nothing
+                | a 'one\n\ntwo\n' b '' c - j - j~1 -
+                > front 17
+                | nothing
+                | a 'one\n\ntwo\n' b '' c - j - j~1 -
+                > front 18
+                | nothing
+                | a 'one\n\ntwo\n' b '' c - j - j~1 -
             ",
         ],
     )
@@ -130,7 +143,8 @@ fn nothing_written_no_journal(rt: HostRuntime) -> Result<(), Wrong> {
     )
 }
 
-// The journal isn't one of the files, and is kept until all files are restored.
+// The journal isn't one of the files, nor is a path that begins like it. It is kept until all files
+// are restored.
 #[test]
 fn the_journal_is_none_of_the_files(rt: HostRuntime) -> Result<(), Wrong> {
     on(
@@ -147,8 +161,12 @@ fn the_journal_is_none_of_the_files(rt: HostRuntime) -> Result<(), Wrong> {
             | device
             > write j new
             | device
+            > remove j~1
+            | device
+            > read jam
+            | device
             > failures
-            | 2
+            | 4
             > finish
             | false
             > end
