@@ -4,3 +4,4 @@ pub mod FolderLemmas
 pub mod WayLemmas
 pub mod BackLemmas
 mod CallLemmas
+mod RepositoryLemmas

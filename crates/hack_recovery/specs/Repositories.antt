@@ -35,10 +35,13 @@ linked_at held folder path = if_own held (normal_of (join_of folder path))
 abbrev pub linked_by : Contents → Name → List ℕ → Option Name
 linked_by held folder bytes = option_and_then (linked_at held folder) (link_in bytes)
 
--- the own folder of the repository whose topmost folder this is: `.git`, or what the file `.git` names
+-- the own folder of a repository, where this is its `.git`: that itself, or what the file names
+abbrev pub own_at : Contents → Name → Name → Option Name
+own_at held folder git = if has_head held git then Some git else option_and_then (linked_by held folder) (held git)
+
+-- the own folder of the repository whose topmost folder this is
 abbrev pub own_folder_in : Contents → Name → Option Name
-own_folder_in held folder =
-    if has_head held (join_of folder (codes ".git")) then Some (join_of folder (codes ".git")) else option_and_then (linked_by held folder) (held (join_of folder (codes ".git")))
+own_folder_in held folder = own_at held folder (join_of folder (codes ".git"))
 
 -- the repository whose topmost folder this is
 abbrev pub repository_in : Contents → Name → Option RepositoryAt
