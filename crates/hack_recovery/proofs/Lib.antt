@@ -5,3 +5,4 @@ pub mod WayLemmas
 pub mod BackLemmas
 mod CallLemmas
 mod RepositoryLemmas
+mod StrangerLemmas

@@ -1,10 +1,11 @@
 -- Looks at files, one after another.
-use Rattle.std.proofs.Common.{◌≡◌, ◌+◌, ◌∙◌, [], ℕ, Bool, true, false, IsTrue, arith, refl, subst}
+use Rattle.std.proofs.Common.{◌≡◌, ◌+◌, ◌∙◌, ◌||◌, [], ℕ, Bool, true, false, IsTrue, ap, arith, refl, subst}
 use Rattle.std.specs.Prelude.{◌↔◌, IsSome, Option, Some, None, List, is_some}
 use Rattle.std.proofs.Math.Path.{fun_ext}
 use Rattle.hack_files.specs.Files.{Contents, KeepsAll}
 use Rattle.hack_base.specs.Counters.{GrowsBy}
 use Rattle.hack_journal.specs.SafeLaws.{makes_append}
+use Rattle.hack_recovery.specs.CallPlaces.{PlacesAt, is_left}
 use Rattle.hack_recovery.specs.FileLooks.{Finds, Unchanged}
 use Rattle.hack_run.specs.Worlds.{FilesView}
 
@@ -76,3 +77,13 @@ found_first T P Q x y z f g = finds_both T P Q P x y z f g (λ t p q. p)
 -- a look that failed, after others
 pub failed_then : (T P Q : Type 0) (x y z : ℕ) → Finds T x y P → GrowsBy 1 y z → Finds T x z Q
 failed_then T P Q x y z f one = finds_both T P ⊥ Q x y z f (finds_failed T ⊥ y z one) (λ t p q. absurd q)
+
+-- three looks at what an interrupted call may have left
+pub left_finds : (T : Type 0) (first mid late : Contents) (places : PlacesAt) (a b c any : Bool) (x y z w : ℕ) → any ≡ (a || b || c) → Finds T x y (a ≡ is_some (first places.journal)) → (T → KeepsAll first mid)
+    → Finds T y z (b ≡ is_some (mid places.older)) → (T → KeepsAll mid late) → Finds T z w (c ≡ is_some (late places.copy)) → Finds T x w (any ≡ is_left first places)
+left_finds T first mid late places a b c any x y z w is one same two later three =
+    let both = finds_both T (a ≡ is_some (first places.journal)) (b ≡ is_some (mid places.older)) ((a ≡ is_some (first places.journal)) × (b ≡ is_some (first places.older))) x y z one two
+    (λ t p q. (p, q ∙ ap is_some (same t places.older))) in
+    finds_both T _ (c ≡ is_some (late places.copy)) (any ≡ is_left first places) x z w both three
+    (λ t p q. is ∙ ap (λ k. k || b || c) p.0 ∙ ap (λ k. is_some (first places.journal) || k || c) p.1
+    ∙ ap (λ k. is_some (first places.journal) || is_some (first places.older) || k) (q ∙ ap is_some (later t places.copy ∙ same t places.copy)))

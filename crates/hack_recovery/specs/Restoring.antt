@@ -1,9 +1,10 @@
 -- What becomes of what an interrupted call left.
-use Rattle.std.specs.Prelude.{◌≡◌, ◌≢◌, ◌×◌, Bool, true, false, List, Option, Some, None, Ok, Err, Result}
+use Rattle.std.specs.Prelude.{◌≡◌, ◌≢◌, Bool, true, false, List, Option, Some, None, Ok, Err, Result}
 use Rattle.std.specs.Option.{option_or}
 use Rattle.hack_base.specs.Counters.{GrowsBy}
 use Rattle.hack_base.specs.Names.{Name}
 use Rattle.hack_files.specs.Files.{Contents, KeepsAll, KeepsOthers, Makes, MakesOrNot, puts, removes}
+use Rattle.hack_journal.specs.Internal.{IsWhyUnread}
 use Rattle.hack_journal.specs.Recovery.{CountsRecoverFault, IsJournalRefusal, IsRestored, IsWhy}
 use Rattle.hack_journal.specs.Rows.{Spot}
 use Rattle.hack_journal.specs.SafeFiles.{IsSafe, StaysSafe}
@@ -40,15 +41,16 @@ pub data IsBroughtBack (tells whole : Type 0) (spot : Spot) (old new : FilesView
   brought : (paths : List Name) → Recovers tells whole spot paths old new → came ≢ Ok false → IsBroughtBack tells whole spot old new came
   stopped : (fault : RecoverFault) → FailsToRestore tells whole spot fault old new → came ≢ Ok true → IsBroughtBack tells whole spot old new came
 
--- what became of a journal: it names a file that no call edits, and nothing is changed; or it names
--- none, and what it keeps was brought back; or memory was refused before that, and nothing is
--- changed. An error was reported where it isn't back
+-- what became of a journal: it can't be read, or it names a file that no call edits, and nothing is
+-- changed; or it names none, and what it keeps was brought back. An error was reported where it
+-- isn't back
 pub data Restores (tells whole : Type 0) (spot : Spot) (old new : FilesView) (was now : Term) (came : Result Bool CallFault) : Type 0 where
-  strange : (path : Name) → (tells → NamesStranger spot old.held path) → Unchanged tells whole old new → came ≢ Ok true → Tells was now came
+  unread : (fault : RecoverFault) → Unchanged tells whole old new → CountsRecoverFault old.failed new.failed fault → IsWhyUnread spot tells old.held fault → came ≢ Ok true → Tells was now came
+      → Restores tells whole spot old new was now came
+  strange : (path : Name) → Unchanged tells whole old new → (tells → NamesStranger spot old.held path) → came ≢ Ok true → Tells was now came
       → Restores tells whole spot old new was now came
   trusted : (at : FilesView) → Unchanged tells whole old at → (tells → NamesNone spot old.held) → IsBroughtBack tells whole spot at new came → Tells was now came
       → Restores tells whole spot old new was now came
-  unread : (fault : CallFault) → Unchanged tells whole old new → came ≡ Err fault → Restores tells whole spot old new was now came
 
 -- ---- the copy of the lockfile
 

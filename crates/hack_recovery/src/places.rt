@@ -1,6 +1,6 @@
 //! Where a call's workspace is, its journal, and what else is kept while manifests are edited.
 
-ghost use Rattle.std.specs.Prelude.{◌≡◌, [], IfOk, string_bytes};
+ghost use Rattle.std.specs.Prelude.{◌≡◌, ◌||◌, [], IfOk, string_bytes};
 ghost use Rattle.hack_files.specs.Files.{KeepsAll, Makes};
 ghost use Rattle.hack_recovery.specs.FileLooks.{Finds};
 ghost use Rattle.hack_recovery.specs.CallPlaces.{ArePlacesOf, is_left};
@@ -59,8 +59,14 @@ impl Places {
         let journal = is_there(self.place.journal.as_str(), files)?;
         let older = is_there(self.older.journal.as_str(), files)?;
         let copy = is_there(self.copy.as_str(), files)?;
-        Ok(journal || older || copy)
+        Ok(any_of(journal, older, copy))
     }
+}
+
+fn any_of(one: bool, other: bool, third: bool) -> bool
+    ensures { result ≡ (one || other || third) }
+{
+    one || other || third
 }
 
 /// A journal at this path, and the folder that its paths are relative to.

@@ -1,10 +1,10 @@
 //! Restores what an interrupted call left edited, and reports it.
 
-ghost use Rattle.std.specs.Prelude.{◌≡◌, ◌≢◌, [], IfOk, MatchOption, Ok, string_bytes, true};
-ghost use Rattle.hack_files.specs.Files.{KeepsAll, Makes};
+ghost use Rattle.std.specs.Prelude.{◌≡◌, ◌≢◌, IfOk, Ok, option_and_then, option_map, true};
+ghost use Rattle.hack_journal.specs.Journal.{edit_of, edits_of};
 ghost use Rattle.hack_journal.specs.Rows.{spot_of};
 ghost use Rattle.hack_recovery.specs.Restoring.{IsBroughtBack, Restores};
-ghost use Rattle.hack_recovery.specs.Strangers.{NamesStranger, NamesNone};
+ghost use Rattle.hack_recovery.specs.Strangers.{first_stranger};
 ghost use Rattle.hack_recovery.specs.Telling.{Tells};
 ghost use Rattle.hack_run.specs.Worlds.{files_view};
 
@@ -12,11 +12,12 @@ use crate::fault::CallFault;
 use crate::strangers::first_stranger;
 use hack_base::paths::under;
 use hack_files::fs::Files;
+use hack_journal::journal::Entry;
 use hack_journal::place::Place;
 use hack_journal::recover::{RecoverFault, recover};
-use hack_journal::rows::row_at;
+use hack_journal::rows::{Row, row_at};
 use hack_term::term::Term;
-use std::alloc::{AllocError, Global};
+use std::alloc::Global;
 use std::io::Write;
 
 /// Restores what an interrupted call left edited, and reports it. Returns whether it is back; if it
@@ -35,42 +36,27 @@ pub(crate) fn restore<F: Files, E: Write>(
         (files_view F.Files files.new)
         term.old term.new result }
 {
-    match stranger_at(alloc, place, files)? {
-        Some(path) => tell_stranger(alloc, place.journal.as_str(), path.as_str(), term, err),
-        None => bring_back(alloc, dir, place, files, term, err),
-    }
-}
-
-/// The first path in the journal that no call edits.
-fn stranger_at<F: Files>(
-    alloc: Global,
-    place: &Place,
-    files: &mut F,
-) -> Result<Option<String>, AllocError>
-    ensures found { IfOk result (λ found. MatchOption found
-        (F.tells → NamesNone (spot_of place.now) (F.bytes_at files.old))
-        (λ path. F.tells → NamesStranger (spot_of place.now) (F.bytes_at files.old)
-        (string_bytes path))) }
-    ensures same { F.tells → KeepsAll (F.bytes_at files.old) (F.bytes_at files.new) }
-    ensures untraced { F.whole → Makes [] (F.trace files.old) (F.trace files.new)
-        (F.bytes_at files.old) (F.bytes_at files.new) }
-{
     match row_at(alloc, files, place) {
-        Ok(Some(row)) => match first_stranger(&row.entries) {
-            Some(entry) => Ok(Some(String::from_str(alloc, entry.path.as_str())?)),
-            None => Ok(None),
+        Ok(row) => match stranger_in(&row) {
+            Some(entry) => {
+                let (journal, path) = (place.journal.as_str(), entry.path.as_str());
+                tell_stranger(alloc, journal, path, term, err)
+            }
+            None => bring_back(alloc, dir, place, files, term, err),
         },
-        Ok(None) => Ok(None),
-        Err(fault) => unread(fault),
+        Err(fault) => tell_fault(alloc, fault, term, err),
     }
 }
 
-/// Why a journal can't be read is told where it is to be followed.
-fn unread(fault: RecoverFault) -> Result<Option<String>, AllocError> {
-    if is_memory(&fault) {
-        return Err(AllocError);
+/// The first entry of a journal, if one is there, that no call makes.
+fn stranger_in(row: &Option<Row>) -> Option<&Entry>
+    ensures { option_map (λ entry. edit_of entry.now) result
+        ≡ option_and_then (λ row. first_stranger (edits_of row.entries.items)) row.now }
+{
+    match row {
+        Some(row) => first_stranger(&row.entries),
+        None => None,
     }
-    Ok(None)
 }
 
 /// Reports that the journal names a stranger.

@@ -1,23 +1,28 @@
-use Rattle.std.proofs.Common.{string_bytes}
-use Rattle.std.proofs.lemmas.Result.{err_from_is_err_and}
+use Rattle.std.proofs.Common.{◌≡◌, ◌∙◌, Some, None, ap, string_bytes, sym}
+use Rattle.std.specs.Option.{option_map}
+use Rattle.hack_journal.specs.Journal.{edit_of}
+use Rattle.hack_journal.specs.Rows.{spot_of}
 use Rattle.hack_run.specs.Worlds.{FilesView, files_view}
-use Rattle.hack_recovery.specs.CallCourses.Restores.{trusted, unread}
-use Rattle.hack_recovery.proofs.WayLemmas.{strange_told}
+use Rattle.hack_recovery.specs.Restoring.Restores.{strange, trusted, unread}
+use Rattle.hack_recovery.proofs.StrangerLemmas.{none_named, one_named}
 use Rattle.hack_recovery.proofs.restore.restore.Goals as goal
-
-pub returns-in_err-path : goal.returns-in_err-path
-returns-in_err-path g c =
-    let p = err_from_is_err_and c.from_residual.result c.from_residual.ensures.1 in
-    unread p.0 (record { same = c.stranger_in.ensures.same; untraced = c.stranger_in.ensures.untraced }) p.1
 
 pub returns-in-Some : goal.returns-in-Some
 returns-in-Some g c =
-    strange_told g.F.Files.tells g.F.Files.whole c.args.folder.now c.args.journal.now (string_bytes c.in-Some.path) _ _ c.args.term.now c.tell_stranger.new.term c.tell_stranger.result
-    (rw c.in-Some.is at c.in_ok-path.ensures.found) (record { same = c.stranger_in.ensures.same; untraced = c.stranger_in.ensures.untraced }) c.tell_stranger.ensures.told
+    strange (edit_of c.in-Some.entry.now).path (record { same = c.in-Ok.ensures.same; untraced = c.in-Ok.ensures.untraced })
+    (one_named g.F.Files.tells (spot_of c.args.place.now) (g.F.Files.bytes_at c.args.files.now) c.in-Ok.row (edit_of c.in-Some.entry.now) c.in-Ok.ensures.some
+    (sym (ap (option_map (λ entry. edit_of entry.now)) c.in-Some.is) ∙ c.stranger_in.ensures))
+    c.tell_stranger.ensures.never c.tell_stranger.ensures.told
 
-pub returns-in-None : goal.returns-in-None
-returns-in-None g c =
-    let at : FilesView = files_view g.F.Files c.stranger_in.new.files in
-    trusted at
-    (record { unchanged = record { same = c.stranger_in.ensures.same; untraced = c.stranger_in.ensures.untraced }; none = rw c.in-None.is at c.in_ok-path.ensures.found })
-    c.bring_back.ensures
+pub returns-in-Ok : goal.returns-in-Ok
+returns-in-Ok g c =
+    let at : FilesView = files_view g.F.Files c.row_at.new.files in
+    trusted at (record { same = c.in-Ok.ensures.same; untraced = c.in-Ok.ensures.untraced })
+    (none_named g.F.Files.tells (spot_of c.args.place.now) (g.F.Files.bytes_at c.args.files.now) c.in-Ok.row c.in-Ok.ensures.none c.in-Ok.ensures.some
+    (sym c.stranger_in.ensures ∙ ap (option_map (λ entry. edit_of entry.now)) c.in-None.is))
+    c.bring_back.ensures.came c.bring_back.ensures.told
+
+pub returns : goal.returns
+returns g c =
+    unread c.in-Err.fault (record { same = c.in-Err.ensures.same; untraced = c.in-Err.ensures.untraced }) c.in-Err.ensures.failures c.in-Err.ensures.why
+    c.tell_fault.ensures.never c.tell_fault.ensures.told
