@@ -101,6 +101,10 @@ pub record AddsChanged (old new : Contents) (es : List Edit) (before now : List 
   pub are : AreChanged old new es paths
   pub added : now ≡ before ++ paths
 
+-- each path that isn't set aside for the journal holds what it held at first
+abbrev pub IsAllBack : List ℕ → Contents → Contents → Type 0
+IsAllBack journal first now = (q : List ℕ) → is_of_journal journal q ≡ false → now q ≡ first q
+
 -- all is put back but the row, which has `count` files
 pub record IsBackBut (spot : Spot) (first : Contents) (count : ℕ) (now : Contents) : Type 0 where
   pub entries : List Edit
@@ -108,7 +112,7 @@ pub record IsBackBut (spot : Spot) (first : Contents) (count : ℕ) (now : Conte
   pub ends : now (file_at spot.journal count) ≡ None
   pub fresh : IsFresh spot.journal count first now
   pub keeps : KeepFirst spot.journal first entries
-  pub same : (q : List ℕ) → is_of_journal spot.journal q ≡ false → now q ≡ first q
+  pub same : IsAllBack spot.journal first now
 
 -- ---- files with a journal
 
@@ -134,5 +138,5 @@ pub record Hidden (journal : List ℕ) (old_trace new_trace : List Change) (old 
 -- shorter, up to these entries
 abbrev pub ShortensRow : Spot → List Edit → List Edit → List Change → List Change → Contents → Contents → Type 0
 ShortensRow spot es fs old_trace new_trace old new =
-    (first : Contents) → IsJournaled spot first es old → ((q : List ℕ) → is_of_journal spot.journal q ≡ false → old q ≡ first q)
-    → StaysSafe spot first old_trace new_trace old new × IsJournaled spot first fs new
+    (first : Contents) → IsJournaled spot first es old → IsAllBack spot.journal first old
+        → StaysSafe spot first old_trace new_trace old new × IsJournaled spot first fs new

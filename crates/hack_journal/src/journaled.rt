@@ -4,7 +4,8 @@
 //! Wherever the program ends, each path holds what it held at first, or the journal has it, and
 //! [`crate::recover::recover`] puts it back.
 
-ghost use Rattle.std.specs.Prelude.{◌≡◌, ◌<◌, ◌++◌, ◌+◌, [], ◌∷◌, ℕ, None, Some, false, length};
+ghost use Rattle.std.specs.Prelude.{◌≡◌, ◌<◌, ◌++◌, ◌+◌, ◌^◌, [], ◌∷◌, ℕ, None, Some, length};
+ghost use Rattle.std.specs.Prelude.{false};
 ghost use Rattle.std.specs.Prelude.{IfOk, OnOk, OnErr, IsTrue, IsSome, ◌↔◌, string_bytes};
 ghost use Rattle.std.specs.Option.{option_map};
 ghost use Rattle.hack_files.specs.Files.{Contents, CountsFailedCall, KeepsOthers, KeepsAll};
@@ -136,6 +137,7 @@ impl<F: Files> Journaled<F> {
             file_at self.old.notes.journal (length self.old.notes.entries + 1)) }
         ensures absent { OnOk result (F.tells → F.bytes_at self.old.files
             (file_at self.old.notes.journal (length self.old.notes.entries + 1)) ≡ None) }
+        ensures low { OnOk result (length self.old.notes.entries + 1 < 2 ^ 64) }
         ensures same { F.tells →
             KeepsAll (F.bytes_at self.old.files) (F.bytes_at self.new.files) }
         ensures untraced { F.whole → Makes [] (F.trace self.old.files) (F.trace self.new.files)
