@@ -282,3 +282,6 @@ notable_of j es l m e p path same out held = record {
   apart = ap (is_of_journal j) path ∙ out;
   held = subst (λ (x : Contents). IsHeld (first_entry_of es e.path) (x e.path) e.held) (sym same) (subst (λ (q : List ℕ). IsHeld (first_entry_of es q) (l q) e.held) (sym path) held);
 }
+
+pub spot_same : (f g j k : List ℕ) → f ≡ g → j ≡ k → ◌≡◌ {A = Spot} (record { folder = f; journal = j }) (record { folder = g; journal = k })
+spot_same f g j k a b = rw (a, b) refl

@@ -139,4 +139,4 @@ pub record Hidden (journal : List ℕ) (old_trace new_trace : List Change) (old 
 abbrev pub ShortensRow : Spot → List Edit → List Edit → List Change → List Change → Contents → Contents → Type 0
 ShortensRow spot es fs old_trace new_trace old new =
     (first : Contents) → IsJournaled spot first es old → IsAllBack spot.journal first old
-        → StaysSafe spot first old_trace new_trace old new × IsJournaled spot first fs new
+    → StaysSafe spot first old_trace new_trace old new × IsJournaled spot first fs new

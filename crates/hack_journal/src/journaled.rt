@@ -156,6 +156,7 @@ impl<F: Files> Journaled<F> {
     // Adds a file to the row that keeps this entry.
     fn append(&mut self, entry: Entry) -> Result<(), FileFault>
         ensures handed { F.stays self.old.files self.new.files }
+        ensures journal { self.new.notes.journal ≡ self.old.notes.journal }
         ensures rest { self.new ≡
             record self.old { files = self.new.files; notes = self.new.notes } }
         ensures added { OnOk result (self.new.notes.entries ≡
@@ -183,6 +184,7 @@ impl<F: Files> Journaled<F> {
     // the journal, unless one of the path has these bytes already.
     fn keep(&mut self, path: &str, bytes: Option<&[u8]>) -> Result<(), FileFault>
         ensures handed { F.stays self.old.files self.new.files }
+        ensures journal { self.new.notes.journal ≡ self.old.notes.journal }
         ensures rest { self.new ≡
             record self.old { files = self.new.files; notes = self.new.notes } }
         ensures told { OnOk result (SomeEntryHasBytes self.new.notes.entries path.now
@@ -206,6 +208,7 @@ impl<F: Files> Journaled<F> {
     // Keeps what the path holds, and then gives it these bytes, or removes what is there.
     fn change(&mut self, path: &str, bytes: Option<&[u8]>) -> Result<(), FileFault>
         ensures handed { F.stays self.old.files self.new.files }
+        ensures journal { self.new.notes.journal ≡ self.old.notes.journal }
         ensures rest { self.new ≡
             record self.old { files = self.new.files; notes = self.new.notes } }
         ensures put { OnOk result (F.tells →
