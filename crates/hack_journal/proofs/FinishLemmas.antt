@@ -83,15 +83,6 @@ shorten_more s es fs gs e t u v m n w low is made rest o k same =
     let more = rest o (popped s o es fs e n is here all now) all in
     (stay_append s o t u v m n w one more.0, more.1)
 
-pub gone_more : (j : List ℕ) (k l : ℕ) (n w : Contents) → l < 2 ^ 64 → l ≡ k + 1 → n (file_at j l) ≡ None → KeepsBeside j (k + 1) n w → ((i : ℕ) → i < k + 1 → w (file_at j i) ≡ None) → (i : ℕ) → i < l + 1 → w (file_at j i) ≡ None
-gone_more j k l n w low is none others gone i lt = elim (eqb_tells i l) [
-  | inl t ↦ ap (λ (h : ℕ). w (file_at j h)) t.1 ∙ others (file_at j l) (λ h less. file_differ j l h low (omega (arith, less, is, low)) (omega (arith, less, is))) ∙ none
-  | inr t ↦ gone i (omega (arith, t.1, lt, is))
-]
-
-pub kept_more : (j : List ℕ) (k l : ℕ) (m n w : Contents) → l ≡ k + 1 → KeepsOthers (file_at j l) m n → KeepsBeside j (k + 1) n w → KeepsBeside j (l + 1) m w
-kept_more j k l m n w is one others q beside = others q (λ i lt. beside i (omega (arith, lt, is))) ∙ one q (beside l (omega arith))
-
 -- after two looks, the second of which found each path back, the row is removed, or that fails
 pub finish_stays : (s : Spot) (es fs : List Edit) (t u v x : List Change) (k l m n : Contents) → Makes [] t u k l → Makes [] u v l m → AreBack es l → ShortensRow s es fs v x m n → Stays s es fs t x k n
 finish_stays s es fs t u v x k l m n look again all shorten o h =
@@ -120,7 +111,7 @@ absent_first s o es m n k none same =
     all_first s.journal (suc (length es)) o m n k.fresh
     (λ q out. same q ∙ elim (k.holds q out) [ inl at ↦ at | inr told ↦ absurd (subst (λ (l : List Edit). SomeEntryHasBytes l q (m q)) is told) ])
     (λ i lt. let first : i ≡ 0 = omega (arith, lt, ap length is) in same (file_at s.journal i) ∙ ap m (ap (file_at s.journal) first ∙ file_zero s.journal) ∙ none)
-    (λ q beside. same q)
+    (λ q own beside. same q)
 
 -- the same once the row was removed
 pub removed_first : (s : Spot) (o : Contents) (es : List Edit) (m n : Contents) → IsJournaled s o es m → AreBack es m → ((i : ℕ) → i < length es + 1 → n (file_at s.journal i) ≡ None) → KeepsBeside s.journal (length es + 1) m n → KeepsAll o n
@@ -128,4 +119,4 @@ removed_first s o es m n k all gone others =
     all_first s.journal (suc (length es)) o m n k.fresh
     (λ q out. others q (λ i lt. apart_from s.journal i q out) ∙ back_first s o es m k all q out)
     (λ i lt. gone i (omega (arith, lt)))
-    (λ q beside. others q (λ i lt. beside i (omega (arith, lt))))
+    (λ q own beside. others q (λ i lt. beside i (omega (arith, lt))))

@@ -98,7 +98,7 @@ first_there s m (suc c) es k lt h = elim (eqb_tells k c) [
   | inr t ↦ first_there s m c h.0 k (omega (arith, t.1)) h.2
 ]
 
-there_not_none : (s : Spot) (m : Contents) (c : ℕ) (es : List Edit) (k : ℕ) → k < c → AreFirst s m c es → m (file_at s.journal k) ≢ None
+pub there_not_none : (s : Spot) (m : Contents) (c : ℕ) (es : List Edit) (k : ℕ) → k < c → AreFirst s m c es → m (file_at s.journal k) ≢ None
 there_not_none s m c es k lt h none =
     let t = first_there s m c es k lt h in
     let y : Some (journal_text t.1.raw) ≡ None = sym t.1.text ∙ none in cc
@@ -157,12 +157,12 @@ fresh_more j k o m low h none = record {
 }
 
 -- each path holds what it held at first, once the row is gone
-pub all_first : (j : List ℕ) (k : ℕ) (o m n : Contents) → IsFresh j k o m → ((q : List ℕ) → is_of_journal j q ≡ false → n q ≡ o q) → ((i : ℕ) → i < k → n (file_at j i) ≡ None) → KeepsBeside j k m n → KeepsAll o n
+pub all_first : (j : List ℕ) (k : ℕ) (o m n : Contents) → IsFresh j k o m → ((q : List ℕ) → is_of_journal j q ≡ false → n q ≡ o q) → ((i : ℕ) → i < k → n (file_at j i) ≡ None) → ((q : List ℕ) → is_of_journal j q ≡ true → IsBeside j k q → n q ≡ m q) → KeepsAll o n
 all_first j k o m n h same gone others q = elim (cases_Bool (is_of_journal j q)) [
   | inr out ↦ same q out
   | inl own ↦ elim (beside_or j k q) [
     | inl found ↦ ap n found.2 ∙ gone found.0 found.1 ∙ sym (h.absent found.0 found.1) ∙ sym (ap o found.2)
-    | inr beside ↦ others q beside ∙ h.others q own beside
+    | inr beside ↦ others q own beside ∙ h.others q own beside
   ]
 ]
 

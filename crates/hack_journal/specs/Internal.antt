@@ -7,7 +7,7 @@ use Rattle.hack_journal.specs.Rows.{Spot, AreFirst, IsFresh, IsTextOf, file_at, 
 use Rattle.hack_journal.specs.SafeFiles.{KeepFirst, SomeEntryHasBytes, StaysSafe, gives, changes_besides, IsJournaled, first_entry_of}
 use Rattle.hack_journal.specs.declared.recover.RecoverFault.{RecoverFault}
 use Rattle.hack_journal.specs.declared.recover.RecoverFault.TheVariants.{Memory, NotJournal, Changed, Files}
-use Rattle.hack_journal.specs.Recovery.{AreChanged, CountsRecoverFault, HasEntry, IsJournalRefusal, IsNoJournal, IsReached, NamesPath}
+use Rattle.hack_journal.specs.Recovery.{AreChanged, CountsRecoverFault, HasEntry, IsJournalRefusal, NamesPath}
 
 -- the text does not begin with a space
 abbrev pub BeginsWithoutSpace : List ℕ → Type 0
@@ -54,13 +54,6 @@ IsWhyTorn spot k tells old Memory = Unit {0}
 IsWhyTorn spot k tells old (NotJournal j) = (string_bytes j ≡ spot.journal) × (tells → HoldsNoText spot k old)
 IsWhyTorn spot k tells old (Changed p j) = ⊥
 IsWhyTorn spot k tells old (Files f) = NamesPath (λ p. p ≡ file_at spot.journal k) f
-
--- why the journal can't be read
-abbrev pub IsWhyUnread : Spot → Type 0 → Contents → RecoverFault → Type 0
-IsWhyUnread spot tells old Memory = Unit {0}
-IsWhyUnread spot tells old (NotJournal j) = (string_bytes j ≡ spot.journal) × (tells → IsNoJournal spot old)
-IsWhyUnread spot tells old (Changed p j) = ⊥
-IsWhyUnread spot tells old (Files f) = NamesPath (IsReached spot tells old) f
 
 -- why checking what the paths of these entries hold fails
 abbrev pub IsWhyNotTold : List ℕ → Type 0 → List Edit → List Edit → Contents → RecoverFault → Type 0
