@@ -1,31 +1,21 @@
 -- The journal is removed where nothing is to be put back.
-use Rattle.std.proofs.Common.{◌≡◌, ◌≢◌, ◌⊎◌, inl, inr, ℕ, List, [], ◌∷◌, ◌++◌, Option, Some, None, refl, sym, ◌∙◌, subst, true, false, Bool, Result, OnOk, OnErr}
+use Rattle.std.proofs.Common.{◌≡◌, ◌≢◌, ◌<◌, ◌+◌, ◌^◌, inl, inr, ℕ, suc, List, [], ◌∷◌, ◌++◌, Option, Some, None, length, refl, sym, ◌∙◌, subst, ap, append-nil, arith, true, false, Bool}
 use Rattle.std.specs.Prelude.{IsTrue, IsSome, ◌↔◌}
 use Rattle.std.proofs.Math.Path.{fun_ext}
-use Rattle.hack_files.specs.Files.{Change, Contents, Makes, MakesOrNot, removes, KeepsAll}
+use Rattle.std.proofs.lemmas.Bool.Decides.{eqb_tells}
+use Rattle.std.proofs.lemmas.List.{length-append}
+use Rattle.hack_files.specs.Files.{Change, Contents, Makes, MakesOrNot, removes, KeepsAll, KeepsOthers}
 use Rattle.hack_journal.specs.Journal.{Edit, journal_text}
-use Rattle.hack_journal.specs.SafeFiles.{SomeEntryHasBytes, KeepFirst, IsJournalOf, HoldFirstOrTold, IsSafe, IsJournaled, StaysSafe, Stays, AreBack}
-use Rattle.hack_journal.specs.SafeLaws.{safe_of, stay_none, stays_none, stays_more, holds_left}
+use Rattle.hack_journal.specs.Rows.{Spot, AreEach, IsFresh, IsNoteOf, KeepsBeside, file_at, is_of_journal}
+use Rattle.hack_journal.specs.SafeFiles.{SomeEntryHasBytes, KeepFirst, IsJournaled, StaysSafe, Stays, AreBack}
+use Rattle.hack_journal.specs.Internal.{IsAllBack, ShortensRow}
+use Rattle.hack_journal.specs.SafeLaws.{fresh_less, makes_append, note_text, safe_of, stay_append, stay_none}
 use Rattle.hack_journal.proofs.ChangeLemmas.{makes_here, makes_others}
-use Rattle.hack_journal.proofs.SafeLemmas.{at_either, stay_one}
+use Rattle.hack_journal.proofs.RowLemmas.{all_first, apart_from, each_along, each_less, file_differ, file_zero, fresh_changed}
+use Rattle.hack_journal.proofs.SafeLemmas.{keeps_left, stay_one}
 
 pub all_same : (m n : Contents) → KeepsAll m n → n ≡ m
 all_same m n h = fun_ext h
-
--- the journal is removed where each path holds what it held at first
-removed_by : (j : List ℕ) (o : Contents) (t u : List Change) (m n : Contents) → Makes (removes j ∷ []) t u m n → ((q : List ℕ) → q ≢ j → m q ≡ o q) → IsJournaled j o [] n
-removed_by j o t u m n made same = record {
-  more = [];
-  is_in = inr (makes_here t u (removes j) m n made, refl);
-  keeps = tt;
-  holds = λ q ne. inl (makes_others t u (removes j) m n made q ne ∙ same q ne);
-}
-
-pub removed_safe : (j : List ℕ) (o : Contents) (t u : List Change) (m n : Contents) → MakesOrNot (removes j) t u m n → IsSafe j o m → ((q : List ℕ) → q ≢ j → m q ≡ o q) → StaysSafe j o t u m n
-removed_safe j o t u m n makes s same = elim makes [
-  | inl none ↦ stay_none j o t u m n none s
-  | inr made ↦ stay_one j o (removes j) t u m n made s (safe_of j o [] n (removed_by j o t u m n made same))
-]
 
 -- where the paths of all entries are back, each path holds what it held at first
 told_first : (j : List ℕ) (o : Contents) (es more : List Edit) (m : Contents) (q : List ℕ) (x : Option (List ℕ)) → KeepFirst j o (es ++ more) → AreBack es m → SomeEntryHasBytes es q x → m q ≡ o q
@@ -35,43 +25,98 @@ told_first j o (e ∷ es) more m q x k all h = elim h [
   | inr told ↦ told_first j o es more m q x k.3 all.1 told
 ]
 
-pub back_first : (j : List ℕ) (o : Contents) (es : List Edit) (m : Contents) → IsJournaled j o es m → AreBack es m → (q : List ℕ) → q ≢ j → m q ≡ o q
-back_first j o es m k all q ne = elim (k.holds q ne) [ inl same ↦ same | inr told ↦ told_first j o es k.more m q (m q) k.keeps all told ]
+pub back_first : (s : Spot) (o : Contents) (es : List Edit) (m : Contents) → IsJournaled s o es m → AreBack es m → IsAllBack s.journal o m
+back_first s o es m k all q out = elim (k.holds q out) [ inl same ↦ same | inr told ↦ told_first s.journal o es k.more m q (m q) k.keeps all told ]
 
--- the same with the journal still there: no entry is needed in memory
-forget : (j : List ℕ) (o : Contents) (es : List Edit) (m : Contents) → IsJournaled j o es m → ((q : List ℕ) → q ≢ j → m q ≡ o q) → IsJournaled j o [] m
-forget j o es m k same = record { more = es ++ k.more; is_in = k.is_in; keeps = k.keeps; holds = λ q ne. inl (same q ne) }
+-- the file that comes next was removed
+removed_next : (s : Spot) (o : Contents) (es : List Edit) (t u : List Change) (m n : Contents) → length es < 2 ^ 64 → Makes (removes (file_at s.journal (length es)) ∷ []) t u m n → IsAllBack s.journal o m → IsJournaled s o es m → IsJournaled s o es n
+removed_next s o es t u m n low makes same k =
+    let j = s.journal in
+    let here : n (file_at j (length es)) ≡ None = makes_here t u (removes (file_at j (length es))) m n makes in
+    let others : KeepsOthers (file_at j (length es)) m n = makes_others t u (removes (file_at j (length es))) m n makes in
+    record {
+      more = [];
+      each = each_along s m n 0 es (λ i least lt. others (file_at j i) (file_differ j i (length es) (omega (arith, lt, low)) low (omega (arith, lt)))) k.each;
+      ends = inl (here, refl);
+      fresh = fresh_changed j (suc (length es)) (length es) o m n (omega arith) others k.fresh;
+      keeps = subst (λ (l : List Edit). KeepFirst j o l) (sym (append-nil es)) (keeps_left j o es k.more k.keeps);
+      holds = λ q out. inl (others q (apart_from j (length es) q out) ∙ same q out);
+    }
 
-pub finish_stays : (j : List ℕ) (es : List Edit) (t u : List Change) (m n : Contents) → AreBack es m → MakesOrNot (removes j) t u m n → Stays j es [] t u m n
-finish_stays j es t u m n all makes o k =
-    let same = back_first j o es m k all in (
-      removed_safe j o t u m n makes (safe_of j o es m k) same,
-      elim makes [ inl none ↦ subst (λ (x : Contents). IsJournaled j o [] x) (sym none.holds) (forget j o es m k same) | inr made ↦ removed_by j o t u m n made same ],
-    )
+-- the last entry is forgotten, whose file comes next
+popped_here : (s : Spot) (o : Contents) (es : List Edit) (e : Edit) (n : Contents) → n (file_at s.journal (length (es ++ e ∷ []))) ≡ None → IsAllBack s.journal o n → IsJournaled s o (es ++ e ∷ []) n → IsJournaled s o es n
+popped_here s o es e n none same k =
+    let len : length (es ++ e ∷ []) ≡ suc (length es) = omega (arith, length-append es (e ∷ [])) in
+    let gone : n (file_at s.journal (suc (length es))) ≡ None = subst (λ (i : ℕ). n (file_at s.journal i) ≡ None) len none in
+    let less = each_less s n es e k.each in
+    record {
+      more = e ∷ [];
+      each = less.0;
+      ends = inr (note_text s.folder (n (file_at s.journal (length es))) e less.1, gone);
+      fresh = fresh_less s.journal (suc (length es)) o n (subst (λ (i : ℕ). IsFresh s.journal (suc i) o n) len k.fresh) gone;
+      keeps = keeps_left s.journal o (es ++ e ∷ []) k.more k.keeps;
+      holds = λ q out. inl (same q out);
+    }
 
--- after two looks, the second of which found each path back, the journal is removed, or that fails
-pub removed_stays : {A E W : Type 0} (r : Result A E) (i j : List ℕ) (ds es fs : List Edit) (s t u v : List Change) (k l m n : Contents) → i ≡ j → ds ≡ es → [] ≡ fs → Makes [] s t k l → Makes [] t u l m → AreBack ds l
-    → OnOk r (W → Makes (removes i ∷ []) u v m n) → OnErr r (W → MakesOrNot (removes i) u v m n) → W → Stays j es fs s v k n
-removed_stays r i j ds es fs s t u v k l m n name same none looked again all ok err w =
-    let back : AreBack ds m = subst (λ (x : Contents). AreBack ds x) (sym again.holds) all in
-    subst (λ (x : List ℕ). Stays x es fs s v k n) name (subst (λ (x : List Edit). Stays i x fs s v k n) same (subst (λ (x : List Edit). Stays i ds x s v k n) none
-    (stays_more i ds ds [] s t v k l n (stays_none i ds s t k l looked) (stays_more i ds ds [] t u v l m n (stays_none i ds t u l m again)
-    (finish_stays i ds u v m n back (at_either r (removes i) u v m n ok err w))))))
+popped : (s : Spot) (o : Contents) (fs es : List Edit) (e : Edit) (n : Contents) → fs ≡ es ++ e ∷ [] → n (file_at s.journal (length fs)) ≡ None → IsAllBack s.journal o n → IsJournaled s o fs n → IsJournaled s o es n
+popped s o fs es e n is none same k =
+    popped_here s o es e n (subst (λ (l : List Edit). n (file_at s.journal (length l)) ≡ None) is none) same (subst (λ (l : List Edit). IsJournaled s o l n) is k)
 
--- where no journal is there, each path holds what it held at first
-pub absent_first : (j : List ℕ) (o : Contents) (es : List Edit) (m : Contents) → IsJournalOf j m es → HoldFirstOrTold j o es m → m j ≡ None → (q : List ℕ) → q ≢ j → m q ≡ o q
-absent_first j o es m is_in holds none q ne = elim is_in [
-  | inl some ↦ let y : Some (journal_text es) ≡ None = sym some ∙ none in cc
-  | inr both ↦ elim (holds q ne) [ inl same ↦ same | inr told ↦ absurd (subst (λ (l : List Edit). SomeEntryHasBytes l q (m q)) both.1 told) ]
+-- the removal failed
+pub shorten_err : (s : Spot) (es : List Edit) (t u : List Change) (m n : Contents) → length es < 2 ^ 64 → MakesOrNot (removes (file_at s.journal (length es))) t u m n → ShortensRow s es es t u m n
+shorten_err s es t u m n low makes o k same = elim makes [
+  | inl none ↦ (stay_none s o t u m n none (safe_of s o es m k), subst (λ (x : Contents). IsJournaled s o es x) (sym none.holds) k)
+  | inr made ↦ let now = removed_next s o es t u m n low made same k in (stay_one s o (removes (file_at s.journal (length es))) t u m n made (safe_of s o es m k) (safe_of s o es n now), now)
 ]
+
+-- the last file was removed
+pub shorten_last : (s : Spot) (es fs : List Edit) (t u : List Change) (m n : Contents) → length es < 2 ^ 64 → es ≡ fs → Makes (removes (file_at s.journal (length es)) ∷ []) t u m n → ShortensRow s es fs t u m n
+shorten_last s es fs t u m n low is made = subst (λ (l : List Edit). ShortensRow s es l t u m n) is (shorten_err s es t u m n low (inr made))
+
+-- a file was removed, and then the rest
+pub shorten_more : (s : Spot) (es fs gs : List Edit) (e : Edit) (t u v : List Change) (m n w : Contents) → length es < 2 ^ 64 → es ≡ fs ++ e ∷ [] → Makes (removes (file_at s.journal (length es)) ∷ []) t u m n → ShortensRow s fs gs u v n w → ShortensRow s es gs t v m w
+shorten_more s es fs gs e t u v m n w low is made rest o k same =
+    let now = removed_next s o es t u m n low made same k in
+    let here : n (file_at s.journal (length es)) ≡ None = makes_here t u (removes (file_at s.journal (length es))) m n made in
+    let all : IsAllBack s.journal o n = λ q out. makes_others t u (removes (file_at s.journal (length es))) m n made q (apart_from s.journal (length es) q out) ∙ same q out in
+    let one : StaysSafe s o t u m n = stay_one s o (removes (file_at s.journal (length es))) t u m n made (safe_of s o es m k) (safe_of s o es n now) in
+    let more = rest o (popped s o es fs e n is here all now) all in
+    (stay_append s o t u v m n w one more.0, more.1)
+
+-- after two looks, the second of which found each path back, the row is removed, or that fails
+pub finish_stays : (s : Spot) (es fs : List Edit) (t u v x : List Change) (k l m n : Contents) → Makes [] t u k l → Makes [] u v l m → AreBack es l → ShortensRow s es fs v x m n → Stays s es fs t x k n
+finish_stays s es fs t u v x k l m n look again all shorten o h =
+    let looks = makes_append [] [] t u v k l m look again in
+    let there : IsJournaled s o es m = subst (λ (y : Contents). IsJournaled s o es y) (sym looks.holds) h in
+    let back : AreBack es m = subst (λ (y : Contents). AreBack es y) (sym again.holds) all in
+    let rest = shorten o there (back_first s o es m there back) in
+    (stay_append s o t v x k m n (stay_none s o t v k m looks (safe_of s o es k h)) rest.0, rest.1)
 
 pub none_of : (b : Bool) (x : Option (List ℕ)) → (IsTrue b ↔ IsSome x) → b ≡ false → x ≡ None
 none_of b None h f = refl
 none_of b (Some x) h f = let t : b ≡ true = h.1 refl in let y : true ≡ false = sym t ∙ f in cc
 
--- no journal is needed: each path holds what it held at first
-pub gone_first : (j : List ℕ) (o : Contents) (es : List Edit) (m : Contents) → (m j ≡ None) ⊎ AreBack es m → IsJournaled j o es m → (q : List ℕ) → q ≢ j → m q ≡ o q
-gone_first j o es m gone k q ne = elim gone [
-  | inl none ↦ absent_first j o (es ++ k.more) m k.is_in (holds_left j o es k.more m k.holds) none q ne
-  | inr all ↦ back_first j o es m k all q ne
-]
+-- where no journal is there, nothing is noted
+none_noted : (s : Spot) (m : Contents) (es : List Edit) → AreEach s m 0 es → m s.journal ≡ None → es ≡ []
+none_noted s m [] h none = refl
+none_noted s m (e ∷ es) h none =
+    let n : IsNoteOf s.folder (m (file_at s.journal 0)) e = h.0 in
+    let y : Some (journal_text (record e { path = n.path } ∷ [])) ≡ None = sym n.text ∙ ap m (file_zero s.journal) ∙ none in
+    cc
+
+-- then each path holds what it held at first
+pub absent_first : (s : Spot) (o : Contents) (es : List Edit) (m n : Contents) → IsJournaled s o es m → m s.journal ≡ None → KeepsAll m n → KeepsAll o n
+absent_first s o es m n k none same =
+    let is = none_noted s m es k.each none in
+    all_first s.journal (suc (length es)) o m n k.fresh
+    (λ q out. same q ∙ elim (k.holds q out) [ inl at ↦ at | inr told ↦ absurd (subst (λ (l : List Edit). SomeEntryHasBytes l q (m q)) is told) ])
+    (λ i lt. let first : i ≡ 0 = omega (arith, lt, ap length is) in same (file_at s.journal i) ∙ ap m (ap (file_at s.journal) first ∙ file_zero s.journal) ∙ none)
+    (λ q own beside. same q)
+
+-- the same once the row was removed
+pub removed_first : (s : Spot) (o : Contents) (es : List Edit) (m n : Contents) → IsJournaled s o es m → AreBack es m → ((i : ℕ) → i < length es + 1 → n (file_at s.journal i) ≡ None) → KeepsBeside s.journal (length es + 1) m n → KeepsAll o n
+removed_first s o es m n k all gone others =
+    all_first s.journal (suc (length es)) o m n k.fresh
+    (λ q out. others q (λ i lt. apart_from s.journal i q out) ∙ back_first s o es m k all q out)
+    (λ i lt. gone i (omega (arith, lt)))
+    (λ q own beside. others q (λ i lt. beside i (omega (arith, lt))))

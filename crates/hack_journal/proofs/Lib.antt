@@ -1,5 +1,7 @@
 mod TextLemmas
 mod ChangeLemmas
+pub mod RowLemmas
+mod NoteLemmas
 mod SafeLemmas
 mod FinishLemmas
 pub mod RecoverLemmas

@@ -1,54 +1,129 @@
 -- What a journal keeps is put back.
-use Rattle.std.proofs.Common.{◌≡◌, ◌≢◌, ◌⊎◌, inl, inr, ℕ, List, [], ◌∷◌, Option, Some, None, refl, sym, ◌∙◌, subst, ap, append-nil, true, Result, Ok, Err, OnOk, IfOk, false, Bool, cond, arith}
-use Rattle.std.specs.Prelude.{◌↔◌, ◌+◌, string_bytes}
+use Rattle.std.proofs.Common.{◌≡◌, ◌≢◌, ◌⊎◌, ◌<◌, ◌≤◌, ◌+◌, ◌-◌, ◌^◌, inl, inr, ℕ, zero, suc, List, [], ◌∷◌, ◌++◌, Option, Some, None, refl, sym, ◌∙◌, subst, ap, append-nil, append_assoc, add-one, true, Result, Ok, Err, OnOk, IfOk, false, Bool, cond, arith}
+use Rattle.std.specs.Prelude.{◌↔◌, IsSome, string_bytes}
 use Rattle.std.specs.Str.{bytes_eq}
-use Rattle.std.specs.Int.{from_bool}
 use Rattle.std.proofs.Math.Path.{fun_ext}
 use Rattle.std.proofs.lemmas.Slice.Eq.{bytes_eq-Decides}
-use Rattle.std.proofs.lemmas.Bool.{cases_Bool}
-use Rattle.hack_files.specs.Files.{Change, Contents, after_change, after, Makes, MakesOrNot, KeepsAll, KeepsOthers}
+use Rattle.std.proofs.lemmas.Bool.{cases_Bool, cases_lt, false≢true}
+use Rattle.std.proofs.lemmas.Bool.Decides.{eqb_tells}
+use Rattle.hack_files.specs.Files.{Change, Contents, after_change, after, Makes, MakesOrNot, KeepsAll, KeepsOthers, removes}
 use Rattle.hack_files.specs.declared.fs.FsFault.{FsFault}
 use Rattle.hack_files.specs.declared.fs.FsFault.TheVariants as fs
 use Rattle.hack_journal.specs.Journal.{Edit, journal_text, HaveTextPaths}
-use Rattle.hack_journal.specs.SafeFiles.{gives, SomeEntryHasBytes, KeepFirst, IsSafe, IsSafeBy, StaysSafe, AreBack, first_entry_of, without}
-use Rattle.hack_journal.specs.Recovery.{HasEntry, AgreesOnHeld, AreOfCall, AreTold, Differ, Restored, IsNoJournal, IsWhy, IsJournalRefusal, NamesPath, IsJournalOrItsEntry}
-use Rattle.hack_journal.specs.Internal.{backs, IsWhyUnread, IsWhyNotTold, NamesNoJournal, FailsAt}
-use Rattle.hack_journal.specs.Recovery.Differ.{in_none, in_one}
+use Rattle.hack_journal.specs.Rows.{Spot, AreFirst, AreRead, IsFresh, IsRowOf, IsRowRead, IsTextOf, KeepsBeside, file_at, is_of_journal, placed}
+use Rattle.hack_journal.specs.SafeFiles.{gives, SomeEntryHasBytes, KeepFirst, IsSafe, IsSafeBy, StaysSafe, AreBack, first_entry_of}
+use Rattle.hack_journal.specs.Recovery.{HasEntry, AgreesOnHeld, AreOfCall, AreTold, AreChanged, Restored, IsNoJournal, IsReached, IsWhy, IsWhyUnread, IsJournalRefusal, NamesPath, IsJournalOrItsEntry}
+use Rattle.hack_journal.specs.Internal.{AddsChanged, AddsIfOther, HoldsNoText, IsBackBut, IsRead, IsReadMore, IsWhyNotTold, IsWhyTorn, NamesNoJournal, FailsAt, backs}
 use Rattle.hack_journal.specs.declared.recover.RecoverFault.{RecoverFault}
 use Rattle.hack_journal.specs.declared.recover.RecoverFault.TheVariants.{Memory, NotJournal, Changed, Files}
-use Rattle.hack_journal.specs.SafeLaws.{stay_none, stay_append}
-use Rattle.hack_journal.proofs.ChangeLemmas.{makes_here, makes_others, bytes_differ, changed_other}
+use Rattle.hack_journal.specs.SafeLaws.{fresh_less, stay_none, stay_append}
+use Rattle.hack_journal.proofs.ChangeLemmas.{makes_here, makes_others, changed_other}
 use Rattle.hack_journal.proofs.FinishLemmas.{all_same}
-use Rattle.hack_journal.proofs.SafeLemmas.{stay_one, First, first_keeps}
+use Rattle.hack_journal.proofs.RowLemmas.{all_first, apart_from, file_differ, file_zero, first_along, first_there, fresh_apart, fresh_changed, own_file, row_of, row_only, there_not_none}
+use Rattle.hack_journal.proofs.SafeLemmas.{keeps_left, stay_one, First, first_keeps}
 
-pub safe_by : (j : List ℕ) (o : Contents) (es : List Edit) (m : Contents) → IsSafeBy j o es m → IsSafe j o m
+-- ---- reading
+
+-- a text that was read as entries holds those from the folder, and no others
+pub read_of : (folder : List ℕ) (held : Option (List ℕ)) (text : List ℕ) (raw : List Edit) → HaveTextPaths raw → held ≡ Some text → text ≡ journal_text raw → ((fs : List Edit) → HaveTextPaths fs → text ≡ journal_text fs → raw ≡ fs) → IsRead folder held (placed folder raw)
+read_of folder held text raw paths is found only = record {
+  text = record { raw = raw; paths = paths; text = is ∙ ap Some found; are = refl };
+  only = λ fs t.
+      let same : Some text ≡ Some (journal_text t.raw) = sym is ∙ t.text in
+      let one : text ≡ journal_text t.raw = cc in
+      ap (placed folder) (only t.raw t.paths one) ∙ t.are;
+}
+
+pub read_none : (s : Spot) (m : Contents) → AreRead s m 0 []
+read_none s m = record { files = refl; only = λ fs h. sym h }
+
+-- one file more was read
+pub read_more : (s : Spot) (m : Contents) (k : ℕ) (es fs : List Edit) → AreRead s m k es → IsReadMore s.folder (m (file_at s.journal k)) es fs → AreRead s m (suc k) fs
+read_more s m k es fs h more = record {
+  files = (es, more.es, h.files, more.read.text, more.added);
+  only = λ gs g. more.added ∙ ap (λ (l : List Edit). l ++ more.es) (h.only g.0 g.2) ∙ ap (λ (l : List Edit). g.0 ++ l) (more.read.only g.1 g.3) ∙ sym g.4;
+}
+
+-- the same, where the row was looked at since
+pub read_more_at : (s : Spot) (m n : Contents) (k : ℕ) (es fs : List Edit) → KeepsAll m n → AreRead s m k es → IsReadMore s.folder (n (file_at s.journal k)) es fs → AreRead s m (k + 1) fs
+read_more_at s m n k es fs same h more =
+    subst (λ (i : ℕ). AreRead s m i fs) (sym (add-one k)) (read_more s m k es fs h (subst (λ (x : Option (List ℕ)). IsReadMore s.folder x es fs) (same (file_at s.journal k)) more))
+
+some_of : (x : Option (List ℕ)) → IsSome x → (text : List ℕ) × (x ≡ Some text)
+some_of None h = absurd (false≢true h)
+some_of (Some x) h = (x, refl)
+
+some_is : (x : Option (List ℕ)) → x ≢ None → IsSome x
+some_is None h = absurd (h refl)
+some_is (Some x) h = refl
+
+-- each file before this one is there
+pub reached : (s : Spot) (m : Contents) (c : ℕ) (es : List Edit) → AreFirst s m c es → (i : ℕ) → i < c → IsSome (m (file_at s.journal i))
+reached s m c es h i lt = some_is (m (file_at s.journal i)) (there_not_none s m c es i lt h)
+
+-- so is the journal's own
+journal_there : (s : Spot) (m : Contents) (k : ℕ) (es : List Edit) → AreFirst s m k es → IsSome (m (file_at s.journal k)) → (text : List ℕ) × (m s.journal ≡ Some text)
+journal_there s m k es h some = elim (eqb_tells k 0) [
+  | inl t ↦ let x = some_of (m (file_at s.journal k)) some in (x.0, ap m (sym (ap (file_at s.journal) t.1 ∙ file_zero s.journal)) ∙ x.1)
+  | inr t ↦ let x = some_of (m (file_at s.journal 0)) (reached s m k es h 0 (omega (arith, t.1))) in (x.0, ap m (sym (file_zero s.journal)) ∙ x.1)
+]
+
+-- a row with a file that holds no text of entries is that of no call
+no_row : (s : Spot) (m : Contents) (k : ℕ) (es : List Edit) → AreFirst s m k es → HoldsNoText s k m → IsNoJournal s m
+no_row s m k es h torn =
+    let there = journal_there s m k es h torn.0 in (
+      there.0,
+      there.1,
+      λ fs call row. elim (cases_lt k row.count) [
+        | inl lt ↦ let t = first_there s m row.count fs k lt row.files in torn.1 t.0 t.1
+        | inr le ↦ elim (eqb_tells row.count k) [
+          | inl t ↦ let x = some_of (m (file_at s.journal k)) torn.0 in let y : Some x.0 ≡ None = sym x.1 ∙ ap (λ i. m (file_at s.journal i)) (sym t.1) ∙ row.ends in cc
+          | inr t ↦ there_not_none s m k es row.count (omega (arith, le, t.1)) h row.ends
+        ]
+      ],
+    )
+
+-- nor is one whose entries aren't as a call writes them
+pub no_call : (s : Spot) (m : Contents) (c : ℕ) (es : List Edit) → c ≢ 0 → IsRowRead s m c es → ¬ AreOfCall s.journal es es → IsNoJournal s m
+no_call s m c es some h not =
+    let x = some_of (m (file_at s.journal 0)) (reached s m c es h.files.files 0 (omega (arith, some))) in (
+      x.0,
+      ap m (sym (file_zero s.journal)) ∙ x.1,
+      λ fs call row.
+          let is = (row_only s m c es fs h row).1 in
+          not (subst (λ (l : List Edit). AreOfCall s.journal l l) (sym is) call),
+    )
+
+pub safe_by : (j : Spot) (o : Contents) (es : List Edit) (m : Contents) → IsSafeBy j o es m → IsSafe j o m
 safe_by j o es m s = record { entries = es; by = s }
 
 -- a path is put back
-back_made : (j : List ℕ) (o : Contents) (es : List Edit) (p : List ℕ) (x : Option (List ℕ)) (t u : List Change) (m n : Contents) → Makes (gives p x ∷ []) t u m n → IsSafeBy j o es m → o p ≡ x → p ≢ j → IsSafeBy j o es n
-back_made j o es p x t u m n makes s held ne =
+back_made : (s : Spot) (o : Contents) (es : List Edit) (p : List ℕ) (x : Option (List ℕ)) (t u : List Change) (m n : Contents) → Makes (gives p x ∷ []) t u m n → IsSafeBy s o es m → o p ≡ x → is_of_journal s.journal p ≡ false → IsSafeBy s o es n
+back_made s o es p x t u m n makes h held out =
     let here = makes_here t u (gives p x) m n makes in
-    let others = makes_others t u (gives p x) m n makes in
-    let at_journal : n j ≡ m j = others j (λ e. ne (sym e)) in
+    let others : KeepsOthers p m n = makes_others t u (gives p x) m n makes in
+    let own : (q : List ℕ) → is_of_journal s.journal q ≡ true → n q ≡ m q = λ q is. others q (λ e. let y : true ≡ false = sym is ∙ ap (is_of_journal s.journal) e ∙ out in cc) in
+    let file : (i : ℕ) → n (file_at s.journal i) ≡ m (file_at s.journal i) = λ i. own (file_at s.journal i) (own_file s.journal i) in
     record {
-      is_in = elim s.is_in [ inl is ↦ inl (at_journal ∙ is) | inr none ↦ inr (at_journal ∙ none.0, none.1) ];
-      keeps = s.keeps;
+      row = record { count = h.row.count; files = first_along s m n h.row.count es (λ i lt. file i) h.row.files; ends = file h.row.count ∙ h.row.ends };
+      fresh = fresh_apart s.journal h.row.count o m n own h.fresh;
+      keeps = h.keeps;
       holds = λ q other. elim (cases_Bool (bytes_eq p q)) [
         | inl t ↦ let is = (bytes_eq-Decides p q).0 t in inl (subst (λ (r : List ℕ). n r ≡ o r) is (here ∙ sym held))
         | inr f ↦ let same = others q (λ e. let y : true ≡ false = sym ((bytes_eq-Decides p q).1 (sym e)) ∙ f in cc) in
-            elim (s.holds q other) [ inl is ↦ inl (same ∙ is) | inr told ↦ inr (subst (SomeEntryHasBytes es q) (sym same) told) ]
+            elim (h.holds q other) [ inl is ↦ inl (same ∙ is) | inr told ↦ inr (subst (SomeEntryHasBytes es q) (sym same) told) ]
       ];
     }
 
-pub back_safe : (j : List ℕ) (o : Contents) (es : List Edit) (p : List ℕ) (x : Option (List ℕ)) (t u : List Change) (m n : Contents) → MakesOrNot (gives p x) t u m n → IsSafeBy j o es m → o p ≡ x → p ≢ j → StaysSafe j o t u m n × IsSafeBy j o es n
-back_safe j o es p x t u m n makes s held ne = elim makes [
-  | inl none ↦ (stay_none j o t u m n none (safe_by j o es m s), subst (λ (f : Contents). IsSafeBy j o es f) (sym none.holds) s)
-  | inr made ↦ let now = back_made j o es p x t u m n made s held ne in (stay_one j o (gives p x) t u m n made (safe_by j o es m s) (safe_by j o es n now), now)
+pub back_safe : (s : Spot) (o : Contents) (es : List Edit) (p : List ℕ) (x : Option (List ℕ)) (t u : List Change) (m n : Contents) → MakesOrNot (gives p x) t u m n → IsSafeBy s o es m → o p ≡ x → is_of_journal s.journal p ≡ false → StaysSafe s o t u m n × IsSafeBy s o es n
+back_safe s o es p x t u m n makes h held out = elim makes [
+  | inl none ↦ (stay_none s o t u m n none (safe_by s o es m h), subst (λ (f : Contents). IsSafeBy s o es f) (sym none.holds) h)
+  | inr made ↦ let now = back_made s o es p x t u m n made h held out in (stay_one s o (gives p x) t u m n made (safe_by s o es m h) (safe_by s o es n now), now)
 ]
 
 -- several steps, one after another
-pub join_safe : (j : List ℕ) (o : Contents) (es : List Edit) (t u v : List Change) (m n w : Contents) → StaysSafe j o t u m n × IsSafeBy j o es n → (IsSafeBy j o es n → StaysSafe j o u v n w × IsSafeBy j o es w) → StaysSafe j o t v m w × IsSafeBy j o es w
-join_safe j o es t u v m n w a f = let b = f a.1 in (stay_append j o t u v m n w a.0 b.0, b.1)
+pub join_safe : (s : Spot) (o : Contents) (es : List Edit) (t u v : List Change) (m n w : Contents) → StaysSafe s o t u m n × IsSafeBy s o es n → (IsSafeBy s o es n → StaysSafe s o u v n w × IsSafeBy s o es w) → StaysSafe s o t v m w × IsSafeBy s o es w
+join_safe s o es t u v m n w a f = let b = f a.1 in (stay_append s o t u v m n w a.0 b.0, b.1)
 
 pub after_along : (cs : List Change) (m n w : Contents) → KeepsAll m n → KeepsAll (after cs n) w → KeepsAll (after cs m) w
 after_along cs m n w h k = subst (λ (f : Contents). KeepsAll (after cs f) w) (all_same m n h) k
@@ -68,20 +143,14 @@ backs_at j o (e ∷ es) m q k h = backs_at j o es (after_change (gives e.path e.
 ])
 
 -- what all entries keep is put back: each path holds what it held at first
-pub backs_first : (j : List ℕ) (o : Contents) (es : List Edit) (m : Contents) → IsSafeBy j o es m → (q : List ℕ) → q ≢ j → after (backs es) m q ≡ o q
-backs_first j o es m s q ne = backs_at j o es m q s.keeps (elim (s.holds q ne) [ inl same ↦ inl same | inr told ↦ inr (has_of es q (m q) told) ])
-
--- the paths of entries are text
-text_of : (j : List ℕ) (o : Contents) (es : List Edit) → KeepFirst j o es → HaveTextPaths es
-text_of j o [] k = tt
-text_of j o (e ∷ es) k = (k.2, text_of j o es k.3)
+pub backs_first : (s : Spot) (o : Contents) (es : List Edit) (m : Contents) → IsSafeBy s o es m → (q : List ℕ) → is_of_journal s.journal q ≡ false → after (backs es) m q ≡ o q
+backs_first s o es m h q out = backs_at s.journal o es m q h.keeps (elim (h.holds q out) [ inl same ↦ inl same | inr told ↦ inr (has_of es q (m q) told) ])
 
 -- the entries that were read are those that the journal has
-pub safe_at : (j : List ℕ) (o : Contents) (es : List Edit) (m : Contents) → IsSafe j o m → m j ≡ Some (journal_text es) → ((fs : List Edit) → HaveTextPaths fs → m j ≡ Some (journal_text fs) → es ≡ fs) → IsSafeBy j o es m
-safe_at j o es m s text only = elim s.by.is_in [
-  | inl some ↦ subst (λ (l : List Edit). IsSafeBy j o l m) (sym (only s.entries (text_of j o s.entries s.by.keeps) some)) s.by
-  | inr absent ↦ let y : Some (journal_text es) ≡ None = sym text ∙ absent.0 in cc
-]
+pub safe_at : (s : Spot) (o : Contents) (c : ℕ) (es : List Edit) (m : Contents) → IsSafe s o m → IsRowRead s m c es → (by : IsSafeBy s o es m) × (by.row.count ≡ c)
+safe_at s o c es m h read =
+    let is = row_only s m c es h.entries read h.by.row in
+    subst (λ (l : List Edit). (by : IsSafeBy s o l m) × (by.row.count ≡ c)) (sym is.1) (h.by, is.0)
 
 -- a path of no entry holds what it held
 pub backs_other : (es : List Edit) (m : Contents) (q : List ℕ) → ¬ HasEntry es q → after (backs es) m q ≡ m q
@@ -119,15 +188,15 @@ origin_keeps_of j all m (e ∷ es) h sub =
 pub origin_keeps : (j : List ℕ) (es : List Edit) (m : Contents) → AreOfCall j es es → KeepFirst j (origin es m) es
 origin_keeps j es m h = origin_keeps_of j es m es h (λ q has. has)
 
-are_back : (j : List ℕ) (o n : Contents) (es : List Edit) → KeepFirst j o es → ((q : List ℕ) → HasEntry es q → q ≢ j → n q ≡ o q) → AreBack es n
+are_back : (j : List ℕ) (o n : Contents) (es : List Edit) → KeepFirst j o es → ((q : List ℕ) → HasEntry es q → is_of_journal j q ≡ false → n q ≡ o q) → AreBack es n
 are_back j o n [] k h = tt
 are_back j o n (e ∷ es) k h = (h e.path (inl refl) k.1 ∙ k.0, are_back j o n es k.3 (λ q has ne. h q (inr has) ne))
 
 -- once all is put back that the entries of a call keep, each path holds what it held at first
-pub all_are_back : (j : List ℕ) (es : List Edit) (m n : Contents) → AreOfCall j es es → KeepsOthers j (after (backs es) m) n → AreBack es n
-all_are_back j es m n call back =
+pub all_are_back : (j : List ℕ) (c : ℕ) (es : List Edit) (m n : Contents) → AreOfCall j es es → KeepsBeside j c (after (backs es) m) n → AreBack es n
+all_are_back j c es m n call back =
     let keeps = origin_keeps j es m call in
-    are_back j (origin es m) n es keeps (λ q has ne. back q ne ∙ backs_at j (origin es m) es m q keeps (inr has))
+    are_back j (origin es m) n es keeps (λ q has out. back q (λ i lt. apart_from j i q out) ∙ backs_at j (origin es m) es m q keeps (inr has))
 
 agrees_of : (o : Contents) (all : List Edit) (p : List ℕ) (f : Option Edit) (held : Option (List ℕ)) → First o all p f → o p ≡ held → AgreesOnHeld f held
 agrees_of o all p None held first is = tt
@@ -138,22 +207,14 @@ call_of j o all keeps [] k = tt
 call_of j o all keeps (e ∷ es) k =
     ((k.1, k.2, agrees_of o all e.path (first_entry_of all e.path) e.held (first_keeps j o all [] e.path (subst (λ (l : List Edit). KeepFirst j o l) (sym (append-nil all)) keeps)) k.0), call_of j o all keeps es k.3)
 
-tells_first : (j : List ℕ) (o : Contents) (es : List Edit) (q : List ℕ) → KeepFirst j o es → HasEntry es q → (q ≢ j) × SomeEntryHasBytes es q (o q)
+tells_first : (j : List ℕ) (o : Contents) (es : List Edit) (q : List ℕ) → KeepFirst j o es → HasEntry es q → (is_of_journal j q ≡ false) × SomeEntryHasBytes es q (o q)
 tells_first j o [] q k has = absurd has
 tells_first j o (e ∷ es) q k has = elim has [
-  | inl is ↦ (λ at. k.1 (is ∙ at), inl (is, inl (ap o (sym is) ∙ k.0)))
+  | inl is ↦ (ap (is_of_journal j) (sym is) ∙ k.1, inl (is, inl (ap o (sym is) ∙ k.0)))
   | inr others ↦ let rest = tells_first j o es q k.3 others in (rest.0, inr rest.1)
 ]
 
-texts_of_call : (j : List ℕ) (all es : List Edit) → AreOfCall j all es → HaveTextPaths es
-texts_of_call j all [] h = tt
-texts_of_call j all (e ∷ es) h = (h.0.1, texts_of_call j all es h.1)
-
--- a text that was not read is no journal
-pub no_journal_of : (j text : List ℕ) (m : Contents) → m j ≡ Some text → ((es : List Edit) → HaveTextPaths es → AreOfCall j es es → text ≡ journal_text es → ⊥) → IsNoJournal j m
-no_journal_of j text m is never = (text, is, λ es call same. never es (texts_of_call j es es call) call same)
-
-pub why_no_journal : (j : List ℕ) (tells : Type 0) (m : Contents) (fault : RecoverFault) → NamesNoJournal j fault → (tells → IsNoJournal j m) → IsWhyUnread j tells m fault
+pub why_no_journal : (j : Spot) (tells : Type 0) (m : Contents) (fault : RecoverFault) → NamesNoJournal j.journal fault → (tells → IsNoJournal j m) → IsWhyUnread j tells m fault
 why_no_journal j tells m Memory names unread = tt
 why_no_journal j tells m (NotJournal p) names unread = (names, unread)
 why_no_journal j tells m (Changed p q) names unread = absurd names
@@ -172,12 +233,13 @@ fails_wider P Q to (NotJournal j) h = absurd h
 fails_wider P Q to (Changed p j) h = absurd h
 fails_wider P Q to (Files f) h = names_wider P Q to f h
 
--- a read that failed
-pub failed_unread : (j : List ℕ) (tells : Type 0) (m : Contents) (fault : RecoverFault) → FailsAt (λ p. p ≡ j) fault → IsWhyUnread j tells m fault
-failed_unread j tells m Memory h = tt
-failed_unread j tells m (NotJournal p) h = absurd h
-failed_unread j tells m (Changed p q) h = absurd h
-failed_unread j tells m (Files f) h = h
+-- a file that can't be read, behind others that were read
+pub why_torn : (s : Spot) (tells : Type 0) (k : ℕ) (es : List Edit) (m n : Contents) (fault : RecoverFault) → (tells → KeepsAll m n) → (tells → AreRead s m k es) → IsWhyTorn s k tells n fault → IsWhyUnread s tells m fault
+why_torn s tells k es m n Memory same read why = tt
+why_torn s tells k es m n (NotJournal p) same read why = (why.0, λ t. no_row s m k es (read t).files (subst (λ (x : Contents). HoldsNoText s k x) (all_same m n (same t)) (why.1 t)))
+why_torn s tells k es m n (Changed p q) same read why = absurd why
+why_torn s tells k es m n (Files f) same read why =
+    names_wider (λ p. p ≡ file_at s.journal k) (IsReached s tells m) (λ p is. (k, is, λ t i lt. reached s m k es (read t).files i lt)) f why
 
 pub failed_not_told : (j : List ℕ) (tells : Type 0) (all : List Edit) (e : Edit) (m : Contents) (fault : RecoverFault) → FailsAt (λ p. p ≡ e.path) fault → IsWhyNotTold j tells all (e ∷ []) m fault
 failed_not_told j tells all e m Memory h = tt
@@ -192,25 +254,30 @@ more_not_told j tells all es fs m (NotJournal p) to h = absurd h
 more_not_told j tells all es fs m (Changed p q) to h = (h.0, to (string_bytes p) h.1, h.2)
 more_not_told j tells all es fs m (Files f) to h = names_wider (HasEntry es) (HasEntry fs) to f h
 
--- a file couldn't be put back, or the journal couldn't be removed
-pub why_failed : (j : List ℕ) (tells : Type 0) (es : List Edit) (m : Contents) (fault : RecoverFault) → (tells → m j ≡ Some (journal_text es)) → FailsAt (λ p. (p ≡ j) ⊎ HasEntry es p) fault → IsWhy j tells m fault
-why_failed j tells es m Memory text h = tt
-why_failed j tells es m (NotJournal p) text h = absurd h
-why_failed j tells es m (Changed p q) text h = absurd h
-why_failed j tells es m (Files f) text h = names_wider (λ p. (p ≡ j) ⊎ HasEntry es p) (IsJournalOrItsEntry j tells m) (λ p at. elim at [ inl is ↦ inl is | inr has ↦ inr (λ t. (es, text t, has)) ]) f h
+-- a file couldn't be put back, or a file of the journal couldn't be removed
+pub why_failed : (s : Spot) (tells : Type 0) (c : ℕ) (es : List Edit) (m : Contents) (fault : RecoverFault) → (tells → IsRowRead s m c es) → FailsAt (λ p. ((i : ℕ) × (i < c) × (p ≡ file_at s.journal i)) ⊎ HasEntry es p) fault → IsWhy s tells m fault
+why_failed s tells c es m Memory row h = tt
+why_failed s tells c es m (NotJournal p) row h = absurd h
+why_failed s tells c es m (Changed p q) row h = absurd h
+why_failed s tells c es m (Files f) row h =
+    names_wider (λ p. ((i : ℕ) × (i < c) × (p ≡ file_at s.journal i)) ⊎ HasEntry es p) (IsJournalOrItsEntry s tells m)
+    (λ p is. elim is [
+      | inl file ↦ inl (file.0, file.2, λ t i lt. reached s m c es (row t).files.files i (omega (arith, lt, file.1)))
+      | inr has ↦ inr (λ t. (es, row_of s m c es (row t), has))
+    ]) f h
 
-pub why_unread : (j : List ℕ) (tells : Type 0) (m : Contents) (fault : RecoverFault) → IsWhyUnread j tells m fault → IsWhy j tells m fault
-why_unread j tells m Memory why = tt
-why_unread j tells m (NotJournal p) why = why
-why_unread j tells m (Changed p q) why = absurd why
-why_unread j tells m (Files f) why = names_wider (λ p. p ≡ j) (IsJournalOrItsEntry j tells m) (λ p is. inl is) f why
+pub why_unread : (s : Spot) (tells : Type 0) (m : Contents) (fault : RecoverFault) → IsWhyUnread s tells m fault → IsWhy s tells m fault
+why_unread s tells m Memory why = tt
+why_unread s tells m (NotJournal p) why = why
+why_unread s tells m (Changed p q) why = absurd why
+why_unread s tells m (Files f) why = names_wider (IsReached s tells m) (IsJournalOrItsEntry s tells m) (λ p is. inl is) f why
 
 -- a path that holds bytes that no entry of it has was changed
-pub why_not_told : (j : List ℕ) (tells : Type 0) (es : List Edit) (m n : Contents) (fault : RecoverFault) → (tells → m j ≡ Some (journal_text es)) → (tells → KeepsAll m n) → IsWhyNotTold j tells es es n fault → IsWhy j tells m fault
-why_not_told j tells es m n Memory text same why = tt
-why_not_told j tells es m n (NotJournal p) text same why = absurd why
-why_not_told j tells es m n (Changed p q) text same why = (why.0, λ t. (es, text t, why.1, subst (λ (x : Option (List ℕ)). ¬ SomeEntryHasBytes es (string_bytes p) x) (same t (string_bytes p)) (why.2 t)))
-why_not_told j tells es m n (Files f) text same why = names_wider (HasEntry es) (IsJournalOrItsEntry j tells m) (λ p has. inr (λ t. (es, text t, has))) f why
+pub why_not_told : (s : Spot) (tells : Type 0) (es : List Edit) (m n : Contents) (fault : RecoverFault) → (tells → IsRowOf s m es) → (tells → KeepsAll m n) → IsWhyNotTold s.journal tells es es n fault → IsWhy s tells m fault
+why_not_told s tells es m n Memory row same why = tt
+why_not_told s tells es m n (NotJournal p) row same why = absurd why
+why_not_told s tells es m n (Changed p q) row same why = (why.0, λ t. (es, row t, why.1, subst (λ (x : Option (List ℕ)). ¬ SomeEntryHasBytes es (string_bytes p) x) (same t (string_bytes p)) (why.2 t)))
+why_not_told s tells es m n (Files f) row same why = names_wider (HasEntry es) (IsJournalOrItsEntry s tells m) (λ p has. inr (λ t. (es, row t, has))) f why
 
 -- where files are safe, nothing is refused
 pub never_not_told : (j : List ℕ) (tells : Type 0) (es : List Edit) (m n : Contents) (fault : RecoverFault) → tells → KeepsAll m n → AreTold es es m → IsWhyNotTold j tells es es n fault → IsJournalRefusal fault → ⊥
@@ -219,49 +286,23 @@ never_not_told j tells es m n (NotJournal p) t same told why refusal = why
 never_not_told j tells es m n (Changed p q) t same told why refusal = why.2 t (subst (SomeEntryHasBytes es (string_bytes p)) (sym (same (string_bytes p))) (told (string_bytes p) why.1))
 never_not_told j tells es m n (Files f) t same told why refusal = refusal
 
--- where files are safe, the journal's path holds a text that a call writes
-pub safe_journal : (j : List ℕ) (o m : Contents) → IsSafe j o m → IsNoJournal j m → ⊥
-safe_journal j o m s unread = elim s.by.is_in [
-  | inl some ↦ unread.2 s.entries (call_of j o s.entries s.by.keeps s.entries s.by.keeps) (let e : Some unread.0 ≡ Some (journal_text s.entries) = sym unread.1 ∙ some in cc)
-  | inr absent ↦ let y : Some unread.0 ≡ None = sym unread.1 ∙ absent.0 in cc
-]
+-- where files are safe, the row is that of a call
+pub safe_journal : (s : Spot) (o m : Contents) → IsSafe s o m → IsNoJournal s m → ⊥
+safe_journal s o m h unread = unread.2 h.entries (call_of s.journal o h.entries h.by.keeps h.entries h.by.keeps) h.by.row
 
-pub never_no_journal : (j : List ℕ) (tells : Type 0) (o m : Contents) (fault : RecoverFault) → tells → IsWhyUnread j tells m fault → IsSafe j o m → IsJournalRefusal fault → ⊥
-never_no_journal j tells o m Memory t why s refusal = refusal
-never_no_journal j tells o m (NotJournal p) t why s refusal = safe_journal j o m s (why.1 t)
-never_no_journal j tells o m (Changed p q) t why s refusal = why
-never_no_journal j tells o m (Files f) t why s refusal = refusal
+pub never_no_journal : (s : Spot) (tells : Type 0) (o m : Contents) (fault : RecoverFault) → tells → IsWhyUnread s tells m fault → IsSafe s o m → IsJournalRefusal fault → ⊥
+never_no_journal s tells o m Memory t why h refusal = refusal
+never_no_journal s tells o m (NotJournal p) t why h refusal = safe_journal s o m h (why.1 t)
+never_no_journal s tells o m (Changed p q) t why h refusal = why
+never_no_journal s tells o m (Files f) t why h refusal = refusal
 
 -- where files are safe, the path of each entry holds bytes that an entry of it has
-pub safe_told : (j : List ℕ) (o : Contents) (es : List Edit) (m : Contents) → IsSafeBy j o es m → AreTold es es m
-safe_told j o es m s q has =
-    let first = tells_first j o es q s.keeps has in
-    elim (s.holds q first.0) [ inl same ↦ subst (SomeEntryHasBytes es q) (sym same) first.1 | inr told ↦ told ]
+pub safe_told : (s : Spot) (o : Contents) (es : List Edit) (m : Contents) → IsSafeBy s o es m → AreTold es es m
+safe_told s o es m h q has =
+    let first = tells_first s.journal o es q h.keeps has in
+    elim (h.holds q first.0) [ inl same ↦ subst (SomeEntryHasBytes es q) (sym same) first.1 | inr told ↦ told ]
 
--- nothing but the journal is changed
-pub without_same : (j : List ℕ) (m n : Contents) → KeepsOthers j m n → without j n ≡ without j m
-without_same j m n same = fun_ext λ q. elim (cases_Bool (bytes_eq j q)) [
-  | inl is ↦ rw is refl
-  | inr f ↦ rw f (same q (λ e. let y : true ≡ false = sym ((bytes_eq-Decides j q).1 (sym e)) ∙ f in cc))
-]
-
-pub without_at : (j : List ℕ) (m : Contents) (q : List ℕ) → q ≢ j → without j m q ≡ m q
-without_at j m q ne = ap (λ b. cond b None (m q)) (bytes_differ j q (λ e. ne (sym e)))
-
-without_others : (j p : List ℕ) (m n : Contents) → KeepsOthers p m n → KeepsOthers p (without j m) (without j n)
-without_others j p m n keeps q ne = ap (λ x. cond (bytes_eq j q) None x) (keeps q ne)
-
--- one path of those that are put back held something else, and so did k others
-pub differ_more : (j : List ℕ) (o : Contents) (e : Edit) (es : List Edit) (k : ℕ) (m n w : Contents) → KeepFirst j o (e ∷ es) → KeepsAll (after_change (gives e.path e.held) m) n → KeepsAll (after (backs es) n) w → m e.path ≢ e.held
-    → Differ k (without j n) (without j w) → Differ (k + 1) (without j m) (without j w)
-differ_more j o e es k m n w keeps back rest other differ =
-    let here : n e.path ≡ e.held = back e.path ∙ ap (λ b. cond b e.held (m e.path)) ((bytes_eq-Decides e.path e.path).1 refl) in
-    let at_end : w e.path ≡ o e.path = rest e.path ∙ backs_at j o es n e.path keeps.3 (inl (here ∙ sym keeps.0)) in
-    in_one e.path
-    (λ same. other (sym (without_at j m e.path keeps.1) ∙ sym same ∙ without_at j w e.path keeps.1 ∙ at_end ∙ keeps.0))
-    (without_at j n e.path keeps.1 ∙ here ∙ sym keeps.0 ∙ sym at_end ∙ sym (without_at j w e.path keeps.1))
-    (without_others j e.path m n (λ q ne. back q ∙ changed_other (gives e.path e.held) m q ne))
-    differ
+-- ---- the paths that held something else
 
 -- a path that holds what is put back makes no difference
 pub same_back : (e : Edit) (m n : Contents) → KeepsAll (after_change (gives e.path e.held) m) n → m e.path ≡ e.held → n ≡ m
@@ -270,42 +311,173 @@ same_back e m n back same = fun_ext λ q. back q ∙ elim (cases_Bool (bytes_eq 
   | inr f ↦ ap (λ b. cond b e.held (m q)) f
 ]
 
-pub differ_none : (m : Contents) → Differ 0 m m
-differ_none m = in_none (λ q. refl)
+-- one entry is put back, and then the rest
+pub adds_step : (j : List ℕ) (o : Contents) (e : Edit) (es : List Edit) (m n w : Contents) (before mid now : List (List ℕ)) → KeepFirst j o (e ∷ es) → KeepsAll (after_change (gives e.path e.held) m) n → KeepsAll (after (backs es) n) w
+    → AddsIfOther e m before mid → AddsChanged n w es mid now → AddsChanged m w (e ∷ es) before now
+adds_step j o e es m n w before mid now keeps back rest told more =
+    let here : n e.path ≡ e.held = back e.path ∙ ap (λ b. cond b e.held (m e.path)) ((bytes_eq-Decides e.path e.path).1 refl) in
+    let last : w e.path ≡ e.held = rest e.path ∙ backs_at j o es n e.path keeps.3 (inl (here ∙ sym keeps.0)) ∙ keeps.0 in
+    elim told [
+      | inl same ↦ record {
+        paths = more.paths;
+        are = inl (last ∙ sym same.0, subst (λ (x : Contents). AreChanged x w es more.paths) (same_back e m n back same.0) more.are);
+        added = more.added ∙ ap (λ (l : List (List ℕ)). l ++ more.paths) same.1;
+      }
+      | inr other ↦ record {
+        paths = e.path ∷ more.paths;
+        are = inr (
+          λ same. other.0 (sym same ∙ last),
+          (more.paths, refl, subst (λ (x : Contents). AreChanged x w es more.paths) (all_same (after_change (gives e.path e.held) m) n back ∙ ap (λ (x : Option (List ℕ)). after_change (gives e.path x) m) (sym last)) more.are),
+        );
+        added = more.added ∙ ap (λ (l : List (List ℕ)). l ++ more.paths) other.1 ∙ append_assoc before (e.path ∷ []) more.paths;
+      }
+    ]
 
--- the same, whatever the path held
-pub differ_step : (j : List ℕ) (o : Contents) (e : Edit) (es : List Edit) (was : Bool) (k : ℕ) (m n w : Contents) → KeepFirst j o (e ∷ es) → KeepsAll (after_change (gives e.path e.held) m) n → KeepsAll (after (backs es) n) w
-    → ((was ≡ false) ↔ (m e.path ≡ e.held)) → Differ k (without j n) (without j w) → Differ (k + from_bool was) (without j m) (without j w)
-differ_step j o e es true k m n w keeps back rest is differ = differ_more j o e es k m n w keeps back rest (λ same. let y : true ≡ false = is.1 same in cc) differ
-differ_step j o e es false k m n w keeps back rest is differ = subst (λ (x : Contents). Differ (k + 0) (without j x) (without j w)) (same_back e m n back (is.0 refl)) (subst (λ (i : ℕ). Differ i (without j n) (without j w)) (omega arith) differ)
+pub adds_none : (m n : Contents) (before : List (List ℕ)) → AddsChanged m n [] before before
+adds_none m n before = record { paths = []; are = refl; added = sym (append-nil before) }
+
+-- what the paths of entries hold is not changed by the removal of the row
+pub changed_along : (j : List ℕ) (o : Contents) (es : List Edit) (m w v : Contents) (paths : List (List ℕ)) → KeepFirst j o es → ((q : List ℕ) → is_of_journal j q ≡ false → v q ≡ w q) → AreChanged m w es paths → AreChanged m v es paths
+changed_along j o [] m w v paths keeps same h = h
+changed_along j o (e ∷ es) m w v paths keeps same h = elim h [
+  | inl is ↦ inl (same e.path keeps.1 ∙ is.0, changed_along j o es m w v paths keeps.3 same is.1)
+  | inr other ↦ inr (
+    λ is. other.0 (sym (same e.path keeps.1) ∙ is),
+    (
+      other.1.0,
+      other.1.1,
+      subst (λ (x : Option (List ℕ)). AreChanged (after_change (gives e.path x) m) v es other.1.0) (sym (same e.path keeps.1))
+          (changed_along j o es (after_change (gives e.path (w e.path)) m) w v other.1.0 keeps.3 same other.1.2),
+    ),
+  )
+]
 
 -- three clauses of one call that returned Ok, and what follows from them
-pub on_three : {T A B E : Type 0} {C D : ℕ → Type 0} (r : Result ℕ E) → OnOk r (T → A) → OnOk r (T → B) → IfOk r (λ k. T → C k) → ((k : ℕ) → T → A → B → C k → D k) → IfOk r (λ k. T → D k)
+pub on_three : {T A B R E : Type 0} {C D : R → Type 0} (r : Result R E) → OnOk r (T → A) → OnOk r (T → B) → IfOk r (λ k. T → C k) → ((k : R) → T → A → B → C k → D k) → IfOk r (λ k. T → D k)
 on_three (Ok k) a b c d = λ t. d k t (a t) (b t) (c t)
 on_three (Err e) a b c d = tt
+
+-- two of them
+pub on_two : {T A B E R : Type 0} {D : Type 0} (r : Result R E) → OnOk r (T → A) → OnOk r (T → B) → (T → A → B → D) → OnOk r (T → D)
+on_two (Ok k) a b d = λ t. d t (a t) (b t)
+on_two (Err e) a b d = tt
 
 pub told_at : (xs ys es : List Edit) (m n : Contents) → xs ≡ es → ys ≡ es → n ≡ m → AreTold xs ys n → AreTold es es m
 told_at xs ys es m n a b same told =
     subst (λ (x : Contents). AreTold es es x) same (subst (λ (l : List Edit). AreTold l es n) a (subst (λ (l : List Edit). AreTold xs l n) b told))
 
-back_at : (j : List ℕ) (ds es : List Edit) (m n w : Contents) → ds ≡ es → n ≡ m → KeepsOthers j (after (backs ds) n) w → KeepsOthers j (after (backs es) m) w
-back_at j ds es m n w is same back =
-    subst (λ (x : Contents). KeepsOthers j (after (backs es) x) w) same (subst (λ (l : List Edit). KeepsOthers j (after (backs l) n) w) is back)
+back_at : (j : List ℕ) (c : ℕ) (ds es : List Edit) (m n w : Contents) → ds ≡ es → n ≡ m → KeepsBeside j c (after (backs ds) n) w → KeepsBeside j c (after (backs es) m) w
+back_at j c ds es m n w is same back =
+    subst (λ (x : Contents). KeepsBeside j c (after (backs es) x) w) same (subst (λ (l : List Edit). KeepsBeside j c (after (backs l) n) w) is back)
 
 -- what was read, looked at and put back is restored
-pub restored_of : (j : List ℕ) (ds es : List Edit) (k : ℕ) (m n w : Contents) → ds ≡ es → n ≡ m → m j ≡ Some (journal_text es) → AreOfCall j es es → AreTold es es m
-    → KeepsOthers j (after (backs ds) n) w → w j ≡ None → ((o : Contents) → KeepFirst j o ds → Differ k (without j n) (without j w)) → Restored j es k m w
-restored_of j ds es k m n w is same text call told back gone counted =
-    let all = back_at j ds es m n w is same back in
+pub restored_of : (s : Spot) (c : ℕ) (es : List Edit) (paths : List (List ℕ)) (m n w : Contents) → n ≡ m → IsRowRead s m c es → AreOfCall s.journal es es → AreTold es es m
+    → KeepsBeside s.journal c (after (backs es) n) w → ((i : ℕ) → i < c → w (file_at s.journal i) ≡ None) → ((o : Contents) → KeepFirst s.journal o es → AreChanged n w es paths) → Restored s es paths m w
+restored_of s c es paths m n w same read call told back gone changed =
+    let all = back_at s.journal c es es m n w refl same back in
     record {
-      text = text;
+      row = record { count = c; files = read.files.files; ends = read.ends };
       told = told;
-      back = all_are_back j es m w call all;
-      others = λ q ne absent. all q ne ∙ backs_other es m q absent;
+      back = all_are_back s.journal c es m w call all;
+      others = λ q beside absent. all q beside ∙ backs_other es m q absent;
       gone = gone;
-      counted = subst (λ (x : Contents). Differ k (without j x) (without j w)) same (counted (origin es m) (subst (KeepFirst j (origin es m)) (sym is) (origin_keeps j es m call)));
+      changed = subst (λ (x : Contents). AreChanged x w es paths) same (changed (origin es m) (origin_keeps s.journal es m call));
     }
 
+-- the row is not changed by what is put back
+backs_own : (s : Spot) (o : Contents) (es : List Edit) (m : Contents) (q : List ℕ) → KeepFirst s.journal o es → is_of_journal s.journal q ≡ true → after (backs es) m q ≡ m q
+backs_own s o es m q keeps own = backs_other es m q (λ has. false≢true (sym (tells_first s.journal o es q keeps has).0 ∙ own))
+
 -- from safe files each path holds again what it held at first
-pub comes_back_of : (j : List ℕ) (o : Contents) (ds es : List Edit) (m n w : Contents) → ds ≡ es → n ≡ m → IsSafeBy j o es m → KeepsOthers j (after (backs ds) n) w → KeepsOthers j o w
-comes_back_of j o ds es m n w is same s back q ne = back_at j ds es m n w is same back q ne ∙ backs_first j o es m s q ne
+pub comes_back_of : (s : Spot) (o : Contents) (c : ℕ) (es : List Edit) (m n w : Contents) → n ≡ m → (by : IsSafeBy s o es m) → by.row.count ≡ c → KeepsBeside s.journal c (after (backs es) n) w → ((i : ℕ) → i < c → w (file_at s.journal i) ≡ None) → KeepsAll o w
+comes_back_of s o c es m n w same by is back gone =
+    let all = back_at s.journal c es es m n w refl same back in
+    let fresh : IsFresh s.journal c o m = subst (λ (k : ℕ). IsFresh s.journal k o m) is by.fresh in
+    all_first s.journal c o m w fresh
+    (λ q out. all q (λ i lt. apart_from s.journal i q out) ∙ backs_first s o es m by q out)
+    gone
+    (λ q own beside. all q beside ∙ backs_own s o es m q by.keeps own)
+
+-- ---- the removal of the row
+
+pub back_but_safe : (s : Spot) (o : Contents) (c : ℕ) (m : Contents) → IsBackBut s o c m → IsSafe s o m
+back_but_safe s o c m h = record {
+  entries = h.entries;
+  by = record { row = record { count = c; files = h.files; ends = h.ends }; fresh = h.fresh; keeps = h.keeps; holds = λ q out. inl (h.same q out) };
+}
+
+-- its last file was removed
+pub removed_last : (s : Spot) (o : Contents) (c : ℕ) (t u : List Change) (m n : Contents) → suc c < 2 ^ 64 → Makes (removes (file_at s.journal c) ∷ []) t u m n → IsBackBut s o (suc c) m → IsBackBut s o c n
+removed_last s o c t u m n low makes h =
+    let j = s.journal in
+    let here : n (file_at j c) ≡ None = makes_here t u (removes (file_at j c)) m n makes in
+    let others : KeepsOthers (file_at j c) m n = makes_others t u (removes (file_at j c)) m n makes in
+    record {
+      entries = h.files.0;
+      files = first_along s m n c h.files.0 (λ i lt. others (file_at j i) (file_differ j i c (omega (arith, lt, low)) (omega (arith, low)) (omega (arith, lt)))) h.files.2;
+      ends = here;
+      fresh = fresh_less j c o n (fresh_changed j (suc c) c o m n (omega arith) others h.fresh) here;
+      keeps = keeps_left j o h.files.0 h.files.1 (subst (λ (l : List Edit). KeepFirst j o l) h.files.4 h.keeps);
+      same = λ q out. others q (apart_from j c q out) ∙ h.same q out;
+    }
+
+pub last_or_not : (s : Spot) (o : Contents) (c : ℕ) (t u : List Change) (m n : Contents) → suc c < 2 ^ 64 → MakesOrNot (removes (file_at s.journal c)) t u m n → IsBackBut s o (suc c) m → StaysSafe s o t u m n
+last_or_not s o c t u m n low makes h = elim makes [
+  | inl none ↦ stay_none s o t u m n none (back_but_safe s o (suc c) m h)
+  | inr made ↦ stay_one s o (removes (file_at s.journal c)) t u m n made (back_but_safe s o (suc c) m h) (back_but_safe s o c n (removed_last s o c t u m n low made h))
+]
+
+-- where all is put back, only the row is left
+pub back_but_of : (s : Spot) (o : Contents) (c : ℕ) (es : List Edit) (m n : Contents) → (by : IsSafeBy s o es m) → by.row.count ≡ c → KeepsAll (after (backs es) m) n → IsBackBut s o c n
+back_but_of s o c es m n by is back =
+    let own : (q : List ℕ) → is_of_journal s.journal q ≡ true → n q ≡ m q = λ q t. back q ∙ backs_own s o es m q by.keeps t in
+    let file : (i : ℕ) → n (file_at s.journal i) ≡ m (file_at s.journal i) = λ i. own (file_at s.journal i) (own_file s.journal i) in
+    subst (λ (k : ℕ). IsBackBut s o k n) is (record {
+      entries = es;
+      files = first_along s m n by.row.count es (λ i lt. file i) by.row.files;
+      ends = file by.row.count ∙ by.row.ends;
+      fresh = fresh_apart s.journal by.row.count o m n own by.fresh;
+      keeps = by.keeps;
+      same = λ q out. back q ∙ backs_first s o es m by q out;
+    })
+
+-- its last file could not be removed, or it was made all the same
+pub remove_failed : (s : Spot) (o : Contents) (count : ℕ) (p : List ℕ) (t u : List Change) (m n : Contents) → count ≢ 0 → count < 2 ^ 64 → p ≡ file_at s.journal (count - 1) → MakesOrNot (removes p) t u m n → IsBackBut s o count m → StaysSafe s o t u m n
+remove_failed s o count p t u m n some low is makes h =
+    let one : count ≡ suc (count - 1) = omega (arith, some) in
+    last_or_not s o (count - 1) t u m n (omega (arith, some, low)) (subst (λ (q : List ℕ). MakesOrNot (removes q) t u m n) is makes) (subst (λ (c : ℕ). IsBackBut s o c m) one h)
+
+-- it was removed, and then the others
+pub remove_went : (s : Spot) (o : Contents) (count : ℕ) (p : List ℕ) (t u v : List Change) (m n w : Contents) → count ≢ 0 → count < 2 ^ 64 → p ≡ file_at s.journal (count - 1) → Makes (removes p ∷ []) t u m n → IsBackBut s o count m → (IsBackBut s o (count - 1) n → StaysSafe s o u v n w) → StaysSafe s o t v m w
+remove_went s o count p t u v m n w some low is makes h rest =
+    let one : count ≡ suc (count - 1) = omega (arith, some) in
+    let made : Makes (removes (file_at s.journal (count - 1)) ∷ []) t u m n = subst (λ (q : List ℕ). Makes (removes q ∷ []) t u m n) is makes in
+    let but : IsBackBut s o (suc (count - 1)) m = subst (λ (c : ℕ). IsBackBut s o c m) one h in
+    let less : suc (count - 1) < 2 ^ 64 = omega (arith, some, low) in
+    stay_append s o t u v m n w (last_or_not s o (count - 1) t u m n less (inr made) but) (rest (removed_last s o (count - 1) t u m n less made but))
+
+-- after a look a path was given what it held at first
+pub put_keeps : (p q : List ℕ) (x y : Option (List ℕ)) (l m n : Contents) → q ≡ p → y ≡ x → KeepsAll l m → n q ≡ y → KeepsOthers q m n → KeepsAll (after_change (gives p x) l) n
+put_keeps p q x y l m n path held look here others r = elim (cases_Bool (bytes_eq p r)) [
+  | inl t ↦ let is = (bytes_eq-Decides p r).0 t in ap n (sym is ∙ sym path) ∙ here ∙ held ∙ sym (ap (λ b. cond b x (l r)) t)
+  | inr f ↦ others r (λ e. let y : true ≡ false = sym ((bytes_eq-Decides p r).1 (sym path ∙ sym e)) ∙ f in absurd (false≢true (sym y))) ∙ look r ∙ sym (ap (λ b. cond b x (l r)) f)
+]
+
+pub on_ok_always : {R E : Type 0} {P : Type 0} (r : Result R E) → P → OnOk r P
+on_ok_always (Ok k) p = p
+on_ok_always (Err e) p = tt
+
+-- where files are safe and no journal is there, each path holds what it held at first
+pub safe_none : (s : Spot) (o m n : Contents) → IsSafe s o m → m s.journal ≡ None → KeepsAll m n → KeepsAll o n
+safe_none s o m n h none same =
+    let row = h.by.row in
+    let zero : row.count ≡ 0 = elim (eqb_tells row.count 0) [
+      | inl t ↦ t.1
+      | inr t ↦ absurd (there_not_none s m row.count h.entries 0 (omega (arith, t.1)) row.files (ap m (file_zero s.journal) ∙ none))
+    ] in
+    let empty : AreFirst s m 0 h.entries = subst (λ (c : ℕ). AreFirst s m c h.entries) zero row.files in
+    let fresh : IsFresh s.journal 0 o m = subst (λ (c : ℕ). IsFresh s.journal c o m) zero h.by.fresh in
+    all_first s.journal 0 o m n fresh
+    (λ q out. same q ∙ elim (h.by.holds q out) [ inl is ↦ is | inr told ↦ absurd (subst (λ (l : List Edit). SomeEntryHasBytes l q (m q)) empty told) ])
+    (λ i lt. absurd (omega (arith, lt)))
+    (λ q own beside. same q)

@@ -1,15 +1,18 @@
 -- The journal keeps what a path held, before the path is changed.
-use Rattle.std.proofs.Common.{◌≡◌, ◌≢◌, inl, inr, ℕ, zero, suc, take, List, [], ◌∷◌, ◌++◌, Option, Some, None, refl, sym, ◌∙◌, subst, ap, append-nil, true, Result, Ok, Err, OnOk, OnErr, false, Bool, cond}
+use Rattle.std.proofs.Common.{◌≡◌, ◌≢◌, ◌<◌, ◌^◌, length, arith, ◌+◌, add-one, inl, inr, ℕ, zero, suc, take, List, [], ◌∷◌, ◌++◌, Option, Some, None, refl, sym, ◌∙◌, subst, ap, append-nil, true, Result, Ok, Err, OnOk, OnErr, false, Bool, cond}
 use Rattle.std.specs.Str.{bytes_eq, IsUtf8}
 use Rattle.std.proofs.Math.Path.{fun_ext}
 use Rattle.std.proofs.lemmas.Slice.Eq.{bytes_eq-Decides}
 use Rattle.std.proofs.lemmas.Bool.{cases_Bool}
-use Rattle.hack_files.specs.Files.{Change, Contents, after_change, after, KeepsAll, Makes, MakesOrNot, puts}
-use Rattle.hack_journal.specs.Journal.{Edit, journal_text}
-use Rattle.hack_journal.specs.SafeFiles.{gives, SomeEntryHasBytes, first_entry_of, KeepFirst, IsJournalOf, HoldFirstOrTold, IsSafe, IsJournaled, StaysSafe, Stays, changes_besides, without}
-use Rattle.hack_journal.specs.Internal.{Hidden, IsHeld}
-use Rattle.hack_journal.specs.SafeLaws.{makes_append, holds_left, safe_of, fronts_none, stays_none, stays_more}
-use Rattle.hack_journal.proofs.ChangeLemmas.{makes_here, makes_others, bytes_differ, changed_other}
+use Rattle.std.proofs.lemmas.List.{length-append}
+use Rattle.hack_files.specs.Files.{Change, Contents, after_change, after, KeepsAll, KeepsOthers, Makes, MakesOrNot, puts}
+use Rattle.hack_journal.specs.Journal.{Edit}
+use Rattle.hack_journal.specs.Rows.{Spot, IsFresh, IsNoteOf, IsTextOf, file_at, is_of_journal}
+use Rattle.hack_journal.specs.SafeFiles.{gives, SomeEntryHasBytes, first_entry_of, KeepFirst, HoldFirstOrTold, IsSafe, IsJournaled, StaysSafe, Stays, changes_besides, without}
+use Rattle.hack_journal.specs.Internal.{Hidden, IsHeld, IsNotable}
+use Rattle.hack_journal.specs.SafeLaws.{makes_append, holds_left, note_text, safe_of, fronts_none, stays_more, stays_none}
+use Rattle.hack_journal.proofs.ChangeLemmas.{makes_here, makes_others, changed_other}
+use Rattle.hack_journal.proofs.RowLemmas.{apart_from, each_along, each_more, file_differ, fresh_apart, fresh_changed, fresh_more, file_zero, nothing_yet, own_file}
 
 -- the first entry of a path has what it held at first; without one, no entry has bytes of the path
 abbrev pub First : Contents → List Edit → List ℕ → Option Edit → Type 0
@@ -27,11 +30,11 @@ first_keeps j o (e ∷ es) more p k = elim (cases_Bool (bytes_eq e.path p)) [
   | inr f ↦ rw f (first_more o e es p (first_entry_of es p) (λ same. let t : bytes_eq e.path p ≡ true = (bytes_eq-Decides e.path p).1 same in let x : true ≡ false = sym t ∙ f in cc) (first_keeps j o es more p k.3))
 ]
 
-held_keeps : (j : List ℕ) (o : Contents) (es : List Edit) (p : List ℕ) (f : Option Edit) (m : Contents) (held : Option (List ℕ)) → p ≢ j → First o es p f → HoldFirstOrTold j o es m → IsHeld f (m p) held → o p ≡ held
-held_keeps j o es p None m held ne none holds is = elim (holds p ne) [ inl same ↦ sym same ∙ is | inr told ↦ absurd (none (m p) told) ]
-held_keeps j o es p (Some e) m held ne first holds is = first ∙ is
+held_keeps : (j : List ℕ) (o : Contents) (es : List Edit) (p : List ℕ) (f : Option Edit) (m : Contents) (held : Option (List ℕ)) → is_of_journal j p ≡ false → First o es p f → HoldFirstOrTold j o es m → IsHeld f (m p) held → o p ≡ held
+held_keeps j o es p None m held out none holds is = elim (holds p out) [ inl same ↦ sym same ∙ is | inr told ↦ absurd (none (m p) told) ]
+held_keeps j o es p (Some e) m held out first holds is = first ∙ is
 
-pub keeps_more : (j : List ℕ) (o : Contents) (es more : List Edit) (e : Edit) → KeepFirst j o (es ++ more) → o e.path ≡ e.held → e.path ≢ j → IsUtf8 e.path → KeepFirst j o (es ++ e ∷ [])
+pub keeps_more : (j : List ℕ) (o : Contents) (es more : List Edit) (e : Edit) → KeepFirst j o (es ++ more) → o e.path ≡ e.held → is_of_journal j e.path ≡ false → IsUtf8 e.path → KeepFirst j o (es ++ e ∷ [])
 keeps_more j o [] more e k held ne text = (held, ne, text, tt)
 keeps_more j o (x ∷ es) more e k held ne text = (k.0, k.1, k.2, keeps_more j o es more e k.3 held ne text)
 
@@ -45,41 +48,92 @@ fronts_one P c m h g zero = h
 fronts_one P c m h g (suc k) = fronts_none P (after_change c m) g k
 
 -- one change, where the files before and after it are safe
-pub stay_one : (j : List ℕ) (o : Contents) (c : Change) (t u : List Change) (m n : Contents) → Makes (c ∷ []) t u m n → IsSafe j o m → IsSafe j o n → StaysSafe j o t u m n
+pub stay_one : (j : Spot) (o : Contents) (c : Change) (t u : List Change) (m n : Contents) → Makes (c ∷ []) t u m n → IsSafe j o m → IsSafe j o n → StaysSafe j o t u m n
 stay_one j o c t u m n h a b = record { added = c ∷ []; makes = h; fronts = fronts_one (IsSafe j o) c m a (subst (IsSafe j o) h.holds b) }
 
--- the files are journaled once the journal has one more entry
-with_entry : (j : List ℕ) (o : Contents) (es more : List Edit) (e : Edit) (t u : List Change) (m n : Contents) → KeepFirst j o (es ++ more) → HoldFirstOrTold j o es m → e.path ≢ j → IsUtf8 e.path → IsHeld (first_entry_of es e.path) (m e.path) e.held
-    → Makes (puts j (journal_text (es ++ e ∷ [])) ∷ []) t u m n → IsJournaled j o es n
-with_entry j o es more e t u m n keeps holds ne text held makes = record {
-  more = e ∷ [];
-  is_in = inl (makes_here t u (puts j (journal_text (es ++ e ∷ []))) m n makes);
-  keeps = keeps_more j o es more e keeps (held_keeps j o es e.path (first_entry_of es e.path) m e.held ne (first_keeps j o es more e.path keeps) holds held) ne text;
-  holds = λ q other. let same = makes_others t u (puts j (journal_text (es ++ e ∷ []))) m n makes q other in
-      elim (holds q other) [ inl is ↦ inl (same ∙ is) | inr told ↦ inr (subst (SomeEntryHasBytes es q) (sym same) told) ];
+pub keeps_left : (j : List ℕ) (o : Contents) (es more : List Edit) → KeepFirst j o (es ++ more) → KeepFirst j o es
+keeps_left j o [] more k = tt
+keeps_left j o (x ∷ es) more k = (k.0, k.1, k.2, keeps_left j o es more k.3)
+
+-- what is known before the next file is written: its text keeps the entry, and no file follows it
+pub record IsReady (s : Spot) (es : List Edit) (m : Contents) (text : List ℕ) (e : Edit) : Type 0 where
+  pub notable : IsNotable s.journal es m e
+  pub utf8 : IsUtf8 e.path
+  pub note : IsNoteOf s.folder (Some text) e
+  pub absent : m (file_at s.journal (suc (length es))) ≡ None
+  pub low : suc (length es) < 2 ^ 64
+
+-- the next file was written: the files are journaled, with one entry more in the row
+written : (s : Spot) (o : Contents) (es : List Edit) (text : List ℕ) (e : Edit) (t u : List Change) (m n : Contents) → IsReady s es m text e → Makes (puts (file_at s.journal (length es)) text ∷ []) t u m n → IsJournaled s o es m → IsJournaled s o es n
+written s o es text e t u m n r makes k =
+    let j = s.journal in
+    let here : n (file_at j (length es)) ≡ Some text = makes_here t u (puts (file_at j (length es)) text) m n makes in
+    let others : KeepsOthers (file_at j (length es)) m n = makes_others t u (puts (file_at j (length es)) text) m n makes in
+    let low : suc (length es) < 2 ^ 64 = r.low in
+    record {
+      more = e ∷ [];
+      each = each_along s m n 0 es (λ i least lt. others (file_at j i) (file_differ j i (length es) (omega (arith, lt, low)) (omega (arith, low)) (omega (arith, lt)))) k.each;
+      ends = inr (
+        note_text s.folder (n (file_at j (length es))) e (subst (λ (x : Option (List ℕ)). IsNoteOf s.folder x e) (sym here) r.note),
+        others (file_at j (suc (length es))) (file_differ j (suc (length es)) (length es) low (omega (arith, low)) (omega arith)) ∙ r.absent,
+      );
+      fresh = fresh_changed j (suc (length es)) (length es) o m n (omega arith) others k.fresh;
+      keeps = keeps_more j o es k.more e k.keeps (held_keeps j o es e.path (first_entry_of es e.path) m e.held r.notable.apart (first_keeps j o es k.more e.path k.keeps) k.holds r.notable.held) r.notable.apart r.utf8;
+      holds = λ q out. let same = others q (apart_from j (length es) q out) in
+          elim (k.holds q out) [ inl is ↦ inl (same ∙ is) | inr told ↦ inr (subst (SomeEntryHasBytes es q) (sym same) told) ];
+    }
+
+-- the entry that only the row has is taken into memory
+moved : (s : Spot) (o : Contents) (es : List Edit) (e : Edit) (n : Contents) → suc (length es) < 2 ^ 64 → IsNoteOf s.folder (n (file_at s.journal (length es))) e → n (file_at s.journal (suc (length es))) ≡ None → (k : IsJournaled s o es n) → k.more ≡ e ∷ [] → IsJournaled s o (es ++ e ∷ []) n
+moved s o es e n low note none k is =
+    let len : suc (length es) ≡ length (es ++ e ∷ []) = omega (arith, length-append es (e ∷ [])) in
+    record {
+      more = [];
+      each = each_more s n es e k.each note;
+      ends = inl (subst (λ (i : ℕ). n (file_at s.journal i) ≡ None) len none, refl);
+      fresh = subst (λ (i : ℕ). IsFresh s.journal (suc i) o n) len (fresh_more s.journal (suc (length es)) o n low k.fresh none);
+      keeps = subst (λ (l : List Edit). KeepFirst s.journal o l) (ap (λ (l : List Edit). es ++ l) is ∙ sym (append-nil (es ++ e ∷ []))) k.keeps;
+      holds = holds_left s.journal o es (e ∷ []) n k.holds;
+    }
+
+pub made_here : (s : Spot) (es : List Edit) (text : List ℕ) (e : Edit) (t u : List Change) (m n : Contents) → IsReady s es m text e → Makes (puts (file_at s.journal (length es)) text ∷ []) t u m n → Stays s es es t u m n
+made_here s es text e t u m n r makes o k =
+    let now = written s o es text e t u m n r makes k in
+    (stay_one s o (puts (file_at s.journal (length es)) text) t u m n makes (safe_of s o es m k) (safe_of s o es n now), now)
+
+pub noted_here : (s : Spot) (es : List Edit) (text : List ℕ) (e : Edit) (t u : List Change) (m n : Contents) → IsReady s es m text e → Makes (puts (file_at s.journal (length es)) text ∷ []) t u m n → Stays s es (es ++ e ∷ []) t u m n
+unfolding written
+noted_here s es text e t u m n r makes o k =
+    let now = written s o es text e t u m n r makes k in
+    let low : suc (length es) < 2 ^ 64 = r.low in
+    let here : n (file_at s.journal (length es)) ≡ Some text = makes_here t u (puts (file_at s.journal (length es)) text) m n makes in
+    let none : n (file_at s.journal (suc (length es))) ≡ None = makes_others t u (puts (file_at s.journal (length es)) text) m n makes (file_at s.journal (suc (length es))) (file_differ s.journal (suc (length es)) (length es) low (omega (arith, low)) (omega arith)) ∙ r.absent in (
+      stay_one s o (puts (file_at s.journal (length es)) text) t u m n makes (safe_of s o es m k) (safe_of s o es n now),
+      moved s o es e n low (subst (λ (x : Option (List ℕ)). IsNoteOf s.folder x e) (sym here) r.note) none now refl,
+    )
+
+pub made_or_not : (s : Spot) (es : List Edit) (text : List ℕ) (e : Edit) (t u : List Change) (m n : Contents) → IsReady s es m text e → MakesOrNot (puts (file_at s.journal (length es)) text) t u m n → Stays s es es t u m n
+made_or_not s es text e t u m n r makes = elim makes [ inl none ↦ stays_none s es t u m n none | inr made ↦ made_here s es text e t u m n r made ]
+
+-- after looks that changed nothing
+pub ready_of : (s : Spot) (es : List Edit) (l m : Contents) (text : List ℕ) (e : Edit) → m ≡ l → IsNotable s.journal es l e → IsUtf8 e.path → IsNoteOf s.folder (Some text) e → l (file_at s.journal (length es + 1)) ≡ None → length es + 1 < 2 ^ 64 → IsReady s es m text e
+ready_of s es l m text e is notable utf8 note absent low = record {
+  notable = subst (λ (x : Contents). IsNotable s.journal es x e) (sym is) notable;
+  utf8 = utf8;
+  note = note;
+  absent = subst (λ (x : Contents). x (file_at s.journal (suc (length es))) ≡ None) (sym is) (subst (λ (i : ℕ). l (file_at s.journal i) ≡ None) (add-one (length es)) absent);
+  low = omega (arith, low);
 }
 
--- the one entry that only the journal has is taken into memory
-move : (j : List ℕ) (o : Contents) (es : List Edit) (e : Edit) (n : Contents) (k : IsJournaled j o es n) → k.more ≡ e ∷ [] → IsJournaled j o (es ++ e ∷ []) n
-move j o es e n k is = record {
-  more = [];
-  is_in = subst (λ (l : List Edit). IsJournalOf j n l) (ap (λ (l : List Edit). es ++ l) is ∙ sym (append-nil (es ++ e ∷ []))) k.is_in;
-  keeps = subst (λ (l : List Edit). KeepFirst j o l) (ap (λ (l : List Edit). es ++ l) is ∙ sym (append-nil (es ++ e ∷ []))) k.keeps;
-  holds = holds_left j o es (e ∷ []) n k.holds;
-}
+-- after a look the next file was written, or not
+pub append_made : (s : Spot) (es : List Edit) (e : Edit) (p text : List ℕ) (t u v : List Change) (l m n : Contents) → p ≡ file_at s.journal (length es) → Makes [] t u l m → IsReady s es m text e → MakesOrNot (puts p text) u v m n → Stays s es es t v l n
+append_made s es e p text t u v l m n is look r makes =
+    stays_more s es es es t u v l m n (stays_none s es t u l m look) (made_or_not s es text e u v m n r (subst (λ (q : List ℕ). MakesOrNot (puts q text) u v m n) is makes))
 
-noted_here : (j : List ℕ) (es : List Edit) (e : Edit) (t u : List Change) (m n : Contents) → e.path ≢ j → IsUtf8 e.path → IsHeld (first_entry_of es e.path) (m e.path) e.held
-    → Makes (puts j (journal_text (es ++ e ∷ [])) ∷ []) t u m n → Stays j es (es ++ e ∷ []) t u m n
-unfolding with_entry
-noted_here j es e t u m n ne text held makes o k =
-    let now = with_entry j o es k.more e t u m n k.keeps k.holds ne text held makes in
-    (stay_one j o (puts j (journal_text (es ++ e ∷ []))) t u m n makes (safe_of j o es m k) (safe_of j o es n now), move j o es e n now refl)
-
-made_here : (j : List ℕ) (es : List Edit) (e : Edit) (t u : List Change) (m n : Contents) → e.path ≢ j → IsUtf8 e.path → IsHeld (first_entry_of es e.path) (m e.path) e.held
-    → Makes (puts j (journal_text (es ++ e ∷ [])) ∷ []) t u m n → Stays j es es t u m n
-made_here j es e t u m n ne text held makes o k =
-    let now = with_entry j o es k.more e t u m n k.keeps k.holds ne text held makes in
-    (stay_one j o (puts j (journal_text (es ++ e ∷ []))) t u m n makes (safe_of j o es m k) (safe_of j o es n now), now)
+pub append_noted : (s : Spot) (es fs : List Edit) (e : Edit) (p text : List ℕ) (t u v : List Change) (l m n : Contents) → fs ≡ es ++ e ∷ [] → p ≡ file_at s.journal (length es) → Makes [] t u l m → IsReady s es m text e → Makes (puts p text ∷ []) u v m n → Stays s es fs t v l n
+append_noted s es fs e p text t u v l m n added is look r makes =
+    subst (λ (x : List Edit). Stays s es x t v l n) (sym added)
+    (stays_more s es es (es ++ e ∷ []) t u v l m n (stays_none s es t u l m look) (noted_here s es text e u v m n r (subst (λ (q : List ℕ). Makes (puts q text ∷ []) u v m n) is makes)))
 
 told_end : (es fs : List Edit) (e : Edit) (p : List ℕ) (x : Option (List ℕ)) → fs ≡ es ++ e ∷ [] → e.path ≡ p → e.wrote ≡ x → SomeEntryHasBytes fs p x
 told_end es fs e p x is path wrote = subst (λ (l : List Edit). SomeEntryHasBytes l p x) (sym is) (subst (λ (q : List ℕ). SomeEntryHasBytes (es ++ e ∷ []) q x) path (subst (λ (y : Option (List ℕ)). SomeEntryHasBytes (es ++ e ∷ []) e.path y) wrote (tells_last es e)))
@@ -88,39 +142,21 @@ pub told_ok : {A E : Type 0} (r : Result A E) (es fs : List Edit) (e : Edit) (p 
 told_ok (Ok a) es fs e p x is path wrote = told_end es fs e p x is path wrote
 told_ok (Err a) es fs e p x is path wrote = tt
 
--- after a read, the journal is written with one more entry, or that fails
-pub note_stays : {A E W : Type 0} (r : Result A E) (j p : List ℕ) (es fs : List Edit) (e : Edit) (s t u : List Change) (l m n : Contents) → e.path ≡ p → Makes [] s t l m → p ≢ j → IsUtf8 p → IsHeld (first_entry_of es p) (l p) e.held
-    → OnOk r (fs ≡ es ++ e ∷ []) → OnErr r (fs ≡ es) → OnOk r (W → Makes (puts j (journal_text (es ++ e ∷ [])) ∷ []) t u m n) → OnErr r (W → MakesOrNot (puts j (journal_text (es ++ e ∷ []))) t u m n) → W → Stays j es fs s u l n
-note_stays (Ok a) j p es fs e s t u l m n path look ne text held added kept ok err w =
-    let ne2 : e.path ≢ j = λ same. ne (sym path ∙ same) in
-    let text2 : IsUtf8 e.path = subst IsUtf8 (sym path) text in
-    let held2 : IsHeld (first_entry_of es e.path) (m e.path) e.held = subst (λ (x : Contents). IsHeld (first_entry_of es e.path) (x e.path) e.held) (sym look.holds) (subst (λ (q : List ℕ). IsHeld (first_entry_of es q) (l q) e.held) (sym path) held) in
-    subst (λ (x : List Edit). Stays j es x s u l n) (sym added)
-    (stays_more j es es (es ++ e ∷ []) s t u l m n (stays_none j es s t l m look) (noted_here j es e t u m n ne2 text2 held2 (ok w)))
-note_stays (Err a) j p es fs e s t u l m n path look ne text held added kept ok err w =
-    let ne2 : e.path ≢ j = λ same. ne (sym path ∙ same) in
-    let text2 : IsUtf8 e.path = subst IsUtf8 (sym path) text in
-    let held2 : IsHeld (first_entry_of es e.path) (m e.path) e.held = subst (λ (x : Contents). IsHeld (first_entry_of es e.path) (x e.path) e.held) (sym look.holds) (subst (λ (q : List ℕ). IsHeld (first_entry_of es q) (l q) e.held) (sym path) held) in
-    subst (λ (x : List Edit). Stays j es x s u l n) (sym kept)
-    (stays_more j es es es s t u l m n (stays_none j es s t l m look)
-    (elim (err w) [ inl none ↦ stays_none j es t u m n none | inr made ↦ made_here j es e t u m n ne2 text2 held2 made ]))
-
--- the same, where the journal's path and the entries are given by equations
-pub note_stays_by : {A E W : Type 0} (r : Result A E) (i j p : List ℕ) (gs es fs : List Edit) (e : Edit) (s t u : List Change) (l m n : Contents) → i ≡ j → gs ≡ es → e.path ≡ p → Makes [] s t l m → p ≢ j → IsUtf8 p → IsHeld (first_entry_of es p) (l p) e.held
-    → OnOk r (fs ≡ gs ++ e ∷ []) → OnErr r (fs ≡ gs) → OnOk r (W → Makes (puts i (journal_text (gs ++ e ∷ [])) ∷ []) t u m n) → OnErr r (W → MakesOrNot (puts i (journal_text (gs ++ e ∷ []))) t u m n) → W → Stays j es fs s u l n
-note_stays_by r i j p gs es fs e s t u l m n name same path look ne text held added kept ok err w =
-    subst (λ (x : List ℕ). Stays x es fs s u l n) name (subst (λ (x : List Edit). Stays i x fs s u l n) same
-    (note_stays r i p gs fs e s t u l m n path look (λ h. ne (h ∙ name)) text (subst (λ (x : List Edit). IsHeld (first_entry_of x p) (l p) e.held) (sym same) held) added kept ok err w))
-
 -- a path is changed to bytes that an entry of it has
-pub put_stays : (j : List ℕ) (es : List Edit) (p : List ℕ) (x : Option (List ℕ)) (t u : List Change) (m n : Contents) → p ≢ j → SomeEntryHasBytes es p x → Makes (gives p x ∷ []) t u m n → Stays j es es t u m n
-put_stays j es p x t u m n ne told makes o k =
+pub put_stays : (s : Spot) (es : List Edit) (p : List ℕ) (x : Option (List ℕ)) (t u : List Change) (m n : Contents) → is_of_journal s.journal p ≡ false → SomeEntryHasBytes es p x → Makes (gives p x ∷ []) t u m n → Stays s es es t u m n
+put_stays s es p x t u m n out told makes o k =
     let here = makes_here t u (gives p x) m n makes in
-    let others = makes_others t u (gives p x) m n makes in
-    let at_journal : n j ≡ m j = others j (λ e. ne (sym e)) in
-    let now : IsJournaled j o es n = record {
+    let others : KeepsOthers p m n = makes_others t u (gives p x) m n makes in
+    let own : (q : List ℕ) → is_of_journal s.journal q ≡ true → n q ≡ m q = λ q is. others q (λ e. let y : true ≡ false = sym is ∙ ap (is_of_journal s.journal) e ∙ out in cc) in
+    let file : (i : ℕ) → n (file_at s.journal i) ≡ m (file_at s.journal i) = λ i. own (file_at s.journal i) (own_file s.journal i) in
+    let now : IsJournaled s o es n = record {
       more = k.more;
-      is_in = elim k.is_in [ inl is ↦ inl (at_journal ∙ is) | inr none ↦ inr (at_journal ∙ none.0, none.1) ];
+      each = each_along s m n 0 es (λ i least lt. file i) k.each;
+      ends = elim k.ends [
+        | inl none ↦ inl (file (length es) ∙ none.0, none.1)
+        | inr last ↦ inr (subst (λ (y : Option (List ℕ)). IsTextOf s.folder y k.more) (sym (file (length es))) last.0, file (suc (length es)) ∙ last.1)
+      ];
+      fresh = fresh_apart s.journal (suc (length es)) o m n own k.fresh;
       keeps = k.keeps;
       holds = λ q other. elim (cases_Bool (bytes_eq p q)) [
         | inl t ↦ let is = (bytes_eq-Decides p q).0 t in inr (subst (λ (r : List ℕ). SomeEntryHasBytes es r (n r)) is (subst (SomeEntryHasBytes es p) (sym here) told))
@@ -128,25 +164,30 @@ put_stays j es p x t u m n ne told makes o k =
             elim (k.holds q other) [ inl is ↦ inl (same ∙ is) | inr told ↦ inr (subst (SomeEntryHasBytes es q) (sym same) told) ]
       ];
     } in
-    (stay_one j o (gives p x) t u m n makes (safe_of j o es m k) (safe_of j o es n now), now)
+    (stay_one s o (gives p x) t u m n makes (safe_of s o es m k) (safe_of s o es n now), now)
 
-pub put_or_not_stays : (j : List ℕ) (es : List Edit) (p : List ℕ) (x : Option (List ℕ)) (t u : List Change) (m n : Contents) → p ≢ j → SomeEntryHasBytes es p x → MakesOrNot (gives p x) t u m n → Stays j es es t u m n
-put_or_not_stays j es p x t u m n ne told makes = elim makes [ inl none ↦ stays_none j es t u m n none | inr made ↦ put_stays j es p x t u m n ne told made ]
+pub put_or_not_stays : (s : Spot) (es : List Edit) (p : List ℕ) (x : Option (List ℕ)) (t u : List Change) (m n : Contents) → is_of_journal s.journal p ≡ false → SomeEntryHasBytes es p x → MakesOrNot (gives p x) t u m n → Stays s es es t u m n
+put_or_not_stays s es p x t u m n out told makes = elim makes [ inl none ↦ stays_none s es t u m n none | inr made ↦ put_stays s es p x t u m n out told made ]
 
--- the changes changes_besides the journal's, and the paths without it
+-- ---- the changes besides the journal's, and the paths without it
+
 but_append : (j : List ℕ) (xs ys : List Change) → changes_besides j (xs ++ ys) ≡ changes_besides j xs ++ changes_besides j ys
 but_append j [] ys = refl
-but_append j (c ∷ xs) ys = elim (cases_Bool (bytes_eq c.path j)) [ inl t ↦ rw t (but_append j xs ys) | inr f ↦ rw f (ap (λ l. c ∷ l) (but_append j xs ys)) ]
+but_append j (c ∷ xs) ys = elim (cases_Bool (is_of_journal j c.path)) [ inl t ↦ rw t (but_append j xs ys) | inr f ↦ rw f (ap (λ l. c ∷ l) (but_append j xs ys)) ]
 
-without_in : (j : List ℕ) (c : Change) (m : Contents) → bytes_eq c.path j ≡ true → without j (after_change c m) ≡ without j m
-without_in j c m t = fun_ext λ q. elim (cases_Bool (bytes_eq j q)) [
+-- two paths of which one is set aside for the journal
+two_paths : (j p q : List ℕ) → is_of_journal j p ≡ true → is_of_journal j q ≡ false → q ≢ p
+two_paths j p q t f e = let y : true ≡ false = sym t ∙ sym (ap (is_of_journal j) e) ∙ f in cc
+
+without_in : (j : List ℕ) (c : Change) (m : Contents) → is_of_journal j c.path ≡ true → without j (after_change c m) ≡ without j m
+without_in j c m t = fun_ext λ q. elim (cases_Bool (is_of_journal j q)) [
   | inl is ↦ rw is refl
-  | inr f ↦ rw f (changed_other c m q (λ e. let y : true ≡ false = sym ((bytes_eq-Decides j q).1 (sym ((bytes_eq-Decides c.path j).0 t) ∙ sym e)) ∙ f in cc))
+  | inr f ↦ rw f (changed_other c m q (two_paths j c.path q t f))
 ]
 
-without_out : (j : List ℕ) (c : Change) (m : Contents) → bytes_eq c.path j ≡ false → without j (after_change c m) ≡ after_change c (without j m)
-without_out j c m out = fun_ext λ q. elim (cases_Bool (bytes_eq j q)) [
-  | inl is ↦ let differ : q ≢ c.path = λ e. let y : true ≡ false = sym ((bytes_eq-Decides c.path j).1 (sym e ∙ sym ((bytes_eq-Decides j q).0 is))) ∙ out in cc in
+without_out : (j : List ℕ) (c : Change) (m : Contents) → is_of_journal j c.path ≡ false → without j (after_change c m) ≡ after_change c (without j m)
+without_out j c m out = fun_ext λ q. elim (cases_Bool (is_of_journal j q)) [
+  | inl is ↦ let differ : q ≢ c.path = λ e. two_paths j q c.path is out (sym e) in
       let none : without j m q ≡ None = ap (λ b. cond b None (m q)) is in
       ap (λ b. cond b None (after_change c m q)) is ∙ sym none ∙ sym (changed_other c (without j m) q differ)
   | inr f ↦ rw f refl
@@ -154,21 +195,34 @@ without_out j c m out = fun_ext λ q. elim (cases_Bool (bytes_eq j q)) [
 
 without_after : (j : List ℕ) (cs : List Change) (m : Contents) → without j (after cs m) ≡ after (changes_besides j cs) (without j m)
 without_after j [] m = refl
-without_after j (c ∷ cs) m = elim (cases_Bool (bytes_eq c.path j)) [
+without_after j (c ∷ cs) m = elim (cases_Bool (is_of_journal j c.path)) [
   | inl t ↦ without_after j cs (after_change c m) ∙ ap (after (changes_besides j cs)) (without_in j c m t) ∙ sym (ap (λ b. after (cond b (changes_besides j cs) (c ∷ changes_besides j cs)) (without j m)) t)
   | inr f ↦ without_after j cs (after_change c m) ∙ ap (after (changes_besides j cs)) (without_out j c m f) ∙ sym (ap (λ b. after (cond b (changes_besides j cs) (c ∷ changes_besides j cs)) (without j m)) f)
 ]
 
 pub without_all : (j : List ℕ) (m n : Contents) → KeepsAll m n → KeepsAll (without j m) (without j n)
-without_all j m n same q = ap (λ x. cond (bytes_eq j q) None x) (same q)
+without_all j m n same q = ap (λ x. cond (is_of_journal j q) None x) (same q)
+
+-- nothing but the journal is changed
+pub without_same : (j : List ℕ) (m n : Contents) → ((q : List ℕ) → is_of_journal j q ≡ false → n q ≡ m q) → without j n ≡ without j m
+without_same j m n same = fun_ext λ q. elim (cases_Bool (is_of_journal j q)) [ inl is ↦ rw is refl | inr f ↦ rw f (same q f) ]
+
+pub without_file : (j : List ℕ) (k : ℕ) (m n : Contents) → KeepsOthers (file_at j k) m n → KeepsAll (without j m) (without j n)
+without_file j k m n same q = ap (λ f. f q) (without_same j m n (λ p out. same p (apart_from j k p out)))
+
+pub without_at : (j : List ℕ) (m : Contents) (q : List ℕ) → is_of_journal j q ≡ false → without j m q ≡ m q
+without_at j m q out = ap (λ b. cond b None (m q)) out
+
+pub without_others : (j p : List ℕ) (m n : Contents) → KeepsOthers p m n → KeepsOthers p (without j m) (without j n)
+without_others j p m n keeps q ne = ap (λ x. cond (is_of_journal j q) None x) (keeps q ne)
 
 pub hides : (j : List ℕ) (cs t u : List Change) (m n : Contents) → Makes cs t u m n → Makes (changes_besides j cs) (changes_besides j t) (changes_besides j u) (without j m) (without j n)
 hides j cs t u m n h = record { traced = ap (changes_besides j) h.traced ∙ but_append j t cs; holds = ap (without j) h.holds ∙ without_after j cs m }
 
-but_one : (j p : List ℕ) (x : Option (List ℕ)) (cs : List Change) → p ≢ j → changes_besides j cs ≡ [] → changes_besides j (cs ++ gives p x ∷ []) ≡ gives p x ∷ []
-but_one j p x cs ne none = but_append j cs (gives p x ∷ []) ∙ ap (λ l. l ++ changes_besides j (gives p x ∷ [])) none ∙ ap (λ b. cond b [] (gives p x ∷ [])) (bytes_differ p j ne)
+but_one : (j p : List ℕ) (x : Option (List ℕ)) (cs : List Change) → is_of_journal j p ≡ false → changes_besides j cs ≡ [] → changes_besides j (cs ++ gives p x ∷ []) ≡ gives p x ∷ []
+but_one j p x cs ne none = but_append j cs (gives p x ∷ []) ∙ ap (λ l. l ++ changes_besides j (gives p x ∷ [])) none ∙ ap (λ b. cond b [] (gives p x ∷ [])) ne
 
-pub hidden_put : (j p : List ℕ) (x : Option (List ℕ)) (s t u : List Change) (l m n : Contents) → p ≢ j → Hidden j s t l m → Makes (gives p x ∷ []) t u m n → Makes (gives p x ∷ []) (changes_besides j s) (changes_besides j u) (without j l) (without j n)
+pub hidden_put : (j p : List ℕ) (x : Option (List ℕ)) (s t u : List Change) (l m n : Contents) → is_of_journal j p ≡ false → Hidden j s t l m → Makes (gives p x ∷ []) t u m n → Makes (gives p x ∷ []) (changes_besides j s) (changes_besides j u) (without j l) (without j n)
 hidden_put j p x s t u l m n ne h makes =
     subst (λ (cs : List Change). Makes cs (changes_besides j s) (changes_besides j u) (without j l) (without j n)) (but_one j p x h.added ne h.journals)
     (hides j (h.added ++ gives p x ∷ []) s u l n (makes_append h.added (gives p x ∷ []) s t u l m n h.makes makes))
@@ -176,18 +230,58 @@ hidden_put j p x s t u l m n ne h makes =
 pub hidden_alone : (j : List ℕ) (s t : List Change) (l m : Contents) → Hidden j s t l m → Makes [] (changes_besides j s) (changes_besides j t) (without j l) (without j m)
 hidden_alone j s t l m h = subst (λ (cs : List Change). Makes cs (changes_besides j s) (changes_besides j t) (without j l) (without j m)) h.journals (hides j h.added s t l m h.makes)
 
-pub hidden_or_not : (j p : List ℕ) (x : Option (List ℕ)) (s t u : List Change) (l m n : Contents) → p ≢ j → Hidden j s t l m → MakesOrNot (gives p x) t u m n → MakesOrNot (gives p x) (changes_besides j s) (changes_besides j u) (without j l) (without j n)
+pub hidden_or_not : (j p : List ℕ) (x : Option (List ℕ)) (s t u : List Change) (l m n : Contents) → is_of_journal j p ≡ false → Hidden j s t l m → MakesOrNot (gives p x) t u m n → MakesOrNot (gives p x) (changes_besides j s) (changes_besides j u) (without j l) (without j n)
 hidden_or_not j p x s t u l m n ne h makes = elim makes [
   | inl none ↦ inl (subst (λ (cs : List Change). Makes cs (changes_besides j s) (changes_besides j u) (without j l) (without j n)) (ap (changes_besides j) (append-nil h.added) ∙ h.journals)
       (hides j (h.added ++ []) s u l n (makes_append h.added [] s t u l m n h.makes none)))
   | inr made ↦ inr (hidden_put j p x s t u l m n ne h made)
 ]
 
--- what `==` on two texts says where it is false
-pub unequal : (r : Bool) (xs ys zs : List ℕ) → r ≡ bytes_eq xs ys → r ≡ false → ys ≡ zs → xs ≢ zs
-unequal r xs ys zs h f is e = let t : bytes_eq xs ys ≡ true = (bytes_eq-Decides xs ys).1 (e ∙ sym is) in let y : true ≡ false = sym t ∙ sym h ∙ f in cc
+-- a file of the row was changed
+pub hidden_file : (j : List ℕ) (k : ℕ) (x : Option (List ℕ)) (s t u : List Change) (l m n : Contents) → Makes [] s t l m → Makes (gives (file_at j k) x ∷ []) t u m n → Hidden j s u l n
+hidden_file j k x s t u l m n look makes = record {
+  added = gives (file_at j k) x ∷ [];
+  makes = makes_append [] (gives (file_at j k) x ∷ []) s t u l m n look makes;
+  journals = ap (λ b. cond b [] (gives (file_at j k) x ∷ [])) (own_file j k);
+}
+
+pub hidden_none : (j : List ℕ) (s t : List Change) (l m : Contents) → Makes [] s t l m → Hidden j s t l m
+hidden_none j s t l m look = record { added = []; makes = look; journals = refl }
+
+pub hidden_file_or_not : (j : List ℕ) (k : ℕ) (x : Option (List ℕ)) (s t u : List Change) (l m n : Contents) → Makes [] s t l m → MakesOrNot (gives (file_at j k) x) t u m n → Hidden j s u l n
+hidden_file_or_not j k x s t u l m n look makes = elim makes [
+  | inl none ↦ hidden_none j s u l n (makes_append [] [] s t u l m n look none)
+  | inr made ↦ hidden_file j k x s t u l m n look made
+]
+
+pub append_hidden : (j p text : List ℕ) (k : ℕ) (t u v : List Change) (l m n : Contents) → p ≡ file_at j k → Makes [] t u l m → MakesOrNot (puts p text) u v m n → Hidden j t v l n
+append_hidden j p text k t u v l m n is look makes = hidden_file_or_not j k (Some text) t u v l m n look (subst (λ (q : List ℕ). MakesOrNot (puts q text) u v m n) is makes)
+
+pub append_others : (j p : List ℕ) (k : ℕ) (l m n : Contents) → p ≡ file_at j k → KeepsAll l m → KeepsOthers p m n → KeepsAll (without j l) (without j n)
+append_others j p k l m n is look others q = without_file j k m n (subst (λ (r : List ℕ). KeepsOthers r m n) is others) q ∙ without_all j l m look q
 
 -- a change was made or not, whatever the call returns
 pub at_either : {A E W : Type 0} (r : Result A E) (c : Change) (t u : List Change) (m n : Contents) → OnOk r (W → Makes (c ∷ []) t u m n) → OnErr r (W → MakesOrNot c t u m n) → W → MakesOrNot c t u m n
 at_either (Ok x) c t u m n ok err w = inr (ok w)
 at_either (Err x) c t u m n ok err w = err w
+
+-- before the first edit
+pub journaled_begun : (s : Spot) (o : Contents) → o s.journal ≡ None → IsJournaled s o [] o
+journaled_begun s o none = record {
+  more = [];
+  each = tt;
+  ends = inl (ap o (file_zero s.journal) ∙ none, refl);
+  fresh = nothing_yet s.journal o none;
+  keeps = tt;
+  holds = λ q out. inl refl;
+}
+
+-- an entry that was made after looks that changed nothing
+pub notable_of : (j : List ℕ) (es : List Edit) (l m : Contents) (e : Edit) (p : List ℕ) → e.path ≡ p → m ≡ l → is_of_journal j p ≡ false → IsHeld (first_entry_of es p) (l p) e.held → IsNotable j es m e
+notable_of j es l m e p path same out held = record {
+  apart = ap (is_of_journal j) path ∙ out;
+  held = subst (λ (x : Contents). IsHeld (first_entry_of es e.path) (x e.path) e.held) (sym same) (subst (λ (q : List ℕ). IsHeld (first_entry_of es q) (l q) e.held) (sym path) held);
+}
+
+pub spot_same : (f g j k : List ℕ) → f ≡ g → j ≡ k → ◌≡◌ {A = Spot} (record { folder = f; journal = j }) (record { folder = g; journal = k })
+spot_same f g j k a b = rw (a, b) refl

@@ -7,7 +7,7 @@ use Rattle.hack_journal.specs.Rows.{Spot, AreFirst, IsFresh, IsTextOf, file_at, 
 use Rattle.hack_journal.specs.SafeFiles.{KeepFirst, SomeEntryHasBytes, StaysSafe, gives, changes_besides, IsJournaled, first_entry_of}
 use Rattle.hack_journal.specs.declared.recover.RecoverFault.{RecoverFault}
 use Rattle.hack_journal.specs.declared.recover.RecoverFault.TheVariants.{Memory, NotJournal, Changed, Files}
-use Rattle.hack_journal.specs.Recovery.{AreChanged, CountsRecoverFault, HasEntry, IsJournalRefusal, IsNoJournal, IsReached, NamesPath}
+use Rattle.hack_journal.specs.Recovery.{AreChanged, CountsRecoverFault, HasEntry, IsJournalRefusal, NamesPath}
 
 -- the text does not begin with a space
 abbrev pub BeginsWithoutSpace : List ℕ → Type 0
@@ -55,13 +55,6 @@ IsWhyTorn spot k tells old (NotJournal j) = (string_bytes j ≡ spot.journal) ×
 IsWhyTorn spot k tells old (Changed p j) = ⊥
 IsWhyTorn spot k tells old (Files f) = NamesPath (λ p. p ≡ file_at spot.journal k) f
 
--- why the journal can't be read
-abbrev pub IsWhyUnread : Spot → Type 0 → Contents → RecoverFault → Type 0
-IsWhyUnread spot tells old Memory = Unit {0}
-IsWhyUnread spot tells old (NotJournal j) = (string_bytes j ≡ spot.journal) × (tells → IsNoJournal spot old)
-IsWhyUnread spot tells old (Changed p j) = ⊥
-IsWhyUnread spot tells old (Files f) = NamesPath (IsReached spot tells old) f
-
 -- why checking what the paths of these entries hold fails
 abbrev pub IsWhyNotTold : List ℕ → Type 0 → List Edit → List Edit → Contents → RecoverFault → Type 0
 IsWhyNotTold journal tells all es old Memory = Unit {0}
@@ -101,6 +94,10 @@ pub record AddsChanged (old new : Contents) (es : List Edit) (before now : List 
   pub are : AreChanged old new es paths
   pub added : now ≡ before ++ paths
 
+-- each path that isn't set aside for the journal holds what it held at first
+abbrev pub IsAllBack : List ℕ → Contents → Contents → Type 0
+IsAllBack journal first now = (q : List ℕ) → is_of_journal journal q ≡ false → now q ≡ first q
+
 -- all is put back but the row, which has `count` files
 pub record IsBackBut (spot : Spot) (first : Contents) (count : ℕ) (now : Contents) : Type 0 where
   pub entries : List Edit
@@ -108,7 +105,7 @@ pub record IsBackBut (spot : Spot) (first : Contents) (count : ℕ) (now : Conte
   pub ends : now (file_at spot.journal count) ≡ None
   pub fresh : IsFresh spot.journal count first now
   pub keeps : KeepFirst spot.journal first entries
-  pub same : (q : List ℕ) → is_of_journal spot.journal q ≡ false → now q ≡ first q
+  pub same : IsAllBack spot.journal first now
 
 -- ---- files with a journal
 
@@ -134,5 +131,5 @@ pub record Hidden (journal : List ℕ) (old_trace new_trace : List Change) (old 
 -- shorter, up to these entries
 abbrev pub ShortensRow : Spot → List Edit → List Edit → List Change → List Change → Contents → Contents → Type 0
 ShortensRow spot es fs old_trace new_trace old new =
-    (first : Contents) → IsJournaled spot first es old → ((q : List ℕ) → is_of_journal spot.journal q ≡ false → old q ≡ first q)
+    (first : Contents) → IsJournaled spot first es old → IsAllBack spot.journal first old
     → StaysSafe spot first old_trace new_trace old new × IsJournaled spot first fs new

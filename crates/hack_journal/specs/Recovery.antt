@@ -81,6 +81,13 @@ abbrev pub IsReached : Spot → Type 0 → Contents → List ℕ → Type 0
 IsReached spot tells old path =
     (k : ℕ) × (path ≡ file_at spot.journal k) × (tells → (i : ℕ) → i < k → IsSome (old (file_at spot.journal i)))
 
+-- why the journal can't be read
+abbrev pub IsWhyUnread : Spot → Type 0 → Contents → RecoverFault → Type 0
+IsWhyUnread spot tells old Memory = Unit {0}
+IsWhyUnread spot tells old (NotJournal j) = (string_bytes j ≡ spot.journal) × (tells → IsNoJournal spot old)
+IsWhyUnread spot tells old (Changed p j) = ⊥
+IsWhyUnread spot tells old (Files f) = NamesPath (IsReached spot tells old) f
+
 -- such a path, or one of which the journal has an entry
 abbrev pub IsJournalOrItsEntry : Spot → Type 0 → Contents → List ℕ → Type 0
 IsJournalOrItsEntry spot tells old path =

@@ -4,7 +4,8 @@
 //! Wherever the program ends, each path holds what it held at first, or the journal has it, and
 //! [`crate::recover::recover`] puts it back.
 
-ghost use Rattle.std.specs.Prelude.{◌≡◌, ◌<◌, ◌++◌, ◌+◌, [], ◌∷◌, ℕ, None, Some, false, length};
+ghost use Rattle.std.specs.Prelude.{◌≡◌, ◌<◌, ◌++◌, ◌+◌, ◌^◌, [], ◌∷◌, ℕ, None, Some, length};
+ghost use Rattle.std.specs.Prelude.{false};
 ghost use Rattle.std.specs.Prelude.{IfOk, OnOk, OnErr, IsTrue, IsSome, ◌↔◌, string_bytes};
 ghost use Rattle.std.specs.Option.{option_map};
 ghost use Rattle.hack_files.specs.Files.{Contents, CountsFailedCall, KeepsOthers, KeepsAll};
@@ -136,6 +137,7 @@ impl<F: Files> Journaled<F> {
             file_at self.old.notes.journal (length self.old.notes.entries + 1)) }
         ensures absent { OnOk result (F.tells → F.bytes_at self.old.files
             (file_at self.old.notes.journal (length self.old.notes.entries + 1)) ≡ None) }
+        ensures low { OnOk result (length self.old.notes.entries + 1 < 2 ^ 64) }
         ensures same { F.tells →
             KeepsAll (F.bytes_at self.old.files) (F.bytes_at self.new.files) }
         ensures untraced { F.whole → Makes [] (F.trace self.old.files) (F.trace self.new.files)
@@ -154,6 +156,7 @@ impl<F: Files> Journaled<F> {
     // Adds a file to the row that keeps this entry.
     fn append(&mut self, entry: Entry) -> Result<(), FileFault>
         ensures handed { F.stays self.old.files self.new.files }
+        ensures journal { self.new.notes.journal ≡ self.old.notes.journal }
         ensures rest { self.new ≡
             record self.old { files = self.new.files; notes = self.new.notes } }
         ensures added { OnOk result (self.new.notes.entries ≡
@@ -181,6 +184,7 @@ impl<F: Files> Journaled<F> {
     // the journal, unless one of the path has these bytes already.
     fn keep(&mut self, path: &str, bytes: Option<&[u8]>) -> Result<(), FileFault>
         ensures handed { F.stays self.old.files self.new.files }
+        ensures journal { self.new.notes.journal ≡ self.old.notes.journal }
         ensures rest { self.new ≡
             record self.old { files = self.new.files; notes = self.new.notes } }
         ensures told { OnOk result (SomeEntryHasBytes self.new.notes.entries path.now
@@ -204,6 +208,7 @@ impl<F: Files> Journaled<F> {
     // Keeps what the path holds, and then gives it these bytes, or removes what is there.
     fn change(&mut self, path: &str, bytes: Option<&[u8]>) -> Result<(), FileFault>
         ensures handed { F.stays self.old.files self.new.files }
+        ensures journal { self.new.notes.journal ≡ self.old.notes.journal }
         ensures rest { self.new ≡
             record self.old { files = self.new.files; notes = self.new.notes } }
         ensures put { OnOk result (F.tells →

@@ -2,8 +2,8 @@
 //!
 //! The paths are made when the entries are added. So the files can be removed without memory.
 
-ghost use Rattle.std.specs.Prelude.{◌≡◌, ◌↔◌, ◌⊎◌, ◌++◌, ◌+◌, [], ◌∷◌, IfOk, OnOk, OnErr, IsTrue};
-ghost use Rattle.std.specs.Prelude.{List, length, string_bytes, false};
+ghost use Rattle.std.specs.Prelude.{◌≡◌, ◌⊎◌, ◌++◌, ◌+◌, ◌<◌, ◌^◌, [], ◌∷◌, IfOk, OnOk, OnErr};
+ghost use Rattle.std.specs.Prelude.{IsTrue, length, string_bytes, false};
 ghost use Rattle.hack_journal.specs.Journal.{Edit, edit_of, edits_of};
 ghost use Rattle.hack_journal.specs.Rows.{file_at, is_of_journal};
 
@@ -73,18 +73,21 @@ impl Notes {
 
     /// The path of the file that comes next.
     pub fn next(&self) -> &str
-        ensures { result.now ≡ file_at self.now.journal (length self.now.entries) }
+        ensures path { result.now ≡ file_at self.now.journal (length self.now.entries) }
+        ensures low { length self.now.entries < 2 ^ 64 }
     {
-        match self.later.last() {
-            Some(path) => path.as_str(),
-            None => self.journal.as_str(),
+        let count = self.entries.len();
+        if count == 0 {
+            return self.journal.as_str();
         }
+        self.later[count - 1].as_str()
     }
 
     /// The path of the file after that one.
     pub fn after_next(&self, alloc: Global) -> Result<String, AllocError>
-        ensures { IfOk result (λ path.
+        ensures path { IfOk result (λ path.
             string_bytes path ≡ file_at self.now.journal (length self.now.entries + 1)) }
+        ensures low { length self.now.entries + 1 < 2 ^ 64 }
     {
         file_of(alloc, self.journal.as_str(), self.entries.len() as u64 + 1)
     }

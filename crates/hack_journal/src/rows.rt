@@ -7,7 +7,8 @@ ghost use Rattle.hack_files.specs.Files.{KeepsAll, Makes};
 ghost use Rattle.hack_journal.specs.Journal.{Edit, edits_of};
 ghost use Rattle.hack_journal.specs.Rows.{AreFirst, IsRowRead, file_at, placed, spot_of};
 ghost use Rattle.hack_journal.specs.Recovery.{AreOfCall, CountsRecoverFault, IsFailureCounted};
-ghost use Rattle.hack_journal.specs.Internal.{FaultsAtPath, IsReadMore, IsWhyTorn, IsWhyUnread};
+ghost use Rattle.hack_journal.specs.Recovery.{IsWhyUnread};
+ghost use Rattle.hack_journal.specs.Internal.{FaultsAtPath, IsReadMore, IsWhyTorn};
 ghost use Rattle.hack_journal.specs.Internal.{NamesNoJournal};
 
 use crate::contents::look;

@@ -1,30 +1,50 @@
-use Rattle.std.proofs.Common.{◌∙◌, inr, subst}
-use Rattle.hack_files.specs.Files.{Contents}
-use Rattle.hack_journal.specs.Journal.{edits_of}
-use Rattle.hack_journal.specs.SafeFiles.{without}
+use Rattle.std.proofs.Common.{◌≡◌, ◌∙◌, List, ℕ, ap, sym, subst, string_bytes}
+use Rattle.hack_base.specs.Names.{names_of}
+use Rattle.hack_files.specs.Files.{KeepsAll, after}
+use Rattle.hack_journal.specs.Journal.{Edit, edits_of}
+use Rattle.hack_journal.specs.Internal.{AddsChanged, backs}
+use Rattle.hack_journal.specs.Recovery.{AreChanged}
+use Rattle.hack_journal.specs.Rows.{spot_of}
+use Rattle.hack_journal.specs.SafeFiles.{IsSafeBy}
 use Rattle.hack_journal.specs.SafeLaws.{stay_append}
-use Rattle.hack_journal.specs.Recovery.{Differ}
-use Rattle.hack_journal.proofs.FinishLemmas.{removed_safe}
-use Rattle.hack_journal.proofs.RecoverLemmas.{safe_by, backs_first, without_same}
-use Rattle.std.proofs.Common.{sym}
+use Rattle.hack_journal.proofs.RecoverLemmas.{back_but_of, changed_along}
+use Rattle.hack_journal.proofs.RowLemmas.{apart_from}
 use Rattle.hack_journal.proofs.recover.take_back.Goals as goal
 
-pub returns-in-Ok-clause-counted : goal.returns-in-Ok-clause-counted
-returns-in-Ok-clause-counted g c = λ tells first keeps.
-    subst (λ (x : Contents). Differ c.in_ok-count.count (without c.args.journal.now (g.F.Files.bytes_at c.args.files.now)) x)
-    (sym (without_same c.args.journal.now (g.F.Files.bytes_at c.put_all_back.new.files) (g.F.Files.bytes_at c.remove.new.self) (c.in-Ok.ensures.others tells)))
-    (c.in_ok-count.ensures.counted tells c.args.journal.now first keeps)
+pub returns-clause-told : goal.returns-clause-told
+returns-clause-told g c = λ tells first keeps.
+    let j = string_bytes c.args.place.now.journal in
+    let es = edits_of c.args.row.now.entries.items in
+    let bytes = g.F.Files.bytes_at in
+    let is : edits_of c.deref.result.now ≡ es = ap edits_of c.deref.ensures.value in
+    let told = rw (is, c.new-paths.ensures.items) at c.in_ok-put_all_back.ensures.told in
+    let adds = told tells j first keeps in
+    let others = rw c.deref-2.ensures at c.in_ok-remove_files.ensures.others in
+    changed_along j first es (bytes c.args.files.now) (bytes c.put_all_back.new.files) (bytes c.remove_files.new.files) (names_of c.put_all_back.new.paths.items) keeps
+    (λ q out. others tells q (λ i lt. apart_from j i q out))
+    (subst (λ (ps : List (List ℕ)). AreChanged (bytes c.args.files.now) (bytes c.put_all_back.new.files) es ps) (sym adds.added) adds.are)
 
-pub returns-in-Ok-clause-safe : goal.returns-in-Ok-clause-safe
-returns-in-Ok-clause-safe g c = λ tells whole first safe.
-    let all = c.in_ok-count.ensures.safe whole c.args.journal.now first (edits_of c.args.entries.now) safe safe.keeps in
-    stay_append c.args.journal.now first _ _ _ _ _ _ all.0
-    (removed_safe c.args.journal.now first _ _ _ _ (inr (c.in-Ok.ensures.traced whole)) (safe_by _ _ _ _ all.1)
-    (λ q ne. c.in_ok-count.ensures.back tells q ∙ backs_first c.args.journal.now first (edits_of c.args.entries.now) (g.F.Files.bytes_at c.args.files.now) safe q ne))
+pub returns-in_err-put_all_back-clause-safe : goal.returns-in_err-put_all_back-clause-safe
+returns-in_err-put_all_back-clause-safe g c = λ tells whole first by is.
+    let safe = rw (ap edits_of c.deref.ensures.value) at c.in_err-put_all_back.ensures.safe in
+    (safe whole (spot_of c.args.place.now) first (edits_of c.args.row.now.entries.items) by by.keeps).0
 
-pub returns-in-Err-clause-safe : goal.returns-in-Err-clause-safe
-returns-in-Err-clause-safe g c = λ tells whole first safe.
-    let all = c.in_ok-count.ensures.safe whole c.args.journal.now first (edits_of c.args.entries.now) safe safe.keeps in
-    stay_append c.args.journal.now first _ _ _ _ _ _ all.0
-    (removed_safe c.args.journal.now first _ _ _ _ (c.in-Err.ensures.refused whole) (safe_by _ _ _ _ all.1)
-    (λ q ne. c.in_ok-count.ensures.back tells q ∙ backs_first c.args.journal.now first (edits_of c.args.entries.now) (g.F.Files.bytes_at c.args.files.now) safe q ne))
+pub returns-in_err-remove_files-clause-safe : goal.returns-in_err-remove_files-clause-safe
+returns-in_err-remove_files-clause-safe g c = λ tells whole first by is.
+    let s = spot_of c.args.place.now in
+    let es = edits_of c.args.row.now.entries.items in
+    let bytes = g.F.Files.bytes_at in
+    let safe = rw (ap edits_of c.deref.ensures.value) at c.in_ok-put_all_back.ensures.safe in
+    let back = rw (ap edits_of c.deref.ensures.value) at c.in_ok-put_all_back.ensures.back in
+    let but = back_but_of s first c.args.row.now.count es (bytes c.args.files.now) (bytes c.put_all_back.new.files) by is (back tells) in
+    stay_append s first _ _ _ _ _ _ (safe whole s first es by by.keeps).0 (c.in_err-remove_files.ensures.safe whole s first (sym c.deref-2.ensures) but)
+
+pub returns-clause-safe : goal.returns-clause-safe
+returns-clause-safe g c = λ tells whole first by is.
+    let s = spot_of c.args.place.now in
+    let es = edits_of c.args.row.now.entries.items in
+    let bytes = g.F.Files.bytes_at in
+    let safe = rw (ap edits_of c.deref.ensures.value) at c.in_ok-put_all_back.ensures.safe in
+    let back = rw (ap edits_of c.deref.ensures.value) at c.in_ok-put_all_back.ensures.back in
+    let but = back_but_of s first c.args.row.now.count es (bytes c.args.files.now) (bytes c.put_all_back.new.files) by is (back tells) in
+    stay_append s first _ _ _ _ _ _ (safe whole s first es by by.keeps).0 (c.in_ok-remove_files.ensures.safe whole s first (sym c.deref-2.ensures) but)

@@ -1,17 +1,86 @@
-use Rattle.std.proofs.Common.{◌≡◌, ◌++◌, [], ◌∷◌, ap, ◌∙◌, subst, string_bytes, List}
-use Rattle.std.proofs.lemmas.List.{map-append}
-use Rattle.hack_files.specs.Files.{Makes, MakesOrNot, puts}
-use Rattle.hack_journal.specs.Journal.{Edit, journal_text, edit_of, edits_of}
+use Rattle.std.proofs.Common.{◌≡◌, ◌∙◌, ◌++◌, ◌∷◌, [], inr, List, ap, sym, subst, length}
+use Rattle.std.proofs.lemmas.Str.{IsUtf8-string_bytes}
+use Rattle.hack_files.specs.Files.{Contents}
+use Rattle.hack_journal.specs.Journal.{Edit, edit_of}
+use Rattle.hack_journal.specs.Rows.{Noted, file_at}
+use Rattle.hack_journal.specs.FileCalls.{spot_in}
+use Rattle.hack_journal.specs.SafeFiles.{Stays}
+use Rattle.hack_journal.specs.SafeLaws.{stays_none, makes_none}
+use Rattle.hack_journal.proofs.SafeLemmas.{append_hidden, append_made, append_noted, append_others, ready_of}
+use Rattle.hack_journal.proofs.FinishLemmas.{all_same}
 use Rattle.hack_journal.proofs.journaled.Journaled.append.Goals as goal
 
-pub returns-in-Ok-write_journal-clause-traced : goal.returns-in-Ok-write_journal-clause-traced
-returns-in-Ok-write_journal-clause-traced g c =
-    let e : edits_of c.push.new.self.items ≡ edits_of c.args.self.now.entries.items ++ edit_of c.args.entry ∷ [] = ap edits_of c.in-Ok.ensures.items ∙ map-append edit_of c.args.self.now.entries.items (c.args.entry ∷ []) in
-    subst (λ (es : List Edit). g.F.Files.whole → Makes (puts (string_bytes c.args.self.now.journal) (journal_text es) ∷ []) (g.F.Files.trace c.args.self.now.files) (g.F.Files.trace c.write_journal.new.self.files) (g.F.Files.bytes_at c.args.self.now.files) (g.F.Files.bytes_at c.write_journal.new.self.files))
-    e c.in-Ok-write_journal.ensures.traced
+pub returns-in_err-text-clause-stays : goal.returns-in_err-text-clause-stays
+returns-in_err-text-clause-stays g c = λ notable tells whole. stays_none _ _ _ _ _ _ (makes_none _ _)
 
-pub returns-in-Err-clause-refused : goal.returns-in-Err-clause-refused
-returns-in-Err-clause-refused g c =
-    let e : edits_of c.push.new.self.items ≡ edits_of c.args.self.now.entries.items ++ edit_of c.args.entry ∷ [] = ap edits_of c.in-Ok.ensures.items ∙ map-append edit_of c.args.self.now.entries.items (c.args.entry ∷ []) in
-    subst (λ (es : List Edit). g.F.Files.whole → MakesOrNot (puts (string_bytes c.args.self.now.journal) (journal_text es)) (g.F.Files.trace c.args.self.now.files) (g.F.Files.trace c.write_journal.new.self.files) (g.F.Files.bytes_at c.args.self.now.files) (g.F.Files.bytes_at c.write_journal.new.self.files))
-    e c.in-Err.ensures.refused
+pub returns-in_err-after-clause-stays : goal.returns-in_err-after-clause-stays
+returns-in_err-after-clause-stays g c = λ notable tells whole.
+    subst (λ (n : Noted). Stays (spot_in c.args.self.now) c.args.self.now.notes.entries n.entries (g.F.Files.trace c.args.self.now.files) (g.F.Files.trace c.look_ahead.new.self.files) (g.F.Files.bytes_at c.args.self.now.files) (g.F.Files.bytes_at c.look_ahead.new.self.files))
+    (sym (ap (λ s. s.notes) c.in_err-after.ensures.rest)) (stays_none _ _ _ _ _ _ (c.in_err-after.ensures.untraced whole))
+
+pub returns-in_err-write-clause-others : goal.returns-in_err-write-clause-others
+returns-in_err-write-clause-others g c = λ tells.
+    let notes : c.look_ahead.new.self.notes ≡ c.args.self.now.notes = ap (λ s. s.notes) c.in_ok-after.ensures.rest in
+    let path = c.next.ensures.path ∙ ap (λ (n : Noted). file_at n.journal (length n.entries)) notes in
+    append_others _ _ _ _ _ _ path (c.in_ok-after.ensures.same tells) (c.in_err-write.ensures.others tells)
+
+pub returns-in_err-write-clause-hidden : goal.returns-in_err-write-clause-hidden
+returns-in_err-write-clause-hidden g c = λ whole.
+    let notes : c.look_ahead.new.self.notes ≡ c.args.self.now.notes = ap (λ s. s.notes) c.in_ok-after.ensures.rest in
+    let path = c.next.ensures.path ∙ ap (λ (n : Noted). file_at n.journal (length n.entries)) notes in
+    append_hidden _ _ _ _ _ _ _ _ _ _ path (c.in_ok-after.ensures.untraced whole) (c.in_err-write.ensures.refused whole)
+
+pub returns-in_err-write-clause-stays : goal.returns-in_err-write-clause-stays
+returns-in_err-write-clause-stays g c = λ notable tells whole.
+    let s = c.args.self.now in
+    let notes : c.look_ahead.new.self.notes ≡ s.notes = ap (λ s. s.notes) c.in_ok-after.ensures.rest in
+    let path = c.next.ensures.path ∙ ap (λ (n : Noted). file_at n.journal (length n.entries)) notes in
+    let text : c.deref.result.now ≡ c.in_ok-text.text.items = c.deref.ensures.value in
+    let ready = ready_of (spot_in s) s.notes.entries (g.F.Files.bytes_at s.files) (g.F.Files.bytes_at c.look_ahead.new.self.files) c.in_ok-text.text.items (edit_of c.args.entry) (all_same _ _ (c.in_ok-after.ensures.same tells)) (notable tells) (IsUtf8-string_bytes c.args.entry.path) c.in_ok-text.ensures (c.in_ok-after.ensures.absent tells) c.in_ok-after.ensures.low in
+    subst (λ (n : Noted). Stays (spot_in s) s.notes.entries n.entries (g.F.Files.trace s.files) (g.F.Files.trace c.write.new.self) (g.F.Files.bytes_at s.files) (g.F.Files.bytes_at c.write.new.self)) (sym notes)
+    (append_made (spot_in s) s.notes.entries (edit_of c.args.entry) _ c.in_ok-text.text.items _ _ _ _ _ _ path (c.in_ok-after.ensures.untraced whole) ready (rw text at (c.in_err-write.ensures.refused whole)))
+
+pub returns-in-Ok-clause-others : goal.returns-in-Ok-clause-others
+returns-in-Ok-clause-others g c = λ tells.
+    let notes : c.look_ahead.new.self.notes ≡ c.args.self.now.notes = ap (λ s. s.notes) c.in_ok-after.ensures.rest in
+    let path = c.next.ensures.path ∙ ap (λ (n : Noted). file_at n.journal (length n.entries)) notes in
+    append_others _ _ _ _ _ _ path (c.in_ok-after.ensures.same tells) (c.in_ok-write.ensures.others tells)
+
+pub returns-in-Ok-clause-hidden : goal.returns-in-Ok-clause-hidden
+returns-in-Ok-clause-hidden g c = λ whole.
+    let notes : c.look_ahead.new.self.notes ≡ c.args.self.now.notes = ap (λ s. s.notes) c.in_ok-after.ensures.rest in
+    let path = c.next.ensures.path ∙ ap (λ (n : Noted). file_at n.journal (length n.entries)) notes in
+    append_hidden _ _ _ _ _ _ _ _ _ _ path (c.in_ok-after.ensures.untraced whole) (inr (c.in_ok-write.ensures.traced whole))
+
+pub returns-clause-others : goal.returns-clause-others
+returns-clause-others g c = λ tells.
+    let notes : c.look_ahead.new.self.notes ≡ c.args.self.now.notes = ap (λ s. s.notes) c.in_ok-after.ensures.rest in
+    let path = c.next.ensures.path ∙ ap (λ (n : Noted). file_at n.journal (length n.entries)) notes in
+    append_others _ _ _ _ _ _ path (c.in_ok-after.ensures.same tells) (c.in_ok-write.ensures.others tells)
+
+pub returns-clause-hidden : goal.returns-clause-hidden
+returns-clause-hidden g c = λ whole.
+    let notes : c.look_ahead.new.self.notes ≡ c.args.self.now.notes = ap (λ s. s.notes) c.in_ok-after.ensures.rest in
+    let path = c.next.ensures.path ∙ ap (λ (n : Noted). file_at n.journal (length n.entries)) notes in
+    append_hidden _ _ _ _ _ _ _ _ _ _ path (c.in_ok-after.ensures.untraced whole) (inr (c.in_ok-write.ensures.traced whole))
+
+pub returns-in-Ok-clause-stays : goal.returns-in-Ok-clause-stays
+returns-in-Ok-clause-stays g c = λ notable tells whole.
+    let s = c.args.self.now in
+    let notes : c.look_ahead.new.self.notes ≡ s.notes = ap (λ s. s.notes) c.in_ok-after.ensures.rest in
+    let path = c.next.ensures.path ∙ ap (λ (n : Noted). file_at n.journal (length n.entries)) notes in
+    let text : c.deref.result.now ≡ c.in_ok-text.text.items = c.deref.ensures.value in
+    let ready = ready_of (spot_in s) s.notes.entries (g.F.Files.bytes_at s.files) (g.F.Files.bytes_at c.look_ahead.new.self.files) c.in_ok-text.text.items (edit_of c.args.entry) (all_same _ _ (c.in_ok-after.ensures.same tells)) (notable tells) (IsUtf8-string_bytes c.args.entry.path) c.in_ok-text.ensures (c.in_ok-after.ensures.absent tells) c.in_ok-after.ensures.low in
+    let added : c.push.new.self.entries ≡ s.notes.entries ++ edit_of c.args.entry ∷ [] = c.in-Ok.ensures.added ∙ ap (λ (n : Noted). n.entries ++ edit_of c.args.entry ∷ []) notes in
+    append_noted (spot_in s) s.notes.entries c.push.new.self.entries (edit_of c.args.entry) _ c.in_ok-text.text.items _ _ _ _ _ _ added path (c.in_ok-after.ensures.untraced whole) ready (rw text at (c.in_ok-write.ensures.traced whole))
+
+pub returns-clause-stays : goal.returns-clause-stays
+returns-clause-stays g c = λ notable tells whole.
+    let s = c.args.self.now in
+    let notes : c.look_ahead.new.self.notes ≡ s.notes = ap (λ s. s.notes) c.in_ok-after.ensures.rest in
+    let path = c.next.ensures.path ∙ ap (λ (n : Noted). file_at n.journal (length n.entries)) notes in
+    let text : c.deref.result.now ≡ c.in_ok-text.text.items = c.deref.ensures.value in
+    let ready = ready_of (spot_in s) s.notes.entries (g.F.Files.bytes_at s.files) (g.F.Files.bytes_at c.look_ahead.new.self.files) c.in_ok-text.text.items (edit_of c.args.entry) (all_same _ _ (c.in_ok-after.ensures.same tells)) (notable tells) (IsUtf8-string_bytes c.args.entry.path) c.in_ok-text.ensures (c.in_ok-after.ensures.absent tells) c.in_ok-after.ensures.low in
+    let kept : c.push.new.self.entries ≡ s.notes.entries = c.in-Err.ensures.kept ∙ ap (λ (n : Noted). n.entries) notes in
+    subst (λ (es : List Edit). Stays (spot_in s) s.notes.entries es (g.F.Files.trace s.files) (g.F.Files.trace c.write.new.self) (g.F.Files.bytes_at s.files) (g.F.Files.bytes_at c.write.new.self)) (sym kept)
+    (append_made (spot_in s) s.notes.entries (edit_of c.args.entry) _ c.in_ok-text.text.items _ _ _ _ _ _ path (c.in_ok-after.ensures.untraced whole) ready (inr (rw text at (c.in_ok-write.ensures.traced whole))))

@@ -1,23 +1,35 @@
-use Rattle.std.proofs.Common.{ap, sym, subst, string_bytes, List}
-use Rattle.hack_journal.specs.SafeLaws.{stays_none, makes_none}
+use Rattle.std.proofs.Common.{◌≡◌, ap, sym, ◌∙◌, subst, List}
+use Rattle.hack_journal.specs.SafeLaws.{stays_none, stays_join, makes_none}
 use Rattle.hack_journal.specs.SafeFiles.{Stays}
-use Rattle.hack_journal.proofs.SafeLemmas.{note_stays_by, told_ok}
-use Rattle.hack_journal.specs.Journal.{Edit, edit_of, edits_of}
+use Rattle.hack_journal.specs.Internal.{IsNotable}
+use Rattle.hack_journal.specs.Rows.{Noted}
+use Rattle.hack_journal.specs.FileCalls.{spot_in}
+use Rattle.hack_journal.proofs.FinishLemmas.{all_same}
+use Rattle.hack_journal.proofs.SafeLemmas.{notable_of, told_ok}
+use Rattle.hack_journal.specs.Journal.{Edit, edit_of}
 use Rattle.hack_journal.proofs.journaled.Journaled.keep.Goals as goal
 
 pub returns-in_err-entry-clause-stays : goal.returns-in_err-entry-clause-stays
-returns-in_err-entry-clause-stays g c = λ ne tells whole.
-    subst (λ (es : List Edit). Stays (string_bytes c.args.self.now.journal) (edits_of c.args.self.now.entries.items) es (g.F.Files.trace c.args.self.now.files) (g.F.Files.trace c.entry.new.self.files) (g.F.Files.bytes_at c.args.self.now.files) (g.F.Files.bytes_at c.entry.new.self.files))
-    (sym (ap (λ s. edits_of s.entries.items) c.in_err-entry.ensures.rest)) (stays_none _ _ _ _ _ _ (c.in_err-entry.ensures.untraced whole))
+returns-in_err-entry-clause-stays g c = λ out tells whole.
+    subst (λ (n : Noted). Stays (spot_in c.args.self.now) c.args.self.now.notes.entries n.entries (g.F.Files.trace c.args.self.now.files) (g.F.Files.trace c.entry.new.self.files) (g.F.Files.bytes_at c.args.self.now.files) (g.F.Files.bytes_at c.entry.new.self.files))
+    (sym (ap (λ s. s.notes) c.in_err-entry.ensures.rest)) (stays_none _ _ _ _ _ _ (c.in_err-entry.ensures.untraced whole))
 
 pub returns-clause-told : goal.returns-clause-told
-returns-clause-told g c = told_ok c.append.result (edits_of c.entry.new.self.entries.items) (edits_of c.append.new.self.entries.items) (edit_of c.in_ok-entry.entry) _ _ c.append.ensures.added c.in_ok-entry.ensures.path c.in_ok-entry.ensures.wrote
-
-pub returns-clause-stays : goal.returns-clause-stays
-returns-clause-stays g c = λ ne tells whole.
-    note_stays_by c.append.result (string_bytes c.entry.new.self.journal) (string_bytes c.args.self.now.journal) c.args.path.now (edits_of c.entry.new.self.entries.items) (edits_of c.args.self.now.entries.items) (edits_of c.append.new.self.entries.items) (edit_of c.in_ok-entry.entry) _ _ _ _ _ _
-    (ap (λ s. string_bytes s.journal) c.in_ok-entry.ensures.rest) (ap (λ s. edits_of s.entries.items) c.in_ok-entry.ensures.rest)
-    c.in_ok-entry.ensures.path (c.in_ok-entry.ensures.untraced whole) ne c.utf8.path (c.in_ok-entry.ensures.held tells) c.append.ensures.added c.append.ensures.kept c.append.ensures.traced c.append.ensures.refused whole
+returns-clause-told g c = told_ok c.append.result c.entry.new.self.notes.entries c.append.new.self.notes.entries (edit_of c.in_ok-entry.entry) _ _ c.append.ensures.added c.in_ok-entry.ensures.path c.in_ok-entry.ensures.wrote
 
 pub returns-then-tells-clause-stays : goal.returns-then-tells-clause-stays
-returns-then-tells-clause-stays g c = λ ne tells whole. stays_none _ _ _ _ _ _ (makes_none _ _)
+returns-then-tells-clause-stays g c = λ out tells whole. stays_none _ _ _ _ _ _ (makes_none _ _)
+
+pub returns-clause-stays : goal.returns-clause-stays
+returns-clause-stays g c = λ out tells whole.
+    let s = c.args.self.now in
+    let mid = c.entry.new.self in
+    let e = edit_of c.in_ok-entry.entry in
+    let spot : spot_in mid ≡ spot_in s = ap (λ s. spot_in s) c.in_ok-entry.ensures.rest in
+    let notes : mid.notes ≡ s.notes = ap (λ s. s.notes) c.in_ok-entry.ensures.rest in
+    let notable = notable_of s.notes.journal s.notes.entries (g.F.Files.bytes_at s.files) (g.F.Files.bytes_at mid.files) e c.args.path.now c.in_ok-entry.ensures.path (all_same _ _ (c.in_ok-entry.ensures.same tells)) out (c.in_ok-entry.ensures.held tells) in
+    let noted = subst (λ (n : Noted). IsNotable n.journal n.entries (g.F.Files.bytes_at mid.files) e) (sym notes) notable in
+    let look : Stays (spot_in s) s.notes.entries s.notes.entries (g.F.Files.trace s.files) (g.F.Files.trace mid.files) (g.F.Files.bytes_at s.files) (g.F.Files.bytes_at mid.files) = stays_none _ _ _ _ _ _ (c.in_ok-entry.ensures.untraced whole) in
+    stays_join (spot_in s) (spot_in mid) s.notes.entries mid.notes.entries c.append.new.self.notes.entries (g.F.Files.trace s.files) (g.F.Files.trace mid.files) (g.F.Files.trace c.append.new.self.files) (g.F.Files.bytes_at s.files) (g.F.Files.bytes_at mid.files) (g.F.Files.bytes_at c.append.new.self.files)
+    (sym spot) (subst (λ (n : Noted). Stays (spot_in s) s.notes.entries n.entries (g.F.Files.trace s.files) (g.F.Files.trace mid.files) (g.F.Files.bytes_at s.files) (g.F.Files.bytes_at mid.files)) (sym notes) look)
+    (c.append.ensures.stays (λ t. noted) tells whole)

@@ -3,8 +3,8 @@ use Rattle.hack_journal.specs.SafeLaws.{stays_none, makes_none}
 use Rattle.hack_journal.proofs.SafeLemmas.{hides, without_all}
 use Rattle.hack_journal.proofs.journaled.JournaledFiles.read.Goals as goal
 
-pub returns-then-eq-clause-looks : goal.returns-then-eq-clause-looks
-returns-then-eq-clause-looks g c = record {
+pub returns-then-is_of_journal-clause-looks : goal.returns-then-is_of_journal-clause-looks
+returns-then-is_of_journal-clause-looks g c = record {
   stays = (refl, λ tells whole. stays_none _ _ _ _ _ _ (makes_none _ _), g.F.Files.stays_none c.args.self.now.files);
   counted = c.count_failure.ensures;
   same = λ tells q. refl;

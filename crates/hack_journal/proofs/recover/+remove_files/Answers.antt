@@ -1,0 +1,21 @@
+use Rattle.std.proofs.Common.{◌≡◌, ◌-◌, ◌∙◌, List, ℕ, ap, sym, arith}
+use Rattle.hack_journal.specs.Rows.{file_at}
+use Rattle.hack_journal.specs.SafeLaws.{makes_none, stay_none}
+use Rattle.hack_journal.proofs.RecoverLemmas.{back_but_safe, remove_failed, remove_went}
+use Rattle.hack_journal.proofs.recover.+remove_files.Goals as goal
+
+pub returns-then-count-eq0-clause-safe : goal.returns-then-count-eq0-clause-safe
+returns-then-count-eq0-clause-safe g t c = λ whole spot first named but. stay_none spot first _ _ _ _ (makes_none _ _) (back_but_safe spot first c.args.count _ but)
+
+pub returns-in_err-path-clause-safe : goal.returns-in_err-path-clause-safe
+returns-in_err-path-clause-safe g t c = λ whole spot first named but. stay_none spot first _ _ _ _ (makes_none _ _) (back_but_safe spot first c.args.count _ but)
+
+pub returns-in-Ok-clause-safe : goal.returns-in-Ok-clause-safe
+returns-in-Ok-clause-safe g t c = λ whole spot first named but.
+    let path = c.deref.ensures ∙ c.in_ok-path.ensures ∙ ap (λ (j : List ℕ). file_at j (c.args.count - 1)) (sym named) in
+    remove_went spot first c.args.count _ _ _ _ _ _ _ c.if-count-eq0.false (omega (arith, c.ranges.count)) path (c.in-Ok.ensures.traced whole) but (c.remove_files.ensures.safe whole spot first named)
+
+pub returns-clause-safe : goal.returns-clause-safe
+returns-clause-safe g t c = λ whole spot first named but.
+    let path = c.deref.ensures ∙ c.in_ok-path.ensures ∙ ap (λ (j : List ℕ). file_at j (c.args.count - 1)) (sym named) in
+    remove_failed spot first c.args.count _ _ _ _ _ c.if-count-eq0.false (omega (arith, c.ranges.count)) path (c.in-Err.ensures.refused whole) but
