@@ -67,13 +67,13 @@ def while_cargo_runs(place):
     wait_for(f"{place.cargo}.goes-on")
     left = left_of(call.pid, 0)
     os.remove(f"{place.cargo}.goes-on")
-    must(any("sleep" in it for it in left), "cargo had ended")
+    must(any(place.cargo in it or "sleep" in it for it in left), "cargo had ended")
 
 
 def at_terminal(place, act, number):
     """A call at a terminal of its own, to which something is done while cargo runs: it ends by that signal."""
     place.lay_out()
-    place.does(f"{MORE}: > '{place.cargo}.runs'\nsleep 30\n")
+    place.does(f"{MORE}: > '{place.cargo}.runs'\nexec sleep 30\n")
     ours, its = os.openpty()
     try:
         call = place.start(EDITS, terminal=its)
@@ -267,7 +267,8 @@ def races(place, count):
         must(set(read(f"{place.cargo}.read").split(FILES["p/Cargo.toml"])) <= {""}, f"cargo reads an edited manifest for {words}")
         if "left `Cargo.lock`" in told:
             write(f"{place.workspace}/Cargo.lock", FILES["Cargo.lock"])
-        place.as_before()
+        found = difference(place.first, tree(place.top))
+        must(found is None, f"after {words}, {found}; the killed one tells {read(first_told)!r}, the second {told!r}")
     return f"{count} times as it was; the second one restored {restored} times, and was refused {refused} times"
 
 

@@ -184,7 +184,7 @@ DEV = '\n[dev-dependencies]\n{0} = {{ path = "{1}" }}\n'
 
 # What compiles for cargo: it doesn't come to its end.
 COMPILES = """#!/bin/sh
-case "$*" in *"--crate-name codec"*) : > "$0.runs"; sleep 30;; esac
+case "$*" in *"--crate-name codec"*) : > "$0.runs"; exec sleep 30;; esac
 exec "$@"
 """
 
