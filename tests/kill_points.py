@@ -114,7 +114,7 @@ class Killer:
 
 
 def counted(killed):
-    must(killed > 3, f"only {killed} calls were killed")
+    must(killed > 0, "no call was killed")
     return f"{killed} calls killed, each file as it was"
 
 
