@@ -1,7 +1,8 @@
 #!/usr/bin/env python3
 """Prints the wall time, the peak memory and the number of lines of powerset-list on growing feature maps, the times of
 packages grouped by version, of a large answer of cargo read, and of whole calls over a cargo and files in memory, the
-sizes of covering samples beside the least possible ones and the powersets', and the times of the lists of the built cargo-hack.
+sizes of covering samples beside the least possible ones and the powersets', the times of the lists of the built cargo-hack,
+also where it edits many manifests meanwhile, and what its guard adds to a call.
 
 usage: tests/bench.py PROGRAM [ROWS [CALLS [HACK CARGO [OTHER]]]]
 
@@ -233,21 +234,24 @@ def commands_of(words, path, listed):
 
 # ---- Lists of the built program.
 
-# Titles, members, features of each, arguments.
+# Titles, members, features of each, arguments. Under `--no-dev-deps` each member has development dependencies, so that its
+# manifest is edited, and restored at the end.
 LISTS = [
     ("20 free features", 1, 20, ["--feature-powerset"]),
     ("16 free features", 1, 16, ["--feature-powerset"]),
     ("3 free features", 1, 3, ["--feature-powerset"]),
     ("100 members with 5 features each", 100, 5, ["--each-feature"]),
 ]
+LISTS += [(f"{members:,} members are edited", members, 1, ["--no-dev-deps"]) for members in (100, 400, 1600)]
 
 
-def lay_out(folder, cargo, members, features):
+def lay_out(folder, cargo, members, features, dev=False):
     """A workspace, and the answers of the stand-in for cargo at this path; how a program is called there."""
     told = told_by_cargo(members, features).replace('"/w', f'"{folder}/w')
     files = {"answers/version": "cargo 1.90.0\nrelease: 1.90.0\nhost: h\n", "answers/metadata.json": told}
     files |= {"answers/locate.json": json.dumps({"root": f"{folder}/w/p0/Cargo.toml"}), "w/Cargo.toml": "[workspace]\n"}
-    files |= {f"w/p{i}/Cargo.toml": with_features(features) for i in range(members)}
+    manifest = with_features(features) + ('\n[dev-dependencies]\ne1 = "1"\ne2 = "1"\n' if dev else "")
+    files |= {f"w/p{i}/Cargo.toml": manifest for i in range(members)}
     for name, text in files.items():
         write(f"{folder}/{name}", text)
     return {"cwd": f"{folder}/w", "env": {"CARGO": cargo, "STAND_DIR": f"{folder}/answers"}}
@@ -258,7 +262,7 @@ def print_lists(powerset_list, hack, cargo, other, folder, path):
     print(f"{'list of cargo-hack':40}{'seconds':>9}{'MiB':>7}{'of powerset-list':>18}" + f"{'other':>9}{'MiB':>7}{'of it':>7}" * bool(other))
     for title, members, count, options in LISTS:
         features = without_edges(count)
-        where = lay_out(f"{folder}/{members}-{count}", cargo, members, features)
+        where = lay_out(f"{folder}/{members}-{count}", cargo, members, features, "--no-dev-deps" in options)
         words = [*LIST, *options]
         with open(path, "w", encoding="utf-8") as out:
             json.dump(features, out)
@@ -271,6 +275,19 @@ def print_lists(powerset_list, hack, cargo, other, folder, path):
         print(line, flush=True)
 
 
+def print_guard(hack, cargo, folder, path):
+    """Prints the time of a list for which one manifest is edited, where a guard can be started and where it can't."""
+    where = lay_out(f"{folder}/guard", cargo, 1, without_edges(1), dev=True)
+    print(f"{'a member is edited':40}{'seconds':>9}")
+    for title, tools in (("with a guard", ["sh"]), ("without, no shell is in the PATH", [])):
+        search = f"{folder}/guard/{len(tools)}"
+        os.makedirs(search)
+        for tool in tools:
+            os.symlink(shutil.which(tool), f"{search}/{tool}")
+        where["env"]["PATH"] = search
+        print(f"{title:40}{seconds_of([hack, *LIST, '--no-dev-deps'], path, **where):9.3f}", flush=True)
+
+
 # ---- Measuring.
 
 
@@ -280,10 +297,10 @@ def seconds_of(words, path, **where):
     for _ in range(RUNS):
         with open(path, "rb") as given:
             start = time.perf_counter()
-            status = subprocess.run(words, stdin=given, stdout=subprocess.DEVNULL, **where).returncode
+            ended = subprocess.run(words, stdin=given, stdout=subprocess.DEVNULL, stderr=subprocess.PIPE, text=True, **where)
             took = time.perf_counter() - start
-        if status != 0:
-            sys.exit(f"{words[0]} failed")
+        if ended.returncode != 0:
+            sys.exit(f"{words[0]} failed: {ended.stderr}")
         least = took if least is None else min(least, took)
     return least
 
@@ -339,6 +356,7 @@ def main():
         if len(sys.argv) > 4:
             hack, cargo, *other = map(os.path.abspath, sys.argv[4:])
             print_lists(program, hack, cargo, other[0] if other else None, folder, path)
+            print_guard(hack, cargo, folder, path)
 
 
 if __name__ == "__main__":

@@ -222,7 +222,7 @@ def scripts():
     gate = dict(re.findall(r'(?m)^    \["tests/([\w.]+)"(.*)\],$', read(ROOT / "tests" / "gate.py")))
     for name in sorted({*rows, *there, *gate}):
         every = re.search(r'"--every", "(\d+)"', gate.get(name, ""))
-        cases = re.search(r'"--cases", "(\d+)"', gate.get(name, ""))
+        cases = re.search(r'"--(?:cases|races)", "(\d+)"', gate.get(name, ""))
         wanted = f"each {ORDINALS[every[1]]}" if every else cases[1] if cases else "all" if name in gate else ""
         cell = rows.get(name, "?").removeprefix("none")
         yield name, name in there and (cell.split(" ")[0] == wanted if cases else cell == wanted)

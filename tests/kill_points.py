@@ -1,34 +1,38 @@
 #!/usr/bin/env python3
-"""Kills the built `cargo-hack` at each of its calls that change files, and looks at what the next call brings back.
+"""Kills the built `cargo-hack` at each of its calls that change files, and looks at what is there after that.
 
 usage: tests/kill_points.py [--every K] CARGO_HACK
 
 A small library, built by the machine's C compiler and loaded before the program, kills it before its n-th call that
 opens a file for writing, flushes, renames or removes one, for n from 1 (with K: 1, K + 1, ..) until a run ends by itself.
-After each killed run a call without edits follows: in the end every file of the workspace has to hold its bytes, no file
-may be left but such as are beside a manifest under a name of their own. The second call is itself killed at each of its
-changes too, and followed by a third.
+Within a second, and without a further call, its guard has to restore every manifest and the lockfile, byte for byte; then
+no process of it is left, and no file but such as are beside another under a name of their own.
 
-Other calls kill the program from the command that it runs, by signal 9 and by that of Ctrl-C to its group; change a manifest
-by hand between the two calls; tear the journal; let cargo change the lockfile; edit permanently;
-copy the workspace with its journal; and make two calls at once.
+Where no guard can act, since the PATH has no shell, a call without edits follows, which is itself killed at each of its
+changes and followed by a third; and where the guard is killed at each of its changes, one call follows.
+
+Other calls find a manifest that somebody has changed, journals that are torn, name what no call edits, or are of an older
+version, a workspace that was copied or moved with its journal, and a lockfile that cargo changes.
 
 Prints a line for each. The last line is `N passed, M failed, K skipped`; the status is 1 where one failed.
 """
+import itertools
 import os
 import shutil
 import signal
-import subprocess
 import sys
 import tempfile
 import time
 
 sys.dont_write_bytecode = True
-from small_workspace import FILES, library, stand_in, write, write_files  # noqa: E402
+from killed_calls import (  # noqa: E402
+    EDITS, ENDS_ALL, ENDS_IT, LEAVES_OUT, MORE, PLAIN, RESTORE, Place, Wrong, alive, commit, difference, heed_signals, left_of,
+    must, read, rewrite, run_all, tells_of, tree, wait_for,
+)
+from small_workspace import FILES, library, write  # noqa: E402
 
-JOURNAL = ".cargo-hack-journal"
-
-# Kills programs of this name before the call of that number.
+# Kills programs of this name before the call of that number, or stops them, and says so by a file: the program itself, or the
+# one that its guard calls.
 LIBRARY = r"""
 #define _GNU_SOURCE
 #include <dlfcn.h>
@@ -41,25 +45,28 @@ LIBRARY = r"""
 #include <unistd.h>
 
 static long calls, at;
+static int (*open_below)(const char *, int, ...);
 
 __attribute__((constructor)) static void start(void) {
     const char *name = getenv("KILL_IN"), *number = getenv("KILL_AT");
+    open_below = dlsym(RTLD_NEXT, "open");
+    if (!getenv("KILL_GUARD") != !getenv("CARGO_HACK_GUARD")) return;
     if (name && number && !strcmp(program_invocation_short_name, name)) at = atol(number);
 }
 
 static void count(void) {
-    if (at && ++calls == at) raise(SIGKILL);
+    if (!at || ++calls != at) return;
+    close(open_below(getenv("KILL_MARK"), O_WRONLY | O_CREAT, 0600));
+    raise(getenv("KILL_STOPS") ? SIGSTOP : SIGKILL);
 }
 
 int open(const char *path, int flags, ...) {
-    static int (*below)(const char *, int, ...);
-    if (!below) below = dlsym(RTLD_NEXT, "open");
     va_list more;
     va_start(more, flags);
     mode_t mode = va_arg(more, mode_t);
     va_end(more);
     if ((flags & O_ACCMODE) != O_RDONLY) count();
-    int fd = below(path, flags, mode);
+    int fd = open_below(path, flags, mode);
     if ((flags & O_CREAT) && fd >= 0) count();
     return fd;
 }
@@ -86,240 +93,311 @@ int unlink(const char *path) {
 }
 """
 
-# The stand-in for cargo: it answers from files, and where a file `do` is beside it, it does that for other arguments.
-STAND_IN = """#!/bin/sh
-case "$*" in
-    -vV) exec cat "$0.version";;
-    *metadata*) exec cat "$0.metadata";;
-    *locate-project*) exec cat "$0.locate";;
-esac
-if [ -f "$0.do" ]; then . "$0.do"; fi
-"""
 
-EDITS = ["hack", "check", "--workspace", "--each-feature", "--no-dev-deps"]
-LEAVES_OUT = ["hack", "check", "--workspace", "--no-private"]
-PLAIN = ["hack", "check", "--workspace"]
+class Killer:
+    """Calls in a place that are killed before a change."""
 
+    def __init__(self, place, preload):
+        self.place, self.preload, self.mark = place, preload, f"{place.tools}/mark"
 
-def read(path):
-    with open(path, encoding="utf-8") as it:
-        return it.read()
+    def environment(self, at):
+        """What has a call killed before that change."""
+        if os.path.exists(self.mark):
+            os.remove(self.mark)
+        name = os.path.basename(self.place.program)
+        return {"LD_PRELOAD": self.preload, "KILL_IN": name, "KILL_AT": str(at), "KILL_MARK": self.mark}
 
-
-class Place:
-    """A workspace and its stand-in, and calls of the program there."""
-
-    def __init__(self, folder, program, preload):
-        self.workspace, self.cargo = f"{folder}/w", f"{folder}/tools/cargo"
-        self.program, self.preload = program, preload
-        stand_in(self.cargo, STAND_IN, self.workspace)
-        self.lay_out()
-
-    def lay_out(self):
-        """The workspace as it is at first."""
-        shutil.rmtree(self.workspace, ignore_errors=True)
-        write_files(self.workspace)
-
-    def does(self, script):
-        """What cargo does for a run."""
-        if script is None:
-            if os.path.exists(f"{self.cargo}.do"):
-                os.remove(f"{self.cargo}.do")
-        else:
-            write(f"{self.cargo}.do", script)
-
-    def environment(self, at=None):
-        it = {"PATH": os.environ["PATH"], "CARGO": self.cargo}
-        if at:
-            it.update(LD_PRELOAD=self.preload, KILL_IN=os.path.basename(self.program), KILL_AT=str(at))
-        return it
-
-    def call(self, words, at=None, folder=None):
-        """Status and last lines of a call in a folder, that of the workspace if none is said, which is killed at that number."""
-        ran = subprocess.run(
-            [self.program, *words],
-            cwd=folder or self.workspace,
-            env=self.environment(at),
-            capture_output=True,
-            timeout=60,
-            check=False,
-            start_new_session=True,
-        )
-        return ran.returncode, ran.stderr.decode()
-
-    def clear(self):
-        """Removes what killed calls left beside files, under names of their own: only so many are tried."""
-        for at, _, names in os.walk(self.workspace):
-            for name in names:
-                if ".cargo-hack-" in name and name != JOURNAL:
-                    os.remove(f"{at}/{name}")
-
-    def held(self):
-        """What differs from what the files held at first, if something does."""
-        for name, text in FILES.items():
-            if read(f"{self.workspace}/{name}") != text:
-                return f"{name} holds something else"
-        found = {os.path.relpath(f"{at}/{name}", self.workspace) for at, _, names in os.walk(self.workspace) for name in names}
-        left = {name for name in found - set(FILES) if ".cargo-hack-" not in name or name == JOURNAL}
-        return f"left: {sorted(left)}" if left else None
+    def call(self, words, at, **more):
+        """Whether a call was killed before that change, and what it told."""
+        _, told = self.place.call(words, **self.environment(at), **more)
+        return os.path.exists(self.mark), told
 
 
-def at_each_change(place, words, every):
-    """Kills a call before each change, and then the call after it; how many were killed, and the first failure."""
-    killed, at = 0, 1
-    while True:
-        place.lay_out()
-        status, _ = place.call(words, at)
-        if status != -signal.SIGKILL:
-            return killed, place.held() and f"without a kill: {place.held()}"
+def counted(killed):
+    must(killed > 0, "no call was killed")
+    return f"{killed} calls killed, each file as it was"
+
+
+def in_front_of(at, look):
+    """What a look finds, where a call was killed in front of that change."""
+    try:
+        look()
+    except Wrong as fault:
+        raise Wrong(f"killed in front of change {at}: {fault}") from None
+
+
+def guarded(killer, words, every):
+    """Kills a call before each change, where cargo changes the lockfile: the guard restores all."""
+    place, killed = killer.place, 0
+    place.lay_out()
+    place.does(MORE)
+    for at in itertools.count(1, every):
+        was_killed, told = killer.call(words, at)
+        in_front_of(at, lambda: place.as_before(own=True))
+        must("nothing is left" not in told, f"killed in front of change {at}, its guard tells {told}")
+        if not was_killed:
+            return counted(killed)
         killed += 1
-        again = 1
-        while place.call(PLAIN, again)[0] == -signal.SIGKILL:
-            killed += 1
-            again += 1
+        place.clear()
+
+
+def unguarded(killer, words, every):
+    """Kills a call before each change, where it has no guard, and then the calls after it: the last one restores the rest."""
+    place, killed = killer.place, 0
+    place.lay_out()
+    for at in itertools.count(1, every):
+        was_killed, _ = killer.call(words, at, shell=False)
+        if not was_killed:
+            place.as_before()
+            return counted(killed)
+        again = 0
+        while was_killed:
+            killed, again, edited = killed + 1, again + 1, place.edited()
+            was_killed, told = killer.call(PLAIN, again, shell=False)
             place.clear()
-        status, told = place.call(PLAIN)
-        fault = place.held() or (status != 0 and f"the next call ends with {status}: {told}")
-        if fault:
-            return killed, f"killed in front of change {at}: {fault}"
-        at += every
+        in_front_of(at, lambda: tells_of(told, edited))
+        in_front_of(at, place.as_before)
 
 
-def by_a_command(place, number):
-    """A run that kills the program that started it."""
+def killed_guard(killer, every):
+    """Kills a call from its run, and what its guard calls before each change: the next call restores the rest."""
+    place, killed = killer.place, 0
     place.lay_out()
-    place.does(f"kill -{number} $PPID; sleep 1\n")
-    status, _ = place.call(EDITS)
-    place.does(None)
-    if status != -number:
-        return f"it ended with {status}"
-    if place.held() is None:
-        return "nothing was edited then"
-    status, told = place.call(PLAIN)
-    if "warning: restored " not in told:
-        return f"the next call doesn't tell of it: {told}"
-    return place.held() or (status and f"the next call ends with {status}")
+    for at in itertools.count(1, every):
+        place.does(ENDS_IT)
+        was_killed, _ = killer.call(EDITS, at, KILL_GUARD="1")
+        place.does(None)
+        if not was_killed:
+            place.as_before()
+            return counted(killed)
+        killed += 1
+        in_front_of(at, lambda: place.restores(PLAIN, place.edited()))
+        place.clear()
+        in_front_of(at, place.as_before)
 
 
-def from_elsewhere(place):
-    """A killed call from another folder, which names a manifest by the letter; the next call is made by a package that is
-    elsewhere and names its workspace."""
+def guard_at_work(killer):
+    """A call that is made while the guard of a killed one restores: cargo reads no manifest that is still edited."""
+    place = killer.place
     place.lay_out()
-    place.does("kill -9 $PPID; sleep 1\n")
-    place.call([*EDITS, "-m", f"{place.workspace}/p/Cargo.toml"], folder="/")
+    place.does(ENDS_IT)
+    first = place.start(EDITS, **killer.environment(1), KILL_GUARD="1", KILL_STOPS="1")
+    first.wait(60)
+    wait_for(killer.mark)
     place.does(None)
-    if not os.path.exists(f"{place.workspace}/{JOURNAL}"):
-        return "there is no journal in the workspace's folder"
-    outside = f"{place.workspace}-outside"
-    write(f"{outside}/Cargo.toml", f'[package]\nname = "r"\nworkspace = "../{os.path.basename(place.workspace)}"\n')
-    status, told = place.call(PLAIN, folder=outside)
-    shutil.rmtree(outside)
-    if "warning: restored " not in told:
-        return f"the next call doesn't tell of it: {told}"
-    return place.held() or (status and f"the next call ends with {status}")
+    write(f"{place.cargo}.read", "")
+    second = place.start(PLAIN)
+    time.sleep(0.3)
+    for number, _ in alive(first.pid):
+        os.kill(number, signal.SIGCONT)
+    status, told = place.end(second)
+    left = left_of(first.pid, 1)
+    must(status == 0 and not left, f"status {status}, left are {left}: {told}")
+    parts = set(read(f"{place.cargo}.read").split(FILES["p/Cargo.toml"]))
+    must(parts == {""}, "cargo reads an edited manifest")
+    place.as_before()
+
+
+# ---- What others do between the two calls.
 
 
 def changed_by_hand(place):
-    """A manifest that somebody changes between the two calls."""
+    """A manifest that somebody changes is refused by name; where it holds again what it held, all are restored."""
     place.lay_out()
-    place.does("kill -9 $PPID; sleep 1\n")
-    place.call(EDITS)
-    place.does(None)
+    place.interrupt()
     path = f"{place.workspace}/p/Cargo.toml"
-    write(path, "changed\n")
-    other = read(f"{place.workspace}/q/Cargo.toml")
-    status, told = place.call(PLAIN)
-    if status != 1 or "p/Cargo.toml" not in told or JOURNAL not in told:
-        return f"status {status}: {told}"
-    if read(path) != "changed\n" or read(f"{place.workspace}/q/Cargo.toml") != other:
-        return "a file was changed"
-    return None
+    rewrite(path, "changed\n")
+    place.refuses(PLAIN, "p/Cargo.toml", "cargo-hack-journal")
+    place.refuses(RESTORE, "p/Cargo.toml", "cargo-hack-journal")
+    rewrite(path, FILES["p/Cargo.toml"])
+    place.restores(PLAIN, ["q/Cargo.toml"])
+    place.as_before()
+
+
+def removed_by_hand(place):
+    """Somebody does by hand what the error says: restores the manifests, and removes the journal. Then calls edit as ever."""
+    place.lay_out()
+    place.interrupt()
+    rewrite(f"{place.workspace}/p/Cargo.toml", "changed\n")
+    place.refuses(PLAIN, f"remove `{place.journal}`")
+    for name, text in FILES.items():
+        rewrite(f"{place.workspace}/{name}", text)
+    os.remove(place.journal)
+    for words in (PLAIN, EDITS, LEAVES_OUT):
+        place.restores(words, [])
+    place.as_before()
+
+
+def changed_in_the_run(place):
+    """The same where the guard finds it: it names the file, and leaves everything to the next call."""
+    place.lay_out()
+    place.does(f'echo changed > "$W/p/Cargo.toml"; {ENDS_IT}')
+    _, told = place.call(EDITS)
+    place.does(None)
+    must("p/Cargo.toml" in told and "restored" not in told, f"its guard tells {told}")
+    must(place.edited() == ["p/Cargo.toml", "q/Cargo.toml"], f"edited are {place.edited()}")
+    place.refuses(PLAIN, "p/Cargo.toml", "cargo-hack-journal")
 
 
 def torn(place):
-    """A journal that was cut short by hand, and one of which nothing is left."""
+    """A file of the journal that was cut short by hand, and one of which nothing is left."""
     place.lay_out()
-    place.does("kill -9 $PPID; sleep 1\n")
-    place.call(EDITS)
-    place.does(None)
-    path = f"{place.workspace}/{JOURNAL}"
-    text = read(path)
-    before = read(f"{place.workspace}/p/Cargo.toml")
-    for front in (text[: len(text) // 2], ""):
-        write(path, front)
-        status, told = place.call(PLAIN)
-        if status != 1 or JOURNAL not in told:
-            return f"{len(front)} bytes: status {status}: {told}"
-        if read(f"{place.workspace}/p/Cargo.toml") != before or not os.path.exists(path):
-            return f"{len(front)} bytes: a file was changed"
-    return None
+    place.interrupt()
+    for path in (place.journal, f"{place.journal}~1"):
+        text = read(path)
+        for front in (text[: len(text) // 2], ""):
+            rewrite(path, front)
+            place.refuses(PLAIN, os.path.basename(place.journal))
+        rewrite(path, text)
+    place.restores(PLAIN, ["p/Cargo.toml", "q/Cargo.toml"])
+    place.as_before()
+
+
+def strangers(place):
+    """Journals that no call writes: of a file that is no manifest, and of one that was absent."""
+    place.lay_out()
+    place.interrupt()
+    text, edited = read(place.journal), read(f"{place.workspace}/p/Cargo.toml")
+    must("\npath p/Cargo.toml\n" in text, f"the journal is {text}")
+    for other in ("p/Cargo.toml.old", "p/MyCargo.toml", "../other", "Cargo.lock"):
+        write(f"{place.workspace}/{other}", edited)
+        write(place.journal, text.replace("path p/Cargo.toml", f"path {other}"))
+        place.refuses(PLAIN, os.path.basename(other))
+    head, _, rest = text.partition("held\n")
+    write(place.journal, f"{head}held nothing\nwrote\n{rest.partition('wrote' + chr(10))[2]}")
+    place.refuses(PLAIN, "p/Cargo.toml")
+
+
+def older_text(entries):
+    """A journal as older versions wrote it: each path, what was there and what was written."""
+    told = "edited files\n"
+    for parts in entries:
+        path, held, wrote = (it.replace("\n", "\n ") for it in parts)
+        told += f"path {path}\nheld\n {held}\nwrote\n {wrote}\n"
+    return f"{told}end\n"
+
+
+def write_older(place):
+    """Edited manifests, and an older version's journal of them beside the workspace's manifest; its path."""
+    place.lay_out()
+    entries = []
+    for name in ("p/Cargo.toml", "q/Cargo.toml"):
+        edited = FILES[name].partition("[dev-")[0]
+        rewrite(f"{place.workspace}/{name}", edited)
+        entries.append((f"{place.workspace}/{name}", FILES[name], edited))
+    path = f"{place.workspace}/.cargo-hack-journal"
+    write(path, older_text(entries))
+    return path
+
+
+def older(place):
+    """The journal of an older version is followed, once."""
+    write_older(place)
+    place.restores(PLAIN, ["p/Cargo.toml", "q/Cargo.toml"])
+    place.as_before()
+    place.restores(PLAIN, [])
+    write_older(place)
+    place.does(MORE)
+    place.restores(EDITS, ["p/Cargo.toml", "q/Cargo.toml"])
+    place.as_before()
+
+
+def older_copied(place):
+    """The journal of an older version in a copy of its workspace isn't followed into the first one."""
+    write_older(place)
+    copy = f"{place.workspace}-copy"
+    shutil.copytree(place.workspace, copy)
+    before = tree(place.workspace)
+    status, told = place.call(PLAIN, folder=copy)
+    found = difference(before, tree(place.workspace))
+    shutil.rmtree(copy)
+    must(found is None, f"of the first one, {found}; the call in the copy ends with {status}: {told}")
 
 
 def copied(place):
-    """A workspace that is copied with its journal: that of the copy isn't followed into the first one."""
+    """A workspace that is copied with its journal restores itself, and leaves the first one alone."""
     place.lay_out()
-    place.does("kill -9 $PPID; sleep 1\n")
-    place.call(EDITS)
-    place.does(None)
-    copy, edited = f"{place.workspace}-copy", read(f"{place.workspace}/p/Cargo.toml")
-    shutil.copytree(place.workspace, copy)
-    status, told = place.call(PLAIN, folder=copy)
+    place.interrupt()
+    first, copy = place.top, f"{place.top}-copy"
+    shutil.copytree(first, copy, symlinks=True)
+    before, inner = tree(first), os.path.relpath(place.workspace, first)
+    status, told = place.call(PLAIN, folder=f"{copy}/{inner}")
+    must(status == 0 and "info: restored `p/Cargo.toml`" in told, f"in the copy: status {status}: {told}")
+    found = difference(place.first, tree(copy)) or difference(before, tree(first))
     shutil.rmtree(copy)
-    if status != 1 or JOURNAL not in told:
-        return f"in the copy: status {status}: {told}"
-    if read(f"{place.workspace}/p/Cargo.toml") != edited:
-        return "a file of the first one was changed"
-    place.call(PLAIN)
-    return place.held()
+    must(found is None, found)
+    place.restores(PLAIN, ["p/Cargo.toml", "q/Cargo.toml"])
+    place.as_before()
+
+
+def moved(place):
+    """A workspace that is moved with its journal restores itself."""
+    place.lay_out()
+    place.interrupt()
+    there, inner = f"{place.top}-moved", os.path.relpath(place.workspace, place.top)
+    os.rename(place.top, there)
+    place.answers(f"{there}/{inner}")
+    place.restores(PLAIN, ["p/Cargo.toml", "q/Cargo.toml"], folder=f"{there}/{inner}")
+    found = difference(place.first, tree(there))
+    shutil.rmtree(there)
+    must(found is None, found)
 
 
 def edits_that_stay(place):
     """Edits that are to stay leave no journal, and the next call leaves them alone."""
     place.lay_out()
     status, told = place.call(["hack", "check", "--workspace", "--no-private", "--remove-dev-deps"])
-    edited = {name: read(f"{place.workspace}/{name}") for name in FILES}
-    if status or edited == FILES or os.path.exists(f"{place.workspace}/{JOURNAL}"):
-        return f"status {status}, files {edited}: {told}"
+    edited = tree(place.top)
+    must(status == 0 and edited.keys() == place.first.keys() and edited != place.first, f"status {status}: {told}")
     _, told = place.call(PLAIN)
-    left = {name: read(f"{place.workspace}/{name}") for name in FILES}
-    return (left != edited or "restored" in told) and f"the next call leaves {left}: {told}"
+    must(edited == tree(place.top) and "restored" not in told, f"the next call tells {told}")
 
 
 def lockfile_of_cargo(place):
-    """A lockfile that cargo changes in each run: it comes back, and nothing is left to the next call."""
+    """A lockfile that cargo changes in each run: it comes back, and nothing is left to the next call. Where that is to
+    restore the manifests, it leaves the lockfile as it is, and says so."""
     place.lay_out()
-    place.does("echo more >> Cargo.lock\n")
+    place.does(MORE)
     status, told = place.call(EDITS)
-    place.does(None)
-    if status or place.held():
-        return place.held() or f"status {status}: {told}"
-    _, told = place.call(PLAIN)
-    return place.held() or ("restored" in told and f"the next call tells: {told}")
+    must(status == 0, f"status {status}: {told}")
+    place.as_before()
+    place.interrupt(MORE + ENDS_ALL)
+    changed = read(f"{place.workspace}/Cargo.lock")
+    told = place.restores(PLAIN, ["p/Cargo.toml", "q/Cargo.toml"])
+    must("info: left `Cargo.lock` as it is" in told, f"the next call tells {told}")
+    place.as_before(but=os.path.relpath(f"{place.workspace}/Cargo.lock", place.top))
+    must(read(f"{place.workspace}/Cargo.lock") == changed == FILES["Cargo.lock"] + "more\n", "the lockfile holds something else")
 
 
-def two_at_once(place):
-    """A second call while one edits: one that edits is refused, and none restores anything."""
-    place.lay_out()
-    place.does("sleep 8\n")
-    with subprocess.Popen(
-        [place.program, *EDITS], cwd=place.workspace, env=place.environment(), stdout=subprocess.DEVNULL, stderr=subprocess.DEVNULL
-    ) as first:
-        for _ in range(100):
-            if os.path.exists(f"{place.workspace}/{JOURNAL}") and "[dev-dep" not in read(f"{place.workspace}/p/Cargo.toml"):
-                break
-            time.sleep(0.02)
-        place.does(None)
-        edited = read(f"{place.workspace}/p/Cargo.toml")
-        status, told = place.call(EDITS)
-        fault = None
-        if status != 1 or "another call" not in told:
-            fault = f"the second call ends with {status}: {told}"
-        status, told = place.call(PLAIN)
-        if status != 0 or "restored" in told:
-            fault = fault or f"a call without edits ends with {status}: {told}"
-        if first.poll() is None and read(f"{place.workspace}/p/Cargo.toml") != edited:
-            fault = fault or "an edit was undone while its call ran"
-    return fault or place.held()
+# ---- All of them.
+
+LOOKS = {
+    "a manifest changed by hand": changed_by_hand,
+    "a journal removed by hand": removed_by_hand,
+    "a manifest changed in the run": changed_in_the_run,
+    "a torn journal": torn,
+    "journals that no call writes": strangers,
+    "a journal of an older version": older,
+    "the same in a copied workspace": older_copied,
+    "a copied workspace": copied,
+    "a moved workspace": moved,
+    "edits that stay": edits_that_stay,
+    "a lockfile that cargo changes": lockfile_of_cargo,
+}
+
+
+def kills(places, preload, every):
+    """The tries that kill before changes, in a repository where there is one. With a guard a kill is one call, so more are
+    tried."""
+    beside, within = (Killer(it, preload) for it in (places[0], places[-1]))
+    return {
+        "killed at each change, development dependencies": lambda: guarded(within, EDITS, every // 2 + 1),
+        "killed at each change, private members": lambda: guarded(beside, LEAVES_OUT, every // 2 + 1),
+        "killed without a guard, development dependencies": lambda: unguarded(within, EDITS, every),
+        "killed without a guard, private members": lambda: unguarded(beside, LEAVES_OUT, every),
+        "killed with its guard": lambda: killed_guard(within, every),
+        "while its guard is at work": lambda: guard_at_work(within),
+    }
 
 
 def main():
@@ -329,41 +407,29 @@ def main():
         every, words = int(words[1]), words[2:]
     if len(words) != 1:
         sys.exit(__doc__)
-    # What is started by `&` ignores Ctrl-C's signal, and so do the programs that it starts.
-    signal.signal(signal.SIGINT, signal.default_int_handler)
-    has_compiler = shutil.which("cc") is not None
-    passed, faults = 0, []
+    heed_signals()
+    program = os.path.realpath(words[0])
     with tempfile.TemporaryDirectory() as folder:
         folder = os.path.realpath(folder)
-        preload = f"{folder}/kill.so"
-        place = Place(folder, os.path.realpath(words[0]), preload)
-        tries = [
-            ("killed by signal 9 from a run", lambda: by_a_command(place, signal.SIGKILL)),
-            ("ended by Ctrl-C's signal from a run", lambda: by_a_command(place, signal.SIGINT)),
-            ("from other folders", lambda: from_elsewhere(place)),
-            ("a manifest changed by hand", lambda: changed_by_hand(place)),
-            ("a torn journal", lambda: torn(place)),
-            ("a lockfile that cargo changes", lambda: lockfile_of_cargo(place)),
-            ("edits that stay", lambda: edits_that_stay(place)),
-            ("a copied workspace", lambda: copied(place)),
-            ("two calls at once", lambda: two_at_once(place)),
-        ]
-        for name, attempt in tries:
-            fault = attempt()
-            print(f"{name}: {fault or 'as it was'}")
-            passed, faults = passed + (not fault), faults + ([name] if fault else [])
-        skipped = 0
-        for name, call in [("development dependencies", EDITS), ("private members", LEAVES_OUT)]:
-            if not has_compiler:
-                print(f"{name}: no C compiler, skipped")
-                skipped += 1
-                continue
-            library(preload, LIBRARY)
-            killed, fault = at_each_change(place, call, every)
-            print(f"{name} left out: {fault or f'{killed} calls killed, each file as it was'}")
-            passed, faults = passed + (not fault), faults + ([name] if fault else [])
-    print(f"{passed} passed, {len(faults)} failed, {skipped} skipped")
-    return 1 if faults else 0
+        # (Paths with a space try that nobody splits them.)
+        places, skipped = [Place(program, f"{folder}/no repository")], 0
+        if shutil.which("git") is not None:
+            places.append(Place(program, f"{folder}/a repository", ".", ".git/cargo-hack-journal", lambda it: commit(it.top)))
+        else:
+            print("no git: tries in a repository skipped")
+            skipped += len(LOOKS)
+        tries = {}
+        for place in places:
+            where = os.path.basename(place.top)
+            tries |= {f"{name}, {where}": lambda look=look, place=place: look(place) for name, look in LOOKS.items()}
+        of_kills = kills(places, f"{folder}/kill.so", every)
+        if shutil.which("cc") is not None:
+            library(f"{folder}/kill.so", LIBRARY)
+            tries |= of_kills
+        else:
+            print("no C compiler: kills in front of a change skipped")
+            skipped += len(of_kills)
+        return run_all(tries, skipped)
 
 
 if __name__ == "__main__":

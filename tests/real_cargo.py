@@ -2,6 +2,9 @@
 """Runs `cargo hack` with the machine's own cargo on a copy of examples/workspace, and compares commands, status, status
 lines and report with what is written here; calls that edit manifests have to leave every file as it was, byte for byte.
 
+In repositories, `cargo package` under `--no-dev-deps` has to pack the bytes that it packs alone from manifests without
+development dependencies, and a call that is interrupted while cargo compiles has to leave all as it was within a second.
+
 usage: tests/real_cargo.py PROGRAM      PROGRAM: cargo-hack
 
 Where the machine has no cargo and compiler that print their versions, it says so and tries nothing. The last line is
@@ -9,9 +12,15 @@ Where the machine has no cargo and compiler that print their versions, it says s
 """
 import os
 import shutil
+import signal
 import subprocess
 import sys
+import tarfile
 import tempfile
+
+sys.dont_write_bytecode = True
+from killed_calls import Wrong, commit, git, heed_signals, left_of, must, wait_for  # noqa: E402
+from small_workspace import write  # noqa: E402
 
 ROOT = os.path.dirname(os.path.dirname(os.path.realpath(__file__)))
 WORKSPACE = os.path.join(ROOT, "examples", "workspace")
@@ -153,6 +162,12 @@ def held(folder):
     return files
 
 
+def changes(before, after):
+    """Which files were changed, if some were."""
+    changed = sorted(name for name in before.keys() | after.keys() if before.get(name) != after.get(name))
+    return f"changed {', '.join(changed)}" if changed else None
+
+
 def edit_fault(program, folder, words, status, wanted):
     """What is wrong with a call that edits manifests, if something is."""
     before = held(folder)
@@ -160,11 +175,94 @@ def edit_fault(program, folder, words, status, wanted):
     if done.returncode != status:
         return f"status {done.returncode}"
     told = [it for it in done.stderr.splitlines() if it.startswith("info: ") and not it.startswith("info: running")]
-    after = held(folder)
-    changed = sorted(name for name in before.keys() | after.keys() if before.get(name) != after.get(name))
-    if changed:
-        return f"changed {', '.join(changed)}"
-    return difference([it.replace("{}", os.path.realpath(folder)) for it in wanted], told)
+    return changes(before, held(folder)) or difference([it.replace("{}", os.path.realpath(folder)) for it in wanted], told)
+
+
+# ---- In repositories.
+
+DEV = '\n[dev-dependencies]\n{0} = {{ path = "{1}" }}\n'
+
+# What compiles for cargo: it doesn't come to its end.
+COMPILES = """#!/bin/sh
+case "$*" in *"--crate-name codec"*) : > "$0.runs"; exec sleep 30;; esac
+exec "$@"
+"""
+
+
+def repository(folder, at_top, dev):
+    """A repository of the workspace, whose library has a development dependency or has just lost it by hand; or of the
+    library at the top of it."""
+    if at_top:
+        shutil.copytree(os.path.join(WORKSPACE, "codec"), folder)
+        write(f"{folder}/helper/Cargo.toml", '[package]\nname = "helper"\nversion = "0.1.0"\nedition = "2021"\npublish = false\n')
+        write(f"{folder}/helper/src/lib.rs", "")
+        manifest, more, extra = f"{folder}/Cargo.toml", DEV.format("helper", "helper"), '\n[workspace]\nmembers = ["helper"]\n'
+    else:
+        shutil.copytree(WORKSPACE, folder)
+        manifest, more, extra = f"{folder}/codec/Cargo.toml", DEV.format("tool", "../tool"), ""
+    with open(manifest, encoding="utf-8") as it:
+        text = it.read() + extra
+    write(f"{folder}/.gitignore", "target/\n")
+    write(manifest, text + more)
+    subprocess.run(["cargo", "generate-lockfile", "--offline"], cwd=folder, env=cleared(), capture_output=True, check=True)
+    commit(folder)
+    if not dev:
+        write(manifest, text)
+
+
+def packed(folder):
+    """What the archive of the library holds."""
+    with tarfile.open(f"{folder}/target/package/codec-0.2.0.crate") as archive:
+        return {it.name: archive.extractfile(it).read() for it in archive.getmembers() if it.isfile()}
+
+
+def package_fault(program, temporary, at_top):
+    """What is wrong with packages that are made under `--no-dev-deps`, beside those of cargo alone, if something is."""
+    name = "top" if at_top else "member"
+    ours, alone = f"{temporary}/{name}", f"{temporary}/{name}-alone"
+    repository(ours, at_top, dev=True)
+    repository(alone, at_top, dev=False)
+    before, options = held(ours), ["package", "--allow-dirty", "--no-verify", "--offline"]
+    done = call(program, ours, [*options, "--no-dev-deps", "--ignore-private", "--workspace"])
+    if done.returncode != 0:
+        return f"status {done.returncode}: {done.stderr}"
+    subprocess.run(["cargo", *options, "-p", "codec"], cwd=alone, env=cleared(), capture_output=True, check=True)
+    # (the commits differ by their times)
+    one, other = ({file: it for file, it in packed(at).items() if "vcs_info" not in file} for at in (ours, alone))
+    differ = sorted(file for file in one.keys() | other.keys() if one.get(file) != other.get(file))
+    if differ:
+        return f"other bytes than cargo alone packs: {', '.join(differ)}"
+    return changes(before, held(ours)) or git(ours, "status", "--porcelain") or None
+
+
+def interrupted_fault(program, temporary):
+    """What is wrong after a call was interrupted as by Ctrl-C, while cargo compiles and has changed the lockfile."""
+    folder, compiler = f"{temporary}/interrupted", f"{temporary}/compiles"
+    repository(folder, at_top=False, dev=True)
+    write(compiler, COMPILES, 0o755)
+    before = held(folder)
+    running = subprocess.Popen(
+        [program, "hack", "check", "--no-dev-deps", "--workspace", "--offline"],
+        cwd=folder,
+        env={**cleared(), "RUSTC_WRAPPER": compiler},
+        stdin=subprocess.DEVNULL,
+        stdout=subprocess.DEVNULL,
+        stderr=subprocess.DEVNULL,
+        start_new_session=True,
+    )
+    try:
+        wait_for(f"{compiler}.runs", 60)
+        edited = changes(before, held(folder)) or ""
+        must("codec/Cargo.toml" in edited and "Cargo.lock" in edited, f"while cargo compiles: {edited or 'no file is changed'}")
+        os.killpg(running.pid, signal.SIGINT)
+        must(running.wait(60) == -signal.SIGINT, f"it ends with {running.returncode}")
+        left = left_of(running.pid, 1)
+        must(not left, f"left are {left}")
+    except Wrong as fault:
+        return str(fault)
+    finally:
+        left_of(running.pid, 0)
+    return changes(before, held(folder)) or git(folder, "status", "--porcelain") or None
 
 
 def has_cargo():
@@ -179,14 +277,18 @@ def has_cargo():
 UNSET = ("CARGO", "CARGO_BUILD_TARGET", "CARGO_TARGET_DIR", "GITHUB_ACTIONS", "RUSTFLAGS")
 
 
-def call(program, folder, words):
-    environment = {
+def cleared():
+    """The environment without these."""
+    return {
         name: value
         for name, value in os.environ.items()
         if name not in UNSET and not name.startswith(("CARGO_HACK_", "CARGO_TERM_"))
     }
+
+
+def call(program, folder, words):
     return subprocess.run(
-        [program, "hack", *words], cwd=folder, env=environment, capture_output=True, text=True, check=False
+        [program, "hack", *words], cwd=folder, env=cleared(), capture_output=True, text=True, check=False
     )
 
 
@@ -194,7 +296,13 @@ def main():
     if len(sys.argv) != 2:
         sys.exit(__doc__)
     program = os.path.realpath(sys.argv[1])
-    checks = len(CALLS) + len(EDITS) + 3
+    in_repositories = {
+        "a package of a member": lambda folder: package_fault(program, folder, False),
+        "a package at the top of a repository": lambda folder: package_fault(program, folder, True),
+        "a call that is interrupted": lambda folder: interrupted_fault(program, folder),
+    }
+    checks, skipped = len(CALLS) + len(EDITS) + len(in_repositories) + 3, 0
+    heed_signals()
     if not has_cargo():
         print(f"no cargo and rustc that answer here: {checks} calls skipped")
         print(f"0 passed, 0 failed, {checks} skipped")
@@ -223,7 +331,12 @@ def main():
         tell("a sample", difference(SUSPECTS, sampled.stderr.splitlines()[-len(SUSPECTS):]))
         listed = call(program, folder, SETS + ["--print-command-list"])
         tell("a list of commands", difference(LIST, listed.stdout.splitlines()))
-    print(f"{checks - failed} passed, {failed} failed, 0 skipped")
+        if shutil.which("git") is None:
+            skipped = len(in_repositories)
+            print(f"no git: {skipped} calls skipped")
+        for name, look in in_repositories.items() if not skipped else ():
+            tell(name, look(temporary))
+    print(f"{checks - failed - skipped} passed, {failed} failed, {skipped} skipped")
     return 1 if failed else 0
 
 
