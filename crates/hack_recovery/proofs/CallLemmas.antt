@@ -1,31 +1,48 @@
 -- The course of a call whose arguments, environment and scene are known by other names.
-use Rattle.std.proofs.Common.{◌≡◌, ℕ, List, Option, subst}
+use Rattle.std.proofs.Common.{◌≡◌, ◌∙◌, ℕ, Bool, true, false, List, Option, ap, subst, sym}
+use Rattle.std.specs.Prelude.{Ok}
 use Rattle.hack_base.specs.Names.{Name}
 use Rattle.hack_files.specs.Files.{Contents}
 use Rattle.hack_process.specs.Calls.{Call}
 use Rattle.hack_run.specs.Worlds.{FilesView}
 use Rattle.hack_term.specs.declared.term.Term.{Term}
 use Rattle.hack_words.specs.declared.cli.env.Env.{Env}
-use Rattle.hack_recovery.specs.CallCourses.{IsCallCourse, Scene}
+use Rattle.hack_recovery.specs.AskedEdits.{is_restore}
+use Rattle.hack_recovery.specs.CallCourses.{DecidesHowToGoOn, IsCallCourse, PerformsUnjournaled}
+use Rattle.hack_recovery.specs.CallCourses.IsCallCourse.{unrestored, without_journal}
+use Rattle.hack_recovery.specs.CallPlaces.{PlacesAt}
+use Rattle.hack_recovery.specs.GuardEvents.{GuardsView}
 use Rattle.hack_recovery.specs.LockEvents.{LocksView}
+use Rattle.hack_recovery.specs.Scenes.{Scene}
+use Rattle.hack_recovery.specs.declared.admit.Way.TheVariants.{Plain}
+use Rattle.hack_recovery.specs.declared.asked.Edits.{Edits}
 
 -- a scene before any call was made, by its parts
-abbrev scene : FilesView → Contents → LocksView → List Call → Option (List ℕ) → Term → Scene
-scene files lockfiles locks calls out term = record {
+abbrev scene : FilesView → Contents → LocksView → GuardsView → List Call → Option (List ℕ) → Term → Scene
+scene files lockfiles locks guards calls out term = record {
   files = files;
   lockfiles = lockfiles;
   locks = locks;
+  guards = guards;
   host = record { calls = calls; out = out; term = term };
 }
 
-pub course-known : (tells whole locked talks records : Type 0) (ws vs : List Name) (e f : Env) (files : FilesView) (lockfiles : Contents) (locks : LocksView)
+pub course-known : (tells whole locked talks records watched : Type 0) (real : Name → Name) (ws vs : List Name) (e f : Env) (files : FilesView) (lockfiles : Contents) (locks : LocksView) (guards : GuardsView)
     (k l : List Call) (o p : Option (List ℕ)) (t u : Term) (new : Scene)
     → ws ≡ vs → e ≡ f → k ≡ l → o ≡ p → t ≡ u
-    → IsCallCourse tells whole locked talks records ws e (scene files lockfiles locks k o t) new
-    → IsCallCourse tells whole locked talks records vs f (scene files lockfiles locks l p u) new
-course-known tells whole locked talks records ws vs e f files lockfiles locks k l o p t u new words env calls out term h =
-    subst (λ (x : Term). IsCallCourse tells whole locked talks records vs f (scene files lockfiles locks l p x) new) term
-    (subst (λ (x : Option (List ℕ)). IsCallCourse tells whole locked talks records vs f (scene files lockfiles locks l x t) new) out
-    (subst (λ (x : List Call). IsCallCourse tells whole locked talks records vs f (scene files lockfiles locks x o t) new) calls
-    (subst (λ (x : Env). IsCallCourse tells whole locked talks records vs x (scene files lockfiles locks k o t) new) env
-    (subst (λ (x : List Name). IsCallCourse tells whole locked talks records x e (scene files lockfiles locks k o t) new) words h))))
+    → IsCallCourse tells whole locked talks records watched real ws e (scene files lockfiles locks guards k o t) new
+    → IsCallCourse tells whole locked talks records watched real vs f (scene files lockfiles locks guards l p u) new
+course-known tells whole locked talks records watched real ws vs e f files lockfiles locks guards k l o p t u new words env calls out term h =
+    subst (λ (x : Term). IsCallCourse tells whole locked talks records watched real vs f (scene files lockfiles locks guards l p x) new) term
+    (subst (λ (x : Option (List ℕ)). IsCallCourse tells whole locked talks records watched real vs f (scene files lockfiles locks guards l x t) new) out
+    (subst (λ (x : List Call). IsCallCourse tells whole locked talks records watched real vs f (scene files lockfiles locks guards x o t) new) calls
+    (subst (λ (x : Env). IsCallCourse tells whole locked talks records watched real vs x (scene files lockfiles locks guards k o t) new) env
+    (subst (λ (x : List Name). IsCallCourse tells whole locked talks records watched real x e (scene files lockfiles locks guards k o t) new) words h))))
+
+-- a call that goes on plainly: one that is to restore does nothing, and any other is performed
+pub plain_course : (tells whole locked talks records watched : Type 0) (real : Name → Name) (words : List Name) (env : Env) (does : Edits) (places : PlacesAt) (old at new : Scene) (restores : Bool) → is_restore does ≡ restores
+    → DecidesHowToGoOn tells whole records real words env does places old at (Ok Plain) → at.host.term ≡ old.host.term → (is_restore does ≡ true → new ≡ at) → (is_restore does ≡ false → PerformsUnjournaled tells talks words env at new)
+    → IsCallCourse tells whole locked talks records watched real words env old new
+plain_course tells whole locked talks records watched real words env does places old at new true is decided term same ran =
+    unrestored does places (subst (λ (x : Scene). DecidesHowToGoOn tells whole records real words env does places old x (Ok Plain)) (sym (same is)) decided) is (ap (λ (x : Scene). x.host.term) (same is) ∙ term)
+plain_course tells whole locked talks records watched real words env does places old at new false is decided term same ran = without_journal does places at decided is term (ran is)

@@ -1,6 +1,6 @@
 -- The ways of a call, step by step.
-use Rattle.std.proofs.Common.{◌≡◌, refl, true, false, Bool}
-use Rattle.std.specs.Prelude.{◌≢◌, IfOk, Ok, Err, Result}
+use Rattle.std.proofs.Common.{◌≡◌, ◌∙◌, refl, sym, true, false, Bool, IsTrue}
+use Rattle.std.specs.Prelude.{◌≢◌, ◌↔◌, IfOk, Ok, Err, Result}
 use Rattle.hack_term.specs.declared.term.Term.{Term}
 use Rattle.hack_recovery.specs.declared.fault.CallFault.{CallFault}
 use Rattle.hack_recovery.specs.Telling.{Tells}
@@ -20,3 +20,10 @@ pub told_false : (was now : Term) (r : Result Bool CallFault) → r ≡ Ok false
 told_false was now (Ok true) off h = cc
 told_false was now (Ok false) off h = h
 told_false was now (Err f) off h = cc
+
+-- by a test of whether it is done
+pub not_done : (r : Result Bool CallFault) (b : Bool) → (IsTrue b ↔ (r ≡ Ok true)) → b ≡ false → r ≢ Ok true
+not_done r b h off = λ e. let on : IsTrue b = h.1 e in cc
+
+pub done_true : (r : Result Bool CallFault) (b : Bool) → (IsTrue b ↔ (r ≡ Ok true)) → b ≡ true → r ≡ Ok true
+done_true r b h on = h.0 on

@@ -1,7 +1,8 @@
 -- The ways that a call can go.
-use Rattle.std.specs.Prelude.{◌≡◌, ◌≢◌, ◌⊎◌, ◌≤◌, ℕ, Bool, true, false, IsSome, List, None, Ok, Err, Result, is_some, string_bytes}
+use Rattle.std.specs.Prelude.{◌≡◌, ◌≢◌, ◌⊎◌, ◌≤◌, ℕ, Bool, true, false, IsSome, List, None, Ok, Err, Option, Result, is_some, string_bytes}
 use Rattle.hack_base.specs.Names.{Name}
 use Rattle.hack_files.specs.Files.{Contents, KeepsAll, KeepsOthers, MakesOrNot, removes}
+use Rattle.hack_journal.specs.Rows.{Spot}
 use Rattle.hack_journal.specs.SafeFiles.{StaysSafe}
 use Rattle.hack_run.specs.Journals.{contents_seen, files_seen, world_seen}
 use Rattle.hack_run.specs.CallTrace.{IsCallTrace}
@@ -28,17 +29,22 @@ use Rattle.hack_recovery.specs.Scenes.{IsFailed, IsQuiet, Scene, Untouched, scen
 -- ---- the beginning
 
 -- what the call does to manifests, its places, and whether an interrupted call left anything there;
--- where edits are to come back, the call asks for none that stay
-pub record Begins (tells : Type 0) (words : List Name) (env : Env) (does : Edits) (places : PlacesAt) (left : Bool) (old new : FilesView) : Type 0 where
-  pub asked : (path : Option Name) × AsksForEdits env words does path × Finds tells old.failed new.failed (places.folder ≡ workspace_from old.held (start_at path (string_bytes env.current_dir)))
+-- where edits are to come back, the call asks for none that stay. The workspace's folder is known by
+-- its path without symbolic links
+pub record Begins (tells records : Type 0) (real : Name → Name) (words : List Name) (env : Env) (does : Edits) (places : PlacesAt) (left : Bool) (old new : FilesView) : Type 0 where
+  pub path : Option Name
+  pub asked : AsksForEdits env words does path
+  pub folder : Name
+  pub found : Finds tells old.failed new.failed (folder ≡ workspace_from old.held (start_at path (string_bytes env.current_dir)))
+  pub is_real : records → places.folder ≡ real folder
   pub back : does ≡ edits.Back → RestoresEdits env words
   pub are : ArePlacesOf tells old.failed new.failed old.held places.folder places
   pub seen : Finds tells old.failed new.failed (left ≡ is_left old.held places)
 
 -- with only looks at files, the call came to this answer on how it may go on
-pub record DecidesHowToGoOn (tells whole records : Type 0) (words : List Name) (env : Env) (does : Edits) (places : PlacesAt) (old new : Scene) (came : Result Way CallFault) : Type 0 where
+pub record DecidesHowToGoOn (tells whole records : Type 0) (real : Name → Name) (words : List Name) (env : Env) (does : Edits) (places : PlacesAt) (old new : Scene) (came : Result Way CallFault) : Type 0 where
   pub left : Bool
-  pub begins : Begins tells words env does places left old.files new.files
+  pub begins : Begins tells records real words env does places left old.files new.files
   pub admitted : IsAdmitted records does places.folder left old.locks new.locks came
   pub untouched : Untouched tells whole old new
 
@@ -57,19 +63,19 @@ pub record PerformsUnjournaled (tells talks : Type 0) (words : List Name) (env :
 
 -- the call was performed with a journal, and so many calls of files failed: it meets what
 -- `run_journaled` promises
-pub record Journals (tells whole locked talks : Type 0) (words : List Name) (env : Env) (places : PlacesAt) (failed : ℕ) (old new : Scene) : Type 0 where
+pub record Journals (tells whole locked talks : Type 0) (words : List Name) (env : Env) (spot : Spot) (failed : ℕ) (old new : Scene) : Type 0 where
   pub refused : AreRefused env words → ReportsRefusal talks env old.host new.host
   pub done : new.host.term.error ≡ false → talks → IsCallTrace true (tells × locked) words env
-      (world_seen places.journal old.files.held old.lockfiles 0 old.host) (world_seen places.journal new.files.held new.lockfiles failed new.host)
+      (world_seen spot.journal old.files.held old.lockfiles 0 old.host) (world_seen spot.journal new.files.held new.lockfiles failed new.host)
   pub made : talks → IsCallTrace false (tells × locked) words env
-      (world_seen places.journal old.files.held old.lockfiles 0 old.host) (world_seen places.journal new.files.held new.lockfiles failed new.host)
+      (world_seen spot.journal old.files.held old.lockfiles 0 old.host) (world_seen spot.journal new.files.held new.lockfiles failed new.host)
   pub clean : new.host.term.error ≡ false → RestoresEdits env words → tells → locked
-      → KeepsAll (contents_seen places.journal old.files.held old.lockfiles) (contents_seen places.journal new.files.held new.lockfiles)
+      → KeepsAll (contents_seen spot.journal old.files.held old.lockfiles) (contents_seen spot.journal new.files.held new.lockfiles)
   pub back : RestoresEdits env words → tells → locked
-      → BringsBack (files_seen places.journal old.files.held old.lockfiles 0) (files_seen places.journal new.files.held new.lockfiles failed)
+      → BringsBack (files_seen spot.journal old.files.held old.lockfiles 0) (files_seen spot.journal new.files.held new.lockfiles failed)
   pub few : new.host.term.error ≡ false → failed ≤ 1
-  pub gone : RestoresEdits env words → tells → whole → locked → failed ≡ 0 → old.files.held places.journal ≡ None → new.files.held places.journal ≡ None
-  pub safe : tells → whole → old.files.held places.journal ≡ None → StaysSafe (journal_spot places) old.files.held old.files.trace new.files.trace old.files.held new.files.held
+  pub gone : RestoresEdits env words → tells → whole → locked → failed ≡ 0 → old.files.held spot.journal ≡ None → new.files.held spot.journal ≡ None
+  pub safe : tells → whole → old.files.held spot.journal ≡ None → StaysSafe spot old.files.held old.files.trace new.files.trace old.files.held new.files.held
   pub locks : new.locks ≡ old.locks
   pub guards : new.guards ≡ old.guards
 
@@ -95,26 +101,26 @@ pub record Closes (tells whole : Type 0) (places : PlacesAt) (old new : Scene) :
 pub record RunsOverJournal (tells whole locked talks : Type 0) (words : List Name) (env : Env) (places : PlacesAt) (old new : Scene) : Type 0 where
   pub failed : ℕ
   pub last : Scene
-  pub journals : Journals tells whole locked talks words env places failed old last
+  pub journals : Journals tells whole locked talks words env (journal_spot places) failed old last
   pub closes : Closes tells whole places last new
 
--- how a call goes once the lockfile is copied: a guard of the workspace's folder is started, the
--- call is performed with a journal, and the guard is left, whatever came of it; nothing hangs on
--- whether the guard came; or memory was refused for its start
-pub data IsWatchedCall (tells whole locked talks watched : Type 0) (words : List Name) (env : Env) (places : PlacesAt) (old new : Scene) : Type 0 where
-  performed : (came : Bool) (guards last : GuardsView) (ran : Scene) → (watched → guards ≡ after_start places.folder came old.guards)
-      → RunsOverJournal tells whole locked talks words env places (record old { guards = guards }) ran
-      → (watched → last ≡ after_leave guards) → new ≡ record ran { guards = last }
-      → IsWatchedCall tells whole locked talks watched words env places old new
-  unwatched : (guards : GuardsView) → (watched → guards ≡ old.guards) → new ≡ record (scene_with old.files new.host.term old) { guards = guards } → IsFailed new
-      → IsWatchedCall tells whole locked talks watched words env places old new
-
--- how a call with a journal goes: the lockfile is copied before anything else is changed or called;
--- or it can't be, and nothing else is
-pub data IsJournaledCall (tells whole locked talks watched : Type 0) (words : List Name) (env : Env) (places : PlacesAt) (old new : Scene) : Type 0 where
-  copied : (at : Scene) → KeepsCopy tells whole locked true places old at → IsWatchedCall tells whole locked talks watched words env places at new
-      → IsJournaledCall tells whole locked talks watched words env places old new
+-- how a call with a journal goes once its guard was asked for: the lockfile is copied, and then it is
+-- performed; or the lockfile can't be copied, and nothing else is changed or called
+pub data CopiesAndRuns (tells whole locked talks : Type 0) (words : List Name) (env : Env) (places : PlacesAt) (old new : Scene) : Type 0 where
+  copied : (at : Scene) → KeepsCopy tells whole locked true places old at → RunsOverJournal tells whole locked talks words env places at new
+      → CopiesAndRuns tells whole locked talks words env places old new
   uncopied : (at : Scene) → KeepsCopy tells whole locked false places old at → new ≡ scene_with at.files new.host.term at → IsFailed new
+      → CopiesAndRuns tells whole locked talks words env places old new
+
+-- how a call with a journal goes: a guard of the workspace's folder is started before anything is
+-- changed or called, and it is left, whatever came of the call; nothing hangs on whether it came. Or
+-- memory was refused for its start
+pub data IsJournaledCall (tells whole locked talks watched : Type 0) (words : List Name) (env : Env) (places : PlacesAt) (old new : Scene) : Type 0 where
+  performed : (came : Bool) (guards last : GuardsView) (ran : Scene) → (watched → guards ≡ after_start places.folder came old.guards)
+      → CopiesAndRuns tells whole locked talks words env places (record old { guards = guards }) ran
+      → (watched → last ≡ after_leave guards) → new ≡ record ran { guards = last }
+      → IsJournaledCall tells whole locked talks watched words env places old new
+  unwatched : (guards : GuardsView) → (watched → guards ≡ old.guards) → new ≡ record (scene_with old.files new.host.term old) { guards = guards } → IsFailed new
       → IsJournaledCall tells whole locked talks watched words env places old new
 
 -- how a call is performed under its own lock, by what it does to manifests
@@ -142,18 +148,18 @@ pub data IsLockedCourse (tells whole locked talks records watched : Type 0) (wor
       → IsLockedCourse tells whole locked talks records watched words env does places old new
 
 -- how a call goes
-pub data IsCallCourse (tells whole locked talks records watched : Type 0) (words : List Name) (env : Env) (old new : Scene) : Type 0 where
+pub data IsCallCourse (tells whole locked talks records watched : Type 0) (real : Name → Name) (words : List Name) (env : Env) (old new : Scene) : Type 0 where
   -- memory was refused before it began: nothing was changed or called
-  starved : Untouched tells whole old new → new.locks ≡ old.locks → IsFailed new → IsCallCourse tells whole locked talks records watched words env old new
+  starved : Untouched tells whole old new → new.locks ≡ old.locks → IsFailed new → IsCallCourse tells whole locked talks records watched real words env old new
   -- another call has the lock, there is none, or memory was refused: nothing was changed or called
-  turned_away : (does : Edits) (places : PlacesAt) (fault : CallFault) → DecidesHowToGoOn tells whole records words env does places old new (Err fault) → IsFailed new
-      → IsCallCourse tells whole locked talks records watched words env old new
+  turned_away : (does : Edits) (places : PlacesAt) (fault : CallFault) → DecidesHowToGoOn tells whole records real words env does places old new (Err fault) → IsFailed new
+      → IsCallCourse tells whole locked talks records watched real words env old new
   -- it is to restore, and nothing is left, or another call has the lock: nothing was changed or called
-  unrestored : (does : Edits) (places : PlacesAt) → DecidesHowToGoOn tells whole records words env does places old new (Ok Plain) → is_restore does ≡ true → new.host.term ≡ old.host.term
-      → IsCallCourse tells whole locked talks records watched words env old new
+  unrestored : (does : Edits) (places : PlacesAt) → DecidesHowToGoOn tells whole records real words env does places old new (Ok Plain) → is_restore does ≡ true → new.host.term ≡ old.host.term
+      → IsCallCourse tells whole locked talks records watched real words env old new
   -- nothing is to be guarded, or nothing can be: the call is performed without a journal
-  without_journal : (does : Edits) (places : PlacesAt) (at : Scene) → DecidesHowToGoOn tells whole records words env does places old at (Ok Plain) → is_restore does ≡ false
-      → at.host.term ≡ old.host.term → PerformsUnjournaled tells talks words env at new → IsCallCourse tells whole locked talks records watched words env old new
+  without_journal : (does : Edits) (places : PlacesAt) (at : Scene) → DecidesHowToGoOn tells whole records real words env does places old at (Ok Plain) → is_restore does ≡ false
+      → at.host.term ≡ old.host.term → PerformsUnjournaled tells talks words env at new → IsCallCourse tells whole locked talks records watched real words env old new
   -- the lock is this call's
-  under_its_lock : (does : Edits) (places : PlacesAt) (at : Scene) → DecidesHowToGoOn tells whole records words env does places old at (Ok Guarded) → at.host.term ≡ old.host.term
-      → IsLockedCourse tells whole locked talks records watched words env does places at new → IsCallCourse tells whole locked talks records watched words env old new
+  under_its_lock : (does : Edits) (places : PlacesAt) (at : Scene) → DecidesHowToGoOn tells whole records real words env does places old at (Ok Guarded) → at.host.term ≡ old.host.term
+      → IsLockedCourse tells whole locked talks records watched words env does places at new → IsCallCourse tells whole locked talks records watched real words env old new

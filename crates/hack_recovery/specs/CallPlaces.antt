@@ -6,10 +6,12 @@ use Rattle.hack_files.specs.Files.{Contents}
 use Rattle.hack_recovery.specs.FileLooks.{Finds}
 use Rattle.hack_recovery.specs.JournalPlaces.{journal_beside, journal_of, lockfile_copy}
 
--- the workspace's folder; the journal, and where an older version had it; the lockfile and its copy
+-- the workspace's folder; the journal, and where an older version had it, with its folder; the
+-- lockfile and its copy
 pub record PlacesAt : Type 0 where
   pub folder : Name
   pub journal : Name
+  pub older_folder : Name
   pub older : Name
   pub lockfile : Name
   pub copy : Name
@@ -18,6 +20,7 @@ pub record PlacesAt : Type 0 where
 pub record ArePlacesOf (tells : Type 0) (before now : ℕ) (held : Contents) (folder : Name) (places : PlacesAt) : Type 0 where
   pub folder_is : places.folder ≡ folder
   pub journal_is : Finds tells before now (places.journal ≡ journal_of held folder)
+  pub older_folder_is : places.older_folder ≡ folder
   pub older_is : places.older ≡ journal_beside folder
   pub lockfile_is : places.lockfile ≡ join_of folder (codes "Cargo.lock")
   pub copy_is : places.copy ≡ lockfile_copy places.journal

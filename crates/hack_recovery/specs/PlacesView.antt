@@ -7,6 +7,7 @@ abbrev pub places_view : Places → PlacesAt
 places_view places = record {
   folder = string_bytes places.place.folder;
   journal = string_bytes places.place.journal;
+  older_folder = string_bytes places.older.folder;
   older = string_bytes places.older.journal;
   lockfile = string_bytes places.lockfile;
   copy = string_bytes places.copy;

@@ -1,7 +1,7 @@
 -- How a call of the program goes, from what the system tells of it.
 use Rattle.std.specs.Prelude.{◌≡◌, ℕ, Bool, true, List, Option, Ok, Err}
 use Rattle.std.specs.declared.io.traits.Write.{Ghosts as Writing}
-use Rattle.hack_base.specs.Names.{names_of}
+use Rattle.hack_base.specs.Names.{Name, names_of}
 use Rattle.hack_base.specs.Writes.{AppendsFront}
 use Rattle.hack_files.specs.declared.fs.Files.{Ghosts as Filing}
 use Rattle.hack_process.specs.declared.caller.Caller.{Ghosts as Calling}
@@ -53,16 +53,16 @@ colored coloring term = record term { coloring = coloring }
 -- Arguments and environment were read, and the call was performed with them. Or an error says why
 -- they could not be read, a front of its line was written after what was written to `err` before,
 -- and nothing else was done.
-pub data IsProgramCall (informs tells whole locked talks records watched : Type 0) (system : SystemView)
+pub data IsProgramCall (informs tells whole locked talks records watched : Type 0) (real : Name → Name) (system : SystemView)
     (is_terminal : Bool) (err_before err_after : Option (List ℕ)) (old new : Scene) (status : ℕ) : Type 0 where
   performed : (started : Started) (coloring : Coloring) → GivesStart informs system (Ok started)
       → (informs → SetsColoring (auto_coloring_of is_terminal system) old.host.term.coloring coloring (Ok started))
       → IsExitStatus started.env.deny_warnings new.host.term status
-      → IsCallCourse tells whole locked talks records watched (names_of started.words.items) started.env
+      → IsCallCourse tells whole locked talks records watched real (names_of started.words.items) started.env
       (scene_on (colored coloring old.host.term) old) new
-      → IsProgramCall informs tells whole locked talks records watched system is_terminal err_before err_after old new status
+      → IsProgramCall informs tells whole locked talks records watched real system is_terminal err_before err_after old new status
   unread : (fault : StartFault) (coloring : Coloring) → GivesStart informs system (Err fault)
       → (informs → SetsColoring (auto_coloring_of is_terminal system) old.host.term.coloring coloring (Err fault))
       → AppendsFront err_before err_after (error_line coloring (start_fault_text fault))
       → new ≡ scene_on (record (colored coloring old.host.term) { error = true }) old → status ≡ 1
-      → IsProgramCall informs tells whole locked talks records watched system is_terminal err_before err_after old new status
+      → IsProgramCall informs tells whole locked talks records watched real system is_terminal err_before err_after old new status

@@ -84,7 +84,7 @@ abbrev pub journal_spot : PlacesAt → Spot
 journal_spot places = record { folder = places.folder; journal = places.journal }
 
 abbrev pub older_spot : PlacesAt → Spot
-older_spot places = record { folder = places.folder; journal = places.older }
+older_spot places = record { folder = places.older_folder; journal = places.older }
 
 -- what an interrupted call left is taken back: the journal first, then one of an older version, and
 -- then the lockfile's copy; it ends where one of these can't be

@@ -11,6 +11,7 @@ ghost use Rattle.hack_run.specs.Readings.{IsEarlyReading};
 ghost use Rattle.hack_run.specs.Worlds.{files_view};
 
 use crate::asked::{Asked, Edits};
+use crate::locks::Locks;
 use crate::places::{Places, place_at};
 use crate::workspace::workspace;
 use hack_base::copies::text_in;
@@ -35,14 +36,15 @@ pub(crate) struct Begun {
 }
 
 /// Reads what the call asks for, and looks where its journal is. Nothing is changed.
-pub(crate) fn begin<F: Files>(
+pub(crate) fn begin<F: Files, K: Locks>(
     alloc: Global,
     words: &[String],
     env: &Env,
     files: &mut F,
+    locks: &K,
 ) -> Result<Begun, AllocError>
-    ensures begun { IfOk result (λ begun. Begins F.tells (names_of words.now) env.now
-        begun.edits (places_view begun.places) begun.is_left
+    ensures begun { IfOk result (λ begun. Begins F.tells K.tells (K.real locks.now)
+        (names_of words.now) env.now begun.edits (places_view begun.places) begun.is_left
         (files_view F.Files files.old) (files_view F.Files files.new)) }
     ensures place { IfOk result (λ begun. spot_of begun.place ≡ spot_of begun.places.place) }
     ensures reading { IfOk result (λ begun. IfSome begun.reading
@@ -58,7 +60,8 @@ pub(crate) fn begin<F: Files>(
         reading,
     } = Asked::of(alloc, words, env)?;
     let named = text_in(&manifest_path);
-    let folder = workspace(alloc, named, env.current_dir.as_str(), files)?;
+    let found = workspace(alloc, named, env.current_dir.as_str(), files)?;
+    let folder = locks.real(alloc, found.as_str())?;
     let places = Places::of(alloc, folder.as_str(), files)?;
     let is_left = places.is_left(files)?;
     let journal = String::from_str(alloc, places.place.journal.as_str())?;

@@ -43,7 +43,7 @@ pub fn call<S: System, F: Files, L: Files, K: Locks, G: Guards, C: Caller, O: Wr
 ) -> (u8, F, L)
     ensures outside { IsSameOutside outside.old outside.new }
     ensures goes { IsProgramCall S.tells F.tells F.whole L.tells C.tells K.tells G.tells
-        (S.shown system.now) outside.old.is_terminal
+        (K.real keepers.old.locks) (S.shown system.now) outside.old.is_terminal
         (E.contents outside.old.err.now) (E.contents outside.new.err.now)
         (scene_outside F.Files L.Files C.Caller O.Write files lockfiles
         (K.shown keepers.old.locks) (G.shown keepers.old.guards) outside.old)

@@ -1,6 +1,6 @@
 //! Locks on folders: who may use a workspace's journal.
 
-ghost use Rattle.std.specs.Prelude.{◌≡◌, [], IfOk, OnErr, false, map};
+ghost use Rattle.std.specs.Prelude.{◌≡◌, [], List, ℕ, IfOk, OnErr, false, map, string_bytes};
 ghost use Rattle.hack_recovery.specs.LockEvents.{LocksView, after_asking, after_release};
 ghost use Rattle.hack_recovery.specs.LockEvents.{has_lock_after};
 ghost use Rattle.hack_recovery.specs.MemoryLocks.{taking_of};
@@ -29,6 +29,14 @@ pub trait Locks {
     /// What was asked for so far, with each answer, and whether this call has a lock. It means
     /// something only where `tells` holds.
     ghost shown: { Self → LocksView };
+
+    /// The path of a folder without symbolic links. It means something only where `tells` holds.
+    ghost real: { Self → List ℕ → List ℕ };
+
+    /// The path of a folder without symbolic links, so that a journal is found by any path. Where
+    /// that can't be told, it is the path itself.
+    fn real(&self, alloc: Global, folder: &str) -> Result<String, AllocError>
+        ensures { IfOk result (λ path. tells → string_bytes path ≡ real self.now folder.now) };
 
     /// Takes the lock of a folder, unless another call has it, and returns who has it then.
     fn take(&mut self, alloc: Global, folder: &str) -> Result<Holder, AllocError>
@@ -92,6 +100,12 @@ impl Locks for FakeLocks {
       takings = map taking_of locks.taken.items;
       is_held = locks.is_held;
     } };
+
+    ghost real = { λ _ folder. folder };
+
+    fn real(&self, alloc: Global, folder: &str) -> Result<String, AllocError> {
+        String::from_str(alloc, folder)
+    }
 
     fn take(&mut self, alloc: Global, folder: &str) -> Result<Holder, AllocError> {
         let folder = String::from_str(alloc, folder)?;

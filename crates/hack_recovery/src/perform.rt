@@ -1,13 +1,13 @@
 //! A whole call: what an interrupted one left is restored first, and what this one edits is kept in
 //! a journal meanwhile, under the eyes of a guard.
 
-ghost use Rattle.std.specs.Prelude.{◌≡◌, IfSome, Ok, OnOk, false, string_bytes, true};
+ghost use Rattle.std.specs.Prelude.{◌≡◌, ◌↔◌, IfSome, IsTrue, Ok, OnOk, false, string_bytes, true};
 ghost use Rattle.hack_base.specs.Names.{names_of};
 ghost use Rattle.hack_files.specs.Files.{Contents, KeepsOthers, MakesOrNot, removes};
 ghost use Rattle.hack_journal.specs.Rows.{spot_of};
 ghost use Rattle.hack_recovery.specs.AskedEdits.{is_restore};
 ghost use Rattle.hack_recovery.specs.CallCourses.{Continues, IsCallCourse, IsJournalClosed};
-ghost use Rattle.hack_recovery.specs.CallCourses.{IsJournaledCall, IsLockedCourse, IsWatchedCall};
+ghost use Rattle.hack_recovery.specs.CallCourses.{CopiesAndRuns, IsJournaledCall, IsLockedCourse};
 ghost use Rattle.hack_recovery.specs.CallCourses.{PerformsUnjournaled, RunsOverJournal};
 ghost use Rattle.hack_recovery.specs.GuardEvents.{GuardsView};
 ghost use Rattle.hack_recovery.specs.LockEvents.{LocksView};
@@ -55,14 +55,14 @@ pub fn perform<F: Files, L: Files, K: Locks, G: Guards, C: Caller, O: Write, E: 
     ensures host { IsSameHost host.old host.new }
     ensures status { IsExitStatus host.old.env.now.deny_warnings host.new.term.now result.0 }
     ensures goes { IsCallCourse F.tells F.whole L.tells C.tells K.tells G.tells
-        (names_of words.now) host.old.env.now
+        (K.real keepers.old.locks) (names_of words.now) host.old.env.now
         (scene_of F.Files L.Files C.Caller O.Write files lockfiles
         (K.shown keepers.old.locks) (G.shown keepers.old.guards) host.old)
         (scene_of F.Files L.Files C.Caller O.Write result.1 result.2
         (K.shown keepers.new.locks) (G.shown keepers.new.guards) host.new) }
 {
     let mut files = files;
-    let begun = match begin(host.alloc, words, host.env, &mut files) {
+    let begun = match begin(host.alloc, words, host.env, &mut files, &keepers.locks) {
         Ok(begun) => begun,
         Err(fault) => {
             return (
@@ -190,13 +190,24 @@ fn take_back<F: Files, L: Files, C: Caller, O: Write, E: Write>(
         (host_view C.Caller O.Write host.new)) result }
 {
     let dir = host.env.current_dir.as_str();
-    if !restore(host.alloc, dir, &places.place, files, host.term, host.err)? {
-        return Ok(false);
+    let journal = restore(host.alloc, dir, &places.place, files, host.term, host.err);
+    if !is_done(&journal) {
+        return journal;
     }
-    if !restore(host.alloc, dir, &places.older, files, host.term, host.err)? {
-        return Ok(false);
+    let older = restore(host.alloc, dir, &places.older, files, host.term, host.err);
+    if !is_done(&older) {
+        return older;
     }
     settle(places, files, lockfiles, host)
+}
+
+fn is_done(came: &Result<bool, CallFault>) -> bool
+    ensures { IsTrue result ↔ (came.now ≡ Ok true) }
+{
+    match came {
+        Ok(done) => *done,
+        Err(_) => false,
+    }
 }
 
 /// Performs a call under its own lock, where nothing of an interrupted call is left.
@@ -240,7 +251,7 @@ fn go_on<F: Files, L: Files, K: Locks, G: Guards, C: Caller, O: Write, E: Write>
     }
 }
 
-/// Performs a call with a journal, after the lockfile was copied.
+/// Performs a call with a journal, under the eyes of a guard.
 fn journaled<F: Files, L: Files, G: Guards, C: Caller, O: Write, E: Write>(
     words: &[String],
     begun: Begun,
@@ -261,21 +272,29 @@ fn journaled<F: Files, L: Files, G: Guards, C: Caller, O: Write, E: Write>(
         (scene_of F.Files L.Files C.Caller O.Write result.1 result.2 locks
         (G.shown guards.new) host.new) }
 {
-    let mut files = files;
-    let mut lockfiles = lockfiles;
-    match keep_copy(host.alloc, &begun.places, &mut files, &mut lockfiles) {
-        Ok(()) => watched(words, begun, files, lockfiles, guards, host),
-        Err(fault) => (report(fault, host.term, host.err), files, lockfiles),
+    match guards.start(host.alloc, begun.places.place.folder.as_str()) {
+        Ok(watches) => {
+            if !watches && begun.verbose {
+                tell_unwatched(host.term, host.err);
+            }
+            let ended = copied(words, begun, files, lockfiles, host);
+            guards.leave();
+            ended
+        }
+        Err(fault) => (
+            report(CallFault::from(fault), host.term, host.err),
+            files,
+            lockfiles,
+        ),
     }
 }
 
-/// Performs a call with a journal, under the eyes of a guard.
-fn watched<F: Files, L: Files, G: Guards, C: Caller, O: Write, E: Write>(
+/// Performs a call with a journal, after the lockfile was copied.
+fn copied<F: Files, L: Files, C: Caller, O: Write, E: Write>(
     words: &[String],
     begun: Begun,
     files: F,
     lockfiles: L,
-    guards: &mut G,
     host: &mut Host<'_, C, O, E>,
 ) -> (u8, F, L)
     requires reading { IfSome begun.reading
@@ -283,30 +302,18 @@ fn watched<F: Files, L: Files, G: Guards, C: Caller, O: Write, E: Write>(
     requires place { spot_of begun.place ≡ spot_of begun.places.place }
     ensures host { IsSameHost host.old host.new }
     ensures status { IsExitStatus host.old.env.now.deny_warnings host.new.term.now result.0 }
-    ensures goes { (locks : LocksView) → IsWatchedCall F.tells F.whole L.tells C.tells G.tells
+    ensures goes { (locks : LocksView) (guards : GuardsView) → CopiesAndRuns
+        F.tells F.whole L.tells C.tells
         (names_of words.now) host.old.env.now (places_view begun.places)
-        (scene_of F.Files L.Files C.Caller O.Write files lockfiles locks
-        (G.shown guards.old) host.old)
-        (scene_of F.Files L.Files C.Caller O.Write result.1 result.2 locks
-        (G.shown guards.new) host.new) }
+        (scene_of F.Files L.Files C.Caller O.Write files lockfiles locks guards host.old)
+        (scene_of F.Files L.Files C.Caller O.Write result.1 result.2 locks guards host.new) }
 {
-    match guards.start(host.alloc, begun.places.place.folder.as_str()) {
-        Ok(watches) => {
-            if !watches && begun.verbose {
-                tell_unwatched(host.term, host.err);
-            }
-        }
-        Err(fault) => {
-            return (
-                report(CallFault::from(fault), host.term, host.err),
-                files,
-                lockfiles,
-            );
-        }
+    let mut files = files;
+    let mut lockfiles = lockfiles;
+    match keep_copy(host.alloc, &begun.places, &mut files, &mut lockfiles) {
+        Ok(()) => over_journal(words, begun, files, lockfiles, host),
+        Err(fault) => (report(fault, host.term, host.err), files, lockfiles),
     }
-    let ended = over_journal(words, begun, files, lockfiles, host);
-    guards.leave();
-    ended
 }
 
 /// Says that nobody restores the manifests where this call ends early.

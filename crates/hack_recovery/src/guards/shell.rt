@@ -13,7 +13,7 @@ use std::{env, io, rt};
 /// children then do. It waits for a line; where its input ends without one, this call has ended. It
 /// runs the program twice, since the lock of a process that has just ended may still be seen.
 const SCRIPT: &str =
-    r#"trap '' INT TERM HUP; read -r line || { "$0" hack --restore; exec "$0" hack --restore; }"#;
+    r#"trap '' INT TERM HUP QUIT; read -r line || { "$0" hack --restore; exec "$0" hack --restore; }"#;
 
 /// Guards that are shells of the system: each holds the other end of a pipe, which closes when this
 /// process ends, and then runs this very program to restore.

@@ -5,7 +5,7 @@ use Rattle.hack_run.specs.Worlds.{files_view}
 use Rattle.hack_term.specs.Lines.{IsExitStatus, error_line}
 use Rattle.hack_term.specs.declared.term.Term.{Term}
 use Rattle.hack_words.specs.declared.cli.env.Env.{Env}
-use Rattle.hack_recovery.specs.CallCourses.{Scene}
+use Rattle.hack_recovery.specs.Scenes.{Scene}
 use Rattle.hack_recovery.specs.ProgramCalls.{colored, scene_on, scene_outside}
 use Rattle.hack_recovery.specs.ProgramCalls.IsProgramCall.{performed, unread}
 use Rattle.hack_recovery.proofs.CallLemmas.{course-known}
@@ -14,7 +14,7 @@ use Rattle.hack_recovery.proofs.call.call.Goals as goal
 pub returns-in-Err-clause-goes : goal.returns-in-Err-clause-goes
 returns-in-Err-clause-goes g c =
     let coloring = c.of-came.new.coloring in
-    let old = scene_outside g.F.Files g.L.Files g.C.Caller g.O.Write c.args.files c.args.lockfiles (g.K.Locks.shown c.args.locks.now) c.args.outside.now in
+    let old = scene_outside g.F.Files g.L.Files g.C.Caller g.O.Write c.args.files c.args.lockfiles (g.K.Locks.shown c.args.keepers.now.locks) (g.G.Guards.shown c.args.keepers.now.guards) c.args.outside.now in
     unread c.in-Err.fault coloring c.in-Err.ensures.started c.in-Err.ensures.coloring
     (subst (λ (text : List ℕ). AppendsFront (g.E.Write.contents c.args.outside.now.err.now) (g.E.Write.contents c.error.new.out) (error_line coloring text)) c.text.ensures c.error.ensures.front)
     (ap (λ (t : Term). scene_on t old) c.error.ensures.noted) refl
@@ -28,6 +28,6 @@ returns-clause-goes g c =
     let outside = c.args.outside.now in
     performed c.in-Ok.started coloring c.in-Ok.ensures.started c.in-Ok.ensures.coloring
     (subst (λ (e : Env). IsExitStatus e.deny_warnings c.perform.new.host.term.now c.perform.result.0) c.new-host.ensures.env c.perform.ensures.status)
-    (course-known g.F.Files.tells g.F.Files.whole g.L.Files.tells g.C.Caller.tells g.K.Locks.tells (names_of c.deref.result.now) (names_of c.in-Ok.started.words.items) host.env.now c.in-Ok.started.env
-    (files_view g.F.Files c.args.files) (g.L.Files.bytes_at c.args.lockfiles) (g.K.Locks.shown c.args.locks.now) (calls host.caller.now) (calls outside.caller.now) (contents host.out.now) (contents outside.out.now) host.term.now (colored coloring outside.term.now)
+    (course-known g.F.Files.tells g.F.Files.whole g.L.Files.tells g.C.Caller.tells g.K.Locks.tells g.G.Guards.tells (g.K.Locks.real c.args.keepers.now.locks) (names_of c.deref.result.now) (names_of c.in-Ok.started.words.items) host.env.now c.in-Ok.started.env
+    (files_view g.F.Files c.args.files) (g.L.Files.bytes_at c.args.lockfiles) (g.K.Locks.shown c.args.keepers.now.locks) (g.G.Guards.shown c.args.keepers.now.guards) (calls host.caller.now) (calls outside.caller.now) (contents host.out.now) (contents outside.out.now) host.term.now (colored coloring outside.term.now)
     _ (ap names_of c.deref.ensures.value) c.new-host.ensures.env (ap calls c.new-host.ensures.caller.1) (ap contents c.new-host.ensures.out.1) c.new-host.ensures.term.1 c.perform.ensures.goes)

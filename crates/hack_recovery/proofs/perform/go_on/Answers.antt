@@ -1,12 +1,12 @@
 use Rattle.std.proofs.Common.{refl}
-use Rattle.hack_recovery.specs.CallCourses.Continues.{unedited, journaled}
+use Rattle.hack_recovery.specs.CallCourses.Continues.{journaled, unedited}
 use Rattle.hack_recovery.proofs.perform.go_on.Goals as goal
 
 pub returns-in-None-clause-goes : goal.returns-in-None-clause-goes
 returns-in-None-clause-goes g c =
     let ran = c.run-status.ensures in
     unedited (g.K.Locks.shown c.release.new.self) c.in-None.is c.release.ensures
-    (record { refused = ran.refused; done = ran.done; made = ran.made; back = ran.back; clean = ran.clean; lockfiles = refl; locks = refl })
+    (record { refused = ran.refused; done = ran.done; made = ran.made; back = ran.back; clean = ran.clean; lockfiles = refl; locks = refl; guards = refl })
 
-pub returns-clause-goes : goal.returns-clause-goes
-returns-clause-goes g c = journaled c.in-Back.is (c.journaled.ensures.goes (g.K.Locks.shown c.args.locks.now))
+pub returns-in-Back-clause-goes : goal.returns-in-Back-clause-goes
+returns-in-Back-clause-goes g c = journaled c.in-Back.is (c.journaled.ensures.goes (g.K.Locks.shown c.args.keepers.now.locks))

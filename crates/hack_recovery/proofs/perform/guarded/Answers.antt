@@ -1,19 +1,25 @@
 use Rattle.std.proofs.Common.{ap, refl}
 use Rattle.hack_term.specs.declared.term.Term.{Term}
-use Rattle.hack_run.specs.Worlds.{files_view}
 use Rattle.hack_recovery.specs.CallCourses.IsLockedCourse.{cut_short, ended, went_on}
-use Rattle.hack_recovery.proofs.WayLemmas.{not_restored}
+use Rattle.hack_recovery.specs.Scenes.{Scene, scene_of}
 use Rattle.hack_recovery.proofs.perform.guarded.Goals as goal
 
 pub returns-then-not-is_back-clause-goes : goal.returns-then-not-is_back-clause-goes
 returns-then-not-is_back-clause-goes g c =
-    let came = rw (c.as_str.ensures.value, c.as_str-2.ensures.value, c.if-not-is_back.true) at c.in-Ok.ensures in
-    ended came refl (not_restored _ _ _ _ _ _ _ _ _ refl came)
+    let locks = g.K.Locks.shown c.args.keepers.now.locks in
+    let guards = g.G.Guards.shown c.args.keepers.now.guards in
+    ended (rw c.if-not-is_back.true at (c.in-Ok.ensures.goes locks guards)) ((rw c.if-not-is_back.true at c.in-Ok.ensures.stopped) refl)
 
 pub returns-else-not-is_back-clause-goes : goal.returns-else-not-is_back-clause-goes
 returns-else-not-is_back-clause-goes g c =
-    went_on (files_view g.F.Files c.restore.new.files) c.restore.new.term (rw (c.as_str.ensures.value, c.as_str-2.ensures.value, c.if-not-is_back.false) at c.in-Ok.ensures) c.go_on.ensures.goes
+    let locks = g.K.Locks.shown c.args.keepers.now.locks in
+    let guards = g.G.Guards.shown c.args.keepers.now.guards in
+    let at : Scene = scene_of g.F.Files g.L.Files g.C.Caller g.O.Write c.take_back.new.files c.take_back.new.lockfiles locks guards c.take_back.new.host in
+    went_on at (rw c.if-not-is_back.false at (c.in-Ok.ensures.goes locks guards)) (rw c.in-Ok.ensures.host.env at c.go_on.ensures.goes)
 
 pub returns-in-Err-clause-goes : goal.returns-in-Err-clause-goes
 returns-in-Err-clause-goes g c =
-    cut_short c.restore.new.term c.in-Err.fault (rw (c.as_str.ensures.value, c.as_str-2.ensures.value) at c.in-Err.ensures) refl (ap (λ (k : Term). k.error) c.report.ensures.term)
+    let locks = g.K.Locks.shown c.args.keepers.now.locks in
+    let guards = g.G.Guards.shown c.args.keepers.now.guards in
+    let at : Scene = scene_of g.F.Files g.L.Files g.C.Caller g.O.Write c.take_back.new.files c.take_back.new.lockfiles locks guards c.take_back.new.host in
+    cut_short at c.in-Err.fault (c.in-Err.ensures.goes locks guards) refl (ap (λ (k : Term). k.error) c.report.ensures.term)

@@ -1,45 +1,54 @@
-use Rattle.std.proofs.Common.{ap, refl, string_bytes}
+use Rattle.std.proofs.Common.{◌∙◌, ap, refl, string_bytes}
 use Rattle.hack_term.specs.declared.term.Term.{Term}
-use Rattle.hack_recovery.specs.CallCourses.{Scene, scene_of}
-use Rattle.hack_recovery.specs.CallCourses.IsCallCourse.{turned_away, under_its_lock, without_journal}
+use Rattle.hack_run.specs.Worlds.{FilesView, HostView, files_view, host_view}
+use Rattle.hack_recovery.specs.AskedEdits.{is_restore}
+use Rattle.hack_recovery.specs.PlacesView.{places_view}
+use Rattle.hack_recovery.specs.Scenes.{Scene, scene_by, scene_of}
+use Rattle.hack_recovery.specs.CallCourses.IsCallCourse.{turned_away, under_its_lock}
+use Rattle.hack_recovery.proofs.CallLemmas.{plain_course}
 use Rattle.hack_recovery.proofs.perform.perform.Goals as goal
 
 pub returns-in-Ok-Plain-clause-goes : goal.returns-in-Ok-Plain-clause-goes
 returns-in-Ok-Plain-clause-goes g c =
     let begun = c.in-Ok.begun in
-    let ran = c.run-status.ensures in
-    let at : Scene = scene_of g.F.Files g.L.Files g.C.Caller g.O.Write c.begin.new.files c.args.lockfiles (g.K.Locks.shown c.admit.new.locks) c.args.host.now in
-    without_journal begun.edits (string_bytes begun.folder) (string_bytes begun.journal) at
+    let came = c.plainly-status.ensures in
+    let lockfiles = g.L.Files.bytes_at c.args.lockfiles in
+    let locks = g.K.Locks.shown c.admit.new.locks in
+    let guards = g.G.Guards.shown c.args.keepers.now.guards in
+    let at : Scene = scene_of g.F.Files g.L.Files g.C.Caller g.O.Write c.begin.new.files c.args.lockfiles locks guards c.args.host.now in
+    plain_course _ _ _ _ _ _ _ _ _ begun.edits (places_view begun.places) _ at _ (is_restore begun.edits) refl
     (record {
-      there = begun.is_there;
+      left = begun.is_left;
       begins = c.in-Ok.ensures.begun;
       admitted = rw (c.in-Ok-Plain.field-0-is, c.as_str.ensures.value) at c.in-Ok-Plain.ensures;
-      untouched = record { files = record { same = c.in-Ok.ensures.same; untraced = c.in-Ok.ensures.untraced }; lockfiles = refl; calls = refl; out = refl };
+      untouched = record { files = record { same = c.in-Ok.ensures.same; untraced = c.in-Ok.ensures.untraced }; lockfiles = refl; guards = refl; calls = refl; out = refl };
     })
     refl
-    (record { refused = ran.refused; done = ran.done; made = ran.made; back = ran.back; clean = ran.clean; lockfiles = refl; locks = refl })
+    (λ on. ap (λ files. scene_by (files_view g.F.Files files) lockfiles locks guards (host_view g.C.Caller g.O.Write c.plainly-status.new.host)) (came.restores on).0
+    ∙ ap (λ (host : HostView). scene_by (files_view g.F.Files c.begin.new.files) lockfiles locks guards host) (came.restores on).1)
+    (λ off. came.runs off lockfiles locks guards)
 
 pub returns-in-Ok-Guarded-clause-goes : goal.returns-in-Ok-Guarded-clause-goes
 returns-in-Ok-Guarded-clause-goes g c =
     let begun = c.in-Ok.begun in
-    let at : Scene = scene_of g.F.Files g.L.Files g.C.Caller g.O.Write c.begin.new.files c.args.lockfiles (g.K.Locks.shown c.admit.new.locks) c.args.host.now in
-    under_its_lock begun.edits (string_bytes begun.folder) (string_bytes begun.journal) at
+    let at : Scene = scene_of g.F.Files g.L.Files g.C.Caller g.O.Write c.begin.new.files c.args.lockfiles (g.K.Locks.shown c.admit.new.locks) (g.G.Guards.shown c.args.keepers.now.guards) c.args.host.now in
+    under_its_lock begun.edits (places_view begun.places) at
     (record {
-      there = begun.is_there;
+      left = begun.is_left;
       begins = c.in-Ok.ensures.begun;
       admitted = rw (c.in-Ok-Guarded.field-0-is, c.as_str.ensures.value) at c.in-Ok-Guarded.ensures;
-      untouched = record { files = record { same = c.in-Ok.ensures.same; untraced = c.in-Ok.ensures.untraced }; lockfiles = refl; calls = refl; out = refl };
+      untouched = record { files = record { same = c.in-Ok.ensures.same; untraced = c.in-Ok.ensures.untraced }; lockfiles = refl; guards = refl; calls = refl; out = refl };
     })
     refl c.guarded.ensures.goes
 
 pub returns-in-Err-admit-clause-goes : goal.returns-in-Err-admit-clause-goes
 returns-in-Err-admit-clause-goes g c =
     let begun = c.in-Ok.begun in
-    turned_away begun.edits (string_bytes begun.folder) (string_bytes begun.journal) c.in-Err-admit.fault
+    turned_away begun.edits (places_view begun.places) c.in-Err-admit.fault
     (record {
-      there = begun.is_there;
+      left = begun.is_left;
       begins = c.in-Ok.ensures.begun;
       admitted = rw c.as_str.ensures.value at c.in-Err-admit.ensures;
-      untouched = record { files = record { same = c.in-Ok.ensures.same; untraced = c.in-Ok.ensures.untraced }; lockfiles = refl; calls = refl; out = refl };
+      untouched = record { files = record { same = c.in-Ok.ensures.same; untraced = c.in-Ok.ensures.untraced }; lockfiles = refl; guards = refl; calls = refl; out = refl };
     })
     (ap (λ (k : Term). k.error) c.report-in-Err-admit.ensures.term)

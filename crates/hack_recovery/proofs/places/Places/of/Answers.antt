@@ -7,6 +7,7 @@ pub returns-clause-found : goal.returns-clause-found
 returns-clause-found g c = record {
   folder_is = c.in_ok-place_at.ensures.0;
   journal_is = finds_then g.F.Files.tells _ _ _ _ c.in_ok-journal.ensures.found (λ t e. c.in_ok-place_at.ensures.1 ∙ e);
+  older_folder_is = c.in_ok-place_at-2.ensures.0;
   older_is = c.in_ok-place_at-2.ensures.1 ∙ c.in_ok-older.ensures;
   lockfile_is = c.in_ok-lockfile.ensures;
   copy_is = rw c.as_str.ensures.value at c.in_ok-copy.ensures ∙ ap lockfile_copy (sym c.in_ok-place_at.ensures.1);
