@@ -2,7 +2,7 @@ mod TextLemmas
 mod ChangeLemmas
 pub mod RowLemmas
 mod NoteLemmas
-mod SafeLemmas
+pub mod SafeLemmas
 mod FinishLemmas
 pub mod RecoverLemmas
 mod CountLemmas

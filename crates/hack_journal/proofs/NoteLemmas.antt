@@ -1,5 +1,5 @@
 -- The paths of the files that entries have.
-use Rattle.std.proofs.Common.{◌≡◌, ◌≢◌, ◌+◌, ◌-◌, ◌<◌, ℕ, zero, suc, List, [], ◌∷◌, ◌++◌, Option, Some, None, String, string_bytes, map, get_or, length, take, refl, sym, ◌∙◌, subst, ap, arith, add-one}
+use Rattle.std.proofs.Common.{◌≡◌, ◌≢◌, ◌+◌, ◌-◌, ℕ, zero, suc, List, [], ◌∷◌, ◌++◌, Some, None, String, string_bytes, get_or, length, take, refl, sym, ◌∙◌, ap, arith}
 use Rattle.std.specs.Option.{option_map}
 use Rattle.std.specs.List.{slice_get}
 use Rattle.std.proofs.Math.Seq.{take-append_seam}
@@ -7,7 +7,6 @@ use Rattle.std.proofs.lemmas.List.{length-append, length-map, map-append, take-m
 use Rattle.std.proofs.lemmas.Option.{slice_get-get_or, slice_get-map, slice_get_past}
 use Rattle.hack_base.specs.Names.{names_of}
 use Rattle.hack_journal.specs.Rows.{file_at, later_files}
-use Rattle.hack_journal.proofs.RowLemmas.{file_zero}
 
 length-later : (j : List ℕ) (n : ℕ) → length (later_files j n) ≡ n
 length-later j zero = refl

@@ -1,6 +1,6 @@
 -- What a journal keeps is put back.
-use Rattle.std.proofs.Common.{◌≡◌, ◌≢◌, ◌⊎◌, ◌<◌, ◌≤◌, ◌+◌, ◌-◌, ◌^◌, inl, inr, ℕ, zero, suc, List, [], ◌∷◌, ◌++◌, Option, Some, None, refl, sym, ◌∙◌, subst, ap, append-nil, append_assoc, add-one, true, Result, Ok, Err, OnOk, IfOk, false, Bool, cond, arith}
-use Rattle.std.specs.Prelude.{◌↔◌, IsSome, string_bytes}
+use Rattle.std.proofs.Common.{◌≡◌, ◌≢◌, ◌⊎◌, ◌<◌, ◌+◌, ◌-◌, ◌^◌, inl, inr, ℕ, suc, List, [], ◌∷◌, ◌++◌, Option, Some, None, refl, sym, ◌∙◌, subst, ap, append-nil, append_assoc, add-one, true, Result, Ok, Err, OnOk, IfOk, false, cond, arith}
+use Rattle.std.specs.Prelude.{IsSome, string_bytes}
 use Rattle.std.specs.Str.{bytes_eq}
 use Rattle.std.proofs.Math.Path.{fun_ext}
 use Rattle.std.proofs.lemmas.Slice.Eq.{bytes_eq-Decides}
@@ -10,7 +10,7 @@ use Rattle.hack_files.specs.Files.{Change, Contents, after_change, after, Makes,
 use Rattle.hack_files.specs.declared.fs.FsFault.{FsFault}
 use Rattle.hack_files.specs.declared.fs.FsFault.TheVariants as fs
 use Rattle.hack_journal.specs.Journal.{Edit, journal_text, HaveTextPaths}
-use Rattle.hack_journal.specs.Rows.{Spot, AreFirst, AreRead, IsFresh, IsRowOf, IsRowRead, IsTextOf, KeepsBeside, file_at, is_of_journal, placed}
+use Rattle.hack_journal.specs.Rows.{Spot, AreFirst, AreRead, IsFresh, IsRowOf, IsRowRead, KeepsBeside, file_at, is_of_journal, placed}
 use Rattle.hack_journal.specs.SafeFiles.{gives, SomeEntryHasBytes, KeepFirst, IsSafe, IsSafeBy, StaysSafe, AreBack, first_entry_of}
 use Rattle.hack_journal.specs.Recovery.{HasEntry, AgreesOnHeld, AreOfCall, AreTold, AreChanged, Restored, IsNoJournal, IsReached, IsWhy, IsWhyUnread, IsJournalRefusal, NamesPath, IsJournalOrItsEntry}
 use Rattle.hack_journal.specs.Internal.{AddsChanged, AddsIfOther, HoldsNoText, IsBackBut, IsRead, IsReadMore, IsWhyNotTold, IsWhyTorn, NamesNoJournal, FailsAt, backs}

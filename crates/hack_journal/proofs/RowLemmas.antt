@@ -1,16 +1,16 @@
 -- The files of a row, and what they hold after a change.
-use Rattle.std.proofs.Common.{◌≡◌, ◌≢◌, ◌⊎◌, ◌+◌, ◌<◌, ◌≤◌, ◌^◌, inl, inr, ℕ, zero, suc, List, [], ◌∷◌, ◌++◌, Option, Some, None, Bool, true, false, cond, eqb, length, codes, refl, sym, ◌∙◌, subst, ap, append-nil, arith}
+use Rattle.std.proofs.Common.{◌≡◌, ◌≢◌, ◌⊎◌, ◌+◌, ◌<◌, ◌≤◌, ◌^◌, inl, inr, ℕ, zero, suc, List, [], ◌∷◌, ◌++◌, Option, Some, None, true, false, cond, length, codes, refl, sym, ◌∙◌, subst, ap, append-nil, arith}
 use Rattle.std.specs.Prelude.{IsTrue}
 use Rattle.std.specs.Fmt.{decimal}
 use Rattle.std.specs.Str.{bytes_eq}
 use Rattle.std.proofs.lemmas.Bool.{cases_Bool, cases_lt}
 use Rattle.std.proofs.lemmas.Bool.Decides.{Decides-eqb, eqb_tells}
-use Rattle.std.proofs.lemmas.Fmt.{decimal_injective, decimal_nonempty}
-use Rattle.std.proofs.lemmas.List.{append_cancel_left, length-append}
+use Rattle.std.proofs.lemmas.Fmt.{decimal_injective}
+use Rattle.std.proofs.lemmas.List.{append_cancel_left}
 use Rattle.std.proofs.lemmas.Slice.Eq.{bytes_eq-Decides, starts_is}
 use Rattle.hack_files.specs.Files.{Contents, KeepsAll, KeepsOthers}
 use Rattle.hack_journal.specs.Journal.{Edit, journal_text}
-use Rattle.hack_journal.specs.Rows.{Spot, AreEach, AreFirst, AreRead, IsBeside, IsFresh, IsNoteOf, IsRowOf, IsRowRead, IsTextOf, KeepsBeside, file_at, is_of_journal}
+use Rattle.hack_journal.specs.Rows.{Spot, AreEach, AreFirst, IsBeside, IsFresh, IsNoteOf, IsRowOf, IsRowRead, IsTextOf, file_at, is_of_journal}
 use Rattle.hack_journal.specs.SafeLaws.{beside_more}
 
 pub file_zero : (j : List ℕ) → file_at j 0 ≡ j

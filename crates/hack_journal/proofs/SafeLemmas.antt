@@ -1,5 +1,5 @@
 -- The journal keeps what a path held, before the path is changed.
-use Rattle.std.proofs.Common.{◌≡◌, ◌≢◌, ◌<◌, ◌^◌, length, arith, ◌+◌, add-one, inl, inr, ℕ, zero, suc, take, List, [], ◌∷◌, ◌++◌, Option, Some, None, refl, sym, ◌∙◌, subst, ap, append-nil, true, Result, Ok, Err, OnOk, OnErr, false, Bool, cond}
+use Rattle.std.proofs.Common.{◌≡◌, ◌≢◌, ◌<◌, ◌^◌, length, arith, ◌+◌, add-one, inl, inr, ℕ, zero, suc, take, List, [], ◌∷◌, ◌++◌, Option, Some, None, refl, sym, ◌∙◌, subst, ap, append-nil, true, Result, Ok, Err, OnOk, OnErr, false, cond}
 use Rattle.std.specs.Str.{bytes_eq, IsUtf8}
 use Rattle.std.proofs.Math.Path.{fun_ext}
 use Rattle.std.proofs.lemmas.Slice.Eq.{bytes_eq-Decides}

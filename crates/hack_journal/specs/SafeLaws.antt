@@ -1,5 +1,5 @@
 -- What the laws of files with a journal are proved by.
-use Rattle.std.proofs.Common.{◌≡◌, ◌≢◌, ◌+◌, inl, inr, ℕ, suc, zero, List, [], ◌∷◌, ◌++◌, Option, None, Bool, true, false, length, refl, sym, ◌∙◌, subst, ap, append_assoc, append-nil, arith, take}
+use Rattle.std.proofs.Common.{◌≡◌, ◌≢◌, ◌+◌, inl, inr, ℕ, suc, zero, List, [], ◌∷◌, ◌++◌, Option, None, true, false, length, refl, sym, ◌∙◌, subst, ap, append_assoc, append-nil, arith, take}
 use Rattle.std.specs.Str.{bytes_eq}
 use Rattle.std.proofs.lemmas.Bool.{cases_Bool}
 use Rattle.std.proofs.lemmas.Bool.Decides.{eqb_tells}

@@ -116,7 +116,7 @@ pub fn spell(alloc: Global, entries: &[Entry]) -> Result<Vec<u8>, AllocError>
 }
 
 /// Returns the text of a journal of this entry alone, with this path in place of its own.
-pub fn spell_at(alloc: Global, path: &str, entry: &Entry) -> Result<Vec<u8>, AllocError>
+pub(crate) fn spell_at(alloc: Global, path: &str, entry: &Entry) -> Result<Vec<u8>, AllocError>
     ensures { IfOk result (λ text. text.items ≡
         journal_text (record (edit_of entry.now) { path = path.now } ∷ [])) }
 {

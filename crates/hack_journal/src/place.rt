@@ -18,7 +18,7 @@ pub struct Place {
 }
 
 /// The path of a file of a journal's row, of which the first has the number 0.
-pub fn file_of(alloc: Global, journal: &str, number: u64) -> Result<String, AllocError>
+pub(crate) fn file_of(alloc: Global, journal: &str, number: u64) -> Result<String, AllocError>
     ensures { IfOk result (λ path. string_bytes path ≡ file_at journal.now number) }
 {
     if number == 0 {
@@ -28,7 +28,7 @@ pub fn file_of(alloc: Global, journal: &str, number: u64) -> Result<String, Allo
 }
 
 /// Whether a path is set aside for a journal: it begins with the journal's path.
-pub fn is_of_journal(journal: &str, path: &str) -> bool
+pub(crate) fn is_of_journal(journal: &str, path: &str) -> bool
     ensures { result ≡ is_of_journal journal.now path.now }
 {
     path.starts_with(journal)
@@ -36,7 +36,11 @@ pub fn is_of_journal(journal: &str, path: &str) -> bool
 
 /// The path that leads from a folder to this one. `None` where none is found: the path has detours,
 /// or it doesn't begin at the root and the folder does, or the other way round.
-pub fn relative(alloc: Global, folder: &str, path: &str) -> Result<Option<String>, AllocError>
+pub(crate) fn relative(
+    alloc: Global,
+    folder: &str,
+    path: &str,
+) -> Result<Option<String>, AllocError>
     ensures relative { IfOk result (λ found. IfSome found (λ way.
         is_rooted (string_bytes way) ≡ false)) }
     ensures leads { IfOk result (λ found. IfSome found (λ way.
@@ -51,7 +55,7 @@ pub fn relative(alloc: Global, folder: &str, path: &str) -> Result<Option<String
 }
 
 /// Where a path leads from a folder.
-pub fn absolute(alloc: Global, folder: &str, way: &str) -> Result<String, AllocError>
+pub(crate) fn absolute(alloc: Global, folder: &str, way: &str) -> Result<String, AllocError>
     ensures { IfOk result (λ path. string_bytes path ≡ leads_to folder.now way.now) }
 {
     let joined = join(alloc, folder, way)?;

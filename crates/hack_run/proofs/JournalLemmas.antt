@@ -1,19 +1,21 @@
 -- What a call over files with a journal did, after the journal is removed.
-use Rattle.std.proofs.Common.{◌≡◌, ◌≢◌, ◌⊎◌, ◌∙◌, ◌+◌, ◌-◌, ◌^◌, min, inl, inr, ap, arith, refl, sym, ℕ, Bool, true, false, List, [], ◌∷◌, ◌++◌}
+use Rattle.std.proofs.Common.{◌≡◌, ◌⊎◌, ◌∙◌, ◌+◌, ◌-◌, ◌^◌, min, inl, inr, ap, arith, refl, sym, ℕ, Bool, true, false, List, [], ◌∷◌, ◌++◌}
 use Rattle.std.proofs.lemmas.List.{length-append}
 use Rattle.std.proofs.lemmas.List.Elements.{Contains-append_left}
-use Rattle.hack_files.specs.Files.{Contents, KeepsAll, KeepsOthers}
+use Rattle.hack_files.specs.Files.{Contents, KeepsAll}
 use Rattle.hack_journal.specs.LockfilesApart.{KeepsLockfiles, apart, is_lockfile}
 use Rattle.hack_journal.specs.Journal.{Edit}
 use Rattle.hack_journal.specs.SafeFiles.{AreBack, KeepFirst, without}
-use Rattle.hack_journal.proofs.RecoverLemmas.{without_at, without_same}
+use Rattle.hack_journal.specs.Rows.{KeepsBeside, is_of_journal}
+use Rattle.hack_journal.proofs.RowLemmas.{apart_from}
+use Rattle.hack_journal.proofs.SafeLemmas.{without_at, without_same}
 use Rattle.hack_load.specs.FilesAfterLoading.{LeavesFew}
 use Rattle.hack_run.specs.Journals.{contents_seen}
 
 -- where the journal alone was changed the call sees the same, by the journal's first path too
-pub seen_same : (first j : List ℕ) (m n last lockfiles : Contents) → first ≡ j → KeepsOthers j m n → last ≡ n → apart (without j m) lockfiles ≡ contents_seen first last lockfiles
-seen_same first j m n last lockfiles named same is =
-    ap (λ c. apart c lockfiles) (sym (without_same j m n same)) ∙ ap (λ c. apart (without j c) lockfiles) (sym is) ∙ ap (λ k. apart (without k last) lockfiles) (sym named)
+pub seen_same : (first j : List ℕ) (k : ℕ) (m n last lockfiles : Contents) → first ≡ j → KeepsBeside j k m n → last ≡ n → apart (without j m) lockfiles ≡ contents_seen first last lockfiles
+seen_same first j k m n last lockfiles named same is =
+    ap (λ c. apart c lockfiles) (sym (without_same j m n (λ q out. same q (λ i lt. apart_from j i q out)))) ∙ ap (λ c. apart (without j c) lockfiles) (sym is) ∙ ap (λ k. apart (without k last) lockfiles) (sym named)
 
 -- what is left of files where the removal of the journal may fail
 pub leaves_end : (a b c : Contents) (n m : ℕ) → b ≡ c → ((m ≡ n) ⊎ (m ≡ min (n + 1) (2 ^ 64 - 1))) → LeavesFew (Unit {0}) a b 0 n → LeavesFew (Unit {0}) a c 0 m
@@ -37,8 +39,8 @@ pub none_before : (n m : ℕ) → m ≡ 0 → ((m ≡ n) ⊎ (m ≡ min (n + 1) 
 none_before n m none (inl same) = omega (arith, none, same)
 none_before n m none (inr one) = absurd (omega (arith, none, one))
 
--- a path but the journal's, where the call sees the same, and lockfiles are those of others
-same_path : (j : List ℕ) (first mid before now : Contents) → KeepsAll (apart (without j first) before) (apart (without j mid) now) → KeepsLockfiles (without j first) (without j mid) → (p : List ℕ) → p ≢ j → mid p ≡ first p
+-- a path that isn't set aside for the journal, where the call sees the same, and lockfiles are those of others
+same_path : (j : List ℕ) (first mid before now : Contents) → KeepsAll (apart (without j first) before) (apart (without j mid) now) → KeepsLockfiles (without j first) (without j mid) → (p : List ℕ) → is_of_journal j p ≡ false → mid p ≡ first p
 same_path j first mid before now all locks p ne = sym (without_at j mid p ne) ∙ go (is_lockfile p) refl ∙ without_at j first p ne
   where
     go : (b : Bool) → is_lockfile p ≡ b → without j mid p ≡ without j first p

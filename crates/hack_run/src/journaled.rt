@@ -50,14 +50,14 @@ pub fn run_journaled<F: Files, L: Files, C: Caller, O: Write, E: Write>(
         → IsCallTrace true (F.tells × L.tells) (names_of words.now) host.old.env.now
         (world_seen (string_bytes place.journal) (F.bytes_at files) (L.bytes_at lockfiles) 0
         (host_view C.Caller O.Write host.old))
-        (world_seen (string_bytes place.journal) (F.bytes_at result.1) (L.bytes_at result.2) result.3
-        (host_view C.Caller O.Write host.new)) }
+        (world_seen (string_bytes place.journal) (F.bytes_at result.1) (L.bytes_at result.2)
+        result.3 (host_view C.Caller O.Write host.new)) }
     ensures made { C.tells
         → IsCallTrace false (F.tells × L.tells) (names_of words.now) host.old.env.now
         (world_seen (string_bytes place.journal) (F.bytes_at files) (L.bytes_at lockfiles) 0
         (host_view C.Caller O.Write host.old))
-        (world_seen (string_bytes place.journal) (F.bytes_at result.1) (L.bytes_at result.2) result.3
-        (host_view C.Caller O.Write host.new)) }
+        (world_seen (string_bytes place.journal) (F.bytes_at result.1) (L.bytes_at result.2)
+        result.3 (host_view C.Caller O.Write host.new)) }
     ensures clean { host.new.term.now.error ≡ false
         → RestoresEdits host.old.env.now (names_of words.now) → F.tells → L.tells → KeepsAll
         (contents_seen (string_bytes place.journal) (F.bytes_at files) (L.bytes_at lockfiles))
@@ -69,7 +69,8 @@ pub fn run_journaled<F: Files, L: Files, C: Caller, O: Write, E: Write>(
     ensures back { RestoresEdits host.old.env.now (names_of words.now) → F.tells → L.tells
         → BringsBack
         (files_seen (string_bytes place.journal) (F.bytes_at files) (L.bytes_at lockfiles) 0)
-        (files_seen (string_bytes place.journal) (F.bytes_at result.1) (L.bytes_at result.2) result.3) }
+        (files_seen (string_bytes place.journal) (F.bytes_at result.1) (L.bytes_at result.2)
+        result.3) }
     ensures few { host.new.term.now.error ≡ false → result.3 ≤ 1 }
 
     // The journal is removed: where none existed before, edits don't stay and no call failed, none
@@ -102,7 +103,8 @@ fn end_journal<F: Files>(files: &mut Journaled<F>, failed: u64) -> u64
     ensures place { spot_in files.new ≡ spot_in files.old }
     ensures failed { (result ≡ failed) ⊎ (result ≡ min (failed + 1) (2 ^ 64 - 1)) }
     ensures others { F.tells → KeepsBeside files.old.notes.journal
-        (length files.old.notes.entries + 1) (F.bytes_at files.old.files) (F.bytes_at files.new.files) }
+        (length files.old.notes.entries + 1)
+        (F.bytes_at files.old.files) (F.bytes_at files.new.files) }
     ensures stays { F.tells → F.whole → Stays (spot_in files.old)
         files.old.notes.entries files.new.notes.entries
         (F.trace files.old.files) (F.trace files.new.files)

@@ -1,7 +1,7 @@
 //! A call that edits files with a journal at `j`, and the next call, which restores what the first
 //! had edited.
 //!
-//! A question about files is one of files in memory, or `recover`, and begins with their place:
+//! A question about files is one of files in memory, `recover` or `row`, and begins with their place:
 //!
 //! - `below: ..`: those under the journal, before the call and after it.
 //! - `lockfiles: ..`: those of the lockfiles, which are separate.
@@ -11,8 +11,9 @@
 //! Without a place it is about the files over the journal. `begin` takes the files below into a
 //! call, `finish` asks whether no journal is left, and `end` gives the files below back. `cut N`
 //! makes the files that the first N changes leave, and `front N` recovers these too: it shows the
-//! paths that were restored, or the error, and the contents at the paths. `begin` and `recover` may
-//! be followed by the folder that the journal lies in. The modules below have more questions.
+//! paths that were restored, or the error, and the contents at the paths. `row` shows what is read of
+//! a journal. `begin`, `recover` and `row` may be followed by the folder that the journal lies in. The
+//! modules below have more questions.
 
 mod apart;
 mod failing;
@@ -31,6 +32,7 @@ use hack_journal::apart::Apart;
 use hack_journal::journaled::Journaled;
 use hack_journal::place::Place;
 use hack_journal::recover::recover;
+use hack_journal::rows::row_at;
 use std::alloc::{AllocError, Global};
 use std::mem;
 
@@ -73,11 +75,22 @@ fn recovered<F: Files>(alloc: Global, files: &mut F, folder: &str) -> Result<Str
     }
 }
 
+/// The row of a journal, or the error.
+fn row_in<F: Files>(alloc: Global, files: &mut F, folder: &str) -> Result<String, AllocError> {
+    let place = place(alloc, folder)?;
+    match row_at(alloc, files, &place) {
+        Ok(row) => format!(in alloc; "{row:?}"),
+        Err(fault) => format!(in alloc; "{fault}"),
+    }
+}
+
 /// Answers a question about files in memory or their recovery.
 fn memory(alloc: Global, files: &mut MemoryFiles, question: &str) -> Result<String, AllocError> {
-    match question.strip_prefix("recover") {
-        Some(folder) => recovered(alloc, files, folder.trim_start()),
-        None => in_memory(alloc, files, question),
+    let (kind, folder) = question.split_once(' ').unwrap_or((question, ""));
+    match kind {
+        "recover" => recovered(alloc, files, folder),
+        "row" => row_in(alloc, files, folder),
+        _ => in_memory(alloc, files, question),
     }
 }
 

@@ -31,7 +31,7 @@ fn each_edit_adds_a_file(rt: HostRuntime) -> Result<(), Wrong> {
         rt.alloc(),
         &[
             EDITED,
-            r"
+            r#"
                 > below: held /w/j
                 | /w/j 'edited files\npath Cargo.toml\nheld\n one\nwrote\n uno\nend\n'
                 > below: held /w/j~1
@@ -42,11 +42,13 @@ fn each_edit_adds_a_file(rt: HostRuntime) -> Result<(), Wrong> {
                 | /w/j~3 -
                 > below: changes
                 | 9
+                > below: row /w
+                | Some(Row { entries: [Entry { path: "/w/Cargo.toml", held: Some([111, 110, 101]), wrote: Some([117, 110, 111]) }, Entry { path: "/w/a/Cargo.toml", held: Some([116, 119, 111]), wrote: Some([100, 111, 115]) }, Entry { path: "/outside/Cargo.toml", held: Some([116, 104, 114, 101, 101]), wrote: Some([116, 114, 101, 115]) }], count: 3 })
                 > below: recover /w
                 | /w/Cargo.toml /w/a/Cargo.toml /outside/Cargo.toml
                 > below: held /w/Cargo.toml /w/a/Cargo.toml /outside/Cargo.toml /w/j /w/j~1 /w/j~2
                 | /w/Cargo.toml 'one' /w/a/Cargo.toml 'two' /outside/Cargo.toml 'three' /w/j - /w/j~1 - /w/j~2 -
-            ",
+            "#,
         ],
     )
 }
@@ -169,18 +171,22 @@ fn an_old_journal_is_a_row_of_one_file(rt: HostRuntime) -> Result<(), Wrong> {
     on(
         rt.alloc(),
         &[
-            r"
+            r#"
+                > below: row /w
+                | None
                 > below: write /w/Cargo.toml uno
                 | ok
                 > below: write /w/a/Cargo.toml two
                 | ok
                 > below: write /w/j edited files\npath /w/Cargo.toml\nheld\n one\nwrote\n uno\npath /w/a/Cargo.toml\nheld\n two\nwrote\n dos\nend\n
                 | ok
+                > below: row /w
+                | Some(Row { entries: [Entry { path: "/w/Cargo.toml", held: Some([111, 110, 101]), wrote: Some([117, 110, 111]) }, Entry { path: "/w/a/Cargo.toml", held: Some([116, 119, 111]), wrote: Some([100, 111, 115]) }], count: 1 })
                 > below: recover /w
                 | /w/Cargo.toml
                 > below: held /w/Cargo.toml /w/a/Cargo.toml /w/j
                 | /w/Cargo.toml 'one' /w/a/Cargo.toml 'two' /w/j -
-            ",
+            "#,
         ],
     )
 }

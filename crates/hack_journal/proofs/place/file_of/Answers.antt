@@ -1,4 +1,4 @@
-use Rattle.std.proofs.Common.{◌≡◌, ◌++◌, List, ℕ, IfOk, codes, decimal, ap, ◌∙◌, sym, subst, string_bytes}
+use Rattle.std.proofs.Common.{◌≡◌, List, ℕ, IfOk, ap, ◌∙◌, sym, subst, string_bytes}
 use Rattle.hack_journal.specs.Rows.{file_at}
 use Rattle.hack_journal.proofs.RowLemmas.{file_zero, file_later}
 use Rattle.hack_journal.proofs.place.file_of.Goals as goal

@@ -1,4 +1,4 @@
-use Rattle.std.proofs.Common.{◌≡◌, ◌-◌, ◌∙◌, List, ℕ, ap, sym, arith}
+use Rattle.std.proofs.Common.{◌-◌, ◌∙◌, List, ℕ, ap, sym, arith}
 use Rattle.hack_journal.specs.Rows.{file_at}
 use Rattle.hack_journal.specs.SafeLaws.{makes_none, stay_none}
 use Rattle.hack_journal.proofs.RecoverLemmas.{back_but_safe, remove_failed, remove_went}

@@ -1,4 +1,3 @@
-use Rattle.std.proofs.Common.{◌≡◌, ◌∙◌, ap, sym, string_bytes}
 use Rattle.hack_journal.specs.Journal.{edit_of}
 use Rattle.hack_journal.proofs.RecoverLemmas.{on_ok_always, put_keeps}
 use Rattle.hack_journal.proofs.recover.put_back.Goals as goal

@@ -1,11 +1,8 @@
-use Rattle.std.proofs.Common.{◌≡◌, ◌∙◌, List, ℕ, ap, sym, subst, string_bytes}
+use Rattle.std.proofs.Common.{◌≡◌, List, ℕ, ap, sym, subst, string_bytes}
 use Rattle.hack_base.specs.Names.{names_of}
-use Rattle.hack_files.specs.Files.{KeepsAll, after}
-use Rattle.hack_journal.specs.Journal.{Edit, edits_of}
-use Rattle.hack_journal.specs.Internal.{AddsChanged, backs}
+use Rattle.hack_journal.specs.Journal.{edits_of}
 use Rattle.hack_journal.specs.Recovery.{AreChanged}
 use Rattle.hack_journal.specs.Rows.{spot_of}
-use Rattle.hack_journal.specs.SafeFiles.{IsSafeBy}
 use Rattle.hack_journal.specs.SafeLaws.{stay_append}
 use Rattle.hack_journal.proofs.RecoverLemmas.{back_but_of, changed_along}
 use Rattle.hack_journal.proofs.RowLemmas.{apart_from}

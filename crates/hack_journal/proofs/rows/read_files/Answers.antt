@@ -1,12 +1,9 @@
-use Rattle.std.proofs.Common.{◌≡◌, ◌∙◌, ◌+◌, ℕ, sym, subst, arith, string_bytes}
+use Rattle.std.proofs.Common.{◌∙◌, arith}
 use Rattle.std.proofs.lemmas.Result.{err_from_is_err_and}
 use Rattle.std.proofs.lemmas.Grind.{common_steps}
-use Rattle.hack_files.specs.Files.{Contents}
 use Rattle.hack_journal.specs.Journal.{edits_of}
-use Rattle.hack_journal.specs.Rows.{AreRead, file_at, spot_of}
-use Rattle.hack_journal.specs.Internal.{IsReadMore}
+use Rattle.hack_journal.specs.Rows.{spot_of}
 use Rattle.hack_journal.specs.SafeLaws.{makes_append}
-use Rattle.hack_journal.proofs.FinishLemmas.{all_same}
 use Rattle.hack_journal.proofs.RecoverLemmas.{read_more_at, why_torn}
 use Rattle.hack_journal.proofs.rows.read_files.Goals as goal
 

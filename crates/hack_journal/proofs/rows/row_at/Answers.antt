@@ -1,6 +1,5 @@
-use Rattle.std.proofs.Common.{◌≡◌, ◌∙◌, ap, sym, subst, ℕ, true, false, string_bytes}
+use Rattle.std.proofs.Common.{◌≡◌, ◌∙◌, ap, sym, true, string_bytes}
 use Rattle.std.proofs.lemmas.Bool.{false≢true}
-use Rattle.hack_journal.specs.Journal.{edits_of}
 use Rattle.hack_journal.specs.Rows.{file_at, spot_of}
 use Rattle.hack_journal.proofs.RowLemmas.{file_zero}
 use Rattle.hack_journal.proofs.RecoverLemmas.{no_call, why_no_journal}

@@ -1,4 +1,4 @@
-use Rattle.std.proofs.Common.{◌≡◌, ◌++◌, ◌∷◌, [], ◌⊎◌, ap, sym, ◌∙◌, subst, List, ℕ, true, false, inl, inr, length, string_bytes}
+use Rattle.std.proofs.Common.{◌≡◌, ◌++◌, ◌∷◌, [], sym, ◌∙◌, subst, List, ℕ, true, false, inl, inr, length, string_bytes}
 use Rattle.std.proofs.lemmas.Bool.{false≢true}
 use Rattle.hack_files.specs.Files.{Makes, MakesOrNot, removes}
 use Rattle.hack_journal.specs.Journal.{Edit}

@@ -1,4 +1,4 @@
-use Rattle.std.proofs.Common.{◌≡◌, ◌∙◌, false, string_bytes, inl, sym}
+use Rattle.std.proofs.Common.{◌≡◌, ◌∙◌, false, inl, sym}
 use Rattle.std.proofs.lemmas.Result.{err_from_is_err_and, on_ok_weaker, on_err_weaker}
 use Rattle.hack_journal.specs.Rows.{is_of_journal}
 use Rattle.hack_journal.specs.SafeLaws.{stays_none, makes_none, stays_more}

@@ -1,4 +1,4 @@
-use Rattle.std.proofs.Common.{◌≡◌, ◌∙◌, ◌+◌, ap, arith, length, sym, subst}
+use Rattle.std.proofs.Common.{◌∙◌, ap, arith, sym, subst}
 use Rattle.hack_files.specs.Files.{Contents}
 use Rattle.hack_journal.specs.SafeFiles.{AreBack}
 use Rattle.hack_journal.specs.SafeLaws.{stays_none, stays_more}

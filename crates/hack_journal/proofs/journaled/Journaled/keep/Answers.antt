@@ -1,4 +1,4 @@
-use Rattle.std.proofs.Common.{◌≡◌, ap, sym, ◌∙◌, subst, List}
+use Rattle.std.proofs.Common.{◌≡◌, ap, sym, subst}
 use Rattle.hack_journal.specs.SafeLaws.{stays_none, stays_join, makes_none}
 use Rattle.hack_journal.specs.SafeFiles.{Stays}
 use Rattle.hack_journal.specs.Internal.{IsNotable}
@@ -6,7 +6,7 @@ use Rattle.hack_journal.specs.Rows.{Noted}
 use Rattle.hack_journal.specs.FileCalls.{spot_in}
 use Rattle.hack_journal.proofs.FinishLemmas.{all_same}
 use Rattle.hack_journal.proofs.SafeLemmas.{notable_of, told_ok}
-use Rattle.hack_journal.specs.Journal.{Edit, edit_of}
+use Rattle.hack_journal.specs.Journal.{edit_of}
 use Rattle.hack_journal.proofs.journaled.Journaled.keep.Goals as goal
 
 pub returns-in_err-entry-clause-stays : goal.returns-in_err-entry-clause-stays

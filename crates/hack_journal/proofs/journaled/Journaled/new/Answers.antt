@@ -1,7 +1,6 @@
-use Rattle.std.proofs.Common.{inl, refl, sym, ◌∙◌, subst, string_bytes}
-use Rattle.hack_journal.specs.Rows.{Noted, Spot}
+use Rattle.std.proofs.Common.{sym, subst, string_bytes}
+use Rattle.hack_journal.specs.Rows.{Noted}
 use Rattle.hack_journal.specs.SafeFiles.{IsJournaled}
-use Rattle.hack_journal.proofs.RowLemmas.{nothing_yet, file_zero}
 use Rattle.hack_journal.proofs.SafeLemmas.{journaled_begun}
 use Rattle.hack_journal.proofs.journaled.Journaled.new.Goals as goal
 

@@ -1,8 +1,7 @@
-use Rattle.std.proofs.Common.{◌≡◌, ◌-◌, ◌∙◌, length, ap, sym, arith, string_bytes}
+use Rattle.std.proofs.Common.{◌≡◌, ◌-◌, ◌∙◌, length, ap, arith, string_bytes}
 use Rattle.hack_base.specs.Names.{names_of}
 use Rattle.std.proofs.lemmas.List.{length-take}
 use Rattle.hack_journal.proofs.NoteLemmas.{later_less}
-use Rattle.hack_journal.specs.Journal.{edit_of}
 use Rattle.hack_journal.proofs.notes.Notes.pop.Goals as goal
 
 pub invariant_of-self : goal.invariant_of-self

@@ -1,4 +1,4 @@
-use Rattle.std.proofs.Common.{◌≡◌, ◌+◌, ◌∙◌, ◌++◌, [], ◌∷◌, List, ℕ, length, ap, sym, subst, arith, string_bytes}
+use Rattle.std.proofs.Common.{◌≡◌, ◌+◌, ◌∙◌, ◌++◌, [], ◌∷◌, length, ap, sym, subst, arith, string_bytes}
 use Rattle.std.proofs.lemmas.List.{length-map, length-append}
 use Rattle.hack_base.specs.Names.{names_of}
 use Rattle.hack_journal.proofs.NoteLemmas.{later_more}
