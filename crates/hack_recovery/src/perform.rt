@@ -274,9 +274,7 @@ fn journaled<F: Files, L: Files, G: Guards, C: Caller, O: Write, E: Write>(
 {
     match guards.start(host.alloc, begun.places.place.folder.as_str()) {
         Ok(watches) => {
-            if !watches && begun.verbose {
-                tell_unwatched(host.term, host.err);
-            }
+            tell_watch(watches, begun.verbose, host.term, host.err);
             let ended = copied(words, begun, files, lockfiles, host);
             guards.leave();
             ended
@@ -316,8 +314,11 @@ fn copied<F: Files, L: Files, C: Caller, O: Write, E: Write>(
     }
 }
 
-/// Says that nobody restores the manifests where this call ends early.
-fn tell_unwatched<E: Write>(term: &Term, err: &mut E) {
+/// Says, where more is asked for, that nobody restores the manifests where this call ends early.
+fn tell_watch<E: Write>(watches: bool, verbose: bool, term: &Term, err: &mut E) {
+    if watches || !verbose {
+        return;
+    }
     let text =
         "no guard could be started: where this call is interrupted, the next one restores the manifests";
     let _ = term.info(text, err);

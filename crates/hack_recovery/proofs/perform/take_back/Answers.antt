@@ -19,6 +19,13 @@ returns-clause-goes g c = λ locks guards.
     (rw (done_true _ _ c.is_done.ensures c.if-not-is_done.false) at c.restore-journal.ensures)
     (rw (done_true _ _ c.is_done-2.ensures c.if-not-is_done-2.false) at c.restore-older.ensures)
     (record {
-      gone = settled-by.gone; others = settled-by.others; made = settled-by.made; given = settled-by.given; left = settled-by.left; none = settled-by.none; apart = settled-by.apart; told = settled-by.told;
+      gone = settled-by.gone;
+      others = settled-by.others;
+      made = settled-by.made;
+      given = settled-by.given;
+      left = settled-by.left;
+      none = settled-by.none;
+      apart = settled-by.apart;
+      told = settled-by.told;
       quiet = record { calls = ap (λ (h : HostView). h.calls) settled-by.view; out = ap (λ (h : HostView). h.out) settled-by.view; locks = refl; guards = refl };
     })
