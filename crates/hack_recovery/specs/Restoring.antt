@@ -4,8 +4,7 @@ use Rattle.std.specs.Option.{option_or}
 use Rattle.hack_base.specs.Counters.{GrowsBy}
 use Rattle.hack_base.specs.Names.{Name}
 use Rattle.hack_files.specs.Files.{Contents, KeepsAll, KeepsOthers, Makes, MakesOrNot, puts, removes}
-use Rattle.hack_journal.specs.Internal.{IsWhyUnread}
-use Rattle.hack_journal.specs.Recovery.{CountsRecoverFault, IsJournalRefusal, IsRestored, IsWhy}
+use Rattle.hack_journal.specs.Recovery.{CountsRecoverFault, IsJournalRefusal, IsRestored, IsWhy, IsWhyUnread}
 use Rattle.hack_journal.specs.Rows.{Spot}
 use Rattle.hack_journal.specs.SafeFiles.{IsSafe, StaysSafe}
 use Rattle.hack_journal.specs.declared.recover.RecoverFault.{RecoverFault}
