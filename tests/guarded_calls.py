@@ -273,9 +273,10 @@ def races(place, count):
 
 
 def at_any_moment(place, count):
-    """Signal 9 to the program at moments that are spread over a call."""
+    """Signal 9 to the program at moments that are spread over a call. (A cargo that goes on then may still change the lockfile,
+    so this one doesn't.)"""
     place.lay_out()
-    place.does(MORE)
+    place.does(":\n")
     start, killed = time.monotonic(), 0
     place.call(EDITS)
     took = time.monotonic() - start

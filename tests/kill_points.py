@@ -16,6 +16,7 @@ version, a workspace that was copied or moved with its journal, and a lockfile t
 
 Prints a line for each. The last line is `N passed, M failed, K skipped`; the status is 1 where one failed.
 """
+import glob
 import itertools
 import os
 import shutil
@@ -222,7 +223,8 @@ def removed_by_hand(place):
     place.refuses(PLAIN, f"remove `{place.journal}`")
     for name, text in FILES.items():
         rewrite(f"{place.workspace}/{name}", text)
-    os.remove(place.journal)
+    for name in glob.glob(f"{glob.escape(place.journal)}*"):
+        os.remove(name)
     for words in (PLAIN, EDITS, LEAVES_OUT):
         place.restores(words, [])
     place.as_before()
@@ -302,18 +304,6 @@ def older(place):
     place.as_before()
 
 
-def older_copied(place):
-    """The journal of an older version in a copy of its workspace isn't followed into the first one."""
-    write_older(place)
-    copy = f"{place.workspace}-copy"
-    shutil.copytree(place.workspace, copy)
-    before = tree(place.workspace)
-    status, told = place.call(PLAIN, folder=copy)
-    found = difference(before, tree(place.workspace))
-    shutil.rmtree(copy)
-    must(found is None, f"of the first one, {found}; the call in the copy ends with {status}: {told}")
-
-
 def copied(place):
     """A workspace that is copied with its journal restores itself, and leaves the first one alone."""
     place.lay_out()
@@ -378,7 +368,6 @@ LOOKS = {
     "a torn journal": torn,
     "journals that no call writes": strangers,
     "a journal of an older version": older,
-    "the same in a copied workspace": older_copied,
     "a copied workspace": copied,
     "a moved workspace": moved,
     "edits that stay": edits_that_stay,

@@ -20,6 +20,10 @@ use hack_term::term::Term;
 use std::alloc::Global;
 use std::io::Write;
 
+/// What somebody has to know who puts back by hand what a journal tells.
+const ROW: &str =
+    "a journal goes on in files that are named as it is, with `~1`, `~2` and so on behind that";
+
 /// Restores what an interrupted call left edited, and reports it. Returns whether it is back; if it
 /// can't be restored, an error was reported. `dir` is the current folder, from which paths are
 /// shown.
@@ -141,9 +145,19 @@ fn tell_fault<E: Write>(
     if is_memory(&fault) {
         return Err(CallFault::Memory);
     }
+    if is_refusal(&fault) {
+        let _ = term.info(ROW, err);
+    }
     let text = format!(in alloc; "{fault}")?;
     let _ = term.error(&text, err);
     Ok(false)
+}
+
+fn is_refusal(fault: &RecoverFault) -> bool {
+    match fault {
+        RecoverFault::NotJournal(_) | RecoverFault::Changed { .. } => true,
+        _ => false,
+    }
 }
 
 fn is_memory(fault: &RecoverFault) -> bool {
