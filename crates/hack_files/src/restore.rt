@@ -31,6 +31,8 @@ struct Saved {
 pub struct Manager {
     needs_restore: bool,
     saved: Vec<Saved>,
+    /// The path of a write that failed, which the caller reports.
+    reported: Option<String>,
 }
 
 impl Manager {
@@ -42,6 +44,18 @@ impl Manager {
         Manager {
             needs_restore,
             saved: Vec::new(alloc),
+            reported: None,
+        }
+    }
+
+    /// Leaves it to the caller to report that this path can't be written: where it can't be written
+    /// back either, `restore_all` says nothing of that. Where memory is refused, it does.
+    pub fn leave_report(&mut self, alloc: Global, path: &str)
+        ensures files { registered_files self.new ≡ registered_files self.old }
+        ensures needs { self.new.needs_restore ≡ self.old.needs_restore }
+    {
+        if let Ok(path) = String::from_str(alloc, path) {
+            self.reported = Some(path);
         }
     }
 
@@ -147,9 +161,9 @@ impl Manager {
     }
 
     /// Writes each file back, in the order of registration and also after a failure. Returns how
-    /// many writes failed, and prints an error for each of these; in verbose mode it also prints a
-    /// line before each write. A line that can't be printed is left out. It takes no memory, unless
-    /// `files` does.
+    /// many writes failed, and reports an error for each of these, which is printed unless the
+    /// caller does that (`leave_report`); in verbose mode it also prints a line before each write. A
+    /// line that can't be printed is left out. It takes no memory, unless `files` does.
     pub fn restore_all<F: Files, W: Write>(self, files: &mut F, term: &mut Term, err: &mut W) -> u64
         ensures stays { F.stays files.old files.new }
         ensures counted { GrowsBy result (F.failed files.old) (F.failed files.new) }
@@ -164,10 +178,11 @@ impl Manager {
         let Manager {
             needs_restore: _,
             saved,
+            reported,
         } = self;
         let mut failures = 0;
         for file in &saved {
-            if !file.put_back(files, term, err) {
+            if !file.put_back(reported.as_deref(), files, term, err) {
                 failures += 1;
             }
         }
@@ -176,8 +191,15 @@ impl Manager {
 }
 
 impl Saved {
-    // Writes the file back, prints the lines for it, and returns whether it was written.
-    fn put_back<F: Files, W: Write>(&self, files: &mut F, term: &mut Term, err: &mut W) -> bool
+    // Writes the file back, prints the lines for it, and returns whether it was written. Its failure
+    // isn't printed where its path is the one that is reported otherwise.
+    fn put_back<F: Files, W: Write>(
+        &self,
+        reported: Option<&str>,
+        files: &mut F,
+        term: &mut Term,
+        err: &mut W,
+    ) -> bool
         ensures stays { F.stays files.old files.new }
         ensures counted { GrowsBy (cond result 0 1) (F.failed files.old) (F.failed files.new) }
         ensures written { OnTrue result (F.tells →
@@ -197,7 +219,11 @@ impl Saved {
         match files.write(self.path.as_str(), &self.bytes) {
             Ok(()) => true,
             Err(_) => {
-                let _ = term.error(self.failed.as_str(), err);
+                if reported == Some(self.path.as_str()) {
+                    term.error = true;
+                } else {
+                    let _ = term.error(self.failed.as_str(), err);
+                }
                 false
             }
         }

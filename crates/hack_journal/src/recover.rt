@@ -148,12 +148,15 @@ fn check_all<F: Files>(
     }
 }
 
-// Puts back what this entry keeps. Where the path held something else, it is added to these.
+// Puts back what this entry keeps. Where the path held something else, it is added to these. The
+// last entry is written also where its path holds that already: its edit may have been interrupted,
+// and a write on the disk removes what an interrupted one left beside the path.
 #[tactic(auto, using(crate::proofs::CountLemmas::grows_then))]
 fn put_back<F: Files>(
     alloc: Global,
     files: &mut F,
     entry: &Entry,
+    is_last: bool,
     paths: &mut Vec<String>,
 ) -> Result<(), RecoverFault>
     ensures failures { IsFailureCounted (F.failed files.old) (F.failed files.new) result }
@@ -173,10 +176,12 @@ fn put_back<F: Files>(
         Ok(now) => now,
         Err(fault) => return Err(read_fault(alloc, &entry.path, fault)),
     };
-    if same(now.as_deref(), entry.held.as_deref()) {
+    let is_back = same(now.as_deref(), entry.held.as_deref());
+    if is_back && !is_last {
         return Ok(());
     }
     match put(files, &entry.path, entry.held.as_deref()) {
+        Ok(()) if is_back => Ok(()),
         Ok(()) => add_path(alloc, paths, &entry.path),
         Err(fault) => Err(write_fault(alloc, &entry.path, fault)),
     }
@@ -211,7 +216,7 @@ fn put_all_back<F: Files>(
     match entries.split_first() {
         None => Ok(()),
         Some((entry, rest)) => {
-            put_back(alloc, files, entry, paths)?;
+            put_back(alloc, files, entry, rest.is_empty(), paths)?;
             put_all_back(alloc, files, rest, paths)
         }
     }

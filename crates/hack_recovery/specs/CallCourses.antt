@@ -9,6 +9,7 @@ use Rattle.hack_run.specs.CallTrace.{IsCallTrace}
 use Rattle.hack_run.specs.TemporaryEdits.{BringsBack, IsClean, RestoresEdits}
 use Rattle.hack_run.specs.Refusals.{AreRefused, ReportsRefusal}
 use Rattle.hack_run.specs.Worlds.{FilesView}
+use Rattle.hack_term.specs.Lines.{IsExitStatus}
 use Rattle.hack_term.specs.declared.term.Term.{Term}
 use Rattle.hack_words.specs.declared.cli.env.Env.{Env}
 use Rattle.hack_recovery.specs.declared.admit.Way.{Way}
@@ -112,13 +113,13 @@ pub data CopiesAndRuns (tells whole locked talks : Type 0) (words : List Name) (
   uncopied : (at : Scene) → KeepsCopy tells whole locked false places old at → new ≡ scene_with at.files new.host.term at → IsFailed new
       → CopiesAndRuns tells whole locked talks words env places old new
 
--- how a call with a journal goes: a guard of the workspace's folder is started before anything is
--- changed or called, and it is left, whatever came of the call; nothing hangs on whether it came. Or
--- memory was refused for its start
+-- how a call with a journal goes: a guard of the workspace's folder is started, and whatever came of
+-- the call, it is left with the exit status, which is known once all is restored and what stays was
+-- reported; nothing hangs on whether it came. Or memory was refused for its start
 pub data IsJournaledCall (tells whole locked talks watched : Type 0) (words : List Name) (env : Env) (places : PlacesAt) (old new : Scene) : Type 0 where
-  performed : (came : Bool) (guards last : GuardsView) (ran : Scene) → (watched → guards ≡ after_start places.folder came old.guards)
+  performed : (came : Bool) (status : ℕ) (guards last : GuardsView) (ran : Scene) → (watched → guards ≡ after_start places.folder came old.guards)
       → CopiesAndRuns tells whole locked talks words env places (record old { guards = guards }) ran
-      → (watched → last ≡ after_leave guards) → new ≡ record ran { guards = last }
+      → IsExitStatus env.deny_warnings ran.host.term status → (watched → last ≡ after_leave status guards) → new ≡ record ran { guards = last }
       → IsJournaledCall tells whole locked talks watched words env places old new
   unwatched : (guards : GuardsView) → (watched → guards ≡ old.guards) → new ≡ record (scene_with old.files new.host.term old) { guards = guards } → IsFailed new
       → IsJournaledCall tells whole locked talks watched words env places old new

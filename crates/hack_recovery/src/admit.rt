@@ -23,29 +23,29 @@ pub fn admit<K: Locks>(
     alloc: Global,
     edits: Edits,
     folder: &str,
-    is_there: bool,
+    is_left: bool,
     locks: &mut K,
 ) -> Result<Way, CallFault>
-    ensures { IsAdmitted K.tells edits folder.now is_there
+    ensures { IsAdmitted K.tells edits folder.now is_left
         (K.shown locks.old) (K.shown locks.new) result }
 {
-    if !needs_lock(edits, is_there) {
+    if !needs_lock(edits, is_left) {
         return Ok(Way::Plain);
     }
     let holder = locks.take(alloc, folder)?;
-    decided(edits, is_there, holder)
+    decided(edits, is_left, holder)
 }
 
 /// Whether there is something to guard.
-fn needs_lock(edits: Edits, is_there: bool) -> bool
-    ensures { result ≡ needs_lock edits is_there }
+fn needs_lock(edits: Edits, is_left: bool) -> bool
+    ensures { result ≡ needs_lock edits is_left }
 {
-    edits.is_edit() || is_there
+    edits.is_edit() || is_left
 }
 
 /// How a call may go on, given who has the lock.
-fn decided(edits: Edits, is_there: bool, holder: Holder) -> Result<Way, CallFault>
-    ensures { result ≡ way_of edits is_there holder }
+fn decided(edits: Edits, is_left: bool, holder: Holder) -> Result<Way, CallFault>
+    ensures { result ≡ way_of edits is_left holder }
 {
     match holder {
         Holder::Ours => Ok(Way::Guarded),
@@ -57,7 +57,7 @@ fn decided(edits: Edits, is_there: bool, holder: Holder) -> Result<Way, CallFaul
         }
         // Without a lock a journal of this call would be useless.
         Holder::Unknown => {
-            if edits.is_change() && is_there {
+            if edits.is_change() && is_left {
                 return Err(CallFault::Unlocked);
             }
             Ok(Way::Plain)

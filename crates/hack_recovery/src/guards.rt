@@ -1,6 +1,6 @@
 //! Guards: who restores edited manifests at once where a call ends before it does so itself.
 
-ghost use Rattle.std.specs.Prelude.{◌≡◌, [], IfOk, OnErr, false, map};
+ghost use Rattle.std.specs.Prelude.{◌≡◌, [], IfOk, None, OnErr, false, map};
 ghost use Rattle.hack_recovery.specs.GuardEvents.{GuardsView, after_leave, after_start};
 ghost use Rattle.hack_recovery.specs.MemoryGuards.{start_of};
 
@@ -9,7 +9,7 @@ mod shell;
 pub use self::shell::ShellGuards;
 use std::alloc::{AllocError, Global};
 
-/// Starts guards. One that watches restores the manifests of a folder as soon as this call ends
+/// Starts guards. One that watches restores the manifests of a folder as soon as this process ends
 /// without leaving it, whatever ended it.
 pub trait Guards {
     /// Whether the type says which guards were started, by `shown`.
@@ -26,9 +26,9 @@ pub trait Guards {
             → shown self.new ≡ after_start folder.now watches (shown self.old)) }
         ensures refused { OnErr result (tells → shown self.new ≡ shown self.old) };
 
-    /// Tells the guard that nothing is left to restore, and waits for its end.
-    fn leave(&mut self)
-        ensures { tells → shown self.new ≡ after_leave (shown self.old) };
+    /// Tells the guard that the call got to its end, with this exit status, and waits for its end.
+    fn leave(&mut self, status: u8)
+        ensures { tells → shown self.new ≡ after_leave status (shown self.old) };
 }
 
 /// A guard that was asked for, and whether it came.
@@ -44,6 +44,7 @@ pub struct FakeGuards {
     comes: bool,
     starts: Vec<GuardStart>,
     is_watching: bool,
+    status: Option<u8>,
 }
 
 impl FakeGuards {
@@ -52,11 +53,13 @@ impl FakeGuards {
         ensures comes { result.comes ≡ comes }
         ensures starts { result.starts.items ≡ [] }
         ensures is_watching { result.is_watching ≡ false }
+        ensures status { result.status ≡ None }
     {
         FakeGuards {
             comes,
             starts: Vec::new(alloc),
             is_watching: false,
+            status: None,
         }
     }
 
@@ -73,6 +76,13 @@ impl FakeGuards {
     {
         self.is_watching
     }
+
+    /// The exit status that the last guard was left with, if it was.
+    pub fn status(&self) -> Option<u8>
+        ensures { result ≡ self.now.status }
+    {
+        self.status
+    }
 }
 
 impl Guards for FakeGuards {
@@ -81,6 +91,7 @@ impl Guards for FakeGuards {
     ghost shown = { λ guards. record {
       starts = map start_of guards.starts.items;
       is_watching = guards.is_watching;
+      status = guards.status;
     } };
 
     fn start(&mut self, alloc: Global, folder: &str) -> Result<bool, AllocError> {
@@ -88,10 +99,12 @@ impl Guards for FakeGuards {
         let watches = self.comes;
         self.starts.push(GuardStart { folder, watches })?;
         self.is_watching = watches;
+        self.status = None;
         Ok(watches)
     }
 
-    fn leave(&mut self) {
+    fn leave(&mut self, status: u8) {
         self.is_watching = false;
+        self.status = Some(status);
     }
 }

@@ -276,7 +276,7 @@ fn journaled<F: Files, L: Files, G: Guards, C: Caller, O: Write, E: Write>(
         Ok(watches) => {
             tell_watch(watches, begun.verbose, host.term, host.err);
             let ended = copied(words, begun, files, lockfiles, host);
-            guards.leave();
+            guards.leave(ended.0);
             ended
         }
         Err(fault) => (

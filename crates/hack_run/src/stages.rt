@@ -23,10 +23,10 @@ use crate::fault::RunFault;
 use crate::host::Host;
 use crate::print_list::print_list;
 use crate::tell::tell_all;
-use hack_files::fs::Files;
+use hack_files::fs::{Files, FsFault};
 use hack_files::restore::Manager;
 use hack_load::context::{Answers, Context};
-use hack_prepare::manifest::{finish, prepare};
+use hack_prepare::manifest::{PrepareFault, finish, prepare};
 use hack_process::process::Caller;
 use hack_term::term::Term;
 use hack_versions::version::Version;
@@ -159,7 +159,20 @@ fn edit<F: Files, E: Write>(
             tell_all(notices.as_slice(), term, err);
             Ok(())
         }
-        Err(fault) => Err(RunFault::Manifests(fault)),
+        Err(fault) => {
+            leave_report(alloc, &fault, manager);
+            Err(RunFault::Manifests(fault))
+        }
+    }
+}
+
+/// Sees to it that a failed write is reported once, as the error of the call.
+fn leave_report(alloc: Global, fault: &PrepareFault, manager: &mut Manager)
+    ensures files { registered_files manager.new ≡ registered_files manager.old }
+    ensures needs { manager.new.needs_restore ≡ manager.old.needs_restore }
+{
+    if let PrepareFault::Files(FsFault::Write(path)) = fault {
+        manager.leave_report(alloc, path);
     }
 }
 

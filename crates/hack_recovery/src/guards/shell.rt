@@ -51,7 +51,7 @@ impl<R: Processes + rt::Files + AllocGlobal + Drop> ShellGuards<R> {
 impl<R: Processes + rt::Files + AllocGlobal + Drop> Guards for ShellGuards<R> {
     ghost tells = { ⊥ };
 
-    ghost shown = { λ _. record { starts = []; is_watching = false } };
+    ghost shown = { λ _. record { starts = []; is_watching = false; status = None } };
 
     fn start(&mut self, alloc: Global, folder: &str) -> Result<bool, AllocError> {
         match self.spawn(alloc, folder) {
@@ -64,10 +64,10 @@ impl<R: Processes + rt::Files + AllocGlobal + Drop> Guards for ShellGuards<R> {
         }
     }
 
-    fn leave(&mut self) {
+    fn leave(&mut self, status: u8) {
         if let Some(mut guard) = self.guard.take() {
             if let Some(input) = &mut guard.stdin {
-                let _ = input.write_all(b"\n");
+                let _ = write!(input, "{status}\n");
             }
             let _ = guard.wait();
         }
