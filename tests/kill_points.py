@@ -6,7 +6,7 @@ usage: tests/kill_points.py [--every K] CARGO_HACK
 A small library, built by the machine's C compiler and loaded before the program, kills it before its n-th call that
 opens a file for writing, flushes, renames or removes one, for n from 1 (with K: 1, K + 1, ..) until a run ends by itself.
 Within a second, and without a further call, its guard has to restore every manifest and the lockfile, byte for byte; then
-no process of it is left, and no file but such as are beside another under a name of their own.
+no process of it is left, and no file but one that was to become the first of the journal: git tells what it told before.
 
 Where no guard can act, since the PATH has no shell, a call without edits follows, which is itself killed at each of its
 changes and followed by a third; and where the guard is killed at each of its changes, one call follows.
@@ -139,7 +139,6 @@ def guarded(killer, words, every):
         if not was_killed:
             return counted(killed)
         killed += 1
-        place.clear()
 
 
 def unguarded(killer, words, every):
@@ -149,15 +148,14 @@ def unguarded(killer, words, every):
     for at in itertools.count(1, every):
         was_killed, _ = killer.call(words, at, shell=False)
         if not was_killed:
-            place.as_before()
+            place.as_before(own=True)
             return counted(killed)
         again = 0
         while was_killed:
             killed, again, edited = killed + 1, again + 1, place.edited()
             was_killed, told = killer.call(PLAIN, again, shell=False)
-            place.clear()
         in_front_of(at, lambda: tells_of(told, edited))
-        in_front_of(at, place.as_before)
+        in_front_of(at, lambda: place.as_before(own=True))
 
 
 def killed_guard(killer, every):
@@ -173,7 +171,6 @@ def killed_guard(killer, every):
             return counted(killed)
         killed += 1
         in_front_of(at, lambda: place.restores(PLAIN, place.edited()))
-        place.clear()
         in_front_of(at, place.as_before)
 
 
@@ -359,6 +356,24 @@ def lockfile_of_cargo(place):
     must(read(f"{place.workspace}/Cargo.lock") == changed == FILES["Cargo.lock"] + "more\n", "the lockfile holds something else")
 
 
+def full_disk(place):
+    """A manifest that can't be written, as on a full disk: that is told once, by the error of the call."""
+    place.lay_out()
+    path = f"{place.workspace}/p/Cargo.toml"
+    rewrite(path, read(path) + "# more than the limit of the size of a file\n" * 100)
+    place.remember()
+    program, limited = place.program, f"{place.tools}/limited"
+    write(limited, f"#!/bin/sh\ntrap '' XFSZ\nulimit -f 4\nexec '{program}' \"$@\"\n")
+    os.chmod(limited, 0o755)
+    place.program = limited
+    try:
+        status, told = place.call(EDITS)
+    finally:
+        place.program = program
+    must(status == 1 and told.count("failed to write to file `p/Cargo.toml`") == told.count("error: ") == 1, f"status {status}: {told}")
+    place.as_before()
+
+
 # ---- All of them.
 
 LOOKS = {
@@ -372,6 +387,7 @@ LOOKS = {
     "a moved workspace": moved,
     "edits that stay": edits_that_stay,
     "a lockfile that cargo changes": lockfile_of_cargo,
+    "a full disk": full_disk,
 }
 
 

@@ -36,8 +36,8 @@ MORE = 'echo more >> "$W/Cargo.lock"\n'
 ENDS_IT = "kill -9 $PPID\n"
 ENDS_ALL = "kill -9 0\n"
 
-# A file that a killed call was about to put in another's place.
-OWN = re.compile(r"\.cargo-hack-\d+$")
+# A file that a killed call was about to make a file of its journal.
+OWN = re.compile(r"cargo-hack-journal[^/]*\.cargo-hack-\d+$")
 
 # Git as if its user had set nothing.
 GIT = {"GIT_CONFIG_GLOBAL": "/dev/null", "GIT_CONFIG_NOSYSTEM": "1", "GIT_OPTIONAL_LOCKS": "0", "GIT_TEMPLATE_DIR": ""}
@@ -232,8 +232,8 @@ class Place:
     # ---- What is there.
 
     def as_before(self, own=False, but=None):
-        """Each file is as at first, but that one, and git tells the same. A file that a killed call was about to put in
-        another's place may be left where `own` is said."""
+        """Each file is as at first, but that one, and git tells the same. What a killed call was about to make a file of its
+        journal may be left where `own` is said."""
         now, first = tree(self.top), self.first
         if own:
             now = {name: it for name, it in now.items() if not OWN.search(name)}
@@ -241,14 +241,8 @@ class Place:
             now, first = ({name: it for name, it in files.items() if name != but} for files in (now, first))
         found = difference(first, now)
         must(found is None, found)
-        status = self.git_status() if not own and but is None else self.status
+        status = self.git_status() if but is None else self.status
         must(status == self.status, f"git tells {status}")
-
-    def clear(self):
-        """Removes what killed calls left beside files, under names of their own: only so many are tried."""
-        for at, _, names in os.walk(self.top):
-            for name in filter(OWN.search, names):
-                os.remove(f"{at}/{name}")
 
     def edited(self):
         """The manifests that aren't as at first, by their paths from the workspace's folder."""

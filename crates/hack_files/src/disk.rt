@@ -20,7 +20,7 @@ use std::{fs, io, rt};
 /// power cut may be lost. A symbolic link is followed. What can't be replaced is written in place:
 /// the target of a broken link, a file with several hard links, a device, and a file in a folder
 /// where no new file can be made. The new file beside `a` is named `a.cargo-hack-0`, or with a
-/// greater number where that is taken; once it is renamed, those with lesser numbers are removed,
+/// greater number where that is taken; before it is renamed, those with lesser numbers are removed,
 /// since programs left them that were killed.
 #[derive(Drop)]
 pub struct Disk<R: rt::Files + AllocGlobal + Drop> {
@@ -120,8 +120,8 @@ fn successor_of<R: rt::Files + AllocGlobal>(rt: &R, path: &str) -> Option<Succes
     Some(Successor { new, target })
 }
 
-// Writes the bytes to the new file, and renames it to its target. Where that fails, the new file is
-// removed.
+// Writes the bytes to the new file, and renames it to its target, once no older one is beside it.
+// Where that fails, the new file is removed.
 fn replace<R: rt::Files + AllocGlobal>(
     rt: &R,
     successor: Successor<R::File>,
@@ -134,14 +134,14 @@ fn replace<R: rt::Files + AllocGlobal>(
         number,
     } = new;
     let placed = match file.write_all(bytes) {
-        Ok(()) => fs::rename(rt, name.as_str(), target.as_path()),
+        Ok(()) => {
+            tidy(rt, target.as_str(), number);
+            fs::rename(rt, name.as_str(), target.as_path())
+        }
         Err(e) => Err(e),
     };
-    match placed {
-        Ok(()) => tidy(rt, target.as_str(), number),
-        Err(_) => {
-            let _ = fs::remove_file(rt, name.as_str());
-        }
+    if placed.is_err() {
+        let _ = fs::remove_file(rt, name.as_str());
     }
     placed
 }

@@ -316,7 +316,7 @@ fn a_file_of_two_names_keeps_both(rt: HostRuntime) -> Result<(), Wrong> {
 }
 
 #[test]
-fn a_file_that_a_killed_program_left_is_in_nobodys_way(rt: HostRuntime) -> Result<(), Wrong> {
+fn files_that_killed_programs_left_are_removed(rt: HostRuntime) -> Result<(), Wrong> {
     on_disk(
         &rt,
         "
@@ -324,12 +324,16 @@ fn a_file_that_a_killed_program_left_is_in_nobodys_way(rt: HostRuntime) -> Resul
             | ok
             > write a.cargo-hack-0 left
             | ok
+            > write a.cargo-hack-1 left
+            | ok
+            > write a.cargo-hack-3 apart
+            | ok
             > write a new
             | ok
             > content: a
             | 'new'
-            > content: a.cargo-hack-0
-            | 'left'
+            > content: a.cargo-hack-3
+            | 'apart'
             > names
             | 2
         ",

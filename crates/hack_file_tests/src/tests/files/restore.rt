@@ -81,6 +81,13 @@ fn all(alloc: Global, mut given: Given) -> Result<String, AllocError> {
     restored(alloc, manager(alloc), &mut given)
 }
 
+/// The same where the caller reports that `b` can't be written.
+fn reported(alloc: Global, mut given: Given) -> Result<String, AllocError> {
+    let mut manager = manager(alloc);
+    manager.leave_report(alloc, "b");
+    restored(alloc, manager, &mut given)
+}
+
 fn always(alloc: Global, is_needed: bool) -> Result<String, AllocError> {
     let mut manager = Manager::new(alloc, is_needed);
     let _ = manager.register(alloc, "a", b"old a");
@@ -128,6 +135,7 @@ impl Ask for Restoring {
         let colored = Term::new(Coloring::Always, true);
         match kind {
             "quiet" => all(alloc, quiet(alloc, number)),
+            "reported" => reported(alloc, quiet(alloc, number)),
             "colored" => all(alloc, edited(alloc, number, 0, colored)),
             "line" => all(alloc, edited(alloc, 1, number, loud)),
             "needed" => always(alloc, true),
@@ -164,6 +172,23 @@ fn one_failing_write_at_each_place(rt: HostRuntime) -> Result<(), Wrong> {
             > quiet 4
             | 0 0 false
             | a - b 'old b' c 'old c'
+        ",
+    )
+}
+
+#[test]
+fn what_the_caller_reports_is_not_told_again(rt: HostRuntime) -> Result<(), Wrong> {
+    hold(
+        rt.alloc(),
+        &mut Restoring {},
+        "
+            > reported 1
+            | 1 1 true
+            | error: failed to write to file `a`
+            | a '' b 'old b' c 'old c'
+            > reported 2
+            | 1 1 true
+            | a 'old a' b '' c 'old c'
         ",
     )
 }
