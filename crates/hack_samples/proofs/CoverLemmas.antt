@@ -106,14 +106,14 @@ on-past : (providers : List (List (List ℕ))) (s : List Bool) (f : ℕ) → len
 on-past providers s f le = ap (has_each s) (get_or_past providers f [] le)
 
 -- a pattern in descending order
-record Sorted (providers : List (List (List ℕ))) (s : List Bool) (pattern : List Setting) : Type 0 where
-  all : List Setting
-  descends : Descends (length providers) all
-  few : length all ≤ length pattern
-  shows : Shows providers all s
-  tells : (t : List Bool) → Shows providers all t → Shows providers pattern t
+pub record Sorted (providers : List (List (List ℕ))) (s : List Bool) (pattern : List Setting) : Type 0 where
+  pub all : List Setting
+  pub descends : Descends (length providers) all
+  pub few : length all ≤ length pattern
+  pub shows : Shows providers all s
+  pub tells : (t : List Bool) → Shows providers all t → Shows providers pattern t
 
-sorted : (providers : List (List (List ℕ))) (s : List Bool) (pattern : List Setting) → Shows providers pattern s → Sorted providers s pattern
+pub sorted : (providers : List (List (List ℕ))) (s : List Bool) (pattern : List Setting) → Shows providers pattern s → Sorted providers s pattern
 sorted providers s [] shows = record { all = []; descends = tt; few = omega arith; shows = shows; tells = λ t h. h }
 sorted providers s (x ∷ pattern) shows =
     let S : Setting → Type 0 = λ z. is_on providers s z.candidate ≡ z.on in

@@ -5,3 +5,4 @@ pub mod DemandLemmas
 pub mod OrderLemmas
 pub mod SampleLemmas
 pub mod CoverLemmas
+pub mod LeanLemmas

@@ -1,8 +1,10 @@
 -- What only private functions of the crate promise each other.
-use Rattle.std.specs.Prelude.{◌<◌, ◌≤◌, ℕ, List, Bool, length, ◌≡◌, ◌&&◌, true, false, not, nat_lt, slice_set}
+use Rattle.std.specs.Prelude.{◌<◌, ◌≤◌, ℕ, List, Bool, length, ◌≡◌, ◌&&◌, ◌⊎◌, true, false, not, nat_lt, slice_set, Vec, vec_len, Result, Ok, Err}
 use Rattle.std.specs.List.{slice_index_or}
 use Rattle.hack_samples.specs.Order.{IsMaskBefore}
 use Rattle.hack_samples.specs.declared.sets.Setting.{Setting}
+use Rattle.hack_samples.specs.declared.fault.SampleFault.{SampleFault}
+use Rattle.hack_samples.specs.declared.fault.SampleFault.TheVariants.{Memory, TooManyQuestions}
 use Rattle.hack_samples.specs.Samples.{Shows}
 use Rattle.hack_samples.specs.Sets.{IsInside, has, has_each}
 
@@ -42,3 +44,16 @@ may_join may banned s p = not (has banned p) && not (has s p) && nat_lt p (lengt
 -- no set that has all members of the base meets the groups
 abbrev pub NoneMeets : (List Bool → Bool) → ℕ → List (List ℕ) → List Bool → List Bool → Type 0
 NoneMeets may n groups banned base = (s : List Bool) → IsInside base s → Meets may n groups banned s → ⊥
+
+-- one of the two, and no longer than either
+pub record IsShorter {X Z : Type 0} (one other chosen : Vec X Z) : Type 0 where
+  pub either : (chosen ≡ one) ⊎ (chosen ≡ other)
+  pub first : vec_len chosen ≤ vec_len one
+  pub second : vec_len chosen ≤ vec_len other
+
+-- the shorter of both, and the first where the second asked too many questions; want of memory stays one
+abbrev pub IsChosen : {X Z : Type 0} → Vec X Z → Result (Vec X Z) SampleFault → Result (Vec X Z) SampleFault → Type 0
+IsChosen one (Ok other) (Ok chosen) = IsShorter one other chosen
+IsChosen one (Ok other) (Err fault) = ⊥
+IsChosen one (Err TooManyQuestions) chosen = chosen ≡ Ok one
+IsChosen one (Err Memory) chosen = chosen ≡ Err Memory

@@ -25,6 +25,17 @@ abbrev pub ShowEachPattern : (List Bool → Bool) → ℕ → List (List ℕ) �
 ShowEachPattern may n required providers t sets =
     (pattern : List Setting) → length pattern ≤ t → (s : List Bool) → IsListedMask may n required s → Shows providers pattern s → SomeShows providers pattern sets
 
+-- the sets need s: some pattern of at most t candidates is shown by s and by no other of them
+pub record IsNeeded (providers : List (List (List ℕ))) (t : ℕ) (sets : List (List Bool)) (s : List Bool) : Type 0 where
+  pub pattern : List Setting
+  pub few : length pattern ≤ t
+  pub shows : Shows providers pattern s
+  pub alone : (r : List Bool) → Contains sets r → Shows providers pattern r → r ≡ s
+
+-- the sets are lean: they need each of them
+abbrev pub IsLean : List (List (List ℕ)) → ℕ → List (List Bool) → Type 0
+IsLean providers t sets = All (IsNeeded providers t sets) sets
+
 -- the sets are listed, and each is before all later ones
 pub record IsMaskSample (may : List Bool → Bool) (n : ℕ) (required : List (List ℕ)) (sets : List (List Bool)) : Type 0 where
   pub listed : All (IsListedMask may n required) sets

@@ -2,58 +2,24 @@
 
 ghost use Rattle.std.specs.Prelude.{◌≡◌, ◌<◌, ◌≤◌, ◌+◌, ◌-◌, ◌^◌, ◌++◌, ◌∷◌, [], ℕ, List, Bool};
 ghost use Rattle.std.specs.Prelude.{true, false, length, min, IsTrue, IfOk, IfErr, OnOk, MatchBool};
-ghost use Rattle.std.specs.Prelude.{Contains, ◌⊎◌};
 ghost use Rattle.hack_samples.specs.Sets.{rows_of, tables_of};
-ghost use Rattle.hack_samples.specs.Samples.{IsListedMask, IsMaskSample, Shows, SomeShows};
-ghost use Rattle.hack_samples.specs.Samples.{ShowEachPattern};
+ghost use Rattle.hack_samples.specs.Samples.{IsListedMask, IsMaskSample, SomeShows};
+ghost use Rattle.hack_samples.specs.Samples.{ShowEachPattern, IsLean};
 ghost use Rattle.hack_samples.specs.InternalDescendingPatterns.{CoversBelow, IsPossible, AreKept};
 ghost use Rattle.hack_samples.specs.Questions.{IsTired};
-ghost use Rattle.hack_samples.specs.Internal.{StaysWithin};
+ghost use Rattle.hack_samples.specs.Internal.{StaysWithin, IsShorter, IsChosen};
 
 use crate::allowed::Allowed;
 use crate::demands::Wanted;
 use crate::fault::SampleFault;
 use crate::greedy::Columns;
 use crate::guide::has_rows;
+use crate::lean::leave_out;
 use crate::order::put;
+use crate::patterns::{Further, some_shows, with};
 use crate::search::pick;
 use crate::sets::{Setting, is_on};
 use std::alloc::{AllocError, Global};
-
-/// Whether the set shows the pattern.
-fn shows(providers: &[Vec<Vec<usize>>], set: &[bool], pattern: &[Setting]) -> bool
-    ensures { MatchBool result (Shows (tables_of providers.now) pattern.now set.now)
-        (Shows (tables_of providers.now) pattern.now set.now → ⊥) }
-{
-    for setting in pattern {
-        if is_on(providers, set, setting.candidate) != setting.on {
-            return false;
-        }
-    }
-    true
-}
-
-/// Whether one of the sets shows the pattern.
-fn some_shows(providers: &[Vec<Vec<usize>>], sets: &[Vec<bool>], pattern: &[Setting]) -> bool
-    ensures { MatchBool result (SomeShows (tables_of providers.now) pattern.now (rows_of sets.now))
-        (SomeShows (tables_of providers.now) pattern.now (rows_of sets.now) → ⊥) }
-{
-    for set in sets {
-        if shows(providers, set.as_slice(), pattern) {
-            return true;
-        }
-    }
-    false
-}
-
-/// The pattern with one more setting.
-fn with(alloc: Global, pattern: &[Setting], setting: Setting) -> Result<Vec<Setting>, AllocError>
-    ensures { IfOk result (λ more. more.items ≡ pattern.now ++ setting ∷ []) }
-{
-    let mut more = Vec::from_slice(alloc, pattern)?;
-    more.push(setting)?;
-    Ok(more)
-}
 
 /// The sets so far, in the order of sets.
 #[derive(Drop)]
@@ -98,14 +64,6 @@ fn show<A: Allowed>(
     chosen.columns.add(wanted.providers, set.as_slice());
     put(&mut chosen.sets, set)?;
     Ok(true)
-}
-
-/// How a pattern may be continued: by up to `more` settings, of candidates below `limit` in
-/// descending order.
-#[derive(Clone, Copy)]
-struct Further {
-    limit: usize,
-    more: usize,
 }
 
 /// Adds sets until the chosen sets show the pattern and each pattern that continues it further. It
@@ -260,6 +218,31 @@ fn sample_by<A: Allowed>(
     Ok(chosen.sets)
 }
 
+/// Returns what is left of such a sample once each set is left out that it doesn't need.
+fn lean_by<A: Allowed>(
+    alloc: Global,
+    allowed: &mut A,
+    wanted: &Wanted<'_>,
+    guided: bool,
+) -> Result<Vec<Vec<bool>>, SampleFault>
+    ensures sample { IfOk result (λ sets. IsMaskSample (A.may allowed.old) (A.size allowed.old)
+        (rows_of wanted.now.required.now) (rows_of sets.items)) }
+    ensures covers { IfOk result (λ sets. ShowEachPattern (A.may allowed.old) (A.size allowed.old)
+        (rows_of wanted.now.required.now) (tables_of wanted.now.providers.now)
+        wanted.now.strength (rows_of sets.items)) }
+    ensures lean { IfOk result (λ sets. IsLean (tables_of wanted.now.providers.now)
+        wanted.now.strength (rows_of sets.items)) }
+    ensures tired { IfErr result (IsTired wanted.now.end (A.count allowed.new)) }
+    ensures within { StaysWithin wanted.now.end (A.count allowed.old) (A.count allowed.new) }
+    ensures same_size { A.size allowed.new ≡ A.size allowed.old }
+    ensures same_may { A.may allowed.new ≡ A.may allowed.old }
+    ensures stays { (first : A) → A.stays first allowed.old → A.stays first allowed.new }
+{
+    let mut sets = sample_by(alloc, allowed, wanted, guided)?;
+    leave_out(alloc, wanted.providers, wanted.strength, &mut sets)?;
+    Ok(sets)
+}
+
 /// Returns a few of the listed sets, in the order of sets, each once, that show each pattern of at
 /// most `strength` candidates that some listed set shows.
 ///
@@ -280,6 +263,8 @@ pub fn sample<A: Allowed>(
         (rows_of required.now) (rows_of sets.items)) }
     ensures covers { IfOk result (λ sets. ShowEachPattern (A.may allowed.old) (A.size allowed.old)
         (rows_of required.now) (tables_of providers.now) strength (rows_of sets.items)) }
+    ensures lean { IfOk result (λ sets. IsLean (tables_of providers.now) strength
+        (rows_of sets.items)) }
     ensures tired { IfErr result (IsTired (min (A.count allowed.old + most_questions)
         (2 ^ 128 - 1)) (A.count allowed.new)) }
     ensures within { A.count allowed.new ≤ A.count allowed.old + most_questions }
@@ -294,11 +279,24 @@ pub fn sample<A: Allowed>(
         strength,
         end,
     };
-    let guided = sample_by(alloc, allowed, &wanted, true)?;
+    let guided = lean_by(alloc, allowed, &wanted, true)?;
     if !has_rows(strength) {
         return Ok(guided);
     }
-    match sample_by(alloc, allowed, &wanted, false) {
+    let greedy = lean_by(alloc, allowed, &wanted, false);
+    chosen_of(guided, greedy)
+}
+
+/// Returns the sample that has fewer sets, `guided` if they have as many or if the other asked too
+/// many questions. Want of memory is no reason to take `guided`: the same call has the same answer
+/// on each machine that answers.
+fn chosen_of(
+    guided: Vec<Vec<bool>>,
+    greedy: Result<Vec<Vec<bool>>, SampleFault>,
+) -> Result<Vec<Vec<bool>>, SampleFault>
+    ensures { IsChosen guided greedy result }
+{
+    match greedy {
         Ok(greedy) => Ok(smaller(guided, greedy)),
         Err(SampleFault::TooManyQuestions) => Ok(guided),
         Err(SampleFault::Memory) => Err(SampleFault::Memory),
@@ -307,7 +305,7 @@ pub fn sample<A: Allowed>(
 
 /// Returns the sample that has fewer sets, `one` if they have as many.
 fn smaller(one: Vec<Vec<bool>>, other: Vec<Vec<bool>>) -> Vec<Vec<bool>>
-    ensures { result ≡ one ⊎ result ≡ other }
+    ensures { IsShorter one other result }
 {
     if other.len() < one.len() { other } else { one }
 }

@@ -13,7 +13,9 @@ mod demands;
 pub mod fault;
 mod greedy;
 mod guide;
+mod lean;
 mod order;
+mod patterns;
 mod search;
 pub mod sets;
 

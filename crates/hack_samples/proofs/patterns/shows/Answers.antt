@@ -3,7 +3,7 @@ use Rattle.std.proofs.lemmas.List.{take_all}
 use Rattle.hack_samples.specs.Sets.{tables_of, is_on}
 use Rattle.hack_samples.specs.Samples.{Shows}
 use Rattle.hack_samples.proofs.ShowLemmas.{all-more, same-from_not}
-use Rattle.hack_samples.proofs.cover.shows.Goals as goal
+use Rattle.hack_samples.proofs.patterns.shows.Goals as goal
 
 pub loop-setting-preserved : goal.loop-setting-preserved
 loop-setting-preserved c =

@@ -3,7 +3,7 @@ use Rattle.std.proofs.lemmas.List.{map_more}
 use Rattle.hack_samples.specs.Sets.{rows_of, tables_of}
 use Rattle.hack_samples.specs.Samples.{Shows}
 use Rattle.hack_samples.proofs.SampleLemmas.{none-more}
-use Rattle.hack_samples.proofs.cover.some_shows.Goals as goal
+use Rattle.hack_samples.proofs.patterns.some_shows.Goals as goal
 
 pub loop-set-preserved : goal.loop-set-preserved
 loop-set-preserved c =
