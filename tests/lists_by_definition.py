@@ -539,6 +539,8 @@ class Plan:
 
 # ---- What is told of suspects.
 
+TOLD = re.compile(r"info: (in |    |\d+ failed run)")
+
 
 def commands_to_fail(rng, plan):
     """Some commands of the plan: those of which a run shows one of a few patterns, and one more."""
@@ -553,6 +555,27 @@ def commands_to_fail(rng, plan):
     return failing | {plan.own_line(it) for it in rng.sample(range(len(plan.places)), rng.randint(0, 1))}
 
 
+def count_missed(outcomes, strength):
+    """How many failed runs have no pattern of at most so many candidates that no passed run has."""
+    passed = {it for settings, failed in outcomes if not failed for it in patterns(settings, strength)}
+    return sum(failed and patterns(settings, strength) <= passed for settings, failed in outcomes)
+
+
+def have(count):
+    return "has" if count == 1 else "have"
+
+
+def ending(count):
+    return "" if count == 1 else "s"
+
+
+def who(showing, failed):
+    """Which of the failed runs show a suspect."""
+    if showing < failed:
+        return f"{showing} of {failed} failed runs {have(showing)}"
+    return "the one failed run has" if failed == 1 else f"all {failed} failed runs have"
+
+
 def told_of_suspects(plan, ranks, failing):
     """What is told after these places were run, where these commands fail: of each version, slot and package in turn,
     since the runs of each are one after the other."""
@@ -562,18 +585,23 @@ def told_of_suspects(plan, ranks, failing):
         outcomes.setdefault(plan.places[rank][:3], []).append(outcome)
     for (version, slot, package), those in outcomes.items():
         own = plan.packages[package]["name"]
-        found = suspects(those, plan.asked.strength)
+        strength = plan.asked.strength
+        found = suspects(those, strength)
         lines = [
             ", ".join(f"{','.join(plan.choices[own].candidates[place])} {'on' if is_on else 'off'}" for place, is_on in it)
             for it in found
         ]
-        if found in ([], [()]):
-            continue
-        where = own + (f" on 1.{version}" if version else "")
-        where += f" for {slot[0]}" if plan.is_split(version) else ""
-        told.append(f"info: in {where} the failed runs have one of these, and the passed runs have none:")
-        told += [f"info:     {it}" for it in lines[:20]]
-        told += [f"info:     and {len(lines) - 20} more"] if len(lines) > 20 else []
+        failed, missed = sum(failed for _, failed in those), count_missed(those, strength)
+        if found not in ([], [()]):
+            where = own + (f" on 1.{version}" if version else "")
+            where += f" for {slot[0]}" if plan.is_split(version) else ""
+            told.append(f"info: in {where} {who(failed - missed, failed)} one of these, and no passed run does:")
+            told += [f"info:     {it}" for it in lines[:20]]
+            told += [f"info:     and {len(lines) - 20} more"] if len(lines) > 20 else []
+        if missed:
+            runs, features = f"failed run{ending(missed)} {have(missed)}", f"feature{ending(strength)}"
+            lacking = f"no pattern of at most {strength} {features} that no passed run has"
+            told.append(f"info: {missed} {runs} {lacking}; try --strength {strength + 1}")
     return told
 
 
@@ -587,7 +615,7 @@ def fault_of_suspects(program, plan, words, rng):
     ran = call(program, plan.workspace, ["--keep-going"] * ("--keep-going" not in words) + words)
     ranks = plan.ranks(kind, number, count)
     wanted = told_of_suspects(plan, ranks, failing)
-    found = [it for it in ran.stderr.splitlines() if it.startswith(("info: in ", "info:     "))]
+    found = [it for it in ran.stderr.splitlines() if TOLD.match(it)]
     status = int(any(plan.own_line(it) in failing for it in ranks))
     if (ran.returncode, found) == (status, wanted):
         return None

@@ -99,7 +99,7 @@ REPORT = ["", "failed commands:", "    codec:"] + [
 SAMPLE = ["check", "--package", "codec", "--feature-powerset", "--strength", "3", "--keep-going",
           "--exclude-features", "default", "--mutually-exclusive-features", "binary,json"]
 SUSPECTS = [
-    "info: in codec the failed runs have one of these, and the passed runs have none:",
+    "info: in codec all 2 failed runs have one of these, and no passed run does:",
     "info:     compact on, trace on",
 ]
 

@@ -1,5 +1,5 @@
 -- Lemmas on the notices that explain failed runs.
-use Rattle.std.proofs.Common.{◌≡◌, ℕ, ◌+◌, ◌<◌, List, [], ◌∷◌, ◌++◌, length, get_or, take, map, refl, sym, ◌∙◌, ap, append_assoc, append-nil, String, Global, string_bytes}
+use Rattle.std.proofs.Common.{◌≡◌, ℕ, ◌+◌, ◌<◌, List, [], ◌∷◌, ◌++◌, length, get_or, take, map, refl, sym, ◌∙◌, ap, append_assoc, append-nil, String, Global, string_bytes, codes}
 use Rattle.std.specs.List.{flat_map, join_by}
 use Rattle.std.proofs.lemmas.List.{map_more}
 use Rattle.std.proofs.lemmas.List.Concat.{flat_map-append}
@@ -9,11 +9,12 @@ use Rattle.hack_plan.specs.View.{PlanView}
 use Rattle.hack_session.specs.declared.suspects.Explained.{Explained}
 use Rattle.hack_session.specs.Suspects.{explained_view}
 use Rattle.std.proofs.Common.{true, false}
-use Rattle.std.specs.Prelude.{nat_eq}
+use Rattle.std.specs.Prelude.{nat_eq, nat_lt}
+use Rattle.std.specs.Fmt.{decimal}
 use Rattle.std.proofs.Common.{arith}
 use Rattle.std.proofs.lemmas.Bool.Decides.{nat_tests}
 use Rattle.hack_samples.specs.declared.sets.Setting.{Setting}
-use Rattle.hack_session.specs.SuspectNotes.{has_setting, suspect_notes_on}
+use Rattle.hack_session.specs.SuspectNotes.{has_setting, suspect_notes_on, who_text}
 
 pub join-texts : (sep : List ℕ) (xs : List (String Global)) → join_by string_bytes sep xs ≡ join_by (λ text. text) sep (map string_bytes xs)
 join-texts sep [] = refl
@@ -35,3 +36,7 @@ notes-more plan xs i x old new lt is adds before =
 pub has-one : (pattern : List Setting) → nat_eq (length pattern) 0 ≡ false → has_setting pattern ≡ true
 has-one [] e = let f : true ≡ false = e in cc
 has-one (setting ∷ pattern) e = grind (arith, nat_tests)
+
+-- where no failed run shows no suspect, and there are several
+pub who-all : (showing failed : ℕ) → nat_lt showing failed ≡ false → nat_eq failed 1 ≡ false → who_text showing failed ≡ codes "all " ++ (decimal failed ++ codes " failed runs have")
+who-all showing failed p q = rw p (rw q refl)

@@ -1,5 +1,5 @@
 -- What only private functions of the crate promise each other.
-use Rattle.std.proofs.Common.{◌≡◌, ◌+◌, ℕ, List, [], ◌++◌, ◌∙◌, ap, append-nil}
+use Rattle.std.proofs.Common.{◌≡◌, ℕ, List, [], ◌++◌, ◌∙◌, ap, append-nil}
 use Rattle.hack_session.specs.StepOutput.{Shown, on_err, both_shown, Streams, Prints, Manner, end_line}
 use Rattle.std.specs.Prelude.{Bool, false, Result, Ok, Err, if◌then◌else◌, string_bytes, ◌⊎◌, ◌∷◌, Contains}
 use Rattle.hack_session.specs.declared.step.Handed.{Handed}

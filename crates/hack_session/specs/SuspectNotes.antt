@@ -1,5 +1,5 @@
 -- The notices on the small patterns that explain failed runs.
-use Rattle.std.specs.Prelude.{ℕ, ◌-◌, ◌++◌, List, [], ◌∷◌, Bool, true, false, Option, Some, None, codes, length, map, nat_lt, take, slice_get, unwrap_or, if◌then◌else◌}
+use Rattle.std.specs.Prelude.{ℕ, ◌+◌, ◌-◌, ◌++◌, List, [], ◌∷◌, Bool, true, false, Option, Some, None, codes, length, map, nat_eq, nat_lt, take, slice_get, unwrap_or, if◌then◌else◌}
 use Rattle.std.specs.List.{join_by, list_any, slice_index_or}
 use Rattle.std.specs.Fmt.{decimal}
 use Rattle.hack_base.specs.Notes.{Note}
@@ -32,9 +32,31 @@ abbrev pub place_text : PlanView → Part → List ℕ
 place_text plan part =
     codes "in " ++ (unwrap_or (name_in (slice_get plan.packages part.package)) [] ++ (version_words part.version ++ for_target_text (slot_target plan.call part.version part.slot)))
 
+-- has or have, of this number of things
+abbrev pub have_text : ℕ → List ℕ
+have_text n = if nat_eq n 1 then codes "has" else codes "have"
+
+-- what a noun ends with, of this number of things
+abbrev pub ending : ℕ → List ℕ
+ending n = if nat_eq n 1 then [] else codes "s"
+
+-- which of the failed runs show a suspect: so many of them, the one that there is, or all
+abbrev pub who_text : ℕ → ℕ → List ℕ
+who_text showing failed =
+    if nat_lt showing failed then decimal showing ++ (codes " of " ++ (decimal failed ++ (codes " failed runs " ++ have_text showing)))
+    else if nat_eq failed 1 then codes "the one failed run has" else codes "all " ++ (decimal failed ++ codes " failed runs have")
+
 -- the heading of the suspects
-abbrev pub heading_text : PlanView → Part → List ℕ
-heading_text plan part = place_text plan part ++ codes " the failed runs have one of these, and the passed runs have none:"
+abbrev pub heading_text : PlanView → ExplainedView → List ℕ
+heading_text plan e = place_text plan e.part ++ (codes " " ++ (who_text e.showing e.failed ++ codes " one of these, and no passed run does:"))
+
+-- how many failed runs show no suspect
+abbrev pub missed_text : ℕ → List ℕ
+missed_text n = decimal n ++ (codes " failed run" ++ (ending n ++ (codes " " ++ have_text n)))
+
+-- what these lack, and with which strength to look for it
+abbrev pub lacking_text : ℕ → List ℕ
+lacking_text strength = codes " no pattern of at most " ++ (decimal strength ++ (codes " feature" ++ (ending strength ++ (codes " that no passed run has; try --strength " ++ decimal (strength + 1)))))
 
 -- the line on a part with too many patterns to look at
 abbrev pub too_many_text : PlanView → Part → List ℕ
@@ -74,12 +96,20 @@ abbrev pub suspect_lines : List (List (List ℕ)) → List (List Setting) → Li
 suspect_lines candidates found =
     map (λ pattern. info (suspect_text candidates pattern)) (take most_lines found) ++ (if nat_lt most_lines (length found) then info (more_text (length found - most_lines)) ∷ [] else [])
 
--- the notices on a part's suspects: none where no suspect has a setting, since then all of the
--- part's runs failed or there is no suspect
-abbrev pub notes_of : PlanView → Part → Option (List (List Setting)) → List Note
-notes_of plan part None = info (too_many_text plan part) ∷ []
-notes_of plan part (Some found) = if list_any has_setting found then info (heading_text plan part) ∷ suspect_lines (package_candidates (slice_get plan.packages part.package)) found else []
+-- the lines under a heading: none where no suspect has a setting, since then all of the part's runs
+-- failed or there is no suspect
+abbrev pub headed_lines : PlanView → ExplainedView → List (List Setting) → List Note
+headed_lines plan e found = if list_any has_setting found then info (heading_text plan e) ∷ suspect_lines (package_candidates (slice_get plan.packages e.part.package)) found else []
+
+-- the line on the failed runs that show no suspect, where there are some
+abbrev pub missed_lines : ExplainedView → List Note
+missed_lines e = if nat_lt e.showing e.failed then info (missed_text (e.failed - e.showing) ++ lacking_text e.strength) ∷ [] else []
+
+-- the notices on a part's suspects
+abbrev pub notes_of : PlanView → ExplainedView → Option (List (List Setting)) → List Note
+notes_of plan e None = info (too_many_text plan e.part) ∷ []
+notes_of plan e (Some found) = headed_lines plan e found ++ missed_lines e
 
 -- the notices on a part that is explained
 abbrev pub suspect_notes_on : PlanView → ExplainedView → List Note
-suspect_notes_on plan e = notes_of plan e.part e.suspects
+suspect_notes_on plan e = notes_of plan e e.suspects

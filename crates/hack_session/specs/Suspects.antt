@@ -1,11 +1,12 @@
 -- Which small patterns explain the failed runs of a plan.
-use Rattle.std.specs.Prelude.{ℕ, ◌≡◌, ◌≢◌, ◌<◌, ◌≤◌, ◌*◌, ◌++◌, ◌↔◌, List, [], ◌∷◌, Bool, true, false, Option, Some, None, All, AllPairs, Contains, length, map, option_map, slice_get}
+use Rattle.std.specs.Prelude.{ℕ, ◌≡◌, ◌≢◌, ◌<◌, ◌≤◌, ◌*◌, ◌++◌, ◌↔◌, List, [], ◌∷◌, Bool, true, false, Option, Some, None, All, AllPairs, Contains, length, map, option_map, slice_get, unwrap_or}
 use Rattle.std.specs.List.{slice_index_or}
 use Rattle.hack_plan.specs.declared.places.PlanEntry.{PlanEntry}
 use Rattle.hack_plan.specs.View.{PackageView, PlanView}
 use Rattle.hack_samples.specs.Sets.{rows_of}
 use Rattle.hack_samples.specs.declared.sets.Setting.{Setting}
 use Rattle.hack_suspects.specs.Suspects.{RunOutcome as Run_outcome, AreSuspects, choices}
+use Rattle.hack_suspects.specs.Counts.{Fails, FailsWith, IsNumberOf}
 use Rattle.hack_session.specs.declared.step.Step.{Step}
 use Rattle.hack_session.specs.declared.step.Step.TheVariants.{Prepare, Skip, Run}
 use Rattle.hack_session.specs.declared.step.Outcome.{Outcome}
@@ -65,14 +66,18 @@ pub data AreOutcomes (plan : PlanView) (part : Part) : List Handed → List Run_
       → AreOutcomes plan part (handed ++ h ∷ []) (outcomes ++ run_outcome_of plan part q h.outcome ∷ [])
   passes : {handed : List Handed} {outcomes : List Run_outcome} (h : Handed) → AreOutcomes plan part handed outcomes → part_at plan h ≢ Some part → AreOutcomes plan part (handed ++ h ∷ []) outcomes
 
--- a part, and the suspects of its runs, or none where there are too many patterns to look at
+-- a part, how many candidates its patterns have at most, how many of its runs failed, how many of
+-- these show a suspect, and the suspects, or none where there are too many patterns to look at
 pub record ExplainedView : Type 0 where
   pub part : Part
+  pub strength : ℕ
+  pub failed : ℕ
+  pub showing : ℕ
   pub suspects : Option (List (List Setting))
 
 -- the same without where it lies in memory
 abbrev pub explained_view : Explained → ExplainedView
-explained_view e = record { part = e.part; suspects = option_map (λ found. rows_of found.items) e.suspects }
+explained_view e = record { part = e.part; strength = e.strength; failed = e.failed; showing = e.showing; suspects = option_map (λ found. rows_of found.items) e.suspects }
 
 -- the part of what is explained
 abbrev pub part_explained : ExplainedView → Part
@@ -87,10 +92,13 @@ abbrev pub AreFound : List Run_outcome → ℕ → ℕ → Option (List (List Se
 AreFound outcomes n strength None = most_patterns < length outcomes * choices n strength
 AreFound outcomes n strength (Some found) = AreSuspects outcomes n strength found × (length outcomes * choices n strength ≤ most_patterns)
 
--- the part is explained by what came of its runs
+-- the part is explained by what came of its runs; a failed run counts just where it shows a suspect
 pub record IsExplained (plan : PlanView) (handed : List Handed) (strength : ℕ) (e : ExplainedView) : Type 0 where
   pub outcomes : List Run_outcome
   pub came : AreOutcomes plan e.part handed outcomes
+  pub at : e.strength ≡ strength
+  pub failed : IsNumberOf Fails outcomes e.failed
+  pub showing : IsNumberOf (FailsWith (unwrap_or e.suspects [])) outcomes e.showing
   pub found : AreFound outcomes (candidate_count (slice_get plan.packages e.part.package)) strength e.suspects
 
 -- some run of the part failed

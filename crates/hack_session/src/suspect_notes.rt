@@ -3,6 +3,7 @@
 ghost use Rattle.std.specs.Prelude.{◌≡◌, ◌++◌, ◌∷◌, ◌-◌, [], IfOk, OnOk, map, nat_lt};
 ghost use Rattle.std.specs.Prelude.{codes, option_map, slice_get, string_bytes, take, unwrap_or};
 ghost use Rattle.std.specs.Prelude.{if◌then◌else◌};
+ghost use Rattle.std.specs.Fmt.{decimal};
 ghost use Rattle.std.specs.List.{flat_map, list_any, slice_index_or};
 ghost use Rattle.hack_base.specs.Names.{names_of};
 ghost use Rattle.hack_base.specs.Notes.{AddsNotes, note_of};
@@ -10,13 +11,12 @@ ghost use Rattle.hack_features.specs.Feature.{groups_of};
 ghost use Rattle.hack_plan.specs.Commands.{name_in};
 ghost use Rattle.hack_samples.specs.Sets.{rows_of};
 ghost use Rattle.hack_session.specs.Suspects.{explained_view};
-ghost use Rattle.hack_session.specs.SuspectNotes.{package_candidates, has_setting, heading_text};
-ghost use Rattle.hack_session.specs.SuspectNotes.{info};
-ghost use Rattle.hack_session.specs.SuspectNotes.{suspect_lines, more_text, most_lines};
-ghost use Rattle.hack_session.specs.SuspectNotes.{suspect_notes_on, place_text, setting_text};
-ghost use Rattle.hack_session.specs.SuspectNotes.{state_text};
-ghost use Rattle.hack_session.specs.SuspectNotes.{suspect_text, for_target_text, too_many_text};
-ghost use Rattle.hack_session.specs.SuspectNotes.{version_words};
+ghost use Rattle.hack_session.specs.SuspectNotes.{ending, for_target_text, has_setting, have_text};
+ghost use Rattle.hack_session.specs.SuspectNotes.{headed_lines, heading_text, info, lacking_text};
+ghost use Rattle.hack_session.specs.SuspectNotes.{missed_lines, missed_text, more_text, most_lines};
+ghost use Rattle.hack_session.specs.SuspectNotes.{package_candidates, place_text, setting_text};
+ghost use Rattle.hack_session.specs.SuspectNotes.{state_text, suspect_notes_on, suspect_text};
+ghost use Rattle.hack_session.specs.SuspectNotes.{too_many_text, version_words, who_text};
 
 use crate::suspects::{Explained, Part};
 use hack_base::notice::{Notice, NoticeKind};
@@ -30,8 +30,9 @@ use std::alloc::{AllocError, Global};
 const MOST_LINES: usize = 20;
 
 /// Returns the notices on the patterns that explain failed runs: for each part with such patterns a
-/// heading, a line for each of the first twenty, and one that counts the others. A part with too
-/// many patterns to look at has a line that says so.
+/// heading, a line for each of the first twenty, and one that counts the others. A further line
+/// counts the failed runs that none explains. A part with too many patterns to look at has a line
+/// that says so.
 pub fn suspect_notes(
     alloc: Global,
     plan: &Plan,
@@ -58,7 +59,10 @@ fn add_notes(
         (suspect_notes_on plan.now (explained_view one.now))) }
 {
     match &one.suspects {
-        Some(found) => add_found(alloc, plan, one.part, found.as_slice(), notices),
+        Some(found) => {
+            add_found(alloc, plan, one, found.as_slice(), notices)?;
+            add_missed(alloc, one, notices)
+        }
         None => add_info(notices, too_many_text(alloc, plan, one.part)?),
     }
 }
@@ -67,24 +71,34 @@ fn add_notes(
 fn add_found(
     alloc: Global,
     plan: &Plan,
-    part: Part,
+    one: &Explained,
     found: &[Vec<Setting>],
     notices: &mut Vec<Notice>,
 ) -> Result<(), AllocError>
     ensures { OnOk result (AddsNotes notices.old notices.new
-        (if list_any has_setting (rows_of found.now)
-        then info (heading_text plan.now part)
-        ∷ suspect_lines (package_candidates (slice_get plan.now.packages part.package))
-        (rows_of found.now)
-        else [])) }
+        (headed_lines plan.now (explained_view one.now) (rows_of found.now))) }
 {
     if !has_setting(found) {
         return Ok(());
     }
-    add_info(notices, heading_text(alloc, plan, part)?)?;
-    let candidates = candidates_in(plan, part.package);
+    add_info(notices, heading_text(alloc, plan, one)?)?;
+    let candidates = candidates_in(plan, one.part.package);
     add_suspects(alloc, candidates, first_ones(found), notices)?;
     add_more(alloc, found.len(), notices)
+}
+
+/// Adds the line on the failed runs that show no suspect, where there are some.
+fn add_missed(alloc: Global, one: &Explained, notices: &mut Vec<Notice>) -> Result<(), AllocError>
+    ensures { OnOk result (AddsNotes notices.old notices.new
+        (missed_lines (explained_view one.now))) }
+{
+    if one.showing >= one.failed {
+        return Ok(());
+    }
+    add_info(
+        notices,
+        missed_line(alloc, one.failed - one.showing, one.strength)?,
+    )
 }
 
 /// Whether one of the patterns has a setting.
@@ -152,11 +166,78 @@ fn add_info(notices: &mut Vec<Notice>, text: String) -> Result<(), AllocError>
 }
 
 /// Returns the heading of a part's suspects.
-fn heading_text(alloc: Global, plan: &Plan, part: Part) -> Result<String, AllocError>
-    ensures { IfOk result (λ text. string_bytes text ≡ heading_text plan.now part) }
+fn heading_text(alloc: Global, plan: &Plan, one: &Explained) -> Result<String, AllocError>
+    ensures { IfOk result (λ text. string_bytes text
+        ≡ heading_text plan.now (explained_view one.now)) }
 {
-    let place = place_text(alloc, plan, part)?;
-    format!(in alloc; "{place} the failed runs have one of these, and the passed runs have none:")
+    let place = place_text(alloc, plan, one.part)?;
+    let who = who_text(alloc, one.showing, one.failed)?;
+    format!(in alloc; "{place} {who} one of these, and no passed run does:")
+}
+
+/// Which of the failed runs show a suspect.
+fn who_text(alloc: Global, showing: usize, failed: usize) -> Result<String, AllocError>
+    ensures { IfOk result (λ text. string_bytes text ≡ who_text showing failed) }
+{
+    if showing < failed {
+        return some_text(alloc, showing, failed);
+    }
+    if failed == 1 {
+        return format!(in alloc; "the one failed run has");
+    }
+    format!(in alloc; "all {failed} failed runs have")
+}
+
+/// Says that so many of the failed runs show a suspect, and not all.
+fn some_text(alloc: Global, showing: usize, failed: usize) -> Result<String, AllocError>
+    ensures { IfOk result (λ text. string_bytes text ≡ decimal showing ++ (codes " of "
+        ++ (decimal failed ++ (codes " failed runs " ++ have_text showing)))) }
+{
+    let have = have_text(showing);
+    format!(in alloc; "{showing} of {failed} failed runs {have}")
+}
+
+/// Has or have, of this number of things.
+fn have_text(count: usize) -> &'static str
+    ensures { result.now ≡ have_text count }
+{
+    if count == 1 { "has" } else { "have" }
+}
+
+/// What a noun ends with, of this number of things.
+fn ending(count: usize) -> &'static str
+    ensures { result.now ≡ ending count }
+{
+    if count == 1 { "" } else { "s" }
+}
+
+/// The line on the failed runs that show no suspect.
+fn missed_line(alloc: Global, missed: usize, strength: usize) -> Result<String, AllocError>
+    ensures { IfOk result (λ text. string_bytes text
+        ≡ missed_text missed ++ lacking_text strength) }
+{
+    let runs = missed_text(alloc, missed)?;
+    let lacking = lacking_text(alloc, strength)?;
+    format!(in alloc; "{runs}{lacking}")
+}
+
+/// How many failed runs show no suspect.
+fn missed_text(alloc: Global, missed: usize) -> Result<String, AllocError>
+    ensures { IfOk result (λ text. string_bytes text ≡ missed_text missed) }
+{
+    let runs = ending(missed);
+    let have = have_text(missed);
+    format!(in alloc; "{missed} failed run{runs} {have}")
+}
+
+/// What these lack, and with which strength to look for it.
+fn lacking_text(alloc: Global, strength: usize) -> Result<String, AllocError>
+    ensures { IfOk result (λ text. string_bytes text ≡ lacking_text strength) }
+{
+    let features = ending(strength);
+    let next = strength as u128 + 1;
+    let words = "that no passed run has; try --strength";
+    format!(in alloc; " no pattern of at most {strength} feature{features} {words} {next}")
 }
 
 /// Returns the line on a part with too many patterns to look at.

@@ -3,9 +3,10 @@
 
 ghost use Rattle.std.specs.Prelude.{◌≡◌, ◌≢◌, ◌⊎◌, ◌↔◌, ◌++◌, ◌∷◌, [], List, Some, IfOk, OnOk};
 ghost use Rattle.std.specs.Prelude.{All, AllPairs, Contains, MatchBool, length, map, option_map};
-ghost use Rattle.std.specs.Prelude.{slice_get};
+ghost use Rattle.std.specs.Prelude.{slice_get, unwrap_or};
 ghost use Rattle.std.specs.List.{slice_index_or};
 ghost use Rattle.hack_samples.specs.Sets.{rows_of};
+ghost use Rattle.hack_suspects.specs.Counts.{Fails, FailsWith, IsNumberOf};
 ghost use Rattle.hack_suspects.specs.Suspects.{outcomes_of};
 ghost use Rattle.hack_session.specs.Suspects.{AreExplained, AreFound, AreOutcomes};
 ghost use Rattle.hack_session.specs.Internal.{AddsOnce};
@@ -19,7 +20,7 @@ use crate::step::{Handed, Outcome, Step};
 use hack_plan::places::PlanEntry;
 use hack_plan::plan::Plan;
 use hack_samples::Setting;
-use hack_suspects::{Outcome as RunOutcome, SuspectFault};
+use hack_suspects::{Outcome as RunOutcome, SuspectFault, count_failed, count_showing};
 use hack_versions::version::Version;
 use std::alloc::{AllocError, Global};
 
@@ -41,6 +42,12 @@ pub struct Part {
 #[derive(Drop)]
 pub struct Explained {
     pub part: Part,
+    /// How many candidates a pattern has at most.
+    pub strength: usize,
+    /// How many runs of the part failed.
+    pub failed: usize,
+    /// How many of these show a suspect.
+    pub showing: usize,
     /// The suspects; none where there are too many patterns to look at.
     pub suspects: Option<Vec<Vec<Setting>>>,
 }
@@ -152,7 +159,44 @@ fn explain(
     let outcomes = outcomes(alloc, session, part)?;
     let candidates = candidates_in(session.plan(), part.package);
     let suspects = look(alloc, outcomes.as_slice(), candidates, strength)?;
-    Ok(Explained { part, suspects })
+    Ok(counted(part, strength, outcomes.as_slice(), suspects))
+}
+
+/// The part with its suspects, and how many of its failed runs show one.
+fn counted(
+    part: Part,
+    strength: usize,
+    outcomes: &[RunOutcome],
+    suspects: Option<Vec<Vec<Setting>>>,
+) -> Explained
+    ensures part { result.part ≡ part }
+    ensures strength { result.strength ≡ strength }
+    ensures failed { IsNumberOf Fails (outcomes_of outcomes.now) result.failed }
+    ensures showing { IsNumberOf (FailsWith (unwrap_or
+        (option_map (λ found. rows_of found.items) suspects) [])) (outcomes_of outcomes.now)
+        result.showing }
+    ensures suspects { result.suspects ≡ suspects }
+{
+    let failed = count_failed(outcomes);
+    let showing = count_showing(outcomes, patterns_of(&suspects));
+    Explained {
+        part,
+        strength,
+        failed,
+        showing,
+        suspects,
+    }
+}
+
+/// The suspects, or no pattern where there are too many to look at.
+fn patterns_of(suspects: &Option<Vec<Vec<Setting>>>) -> &[Vec<Setting>]
+    ensures { rows_of result.now
+        ≡ unwrap_or (option_map (λ found. rows_of found.items) suspects.now) [] }
+{
+    match suspects {
+        Some(found) => found.as_slice(),
+        None => &[],
+    }
 }
 
 /// The suspects; none where there are too many patterns to look at.

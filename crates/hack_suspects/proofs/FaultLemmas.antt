@@ -3,13 +3,14 @@ use Rattle.std.proofs.Common.{◌≡◌, ℕ, zero, suc, ◌+◌, ◌<◌, ◌�
 use Rattle.std.specs.Prelude.{slice_get, Option, Some, None}
 use Rattle.std.proofs.lemmas.List.Edits.{length-remove}
 use Rattle.std.proofs.lemmas.List.Elements.{All-nil, All-cons, All-head, All-tail, Contains-push, Contains-push_cases, Contains-append_cases, Contains-append_left, Contains-append_right}
-use Rattle.hack_suspects.specs.Suspects.{RunOutcome, IsShown, IsSuspicious, Rises, IsPart}
+use Rattle.hack_suspects.specs.Suspects.{RunOutcome, AreSuspects, IsShown, IsSuspicious, Rises, IsPart}
 use Rattle.hack_samples.specs.Samples.{RowShows}
+use Rattle.hack_suspects.specs.Counts.{TellTheFailed}
 use Rattle.hack_suspects.specs.Faults.{FailBy, FaultsAreFound, HasSuspect}
 use Rattle.hack_samples.specs.declared.sets.Setting.{Setting}
 use Rattle.hack_samples.proofs.SetLemmas.{told, not_both}
 use Rattle.hack_samples.proofs.OrderLemmas.{three}
-use Rattle.hack_suspects.proofs.PatternLemmas.{part-self, part-then, part-without, part-rises}
+use Rattle.hack_suspects.proofs.PatternLemmas.{part-self, part-shows, part-then, part-without, part-rises}
 use Rattle.hack_suspects.proofs.SuspectLemmas.{shown-part, suspect-by}
 
 is-or-not : (o : Option Bool) (b : Bool) → (o ≡ Some b) ⊎ (o ≡ Some b → ⊥)
@@ -110,3 +111,13 @@ faults-found outcomes n t faults by = λ fault among rises small run chosen show
       failed = record { by = run; among = chosen; ended = (by run chosen).1 (record { fault = fault; among = among; shows = shows }); shows = shows };
       passed = λ h. not_both ((by h.by h.among).1 (record { fault = fault; among = among; shows = h.shows })) h.ended;
     })
+
+-- a failed run shows a suspect just where it shows a small pattern that no passed run shows
+pub failed-told : (outcomes : List RunOutcome) (n t : ℕ) (found : List (List Setting)) → AreSuspects outcomes n t found → TellTheFailed outcomes n t found
+failed-told outcomes n t found are = λ run among failed. (
+  λ one. let suspect = (are.exactly one.fault).0 one.among in record { pattern = one.fault; rises = suspect.rises; small = suspect.small; shows = one.shows; passed = suspect.suspicious.passed },
+  λ own.
+      let there = has-suspect (length own.pattern) outcomes n t own.pattern (omega arith) own.rises own.small
+      (record { failed = record { by = run; among = among; ended = failed; shows = own.shows }; passed = own.passed }) in
+      record { fault = there.part; among = (are.exactly there.part).1 there.suspect; shows = part-shows run.on there.part own.pattern there.inside own.shows },
+)

@@ -2,3 +2,4 @@ pub mod PatternLemmas
 pub mod ChoiceLemmas
 pub mod SuspectLemmas
 pub mod FaultLemmas
+pub mod CountLemmas

@@ -1,3 +1,4 @@
 pub mod Suspects
 pub mod Faults
 pub mod InternalWalks
+pub mod Counts

@@ -7,9 +7,11 @@
 #![tactic(auto)]
 
 mod choices;
+mod counts;
 mod laws;
 mod patterns;
 pub mod suspect;
 
-pub use laws::finds_faults;
+pub use counts::{count_failed, count_showing};
+pub use laws::{finds_faults, suspects_tell_the_failed};
 pub use suspect::{Outcome, SuspectFault, suspects};

@@ -40,8 +40,8 @@ fn a_failed_run(rt: HostRuntime) -> Result<(), Wrong> {
     )
 }
 
-// With a strength the report is followed by what only failed runs have; where all failed, by
-// nothing.
+// With a strength the report is followed by what only failed runs have, how many of them have it,
+// and how many have nothing of the kind; where all failed, by nothing.
 #[test]
 fn what_failed_runs_have_in_common(rt: HostRuntime) -> Result<(), Wrong> {
     on(
@@ -70,8 +70,78 @@ fn what_failed_runs_have_in_common(rt: HostRuntime) -> Result<(), Wrong> {
             |     p:
             |         `cargo check --manifest-path Cargo.toml --no-default-features --features a,b`
             |
-            | info: in p the failed runs have one of these, and the passed runs have none:
+            | info: in p the one failed run has one of these, and no passed run does:
             | info:     a on, b on
+            | status 1
+
+            > err: hack check --feature-powerset --strength 2 --keep-going --mutually-exclusive-features a,b,c; features a b c; fails 101 cargo check --manifest-path Cargo.toml --no-default-features; fails 101 cargo check --manifest-path Cargo.toml --no-default-features --features c
+            | err
+            | info: running `cargo check --no-default-features` on p (1/4)
+            | error: process didn't exit successfully: `cargo check --manifest-path Cargo.toml --no-default-features` (exit status: 101)
+            |
+            | info: running `cargo check --no-default-features --features c` on p (2/4)
+            | error: process didn't exit successfully: `cargo check --manifest-path Cargo.toml --no-default-features --features c` (exit status: 101)
+            |
+            | info: running `cargo check --no-default-features --features a` on p (3/4)
+            |
+            | info: running `cargo check --no-default-features --features b` on p (4/4)
+            |
+            | error: failed to run 2 commands
+            |
+            | failed commands:
+            |     p:
+            |         `cargo check --manifest-path Cargo.toml --no-default-features`
+            |         `cargo check --manifest-path Cargo.toml --no-default-features --features c`
+            |
+            | info: in p all 2 failed runs have one of these, and no passed run does:
+            | info:     c on
+            | info:     a off, b off
+            | status 1
+
+            > err: hack check --feature-powerset --strength 2 --keep-going --mutually-exclusive-features a,b,c,d; features a b c d; fails 101 cargo check --manifest-path Cargo.toml --no-default-features; fails 101 cargo check --manifest-path Cargo.toml --no-default-features --features d
+            | err
+            | info: running `cargo check --no-default-features` on p (1/5)
+            | error: process didn't exit successfully: `cargo check --manifest-path Cargo.toml --no-default-features` (exit status: 101)
+            |
+            | info: running `cargo check --no-default-features --features d` on p (2/5)
+            | error: process didn't exit successfully: `cargo check --manifest-path Cargo.toml --no-default-features --features d` (exit status: 101)
+            |
+            | info: running `cargo check --no-default-features --features a` on p (3/5)
+            |
+            | info: running `cargo check --no-default-features --features b` on p (4/5)
+            |
+            | info: running `cargo check --no-default-features --features c` on p (5/5)
+            |
+            | error: failed to run 2 commands
+            |
+            | failed commands:
+            |     p:
+            |         `cargo check --manifest-path Cargo.toml --no-default-features`
+            |         `cargo check --manifest-path Cargo.toml --no-default-features --features d`
+            |
+            | info: in p 1 of 2 failed runs has one of these, and no passed run does:
+            | info:     d on
+            | info: 1 failed run has no pattern of at most 2 features that no passed run has; try --strength 3
+            | status 1
+
+            > err: hack check --feature-powerset --strength 1 --keep-going --mutually-exclusive-features a,b,c; features a b c; fails 101 cargo check --manifest-path Cargo.toml --no-default-features
+            | err
+            | info: running `cargo check --no-default-features` on p (1/4)
+            | error: process didn't exit successfully: `cargo check --manifest-path Cargo.toml --no-default-features` (exit status: 101)
+            |
+            | info: running `cargo check --no-default-features --features c` on p (2/4)
+            |
+            | info: running `cargo check --no-default-features --features a` on p (3/4)
+            |
+            | info: running `cargo check --no-default-features --features b` on p (4/4)
+            |
+            | error: failed to run 1 commands
+            |
+            | failed commands:
+            |     p:
+            |         `cargo check --manifest-path Cargo.toml --no-default-features`
+            |
+            | info: 1 failed run has no pattern of at most 1 feature that no passed run has; try --strength 2
             | status 1
 
             > hack check --feature-powerset --strength 2 --keep-going --exclude-no-default-features; features a; fails 101 cargo check --manifest-path Cargo.toml --no-default-features --features a
