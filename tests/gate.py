@@ -24,6 +24,7 @@ def built(name):
 # Each script with its arguments.
 SCRIPTS = [
     ["tests/documents.py", built("cargo_hack_program")],
+    ["tests/completions.py"],
     ["tests/powerset_list_refusals.py", built("powerset_list")],
     ["tests/stand_ins.py", "--built"],
     ["tests/whole_calls.py", built("cargo_hack_program"), built("stand_cargo"), built("stand_rustup")],

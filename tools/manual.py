@@ -40,7 +40,7 @@ SUBCOMMANDS = {
 ENVIRONMENT = [
     ("CARGO_HACK_CARGO_SRC, CARGO", "The cargo to call; the first that is set counts."),
     ("CARGO_HACK_RUSTUP", "The rustup to call for ranges of versions."),
-    ("CARGO_HACK_DENY_WARNINGS", "Where it is true, a warning makes the exit status 1."),
+    ("CARGO_HACK_DENY_WARNINGS", "Where it is set, also to `false`, `0` or nothing, a warning makes the exit status 1."),
     ("CARGO_TERM_COLOR, NO_COLOR", "Whether messages are coloured."),
     ("GITHUB_ACTIONS", "Where it is set, each run is a group of the log."),
 ]
@@ -132,9 +132,10 @@ def cargo_hack_page(found):
         ]),
         ("OPTIONS", items((man_usage(it), it.paragraphs) for it in found)),
         ("ENVIRONMENT", items((f"\\fB{roff(name)}\\fP", [text]) for name, text in ENVIRONMENT)),
-        ("FILES", items([("\\fB.cargo\\-hack\\-journal\\fP", [
-            "In the folder of the workspace while a call has edited manifests: what they held. After a call that was killed"
-            " the next one brings them back and removes it.",
+        ("FILES", items([("\\fB.git/cargo\\-hack\\-journal\\fP, \\fB.cargo\\-hack\\-journal\\fP", [
+            "What edited manifests held, kept while they are edited: in the repository of the workspace, or else beside its"
+            " manifest. Where a call ends early, its guard, a shell, restores them at once. Where that can't act, as after"
+            " the machine stopped, the next call does, or `cargo hack --restore`.",
         ])])),
         ("EXIT STATUS", [roff("0, or 1 after an error. A warning counts as an error where CARGO_HACK_DENY_WARNINGS is set.")]),
         ("EXAMPLES", items([
@@ -170,25 +171,61 @@ def powerset_list_page():
 
 
 def bash(found):
-    words = " ".join([*SUBCOMMANDS, *(it.letter for it in found if it.letter), *(it.completed for it in found)])
+    words = " ".join([*(it.letter for it in found if it.letter), *(it.completed for it in found)])
+    texts = "|".join(name for it in found if it.takes_value for name in it.names if name not in VALUES and name != "--manifest-path")
     cases = "\n".join(f"        {name}) COMPREPLY=($(compgen -W '{' '.join(values)}' -- \"$word\")); return ;;" for name, values in VALUES.items())
     return f"""# Completions of `cargo hack` for bash, written by tools/manual.py.
+
+# The subcommands of cargo: also its aliases, and those that are installed.
+_cargo_hack_subcommands() {{
+    local listed
+    listed=$(cargo --list 2> /dev/null | awk 'NR > 1 {{ printf "%s ", $1 }}')
+    echo "${{listed:-{' '.join(SUBCOMMANDS)}}}"
+}}
+
 _cargo_hack() {{
-    local word=${{COMP_WORDS[COMP_CWORD]}} before=${{COMP_WORDS[COMP_CWORD-1]}}
+    local word=${{COMP_WORDS[COMP_CWORD]}} before=${{COMP_WORDS[COMP_CWORD-1]}} subcommands it
+    # `--color=never` comes as `--color`, `=` and `never`.
+    if [[ $word == = ]]; then
+        word=
+    elif [[ $before == = ]]; then
+        before=${{COMP_WORDS[COMP_CWORD-2]}}
+    fi
     case $before in
-        --manifest-path) COMPREPLY=($(compgen -f -- "$word")); return ;;
+        --manifest-path)
+            compopt -o filenames 2> /dev/null
+            mapfile -t COMPREPLY < <(compgen -f -- "$word")
+            return ;;
 {cases}
+        {texts}) COMPREPLY=(); return ;;
     esac
-    COMPREPLY=($(compgen -W '{words}' -- "$word"))
+    subcommands=$(_cargo_hack_subcommands)
+    for it in "${{COMP_WORDS[@]:1:COMP_CWORD-1}}"; do
+        [[ $it != hack && " $subcommands " == *" $it "* ]] && subcommands=
+    done
+    COMPREPLY=($(compgen -W "$subcommands {words}" -- "$word"))
 }}
 complete -F _cargo_hack cargo-hack
 
-# `cargo hack` too, where this file is read after the completions of cargo.
+# `cargo hack` too. All else is handed on to the completions of cargo, which are loaded if they aren't yet.
 _cargo_with_hack() {{
-    if [[ ${{COMP_WORDS[1]}} == hack && COMP_CWORD -gt 1 ]]; then
+    local at=1
+    [[ ${{COMP_WORDS[1]}} == +* ]] && at=2
+    if [[ ${{COMP_WORDS[at]}} == hack && COMP_CWORD -gt at ]]; then
         _cargo_hack
-    elif declare -F _cargo > /dev/null; then
+        return
+    fi
+    if ! declare -F _cargo > /dev/null && declare -F _completion_loader > /dev/null; then
+        _completion_loader cargo
+        complete -F _cargo_with_hack cargo
+    fi
+    if declare -F _cargo > /dev/null; then
         _cargo "$@"
+    elif ((COMP_CWORD == at)); then
+        COMPREPLY=($(compgen -W "$(_cargo_hack_subcommands)" -- "${{COMP_WORDS[COMP_CWORD]}}"))
+    else
+        compopt -o default 2> /dev/null
+        COMPREPLY=()
     fi
 }}
 complete -F _cargo_with_hack cargo
