@@ -9,7 +9,7 @@ use Rattle.std.proofs.Math.ListN.{get_or-map}
 use Rattle.std.proofs.lemmas.List.FromFn.{get_or-map-range_with_len, length-map-range_with_len}
 use Rattle.std.proofs.lemmas.List.Folds.{list_all-append}
 use Rattle.std.proofs.lemmas.List.Elements.{All-map, All-weaker, All-contains, Contains-get_or}
-use Rattle.hack_base.proofs.Members.{Contains-nil, Contains-head, Contains-map}
+use Rattle.hack_base.proofs.Members.{Contains-nil, Contains-head, Contains-map, Contains-map_from}
 use Rattle.hack_base.proofs.Passes.{some_passes, any_passes, all_pass, each_passes}
 use Rattle.hack_samples.specs.Sets.{has, has_one_of, has_each, is_on}
 use Rattle.hack_samples.specs.Samples as samples
@@ -25,7 +25,7 @@ use Rattle.hack_features.specs.Tables.{bit}
 use Rattle.hack_features.specs.Places.{name_at, AreAt}
 use Rattle.hack_features.specs.RoutesView.{routed_names}
 use Rattle.hack_features.specs.View.{choice_of, size_of, may_of, whole_of}
-use Rattle.hack_features.specs.Samples.{positions_of, IsOn, SetShows, CoversPatterns, IsSample}
+use Rattle.hack_features.specs.Samples.{positions_of, IsOn, SetShows, CoversPatterns, IsSample, IsNeeded, IsLean}
 use Rattle.hack_features.specs.InternalSamples.{one_leads, providers_of, all_providers}
 use Rattle.hack_features.proofs.FrontLemmas.{all-same}
 use Rattle.hack_features.proofs.CandidateLemmas.{length-candidates_of}
@@ -235,3 +235,18 @@ module _ (r : Rules) where
         Contains-map positions_of sets k.by k.chosen,
         (shown_iff k.by (All-contains (samples.IsListedMask may n required) sets k.by h.listed k.chosen).size pattern).0 k.shows,
       )
+
+  pub lean_of : (t : ℕ) (sets : List (List Bool)) → samples.IsMaskSample may n required sets → samples.IsLean providers t sets → IsLean c t (map positions_of sets)
+  lean_of t sets h lean = All-map (IsNeeded c t (map positions_of sets)) positions_of sets (λ k d lt.
+      let s : List Bool = get_or sets k d in
+      let need : samples.IsNeeded providers t sets s = lean k d lt in
+      let size : length s ≡ n = (h.listed k d lt).size in
+      record {
+        pattern = need.pattern;
+        few = need.few;
+        shows = (shown_iff s size need.pattern).0 need.shows;
+        alone = λ u cu shows.
+            let from = Contains-map_from positions_of sets u cu in
+            let size' : length from.0 ≡ n = (All-contains (samples.IsListedMask may n required) sets from.0 h.listed from.1).size in
+            sym from.2 ∙ ap positions_of (need.alone from.0 from.1 ((shown_iff from.0 size' need.pattern).1 (subst (SetShows c need.pattern) (sym from.2) shows)));
+      })

@@ -23,6 +23,17 @@ abbrev pub CoversPatterns : Choice → ℕ → ℕ → List (List ℕ) → Type 
 CoversPatterns c n t sets =
     (pattern : List Setting) → length pattern ≤ t → (s : List ℕ) → IsSelection n s → IsListed c s → SetShows c pattern s → SomeSetShows c pattern sets
 
+-- the sets need s: some pattern of at most t candidates is shown by s and by no other of them
+pub record IsNeeded (c : Choice) (t : ℕ) (sets : List (List ℕ)) (s : List ℕ) : Type 0 where
+  pub pattern : List Setting
+  pub few : length pattern ≤ t
+  pub shows : SetShows c pattern s
+  pub alone : (u : List ℕ) → Contains sets u → SetShows c pattern u → u ≡ s
+
+-- the sets are lean: they need each of them
+abbrev pub IsLean : Choice → ℕ → List (List ℕ) → Type 0
+IsLean c t sets = All (IsNeeded c t sets) sets
+
 -- the sets are listed, and each is before all later ones
 pub record IsSample (c : Choice) (n : ℕ) (sets : List (List ℕ)) : Type 0 where
   pub selections : All (IsSelection n) sets

@@ -1,6 +1,7 @@
 -- What a `Rules` shows: the choice that it was made for, and what its tables answer.
 use Rattle.std.specs.Prelude.{ℕ, List, Bool, ◌&&◌, length}
 use Rattle.hack_features.specs.declared.rules.Rules.{Rules}
+use Rattle.hack_features.specs.declared.tally.Tally.{Tally}
 use Rattle.hack_samples.specs.Sets.{rows_of}
 use Rattle.hack_features.specs.Rules.{Choice}
 pub use Rattle.hack_features.specs.ChoiceView.{choice, choice_in}
@@ -17,6 +18,10 @@ size_of r = length r.given.features.now
 -- how many questions the rules were asked
 abbrev pub questions_asked : Rules → ℕ
 questions_asked r = r.asked
+
+-- how many questions a tally says that rules were asked
+abbrev pub asked_in : Tally → ℕ
+asked_in t = t.count
 
 -- whether a set is permitted, as the tables answer it
 abbrev pub may_of : Rules → List ℕ → Bool

@@ -20,6 +20,7 @@ use crate::placed::Placed;
 use crate::questions::{Limits, Questions};
 use crate::reach::Edges;
 use crate::tables::{Given, Tables};
+use crate::tally::Tally;
 use std::alloc::{AllocError, Global};
 use std::collections::BTreeMap;
 
@@ -43,7 +44,7 @@ impl<'a> Rules<'a> {
     ghost use Rattle.hack_features.specs.Sets.{IsWithin};
     ghost use Rattle.hack_features.specs.InternalQuestions.{AreLimits, IsFree};
     ghost use Rattle.hack_features.specs.View.{choice_of, size_of, questions_asked, may_of};
-    ghost use Rattle.hack_features.specs.View.{whole_of};
+    ghost use Rattle.hack_features.specs.View.{whole_of, asked_in};
     ghost use Rattle.hack_features.specs.Samples.{positions_of, IsSame};
 
     /// Makes the rules for the candidates `features` of a package with the feature map `map`. A set
@@ -178,6 +179,13 @@ impl<'a> Rules<'a> {
         ensures { result ≡ questions_asked self.now }
     {
         self.asked
+    }
+
+    /// How many questions were asked, as a value that only rules give.
+    pub fn tally(&self) -> Tally
+        ensures { asked_in result ≡ questions_asked self.now }
+    {
+        Tally::of(self.asked)
     }
 
     /// What the names of candidates and at-least-one groups enable.

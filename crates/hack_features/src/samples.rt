@@ -140,7 +140,7 @@ impl Rules<'_> {
     ghost use Rattle.std.specs.Prelude.{◌≡◌, ◌≤◌, ◌+◌, ◌-◌, ◌^◌, min, IfOk, IfErr};
     ghost use Rattle.hack_samples.specs.Questions.{IsTired};
     ghost use Rattle.hack_features.specs.Forest.{sets_in};
-    ghost use Rattle.hack_features.specs.Samples.{IsSample, CoversPatterns};
+    ghost use Rattle.hack_features.specs.Samples.{IsSample, CoversPatterns, IsLean};
     ghost use Rattle.hack_features.specs.View.{choice_of, size_of, questions_asked};
 
     /// Returns a sample: a few of the listed sets, in the order of sets, that show each pattern of
@@ -156,6 +156,8 @@ impl Rules<'_> {
             IsSample (choice_of self.old) (size_of self.old) (sets_in sets)) }
         ensures covers { IfOk result (λ sets.
             CoversPatterns (choice_of self.old) (size_of self.old) strength (sets_in sets)) }
+        ensures lean { IfOk result (λ sets.
+            IsLean (choice_of self.old) strength (sets_in sets)) }
         ensures tired { IfErr result (IsTired (min (questions_asked self.old + most_questions)
             (2 ^ 128 - 1)) (questions_asked self.new)) }
         ensures within { questions_asked self.new ≤ questions_asked self.old + most_questions }
