@@ -1,5 +1,5 @@
 -- What a call does with guards.
-use Rattle.std.specs.Prelude.{◌++◌, ◌∷◌, [], Bool, List, None, Option, Some, false, ℕ}
+use Rattle.std.specs.Prelude.{◌++◌, ◌∷◌, [], Bool, List, None, Option, Some, false, if◌then◌else◌, ℕ}
 use Rattle.hack_base.specs.Names.{Name}
 
 -- a guard of this folder was asked for, and whether it came
@@ -18,6 +18,6 @@ pub record GuardsView : Type 0 where
 abbrev pub after_start : Name → Bool → GuardsView → GuardsView
 after_start folder watches guards = record { starts = guards.starts ++ record { folder = folder; watches = watches } ∷ []; is_watching = watches; status = None }
 
--- after the guard was left with this exit status of the call
+-- after the guard, if one watches, was left with this exit status of the call
 abbrev pub after_leave : ℕ → GuardsView → GuardsView
-after_leave status guards = record guards { is_watching = false; status = Some status }
+after_leave status guards = if guards.is_watching then record guards { is_watching = false; status = Some status } else guards

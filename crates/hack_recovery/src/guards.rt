@@ -26,7 +26,8 @@ pub trait Guards {
             → shown self.new ≡ after_start folder.now watches (shown self.old)) }
         ensures refused { OnErr result (tells → shown self.new ≡ shown self.old) };
 
-    /// Tells the guard that the call got to its end, with this exit status, and waits for its end.
+    /// Tells the guard, if one watches, that the call got to its end, with this exit status, and
+    /// waits for the guard's end.
     fn leave(&mut self, status: u8)
         ensures { tells → shown self.new ≡ after_leave status (shown self.old) };
 }
@@ -104,7 +105,9 @@ impl Guards for FakeGuards {
     }
 
     fn leave(&mut self, status: u8) {
-        self.is_watching = false;
-        self.status = Some(status);
+        if self.is_watching {
+            self.is_watching = false;
+            self.status = Some(status);
+        }
     }
 }
