@@ -6,3 +6,4 @@ pub mod AgainLemmas
 pub mod PrivateLemmas
 pub mod OrderLemmas
 pub mod AsideLemmas
+pub mod ArrayLemmas

@@ -1,8 +1,8 @@
 pub mod KeyPaths
 pub mod Tables
 pub mod InternalTreeEquality
-pub mod Arrays
 pub mod Lookup
+pub mod Arrays
 pub mod DevTree
 pub mod DevDeps
 pub mod Members
@@ -12,3 +12,4 @@ pub mod Exclude
 pub mod WorkspaceTree
 pub mod PrivateCrates
 pub mod Internal
+pub mod InternalArrays

@@ -93,6 +93,18 @@ pub record HasBadForm (root : Name) (ps : List Name) (text : List ℕ) : Type 0 
   pub cut : AreCut text pieces tail
   pub bad : is_bad_form root ps ws pieces ≡ true
 
+-- a supported form where there is something to take out or add
+pub record HasFitForm (root : Name) (ps : List Name) (text : List ℕ) : Type 0 where
+  pub old : Members
+  pub ws : Members
+  pub pieces : List View
+  pub tail : List ℕ
+  pub read : parse_document text ≡ Some old
+  pub workspace : table_at workspace_key old ≡ Some ws
+  pub work : has_work root ps ws ≡ true
+  pub cut : AreCut text pieces tail
+  pub fit : is_bad_form root ps ws pieces ≡ false
+
 -- the text has something to take out or add
 pub record HasWork (root : Name) (ps : List Name) (text : List ℕ) : Type 0 where
   pub old : Members

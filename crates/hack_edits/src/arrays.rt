@@ -1,18 +1,26 @@
 //! Elements cut out of an array of a piece. `toml` decides which text is an array, and where an
 //! element ends.
 
-ghost use Rattle.std.specs.Prelude.{true, false, ◌≡◌, ◌≤◌, ◌<◌, length};
+ghost use Rattle.std.specs.Prelude.{true, false, ◌≡◌, ◌≤◌, ◌<◌, ◌++◌, ◌==◌, ℕ, List, length};
 ghost use Rattle.std.specs.Prelude.{IfOk, IfSome, string_bytes};
+ghost use Rattle.toml.specs.View.{array_view, table_view};
 ghost use Rattle.hack_manifest.specs.LineRuns.{IsShortest};
+ghost use Rattle.hack_manifest.specs.Manifest.{list_of_items};
 ghost use Rattle.hack_manifest.specs.PieceFronts.{IsFrontTo};
-ghost use Rattle.hack_edits.specs.Arrays.{IsArray, IsThinned, IsCutInside};
+ghost use Rattle.hack_edits.specs.Arrays.{EndsBefore, IsArray, IsCutInside, IsLeftInside, but_last};
+ghost use Rattle.hack_edits.specs.Arrays.{has_one, is_element};
+ghost use Rattle.hack_edits.specs.InternalArrays.{IsCommaBehind};
 
+use crate::tables::tree_of;
+use hack_manifest::lookup::value_at;
 use hack_manifest::runs::stands_alone;
 use std::alloc::{AllocError, Global};
+use toml::value::Array;
+use toml::{Table, Value};
 use toml_parser::text::skip_blank;
-use toml_parser::{quoted, starts_string};
+use toml_parser::{ParseError, quoted, starts_string};
 
-/// The piece without these elements of its array, if its brackets are found.
+/// The piece without these elements of its array, if its brackets and they are found.
 pub fn without_elements(
     alloc: Global,
     piece: &str,
@@ -24,9 +32,9 @@ pub fn without_elements(
         return Ok(None);
     };
     let bytes = piece.as_bytes();
-    let inside = &bytes[n..m - 1];
-    let gone = gone_bytes(alloc, inside, goes)?;
-    let kept = thinned(alloc, inside, gone.as_slice())?;
+    let Some(kept) = left_inside(alloc, &bytes[n..m - 1], goes)? else {
+        return Ok(None);
+    };
     let mut new = Vec::new(alloc);
     new.extend_from_slice(&bytes[..n])?;
     new.extend_from_slice(kept.as_slice())?;
@@ -84,42 +92,80 @@ fn is_front(alloc: Global, piece: &str, n: usize, byte: u8, more: &str) -> Resul
     stands_alone(alloc, front.as_str())
 }
 
-/// Returns which bytes between the brackets are removed with these elements: the space and comments
-/// before an element, its value, and what follows up to its comma; without a comma, the nearest
-/// kept comma before it.
-fn gone_bytes(alloc: Global, inside: &[u8], goes: &[bool]) -> Result<Vec<bool>, AllocError> {
-    let mut gone = Vec::new(alloc);
-    gone.resize(inside.len(), false)?;
+/// Returns what is left between an array's brackets without these elements, if its elements are
+/// found: the blanks and comments before an element go with it, and what follows up to its comma;
+/// without a comma, the nearest kept comma before it.
+fn left_inside(alloc: Global, inside: &[u8], goes: &[bool]) -> Result<Option<Vec<u8>>, AllocError>
+    ensures { IfOk result (λ o. IfSome o (λ v. IsLeftInside inside.now v.items)) }
+{
+    let mut kept = Vec::new(alloc);
     let mut from = 0;
-    let mut kept_comma = None;
-    for (i, here) in goes.iter().enumerate() {
+    for here in goes {
         match comma_behind(alloc, inside, from)? {
             Some(comma) => {
-                if *here {
-                    mark(&mut gone, from, comma + 1);
-                } else {
-                    kept_comma = Some(comma);
+                if !*here {
+                    kept.extend_from_slice(&inside[from..comma + 1])?;
                 }
                 from = comma + 1;
             }
             None => {
                 if *here {
-                    mark_last(alloc, &mut gone, inside, from, kept_comma)?;
+                    return without_last(alloc, kept, &inside[from..]);
                 }
             }
         }
     }
-    Ok(gone)
+    kept.extend_from_slice(&inside[from..])?;
+    Ok(Some(kept))
+}
+
+/// Returns the kept elements without their last comma, and what follows the last element, which no
+/// comma follows, if this is a text.
+fn without_last(alloc: Global, kept: Vec<u8>, rest: &[u8]) -> Result<Option<Vec<u8>>, AllocError>
+    ensures { IfOk result (λ o. IfSome o (λ v. (after : List ℕ) × EndsBefore rest.now after
+        × (v.items ≡ but_last kept.items ++ after))) }
+{
+    let Ok(text) = std::str::from_utf8(rest) else {
+        return Ok(None);
+    };
+    let Some(after) = behind_last(alloc, text)? else {
+        return Ok(None);
+    };
+    let mut new = kept;
+    new.pop();
+    new.extend_from_slice(after.as_bytes())?;
+    Ok(Some(new))
+}
+
+/// Returns what follows the text at the start, if there is one and only blanks and comments follow.
+fn behind_last<'a>(alloc: Global, rest: &'a str) -> Result<Option<&'a str>, AllocError>
+    ensures { IfOk result (λ o. IfSome o (λ after. EndsBefore rest.now after.now)) }
+{
+    let start = skip_blank(rest, true);
+    if !starts_string(start) {
+        return Ok(None);
+    }
+    match quoted(alloc, start) {
+        Ok((_, after)) => {
+            if skip_blank(after, true).is_empty() {
+                Ok(Some(after))
+            } else {
+                Ok(None)
+            }
+        }
+        Err(ParseError::OutOfMemory) => Err(AllocError),
+        Err(ParseError::At(_, _, _)) => Ok(None),
+    }
 }
 
 /// Returns where the comma after an element is: the first before which `toml` reads the element.
 pub fn comma_behind(alloc: Global, inside: &[u8], from: usize) -> Result<Option<usize>, AllocError>
-    ensures { IfOk result (λ o. IfSome o (λ i. (from ≤ i) × (i < length inside.now))) }
+    ensures { IfOk result (λ o. IfSome o (λ at. IsCommaBehind inside.now from at)) }
 {
     for i in from..inside.len() {
         if inside[i] == b',' {
             if let Ok(element) = std::str::from_utf8(&inside[from..i]) {
-                if is_array(alloc, element)? {
+                if is_element(alloc, element)? {
                     return Ok(Some(i));
                 }
             }
@@ -128,43 +174,37 @@ pub fn comma_behind(alloc: Global, inside: &[u8], from: usize) -> Result<Option<
     Ok(None)
 }
 
-/// Whether `toml` reads the text between brackets as an array.
-fn is_array(alloc: Global, inside: &str) -> Result<bool, AllocError> {
+/// Whether `toml` reads the text between brackets as an array of one element.
+fn is_element(alloc: Global, inside: &str) -> Result<bool, AllocError>
+    ensures { IfOk result (λ b. b ≡ is_element inside.now) }
+{
     let mut text = String::from_str(alloc, "a=[")?;
     text.push_str(inside)?;
     text.push_str("]")?;
-    stands_alone(alloc, text.as_str())
-}
-
-/// Marks bytes as removed.
-fn mark(gone: &mut Vec<bool>, from: usize, to: usize) {
-    for i in from..to {
-        if let Some(byte) = gone.get_mut(i) {
-            *byte = true;
-        }
+    match tree_of(alloc, text.as_str())? {
+        Some(tree) => Ok(has_one(&tree)),
+        None => Ok(false),
     }
 }
 
-/// Marks the last element, which no comma follows, and the kept comma before it.
-fn mark_last(
-    alloc: Global,
-    gone: &mut Vec<bool>,
-    inside: &[u8],
-    from: usize,
-    comma: Option<usize>,
-) -> Result<(), AllocError>
-    requires { from ≤ length inside.now }
+/// Whether the array of a tree has one element.
+fn has_one(tree: &Table) -> bool
+    ensures { result ≡ has_one (table_view tree.now) }
 {
-    if let Ok(element) = std::str::from_utf8(&inside[from..]) {
-        let len = text_len(alloc, element)?;
-        mark(gone, from, from + len);
-        if let Some(at) = comma {
-            if let Some(byte) = gone.get_mut(at) {
-                *byte = true;
-            }
-        }
+    match value_at(tree, "a") {
+        Some(value) => match value {
+            Value::Array(items) => is_single(items),
+            _ => false,
+        },
+        None => false,
     }
-    Ok(())
+}
+
+/// Whether an array has one element.
+fn is_single(items: &Array) -> bool
+    ensures { result ≡ (length (list_of_items (array_view items.now)) == 1) }
+{
+    items.as_slice().len() == 1
 }
 
 /// Returns the length of a text at the start, with the space and the comments before it; 0 where
@@ -178,19 +218,7 @@ pub fn text_len(alloc: Global, element: &str) -> Result<usize, AllocError>
     }
     match quoted(alloc, start) {
         Ok((_, rest)) => Ok(element.len() - rest.len()),
-        Err(_) => Err(AllocError),
+        Err(ParseError::OutOfMemory) => Err(AllocError),
+        Err(ParseError::At(_, _, _)) => Ok(0),
     }
-}
-
-/// Returns the bytes that are not marked as removed.
-pub fn thinned(alloc: Global, inside: &[u8], gone: &[bool]) -> Result<Vec<u8>, AllocError>
-    ensures { IfOk result (λ v. IsThinned inside.now v.items) }
-{
-    let mut kept = Vec::new(alloc);
-    for (i, byte) in inside.iter().enumerate() {
-        if gone.get(i) != Some(&true) {
-            kept.push(*byte)?;
-        }
-    }
-    Ok(kept)
 }

@@ -1,6 +1,6 @@
 //! A manifest's workspace without private crates.
 
-ghost use Rattle.std.specs.Prelude.{◌≡◌, ◌≢◌, true, Some, None, map, MatchResult};
+ghost use Rattle.std.specs.Prelude.{◌≡◌, ◌≢◌, true, false, Some, None, map, MatchResult};
 ghost use Rattle.std.specs.Prelude.{IfOk, IfSome, string_bytes};
 ghost use Rattle.toml.specs.Parse.{parse_document};
 ghost use Rattle.toml.specs.Data.{get_member};
@@ -18,7 +18,7 @@ ghost use Rattle.hack_edits.specs.PrivateCrates.{IsMade, IsWorkspaceEdit};
 ghost use Rattle.hack_edits.specs.PrivateCrates.{IsWithoutPrivate};
 ghost use Rattle.hack_edits.specs.PrivateCrates.{some_control, some_path_control, some_header};
 ghost use Rattle.hack_edits.specs.PrivateCrates.{is_array_data, has_no_place};
-ghost use Rattle.hack_edits.specs.PrivateCrates.{HasBadForm, HasWork, HasNoWork};
+ghost use Rattle.hack_edits.specs.PrivateCrates.{HasBadForm, HasFitForm, HasNoWork, HasWork};
 ghost use Rattle.hack_edits.specs.WorkspaceTree.{takes, has_work};
 
 use crate::arrays::without_elements;
@@ -54,7 +54,8 @@ pub fn remove_private_crates(
         → HasWork root.now (in_order (names_behind private.now)) text.now
         × (some_path_control (in_order (names_behind private.now)) ≡ true) }
     ensures read_back { result ≡ Err ManifestFault.ReadBack
-        → HasWork root.now (in_order (names_behind private.now)) text.now }
+        → HasFitForm root.now (in_order (names_behind private.now)) text.now
+        × (some_path_control (in_order (names_behind private.now)) ≡ false) }
     ensures inline { result ≢ Err ManifestFault.InlineTarget }
 {
     let ordered = in_order(alloc, private)?;
@@ -83,7 +84,8 @@ fn without_ordered(
         → (HasWork private.now.root.now (names_behind private.now.paths.now) text.now)
         × (some_path_control (names_behind private.now.paths.now) ≡ true) }
     ensures read_back { result ≡ Err ManifestFault.ReadBack
-        → HasWork private.now.root.now (names_behind private.now.paths.now) text.now }
+        → HasFitForm private.now.root.now (names_behind private.now.paths.now) text.now
+        × (some_path_control (names_behind private.now.paths.now) ≡ false) }
     ensures inline { result ≢ Err ManifestFault.InlineTarget }
 {
     let Some(old) = tree_of(alloc, text)? else {
@@ -130,7 +132,7 @@ fn without_private(
     ensures form { result ≡ Err ManifestFault.WorkspaceForm
         → HasBadForm private.now.root.now (names_behind private.now.paths.now) text.now }
     ensures read_back { result ≡ Err ManifestFault.ReadBack
-        → HasWork private.now.root.now (names_behind private.now.paths.now) text.now }
+        → HasFitForm private.now.root.now (names_behind private.now.paths.now) text.now }
     ensures toml { result ≢ Err ManifestFault.Toml }
     ensures inline { result ≢ Err ManifestFault.InlineTarget }
     ensures path { result ≢ Err ManifestFault.PathText }

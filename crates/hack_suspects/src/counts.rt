@@ -14,13 +14,13 @@ use hack_samples::Setting;
 pub fn count_failed(outcomes: &[Outcome]) -> usize
     ensures { IsNumberOf Fails (outcomes_of outcomes.now) result }
 {
-    let mut count: usize = 0;
+    let mut failed: usize = 0;
     for run in outcomes {
         if run.failed {
-            count += 1;
+            failed += 1;
         }
     }
-    count
+    failed
 }
 
 /// Returns how many of the runs failed and show one of the patterns.

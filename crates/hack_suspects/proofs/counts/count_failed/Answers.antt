@@ -14,11 +14,11 @@ loop-run-preserved c =
     let i : ℕ = c.loop-run.run-index in
     elim c.if-run.branch [
       | then-run w ↦ record {
-        few = omega (arith, w.count-is, c.loop-run.invariant.few);
-        is = one-counted Fails runs i c.run-item.result c.loop-run-test.true c.run-item.is c.loop-run.count c.loop-run.invariant.is _ w.count-is w.if-run.true;
+        few = omega (arith, w.failed-is, c.loop-run.invariant.few);
+        is = one-counted Fails runs i c.run-item.result c.loop-run-test.true c.run-item.is c.loop-run.failed c.loop-run.invariant.is _ w.failed-is w.if-run.true;
       }
       | else-run w ↦ record {
-        few = omega (arith, w.count-is, c.loop-run.invariant.few);
-        is = one-left Fails runs i c.run-item.result c.loop-run-test.true c.run-item.is c.loop-run.count c.loop-run.invariant.is _ w.count-is (λ failed. not_both failed w.if-run.false);
+        few = omega (arith, w.failed-is, c.loop-run.invariant.few);
+        is = one-left Fails runs i c.run-item.result c.loop-run-test.true c.run-item.is c.loop-run.failed c.loop-run.invariant.is _ w.failed-is (λ failed. not_both failed w.if-run.false);
       }
     ]

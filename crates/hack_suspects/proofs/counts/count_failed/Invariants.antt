@@ -5,6 +5,6 @@ use Rattle.hack_suspects.proofs.counts.count_failed.Given as goal
 
 abbrev pub invariant-loop-run : goal.invariant-loop-run
 invariant-loop-run l = record {
-  few : l.count ≤ l.run-index;
-  is : IsNumberOf Fails (outcomes_of (take l.run-index l.outcomes)) l.count;
+  few : l.failed ≤ l.run-index;
+  is : IsNumberOf Fails (outcomes_of (take l.run-index l.outcomes)) l.failed;
 }
