@@ -1,5 +1,6 @@
 -- A prefix of a text that a writer took, and what is written after it.
-use Rattle.std.proofs.Common.{◌≡◌, inl, inr, ℕ, zero, suc, ◌-◌, List, ◌++◌, length, take, drop, Option, Some, None, Result, Ok, Err, IsErrAnd, OnOk, [], ap, sym, subst, ◌∙◌, append_assoc, take-append-drop, arith}
+use Rattle.std.proofs.Common.{◌≡◌, inl, inr, ℕ, zero, suc, ◌-◌, List, ◌++◌, ◌<◌, Bool, true, false, lt-ltb, length, take, drop, Option, Some, None, Result, Ok, Err, IsErrAnd, OnOk, [], ap, sym, subst, ◌∙◌, append_assoc, take-append-drop, arith}
+use Rattle.std.specs.Prelude.{if◌then◌else◌}
 use Rattle.std.proofs.Math.Nat.{eq-or-lt_of_le}
 use Rattle.std.proofs.lemmas.List.{take_rest}
 use Rattle.std.specs.Io.KnownBytes.{Appends, Keeps}
@@ -67,15 +68,14 @@ failed-first (Some n) (Some m) None p q = absurd q
 failed-first (Some n) (Some m) (Some k) p q = (omega (arith, p.0, q), λ room. omega (arith, p.1 room, q))
 
 -- what one write counts
-pub write-grows : {E : Type 0} (a b : Option ℕ) (r : Result ℕ E) → CountsWrite a b r → NoFewer a b
-write-grows a b (Ok zero) is = grown a b (one-failed a b is)
-write-grows a b (Ok (suc n)) is = stayed a b is
-write-grows a b (Err fault) is = grown a b (one-failed a b is)
+pub write-grows : (failed : Bool) (a b : Option ℕ) → b ≡ (if failed then one_more a else a) → NoFewer a b
+write-grows true a b is = grown a b (one-failed a b is)
+write-grows false a b is = stayed a b is
 
--- a write that takes nothing counts as failed
-pub took-none : (E : Type 0) (a b : Option ℕ) (n : ℕ) → CountsWrite {E = E} a b (Ok n) → n ≡ 0 → HasFailed a b
-took-none E a b zero is none = one-failed a b is
-took-none E a b (suc n) is none = absurd (omega (arith, none))
+-- a write that takes none of some bytes counts as failed
+pub took-none : (E : Type 0) (bytes : List ℕ) (a b : Option ℕ) (n : ℕ) → CountsWrite {E = E} bytes a b (Ok n) → n ≡ 0 → 0 < length bytes → HasFailed a b
+took-none E bytes a b zero is none some = one-failed a b (is ∙ ap (λ failed. if failed then one_more a else a) (lt-ltb 0 (length bytes) some))
+took-none E bytes a b (suc n) is none some = absurd (omega (arith, none))
 
 -- a write after tries that took nothing
 pub Appends-after : (a b c : Option (List ℕ)) (bs : List ℕ) → Keeps a b → Appends b c bs → Appends a c bs

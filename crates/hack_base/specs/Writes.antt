@@ -1,5 +1,5 @@
 -- What is written to a sink, and how often that failed.
-use Rattle.std.specs.Prelude.{◌≡◌, ◌<◌, ◌≤◌, ◌⊎◌, ◌+◌, ◌-◌, ◌^◌, ℕ, zero, suc, List, ◌++◌, codes, Option, Some, None, Result, Ok, Err, min, option_map, ⊤}
+use Rattle.std.specs.Prelude.{◌≡◌, ◌<◌, ◌≤◌, ◌⊎◌, ◌&&◌, ◌+◌, ◌-◌, ◌^◌, ℕ, Bool, true, List, ◌++◌, codes, length, nat_eq, nat_lt, Option, Some, None, Result, Ok, Err, min, option_map, if◌then◌else◌, ⊤}
 use Rattle.std.specs.Io.KnownBytes.{Appends}
 
 -- known bytes grow by a prefix of the text, which may be all of it
@@ -40,8 +40,11 @@ abbrev pub CountsFailure : {T E : Type 0} → Option ℕ → Option ℕ → Resu
 CountsFailure old new (Ok done) = new ≡ old
 CountsFailure old new (Err fault) = new ≡ one_more old
 
--- a write fails where it answers an error, and where it takes nothing
-abbrev pub CountsWrite : {E : Type 0} → Option ℕ → Option ℕ → Result ℕ E → Type 0
-CountsWrite old new (Ok zero) = new ≡ one_more old
-CountsWrite old new (Ok (suc n)) = new ≡ old
-CountsWrite old new (Err fault) = new ≡ one_more old
+-- a write fails where it answers an error, and where it takes none of some bytes
+abbrev pub write_failed : {E : Type 0} → List ℕ → Result ℕ E → Bool
+write_failed bytes (Ok n) = nat_eq n 0 && nat_lt 0 (length bytes)
+write_failed bytes (Err fault) = true
+
+-- a write that fails is counted, and one that doesn't isn't: taking none of no bytes counts nothing
+abbrev pub CountsWrite : {E : Type 0} → List ℕ → Option ℕ → Option ℕ → Result ℕ E → Type 0
+CountsWrite bytes old new result = new ≡ (if write_failed bytes result then one_more old else old)

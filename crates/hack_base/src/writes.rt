@@ -1,10 +1,10 @@
 //! What lines and lists are written to, and texts written as far as it takes them.
 
-ghost use Rattle.std.specs.Prelude.{◌≡◌, ℕ, List, Option, None, Some, OnOk, MatchResult};
+ghost use Rattle.std.specs.Prelude.{◌≡◌, ◌<◌, ℕ, List, Option, None, Some, OnOk, MatchResult, length};
 ghost use Rattle.std.specs.Io.{WritesAtMost};
 ghost use Rattle.std.specs.Io.KnownBytes.{Appends, Keeps, WriteAppends};
 ghost use Rattle.hack_base.specs.Writes.{AppendsFront, CountsErrors, CountsFailure, CountsWrite};
-ghost use Rattle.hack_base.specs.Writes.{HasFailed, NoFewer, line};
+ghost use Rattle.hack_base.specs.Writes.{HasFailed, NoFewer, line, write_failed};
 
 use std::io;
 use std::io::{ErrorKind, Write};
@@ -17,11 +17,12 @@ pub trait Sink {
     /// How often a call failed, if the type counts it. At 2^64 - 1 the count stays.
     ghost failed: { Self → Option ℕ };
 
-    /// Writes some bytes from the front on, and returns how many. Taking none counts as a failure.
+    /// Writes some bytes from the front on, and returns how many. Taking none of some counts as a
+    /// failure.
     fn put_some(&mut self, bytes: &[u8]) -> io::Result<usize>
         ensures bound { WritesAtMost result bytes.now }
         ensures bytes { WriteAppends (contents self.old) (contents self.new) result bytes.now }
-        ensures counted { CountsWrite (failed self.old) (failed self.new) result };
+        ensures counted { CountsWrite bytes.now (failed self.old) (failed self.new) result };
 
     /// Flushes what was written.
     fn finish(&mut self) -> io::Result<()>
@@ -57,17 +58,11 @@ impl<W: Write> Sink for Counted<'_, W> {
     ghost failed = { λ counted. Some counted.failed };
 
     fn put_some(&mut self, bytes: &[u8]) -> io::Result<usize> {
-        match self.stream.write(bytes) {
-            Ok(0) => {
-                self.failed = self.failed.saturating_add(1);
-                Ok(0)
-            }
-            Ok(n) => Ok(n),
-            Err(error) => {
-                self.failed = self.failed.saturating_add(1);
-                Err(error)
-            }
+        let outcome = self.stream.write(bytes);
+        if has_failed(bytes, &outcome) {
+            self.failed = self.failed.saturating_add(1);
         }
+        outcome
     }
 
     fn finish(&mut self) -> io::Result<()> {
@@ -81,13 +76,23 @@ impl<W: Write> Sink for Counted<'_, W> {
     }
 }
 
+/// Whether a write of these bytes failed.
+fn has_failed(bytes: &[u8], outcome: &io::Result<usize>) -> bool
+    ensures { result ≡ write_failed bytes.now outcome.now }
+{
+    match outcome {
+        Ok(n) => *n == 0 && bytes.len() > 0,
+        Err(_) => true,
+    }
+}
+
 /// Writes some bytes, again where that was interrupted.
 fn put_again<W: Sink>(bytes: &[u8], out: &mut W) -> io::Result<usize>
     ensures bound { WritesAtMost result bytes.now }
     ensures bytes { WriteAppends (W.contents out.old) (W.contents out.new) result bytes.now }
     ensures grows { NoFewer (W.failed out.old) (W.failed out.new) }
     ensures missed { MatchResult result
-        (λ n. n ≡ 0 → HasFailed (W.failed out.old) (W.failed out.new))
+        (λ n. n ≡ 0 → 0 < length bytes.now → HasFailed (W.failed out.old) (W.failed out.new))
         (λ _. HasFailed (W.failed out.old) (W.failed out.new)) }
 {
     for _ in 0..u64::MAX {

@@ -14,7 +14,7 @@ pub returns-in-Ok-clause-grows : goal.returns-in-Ok-clause-grows
 returns-in-Ok-clause-grows g c = NoFewer-trans _ _ _ c.loop.invariant.1 (write-grows _ _ _ c.put_some.ensures.counted)
 
 pub returns-in-Ok-clause-missed : goal.returns-in-Ok-clause-missed
-returns-in-Ok-clause-missed g c = λ none. failed-later _ _ _ c.loop.invariant.1 (took-none Error _ _ _ c.in-Ok.ensures.counted none)
+returns-in-Ok-clause-missed g c = λ none some. failed-later _ _ _ c.loop.invariant.1 (took-none Error _ _ _ _ c.in-Ok.ensures.counted none some)
 
 pub returns-then-ne-clause-bytes : goal.returns-then-ne-clause-bytes
 returns-then-ne-clause-bytes g c = Keeps-trans _ _ _ c.loop.invariant.0 c.in-Err.ensures.bytes
