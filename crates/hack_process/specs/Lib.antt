@@ -7,3 +7,4 @@ pub mod Fake
 pub mod Faults
 pub mod OwnWords
 pub mod Internal
+pub mod SystemCommands

@@ -4,7 +4,8 @@ ghost use Rattle.std.specs.Prelude.{◌≡◌, [], IfOk, false};
 ghost use Rattle.std.specs.Process.{exit_code, exit_signal};
 ghost use Rattle.hack_process.specs.Calls.{WroteNothing, answer_of};
 ghost use Rattle.hack_base.specs.Names.{names_of};
-ghost use Rattle.hack_process.specs.InternalEnds.{IsEndOf, Orders};
+ghost use Rattle.hack_process.specs.InternalEnds.{IsEndOf};
+ghost use Rattle.hack_process.specs.SystemCommands.{Orders};
 
 use crate::caller::{Called, Caller, End};
 use std::alloc::{AllocError, Global};
@@ -58,7 +59,7 @@ impl<R: Processes + Drop> Caller for Child<R> {
         words: &[String],
         capture: bool,
     ) -> Result<Called, AllocError> {
-        let mut command = command(alloc, program, words)?;
+        let mut command = system_command(alloc, program, words)?;
         match self.start(&mut command, alloc, capture) {
             Ok(called) => Ok(called),
             Err(e) if e.kind() == ErrorKind::OutOfMemory => Err(AllocError),
@@ -67,8 +68,9 @@ impl<R: Processes + Drop> Caller for Child<R> {
     }
 }
 
-// The program with just these arguments, in the environment and the folder of this process.
-fn command(alloc: Global, program: &str, words: &[String]) -> Result<Command, AllocError>
+/// The command that a `Child` starts: the program with just these arguments, in the environment and
+/// the folder of this process.
+pub fn system_command(alloc: Global, program: &str, words: &[String]) -> Result<Command, AllocError>
     ensures { IfOk result (Orders program.now (names_of words.now)) }
 {
     let mut command = Command::new(alloc, program)?;

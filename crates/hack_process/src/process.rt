@@ -15,7 +15,7 @@ ghost use Rattle.hack_process.specs.Faults.{GotAnswer, IsFault, IsReadFault, Sho
 ghost use Rattle.hack_process.specs.Faults.{without_line_ends};
 
 pub use crate::caller::{Called, Caller, End};
-pub use crate::child::Child;
+pub use crate::child::{Child, system_command};
 pub use crate::fake::{FakeCaller, Made};
 pub use crate::fault::{Failure, ProcessFault};
 use crate::words::{longer, push_features, push_trailing, push_words, without_ends};
