@@ -370,7 +370,7 @@ def full_disk(place):
         status, told = place.call(EDITS)
     finally:
         place.program = program
-    must(status == 1 and told.count("failed to write to file `p/Cargo.toml`") == told.count("error: ") == 1, f"status {status}: {told}")
+    must(status == 1 and told.count(f"failed to write to file `{path}`") == told.count("error: ") == 1, f"status {status}: {told}")
     place.as_before()
 
 

@@ -19,61 +19,40 @@ use std::{fs, io, rt};
 /// that is written in part. A write doesn't wait for the disk: what was written shortly before a
 /// power cut may be lost. A symbolic link is followed. What can't be replaced is written in place:
 /// the target of a broken link, a file with several hard links, a device, and a file in a folder
-/// where no new file can be made. The new file beside `a` is named `a.cargo-hack-0`, or with a
-/// greater number where that is taken; before it is renamed, those with lesser numbers are removed,
-/// since programs left them that were killed.
+/// where no new file can be made. The new file beside `a` is named `a.cargo-hack-0`; one that is
+/// there already is removed, since a program left it that was killed.
 #[derive(Drop)]
 pub struct Disk<R: rt::Files + AllocGlobal + Drop> {
     rt: R,
     failures: u64,
 }
 
-// A file that was made beside a path, with its name and the number in it.
-#[derive(Drop)]
-struct NewFile<F: Drop> {
-    file: F,
-    name: String,
-    number: u64,
-}
-
-// A new file, and the path in the same folder that it will be renamed to.
+// A new file, with its name, and the path in the same folder that it will be renamed to.
 #[derive(Drop)]
 struct Successor<F: Drop> {
-    new: NewFile<F>,
+    file: F,
+    name: String,
     target: PathBuf,
 }
 
-// How many names are tried for the new file beside a path: files with these names may be left by
-// programs that were killed.
+// How many names are tried for the new file beside a path: at some of them may be what can't be
+// removed.
 const NAMES: u64 = 16;
 
-// The name with this number beside a target. None where memory is refused.
-fn name_of<R: AllocGlobal>(rt: &R, target: &str, number: u64) -> Option<String> {
-    format!(in rt.alloc(); "{target}.cargo-hack-{number}").ok()
-}
-
-// A new file in the target's folder. None where it can't be made.
-fn new_file<R: rt::Files + AllocGlobal>(rt: &R, target: &str) -> Option<NewFile<R::File>> {
+// A new file in the target's folder, and its name. None where it can't be made.
+fn new_file<R: rt::Files + AllocGlobal>(rt: &R, target: &str) -> Option<(R::File, String)> {
     for number in 0..NAMES {
-        let name = name_of(rt, target, number)?;
+        let name = format!(in rt.alloc(); "{target}.cargo-hack-{number}").ok()?;
+        let _ = fs::remove_file(rt, name.as_str());
         let mut options = OpenOptions::new();
         options.write(true).create_new(true);
         match options.open(rt, name.as_str()) {
-            Ok(file) => return Some(NewFile { file, name, number }),
+            Ok(file) => return Some((file, name)),
             Err(e) if e.kind() == ErrorKind::AlreadyExists => {}
             Err(_) => return None,
         }
     }
     None
-}
-
-// Removes the files beside a target whose numbers are less than this one.
-fn tidy<R: rt::Files + AllocGlobal>(rt: &R, target: &str, number: u64) {
-    for lesser in 0..number {
-        if let Some(name) = name_of(rt, target, lesser) {
-            let _ = fs::remove_file(rt, name.as_str());
-        }
-    }
 }
 
 // Gives the file the owner and the permissions of another. The owner is set first, since a change
@@ -97,8 +76,8 @@ fn is_free<R: rt::Files>(rt: &R, path: &str) -> bool {
 // A new file for a path at which nothing is. None where it can't be made.
 fn first_at<R: rt::Files + AllocGlobal>(rt: &R, path: &str) -> Option<Successor<R::File>> {
     let target = PathBuf::from_str(rt.alloc(), path).ok()?;
-    let new = new_file(rt, path)?;
-    Some(Successor { new, target })
+    let (file, name) = new_file(rt, path)?;
+    Some(Successor { file, name, target })
 }
 
 // A new file that can replace the one at the path, after all links are followed. None where what is
@@ -112,32 +91,24 @@ fn successor_of<R: rt::Files + AllocGlobal>(rt: &R, path: &str) -> Option<Succes
     // A file that may not be written is not to be replaced either.
     let mut options = OpenOptions::new();
     let _writable = options.write(true).open(rt, target.as_path()).ok()?;
-    let new = new_file(rt, target.as_str())?;
-    if make_like(rt, &new.file, new.name.as_str(), &held).is_err() {
-        let _ = fs::remove_file(rt, new.name.as_str());
+    let (file, name) = new_file(rt, target.as_str())?;
+    if make_like(rt, &file, name.as_str(), &held).is_err() {
+        let _ = fs::remove_file(rt, name.as_str());
         return None;
     }
-    Some(Successor { new, target })
+    Some(Successor { file, name, target })
 }
 
-// Writes the bytes to the new file, and renames it to its target, once no older one is beside it.
-// Where that fails, the new file is removed.
-fn replace<R: rt::Files + AllocGlobal>(
-    rt: &R,
-    successor: Successor<R::File>,
-    bytes: &[u8],
-) -> io::Result<()> {
-    let Successor { new, target } = successor;
-    let NewFile {
+// Writes the bytes to the new file, and renames it to its target. Where that fails, the new file is
+// removed.
+fn replace<R: rt::Files>(rt: &R, successor: Successor<R::File>, bytes: &[u8]) -> io::Result<()> {
+    let Successor {
         mut file,
         name,
-        number,
-    } = new;
+        target,
+    } = successor;
     let placed = match file.write_all(bytes) {
-        Ok(()) => {
-            tidy(rt, target.as_str(), number);
-            fs::rename(rt, name.as_str(), target.as_path())
-        }
+        Ok(()) => fs::rename(rt, name.as_str(), target.as_path()),
         Err(e) => Err(e),
     };
     if placed.is_err() {

@@ -316,7 +316,7 @@ fn a_file_of_two_names_keeps_both(rt: HostRuntime) -> Result<(), Wrong> {
 }
 
 #[test]
-fn files_that_killed_programs_left_are_removed(rt: HostRuntime) -> Result<(), Wrong> {
+fn a_file_that_a_killed_program_left_is_removed(rt: HostRuntime) -> Result<(), Wrong> {
     on_disk(
         &rt,
         "
@@ -324,18 +324,12 @@ fn files_that_killed_programs_left_are_removed(rt: HostRuntime) -> Result<(), Wr
             | ok
             > write a.cargo-hack-0 left
             | ok
-            > write a.cargo-hack-1 left
-            | ok
-            > write a.cargo-hack-3 apart
-            | ok
             > write a new
             | ok
             > content: a
             | 'new'
-            > content: a.cargo-hack-3
-            | 'apart'
             > names
-            | 2
+            | 1
         ",
     )
 }
