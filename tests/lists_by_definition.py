@@ -11,7 +11,8 @@ Where the definitions have no plan, status 1, no list and one of the errors that
 shell scripts with stored answers. Where a case fails, its arguments, its workspace and both lists are printed.
 
 With `--strength` the definitions leave open which sets a sample has. So the sets of a package are those listed ones whose
-commands are in the whole list; they have to show each pattern that a listed set shows, and all else is compared as above.
+commands are in the whole list; they have to show each pattern that a listed set shows, each of them one that no other shows,
+and all else is compared as above.
 Then the plan or a piece of it is run, over a cargo that fails on some of its commands. What is told of suspects has to be
 what follows from the definition for these outcomes, by looking at all patterns.
 The last line is `N passed, M failed`, of cases, and the status is 1 where one failed.
@@ -482,7 +483,8 @@ class Plan:
         self.texts = [command(workspace, asked, it, packages, runs) for it in self.places]
 
     def sample(self, package, version, choice, sets):
-        """Those of the listed sets whose commands the whole list has, and a fault where they miss a pattern."""
+        """Those of the listed sets whose commands the whole list has, and a fault where they miss a pattern, or where one of
+        them shows none that no other does."""
         self.choices[package["name"]] = choice
         if version is None or self.asked.own_handling:
             return sets
@@ -493,7 +495,11 @@ class Plan:
             if line in lines:
                 lines.remove(line)
                 found.append(it)
-        shown = {pattern for it in found for pattern in patterns(choice.settings_of(it), self.asked.strength)}
+        own = [patterns(choice.settings_of(it), self.asked.strength) for it in found]
+        shown = set().union(*own)
+        for place, it in enumerate(found):
+            if own[place] <= set().union(*own[:place], *own[place + 1 :]):
+                self.faults.append(f"in {package['name']} other runs show each pattern that {it} shows")
         missed = [(it, patterns(choice.settings_of(it), self.asked.strength) - shown) for it in sets]
         self.faults += [f"in {package['name']} no run shows {min(them)}, which {it} shows" for it, them in missed if them]
         return found

@@ -17,7 +17,7 @@ import sys
 import tempfile
 
 sys.dont_write_bytecode = True
-from small_workspace import FILES, library, stand_in, write_files  # noqa: E402
+from small_workspace import FILES, library, stand_in, write, write_files  # noqa: E402
 
 # Refuses the call of that number in programs of this name, and says so by a file.
 ALLOCATOR = r"""
@@ -77,6 +77,7 @@ CALLS = {
     "a list": ["check", "--feature-powerset", "--workspace", "--print-command-list"],
     "each feature, to the end": ["check", "--each-feature", "--workspace", "--keep-going"],
     "a range of versions": ["check", "--workspace", "--version-range", "1.60..=1.62", "--print-command-list"],
+    "a sample": ["check", "--feature-powerset", "--strength", "2", "--print-command-list", "-p", "p"],
     "development dependencies left out": ["check", "--each-feature", "--workspace", "--no-dev-deps", "--keep-going", "-v"],
     "private members left out": ["check", "--workspace", "--no-private"],
 }
@@ -90,10 +91,14 @@ MAPS = {
 
 
 def lay_out(folder):
-    """The workspace, and the stand-in beside it, whose path is returned."""
+    """The workspace, and the stand-in beside it, whose path is returned. It tells of three features: so many have more than one
+    sample of pairs."""
     workspace, cargo = f"{folder}/w", f"{folder}/tools/cargo"
     write_files(workspace)
     stand_in(cargo, STAND_IN, workspace)
+    with open(f"{cargo}.metadata", encoding="utf-8") as it:
+        told = it.read()
+    write(f"{cargo}.metadata", told.replace('"b":[]', '"b":[],"c":[]'))
     return workspace, cargo
 
 
