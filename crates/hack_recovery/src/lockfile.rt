@@ -113,7 +113,8 @@ pub(crate) fn settle<F: Files, L: Files, C: Caller, O: Write, E: Write>(
     drop_copy(host.alloc, places, files, host.term, host.err)
 }
 
-/// Gives the lockfile these bytes, unless it holds them, and reports it.
+/// Gives the lockfile these bytes, and reports it, unless it holds them: then it is written all the
+/// same, since a write on the disk removes what an interrupted one left beside it.
 fn give_back<L: Files, C: Caller, O: Write, E: Write>(
     bytes: &[u8],
     places: &Places,
@@ -130,12 +131,12 @@ fn give_back<L: Files, C: Caller, O: Write, E: Write>(
         (L.bytes_at lockfiles.old) (L.bytes_at lockfiles.new) }
 {
     let path = places.lockfile.as_str();
-    match holds(host.alloc, path, bytes, lockfiles) {
-        Ok(true) => return Ok(true),
-        Ok(false) => {}
+    let is_back = match holds(host.alloc, path, bytes, lockfiles) {
+        Ok(is_back) => is_back,
         Err(fault) => return tell_fault(host.alloc, path, fault, host.term, host.err),
-    }
+    };
     match lockfiles.write(path, bytes) {
+        Ok(()) if is_back => Ok(true),
         Ok(()) => {
             let dir = host.env.current_dir.as_str();
             tell_restored(host.alloc, dir, path, host.term, host.err)
