@@ -35,8 +35,8 @@ range-cause cx ids s latest (fault.Version e) chosen of_call (inl m) = absurd (c
 range-cause cx ids s latest (fault.Version e) chosen of_call (inr bad) = absurd bad
 range-cause cx ids s latest (fault.Range e) chosen of_call (inl m) = absurd (cc)
 range-cause cx ids s latest (fault.Range e) chosen of_call (inr bad) = inr (record { ids = ids; input = s; chosen = chosen; of_call = of_call; bad = bad })
-range-cause cx ids s latest (fault.TooManyQuestions name) chosen of_call (inl e) = absurd (cc)
-range-cause cx ids s latest (fault.TooManyQuestions name) chosen of_call (inr bad) = absurd bad
+range-cause cx ids s latest (fault.TooManyQuestions name tally) chosen of_call (inl e) = absurd (cc)
+range-cause cx ids s latest (fault.TooManyQuestions name tally) chosen of_call (inr bad) = absurd bad
 range-cause cx ids s latest fault.TooManyRuns chosen of_call (inl e) = absurd (cc)
 range-cause cx ids s latest fault.TooManyRuns chosen of_call (inr bad) = absurd bad
 

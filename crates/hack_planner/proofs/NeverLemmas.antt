@@ -45,7 +45,7 @@ no-cause cx latest h (fault.Range e) bad =
     let ids = chosen-once cx bad.ids h.ids bad.chosen h.chosen in
     let agree = inputs-agree cx h.ids bad.input h.input (subst (λ l. IsInputOf cx l bad.input) ids bad.of_call) h.of_call in
     h.in_range e (fault-same bad.input h.input agree latest e bad.bad)
-no-cause cx latest h (fault.TooManyQuestions name) both = no-strength cx.args.strength both.0 both.1.wide.2.wide.given
+no-cause cx latest h (fault.TooManyQuestions name tally) both = no-strength cx.args.strength both.0 both.1.wide.2.wide.given
 no-cause cx latest h fault.TooManyRuns both =
     let bad = both.1 in
     let ids = chosen-once cx bad.ids h.ids bad.chosen h.chosen in

@@ -1,14 +1,14 @@
 -- The samples of a plan's packages.
-use Rattle.std.proofs.Common.{◌≡◌, ◌≢◌, refl, sym, ap, subst, ◌∙◌, ℕ, ◌<◌, ◌≤◌, List, [], ◌∷◌, ◌⊎◌, inl, inr, length, get_or, map, Bool, true, false, Option, Some, Contains, All}
+use Rattle.std.proofs.Common.{◌≡◌, ◌≢◌, refl, sym, ap, subst, ◌∙◌, ℕ, ◌<◌, List, [], ◌∷◌, ◌⊎◌, inl, inr, length, get_or, map, true, false, Option, Some, Contains}
 use Rattle.std.specs.Prelude.{IsSomeAnd, slice_get, ◌||◌}
 use Rattle.std.proofs.lemmas.List.{get_or_default}
-use Rattle.std.proofs.lemmas.List.Elements.{All-contains}
+use Rattle.std.proofs.lemmas.List.Elements.{All-contains, Contains-get_or}
 use Rattle.std.proofs.lemmas.Option.{slice_get_read}
 use Rattle.std.specs.Bool.{MatchBool}
 use Rattle.hack_words.specs.declared.cli.args.Args.{Args}
 use Rattle.hack_base.proofs.Members.{Contains-cons_cases, Contains-head, Contains-tail, Contains-nil, Contains-map}
 use Rattle.hack_features.specs.Rules.{IsListed}
-use Rattle.hack_features.specs.Samples.{IsSample, CoversPatterns, SetShows}
+use Rattle.hack_features.specs.Samples.{IsNeeded, SetShows}
 use Rattle.hack_features.specs.Sets.{IsSelection, Pairwise}
 use Rattle.hack_samples.specs.declared.sets.Setting.{Setting}
 use Rattle.hack_load.specs.Contexts.{ContextRecord, package_at, features_at}
@@ -20,8 +20,9 @@ use Rattle.hack_planner.specs.Candidates.{candidates}
 use Rattle.hack_planner.specs.ContextMembers.{AreChosen}
 use Rattle.hack_planner.specs.Kinds.{ArePowersets, AreSets, AreSetRuns, AreRuns, IsUnsampled, package_choice, options_of}
 use Rattle.hack_planner.specs.KindsView.{IsRunsFault as IsNotSampled}
-use Rattle.hack_samples.specs.declared.fault.SampleFault.{SampleFault}
-use Rattle.hack_samples.specs.declared.fault.SampleFault.TheVariants as questions
+use Rattle.hack_planner.specs.declared.fault.RunsFault.{RunsFault}
+use Rattle.hack_planner.specs.declared.fault.RunsFault.TheVariants as questions
+use Rattle.hack_features.specs.declared.tally.Tally.{Tally}
 use Rattle.hack_plan.specs.Entries.{HasRun}
 use Rattle.hack_plan.specs.Runs.{PackageRun, Plain, AllFeatures, NoDefaultFeatures, Set, is_plain}
 use Rattle.hack_plan.specs.Inputs.{UsesVersion, slots_of}
@@ -40,10 +41,9 @@ use Rattle.hack_planner.proofs.PlanLemmas.{below-count, not-all, same_some, zip-
 use Rattle.hack_planner.proofs.PowersetLemmas.{apart, apart-turned, from-turned, in-turned, or-true, sets_of-runs}
 
 -- a package whose runs have too many questions has no sample
-pub no-sample : (w : Args) (p : PackageRecord) (f : Features) (e : SampleFault) → e ≡ questions.TooManyQuestions → (e ≡ questions.Memory) ⊎ IsNotSampled w p f e → IsUnsampled w p f
-no-sample w p f questions.Memory is h = absurd (cc)
-no-sample w p f questions.TooManyQuestions is (inl e) = absurd (cc)
-no-sample w p f questions.TooManyQuestions is (inr h) = h
+pub no-sample : (w : Args) (p : PackageRecord) (f : Features) (tally : Tally) (e : RunsFault) → e ≡ questions.TooManyQuestions tally → (e ≡ questions.Memory) ⊎ IsNotSampled w p f e → IsUnsampled w p f tally
+no-sample w p f tally e is (inl m) = absurd (cc)
+no-sample w p f tally e is (inr h) = subst (IsNotSampled w p f) is h
 
 -- a package without a sample is one of them
 pub runs-at : (cx : ContextRecord) (ids : List PackageId) (i : ℕ) (d : PackageId) → i < length ids → (e : PlanFault) → SaysNoSample cx (get_or ids i d).index e → HasRunsFault cx (map place_at ids) e
@@ -62,8 +62,8 @@ sample-cause cx ids latest (fault.Version e) chosen (inl m) = absurd (cc)
 sample-cause cx ids latest (fault.Version e) chosen (inr bad) = absurd bad.2
 sample-cause cx ids latest (fault.Range e) chosen (inl m) = absurd (cc)
 sample-cause cx ids latest (fault.Range e) chosen (inr bad) = absurd bad.2
-sample-cause cx ids latest (fault.TooManyQuestions name) chosen (inl e) = absurd (cc)
-sample-cause cx ids latest (fault.TooManyQuestions name) chosen (inr bad) = inr (record { ids = ids; chosen = chosen; wide = bad })
+sample-cause cx ids latest (fault.TooManyQuestions name tally) chosen (inl e) = absurd (cc)
+sample-cause cx ids latest (fault.TooManyQuestions name tally) chosen (inr bad) = inr (record { ids = ids; chosen = chosen; wide = bad })
 sample-cause cx ids latest fault.TooManyRuns chosen (inl e) = absurd (cc)
 sample-cause cx ids latest fault.TooManyRuns chosen (inr bad) = absurd bad.2
 
@@ -78,14 +78,19 @@ sample w p f strength runs is given made =
     let both : ArePowersets (Some strength) c n h.sets = subst (λ o. ArePowersets o c n h.sets) given picked in
     let sets = sets_of-runs (options_of w f) h.sets (is_plain (options_of w f) h.sets) refl in
     let same = ap run_sets_of h.made ∙ sets.1 in
+    let back : (s : List ℕ) → Contains (run_sets_of runs) s → Contains h.sets s = λ s there. from-turned sets.0 h.sets s (subst (λ (l : List (List ℕ)). Contains l s) same there) in
     record {
       listed = λ s there.
-          let in_sets = from-turned sets.0 h.sets s (subst (λ (l : List (List ℕ)). Contains l s) same there) in
+          let in_sets = back s there in
           (All-contains (IsSelection n) h.sets s both.0.selections in_sets, All-contains (IsListed c) h.sets s both.0.listed in_sets);
       once = subst (Pairwise (λ s t. s ≢ t)) (sym same) (apart-turned sets.0 h.sets (apart h.sets both.0.ordered));
       covers = λ pattern few s selection listed shows.
           let by = both.1 pattern few s selection listed shows in
           (by.0, subst (λ (l : List (List ℕ)). Contains l by.0) (sym same) (in-turned sets.0 h.sets by.0 by.1), by.2);
+      lean = λ k d lt.
+          let s : List ℕ = get_or (run_sets_of runs) k d in
+          let need : IsNeeded c strength h.sets s = All-contains (IsNeeded c strength h.sets) h.sets s both.2 (back s (Contains-get_or (run_sets_of runs) k d lt)) in
+          record { pattern = need.pattern; few = need.few; shows = need.shows; alone = λ u there shows. need.alone u (back u there) shows };
     }
 
 -- with a strength each chosen package of a plan has a sample

@@ -1,5 +1,5 @@
 -- Why there is no sample of a package, and what holds of both clauses of a result.
-use Rattle.std.proofs.Common.{◌≡◌, ℕ, ◌≤◌, ◌⊎◌, inl, inr, refl, List, Option, None, Some, Bool, true, Result, Ok, Err, IfOk, IfErr, is_some, arith}
+use Rattle.std.proofs.Common.{◌≡◌, ℕ, ◌⊎◌, inl, inr, refl, List, Option, None, Some, Bool, true, Result, Ok, Err, IfOk, IfErr, is_some, arith}
 use Rattle.std.specs.List.{AllZip}
 use Rattle.hack_planner.specs.Kinds.{package_choice}
 use Rattle.hack_load.specs.declared.features.Features.{Features}
@@ -7,25 +7,26 @@ use Rattle.hack_metadata.specs.Records.{PackageRecord}
 use Rattle.hack_words.specs.declared.cli.args.Args.{Args}
 use Rattle.hack_features.specs.Rules.{Choice}
 use Rattle.hack_plan.specs.Runs.{PackageRun}
-use Rattle.hack_samples.specs.Questions.{IsTired}
-use Rattle.hack_samples.specs.declared.fault.SampleFault.{SampleFault}
-use Rattle.hack_samples.specs.declared.fault.SampleFault.TheVariants as fault
+use Rattle.hack_planner.specs.declared.fault.RunsFault.{RunsFault}
+use Rattle.hack_planner.specs.declared.fault.RunsFault.TheVariants as fault
 use Rattle.hack_features.specs.declared.rules.Rules.{Rules}
 use Rattle.hack_features.specs.View.{choice_of, questions_asked}
 use Rattle.hack_planner.specs.Kinds as kinds
 use Rattle.hack_planner.specs.KindsView.{IsRunsFault}
+use Rattle.hack_planner.specs.Internal.{IsGivenUp}
 
 -- an error of rules that were asked as many questions as they may is one of the package
-pub tired : (w : Args) (p : PackageRecord) (f : Features) (strength : ℕ) (asked : Rules) (end : ℕ) (e : SampleFault) → w.feature_powerset ≡ true → w.strength ≡ Some strength → choice_of asked ≡ kinds.package_choice w p f
-    → kinds.most_questions ≤ end → IsTired end (questions_asked asked) e → (e ≡ fault.Memory) ⊎ IsRunsFault w p f e
-tired w p f strength asked end fault.Memory powerset given made_for most at_end = inl refl
-tired w p f strength asked end fault.TooManyQuestions powerset given made_for most at_end = inr (record {
+pub tired : (w : Args) (p : PackageRecord) (f : Features) (strength : ℕ) (asked : Rules) (e : RunsFault) → w.feature_powerset ≡ true → w.strength ≡ Some strength → choice_of asked ≡ kinds.package_choice w p f
+    → IsGivenUp (questions_asked asked) e → (e ≡ fault.Memory) ⊎ IsRunsFault w p f e
+tired w p f strength asked fault.Memory powerset given made_for up = inl refl
+tired w p f strength asked (fault.TooManyQuestions tally) powerset given made_for up = inr (record {
   strength = strength;
   powerset = powerset;
   given = given;
   asked = asked;
   made_for = made_for;
-  spent = omega (arith, most, at_end);
+  told = up.0;
+  spent = omega (arith, up.0, up.1);
 })
 
 -- if two things hold of what is returned, so does what follows from both

@@ -4,6 +4,7 @@ use Rattle.std.specs.declared.string.String.{String}
 use Rattle.std.specs.declared.alloc.Global.{Global}
 use Rattle.std.specs.List.{AllZip, flat_map}
 use Rattle.hack_base.specs.Names.{Name}
+use Rattle.hack_features.specs.declared.tally.Tally.{Tally}
 use Rattle.hack_load.specs.Contexts.{ContextRecord}
 use Rattle.hack_planner.specs.ContextMembers.{AreChosen, AreChoiceNotes, IsChoiceFault}
 use Rattle.hack_versions.specs.declared.version.Version.{Version}
@@ -115,11 +116,11 @@ pub record AreTooManyRuns (cx : ContextRecord) (latest : Option Version) : Type 
   pub each : AllZip (IsChosenPackage cx) ids packages
   pub many : HasTooMany input (run_counts packages) latest
 
--- the sample of one of the chosen packages, of this name, needs too many questions
-pub record IsTooWide (cx : ContextRecord) (name : Name) : Type 0 where
+-- the sample of one of the chosen packages, of this name, needs too many questions: so many were asked
+pub record IsTooWide (cx : ContextRecord) (name : Name) (tally : Tally) : Type 0 where
   pub ids : List ℕ
   pub chosen : AreChosen cx ids
-  pub wide : HasNoSample cx ids name
+  pub wide : HasNoSample cx ids name tally
 
 -- the causes to refuse a call with a subcommand, where `stable` is this version
 abbrev pub IsCause : ContextRecord → Option Version → PlanFault → Type 0
@@ -128,7 +129,7 @@ IsCause cx latest (fault.Stable text) = ⊥
 IsCause cx latest (fault.Packages e) = IsChoiceFault cx e
 IsCause cx latest (fault.Version e) = IsBadVersion cx e
 IsCause cx latest (fault.Range e) = IsBadRange cx latest e
-IsCause cx latest (fault.TooManyQuestions name) = IsTooWide cx (string_bytes name)
+IsCause cx latest (fault.TooManyQuestions name tally) = IsTooWide cx (string_bytes name) tally
 IsCause cx latest fault.TooManyRuns = AreTooManyRuns cx latest
 
 -- the causes that leave no plan, whatever samples are found: with a strength another sample could have too many runs, or need
@@ -139,7 +140,7 @@ IsSureCause cx latest (fault.Stable text) = ⊥
 IsSureCause cx latest (fault.Packages e) = IsChoiceFault cx e
 IsSureCause cx latest (fault.Version e) = IsBadVersion cx e
 IsSureCause cx latest (fault.Range e) = IsBadRange cx latest e
-IsSureCause cx latest (fault.TooManyQuestions name) = (cx.args.strength ≡ None) × IsTooWide cx (string_bytes name)
+IsSureCause cx latest (fault.TooManyQuestions name tally) = (cx.args.strength ≡ None) × IsTooWide cx (string_bytes name) tally
 IsSureCause cx latest fault.TooManyRuns = (cx.args.strength ≡ None) × AreTooManyRuns cx latest
 
 -- the causes, given the answer for `stable`: its error, or one of the causes above

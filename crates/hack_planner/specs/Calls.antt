@@ -5,6 +5,7 @@ use Rattle.std.specs.Option.{option_map_or}
 use Rattle.hack_base.specs.Names.{Name, names_of}
 use Rattle.hack_base.specs.PathTexts.{under_of}
 use Rattle.hack_metadata.specs.Records.{PackageRecord}
+use Rattle.hack_features.specs.declared.tally.Tally.{Tally}
 use Rattle.hack_load.specs.Contexts.{ContextRecord, package_at, features_at, rust_version_at}
 use Rattle.hack_load.specs.GivenFeatures.{passed_for, left_out_for}
 use Rattle.hack_load.specs.declared.features.Features.{Features}
@@ -73,18 +74,18 @@ pub record IsInputOf (cx : ContextRecord) (ids : List ℕ) (s : PlanInput) : Typ
 abbrev pub HasBadOwn : ContextRecord → List ℕ → VersionFault → Type 0
 HasBadOwn cx ids e = (id : ℕ) × Contains ids id × IsBadOwn cx.args.version_range (rust_version_at cx id) e
 
--- a package of this name and these features has no sample
-pub record HasNoSampleAt (cx : ContextRecord) (id : ℕ) (name : Name) : Type 0 where
+-- a package of this name and these features has no sample, for which so many questions were asked
+pub record HasNoSampleAt (cx : ContextRecord) (id : ℕ) (name : Name) (tally : Tally) : Type 0 where
   pub pkg : PackageRecord
   pub features : Features
   pub known : package_at cx id ≡ Some pkg
   pub loaded : features_at cx id ≡ Some features
   pub called : name ≡ pkg.name
-  pub wide : IsUnsampled cx.args pkg features
+  pub wide : IsUnsampled cx.args pkg features tally
 
 -- one of the packages, of this name, has no sample
-abbrev pub HasNoSample : ContextRecord → List ℕ → Name → Type 0
-HasNoSample cx ids name = (id : ℕ) × Contains ids id × HasNoSampleAt cx id name
+abbrev pub HasNoSample : ContextRecord → List ℕ → Name → Tally → Type 0
+HasNoSample cx ids name tally = (id : ℕ) × Contains ids id × HasNoSampleAt cx id name tally
 
 -- a chosen package in the plan has its texts, the features of `--features` that it gets, its runs,
 -- and its candidates, or none where its one run is plain

@@ -1,5 +1,5 @@
 -- What only private functions of the crate promise each other.
-use Rattle.std.specs.Prelude.{Option, ℕ, List, Contains, string_bytes, ◌≤◌, length}
+use Rattle.std.specs.Prelude.{Option, ℕ, List, Contains, string_bytes, ◌≡◌, ◌≤◌, length}
 use Rattle.hack_load.specs.Contexts.{ContextRecord}
 use Rattle.hack_planner.specs.ContextMembers.{IsChoiceFault}
 use Rattle.hack_versions.specs.declared.version.Version.{Version}
@@ -8,6 +8,10 @@ use Rattle.hack_plan.specs.declared.versions.PlanInput.{PlanInput}
 use Rattle.hack_planner.specs.declared.fault.PlanFault.{PlanFault}
 use Rattle.hack_planner.specs.declared.fault.PlanFault.TheVariants as fault
 use Rattle.hack_planner.specs.Calls.{HasBadOwn, HasNoSampleAt}
+use Rattle.hack_planner.specs.declared.fault.RunsFault.{RunsFault}
+use Rattle.hack_planner.specs.declared.fault.RunsFault.TheVariants as runs
+use Rattle.hack_planner.specs.Kinds.{most_questions}
+use Rattle.hack_features.specs.View.{asked_in}
 use Rattle.hack_features.specs.Sets.{IsListing}
 use Rattle.hack_features.specs.Rules.{Choice, IsListed, AreCovers}
 
@@ -18,7 +22,7 @@ SaysPackagesUnknown cx (fault.Stable text) = ⊥
 SaysPackagesUnknown cx (fault.Packages e) = IsChoiceFault cx e
 SaysPackagesUnknown cx (fault.Version e) = ⊥
 SaysPackagesUnknown cx (fault.Range e) = ⊥
-SaysPackagesUnknown cx (fault.TooManyQuestions name) = ⊥
+SaysPackagesUnknown cx (fault.TooManyQuestions name tally) = ⊥
 SaysPackagesUnknown cx fault.TooManyRuns = ⊥
 
 -- the error says that the range is refused
@@ -28,7 +32,7 @@ SaysRangeRefused s latest (fault.Stable text) = ⊥
 SaysRangeRefused s latest (fault.Packages e) = ⊥
 SaysRangeRefused s latest (fault.Version e) = ⊥
 SaysRangeRefused s latest (fault.Range e) = IsVersionsFault s.range s latest e
-SaysRangeRefused s latest (fault.TooManyQuestions name) = ⊥
+SaysRangeRefused s latest (fault.TooManyQuestions name tally) = ⊥
 SaysRangeRefused s latest fault.TooManyRuns = ⊥
 
 -- the error says that the own version of one of these packages can't be read
@@ -38,7 +42,7 @@ IsOwnFault cx ids (fault.Stable text) = ⊥
 IsOwnFault cx ids (fault.Packages e) = ⊥
 IsOwnFault cx ids (fault.Version e) = HasBadOwn cx ids e
 IsOwnFault cx ids (fault.Range e) = ⊥
-IsOwnFault cx ids (fault.TooManyQuestions name) = ⊥
+IsOwnFault cx ids (fault.TooManyQuestions name tally) = ⊥
 IsOwnFault cx ids fault.TooManyRuns = ⊥
 
 -- the error says that this package has no sample
@@ -48,7 +52,7 @@ SaysNoSample cx id (fault.Stable text) = ⊥
 SaysNoSample cx id (fault.Packages e) = ⊥
 SaysNoSample cx id (fault.Version e) = ⊥
 SaysNoSample cx id (fault.Range e) = ⊥
-SaysNoSample cx id (fault.TooManyQuestions name) = HasNoSampleAt cx id (string_bytes name)
+SaysNoSample cx id (fault.TooManyQuestions name tally) = HasNoSampleAt cx id (string_bytes name) tally
 SaysNoSample cx id fault.TooManyRuns = ⊥
 
 -- the error says that one of these packages has no sample
@@ -61,3 +65,8 @@ pub record ListsAtLeast (c : Choice) (n least : ℕ) : Type 0 where
   pub listing : IsListing n (IsListed c) sets
   pub covers : AreCovers c n sets
   pub enough : least ≤ length sets
+
+-- a sample is given up for want of memory, or after the most questions that may be asked, which the tally tells
+abbrev pub IsGivenUp : ℕ → RunsFault → Type 0
+IsGivenUp asked runs.Memory = Unit {0}
+IsGivenUp asked (runs.TooManyQuestions tally) = (asked_in tally ≡ asked) × (most_questions ≤ asked)

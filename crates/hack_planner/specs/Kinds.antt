@@ -6,10 +6,11 @@ use Rattle.std.specs.Option.{option_map_or}
 use Rattle.hack_features.specs.Feature.{groups_of}
 use Rattle.hack_features.specs.Sets.{IsListing, IsSelection, singles}
 use Rattle.hack_features.specs.Rules.{Choice, IsListed, IsWanted, Covers, unlifted_groups}
-use Rattle.hack_features.specs.Samples.{IsSample, CoversPatterns}
+use Rattle.hack_features.specs.Samples.{IsSample, CoversPatterns, IsLean}
 use Rattle.hack_features.specs.Settings.{AreSettings, AreSettingsOfAll}
 use Rattle.hack_features.specs.View as rules
 use Rattle.hack_features.specs.declared.rules.Rules.{Rules}
+use Rattle.hack_features.specs.declared.tally.Tally.{Tally}
 use Rattle.hack_load.specs.declared.features.Features.{Features}
 use Rattle.hack_metadata.specs.Records.{PackageRecord}
 use Rattle.hack_plan.specs.declared.runs.RunOptions.{RunOptions}
@@ -42,10 +43,10 @@ options_of args f = record {
 }
 
 -- the sets of a powerset: all that are listed, or with a strength a sample of them, which shows
--- each pattern of at most that many candidates that some listed set shows
+-- each pattern of at most that many candidates that some listed set shows, and needs each of its sets
 abbrev pub ArePowersets : Option ℕ → Choice → ℕ → List (List ℕ) → Type 0
 ArePowersets None c n sets = IsListing n (IsListed c) sets
-ArePowersets (Some strength) c n sets = IsSample c n sets × CoversPatterns c n strength sets
+ArePowersets (Some strength) c n sets = IsSample c n sets × CoversPatterns c n strength sets × IsLean c strength sets
 
 -- the sets of a package: under a powerset those that are listed or a sample of them, else each candidate alone
 abbrev pub AreSets : Bool → Args → PackageRecord → Features → List (List ℕ) → Type 0
@@ -103,14 +104,15 @@ AreRunSettings (Some strength) c runs rows = AllZip (IsRowOf c) runs rows
 abbrev pub most_questions : ℕ
 most_questions = 20000000
 
--- the sample is given up: rules of the package's choice were asked `most_questions` or more
-pub record IsUnsampled (args : Args) (p : PackageRecord) (f : Features) : Type 0 where
+-- the sample is given up: rules of the package's choice were asked `most_questions` or more, as the tally tells
+pub record IsUnsampled (args : Args) (p : PackageRecord) (f : Features) (tally : Tally) : Type 0 where
   pub strength : ℕ
   pub powerset : args.feature_powerset ≡ true
   pub given : args.strength ≡ Some strength
   pub asked : Rules
   pub made_for : rules.choice_of asked ≡ package_choice args p f
-  pub spent : most_questions ≤ rules.questions_asked asked
+  pub told : rules.asked_in tally ≡ rules.questions_asked asked
+  pub spent : most_questions ≤ rules.asked_in tally
 
 -- the call asks for all sets of one candidate, and has no exclusion or at-least-one groups
 pub record IsDepthOne (args : Args) : Type 0 where

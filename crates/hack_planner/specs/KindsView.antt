@@ -11,8 +11,8 @@ use Rattle.hack_metadata.specs.Records.{PackageRecord}
 use Rattle.hack_words.specs.declared.cli.args.Args.{Args}
 use Rattle.hack_planner.specs.Candidates.{candidates}
 use Rattle.hack_planner.specs.Kinds.{HasPlainRun, HasSetRuns, IsUnsampled}
-use Rattle.hack_samples.specs.declared.fault.SampleFault.{SampleFault}
-use Rattle.hack_samples.specs.declared.fault.SampleFault.TheVariants.{Memory, TooManyQuestions}
+use Rattle.hack_planner.specs.declared.fault.RunsFault.{RunsFault}
+use Rattle.hack_planner.specs.declared.fault.RunsFault.TheVariants.{Memory, TooManyQuestions}
 
 -- the runs of a kind, by rank
 abbrev pub runs_of : Kind → List PackageRun
@@ -35,6 +35,6 @@ IsKind args p f (Powerset list runs) = (args.feature_powerset ≡ true)
     × (groups_of list.items ≡ candidates args f) × HasSetRuns args p f (runs_in runs)
 
 -- why a package has no runs, if memory isn't refused: its sample needs too many questions
-abbrev pub IsRunsFault : Args → PackageRecord → Features → SampleFault → Type 0
+abbrev pub IsRunsFault : Args → PackageRecord → Features → RunsFault → Type 0
 IsRunsFault args p f Memory = ⊥
-IsRunsFault args p f TooManyQuestions = IsUnsampled args p f
+IsRunsFault args p f (TooManyQuestions tally) = IsUnsampled args p f tally

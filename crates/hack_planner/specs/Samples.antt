@@ -1,7 +1,7 @@
 -- The samples of a plan's packages, and the patterns that a plan shows.
 use Rattle.std.specs.Prelude.{ℕ, ◌≡◌, ◌≢◌, ◌<◌, ◌≤◌, List, Option, Some, length, Contains, IsSomeAnd, slice_get}
 use Rattle.hack_features.specs.Rules.{Choice, IsListed}
-use Rattle.hack_features.specs.Samples.{CoversPatterns, SetShows}
+use Rattle.hack_features.specs.Samples.{CoversPatterns, IsLean, SetShows}
 use Rattle.hack_features.specs.Sets.{IsSelection, Pairwise}
 use Rattle.hack_samples.specs.declared.sets.Setting.{Setting}
 use Rattle.hack_load.specs.Contexts.{ContextRecord, package_at, features_at}
@@ -18,12 +18,13 @@ use Rattle.hack_planner.specs.Candidates.{candidates}
 use Rattle.hack_planner.specs.Kinds.{package_choice}
 use Rattle.hack_planner.specs.Powersets.{HoldsOfEach, run_sets_of}
 
--- the sets of the runs are listed ones, each once, and show each pattern of at most so many candidates that some listed set
--- shows
+-- the sets of the runs are listed ones, each once, which show each pattern of at most so many candidates that some listed set
+-- shows, and of which each is needed for that
 pub record IsSampleOf (choice : Choice) (strength : ℕ) (runs : List PackageRun) : Type 0 where
   pub listed : (s : List ℕ) → Contains (run_sets_of runs) s → IsSelection (length choice.candidates) s × IsListed choice s
   pub once : Pairwise (λ s t. s ≢ t) (run_sets_of runs)
   pub covers : CoversPatterns choice (length choice.candidates) strength (run_sets_of runs)
+  pub lean : IsLean choice strength (run_sets_of runs)
 
 -- the plan has exactly the chosen packages, and the sets of each one's runs are a sample
 abbrev pub HaveSamples : ContextRecord → ℕ → PlanView → Type 0

@@ -14,12 +14,12 @@ ghost use Rattle.hack_planner.specs.Calls.{IsChosenPackage, HasCoverage, candida
 ghost use Rattle.hack_planner.specs.Internal.{SaysNoSample, HasRunsFault};
 
 use crate::determine::determine_kind;
-use crate::fault::PlanFault;
+use crate::fault::{PlanFault, RunsFault};
 use crate::kind::Kind;
 use crate::words::given_path;
 use hack_base::copies::copies;
 use hack_base::notice::Notice;
-use hack_features::{Feature, SampleFault};
+use hack_features::Feature;
 use hack_load::context::Context;
 use hack_load::process::features_for;
 use hack_metadata::metadata::PackageId;
@@ -62,10 +62,10 @@ fn chosen_package(
     let pkg = cx.packages(id);
     let (found, notices) = match determine_kind(alloc, cx, id, single) {
         Ok(answer) => answer,
-        Err(SampleFault::Memory) => return Err(PlanFault::Memory),
-        Err(SampleFault::TooManyQuestions) => {
+        Err(RunsFault::Memory) => return Err(PlanFault::Memory),
+        Err(RunsFault::TooManyQuestions(tally)) => {
             let name = String::from_str(alloc, pkg.name.as_str())?;
-            return Err(PlanFault::TooManyQuestions(name));
+            return Err(PlanFault::TooManyQuestions(name, tally));
         }
     };
     let (candidates, runs) = parts_of(alloc, found.kind)?;

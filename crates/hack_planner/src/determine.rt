@@ -18,13 +18,12 @@ ghost use Rattle.hack_planner.specs.ContextMembers.{member_at, members_in};
 ghost use Rattle.hack_planner.specs.ContextMembers.{current_name as current_called};
 ghost use Rattle.hack_planner.specs.ContextMembers.{AreChosen, AreChoiceNotes, IsChoiceFault};
 
-use crate::fault::PackagesFault;
+use crate::fault::{PackagesFault, RunsFault};
 use crate::kind::{PackageRuns, determine_runs};
 use crate::least::least_runs;
 use crate::member::Member;
 use crate::packages::{PackageList, choose_packages};
 use hack_base::notice::Notice;
-use hack_features::SampleFault;
 use hack_load::context::Context;
 use hack_metadata::metadata::PackageId;
 use std::alloc::{AllocError, Global};
@@ -105,7 +104,7 @@ pub fn determine_kind(
     context: &Context,
     id: PackageId,
     single: bool,
-) -> Result<(PackageRuns, Vec<Notice>), SampleFault>
+) -> Result<(PackageRuns, Vec<Notice>), RunsFault>
     requires { Contains (context_view context.now).metadata.workspace_members id.index }
     ensures id { IfOk result (λ answer. answer.0.id ≡ id) }
     ensures kind { (p : PackageRecord) (features : Loaded)
@@ -155,7 +154,7 @@ pub fn determine_kind(
     ensures err { (p : PackageRecord) (features : Loaded)
         → package_at (context_view context.now) id.index ≡ Some p
         → features_at (context_view context.now) id.index ≡ Some features
-        → IfErr result (λ e. (e ≡ SampleFault.Memory)
+        → IfErr result (λ e. (e ≡ RunsFault.Memory)
         ⊎ IsRunsFault (context_view context.now).args p features e) }
 {
     // This call promises that what was loaded fits together.

@@ -4,6 +4,7 @@ ghost use Rattle.std.specs.Prelude.{◌≡◌};
 ghost use Rattle.hack_planner.specs.InternalFaultConversions.{of_packages, of_version, of_range};
 ghost use Rattle.hack_planner.specs.InternalFaultConversions.{of_places};
 
+use hack_features::Tally;
 use hack_plan::places::PlacesFault;
 use hack_versions::rustup::RangeFault;
 use hack_versions::version::VersionFault;
@@ -27,12 +28,23 @@ pub enum PlanFault {
     /// The range is refused, or a package under it.
     #[error("{0}")]
     Range(RangeFault),
-    /// The sample of this package, which a strength asks for, needs too many questions.
+    /// The sample of this package, which a strength asks for, needs too many questions: as many
+    /// were asked as the tally says.
     #[error("the sample of package `{0}` needs too many questions; use --depth or fewer groups")]
-    TooManyQuestions(String),
+    TooManyQuestions(String, Tally),
     /// There are more than 4294967295 places.
     #[error("too many runs")]
     TooManyRuns,
+}
+
+/// Why the runs of a package aren't known.
+#[derive(Debug, Drop, PartialEq, Eq, Error)]
+pub enum RunsFault {
+    #[error("out of memory")]
+    Memory,
+    /// The sample of the package needs too many questions: as many were asked as the tally says.
+    #[error("too many questions")]
+    TooManyQuestions(Tally),
 }
 
 /// Why it isn't known which packages a call runs on.
@@ -112,6 +124,28 @@ impl<T: Drop> From<AllocFailed<T>> for PlanFault {
 
     fn from(_: AllocFailed<T>) -> PlanFault {
         PlanFault::Memory
+    }
+}
+
+impl From<AllocError> for RunsFault {
+    ghost use Rattle.std.specs.Prelude.{◌≡◌};
+    ghost use Rattle.hack_planner.specs.declared.fault.RunsFault.TheVariants.{Memory};
+
+    ghost from_gives = { λ _ e. e ≡ Memory };
+
+    fn from(_: AllocError) -> RunsFault {
+        RunsFault::Memory
+    }
+}
+
+impl<T: Drop> From<AllocFailed<T>> for RunsFault {
+    ghost use Rattle.std.specs.Prelude.{◌≡◌};
+    ghost use Rattle.hack_planner.specs.declared.fault.RunsFault.TheVariants.{Memory};
+
+    ghost from_gives = { λ _ e. e ≡ Memory };
+
+    fn from(_: AllocFailed<T>) -> RunsFault {
+        RunsFault::Memory
     }
 }
 

@@ -21,9 +21,12 @@ ghost use Rattle.hack_planner.specs.Candidates.{lifted_for};
 ghost use Rattle.hack_samples.specs.Sets.{rows_of};
 ghost use Rattle.hack_features.specs.View.{choice_of as rules_choice, size_of, questions_asked};
 ghost use Rattle.std.specs.List.{AllZip};
+ghost use Rattle.hack_features.specs.Samples.{IsSample, CoversPatterns, IsLean};
+ghost use Rattle.hack_planner.specs.Internal.{IsGivenUp};
 ghost use Rattle.hack_planner.specs.KindsView.{IsKind, IsRunsFault, runs_of, candidates_in};
 
 use crate::candidates::{candidates, is_bare, notes_on};
+use crate::fault::RunsFault;
 use crate::lifts::lifted_groups;
 use hack_base::notice::Notice;
 use hack_features::{Feature, FeatureSets, Rules, SampleFault};
@@ -199,13 +202,32 @@ pub(crate) fn rules_of<'a>(
 /// tests needs, and so few that they take only seconds.
 const MOST_QUESTIONS: u64 = 20_000_000;
 
+/// A sample of the sets of the rules, which nobody asked before. If it needs too many questions, the
+/// error says how many these rules were asked.
+fn sample_of(alloc: Global, rules: &mut Rules, strength: usize) -> Result<FeatureSets, RunsFault>
+    requires { questions_asked rules.old ≡ 0 }
+    ensures sample { IfOk result (λ sets. IsSample (rules_choice rules.old) (size_of rules.old)
+        (sets_in sets)) }
+    ensures covers { IfOk result (λ sets. CoversPatterns (rules_choice rules.old)
+        (size_of rules.old) strength (sets_in sets)) }
+    ensures lean { IfOk result (λ sets. IsLean (rules_choice rules.old) strength (sets_in sets)) }
+    ensures given_up { IfErr result (IsGivenUp (questions_asked rules.new)) }
+    ensures same_choice { rules_choice rules.new ≡ rules_choice rules.old }
+{
+    match rules.sample(alloc, strength, MOST_QUESTIONS) {
+        Ok(sets) => Ok(sets),
+        Err(SampleFault::Memory) => Err(RunsFault::Memory),
+        Err(SampleFault::TooManyQuestions) => Err(RunsFault::TooManyQuestions(rules.tally())),
+    }
+}
+
 /// The sets of a powerset: all that are listed, or with a strength a sample of them.
 fn powerset_sets(
     alloc: Global,
     args: &Args,
     pkg: &Package,
     candidates: &[Feature],
-) -> Result<FeatureSets, SampleFault>
+) -> Result<FeatureSets, RunsFault>
     ensures sets { (features : Loaded)
         → groups_of candidates.now ≡ are_candidates args.now features
         → IfOk result (λ sets. AreSets true args.now (package_view pkg.now) features
@@ -220,14 +242,14 @@ fn powerset_sets(
     ensures err { (features : Loaded)
         → groups_of candidates.now ≡ are_candidates args.now features
         → args.now.feature_powerset ≡ true
-        → IfErr result (λ e. (e ≡ SampleFault.Memory)
+        → IfErr result (λ e. (e ≡ RunsFault.Memory)
         ⊎ IsRunsFault args.now (package_view pkg.now) features e) }
 {
     let lifted = lifted_groups(alloc, args, pkg.name.as_str())?;
     let all = all_of(alloc, candidates)?;
     let mut rules = rules_of(alloc, args, pkg, all.as_slice(), lifted.as_slice())?;
     match args.strength {
-        Some(strength) => rules.sample(alloc, strength, MOST_QUESTIONS),
+        Some(strength) => sample_of(alloc, &mut rules, strength),
         None => {
             let found = rules.listed(alloc)?;
             Ok(found.sets)
@@ -241,7 +263,7 @@ fn sets_of(
     args: &Args,
     pkg: &Package,
     candidates: &[Feature],
-) -> Result<FeatureSets, SampleFault>
+) -> Result<FeatureSets, RunsFault>
     ensures sets { (features : Loaded)
         → groups_of candidates.now ≡ are_candidates args.now features
         → IfOk result (λ sets. AreSets args.now.feature_powerset args.now
@@ -256,7 +278,7 @@ fn sets_of(
         (sets_in sets)) }
     ensures err { (features : Loaded)
         → groups_of candidates.now ≡ are_candidates args.now features
-        → IfErr result (λ e. (e ≡ SampleFault.Memory)
+        → IfErr result (λ e. (e ≡ RunsFault.Memory)
         ⊎ IsRunsFault args.now (package_view pkg.now) features e) }
 {
     if args.feature_powerset {
@@ -299,12 +321,12 @@ fn kind_of(
     args: &Args,
     pkg: &Package,
     features: &Features,
-) -> Result<Kind, SampleFault>
+) -> Result<Kind, RunsFault>
     ensures kind { IfOk result (IsKind args.now (package_view pkg.now) features.now) }
     ensures covered { IfOk result (λ kind. args.now.feature_powerset ≡ true
         → args.now.strength ≡ None
         → AreCovering args.now (package_view pkg.now) features.now (runs_of kind)) }
-    ensures err { IfErr result (λ e. (e ≡ SampleFault.Memory)
+    ensures err { IfErr result (λ e. (e ≡ RunsFault.Memory)
         ⊎ IsRunsFault args.now (package_view pkg.now) features.now e) }
 {
     if !args.each_feature && !args.feature_powerset {
@@ -390,7 +412,7 @@ pub fn determine_runs(
     pkg: &Package,
     features: &Features,
     single: bool,
-) -> Result<(PackageRuns, Vec<Notice>), SampleFault>
+) -> Result<(PackageRuns, Vec<Notice>), RunsFault>
     ensures id { IfOk result (λ answer. answer.0.id ≡ id) }
     ensures kind { IfOk result (λ answer.
         IsKind args.now (package_view pkg.now) features.now answer.0.kind) }
@@ -419,7 +441,7 @@ pub fn determine_runs(
         (runs_of answer.0.kind) (rows_of answer.0.settings.items)) }
 
     // The only error besides out of memory is a sample that needs too many questions.
-    ensures err { IfErr result (λ e. (e ≡ SampleFault.Memory)
+    ensures err { IfErr result (λ e. (e ≡ RunsFault.Memory)
         ⊎ IsRunsFault args.now (package_view pkg.now) features.now e) }
 {
     let notices = notes_on(alloc, args, pkg, features, single)?;

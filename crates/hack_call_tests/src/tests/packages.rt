@@ -6,11 +6,11 @@ ghost use Rattle.hack_load.specs.ContextView.{context_view};
 use crate::tests::shown::{name_of, push_notices};
 use crate::tests::workspace::push_all;
 use hack_base::notice::Notice;
-use hack_features::SampleFault;
 use hack_load::context::Context;
 use hack_metadata::metadata::{Metadata, PackageId};
 use hack_plan::runs::Run;
 use hack_planner::determine::{determine_kind, determine_package_list};
+use hack_planner::fault::RunsFault;
 use hack_planner::kind::{Kind, PackageRuns};
 use hack_planner::packages::PackageList;
 use std::alloc::{AllocError, Global};
@@ -116,8 +116,8 @@ fn push_runs_of(
             push_runs(text, alloc, &runs)?;
             push_notices(text, notices.as_slice())
         }
-        Err(SampleFault::TooManyQuestions) => text.push_str("too many questions"),
-        Err(SampleFault::Memory) => Err(AllocError),
+        Err(RunsFault::TooManyQuestions(_)) => text.push_str("too many questions"),
+        Err(RunsFault::Memory) => Err(AllocError),
     }
 }
 

@@ -74,5 +74,5 @@ returns-in-Err-TooManyQuestions-clause-err c =
       known = c.packages-pkg.ensures;
       loaded = c.pkg_features.ensures;
       called = c.in_ok-name-in-Err-TooManyQuestions.ensures.ok ∙ c.as_str.ensures.value;
-      wide = no-sample cx.args pkg features c.in-Err-TooManyQuestions.field-0 c.in-Err-TooManyQuestions.field-0-is (c.in-Err-TooManyQuestions.ensures.err pkg features c.packages-pkg.ensures c.pkg_features.ensures);
+      wide = rw c.in-Err-TooManyQuestions.field-0-is (no-sample cx.args pkg features c.in-Err-TooManyQuestions.tally c.in-Err-TooManyQuestions.field-0 c.in-Err-TooManyQuestions.field-0-is (c.in-Err-TooManyQuestions.ensures.err pkg features c.packages-pkg.ensures c.pkg_features.ensures));
     })

@@ -1,4 +1,4 @@
-use Rattle.std.proofs.Common.{◌≡◌, ◌∙◌, ◌<◌, length, IfOk, IfErr, ◌⊎◌, None, Some, map, sym, subst, true}
+use Rattle.std.proofs.Common.{◌≡◌, ◌∙◌, ◌<◌, length, IfOk, IfErr, ◌⊎◌, None, map, sym, true}
 use Rattle.std.proofs.lemmas.Result.{IfOk-weaker}
 use Rattle.hack_load.specs.ContextView.{context_view}
 use Rattle.hack_load.specs.declared.features.Features.{Features}
@@ -9,7 +9,7 @@ use Rattle.hack_planner.specs.Candidates.{candidate_notes}
 use Rattle.hack_planner.specs.Kinds.{AreRuns, AreCovering, AreRunSettings, IsDepthOne, as_each, package_choice}
 use Rattle.hack_planner.specs.KindsView.{IsKind, IsRunsFault, runs_of}
 use Rattle.hack_samples.specs.Sets.{rows_of}
-use Rattle.hack_samples.specs.declared.fault.SampleFault.TheVariants as fault
+use Rattle.hack_planner.specs.declared.fault.RunsFault.TheVariants as fault
 use Rattle.hack_planner.proofs.KindLemmas.{moved}
 use Rattle.hack_planner.proofs.determine.determine_kind.Goals as goal
 
