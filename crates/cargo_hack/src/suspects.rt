@@ -2,5 +2,7 @@
 
 pub use hack_session::suspect_notes::suspect_notes;
 pub use hack_session::suspects::{Explained, Part};
-pub use hack_suspects::{Outcome, SuspectFault, count_failed, count_showing, finds_faults, suspects};
-pub use hack_suspects::suspects_tell_the_failed;
+pub use hack_suspects::{
+    Outcome, SuspectFault, count_failed, count_showing, finds_faults, suspects,
+    suspects_tell_the_failed,
+};

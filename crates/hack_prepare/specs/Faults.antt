@@ -1,5 +1,5 @@
 -- Why manifests aren't edited.
-use Rattle.std.specs.Prelude.{◌≡◌, ◌⊎◌, Bool, true, MatchBool, None, List, Contains, string_bytes}
+use Rattle.std.specs.Prelude.{◌≡◌, ◌⊎◌, Bool, true, false, MatchBool, None, List, Contains, string_bytes}
 use Rattle.toml.specs.Parse.{parse_document}
 use Rattle.hack_base.specs.Names.{Name}
 use Rattle.hack_files.specs.declared.fs.FsFault.{FsFault}
@@ -7,7 +7,7 @@ use Rattle.hack_files.specs.declared.fs.FsFault.TheVariants as fs
 use Rattle.hack_files.specs.Files.{Contents}
 use Rattle.hack_edits.specs.DevDeps.{HasInlineTarget, IsMisread, IsWithoutDev}
 use Rattle.hack_edits.specs.Members.{in_order}
-use Rattle.hack_edits.specs.PrivateCrates.{HasBadForm, HasWork, some_path_control}
+use Rattle.hack_edits.specs.PrivateCrates.{HasBadForm, HasFitForm, HasWork, some_path_control}
 use Rattle.hack_prepare.specs.Paths.{IsEdited, IsLookedAt, IsReadRoot, IsTextless}
 use Rattle.hack_prepare.specs.Prepared.{HasPrivateRoot, MemberManifest, Wanted, drops_at_root, edits_root, gone_manifests, is_alone}
 use Rattle.hack_prepare.specs.EditSteps.{IsRootText}
@@ -34,7 +34,7 @@ IsPrivateFault path folder ps text (Toml p) = (string_bytes p ≡ path) × (pars
 IsPrivateFault path folder ps text (InlineTarget p) = ⊥
 IsPrivateFault path folder ps text (WorkspaceForm p) = (string_bytes p ≡ path) × HasBadForm folder ps text
 IsPrivateFault path folder ps text (PathText p) = (string_bytes p ≡ path) × HasWork folder ps text × (some_path_control ps ≡ true)
-IsPrivateFault path folder ps text (ReadBack p) = (string_bytes p ≡ path) × HasWork folder ps text
+IsPrivateFault path folder ps text (ReadBack p) = (string_bytes p ≡ path) × HasFitForm folder ps text × (some_path_control ps ≡ false)
 
 -- ---- why nothing more is edited
 
