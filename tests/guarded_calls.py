@@ -286,7 +286,6 @@ def at_any_moment(place, count):
         os.kill(call.pid, signal.SIGKILL)
         killed += place.end(call)[0] < 0
         place.as_before(own=True)
-        place.clear()
     return f"{killed} of {count} calls killed, each file as it was"
 
 
