@@ -14,13 +14,29 @@ import sys
 
 ROOT = pathlib.Path(__file__).resolve().parent.parent
 
-# Options that the help doesn't show: how they are written, and what they do.
+# Options that the help doesn't show: how they are written, and what they do, in paragraphs.
 HIDDEN = [
-    ("--no-default-features", "Run without the default features. This is Cargo's own option."),
-    ("--all-features", "Run with all features. This is Cargo's own option."),
-    ("--include-deps-features", "Use the features of dependencies as features of the package."),
-    ("--strength <NUM>", "Run a sample of the powerset, a few sets that show each pattern of at most NUM features."),
-    ("--restore", "Bring back what an interrupted call left edited, and run nothing."),
+    ("--no-default-features", ["Run without the default features. This is Cargo's own option."]),
+    ("--all-features", ["Run with all features. This is Cargo's own option."]),
+    ("--include-deps-features", ["Use the features of dependencies as features of the package."]),
+    (
+        "--strength <NUM>",
+        [
+            "Run a sample of the powerset, a few sets that show each pattern of at most NUM features.",
+            "A pattern is a choice of features, each on or off. With 2, for each two features one set has both on, one both off,"
+            " and one each alone on, where the other options allow such a set.",
+            "With --keep-going, suspects are told at the end: the least patterns that a failed run shows and no passed one, and"
+            " how many of the failed runs show one.",
+            "This flag can only be used together with --feature-powerset flag.",
+        ],
+    ),
+    (
+        "--restore",
+        [
+            "Bring back what an interrupted call left edited, and run nothing.",
+            "Of other options only --verbose and --color may stand beside it.",
+        ],
+    ),
 ]
 
 # The values that an option takes, where they are few.
@@ -86,7 +102,7 @@ def options(help_text):
         if usage.strip():
             paragraphs = [" ".join(it.split()) for it in re.split(r"\n\s*\n", rest) if it.strip()]
             found.append(Option(usage.strip(), paragraphs))
-    return found + [Option(usage, [text]) for usage, text in HIDDEN]
+    return found + [Option(usage, paragraphs) for usage, paragraphs in HIDDEN]
 
 
 def roff(text):
