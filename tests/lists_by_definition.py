@@ -495,6 +495,7 @@ class Plan:
             if line in lines:
                 lines.remove(line)
                 found.append(it)
+        found = self.in_order(package, version, sets, found)
         own = [patterns(choice.settings_of(it), self.asked.strength) for it in found]
         shown = set().union(*own)
         for place, it in enumerate(found):
@@ -503,6 +504,20 @@ class Plan:
         missed = [(it, patterns(choice.settings_of(it), self.asked.strength) - shown) for it in sets]
         self.faults += [f"in {package['name']} no run shows {min(them)}, which {it} shows" for it, them in missed if them]
         return found
+
+    def in_order(self, package, version, sets, found):
+        """These sets, or those with the same commands that stand in the order of the list: two sets have one command where
+        two candidates have one name."""
+        place = (version, self.slots(version)[0], 0, 0)
+        texts = [last_line(command(self.workspace, self.asked, place, {0: package}, {0: [it]})) for it in sets]
+        if len(set(texts)) == len(texts):
+            return found
+        same, at = [], 0
+        for line in self.whole.splitlines(keepends=True):
+            if line in texts[at:]:
+                at = texts.index(line, at) + 1
+                same.append(sets[at - 1])
+        return same if len(same) == len(found) else found
 
     def settings(self, place):
         """Which candidates of its package are on in the run at the place."""
