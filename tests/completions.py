@@ -64,7 +64,8 @@ def main():
         sys.exit(__doc__)
     rows = [("", *it) for it in ROWS] + [(before, *it) for before in (OWN, LOADED) for it in HANDED_ON]
     if shutil.which("bash") is None:
-        print(f"no bash: 0 passed, 0 failed, {len(rows)} skipped")
+        print("no bash: all skipped")
+        print(f"0 passed, 0 failed, {len(rows)} skipped")
         return 0
     failed = 0
     with tempfile.TemporaryDirectory() as folder:

@@ -488,14 +488,15 @@ class Plan:
         self.choices[package["name"]] = choice
         if version is None or self.asked.own_handling:
             return sets
+        place = (version, self.slots(version)[0], 0, 0)
+        texts = [last_line(command(self.workspace, self.asked, place, {0: package}, {0: [it]})) for it in sets]
         lines, found = self.whole.splitlines(keepends=True), []
-        for it in sets:
-            place = (version, self.slots(version)[0], 0, 0)
-            line = last_line(command(self.workspace, self.asked, place, {0: package}, {0: [it]}))
+        for it, line in zip(sets, texts):
             if line in lines:
                 lines.remove(line)
                 found.append(it)
-        found = self.in_order(package, version, sets, found)
+        if len(set(texts)) < len(texts):
+            found = self.in_order(sets, texts, found)
         own = [patterns(choice.settings_of(it), self.asked.strength) for it in found]
         shown = set().union(*own)
         for place, it in enumerate(found):
@@ -505,13 +506,9 @@ class Plan:
         self.faults += [f"in {package['name']} no run shows {min(them)}, which {it} shows" for it, them in missed if them]
         return found
 
-    def in_order(self, package, version, sets, found):
-        """These sets, or those with the same commands that stand in the order of the list: two sets have one command where
-        two candidates have one name."""
-        place = (version, self.slots(version)[0], 0, 0)
-        texts = [last_line(command(self.workspace, self.asked, place, {0: package}, {0: [it]})) for it in sets]
-        if len(set(texts)) == len(texts):
-            return found
+    def in_order(self, sets, texts, found):
+        """Those that were found of the sets with these commands, or as many with the same commands in the order of the list:
+        two sets have one command where two candidates have one name."""
         same, at = [], 0
         for line in self.whole.splitlines(keepends=True):
             if line in texts[at:]:
