@@ -144,8 +144,9 @@ impl Rules<'_> {
     ghost use Rattle.hack_features.specs.View.{choice_of, size_of, questions_asked};
 
     /// Returns a sample: a few of the listed sets, in the order of sets, that show each pattern of
-    /// at most `strength` candidates, each on or off, that some listed set shows. A candidate is on
-    /// in a set that enables each of its names. At most `most_questions` questions are asked.
+    /// at most `strength` candidates, each on or off, that some listed set shows. Each of them is
+    /// the only one that shows some such pattern. A candidate is on in a set that enables each of
+    /// its names. At most `most_questions` questions are asked.
     pub fn sample(
         &mut self,
         alloc: Global,

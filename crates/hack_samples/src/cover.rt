@@ -244,7 +244,8 @@ fn lean_by<A: Allowed>(
 }
 
 /// Returns a few of the listed sets, in the order of sets, each once, that show each pattern of at
-/// most `strength` candidates that some listed set shows.
+/// most `strength` candidates that some listed set shows. Each of them is the only one that shows
+/// some such pattern.
 ///
 /// `providers` has for each candidate a row for each of its names, with the positions that enable
 /// it: the candidate is on in a set that has a member of each row. A listed set is an allowed one
