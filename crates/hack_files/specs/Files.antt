@@ -1,6 +1,6 @@
 -- What files hold, and how a call changes it.
 use Rattle.hack_base.specs.Counters.{GrowsBy}
-use Rattle.std.specs.Prelude.{◌≡◌, ◌≢◌, ◌⊎◌, ◌+◌, ◌-◌, ◌++◌, [], ◌∷◌, ℕ, List, Option, Some, None, Result, Ok, Err, cond}
+use Rattle.std.specs.Prelude.{◌≡◌, ◌≢◌, ◌⊎◌, ◌<◌, ◌≤◌, ◌+◌, ◌-◌, ◌^◌, ◌++◌, [], ◌∷◌, ℕ, List, Option, Some, None, Result, Ok, Err, cond, min}
 use Rattle.std.specs.Str.{bytes_eq}
 
 -- what the paths hold: the bytes of each, and nothing where no file is
@@ -43,6 +43,15 @@ MakesOrNot c old_trace new_trace old new =
 abbrev pub CountsFailedCall : {T E : Type 0} → ℕ → ℕ → Result T E → Type 0
 CountsFailedCall old new (Ok _) = GrowsBy 0 old new
 CountsFailedCall old new (Err _) = GrowsBy 1 old new
+
+-- the path of a write or removal that was refused; none of one that was made
+abbrev pub refused_path : {T E : Type 0} → Result T E → List ℕ → List (List ℕ)
+refused_path (Ok _) path = []
+refused_path (Err _) path = path ∷ []
+
+-- a count of failures went up by so many at least
+abbrev pub GrowsAtLeastBy : ℕ → ℕ → ℕ → Type 0
+GrowsAtLeastBy k old new = old < 2 ^ 64 → (min (old + k) (2 ^ 64 - 1) ≤ new) × (new < 2 ^ 64)
 
 -- each path but this one holds what it held
 abbrev pub KeepsOthers : List ℕ → Contents → Contents → Type 0
