@@ -1,6 +1,6 @@
 -- What files hold, and how a call changes it.
 use Rattle.hack_base.specs.Counters.{GrowsBy}
-use Rattle.std.specs.Prelude.{◌≡◌, ◌≢◌, ◌⊎◌, ◌<◌, ◌≤◌, ◌+◌, ◌-◌, ◌^◌, ◌++◌, [], ◌∷◌, ℕ, List, Option, Some, None, Result, Ok, Err, cond, min}
+use Rattle.std.specs.Prelude.{◌≡◌, ◌≢◌, ◌⊎◌, ◌<◌, ◌≤◌, ◌+◌, ◌-◌, ◌^◌, ◌++◌, [], ◌∷◌, ℕ, List, Option, Some, None, Result, Ok, Err, Contains, cond, min}
 use Rattle.std.specs.Str.{bytes_eq}
 
 -- what the paths hold: the bytes of each, and nothing where no file is
@@ -49,6 +49,10 @@ abbrev pub refused_path : {T E : Type 0} → Result T E → List ℕ → List (L
 refused_path (Ok _) path = []
 refused_path (Err _) path = path ∷ []
 
+-- some calls failed, or none
+abbrev pub Grows : ℕ → ℕ → Type 0
+Grows old new = (k : ℕ) × GrowsBy k old new
+
 -- a count of failures went up by so many at least
 abbrev pub GrowsAtLeastBy : ℕ → ℕ → ℕ → Type 0
 GrowsAtLeastBy k old new = old < 2 ^ 64 → (min (old + k) (2 ^ 64 - 1) ≤ new) × (new < 2 ^ 64)
@@ -60,3 +64,9 @@ KeepsOthers path old new = (q : List ℕ) → q ≢ path → new q ≡ old q
 -- each path holds what it held
 abbrev pub KeepsAll : Contents → Contents → Type 0
 KeepsAll old new = (q : List ℕ) → new q ≡ old q
+
+-- writes or removals at these paths were refused; each other path holds what it held
+pub record KeepsAllBut (Refuses : List (List ℕ) → Type 0) (tells : Type 0) (old new : Contents) : Type 0 where
+  pub spoilt : List (List ℕ)
+  pub refused : Refuses spoilt
+  pub others : tells → (q : List ℕ) → ¬ Contains spoilt q → new q ≡ old q

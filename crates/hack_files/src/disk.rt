@@ -2,7 +2,7 @@
 
 ghost use Rattle.std.specs.Prelude.{◌≡◌, [], None, length};
 ghost use Rattle.hack_files.specs.Files.{CountsFailedCall, GrowsAtLeastBy};
-ghost use Rattle.hack_files.specs.RefusalLaws.{at_least_none, at_least_more};
+ghost use Rattle.hack_files.specs.RefusalLaws.{at_least_none, at_least_more, at_least_some};
 
 use crate::fs::{FileFault, Files, count_failure};
 use std::alloc::Global;
@@ -214,6 +214,8 @@ impl<R: rt::Files + AllocGlobal + Drop> Files for Disk<R> {
 
     ghost refuses_more = { λ a b c ps qs.
         at_least_more ps qs a.failures b.failures c.failures };
+
+    ghost refuses_some = { λ a b grown. at_least_some a.failures b.failures grown };
 
     ghost bytes_at = { λ _ _. None };
 

@@ -2,7 +2,7 @@
 
 ghost use Rattle.std.specs.Prelude.{◌≡◌, ◌↔◌, IsTrue, length};
 ghost use Rattle.hack_files.specs.Files.{GrowsAtLeastBy};
-ghost use Rattle.hack_files.specs.RefusalLaws.{at_least_none, at_least_more};
+ghost use Rattle.hack_files.specs.RefusalLaws.{at_least_none, at_least_more, at_least_some};
 
 use crate::fs::{FileFault, Files, count_failure, counted};
 use std::alloc::Global;
@@ -84,6 +84,8 @@ impl<F: Files> Files for FailingFiles<F> {
 
     ghost refuses_more = { λ a b c ps qs.
         at_least_more ps qs a.failures b.failures c.failures };
+
+    ghost refuses_some = { λ a b grown. at_least_some a.failures b.failures grown };
 
     ghost bytes_at = { λ files. F.bytes_at files.inner };
 

@@ -6,7 +6,7 @@ ghost use Rattle.std.specs.Prelude.{IfOk, IfErr, OnOk, OnErr, IsTrue, IsSome};
 ghost use Rattle.hack_files.specs.Files.{Change, Contents, CountsFailedCall};
 ghost use Rattle.hack_base.specs.Counters.{GrowsBy};
 ghost use Rattle.hack_files.specs.Files.{KeepsOthers, KeepsAll, Makes, MakesOrNot, puts, removes};
-ghost use Rattle.hack_files.specs.Files.{refused_path};
+ghost use Rattle.hack_files.specs.Files.{Grows, refused_path};
 ghost use Rattle.hack_files.specs.Faults.{IsOfRead, IsOfText, IsOfWrite};
 
 pub use crate::disk::Disk;
@@ -105,6 +105,10 @@ pub trait Files {
 
     ghost refuses_more: { (a b c : Self) (ps qs : List (List ℕ)) → refuses a b ps
         → refuses b c qs → refuses a c (ps ++ qs) };
+
+    /// Whatever calls were made, some paths were refused, or none.
+    ghost refuses_some: { (a b : Self) → Grows (failed a) (failed b)
+        → (ps : List (List ℕ)) × refuses a b ps };
 
     /// How many calls have failed.
     fn failures(&self) -> u64

@@ -3,7 +3,7 @@
 ghost use Rattle.std.specs.Prelude.{◌≡◌, ◌++◌, ◌∷◌, [], List, ℕ, None, OnOk, OnErr, length, map};
 ghost use Rattle.std.specs.Option.{option_map};
 ghost use Rattle.hack_files.specs.Files.{Change, GrowsAtLeastBy};
-ghost use Rattle.hack_files.specs.RefusalLaws.{at_least_none, at_least_more};
+ghost use Rattle.hack_files.specs.RefusalLaws.{at_least_none, at_least_more, at_least_some};
 ghost use Rattle.hack_files.specs.Memory.{held_after, change_of};
 
 use crate::fs::{FileFault, Files, count_failure};
@@ -95,6 +95,8 @@ impl Files for MemoryFiles {
 
     ghost refuses_more = { λ a b c ps qs.
         at_least_more ps qs a.failures b.failures c.failures };
+
+    ghost refuses_some = { λ a b grown. at_least_some a.failures b.failures grown };
 
     ghost bytes_at = { λ files. held_after files.steps.items };
 

@@ -6,7 +6,7 @@
 ghost use Rattle.std.specs.Prelude.{◌≡◌, ◌↔◌, [], None, Some, IfOk, OnOk, IsTrue, IsSome};
 ghost use Rattle.std.specs.Prelude.{length};
 ghost use Rattle.hack_files.specs.Files.{GrowsAtLeastBy};
-ghost use Rattle.hack_files.specs.RefusalLaws.{at_least_none, at_least_more};
+ghost use Rattle.hack_files.specs.RefusalLaws.{at_least_none, at_least_more, at_least_some};
 ghost use Rattle.hack_journal.specs.LockfilesApart.{is_lockfile, apart, KeepsLockfiles};
 
 use hack_files::fs::{FileFault, Files, counted};
@@ -70,6 +70,8 @@ impl<A: Files, B: Files> Files for Apart<A, B> {
 
     ghost refuses_more = { λ a b c ps qs.
         at_least_more ps qs a.failures b.failures c.failures };
+
+    ghost refuses_some = { λ a b grown. at_least_some a.failures b.failures grown };
 
     ghost bytes_at = { λ s. apart (A.bytes_at s.files) (B.bytes_at s.lockfiles) };
 

@@ -10,7 +10,7 @@ ghost use Rattle.std.specs.Prelude.{IfOk, OnOk, OnErr, IsTrue, IsSome, ◌↔◌
 ghost use Rattle.std.specs.Option.{option_map};
 ghost use Rattle.hack_files.specs.Files.{Contents, CountsFailedCall, KeepsOthers, KeepsAll};
 ghost use Rattle.hack_files.specs.Files.{Makes, MakesOrNot, GrowsAtLeastBy};
-ghost use Rattle.hack_files.specs.RefusalLaws.{at_least_none, at_least_more};
+ghost use Rattle.hack_files.specs.RefusalLaws.{at_least_none, at_least_more, at_least_some};
 ghost use Rattle.hack_journal.specs.Journal.{edit_of};
 ghost use Rattle.hack_journal.specs.Rows.{spot_of, file_at, is_of_journal, IsNoteOf, KeepsBeside};
 ghost use Rattle.hack_journal.specs.SafeFiles.{SomeEntryHasBytes, first_entry_of, AreBack, gives};
@@ -342,6 +342,8 @@ impl<F: Files> Files for Journaled<F> {
 
     ghost refuses_more = { λ a b c ps qs.
         at_least_more ps qs a.failures b.failures c.failures };
+
+    ghost refuses_some = { λ a b grown. at_least_some a.failures b.failures grown };
 
     ghost bytes_at = { λ files. without files.notes.journal (F.bytes_at files.files) };
 

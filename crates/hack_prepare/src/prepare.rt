@@ -3,7 +3,7 @@
 ghost use Rattle.std.specs.Prelude.{◌≡◌, ◌<◌, ◌↔◌, ◌⊎◌, ◌||◌, IfErr, IfOk, IfSome, OnOk, IsTrue};
 ghost use Rattle.std.specs.Prelude.{OnErr};
 ghost use Rattle.std.specs.Prelude.{List, false, map, true};
-ghost use Rattle.hack_files.specs.Files.{Change, Contents, Makes};
+ghost use Rattle.hack_files.specs.Files.{Change, Contents, Grows, Makes};
 ghost use Rattle.hack_base.specs.Counters.{GrowsBy};
 ghost use Rattle.hack_files.specs.Restore.{AreSafe, Brings, Tried, is_kept, registered_files};
 ghost use Rattle.hack_load.specs.ContextView.{context_view};
@@ -21,7 +21,7 @@ ghost use Rattle.hack_prepare.specs.PreparedView.{AreWritesIn, BeginWritesIn};
 ghost use Rattle.hack_prepare.specs.PreparedView.{edits_in, notes_in};
 ghost use Rattle.hack_prepare.specs.Internal.{members_view};
 ghost use Rattle.hack_prepare.specs.PreparedView.{wanted_in, wanted_view};
-ghost use Rattle.hack_prepare.specs.EditSteps.{Grows, KeepsHeld, KeepsOnly};
+ghost use Rattle.hack_prepare.specs.EditSteps.{KeepsHeld, KeepsOnly};
 ghost use Rattle.hack_prepare.specs.Internal.{IsStep};
 ghost use Rattle.hack_prepare.specs.EditNotes.{notes};
 ghost use Rattle.hack_prepare.specs.Writes.{AreWrites, BeginWrites, MakesSome};

@@ -9,7 +9,7 @@ ghost use Rattle.hack_load.specs.ContextOf.{IsContextFrom, warnings_of};
 ghost use Rattle.hack_load.specs.ContextView.{context_view};
 ghost use Rattle.hack_load.specs.CargoQuestions.{told_version};
 ghost use Rattle.hack_prepare.specs.PreparedView.{HoldTextsIn, IsPreparedIn, notes_in};
-ghost use Rattle.hack_prepare.specs.EditSteps.{Grows};
+ghost use Rattle.hack_files.specs.Files.{Grows};
 ghost use Rattle.hack_run.specs.CallTrace.{AfterLoading, LoadsAndPerforms};
 ghost use Rattle.hack_run.specs.Internal.{MayPerformItsPlan, PerformsItsPlan};
 ghost use Rattle.hack_run.specs.TemporaryEdits.{BringsBack, IsClean};
