@@ -1,5 +1,4 @@
--- What a call did, and how far it got. Where `done` is true it reported no error, and got to its end;
--- else an error may have ended it at any place.
+-- What a call did, and how far it got. Where `done` is true it reported no error, and got to its end;-- else an error may have ended it at any place.
 use Rattle.std.specs.Prelude.{ℕ, ◌≡◌, ◌⊎◌, ◌||◌, ◌∷◌, [], All, Bool, List, Ok, None, Option, Result, codes, false, filter, if◌then◌else◌, string_bytes, true}
 use Rattle.std.specs.List.{flat_map}
 use Rattle.std.specs.Result.{is_err}
@@ -8,6 +7,8 @@ use Rattle.std.proofs.Common.{Global, String}
 use Rattle.hack_base.specs.Names.{Name}
 use Rattle.hack_base.specs.Notes.{Note}
 use Rattle.hack_base.specs.Writes.{AppendsFront}
+use Rattle.hack_term.specs.declared.term.Coloring.{Coloring}
+use Rattle.hack_term.specs.declared.term.Coloring.TheVariants.{Auto, Always, Never}
 use Rattle.hack_load.specs.ContextOf.{IsContextFrom}
 use Rattle.hack_load.specs.Contexts.{ContextRecord}
 use Rattle.hack_load.specs.declared.answers.Answers.{Answers}
@@ -138,3 +139,9 @@ pub record IsCallTrace (done : Bool) (tells : Type 0) (words : List Name) (env :
   pub asked : MayAdd (rustup_asked (string_bytes env.rustup)) old.host.calls mid
   pub needed : wants_rustup words ≡ false → mid ≡ old.host.calls
   pub behind : Stops done mid old.host new.host ⊎ ReadsAndObeys done tells words env mid old new
+
+-- the colouring of a call: what `--color` asks for, and under `auto` that of its terminal
+abbrev pub colored_by : Coloring → Coloring → Coloring
+colored_by Auto own = own
+colored_by Always own = Always
+colored_by Never own = Never
