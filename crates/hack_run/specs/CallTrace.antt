@@ -1,4 +1,5 @@
--- What a call did, and how far it got. Where `done` is true it reported no error, and got to its end;-- else an error may have ended it at any place.
+-- What a call did, and how far it got. Where `done` is true it reported no error, and got to its end;
+-- else an error may have ended it at any place.
 use Rattle.std.specs.Prelude.{ℕ, ◌≡◌, ◌⊎◌, ◌||◌, ◌∷◌, [], All, Bool, List, Ok, None, Option, Result, codes, false, filter, if◌then◌else◌, string_bytes, true}
 use Rattle.std.specs.List.{flat_map}
 use Rattle.std.specs.Result.{is_err}
