@@ -1,11 +1,11 @@
 -- How many calls of files have failed, one step after another.
-use Rattle.std.proofs.Common.{◌≡◌, inl, inr, ℕ, Result, Ok, Err, sym, subst, arith}
+use Rattle.std.proofs.Common.{◌≡◌, inl, inr, ℕ, List, [], ◌∷◌, ◌++◌, Result, Ok, Err, sym, subst, arith}
 use Rattle.hack_base.specs.Names.{Name}
 use Rattle.hack_files.specs.Faults.{IsOfRead, IsOfText, IsOfWrite}
 use Rattle.hack_base.specs.Counters.{GrowsBy}
 use Rattle.hack_files.specs.declared.fs.FsFault.{FsFault}
 use Rattle.hack_files.specs.declared.fs.FsFault.TheVariants as fs
-use Rattle.hack_prepare.specs.FailureCounts.{CountsCalls, CountsFault, CountsFile}
+use Rattle.hack_prepare.specs.FailureCounts.{CountsCalls, CountsFault, CountsFile, WriteFails}
 use Rattle.hack_prepare.specs.Faults.{IsDevFault, IsPrivateFault}
 use Rattle.hack_prepare.specs.Internal.{IsOfFile}
 use Rattle.hack_files.specs.Files.{Grows}
@@ -110,3 +110,7 @@ private-counts path folder ps text n (ReadBack p) h = none_failed n
 -- and so does out of memory before any call
 pub memory-counts : (n : ℕ) (e : PrepareFault) → e ≡ Memory → CountsFault n n e
 memory-counts n e is = subst (λ x. CountsFault n n x) (sym is) (inl (none_failed n))
+
+-- after calls none of which failed
+pub write_then : (R S T : List Name → Type 0) (a b c : ℕ) (path : Name) → ((ps qs : List Name) → R ps → S qs → T (ps ++ qs)) → GrowsBy 0 a b → R [] → WriteFails S b c path → WriteFails T a c path
+write_then R S T a b c path more f none_refused g = (none_then 1 a b c f g.0, more [] (path ∷ []) none_refused g.1)

@@ -275,11 +275,11 @@ partly-missed tells failed w ms private old new missed h t =
     (root-or-not w false private (λ x. old w.root ≡ Some x) (IsRootText w ms old) failed failed old old new refl (λ x is. text-missed w ms x old missed is) (λ f. f) (h t))
 
 -- what was read is edited or not
-pub partly-read : (tells : Type 0) (w : Wanted) (private : List Name) (text held : Name) (before between after : ℕ) (old mid new : Contents) → held ≡ text → (tells → old w.root ≡ Some text) → (tells → KeepsAll old mid)
-    → GrowsBy 0 before between → (tells → MakesRootOrNot w false private (Only held) (GrowsBy 1 between after) mid new)
-    → tells → MakesRootOrNot w false private (λ x. old w.root ≡ Some x) (GrowsBy 1 before after) old new
-partly-read tells w private text held before between after old mid new is read same quiet h t =
-    root-or-not w false private (Only held) (λ x. old w.root ≡ Some x) (GrowsBy 1 between after) (GrowsBy 1 before after) old mid new (same t w.root) (λ x here. read t ∙ ap Some (sym (here ∙ is))) (none_then 1 before between after quiet) (h t)
+pub partly-read : (tells failed fails : Type 0) (w : Wanted) (private : List Name) (text held : Name) (old mid new : Contents) → held ≡ text → (tells → old w.root ≡ Some text) → (tells → KeepsAll old mid)
+    → (failed → fails) → (tells → MakesRootOrNot w false private (Only held) failed mid new)
+    → tells → MakesRootOrNot w false private (λ x. old w.root ≡ Some x) fails old new
+partly-read tells failed fails w private text held old mid new is read same more h t =
+    root-or-not w false private (Only held) (λ x. old w.root ≡ Some x) failed fails old mid new (same t w.root) (λ x here. read t ∙ ap Some (sym (here ∙ is))) more (h t)
 
 -- what is held is the same before and after
 pub prepared-moved : (w : Wanted) (ms : List MemberManifest) (first old new last : Contents) → KeepsAll first old → KeepsAll new last → IsPrepared w ms old new → IsPrepared w ms first last

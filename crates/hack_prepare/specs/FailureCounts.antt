@@ -1,10 +1,15 @@
 -- How many calls of files have failed.
-use Rattle.std.specs.Prelude.{◌⊎◌, ℕ, Result, Ok, Err}
+use Rattle.std.specs.Prelude.{◌⊎◌, ◌∷◌, [], ℕ, List, Result, Ok, Err}
+use Rattle.hack_base.specs.Names.{Name}
 use Rattle.hack_files.specs.declared.fs.FsFault.{FsFault}
 use Rattle.hack_files.specs.declared.fs.FsFault.TheVariants as fs
 use Rattle.hack_base.specs.Counters.{GrowsBy}
 use Rattle.hack_prepare.specs.declared.fault.PrepareFault.{PrepareFault}
 use Rattle.hack_prepare.specs.declared.fault.PrepareFault.TheVariants.{Memory, PrivateRoot, Files, Toml, InlineTarget, WorkspaceForm, PathText, ReadBack}
+
+-- one call failed: the write of this path, which R says was refused
+abbrev pub WriteFails : (List Name → Type 0) → ℕ → ℕ → Name → Type 0
+WriteFails R before now path = GrowsBy 1 before now × R (path ∷ [])
 
 -- a file that can't be read or written is one call that failed; one that was read and is no text is none
 abbrev pub CountsFile : ℕ → ℕ → FsFault → Type 0

@@ -1,12 +1,11 @@
 //! The manifests of members that are edited by themselves.
 
-ghost use Rattle.std.specs.Prelude.{◌≡◌, IfErr, IfOk, OnOk, OnErr};
+ghost use Rattle.std.specs.Prelude.{◌≡◌, [], IfErr, IfOk, OnOk, OnErr};
 ghost use Rattle.std.specs.List.{flat_map};
 ghost use Rattle.hack_files.specs.Files.{KeepsOthers};
-ghost use Rattle.hack_base.specs.Counters.{GrowsBy};
 ghost use Rattle.hack_base.specs.Names.{names_behind};
 ghost use Rattle.hack_base.specs.Notes.{AddsNotes};
-ghost use Rattle.hack_prepare.specs.FailureCounts.{CountsCalls};
+ghost use Rattle.hack_prepare.specs.FailureCounts.{CountsCalls, WriteFails};
 ghost use Rattle.hack_prepare.specs.Faults.{AtWrite, IsDevFault, IsPathFaultOr, IsMembersFault};
 ghost use Rattle.hack_prepare.specs.Internal.{IsAlonePath, Nowhere, Only};
 ghost use Rattle.hack_prepare.specs.Prepared.{HasPrivateRoot, HoldTexts, gone_manifests};
@@ -50,8 +49,9 @@ pub(crate) fn edit_members<'a, F: Files>(
         → AreTurned (wanted_view wanted.now) (members_view members.now) (F.bytes_at files.new)) }
     ensures partly { F.tells → HoldTexts (F.bytes_at files.old) (members_view members.now)
         → ArePartlyTurned (wanted_view wanted.now) (members_view members.now)
-        (λ path. GrowsBy 1 (F.failed files.old) (F.failed files.new))
+        (WriteFails (F.refuses files.old files.new) (F.failed files.old) (F.failed files.new))
         (F.bytes_at files.old) (F.bytes_at files.new) }
+    ensures refused_none { OnOk result (F.refuses files.old files.new []) }
     ensures spared { IfErr result (AtWrite (λ path. F.tells
         → HoldTexts (F.bytes_at files.old) (members_view members.now)
         → ArePartlyTurned (wanted_view wanted.now) (members_view members.now)
@@ -106,8 +106,10 @@ fn edit_member<F: Files>(
         (F.bytes_at files.old) (F.bytes_at files.new) }
     ensures turned { OnOk result (F.tells
         → IsTurned (F.bytes_at files.new) (member_manifest_view member.now)) }
-    ensures partly { F.tells → IsTurnedOrNot (GrowsBy 1 (F.failed files.old) (F.failed files.new))
+    ensures partly { F.tells → IsTurnedOrNot (WriteFails (F.refuses files.old files.new)
+        (F.failed files.old) (F.failed files.new) (member_manifest_view member.now).path)
         (F.bytes_at files.old) (F.bytes_at files.new) (member_manifest_view member.now) }
+    ensures refused_none { OnOk result (F.refuses files.old files.new []) }
     ensures others { F.tells → KeepsOthers (member_manifest_view member.now).path
         (F.bytes_at files.old) (F.bytes_at files.new) }
     ensures traced { OnOk result (F.whole → MakesSome

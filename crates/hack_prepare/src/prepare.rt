@@ -10,7 +10,7 @@ ghost use Rattle.hack_files.specs.Restore.{registered_files};
 ghost use Rattle.hack_load.specs.ContextView.{context_view};
 ghost use Rattle.hack_base.specs.Names.{Name};
 ghost use Rattle.hack_base.specs.Notes.{note_of};
-ghost use Rattle.hack_prepare.specs.FailureCounts.{CountsCalls};
+ghost use Rattle.hack_prepare.specs.FailureCounts.{CountsCalls, WriteFails};
 ghost use Rattle.hack_prepare.specs.Faults.{AtWrite, IsEditsFault};
 ghost use Rattle.hack_prepare.specs.Paths.{IsTouched};
 ghost use Rattle.hack_prepare.specs.Prepared.{HasPrivateRoot, HoldTexts, IsPartlyPrepared};
@@ -84,10 +84,11 @@ pub fn prepare<F: Files>(
         → HoldTextsIn (context_view cx.now) (F.bytes_at files.old)
         → IsPreparedIn (context_view cx.now) (F.bytes_at files.old) (F.bytes_at files.new)) }
 
-    // After an error too, such a manifest holds its edit or what it held, unless a call failed.
+    // After an error too, such a manifest holds its edit or what it held, unless its own write was
+    // refused, the one call that failed.
     ensures edited { F.tells → HoldTextsIn (context_view cx.now) (F.bytes_at files.old)
         → IsPartlyPreparedIn (context_view cx.now)
-        (λ path. GrowsBy 1 (F.failed files.old) (F.failed files.new))
+        (WriteFails (F.refuses files.old files.new) (F.failed files.old) (F.failed files.new))
         (F.bytes_at files.old) (F.bytes_at files.new) }
 
     // Where one can't be written, this holds of all others.
@@ -176,7 +177,7 @@ fn edit<F: Files>(
         (F.bytes_at files.old) (F.bytes_at files.new)) }
     ensures edited { F.tells → HoldTexts (F.bytes_at files.old) (members_view members.now)
         → IsPartlyPrepared (wanted_view wanted.now) (members_view members.now)
-        (λ path. GrowsBy 1 (F.failed files.old) (F.failed files.new))
+        (WriteFails (F.refuses files.old files.new) (F.failed files.old) (F.failed files.new))
         (F.bytes_at files.old) (F.bytes_at files.new) }
     ensures spared { IfErr result (AtWrite (λ path. F.tells
         → HoldTexts (F.bytes_at files.old) (members_view members.now)

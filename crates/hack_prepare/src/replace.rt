@@ -2,8 +2,7 @@
 
 ghost use Rattle.std.specs.Prelude.{◌≡◌, ◌⊎◌, ◌∷◌, [], IfErr, OnOk, OnErr, Some};
 ghost use Rattle.hack_files.specs.Files.{KeepsOthers, Makes, MakesOrNot, puts};
-ghost use Rattle.hack_base.specs.Counters.{GrowsBy};
-ghost use Rattle.hack_prepare.specs.FailureCounts.{CountsCalls};
+ghost use Rattle.hack_prepare.specs.FailureCounts.{CountsCalls, WriteFails};
 ghost use Rattle.hack_prepare.specs.Faults.{IsPathFaultOr};
 ghost use Rattle.hack_prepare.specs.Internal.{NoFault};
 ghost use Rattle.hack_prepare.specs.Internal.{Nowhere, Only};
@@ -31,7 +30,9 @@ pub(crate) fn replace<F: Files>(
     ensures written { OnOk result (F.tells → F.bytes_at files.new path.now ≡ Some text.now) }
     ensures partly { F.tells → (F.bytes_at files.new path.now ≡ F.bytes_at files.old path.now)
         ⊎ ((F.bytes_at files.new path.now ≡ Some text.now)
-        ⊎ GrowsBy 1 (F.failed files.old) (F.failed files.new)) }
+        ⊎ WriteFails (F.refuses files.old files.new) (F.failed files.old) (F.failed files.new)
+        path.now) }
+    ensures refused_none { OnOk result (F.refuses files.old files.new []) }
     ensures others { F.tells → KeepsOthers path.now (F.bytes_at files.old) (F.bytes_at files.new) }
     ensures traced { OnOk result (F.whole → Makes (puts path.now text.now ∷ [])
         (F.trace files.old) (F.trace files.new) (F.bytes_at files.old) (F.bytes_at files.new)) }

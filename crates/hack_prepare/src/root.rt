@@ -5,13 +5,12 @@ ghost use Rattle.std.specs.Prelude.{option_copied, option_map, string_bytes, tru
 ghost use Rattle.std.specs.Prelude.{MatchBool, Some};
 ghost use Rattle.std.specs.List.{find};
 ghost use Rattle.hack_base.specs.Names.{Name};
-ghost use Rattle.hack_base.specs.Counters.{GrowsBy};
 ghost use Rattle.hack_base.specs.Names.{names_behind};
 ghost use Rattle.hack_base.specs.Notes.{AddsNotes};
 ghost use Rattle.hack_edits.specs.DevDeps.{IsWithoutDev};
 ghost use Rattle.hack_edits.specs.Members.{in_order};
 ghost use Rattle.hack_edits.specs.PrivateCrates.{IsWithoutPrivate};
-ghost use Rattle.hack_prepare.specs.FailureCounts.{CountsCalls};
+ghost use Rattle.hack_prepare.specs.FailureCounts.{CountsCalls, WriteFails};
 ghost use Rattle.hack_prepare.specs.Faults.{IsDevFault, IsPathFaultOr, IsPrivateFault};
 ghost use Rattle.hack_prepare.specs.Internal.{IsHeldFault};
 ghost use Rattle.hack_prepare.specs.Faults.{IsRootFault, IsRootTextFault};
@@ -88,8 +87,9 @@ pub(crate) fn edit_root<F: Files>(
         (names_behind members.now.gone.now)
         (IsRootText (wanted_view wanted.now) (members_view members.now.all.now)
         (F.bytes_at files.old))
-        (GrowsBy 1 (F.failed files.old) (F.failed files.new))
-        (F.bytes_at files.old) (F.bytes_at files.new) }
+        (WriteFails (F.refuses files.old files.new) (F.failed files.old) (F.failed files.new)
+        wanted.now.root.now) (F.bytes_at files.old) (F.bytes_at files.new) }
+    ensures refused_none { OnOk result (F.refuses files.old files.new []) }
     ensures others { F.tells → KeepsBut (wanted_view wanted.now)
         (edits_root (wanted_view wanted.now) (members_view members.now.all.now))
         (F.bytes_at files.old) (F.bytes_at files.new) }
@@ -161,8 +161,9 @@ fn edit_virtual<F: Files>(
     ensures partly { F.tells → MakesRootOrNot (wanted_view wanted.now) false
         (names_behind private.now)
         (λ text. F.bytes_at files.old wanted.now.root.now ≡ Some text)
-        (GrowsBy 1 (F.failed files.old) (F.failed files.new))
-        (F.bytes_at files.old) (F.bytes_at files.new) }
+        (WriteFails (F.refuses files.old files.new) (F.failed files.old) (F.failed files.new)
+        wanted.now.root.now) (F.bytes_at files.old) (F.bytes_at files.new) }
+    ensures refused_none { OnOk result (F.refuses files.old files.new []) }
     ensures others { F.tells → KeepsBut (wanted_view wanted.now)
         (has_some (names_behind private.now))
         (F.bytes_at files.old) (F.bytes_at files.new) }
@@ -222,8 +223,9 @@ fn edit_held<F: Files>(
         (names_behind held.now.gone.now) held.now.text.now (F.bytes_at files.new)) }
     ensures partly { F.tells → MakesRootOrNot (wanted_view wanted.now) held.now.drops_dev
         (names_behind held.now.gone.now) (Only held.now.text.now)
-        (GrowsBy 1 (F.failed files.old) (F.failed files.new))
-        (F.bytes_at files.old) (F.bytes_at files.new) }
+        (WriteFails (F.refuses files.old files.new) (F.failed files.old) (F.failed files.new)
+        wanted.now.root.now) (F.bytes_at files.old) (F.bytes_at files.new) }
+    ensures refused_none { OnOk result (F.refuses files.old files.new []) }
     ensures others { F.tells → KeepsBut (wanted_view wanted.now)
         (held.now.drops_dev || has_some (names_behind held.now.gone.now))
         (F.bytes_at files.old) (F.bytes_at files.new) }

@@ -8,8 +8,8 @@ use Rattle.hack_base.specs.Notes.{note_of}
 use Rattle.hack_prepare.specs.PreparedView.{member_manifest_view, wanted_view}
 use Rattle.hack_prepare.specs.Internal.{members_view}
 use Rattle.hack_prepare.specs.declared.wanted.Member.{Member}
-use Rattle.hack_base.specs.Counters.{GrowsBy}
-use Rattle.hack_prepare.proofs.CountLemmas.{fault_then, none_then}
+use Rattle.hack_prepare.specs.FailureCounts.{WriteFails}
+use Rattle.hack_prepare.proofs.CountLemmas.{fault_then, write_then}
 use Rattle.hack_prepare.proofs.MemberLemmas.{alone-goes, others-fail, partly-fails, turned-fails, visited-alone, visited-fails, visited-goes, visited-left, visited-none}
 use Rattle.hack_prepare.proofs.members.edit_members.Goals.{then-goes+else-is_root+in_ok-push, else-goes+then-is_alone+in_ok-edit_member, else-goes+else-is_alone}
 use Rattle.hack_prepare.proofs.WriteLemmas.{alone-begun, alone-made, dev_none, left-made, so-far-begun}
@@ -20,7 +20,7 @@ loop-member-init g c =
     let w = wanted_view c.args.wanted.now in
     let ms = members_view c.args.members.now in
     let held = g.F.Files.bytes_at c.args.files.now in (
-      (g.F.Files.stays_none c.args.files.now, dev_none g.F.Files.whole w (g.F.Files.trace c.args.files.now) held),
+      (g.F.Files.stays_none c.args.files.now, dev_none g.F.Files.whole w (g.F.Files.trace c.args.files.now) held, g.F.Files.refuses_none c.args.files.now),
       visited-none g.F.Files.tells w ms c.args.manager.now held (g.F.Files.failed c.args.files.now) (names_behind c.new-gone.result.items) (map note_of c.args.notices.now.items) (ap names_behind c.new-gone.ensures.items),
     )
 
@@ -49,7 +49,7 @@ loop-member-preserved g c =
     elim c.if-goes.branch [
       | then-goes+else-is_root+in_ok-push b ↦
           rw (b.files-is, b.manager-is, b.notices-is, b.gone-is) (
-            (h.0.0, λ y. left-made w ms k m one trace so_far so_far start now now (alone-goes w m (sym b.if-goes.ensures)) (h.0.1 y)),
+            (h.0.0, λ y. left-made w ms k m one trace so_far so_far start now now (alone-goes w m (sym b.if-goes.ensures)) (h.0.1 y), h.0.2),
             visited-goes tells w ms k m one c.args.manager.now start before told c.loop-member.manager now after private (names_behind b.push.new.self.items) notes
                 (sym b.if-goes.ensures) (sym b.if-is_root.ensures)
                 (ap names_behind b.in_ok-push.ensures.items ∙ map-append (λ (r : Bor (List ℕ)). r.now) c.loop-member.gone.items (x.path ∷ [])) h.1,
@@ -59,6 +59,7 @@ loop-member-preserved g c =
             (
               g.F.Files.stays_more _ _ _ h.0.0 b.edit_member.ensures.stays,
               λ y. alone-made w ms k m one trace so_far (g.F.Files.trace b.edit_member.new.files) start now (g.F.Files.bytes_at b.edit_member.new.files) (sym b.if-is_alone.ensures) (b.in_ok-edit_member.ensures.traced y) (h.0.1 y),
+              g.F.Files.refuses_more _ _ _ [] [] h.0.2 b.in_ok-edit_member.ensures.refused_none,
             ),
             visited-alone tells w ms k m one c.args.manager.now start before told c.loop-member.manager b.edit_member.new.manager now (g.F.Files.bytes_at b.edit_member.new.files) after (g.F.Files.failed b.edit_member.new.files)
                 private notes (map note_of b.edit_member.new.notices.items) (seen_here member_manifest_view xs k x c.loop-member-test.true same) (sym b.if-goes.ensures) (sym b.if-is_alone.ensures)
@@ -66,7 +67,7 @@ loop-member-preserved g c =
           )
       | else-goes+else-is_alone b ↦
           rw (b.files-is, b.manager-is, b.notices-is, b.gone-is) (
-            (h.0.0, λ y. left-made w ms k m one trace so_far so_far start now now (sym b.if-is_alone.ensures) (h.0.1 y)),
+            (h.0.0, λ y. left-made w ms k m one trace so_far so_far start now now (sym b.if-is_alone.ensures) (h.0.1 y), h.0.2),
             visited-left tells w ms k m one c.args.manager.now start before told c.loop-member.manager now after private notes (sym b.if-goes.ensures) (sym b.if-is_alone.ensures) h.1,
           )
     ]
@@ -94,12 +95,13 @@ returns-in_err-edit_member-clause-partly g c =
     let d : Member = record { path = record { ref_ptr = (0, 0); now = [] }; text = record { ref_ptr = (0, 0); now = [] }; is_private = false } in
     let x : Member = get_or xs k d in
     let among = seen_here member_manifest_view xs k x c.loop-member-test.true (get_or_default xs k d x c.loop-member-test.true) in
-    let fails = GrowsBy 1 (g.F.Files.failed c.args.files.now) (g.F.Files.failed c.edit_member.new.files) in
-    partly-fails g.F.Files.tells (wanted_view c.args.wanted.now) (members_view xs) (member_manifest_view x) (λ q. fails)
+    let fails = WriteFails (g.F.Files.refuses c.args.files.now c.edit_member.new.files) (g.F.Files.failed c.args.files.now) (g.F.Files.failed c.edit_member.new.files) in
+    partly-fails g.F.Files.tells (wanted_view c.args.wanted.now) (members_view xs) (member_manifest_view x) fails
     (g.F.Files.bytes_at c.args.files.now) (g.F.Files.bytes_at c.loop-member.files) (g.F.Files.bytes_at c.edit_member.new.files)
     among c.loop-member.invariant.1.4
-    (λ t. turned-fails (member_manifest_view x) _ fails (g.F.Files.bytes_at c.loop-member.files) (g.F.Files.bytes_at c.edit_member.new.files)
-    (none_then 1 (g.F.Files.failed c.args.files.now) (g.F.Files.failed c.loop-member.files) (g.F.Files.failed c.edit_member.new.files) c.loop-member.invariant.1.1) (c.edit_member.ensures.partly t))
+    (λ t. turned-fails (member_manifest_view x) _ (fails (member_manifest_view x).path) (g.F.Files.bytes_at c.loop-member.files) (g.F.Files.bytes_at c.edit_member.new.files)
+    (write_then (g.F.Files.refuses c.args.files.now c.loop-member.files) (g.F.Files.refuses c.loop-member.files c.edit_member.new.files) (g.F.Files.refuses c.args.files.now c.edit_member.new.files) (g.F.Files.failed c.args.files.now) (g.F.Files.failed c.loop-member.files) (g.F.Files.failed c.edit_member.new.files) (member_manifest_view x).path
+    (λ ps qs one other. g.F.Files.refuses_more _ _ _ ps qs one other) c.loop-member.invariant.1.1 c.loop-member.invariant.0.2) (c.edit_member.ensures.partly t))
     c.edit_member.ensures.others
 
 pub returns-in_err-edit_member-clause-others : goal.returns-in_err-edit_member-clause-others

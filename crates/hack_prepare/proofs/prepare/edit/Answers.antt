@@ -1,11 +1,11 @@
 use Rattle.std.proofs.Common.{◌≡◌, ◌∙◌, true, IfSome, ap, sym, subst}
 use Rattle.std.proofs.lemmas.Result.{err_from_is_err_and}
-use Rattle.hack_base.specs.Counters.{GrowsBy}
+use Rattle.hack_prepare.specs.FailureCounts.{WriteFails}
 use Rattle.hack_files.specs.Restore.{is_kept, registered_files}
 use Rattle.hack_base.specs.Names.{names_behind}
 use Rattle.hack_prepare.specs.PreparedView.{wanted_view}
 use Rattle.hack_prepare.specs.Internal.{members_view, ArePartlyTurned}
-use Rattle.hack_prepare.proofs.CountLemmas.{fault_then, none_then}
+use Rattle.hack_prepare.proofs.CountLemmas.{fault_then, none_then, write_then}
 use Rattle.hack_prepare.proofs.FaultLemmas.{at-any, at-wider, root-spared, lock-among, members-among, root-among}
 use Rattle.hack_prepare.proofs.EditLemmas.{members-step, root-step, lock-step}
 use Rattle.hack_prepare.proofs.RootLemmas.{partly-all, partly-members, partly-root, prepared, unedited, unedited-apart}
@@ -22,7 +22,7 @@ returns-in_err-gone-clause-step g c =
 
 pub returns-in_err-gone-clause-edited : goal.returns-in_err-gone-clause-edited
 returns-in_err-gone-clause-edited g c =
-    λ t holds. partly-members (wanted_view c.args.wanted.now) (members_view c.args.members.now) (λ q. (GrowsBy 1 (g.F.Files.failed c.args.files.now) (g.F.Files.failed c.edit_members.new.files)))
+    λ t holds. partly-members (wanted_view c.args.wanted.now) (members_view c.args.members.now) (WriteFails (g.F.Files.refuses c.args.files.now c.edit_members.new.files) (g.F.Files.failed c.args.files.now) (g.F.Files.failed c.edit_members.new.files))
     (g.F.Files.bytes_at c.args.files.now) (g.F.Files.bytes_at c.edit_members.new.files) holds (c.edit_members.ensures.others t) (c.edit_members.ensures.partly t holds)
 
 pub returns-in_err-gone-clause-others : goal.returns-in_err-gone-clause-others
@@ -48,10 +48,11 @@ returns-in_err-edit_root-clause-step g c =
 pub returns-in_err-edit_root-clause-edited : goal.returns-in_err-edit_root-clause-edited
 returns-in_err-edit_root-clause-edited g c =
     λ t holds. partly-root (wanted_view c.args.wanted.now) (members_view c.args.members.now) (names_behind c.as_slice.result.now)
-    (GrowsBy 1 (g.F.Files.failed c.edit_members.new.files) (g.F.Files.failed c.edit_root.new.files)) (λ q. GrowsBy 1 (g.F.Files.failed c.args.files.now) (g.F.Files.failed c.edit_root.new.files))
+    (WriteFails (g.F.Files.refuses c.edit_members.new.files c.edit_root.new.files) (g.F.Files.failed c.edit_members.new.files) (g.F.Files.failed c.edit_root.new.files) c.args.wanted.now.root.now) (WriteFails (g.F.Files.refuses c.args.files.now c.edit_root.new.files) (g.F.Files.failed c.args.files.now) (g.F.Files.failed c.edit_root.new.files))
     (g.F.Files.bytes_at c.args.files.now) (g.F.Files.bytes_at c.edit_members.new.files) (g.F.Files.bytes_at c.edit_root.new.files)
     (ap names_behind c.as_slice.ensures.value ∙ c.in_ok-gone.ensures.gone) holds (c.in_ok-gone.ensures.turned t holds) (c.edit_members.ensures.others t) (c.edit_root.ensures.others t)
-    (none_then 1 (g.F.Files.failed c.args.files.now) (g.F.Files.failed c.edit_members.new.files) (g.F.Files.failed c.edit_root.new.files) c.in_ok-gone.ensures.counted) (c.edit_root.ensures.partly t)
+    (write_then (g.F.Files.refuses c.args.files.now c.edit_members.new.files) (g.F.Files.refuses c.edit_members.new.files c.edit_root.new.files) (g.F.Files.refuses c.args.files.now c.edit_root.new.files) (g.F.Files.failed c.args.files.now) (g.F.Files.failed c.edit_members.new.files) (g.F.Files.failed c.edit_root.new.files) c.args.wanted.now.root.now
+    (λ ps qs one other. g.F.Files.refuses_more _ _ _ ps qs one other) c.in_ok-gone.ensures.counted c.in_ok-gone.ensures.refused_none) (c.edit_root.ensures.partly t)
 
 pub returns-in_err-edit_root-clause-others : goal.returns-in_err-edit_root-clause-others
 returns-in_err-edit_root-clause-others g c =
@@ -81,7 +82,7 @@ returns-in_err-keep_lockfile-clause-step g c =
 
 pub returns-in_err-keep_lockfile-clause-edited : goal.returns-in_err-keep_lockfile-clause-edited
 returns-in_err-keep_lockfile-clause-edited g c =
-    λ t holds. partly-all (wanted_view c.args.wanted.now) (members_view c.args.members.now) (λ q. (GrowsBy 1 (g.F.Files.failed c.args.files.now) (g.F.Files.failed c.keep_lockfile.new.files))) (g.F.Files.bytes_at c.args.files.now) (g.F.Files.bytes_at c.keep_lockfile.new.files)
+    λ t holds. partly-all (wanted_view c.args.wanted.now) (members_view c.args.members.now) (WriteFails (g.F.Files.refuses c.args.files.now c.keep_lockfile.new.files) (g.F.Files.failed c.args.files.now) (g.F.Files.failed c.keep_lockfile.new.files)) (g.F.Files.bytes_at c.args.files.now) (g.F.Files.bytes_at c.keep_lockfile.new.files)
     (prepared (wanted_view c.args.wanted.now) (members_view c.args.members.now) (names_behind c.as_slice.result.now)
     (g.F.Files.bytes_at c.args.files.now) (g.F.Files.bytes_at c.edit_members.new.files) (g.F.Files.bytes_at c.edit_root.new.files) (g.F.Files.bytes_at c.keep_lockfile.new.files)
     (ap names_behind c.as_slice.ensures.value ∙ c.in_ok-gone.ensures.gone) holds (c.in_ok-gone.ensures.turned t holds) (c.edit_members.ensures.others t)
@@ -121,7 +122,7 @@ returns-clause-prepared g c =
 
 pub returns-clause-edited : goal.returns-clause-edited
 returns-clause-edited g c =
-    λ t holds. partly-all (wanted_view c.args.wanted.now) (members_view c.args.members.now) (λ q. (GrowsBy 1 (g.F.Files.failed c.args.files.now) (g.F.Files.failed c.keep_lockfile.new.files))) (g.F.Files.bytes_at c.args.files.now) (g.F.Files.bytes_at c.keep_lockfile.new.files)
+    λ t holds. partly-all (wanted_view c.args.wanted.now) (members_view c.args.members.now) (WriteFails (g.F.Files.refuses c.args.files.now c.keep_lockfile.new.files) (g.F.Files.failed c.args.files.now) (g.F.Files.failed c.keep_lockfile.new.files)) (g.F.Files.bytes_at c.args.files.now) (g.F.Files.bytes_at c.keep_lockfile.new.files)
     (prepared (wanted_view c.args.wanted.now) (members_view c.args.members.now) (names_behind c.as_slice.result.now)
     (g.F.Files.bytes_at c.args.files.now) (g.F.Files.bytes_at c.edit_members.new.files) (g.F.Files.bytes_at c.edit_root.new.files) (g.F.Files.bytes_at c.keep_lockfile.new.files)
     (ap names_behind c.as_slice.ensures.value ∙ c.in_ok-gone.ensures.gone) holds (c.in_ok-gone.ensures.turned t holds) (c.edit_members.ensures.others t)

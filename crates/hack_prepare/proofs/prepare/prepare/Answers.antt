@@ -1,6 +1,6 @@
 use Rattle.std.proofs.Common.{◌≡◌, ◌∙◌, inl, inr, false, true, IfErr, IfOk, List, ℕ, ap, sym, subst, map}
 use Rattle.std.specs.Prelude.{◌||◌}
-use Rattle.hack_base.specs.Counters.{GrowsBy}
+use Rattle.hack_prepare.specs.FailureCounts.{WriteFails}
 use Rattle.hack_words.specs.declared.cli.args.Args.{Args}
 use Rattle.hack_load.specs.ContextView.{context_view}
 use Rattle.hack_base.specs.Notes.{note_of}
@@ -63,8 +63,8 @@ returns-clause-edited g c =
     c.workspace_root-folder.ensures (c.as_str.ensures.value ∙ c.in_ok-root.ensures) (c.as_str-2.ensures.value ∙ c.in_ok-lockfile.ensures) in
     let old = g.F.Files.bytes_at c.args.files.now in
     let new = g.F.Files.bytes_at c.edit.new.files in
-    subst (λ (l : List MemberManifest). (g.F.Files.tells → HoldTexts old l → IsPartlyPrepared (wanted_in cx) l (λ (q : List ℕ). GrowsBy 1 (g.F.Files.failed c.args.files.now) (g.F.Files.failed c.edit.new.files)) old new)) are
-    (subst (λ (w : Wanted). (g.F.Files.tells → HoldTexts old (members_view c.as_slice.result.now) → IsPartlyPrepared w (members_view c.as_slice.result.now) (λ (q : List ℕ). GrowsBy 1 (g.F.Files.failed c.args.files.now) (g.F.Files.failed c.edit.new.files)) old new)) is c.edit.ensures.edited)
+    subst (λ (l : List MemberManifest). (g.F.Files.tells → HoldTexts old l → IsPartlyPrepared (wanted_in cx) l (WriteFails (g.F.Files.refuses c.args.files.now c.edit.new.files) (g.F.Files.failed c.args.files.now) (g.F.Files.failed c.edit.new.files)) old new)) are
+    (subst (λ (w : Wanted). (g.F.Files.tells → HoldTexts old (members_view c.as_slice.result.now) → IsPartlyPrepared w (members_view c.as_slice.result.now) (WriteFails (g.F.Files.refuses c.args.files.now c.edit.new.files) (g.F.Files.failed c.args.files.now) (g.F.Files.failed c.edit.new.files)) old new)) is c.edit.ensures.edited)
 
 pub returns-clause-others : goal.returns-clause-others
 returns-clause-others g c =

@@ -1,6 +1,6 @@
 use Rattle.std.proofs.Common.{◌≡◌, ◌∙◌, ◌++◌, List, OnOk, sym, subst, map}
 use Rattle.std.specs.Prelude.{◌||◌, Bool, false}
-use Rattle.hack_base.specs.Counters.{GrowsBy}
+use Rattle.hack_prepare.specs.FailureCounts.{WriteFails}
 use Rattle.hack_base.specs.Names.{names_behind}
 use Rattle.hack_base.specs.Notes.{Note, note_of}
 use Rattle.hack_prepare.specs.Internal.{OnlyIf, members_view, AnyStart, HeldUnkept, KeepsBut}
@@ -25,7 +25,7 @@ returns-in-Some-clause-step g c =
 
 pub returns-in-Some-clause-partly : goal.returns-in-Some-clause-partly
 returns-in-Some-clause-partly g c =
-    partly-found g.F.Files.tells (GrowsBy 1 (g.F.Files.failed c.args.files.now) (g.F.Files.failed c.edit_held.new.files)) (wanted_view c.args.wanted.now) (members_view c.args.members.now.all.now) (names_behind c.args.members.now.gone.now)
+    partly-found g.F.Files.tells (WriteFails (g.F.Files.refuses c.args.files.now c.edit_held.new.files) (g.F.Files.failed c.args.files.now) (g.F.Files.failed c.edit_held.new.files) c.args.wanted.now.root.now) (wanted_view c.args.wanted.now) (members_view c.args.members.now.all.now) (names_behind c.args.members.now.gone.now)
     c.in-Some.text.now (g.F.Files.bytes_at c.args.files.now) (g.F.Files.bytes_at c.edit_held.new.files) c.in-Some.ensures c.edit_held.ensures.partly
 
 pub returns-in-Some-clause-edited : goal.returns-in-Some-clause-edited
@@ -57,7 +57,7 @@ returns-in-None-clause-step g c =
 
 pub returns-in-None-clause-partly : goal.returns-in-None-clause-partly
 returns-in-None-clause-partly g c =
-    partly-missed g.F.Files.tells (GrowsBy 1 (g.F.Files.failed c.args.files.now) (g.F.Files.failed c.edit_virtual.new.files)) (wanted_view c.args.wanted.now) (members_view c.args.members.now.all.now) (names_behind c.args.members.now.gone.now)
+    partly-missed g.F.Files.tells (WriteFails (g.F.Files.refuses c.args.files.now c.edit_virtual.new.files) (g.F.Files.failed c.args.files.now) (g.F.Files.failed c.edit_virtual.new.files) c.args.wanted.now.root.now) (wanted_view c.args.wanted.now) (members_view c.args.members.now.all.now) (names_behind c.args.members.now.gone.now)
     (g.F.Files.bytes_at c.args.files.now) (g.F.Files.bytes_at c.edit_virtual.new.files) c.in-None.ensures c.edit_virtual.ensures.partly
 
 pub returns-in-None-clause-edited : goal.returns-in-None-clause-edited

@@ -1,9 +1,10 @@
 use Rattle.std.proofs.Common.{◌∙◌, Some, ap, sym, string_bytes}
 use Rattle.hack_base.specs.Names.{names_behind}
+use Rattle.hack_prepare.specs.FailureCounts.{WriteFails}
 use Rattle.hack_prepare.specs.Internal.{IsHeldFault, OnlyIf}
 use Rattle.hack_manifest.specs.LineRuns.{has_some}
 use Rattle.hack_prepare.specs.PreparedView.{wanted_view}
-use Rattle.hack_prepare.proofs.CountLemmas.{calls_then}
+use Rattle.hack_prepare.proofs.CountLemmas.{calls_then, write_then}
 use Rattle.hack_prepare.proofs.FaultLemmas.{text-fault, virtual-fault}
 use Rattle.hack_prepare.proofs.RootLemmas.{edited-read, partly-read, some-left}
 use Rattle.hack_prepare.proofs.StepLemmas.{step_read}
@@ -28,10 +29,17 @@ returns-in-Ok-clause-edited g c =
 
 pub returns-in-Ok-clause-partly : goal.returns-in-Ok-clause-partly
 returns-in-Ok-clause-partly g c =
-    partly-read g.F.Files.tells (wanted_view c.args.wanted.now) (names_behind c.args.private.now) (string_bytes c.in-Ok.text) c.as_str.result.now
-    (g.F.Files.failed c.args.files.now) (g.F.Files.failed c.read_to_string.new.files) (g.F.Files.failed c.edit_held.new.files)
+    let first = g.F.Files.failed c.args.files.now in
+    let mid = g.F.Files.failed c.read_to_string.new.files in
+    let last = g.F.Files.failed c.edit_held.new.files in
+    let later = g.F.Files.refuses c.read_to_string.new.files c.edit_held.new.files in
+    let all = g.F.Files.refuses c.args.files.now c.edit_held.new.files in
+    let root = c.args.wanted.now.root.now in
+    partly-read g.F.Files.tells (WriteFails later mid last root) (WriteFails all first last root) (wanted_view c.args.wanted.now) (names_behind c.args.private.now) (string_bytes c.in-Ok.text) c.as_str.result.now
     (g.F.Files.bytes_at c.args.files.now) (g.F.Files.bytes_at c.read_to_string.new.files) (g.F.Files.bytes_at c.edit_held.new.files)
-    c.as_str.ensures.value c.in-Ok.ensures.text c.read_to_string.ensures.same c.in-Ok.ensures.ok c.edit_held.ensures.partly
+    c.as_str.ensures.value c.in-Ok.ensures.text c.read_to_string.ensures.same
+    (write_then (g.F.Files.refuses c.args.files.now c.read_to_string.new.files) later all first mid last root (λ ps qs one other. g.F.Files.refuses_more _ _ _ ps qs one other) c.in-Ok.ensures.ok c.read_to_string.ensures.refused_none)
+    c.edit_held.ensures.partly
 
 pub returns-in-Ok-clause-err : goal.returns-in-Ok-clause-err
 returns-in-Ok-clause-err g c =
