@@ -77,6 +77,9 @@ returns-in_err-edit_member-clause-counted g c =
     let p = err_from_is_err_and c.from_residual-in_err-edit_member.result c.from_residual-in_err-edit_member.ensures.1 in
     rw (p.1, p.2) (fault_then (g.F.Files.failed c.args.files.now) (g.F.Files.failed c.loop-member.files) (g.F.Files.failed c.edit_member.new.files) _ c.loop-member.invariant.1.1 c.in_err-edit_member.ensures.counted)
 
+pub returns-in_err-edit_member-clause-stays : goal.returns-in_err-edit_member-clause-stays
+returns-in_err-edit_member-clause-stays g c = g.F.Files.stays_more _ _ _ c.loop-member.invariant.0.0 c.edit_member.ensures.stays
+
 pub returns-in_err-edit_member-clause-step : goal.returns-in_err-edit_member-clause-step
 returns-in_err-edit_member-clause-step g c =
     let xs : List Member = c.args.members.now in

@@ -1,4 +1,5 @@
-use Rattle.std.proofs.Common.{◌∙◌, Some, ap, sym, string_bytes}
+use Rattle.std.proofs.Common.{◌∙◌, [], Some, ap, sym, string_bytes}
+use Rattle.std.proofs.lemmas.Result.{on_ok_weaker}
 use Rattle.hack_base.specs.Names.{names_behind}
 use Rattle.hack_prepare.specs.FailureCounts.{WriteFails}
 use Rattle.hack_prepare.specs.Internal.{IsHeldFault, OnlyIf}
@@ -40,6 +41,10 @@ returns-in-Ok-clause-partly g c =
     c.as_str.ensures.value c.in-Ok.ensures.text c.read_to_string.ensures.same
     (write_then (g.F.Files.refuses c.args.files.now c.read_to_string.new.files) later all first mid last root (λ ps qs one other. g.F.Files.refuses_more _ _ _ ps qs one other) c.in-Ok.ensures.ok c.read_to_string.ensures.refused_none)
     c.edit_held.ensures.partly
+
+pub returns-in-Ok-clause-refused_none : goal.returns-in-Ok-clause-refused_none
+returns-in-Ok-clause-refused_none g c =
+    on_ok_weaker c.edit_held.result (λ later. g.F.Files.refuses_more _ _ _ [] [] c.read_to_string.ensures.refused_none later) c.edit_held.ensures.refused_none
 
 pub returns-in-Ok-clause-err : goal.returns-in-Ok-clause-err
 returns-in-Ok-clause-err g c =
