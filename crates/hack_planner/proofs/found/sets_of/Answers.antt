@@ -17,7 +17,7 @@ use Rattle.hack_planner.specs.Candidates.{candidates, lifted_for}
 use Rattle.hack_planner.specs.Kinds as kinds
 use Rattle.hack_planner.specs.KindsView.{IsRunsFault}
 use Rattle.hack_planner.proofs.SampleLemmas.{ok-both, err-weaker, tired}
-use Rattle.hack_planner.proofs.kind.powerset_sets.Goals as goal
+use Rattle.hack_planner.proofs.found.sets_of.Goals as goal
 
 pub returns-in-Some-clause-sets : goal.returns-in-Some-clause-sets
 returns-in-Some-clause-sets c = λ (features : Features) e.

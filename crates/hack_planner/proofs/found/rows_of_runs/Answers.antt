@@ -7,7 +7,7 @@ use Rattle.hack_plan.specs.Runs.{run_of}
 use Rattle.hack_planner.specs.Kinds.{IsRowOf}
 use Rattle.hack_planner.specs.KindsView.{runs_of}
 use Rattle.hack_planner.proofs.RowLemmas.{rows-more}
-use Rattle.hack_planner.proofs.kind.rows_of_runs.Goals as goal
+use Rattle.hack_planner.proofs.found.rows_of_runs.Goals as goal
 
 pub loop-rank-preserved : goal.loop-rank-preserved
 loop-rank-preserved c =

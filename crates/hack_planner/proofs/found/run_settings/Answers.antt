@@ -12,7 +12,7 @@ use Rattle.hack_planner.specs.Candidates.{lifted_for}
 use Rattle.hack_planner.specs.Kinds as kinds
 use Rattle.hack_planner.specs.KindsView.{runs_of}
 use Rattle.hack_planner.proofs.SampleLemmas.{with-strength}
-use Rattle.hack_planner.proofs.kind.run_settings.Goals as goal
+use Rattle.hack_planner.proofs.found.run_settings.Goals as goal
 
 pub returns : goal.returns
 returns c =

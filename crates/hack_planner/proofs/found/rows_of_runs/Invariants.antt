@@ -4,7 +4,7 @@ use Rattle.hack_samples.specs.Sets.{rows_of}
 use Rattle.hack_features.specs.View.{choice_of}
 use Rattle.hack_planner.specs.Kinds.{IsRowOf}
 use Rattle.hack_planner.specs.KindsView.{runs_of}
-use Rattle.hack_planner.proofs.kind.rows_of_runs.Given as goal
+use Rattle.hack_planner.proofs.found.rows_of_runs.Given as goal
 
 -- a row for each run so far
 abbrev pub invariant-loop-rank : goal.invariant-loop-rank
