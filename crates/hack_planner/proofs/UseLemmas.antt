@@ -2,10 +2,12 @@
 use Rattle.std.proofs.Common.{◌≡◌, ◌↔◌, ◌⊎◌, refl, sym, ap, subst, ◌∙◌, arith, ℕ, zero, suc, ◌+◌, ◌*◌, ◌≤◌, ◌<◌, List, [], ◌∷◌, length, get_or, map, inl, inr, Bool, true, false, Option, Some, None, IfSome, IsTrue, All, Contains, option_map}
 use Rattle.std.specs.Prelude.{slice_get}
 use Rattle.std.specs.List.{AllZip}
-use Rattle.std.proofs.lemmas.List.Elements.{All-contains, All-head, All-tail}
+use Rattle.std.proofs.lemmas.List.Elements.{All-cons, All-contains, All-head, All-tail}
 use Rattle.std.proofs.lemmas.Option.{same_Some}
 use Rattle.hack_base.specs.Names.{Name}
 use Rattle.hack_load.specs.Contexts.{ContextRecord, rust_version_at}
+use Rattle.hack_metadata.specs.RecordViews.{place_at}
+use Rattle.hack_metadata.specs.declared.metadata.resolve.PackageId.{PackageId}
 use Rattle.hack_plan.specs.Inputs.{AreVersions, IsStepList, UsesVersion, owns_of}
 use Rattle.hack_plan.specs.View.{PackageView}
 use Rattle.hack_plan.specs.declared.versions.PlanInput.{PlanInput}
@@ -157,6 +159,21 @@ zip-ids P R S f [] [] all h = tt
 zip-ids P R S f [] (y ∷ ys) all h = absurd h
 zip-ids P R S f (x ∷ xs) [] all h = absurd h
 zip-ids P R S f (x ∷ xs) (y ∷ ys) all h = (f x y (All-head P x xs all) h.0, zip-ids P R S f xs ys (All-tail P x xs all) h.1)
+
+first-same : {X : Type 0} (x y : X) (xs ys : List X) → x ∷ xs ≡ y ∷ ys → x ≡ y
+first-same x y xs ys e = cc
+
+rest-same : {X : Type 0} (x y : X) (xs ys : List X) → x ∷ xs ≡ y ∷ ys → xs ≡ ys
+rest-same x y xs ys e = cc
+
+-- what holds of the ids holds of the chosen packages
+pub all-chosen : (P : ℕ → Type 0) (chosen : List Chosen) (ids : List PackageId) → map id_of chosen ≡ map place_at ids → All (λ (id : PackageId). P id.index) ids → All (λ (one : Chosen). P one.id.index) chosen
+all-chosen P [] ids e all = λ k d lt. absurd (omega (arith, lt))
+all-chosen P (x ∷ xs) [] e all = absurd (cc)
+all-chosen P (x ∷ xs) (y ∷ ys) e all =
+    All-cons (λ (one : Chosen). P one.id.index) x xs
+    (subst P (sym (first-same x.id.index y.id.index (map id_of xs) (map place_at ys) e)) (All-head (λ (id : PackageId). P id.index) y ys all))
+    (all-chosen P xs ys (rest-same x.id.index y.id.index (map id_of xs) (map place_at ys) e) (All-tail (λ (id : PackageId). P id.index) y ys all))
 
 -- where it is said rightly which of the chosen packages are used, the packages of a plan are those of its input
 pub packages-of : (cx : ContextRecord) (s : PlanInput) (latest : Option Version) (chosen : List Chosen) (packages : List PackageView) → All (IsRight cx s latest) chosen → AllZip (IsPlannedAs cx) chosen packages → AllZip (IsPackageOf cx s latest) (map id_of chosen) packages
