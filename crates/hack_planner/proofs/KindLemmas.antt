@@ -10,7 +10,8 @@ use Rattle.hack_metadata.specs.Records.{PackageRecord}
 use Rattle.hack_words.specs.declared.cli.args.Args.{Args}
 use Rattle.hack_features.specs.declared.feature.Feature.{Feature}
 use Rattle.hack_features.specs.Feature.{group_of, groups_of, candidates_of}
-use Rattle.hack_features.specs.Rules.{AreCovers}
+use Rattle.hack_features.specs.Rules.{Choice, AreCovers}
+use Rattle.hack_features.specs.Sets.{singles}
 use Rattle.hack_base.proofs.Steps.{seen-next}
 use Rattle.hack_plan.specs.declared.runs.RunOptions.{RunOptions}
 use Rattle.std.specs.Option.{option_map_or}
@@ -18,7 +19,7 @@ use Rattle.hack_plan.specs.Runs.{PackageRun, Plain, AllFeatures, NoDefaultFeatur
 use Rattle.hack_planner.specs.declared.kind.Kind.{Kind}
 use Rattle.hack_planner.specs.declared.kind.Kind.TheVariants.{Normal, Each, Powerset}
 use Rattle.hack_planner.specs.Candidates.{candidates}
-use Rattle.hack_planner.specs.Kinds.{AreSetRuns, AreRuns, HasPlainRun, HasSetRuns, AreCovering, package_choice, options_of}
+use Rattle.hack_planner.specs.Kinds.{AreSetsBy, AreRunSettings, AreSetRuns, AreRuns, HasPlainRun, HasSetRuns, AreCovering, package_choice, options_of}
 use Rattle.hack_planner.specs.KindsView.{IsKind, runs_of}
 use Rattle.hack_planner.specs.InternalKinds.{AreMade, IsMadeOf, kind_from}
 use Rattle.hack_plan.specs.declared.runs.Runs.{Runs}
@@ -96,6 +97,21 @@ pub runs-of_kind : (w : Args) (p : PackageRecord) (f : Features) (kind : Kind) �
 runs-of_kind w p f Normal h = plain-by w p f (w.each_feature || w.feature_powerset) refl h
 runs-of_kind w p f (Each list runs) h = subst (λ b. MatchBool b (AreSetRuns w p f (runs_of (Each list runs))) ((runs_of (Each list runs)) ≡ Plain ∷ [])) (sym (ap (λ b. b || w.feature_powerset) h.0)) (set-runs w p f (runs_of (Each list runs)) h.3)
 runs-of_kind w p f (Powerset list runs) h = subst (λ b. MatchBool b (AreSetRuns w p f (runs_of (Powerset list runs))) ((runs_of (Powerset list runs)) ≡ Plain ∷ [])) (sym (ap (λ b. w.each_feature || b) h.0 ∙ or-true w.each_feature)) (set-runs w p f (runs_of (Powerset list runs)) h.2)
+
+-- what comes of each candidate alone
+pub alone-made : (w : Args) (f : Features) (c : Choice) (n : ℕ) (sets : List (List ℕ)) (runs : List PackageRun) (plain : Bool) (rows : List (List Bool)) → w.feature_powerset ≡ false → w.strength ≡ None → sets ≡ singles n → IsMadeOf w f sets runs plain → rows ≡ []
+    → AreMade w f c n runs plain rows
+alone-made w f c n sets runs plain rows each all is made none = record {
+  sets = sets;
+  are_sets = subst (λ b. AreSetsBy b w.strength c n sets) (sym each) is;
+  covers = λ powerset _. let e : true ≡ false = sym powerset ∙ each in absurd (cc);
+  made = made;
+  settings = subst (λ o. AreRunSettings o c runs rows) (sym all) none;
+}
+
+-- what comes of rules comes of what they were made for
+pub made-for : (w : Args) (f : Features) (c d : Choice) (m n : ℕ) (runs : List PackageRun) (plain : Bool) (rows : List (List Bool)) → c ≡ d → m ≡ n → AreMade w f c m runs plain rows → AreMade w f d n runs plain rows
+made-for w f c d m n runs plain rows same size h = subst (λ q. AreMade w f q n runs plain rows) same (subst (λ k. AreMade w f c k runs plain rows) size h)
 
 or-first : (a b : Bool) → (a || b) ≡ true → b ≡ false → a ≡ true
 or-first true b some none = refl

@@ -1,5 +1,5 @@
 -- Why there is no sample of a package, and what holds of both clauses of a result.
-use Rattle.std.proofs.Common.{◌≡◌, ℕ, ◌⊎◌, inl, inr, refl, List, Option, None, Some, Bool, true, Result, Ok, Err, IfOk, IfErr, IsSome, is_some}
+use Rattle.std.proofs.Common.{◌≡◌, ◌∙◌, ℕ, ◌⊎◌, inl, inr, refl, sym, subst, List, Option, None, Some, Bool, true, Result, Ok, Err, IfOk, IfErr, IsSome, is_some}
 use Rattle.std.specs.List.{AllZip}
 use Rattle.hack_planner.specs.Kinds.{package_choice}
 use Rattle.hack_load.specs.declared.features.Features.{Features}
@@ -31,6 +31,10 @@ tired w p f asked (fault.TooManyQuestions tally) made_for (inr up) =
 pub refused : (w : Args) (asked : ℕ) (e : RunsFault) → w.feature_powerset ≡ true → IsSome w.strength → IsGivenUp asked e → (e ≡ fault.Memory) ⊎ IsRefused w asked e
 refused w asked fault.Memory powerset given up = inl refl
 refused w asked (fault.TooManyQuestions tally) powerset given up = inr (powerset, given, up.0, up.1)
+
+-- sets of a powerset with this strength
+pub sets-by : (powerset : Bool) (strength given : Option ℕ) (c : Choice) (n : ℕ) (sets : List (List ℕ)) → powerset ≡ true → strength ≡ given → kinds.ArePowersets given c n sets → kinds.AreSetsBy powerset strength c n sets
+sets-by powerset strength given c n sets is same are = subst (λ b. kinds.AreSetsBy b strength c n sets) (sym is) (subst (λ o. kinds.ArePowersets o c n sets) (sym same) are)
 
 -- if two things hold of what is returned, so does what follows from both
 pub ok-both : {X E : Type 0} (r : Result X E) (P Q R : X → Type 0) → ((x : X) → P x → Q x → R x) → IfOk r P → IfOk r Q → IfOk r R

@@ -8,9 +8,10 @@ use Rattle.hack_base.specs.Names.{Name}
 use Rattle.hack_load.specs.Contexts.{ContextRecord, rust_version_at}
 use Rattle.hack_metadata.specs.RecordViews.{place_at}
 use Rattle.hack_metadata.specs.declared.metadata.resolve.PackageId.{PackageId}
-use Rattle.hack_plan.specs.Inputs.{AreVersions, IsStepList, UsesVersion, owns_of}
+use Rattle.hack_plan.specs.Inputs.{AreVersions, AreVersionsOf, IsStepList, UsesVersion, owns_of}
 use Rattle.hack_plan.specs.View.{PackageView}
 use Rattle.hack_plan.specs.declared.versions.PlanInput.{PlanInput}
+use Rattle.hack_plan.specs.declared.versions.Versions.{Versions}
 use Rattle.hack_versions.specs.declared.group.PackageVersion.{PackageVersion}
 use Rattle.hack_versions.specs.declared.group.VersionGroup.{VersionGroup}
 use Rattle.hack_versions.specs.declared.version.MaybeVersion.{MaybeVersion}
@@ -121,6 +122,13 @@ pub used-in : (cx : ContextRecord) (ids : List ℕ) (s : PlanInput) (latest : Op
 used-in cx ids s latest groups p id of_call at are =
     let m = zip-at (IsMember cx) ids s.packages.items p id of_call.members at in
     in-groups s.range s latest groups p m.0 (rust_version_at cx id) are m.1 (subst (λ r. IsOwn r (rust_version_at cx id) m.0.rust_version) (sym of_call.range) m.2.own)
+
+-- so it is said rightly of one package more
+pub right-more : (cx : ContextRecord) (ids : List ℕ) (s : PlanInput) (versions : Versions) (p : ℕ) (one : Chosen) → IsInputOf cx ids s → slice_get ids p ≡ Some (id_of one) → AreVersionsOf s versions → IsTrue one.is_used ↔ InGroups s.range versions.groups.items p
+    → IsRight cx s versions.stable one
+right-more cx ids s versions p one of_call at are told =
+    let same = used-in cx ids s versions.stable versions.groups.items p (id_of one) of_call at are in
+    (λ t. same.0 (told.0 t), λ u. told.1 (same.1 u))
 
 -- ---- packages in a plan
 
