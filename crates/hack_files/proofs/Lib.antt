@@ -1,3 +1,4 @@
 pub mod FilesLemmas
 pub mod RestoreLemmas
 pub mod SafeLemmas
+pub mod RefusalLemmas

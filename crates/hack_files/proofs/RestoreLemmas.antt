@@ -1,11 +1,11 @@
 -- Files are written back, one after another.
-use Rattle.std.proofs.Common.{◌≡◌, ◌≢◌, ◌⊎◌, inl, inr, ℕ, suc, zero, ◌+◌, ◌<◌, ◌≤◌, List, [], ◌∷◌, ◌++◌, Some, length, map, take, refl, sym, ◌∙◌, arith, subst, ap, below_more, append-nil, Bool, true, IsTrue, ◌↔◌}
+use Rattle.std.proofs.Common.{◌≡◌, ◌≢◌, ◌⊎◌, inl, inr, ℕ, suc, zero, ◌+◌, ◌<◌, ◌≤◌, List, [], ◌∷◌, ◌++◌, Some, length, map, take, refl, sym, ◌∙◌, arith, subst, ap, below_more, append-nil, length-append, Bool, true, IsTrue, ◌↔◌}
 use Rattle.std.specs.Prelude.{Contains, slice_index_or}
 use Rattle.std.proofs.lemmas.List.{get_or-map, take_more, take_all, length-map}
 use Rattle.hack_files.specs.declared.restore.Saved.{Saved}
 use Rattle.hack_files.specs.Files.{Change, Contents, KeepsOthers, Makes, MakesOrNot}
 use Rattle.hack_base.specs.Counters.{GrowsBy}
-use Rattle.hack_files.specs.Restore.{Kept, kept_file, paths, Brings, AreDistinct, Tried, none, written, failed, made_and_failed, write_of}
+use Rattle.hack_files.specs.Restore.{Kept, kept_file, paths, Brings, ComesBackBut, AreDistinct, Tried, none, written, failed, made_and_failed, write_of}
 use Rattle.hack_files.proofs.FilesLemmas.{makes_more}
 
 -- a count that goes up by a, and then by b, goes up by a + b
@@ -25,9 +25,13 @@ pub record BackTo (files : List Kept) (i : ℕ) (spoilt : List (List ℕ)) (old 
   pub held : (j : ℕ) → j < i → IsBack files spoilt new j
   pub others : (q : List ℕ) → ((j : ℕ) (d : Kept) → j < i → j < length files → q ≢ path_at files j d) → new q ≡ old q
 
--- after the first i files at most `failures` paths are spoilt, where the paths are distinct
-abbrev pub SoFar : List Kept → ℕ → ℕ → Contents → Contents → Type 0
-SoFar files i failures old new = AreDistinct files → (spoilt : List (List ℕ)) × (length spoilt ≤ failures) × BackTo files i spoilt old new
+-- after the first i files as many writes were refused as failed: those of `spoilt`, of which `Refuses`
+-- holds; where the paths are distinct, all but these are back
+pub record BackBut (Refuses : List (List ℕ) → Type 0) (tells : Type 0) (files : List Kept) (i failures : ℕ) (old new : Contents) : Type 0 where
+  pub spoilt : List (List ℕ)
+  pub refused : Refuses spoilt
+  pub number : length spoilt ≡ failures
+  pub back : tells → AreDistinct files → BackTo files i spoilt old new
 
 -- the file at i is this one, whatever the default of `slice_index_or` is
 abbrev pub IsAt : List Kept → ℕ → Kept → Type 0
@@ -38,6 +42,15 @@ is_at saved i file lt is d = get_or-map kept_file saved i file d lt ∙ ap kept_
 
 contains_more : (xs : List (List ℕ)) (x y : List ℕ) → Contains xs y → Contains (x ∷ xs) y
 contains_more xs x y h = (suc h.0, omega (arith, h.1), h.2)
+
+contains_left : (xs ys : List (List ℕ)) (y : List ℕ) → Contains xs y → Contains (xs ++ ys) y
+contains_left [] ys y h = absurd (omega (arith, h.1))
+contains_left (x ∷ xs) ys y (zero, lt, is) = (zero, omega arith, is)
+contains_left (x ∷ xs) ys y (suc j, lt, is) = contains_more (xs ++ ys) x y (contains_left xs ys y (j, omega (arith, lt), is))
+
+contains_last : (xs : List (List ℕ)) (x : List ℕ) → Contains (xs ++ x ∷ []) x
+contains_last [] x = (zero, omega arith, refl)
+contains_last (y ∷ xs) x = contains_more (xs ++ x ∷ []) y x (contains_last xs x)
 
 contains_path : (files : List Kept) (j : ℕ) (d : Kept) (q : List ℕ) → j < length files → q ≡ path_at files j d → Contains (paths files) q
 contains_path [] j d q lt is = absurd (omega (arith, lt))
@@ -61,53 +74,68 @@ others_more files i file old mid new lt at keeps before q absent =
     keeps q differ ∙ before q (λ j d h. absent j d (omega arith))
 
 -- after one more write, which succeeds
-pub so_far_written : (files : List Kept) (i failures : ℕ) (file : Kept) (old mid new : Contents) → i < length files → IsAt files i file
-    → KeepsOthers file.path mid new → new file.path ≡ Some file.bytes → SoFar files i failures old mid → SoFar files (i + 1) failures old new
-so_far_written files i failures file old mid new lt at keeps is before =
-    λ distinct.
-    let b = before distinct in (
-      b.0,
-      b.1,
+pub back_written : (R S : List (List ℕ) → Type 0) (tells : Type 0) (files : List Kept) (i failures : ℕ) (file : Kept) (old mid new : Contents) → i < length files → IsAt files i file
+    → ((ps : List (List ℕ)) → R ps → S (ps ++ [])) → (tells → KeepsOthers file.path mid new) → (tells → new file.path ≡ Some file.bytes)
+    → BackBut R tells files i failures old mid → BackBut S tells files (i + 1) failures old new
+back_written R S tells files i failures file old mid new lt at more keeps is b = record {
+  spoilt = b.spoilt;
+  refused = subst S (append-nil b.spoilt) (more b.spoilt b.refused);
+  number = b.number;
+  back = λ t distinct.
+      let to = b.back t distinct in
       record {
-        held = below_more _ _ (λ j h. still files i j file b.0 mid new distinct lt at keeps h (b.2.held j h))
-            (λ d within. let P : Kept → Type 0 = λ f. Contains b.0 f.path ⊎ (new f.path ≡ Some f.bytes) in subst P (sym (at d)) (inr is));
-        others = others_more files i file old mid new lt at keeps b.2.others;
-      },
-    )
+        held = below_more _ _ (λ j h. still files i j file b.spoilt mid new distinct lt at (keeps t) h (to.held j h))
+            (λ d within. let P : Kept → Type 0 = λ f. Contains b.spoilt f.path ⊎ (new f.path ≡ Some f.bytes) in subst P (sym (at d)) (inr (is t)));
+        others = others_more files i file old mid new lt at (keeps t) to.others;
+      };
+}
 
--- after one more write, which fails
-pub so_far_failed : (files : List Kept) (i failures : ℕ) (file : Kept) (old mid new : Contents) → i < length files → IsAt files i file
-    → KeepsOthers file.path mid new → SoFar files i failures old mid → SoFar files (i + 1) (failures + 1) old new
-so_far_failed files i failures file old mid new lt at keeps before =
-    λ distinct.
-    let b = before distinct in
-    let spoilt : List (List ℕ) = file.path ∷ b.0 in
-    let more : (j : ℕ) → IsBack files b.0 new j → IsBack files spoilt new j = λ j h d within. elim (h d within) [ inl bad ↦ inl (contains_more b.0 file.path _ bad) | inr good ↦ inr good ] in (
-      spoilt,
-      omega (arith, b.1),
-      record {
-        held = below_more _ _ (λ j h. more j (still files i j file b.0 mid new distinct lt at keeps h (b.2.held j h)))
-            (λ d within. let P : Kept → Type 0 = λ f. Contains spoilt f.path ⊎ (new f.path ≡ Some f.bytes) in subst P (sym (at d)) (inl (zero, omega arith, refl)));
-        others = others_more files i file old mid new lt at keeps b.2.others;
-      },
-    )
+-- after one more write, which is refused
+pub back_refused : (R S : List (List ℕ) → Type 0) (tells : Type 0) (files : List Kept) (i failures : ℕ) (file : Kept) (old mid new : Contents) → i < length files → IsAt files i file
+    → ((ps : List (List ℕ)) → R ps → S (ps ++ file.path ∷ [])) → (tells → KeepsOthers file.path mid new)
+    → BackBut R tells files i failures old mid → BackBut S tells files (i + 1) (failures + 1) old new
+back_refused R S tells files i failures file old mid new lt at more keeps b =
+    let spoilt : List (List ℕ) = b.spoilt ++ file.path ∷ [] in
+    let also : (j : ℕ) → IsBack files b.spoilt new j → IsBack files spoilt new j = λ j h d within. elim (h d within) [ inl bad ↦ inl (contains_left b.spoilt (file.path ∷ []) _ bad) | inr good ↦ inr good ] in
+    record {
+      spoilt = spoilt;
+      refused = more b.spoilt b.refused;
+      number = omega (arith, length-append b.spoilt (file.path ∷ []), b.number);
+      back = λ t distinct.
+          let to = b.back t distinct in
+          record {
+            held = below_more _ _ (λ j h. also j (still files i j file b.spoilt mid new distinct lt at (keeps t) h (to.held j h)))
+                (λ d within. let P : Kept → Type 0 = λ f. Contains spoilt f.path ⊎ (new f.path ≡ Some f.bytes) in subst P (sym (at d)) (inl (contains_last b.spoilt file.path)));
+            others = others_more files i file old mid new lt at (keeps t) to.others;
+          };
+    }
 
 -- nothing is written yet
-pub so_far_none : (files : List Kept) (old : Contents) → SoFar files 0 0 old old
-so_far_none files old = λ distinct. ([], omega arith, record { held = λ j lt. absurd (omega (arith, lt)); others = λ q absent. refl })
+pub back_none : (R : List (List ℕ) → Type 0) (tells : Type 0) (files : List Kept) (old : Contents) → R [] → BackBut R tells files 0 0 old old
+back_none R tells files old none_refused = record {
+  spoilt = [];
+  refused = none_refused;
+  number = refl;
+  back = λ _ _. record { held = λ j lt. absurd (omega (arith, lt)); others = λ q absent. refl };
+}
 
 -- all files are written
-pub brings_all : (files : List Kept) (i failures : ℕ) (old new : Contents) → length files ≤ i → SoFar files i failures old new → Brings files old new failures
-brings_all files i failures old new end so_far =
-    λ distinct.
-    let b = so_far distinct in (
-      b.0,
-      b.1,
+pub back_all : (R : List (List ℕ) → Type 0) (tells : Type 0) (files : List Kept) (i failures : ℕ) (old new : Contents) → length files ≤ i
+    → BackBut R tells files i failures old new → ComesBackBut R tells files old new failures
+back_all R tells files i failures old new end b = record {
+  spoilt = b.spoilt;
+  refused = b.refused;
+  number = b.number;
+  back = λ t distinct.
+      let to = b.back t distinct in
       record {
-        held = λ j d within. b.2.held j (omega arith) d within;
-        others = λ q absent. b.2.others q (λ j d h within is. absent (contains_path files j d q within is));
-      },
-    )
+        held = λ j d within. to.held j (omega arith) d within;
+        others = λ q absent. to.others q (λ j d h within is. absent (contains_path files j d q within is));
+      };
+}
+
+pub brings_of : (R : List (List ℕ) → Type 0) (tells : Type 0) (files : List Kept) (old new : Contents) (k : ℕ) → ComesBackBut R tells files old new k → tells → Brings files old new k
+brings_of R tells files old new k b t distinct = (b.spoilt, omega (arith, b.number), b.back t distinct)
 
 -- the writes of the first i files were tried, and k failed
 abbrev pub TriedTo : List Kept → ℕ → ℕ → List Change → List Change → Contents → Contents → Type 0

@@ -1,15 +1,14 @@
 -- Files that are kept before they are written, and restored.
-use Rattle.std.proofs.Common.{◌≡◌, ◌≢◌, ◌⊎◌, inl, inr, ℕ, suc, zero, ◌<◌, ◌≤◌, List, [], ◌∷◌, ◌++◌, Some, length, refl, sym, ◌∙◌, arith, subst, Bool, true, false, ⊎_elim, get_or}
-use Rattle.std.specs.Prelude.{◌||◌, All, Contains}
+use Rattle.std.proofs.Common.{◌≡◌, ◌≢◌, ◌⊎◌, inl, inr, ℕ, ◌<◌, List, [], ◌∷◌, ◌++◌, Some, length, refl, sym, ◌∙◌, arith, subst, Bool, true, false, ⊎_elim, get_or}
+use Rattle.std.specs.Prelude.{◌||◌, Contains}
 use Rattle.std.specs.Str.{bytes_eq}
 use Rattle.std.proofs.lemmas.Bool.{cases_Bool, cases_lt, true≢false, cond_both}
 use Rattle.std.proofs.lemmas.List.{length_push, length-map, get_or-map, get_or_append_left, get_or_push}
 use Rattle.std.proofs.lemmas.List.Elements.{All-push}
-use Rattle.std.proofs.lemmas.List.Folds.{list_any_at, list_any-append, Any-from_list_any}
+use Rattle.std.proofs.lemmas.List.Folds.{list_any_at, Any-from_list_any}
 use Rattle.std.proofs.lemmas.Slice.Eq.{bytes_eq-Decides}
 use Rattle.hack_files.specs.Files.{Contents, KeepsAll, KeepsOthers}
 use Rattle.hack_files.specs.Restore.{Kept, paths, Back, AreDistinct, AreSafe, is_kept, kept_too}
-use Rattle.hack_files.proofs.FilesLemmas.{bytes_differ}
 
 -- a path that isn't kept differs from the path of each kept file
 apart : (files : List Kept) (path : List ℕ) (i : ℕ) (d : Kept) → i < length files → is_kept files path ≡ false → (get_or files i d).path ≢ path

@@ -1,6 +1,6 @@
 -- What files hold, and how a call changes it.
 use Rattle.hack_base.specs.Counters.{GrowsBy}
-use Rattle.std.specs.Prelude.{◌≡◌, ◌≢◌, ◌⊎◌, ◌+◌, ◌-◌, ◌++◌, [], ◌∷◌, ℕ, List, Option, Some, None, Result, Ok, Err, cond}
+use Rattle.std.specs.Prelude.{◌≡◌, ◌≢◌, ◌⊎◌, ◌<◌, ◌≤◌, ◌+◌, ◌-◌, ◌^◌, ◌++◌, [], ◌∷◌, ℕ, List, Option, Some, None, Result, Ok, Err, Contains, cond, min}
 use Rattle.std.specs.Str.{bytes_eq}
 
 -- what the paths hold: the bytes of each, and nothing where no file is
@@ -44,6 +44,19 @@ abbrev pub CountsFailedCall : {T E : Type 0} → ℕ → ℕ → Result T E → 
 CountsFailedCall old new (Ok _) = GrowsBy 0 old new
 CountsFailedCall old new (Err _) = GrowsBy 1 old new
 
+-- the path of a write or removal that was refused; none of one that was made
+abbrev pub refused_path : {T E : Type 0} → Result T E → List ℕ → List (List ℕ)
+refused_path (Ok _) path = []
+refused_path (Err _) path = path ∷ []
+
+-- some calls failed, or none
+abbrev pub Grows : ℕ → ℕ → Type 0
+Grows old new = (k : ℕ) × GrowsBy k old new
+
+-- a count of failures went up by so many at least
+abbrev pub GrowsAtLeastBy : ℕ → ℕ → ℕ → Type 0
+GrowsAtLeastBy k old new = old < 2 ^ 64 → (min (old + k) (2 ^ 64 - 1) ≤ new) × (new < 2 ^ 64)
+
 -- each path but this one holds what it held
 abbrev pub KeepsOthers : List ℕ → Contents → Contents → Type 0
 KeepsOthers path old new = (q : List ℕ) → q ≢ path → new q ≡ old q
@@ -51,3 +64,9 @@ KeepsOthers path old new = (q : List ℕ) → q ≢ path → new q ≡ old q
 -- each path holds what it held
 abbrev pub KeepsAll : Contents → Contents → Type 0
 KeepsAll old new = (q : List ℕ) → new q ≡ old q
+
+-- writes or removals at these paths were refused; each other path holds what it held
+pub record KeepsAllBut (Refuses : List (List ℕ) → Type 0) (tells : Type 0) (old new : Contents) : Type 0 where
+  pub spoilt : List (List ℕ)
+  pub refused : Refuses spoilt
+  pub others : tells → (q : List ℕ) → ¬ Contains spoilt q → new q ≡ old q

@@ -2,3 +2,4 @@ pub mod Files
 pub mod Memory
 pub mod Faults
 pub mod Restore
+pub mod RefusalLaws

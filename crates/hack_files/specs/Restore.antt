@@ -37,6 +37,14 @@ abbrev pub Brings : List Kept → Contents → Contents → ℕ → Type 0
 Brings files old new k =
     AreDistinct files → (spoilt : List (List ℕ)) × (length spoilt ≤ k) × Back files spoilt old new
 
+-- the paths of as many refused writes as failed; where the paths of these files are distinct, all
+-- but those that were refused hold their bytes again
+pub record ComesBackBut (Refuses : List (List ℕ) → Type 0) (tells : Type 0) (files : List Kept) (old new : Contents) (failed : ℕ) : Type 0 where
+  pub spoilt : List (List ℕ)
+  pub refused : Refuses spoilt
+  pub number : length spoilt ≡ failed
+  pub back : tells → AreDistinct files → Back files spoilt old new
+
 -- a file of this path is kept
 abbrev pub is_kept : List Kept → List ℕ → Bool
 is_kept files path = list_any (λ file. bytes_eq file.path path) files

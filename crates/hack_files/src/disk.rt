@@ -1,7 +1,8 @@
 //! The files of the operating system. No contract says what they hold; tests check it.
 
-ghost use Rattle.std.specs.Prelude.{◌≡◌, [], None};
-ghost use Rattle.hack_files.specs.Files.{CountsFailedCall};
+ghost use Rattle.std.specs.Prelude.{◌≡◌, [], None, length};
+ghost use Rattle.hack_files.specs.Files.{CountsFailedCall, GrowsAtLeastBy};
+ghost use Rattle.hack_files.specs.RefusalLaws.{at_least_none, at_least_more, at_least_some};
 
 use crate::fs::{FileFault, Files, count_failure};
 use std::alloc::Global;
@@ -39,14 +40,25 @@ struct Successor<F: Drop> {
 // removed.
 const NAMES: u64 = 16;
 
+// Makes the file of this name. One that is there already was left by a program that was killed, and
+// is removed.
+fn create_anew<R: rt::Files>(rt: &R, name: &str) -> io::Result<R::File> {
+    let mut options = OpenOptions::new();
+    options.write(true).create_new(true);
+    match options.open(rt, name) {
+        Err(e) if e.kind() == ErrorKind::AlreadyExists => {
+            let _ = fs::remove_file(rt, name);
+            options.open(rt, name)
+        }
+        outcome => outcome,
+    }
+}
+
 // A new file in the target's folder, and its name. None where it can't be made.
 fn new_file<R: rt::Files + AllocGlobal>(rt: &R, target: &str) -> Option<(R::File, String)> {
     for number in 0..NAMES {
         let name = format!(in rt.alloc(); "{target}.cargo-hack-{number}").ok()?;
-        let _ = fs::remove_file(rt, name.as_str());
-        let mut options = OpenOptions::new();
-        options.write(true).create_new(true);
-        match options.open(rt, name.as_str()) {
+        match create_anew(rt, name.as_str()) {
             Ok(file) => return Some((file, name)),
             Err(e) if e.kind() == ErrorKind::AlreadyExists => {}
             Err(_) => return None,
@@ -59,44 +71,67 @@ fn new_file<R: rt::Files + AllocGlobal>(rt: &R, target: &str) -> Option<(R::File
 // of it may drop permissions.
 fn make_like<R: rt::Files>(rt: &R, file: &R::File, name: &str, other: &Metadata) -> io::Result<()> {
     let own = file.metadata()?;
-    if own.uid() != other.uid() || own.gid() != other.gid() {
+    let is_owned_so = own.uid() == other.uid() && own.gid() == other.gid();
+    if is_owned_so && own.mode() == other.mode() {
+        return Ok(());
+    }
+    if !is_owned_so {
         rt.chown(name, Some(other.uid()), Some(other.gid()))?;
     }
     file.set_permissions(other.permissions())
 }
 
-// Whether nothing is at the path, not even a broken link.
-fn is_free<R: rt::Files>(rt: &R, path: &str) -> bool {
-    match fs::symlink_metadata(rt, path) {
-        Ok(_) => false,
-        Err(e) => e.kind() == ErrorKind::NotFound,
-    }
-}
-
-// A new file for a path at which nothing is. None where it can't be made.
+// A new file for a path at which nothing is, not even a broken link. None where it can't be made.
 fn first_at<R: rt::Files + AllocGlobal>(rt: &R, path: &str) -> Option<Successor<R::File>> {
     let target = PathBuf::from_str(rt.alloc(), path).ok()?;
     let (file, name) = new_file(rt, path)?;
     Some(Successor { file, name, target })
 }
 
-// A new file that can replace the one at the path, after all links are followed. None where what is
-// there can't be replaced.
-fn successor_of<R: rt::Files + AllocGlobal>(rt: &R, path: &str) -> Option<Successor<R::File>> {
-    let target = fs::canonicalize(rt, path).ok()?;
-    let held = fs::metadata(rt, target.as_path()).ok()?;
-    if !held.is_file() || held.nlink() != 1 {
+// Whether it is a file with this one name.
+fn is_plain(held: &Metadata) -> bool {
+    held.is_file() && held.nlink() == 1
+}
+
+// A new file that can replace the one at the target, which is no link. None where what is there
+// can't be replaced.
+fn successor_of<R: rt::Files + AllocGlobal>(
+    rt: &R,
+    target: PathBuf,
+    held: &Metadata,
+) -> Option<Successor<R::File>> {
+    if !is_plain(held) {
         return None;
     }
     // A file that may not be written is not to be replaced either.
     let mut options = OpenOptions::new();
     let _writable = options.write(true).open(rt, target.as_path()).ok()?;
     let (file, name) = new_file(rt, target.as_str())?;
-    if make_like(rt, &file, name.as_str(), &held).is_err() {
+    if make_like(rt, &file, name.as_str(), held).is_err() {
         let _ = fs::remove_file(rt, name.as_str());
         return None;
     }
     Some(Successor { file, name, target })
+}
+
+// The same, after all links at the path are followed.
+fn linked_at<R: rt::Files + AllocGlobal>(rt: &R, path: &str) -> Option<Successor<R::File>> {
+    let target = fs::canonicalize(rt, path).ok()?;
+    let held = fs::metadata(rt, target.as_path()).ok()?;
+    successor_of(rt, target, &held)
+}
+
+// A new file for what the path is to hold. None where it is to be written in place.
+fn successor_at<R: rt::Files + AllocGlobal>(rt: &R, path: &str) -> Option<Successor<R::File>> {
+    match fs::symlink_metadata(rt, path) {
+        // Most files are no links: their own path is the target.
+        Ok(held) if is_plain(&held) => {
+            successor_of(rt, PathBuf::from_str(rt.alloc(), path).ok()?, &held)
+        }
+        Ok(_) => linked_at(rt, path),
+        Err(e) if e.kind() == ErrorKind::NotFound => first_at(rt, path),
+        Err(_) => None,
+    }
 }
 
 // Writes the bytes to the new file, and renames it to its target. Where that fails, the new file is
@@ -118,12 +153,7 @@ fn replace<R: rt::Files>(rt: &R, successor: Successor<R::File>, bytes: &[u8]) ->
 }
 
 fn write_file<R: rt::Files + AllocGlobal>(rt: &R, path: &str, bytes: &[u8]) -> io::Result<()> {
-    let successor = if is_free(rt, path) {
-        first_at(rt, path)
-    } else {
-        successor_of(rt, path)
-    };
-    match successor {
+    match successor_at(rt, path) {
         Some(successor) => replace(rt, successor, bytes),
         None => fs::create(rt, path)?.write_all(bytes),
     }
@@ -177,6 +207,15 @@ impl<R: rt::Files + AllocGlobal + Drop> Files for Disk<R> {
     ghost stays_none = { λ _. tt };
 
     ghost stays_more = { λ _ _ _ _ _. tt };
+
+    ghost refuses = { λ old new paths. GrowsAtLeastBy (length paths) old.failures new.failures };
+
+    ghost refuses_none = { λ files. at_least_none files.failures };
+
+    ghost refuses_more = { λ a b c ps qs.
+        at_least_more ps qs a.failures b.failures c.failures };
+
+    ghost refuses_some = { λ a b grown. at_least_some a.failures b.failures grown };
 
     ghost bytes_at = { λ _ _. None };
 

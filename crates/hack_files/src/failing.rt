@@ -1,6 +1,8 @@
 //! Files and writers that fail once, for tests of what a failure leaves.
 
-ghost use Rattle.std.specs.Prelude.{◌≡◌, ◌↔◌, IsTrue};
+ghost use Rattle.std.specs.Prelude.{◌≡◌, ◌↔◌, IsTrue, length};
+ghost use Rattle.hack_files.specs.Files.{GrowsAtLeastBy};
+ghost use Rattle.hack_files.specs.RefusalLaws.{at_least_none, at_least_more, at_least_some};
 
 use crate::fs::{FileFault, Files, count_failure, counted};
 use std::alloc::Global;
@@ -75,6 +77,15 @@ impl<F: Files> Files for FailingFiles<F> {
     ghost stays_none = { λ a. F.stays_none a.inner };
 
     ghost stays_more = { λ a b c. F.stays_more a.inner b.inner c.inner };
+
+    ghost refuses = { λ old new paths. GrowsAtLeastBy (length paths) old.failures new.failures };
+
+    ghost refuses_none = { λ files. at_least_none files.failures };
+
+    ghost refuses_more = { λ a b c ps qs.
+        at_least_more ps qs a.failures b.failures c.failures };
+
+    ghost refuses_some = { λ a b grown. at_least_some a.failures b.failures grown };
 
     ghost bytes_at = { λ files. F.bytes_at files.inner };
 

@@ -1,11 +1,12 @@
 //! What the program asks of a file system. Code works with any `Files`: the disk, files in memory,
 //! or files that fail when a test wants it.
 
-ghost use Rattle.std.specs.Prelude.{◌≡◌, ◌↔◌, [], ◌∷◌, List, ℕ, Some, None, string_bytes};
+ghost use Rattle.std.specs.Prelude.{◌≡◌, ◌↔◌, [], ◌∷◌, ◌++◌, List, ℕ, Some, None, string_bytes};
 ghost use Rattle.std.specs.Prelude.{IfOk, IfErr, OnOk, OnErr, IsTrue, IsSome};
 ghost use Rattle.hack_files.specs.Files.{Change, Contents, CountsFailedCall};
 ghost use Rattle.hack_base.specs.Counters.{GrowsBy};
 ghost use Rattle.hack_files.specs.Files.{KeepsOthers, KeepsAll, Makes, MakesOrNot, puts, removes};
+ghost use Rattle.hack_files.specs.Files.{Grows, refused_path};
 ghost use Rattle.hack_files.specs.Faults.{IsOfRead, IsOfText, IsOfWrite};
 
 pub use crate::disk::Disk;
@@ -45,10 +46,16 @@ pub trait Files {
     /// How many calls have failed. A count of 2^64 - 1 doesn't go up any more.
     ghost failed: { Self → ℕ };
 
+    /// Which writes and removals were refused between two states of the files: their paths, in
+    /// order. Only such a call adds one, so who says which paths were refused can't claim more. By
+    /// `refuses_none` and `refuses_more` it holds over any number of calls.
+    ghost refuses: { Self → Self → List (List ℕ) → Type 0 };
+
     /// Returns the bytes at a path. A path that holds nothing is an error.
     fn read(&mut self, alloc: Global, path: &str) -> Result<Vec<u8>, FileFault>
         ensures stays { stays self.old self.new }
         ensures counted { CountsFailedCall (failed self.old) (failed self.new) result }
+        ensures refused_none { refuses self.old self.new [] }
         ensures bytes { IfOk result (λ bytes. tells →
             bytes_at self.old path.now ≡ Some bytes.items) }
         ensures same { tells → KeepsAll (bytes_at self.old) (bytes_at self.new) }
@@ -59,6 +66,7 @@ pub trait Files {
     fn write(&mut self, path: &str, bytes: &[u8]) -> Result<(), FileFault>
         ensures stays { stays self.old self.new }
         ensures counted { CountsFailedCall (failed self.old) (failed self.new) result }
+        ensures refused_path { refuses self.old self.new (refused_path result path.now) }
         ensures written { OnOk result (tells → bytes_at self.new path.now ≡ Some bytes.now) }
         ensures others { tells → KeepsOthers path.now (bytes_at self.old) (bytes_at self.new) }
         ensures traced { OnOk result (whole → Makes (puts path.now bytes.now ∷ [])
@@ -70,6 +78,7 @@ pub trait Files {
     fn exists(&mut self, path: &str) -> Result<bool, FileFault>
         ensures stays { stays self.old self.new }
         ensures counted { CountsFailedCall (failed self.old) (failed self.new) result }
+        ensures refused_none { refuses self.old self.new [] }
         ensures there { IfOk result (λ there. tells →
             IsTrue there ↔ IsSome (bytes_at self.old path.now)) }
         ensures same { tells → KeepsAll (bytes_at self.old) (bytes_at self.new) }
@@ -80,6 +89,7 @@ pub trait Files {
     fn remove(&mut self, path: &str) -> Result<(), FileFault>
         ensures stays { stays self.old self.new }
         ensures counted { CountsFailedCall (failed self.old) (failed self.new) result }
+        ensures refused_path { refuses self.old self.new (refused_path result path.now) }
         ensures removed { OnOk result (tells → bytes_at self.new path.now ≡ None) }
         ensures others { tells → KeepsOthers path.now (bytes_at self.old) (bytes_at self.new) }
         ensures traced { OnOk result (whole → Makes (removes path.now ∷ [])
@@ -90,6 +100,15 @@ pub trait Files {
     ghost stays_none: { (a : Self) → stays a a };
 
     ghost stays_more: { (a b c : Self) → stays a b → stays b c → stays a c };
+
+    ghost refuses_none: { (a : Self) → refuses a a [] };
+
+    ghost refuses_more: { (a b c : Self) (ps qs : List (List ℕ)) → refuses a b ps
+        → refuses b c qs → refuses a c (ps ++ qs) };
+
+    /// Whatever calls were made, some paths were refused, or none.
+    ghost refuses_some: { (a b : Self) → Grows (failed a) (failed b)
+        → (ps : List (List ℕ)) × refuses a b ps };
 
     /// How many calls have failed.
     fn failures(&self) -> u64
@@ -170,6 +189,7 @@ fn write_fault(alloc: Global, path: &str, fault: FileFault) -> FsFault
 pub fn read<F: Files>(alloc: Global, files: &mut F, path: &str) -> Result<Vec<u8>, FsFault>
     ensures stays { F.stays files.old files.new }
     ensures counted { CountsFailedCall (F.failed files.old) (F.failed files.new) result }
+    ensures refused_none { F.refuses files.old files.new [] }
     ensures bytes { IfOk result (λ bytes. F.tells →
         F.bytes_at files.old path.now ≡ Some bytes.items) }
     ensures same { F.tells → KeepsAll (F.bytes_at files.old) (F.bytes_at files.new) }
@@ -187,6 +207,7 @@ pub fn read<F: Files>(alloc: Global, files: &mut F, path: &str) -> Result<Vec<u8
 pub fn read_to_string<F: Files>(alloc: Global, files: &mut F, path: &str) -> Result<String, FsFault>
     ensures stays { F.stays files.old files.new }
     ensures ok { OnOk result (GrowsBy 0 (F.failed files.old) (F.failed files.new)) }
+    ensures refused_none { F.refuses files.old files.new [] }
     ensures text { IfOk result (λ text. F.tells →
         F.bytes_at files.old path.now ≡ Some (string_bytes text)) }
     ensures same { F.tells → KeepsAll (F.bytes_at files.old) (F.bytes_at files.new) }
@@ -207,6 +228,7 @@ pub fn read_to_string<F: Files>(alloc: Global, files: &mut F, path: &str) -> Res
 pub fn exists<F: Files>(alloc: Global, files: &mut F, path: &str) -> Result<bool, FsFault>
     ensures stays { F.stays files.old files.new }
     ensures counted { CountsFailedCall (F.failed files.old) (F.failed files.new) result }
+    ensures refused_none { F.refuses files.old files.new [] }
     ensures there { IfOk result (λ there. F.tells →
         IsTrue there ↔ IsSome (F.bytes_at files.old path.now)) }
     ensures same { F.tells → KeepsAll (F.bytes_at files.old) (F.bytes_at files.new) }
@@ -230,6 +252,7 @@ pub fn write<F: Files>(
 ) -> Result<(), FsFault>
     ensures stays { F.stays files.old files.new }
     ensures counted { CountsFailedCall (F.failed files.old) (F.failed files.new) result }
+    ensures refused_path { F.refuses files.old files.new (refused_path result path.now) }
     ensures written { OnOk result (F.tells → F.bytes_at files.new path.now ≡ Some bytes.now) }
     ensures others { F.tells → KeepsOthers path.now (F.bytes_at files.old) (F.bytes_at files.new) }
     ensures traced { OnOk result (F.whole → Makes (puts path.now bytes.now ∷ [])

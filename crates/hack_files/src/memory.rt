@@ -1,8 +1,9 @@
 //! Files in memory, which keep each change that was made.
 
-ghost use Rattle.std.specs.Prelude.{◌≡◌, ◌++◌, ◌∷◌, [], List, ℕ, None, OnOk, OnErr, map};
+ghost use Rattle.std.specs.Prelude.{◌≡◌, ◌++◌, ◌∷◌, [], List, ℕ, None, OnOk, OnErr, length, map};
 ghost use Rattle.std.specs.Option.{option_map};
-ghost use Rattle.hack_files.specs.Files.{Change};
+ghost use Rattle.hack_files.specs.Files.{Change, GrowsAtLeastBy};
+ghost use Rattle.hack_files.specs.RefusalLaws.{at_least_none, at_least_more, at_least_some};
 ghost use Rattle.hack_files.specs.Memory.{held_after, change_of};
 
 use crate::fs::{FileFault, Files, count_failure};
@@ -87,6 +88,15 @@ impl Files for MemoryFiles {
     ghost stays_none = { λ _. tt };
 
     ghost stays_more = { λ _ _ _ _ _. tt };
+
+    ghost refuses = { λ old new paths. GrowsAtLeastBy (length paths) old.failures new.failures };
+
+    ghost refuses_none = { λ files. at_least_none files.failures };
+
+    ghost refuses_more = { λ a b c ps qs.
+        at_least_more ps qs a.failures b.failures c.failures };
+
+    ghost refuses_some = { λ a b grown. at_least_some a.failures b.failures grown };
 
     ghost bytes_at = { λ files. held_after files.steps.items };
 

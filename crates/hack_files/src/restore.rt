@@ -6,10 +6,10 @@ ghost use Rattle.std.specs.Prelude.{OnOk, OnErr, IfErr, IsTrue};
 ghost use Rattle.std.specs.Bool.{OnTrue, OnFalse};
 ghost use Rattle.hack_files.specs.Files.{CountsFailedCall, KeepsAll, KeepsOthers};
 ghost use Rattle.hack_base.specs.Counters.{GrowsBy};
-ghost use Rattle.hack_files.specs.Files.{Makes, MakesOrNot, Change};
+ghost use Rattle.hack_files.specs.Files.{Makes, MakesOrNot, Change, refused_path};
 ghost use Rattle.hack_files.specs.Faults.{IsOfWrite};
 ghost use Rattle.hack_files.specs.Restore.{Kept, kept_file, registered_files, is_kept, kept_too};
-ghost use Rattle.hack_files.specs.Restore.{Brings, Tried, write_of};
+ghost use Rattle.hack_files.specs.Restore.{Brings, ComesBackBut, Tried, write_of};
 
 use crate::fs::{FileFault, Files, FsFault};
 use hack_term::term::Term;
@@ -132,12 +132,13 @@ impl Manager {
         ensures stays { F.stays files.old files.new }
         ensures counted { CountsFailedCall (F.failed files.old) (F.failed files.new) result }
         ensures none { registered_files self.old ≡ [] → (result ≡ Ok tt) ×
-            (registered_files self.new ≡ [])
+            (registered_files self.new ≡ []) × F.refuses files.old files.new []
             × (F.tells → KeepsAll (F.bytes_at files.old) (F.bytes_at files.new)) }
         ensures left { (file : Kept) (earlier : List Kept) →
             registered_files self.old ≡ earlier ++ file ∷ [] → registered_files self.new ≡ earlier }
         ensures back { (file : Kept) (earlier : List Kept) →
             registered_files self.old ≡ earlier ++ file ∷ [] → IfErr result (IsOfWrite file.path)
+            × F.refuses files.old files.new (refused_path result file.path)
             × (F.tells → KeepsOthers file.path (F.bytes_at files.old) (F.bytes_at files.new)
             × OnOk result (F.bytes_at files.new file.path ≡ Some file.bytes)) }
         ensures untraced { registered_files self.old ≡ [] → F.whole → Makes [] (F.trace files.old)
@@ -169,6 +170,8 @@ impl Manager {
         ensures counted { GrowsBy result (F.failed files.old) (F.failed files.new) }
         ensures restored { F.tells → Brings (registered_files self)
             (F.bytes_at files.old) (F.bytes_at files.new) result }
+        ensures refused { ComesBackBut (F.refuses files.old files.new) F.tells
+            (registered_files self) (F.bytes_at files.old) (F.bytes_at files.new) result }
         ensures tried { F.whole → (made : List Change) × Tried (registered_files self) made result
             × Makes made (F.trace files.old) (F.trace files.new)
             (F.bytes_at files.old) (F.bytes_at files.new) }
@@ -202,6 +205,8 @@ impl Saved {
     ) -> bool
         ensures stays { F.stays files.old files.new }
         ensures counted { GrowsBy (cond result 0 1) (F.failed files.old) (F.failed files.new) }
+        ensures refused_path { F.refuses files.old files.new
+            (cond result [] ((kept_file self.now).path ∷ [])) }
         ensures written { OnTrue result (F.tells →
             F.bytes_at files.new (kept_file self.now).path ≡ Some (kept_file self.now).bytes) }
         ensures others { F.tells →

@@ -1,6 +1,6 @@
 -- What calls of files keep.
 use Rattle.std.specs.Prelude.{◌≡◌, [], ℕ, List, IsTrue, Result, string_bytes}
-use Rattle.hack_files.specs.Files.{CountsFailedCall, KeepsAll, KeepsOthers, Makes}
+use Rattle.hack_files.specs.Files.{CountsFailedCall, KeepsAll, KeepsOthers, Makes, refused_path}
 use Rattle.hack_files.specs.declared.fs.Files.{Ghosts as Filing}
 use Rattle.hack_journal.specs.LockfilesApart.{is_lockfile}
 use Rattle.hack_journal.specs.Rows.{Spot}
@@ -12,6 +12,7 @@ use Rattle.hack_journal.specs.declared.journaled.Journaled.{Journaled}
 pub record OnlyLooks {F T E : Type 0} (f : Filing F) (old new : F) (result : Result T E) : Type 0 where
   pub stays : f.stays old new
   pub counted : CountsFailedCall (f.failed old) (f.failed new) result
+  pub refused_none : f.refuses old new []
   pub same : f.tells → KeepsAll (f.bytes_at old) (f.bytes_at new)
   pub untraced : f.whole → Makes [] (f.trace old) (f.trace new) (f.bytes_at old) (f.bytes_at new)
 
@@ -19,6 +20,7 @@ pub record OnlyLooks {F T E : Type 0} (f : Filing F) (old new : F) (result : Res
 pub record ChangesOnly {F T E : Type 0} (f : Filing F) (path : List ℕ) (old new : F) (result : Result T E) : Type 0 where
   pub stays : f.stays old new
   pub counted : CountsFailedCall (f.failed old) (f.failed new) result
+  pub refused_path : f.refuses old new (refused_path result path)
   pub others : f.tells → KeepsOthers path (f.bytes_at old) (f.bytes_at new)
 
 -- a call at a lockfile leaves the other files alone, and any other call the lockfiles

@@ -4,6 +4,9 @@
 //! other files have a journal, writes of lockfiles don't go through it.
 
 ghost use Rattle.std.specs.Prelude.{◌≡◌, ◌↔◌, [], None, Some, IfOk, OnOk, IsTrue, IsSome};
+ghost use Rattle.std.specs.Prelude.{length};
+ghost use Rattle.hack_files.specs.Files.{GrowsAtLeastBy};
+ghost use Rattle.hack_files.specs.RefusalLaws.{at_least_none, at_least_more, at_least_some};
 ghost use Rattle.hack_journal.specs.LockfilesApart.{is_lockfile, apart, KeepsLockfiles};
 
 use hack_files::fs::{FileFault, Files, counted};
@@ -60,6 +63,15 @@ impl<A: Files, B: Files> Files for Apart<A, B> {
       B.stays_more a.lockfiles b.lockfiles c.lockfiles f.1 g.1,
       λ t q lock. g.2 t q lock ∙ f.2 t q lock,
     ) };
+
+    ghost refuses = { λ old new paths. GrowsAtLeastBy (length paths) old.failures new.failures };
+
+    ghost refuses_none = { λ files. at_least_none files.failures };
+
+    ghost refuses_more = { λ a b c ps qs.
+        at_least_more ps qs a.failures b.failures c.failures };
+
+    ghost refuses_some = { λ a b grown. at_least_some a.failures b.failures grown };
 
     ghost bytes_at = { λ s. apart (A.bytes_at s.files) (B.bytes_at s.lockfiles) };
 

@@ -9,7 +9,8 @@ ghost use Rattle.std.specs.Prelude.{false};
 ghost use Rattle.std.specs.Prelude.{IfOk, OnOk, OnErr, IsTrue, IsSome, ◌↔◌, string_bytes};
 ghost use Rattle.std.specs.Option.{option_map};
 ghost use Rattle.hack_files.specs.Files.{Contents, CountsFailedCall, KeepsOthers, KeepsAll};
-ghost use Rattle.hack_files.specs.Files.{Makes, MakesOrNot};
+ghost use Rattle.hack_files.specs.Files.{Makes, MakesOrNot, GrowsAtLeastBy};
+ghost use Rattle.hack_files.specs.RefusalLaws.{at_least_none, at_least_more, at_least_some};
 ghost use Rattle.hack_journal.specs.Journal.{edit_of};
 ghost use Rattle.hack_journal.specs.Rows.{spot_of, file_at, is_of_journal, IsNoteOf, KeepsBeside};
 ghost use Rattle.hack_journal.specs.SafeFiles.{SomeEntryHasBytes, first_entry_of, AreBack, gives};
@@ -334,6 +335,15 @@ impl<F: Files> Files for Journaled<F> {
           _ f.0 (f.1 tells whole) (g.1 tells whole),
       F.stays_more a.files b.files c.files f.2 g.2,
     ) };
+
+    ghost refuses = { λ old new paths. GrowsAtLeastBy (length paths) old.failures new.failures };
+
+    ghost refuses_none = { λ files. at_least_none files.failures };
+
+    ghost refuses_more = { λ a b c ps qs.
+        at_least_more ps qs a.failures b.failures c.failures };
+
+    ghost refuses_some = { λ a b grown. at_least_some a.failures b.failures grown };
 
     ghost bytes_at = { λ files. without files.notes.journal (F.bytes_at files.files) };
 

@@ -1,7 +1,7 @@
 -- What the files hold after several calls.
 use Rattle.std.proofs.Common.{inl, inr, ℕ, [], ◌∷◌, Result, Ok, Err, refl, sym, ◌∙◌, arith}
 use Rattle.hack_base.specs.Names.{Name}
-use Rattle.hack_files.specs.Files.{Contents, KeepsAll}
+use Rattle.hack_files.specs.Files.{Contents, Grows, KeepsAll}
 use Rattle.hack_base.specs.Counters.{GrowsBy}
 use Rattle.hack_files.specs.Faults.{IsOfText}
 use Rattle.hack_files.specs.declared.fs.FsFault.{FsFault}
@@ -63,3 +63,12 @@ text-may path tells a b x y (fs.Write p) keep h = absurd h
 text-may path tells a b x y (fs.NotText p) keep h = inl (h.1, keep)
 text-may path tells a b x y fs.Memory keep (inl h) = inl (h, keep)
 text-may path tells a b x y fs.Memory keep (inr h) = inr (h, keep)
+
+may-grow : (tells : Type 0) (a b : Contents) (x y : ℕ) → MayFail tells a b x y → Grows x y × (tells → KeepsAll a b)
+may-grow tells a b x y (inl h) = ((0, h.0), h.1)
+may-grow tells a b x y (inr h) = ((1, h.0), h.1)
+
+-- by how much the count of failures went up while files were read, and that each holds what it held
+pub reads-grow : {X E : Type 0} (tells : Type 0) (a b : Contents) (x y : ℕ) (r : Result X E) → ReadsOnly tells a b x y r → Grows x y × (tells → KeepsAll a b)
+reads-grow tells a b x y (Ok v) h = ((0, h.0), h.1)
+reads-grow tells a b x y (Err e) h = may-grow tells a b x y h

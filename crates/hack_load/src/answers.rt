@@ -2,6 +2,7 @@
 //! workspace, the manifests of its members, and the current manifest.
 
 ghost use Rattle.std.specs.Prelude.{◌≡◌, Err, IfOk, OnOk, option_copied};
+ghost use Rattle.hack_files.specs.Files.{KeepsAllBut};
 ghost use Rattle.hack_files.specs.Restore.{registered_files};
 ghost use Rattle.hack_load.specs.Answers.{AreAnswers, LoadsFromMetadata, IsAskFault, IsLoaded};
 ghost use Rattle.hack_load.specs.Answers.{LoadsTo};
@@ -45,6 +46,8 @@ impl Answers {
         ensures stays { F.stays files.old files.new }
         ensures left { LeavesFew F.tells (F.bytes_at files.old) (F.bytes_at files.new)
             (F.failed files.old) (F.failed files.new) }
+        ensures spoilt { KeepsAllBut (F.refuses files.old files.new) F.tells
+            (F.bytes_at files.old) (F.bytes_at files.new) }
         ensures whole { OnOk result.loaded (Whole F.tells (F.bytes_at files.old)
             (F.bytes_at files.new) (F.failed files.old) (F.failed files.new)) }
         ensures kept { registered_files manager.new ≡ registered_files manager.old }
@@ -105,6 +108,8 @@ impl<'a, 'h> Asker<'a, 'h> {
         ensures stays { F.stays files.old files.new }
         ensures left { LeavesFew F.tells (F.bytes_at files.old) (F.bytes_at files.new)
             (F.failed files.old) (F.failed files.new) }
+        ensures spoilt { KeepsAllBut (F.refuses files.old files.new) F.tells
+            (F.bytes_at files.old) (F.bytes_at files.new) }
         ensures whole { OnOk result (Whole F.tells (F.bytes_at files.old)
             (F.bytes_at files.new) (F.failed files.old) (F.failed files.new)) }
         ensures kept { registered_files manager.new ≡ registered_files manager.old }

@@ -8,3 +8,4 @@ mod TextLemmas
 mod MatchCases
 mod MatchLemmas
 mod WholeLemmas
+mod SpoiltLemmas

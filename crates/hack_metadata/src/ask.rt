@@ -3,7 +3,7 @@
 
 ghost use Rattle.std.specs.Prelude.{◌≡◌, ◌⊎◌, ◌∷◌, [], ℕ, List, Some, None, IfOk, IfErr};
 ghost use Rattle.std.specs.Prelude.{OnOk, OnErr, MatchOption, option_copied, string_bytes, true};
-ghost use Rattle.hack_files.specs.Files.{Makes};
+ghost use Rattle.hack_files.specs.Files.{KeepsAll, KeepsAllBut, Makes};
 ghost use Rattle.hack_files.specs.Restore.{registered_files};
 ghost use Rattle.hack_process.specs.Calls.{Call, MayAdd};
 ghost use Rattle.hack_process.specs.Commands.{asked_of, command_of};
@@ -40,7 +40,9 @@ impl Metadata {
     /// Asks cargo, whose minor version and host are given, for the metadata of the workspace; or
     /// stable's cargo where that is newer. Before stable's cargo runs, the lockfile is made where
     /// there is none; after it, the lockfile is written back. Where stable's cargo fails, the
-    /// answer of cargo itself is used.
+    /// answer of cargo itself is used. At most the lockfile is written, and nothing but a refused
+    /// write of it leaves it changed.
+    #[tactic(auto, using(crate::proofs::SpoiltLemmas::unspoilt))]
     pub fn new<C: Caller, F: Files>(
         alloc: Global,
         args: &Args,
@@ -54,6 +56,8 @@ impl Metadata {
         ensures stays { F.stays files.old files.new }
         ensures left { (path : List ℕ) × LeavesFiles path F.tells (F.bytes_at files.old)
             (F.bytes_at files.new) (F.failed files.old) (F.failed files.new) result }
+        ensures spoilt { KeepsAllBut (F.refuses files.old files.new) F.tells
+            (F.bytes_at files.old) (F.bytes_at files.new) }
         ensures kept { registered_files manager.new ≡ registered_files manager.old }
         ensures needs { manager.new.needs_restore ≡ manager.old.needs_restore }
         ensures ends { C.tells → EndsSo F.tells
@@ -150,6 +154,8 @@ impl<'a> Question<'a> {
         ensures stays { F.stays files.old files.new }
         ensures left { (path : List ℕ) × LeavesFiles path F.tells (F.bytes_at files.old)
             (F.bytes_at files.new) (F.failed files.old) (F.failed files.new) result }
+        ensures spoilt { KeepsAllBut (F.refuses files.old files.new) F.tells
+            (F.bytes_at files.old) (F.bytes_at files.new) }
         ensures kept { registered_files manager.new ≡ registered_files manager.old }
         ensures needs { manager.new.needs_restore ≡ manager.old.needs_restore }
         ensures ends { C.tells → (start : List Call) → LeadsToStage F.tells (question_of self.now)
@@ -213,6 +219,7 @@ impl<'a> Question<'a> {
         ensures left { LeavesFiles lockfile.now F.tells (F.bytes_at files.old)
             (F.bytes_at files.new)
             (F.failed files.old) (F.failed files.new) result }
+        ensures same { F.tells → KeepsAll (F.bytes_at files.old) (F.bytes_at files.new) }
         ensures untraced { F.whole → Makes [] (F.trace files.old) (F.trace files.new)
             (F.bytes_at files.old) (F.bytes_at files.new) }
         ensures ok { OnOk result (C.tells → (start : List Call) (minor : ℕ) (text : List ℕ)
@@ -248,6 +255,8 @@ impl<'a> Question<'a> {
         ensures left { LeavesFiles over.now.lockfile.now F.tells (F.bytes_at files.old)
             (F.bytes_at files.new)
             (F.failed files.old) (F.failed files.new) result }
+        ensures spoilt { KeepsAllBut (F.refuses files.old files.new) F.tells
+            (F.bytes_at files.old) (F.bytes_at files.new) }
         ensures kept { registered_files manager.new ≡ registered_files manager.old }
         ensures needs { manager.new.needs_restore ≡ manager.old.needs_restore }
         ensures ok { IfOk result (λ told. C.tells → MatchOption told

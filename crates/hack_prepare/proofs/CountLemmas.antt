@@ -8,7 +8,7 @@ use Rattle.hack_files.specs.declared.fs.FsFault.TheVariants as fs
 use Rattle.hack_prepare.specs.FailureCounts.{CountsCalls, CountsFault, CountsFile}
 use Rattle.hack_prepare.specs.Faults.{IsDevFault, IsPrivateFault}
 use Rattle.hack_prepare.specs.Internal.{IsOfFile}
-use Rattle.hack_prepare.specs.EditSteps.{Grows}
+use Rattle.hack_files.specs.Files.{Grows}
 use Rattle.hack_prepare.specs.declared.fault.PrepareFault.{PrepareFault}
 use Rattle.hack_prepare.specs.declared.fault.PrepareFault.TheVariants.{Memory, PrivateRoot, Files, Toml, InlineTarget, WorkspaceForm, PathText, ReadBack}
 

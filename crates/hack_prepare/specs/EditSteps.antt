@@ -1,16 +1,11 @@
--- What a step of the edits does to files, to what is kept, and to the count of failures.
+-- What a step of the edits does to files and to what is kept.
 use Rattle.std.specs.Prelude.{◌≡◌, ◌⊎◌, ◌++◌, ◌∷◌, [], ℕ, true, false, List, Some, MatchOption}
 use Rattle.std.specs.List.{find}
 use Rattle.hack_base.specs.Names.{Name}
 use Rattle.hack_files.specs.Files.{Contents}
-use Rattle.hack_base.specs.Counters.{GrowsBy}
 use Rattle.hack_files.specs.Restore.{Kept, is_kept, registered_files}
 use Rattle.hack_files.specs.declared.restore.Manager.{Manager}
 use Rattle.hack_prepare.specs.Prepared.{MemberManifest, Wanted, is_root}
-
--- some calls failed, or none
-abbrev pub Grows : ℕ → ℕ → Type 0
-Grows before now = (k : ℕ) × GrowsBy k before now
 
 -- a path that is kept was kept before, or is one of these
 abbrev pub KeepsOnly : (Name → Type 0) → Manager → Manager → Type 0

@@ -3,9 +3,10 @@
 ghost use Rattle.std.specs.Prelude.{◌≡◌, ◌<◌, ◌↔◌, ◌⊎◌, ◌||◌, IfErr, IfOk, IfSome, OnOk, IsTrue};
 ghost use Rattle.std.specs.Prelude.{OnErr};
 ghost use Rattle.std.specs.Prelude.{List, false, map, true};
-ghost use Rattle.hack_files.specs.Files.{Change, Contents, Makes};
+ghost use Rattle.hack_files.specs.Files.{Change, Contents, Grows, Makes};
 ghost use Rattle.hack_base.specs.Counters.{GrowsBy};
-ghost use Rattle.hack_files.specs.Restore.{AreSafe, Brings, Tried, is_kept, registered_files};
+ghost use Rattle.hack_files.specs.Restore.{AreSafe, Brings, ComesBackBut, Tried, is_kept};
+ghost use Rattle.hack_files.specs.Restore.{registered_files};
 ghost use Rattle.hack_load.specs.ContextView.{context_view};
 ghost use Rattle.hack_base.specs.Names.{Name};
 ghost use Rattle.hack_base.specs.Notes.{note_of};
@@ -21,7 +22,7 @@ ghost use Rattle.hack_prepare.specs.PreparedView.{AreWritesIn, BeginWritesIn};
 ghost use Rattle.hack_prepare.specs.PreparedView.{edits_in, notes_in};
 ghost use Rattle.hack_prepare.specs.Internal.{members_view};
 ghost use Rattle.hack_prepare.specs.PreparedView.{wanted_in, wanted_view};
-ghost use Rattle.hack_prepare.specs.EditSteps.{Grows, KeepsHeld, KeepsOnly};
+ghost use Rattle.hack_prepare.specs.EditSteps.{KeepsHeld, KeepsOnly};
 ghost use Rattle.hack_prepare.specs.Internal.{IsStep};
 ghost use Rattle.hack_prepare.specs.EditNotes.{notes};
 ghost use Rattle.hack_prepare.specs.Writes.{AreWrites, BeginWrites, MakesSome};
@@ -222,6 +223,8 @@ pub fn finish<F: Files, W: Write>(
     ensures counted { GrowsBy result (F.failed files.old) (F.failed files.new) }
     ensures restored { F.tells → Brings (registered_files manager)
         (F.bytes_at files.old) (F.bytes_at files.new) result }
+    ensures refused { ComesBackBut (F.refuses files.old files.new) F.tells
+        (registered_files manager) (F.bytes_at files.old) (F.bytes_at files.new) result }
     ensures tried { F.whole → (made : List Change) × Tried (registered_files manager) made result
         × Makes made (F.trace files.old) (F.trace files.new)
         (F.bytes_at files.old) (F.bytes_at files.new) }

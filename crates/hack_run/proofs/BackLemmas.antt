@@ -3,14 +3,13 @@ use Rattle.std.proofs.Common.{◌≡◌, ◌+◌, ◌-◌, ◌<◌, ◌∙◌, �
 use Rattle.std.proofs.lemmas.List.{length-append, length-replicate}
 use Rattle.std.proofs.lemmas.List.Elements.{Contains-append_left, Contains-append_right}
 use Rattle.hack_base.specs.Names.{Name}
-use Rattle.hack_files.specs.Files.{Contents, KeepsAll}
+use Rattle.hack_files.specs.Files.{Contents, Grows, KeepsAll}
 use Rattle.hack_base.specs.Counters.{GrowsBy}
 use Rattle.hack_files.specs.Restore.{AreSafe, Brings, Kept, registered_files}
 use Rattle.hack_files.specs.declared.restore.Manager.{Manager}
 use Rattle.hack_files.proofs.RestoreLemmas.{grows_more}
 use Rattle.hack_files.proofs.SafeLemmas.{safe_back, safe_none}
 use Rattle.hack_load.specs.FilesAfterLoading.{LeavesFew}
-use Rattle.hack_prepare.specs.EditSteps.{Grows}
 use Rattle.hack_run.specs.TemporaryEdits.{IsClean}
 use Rattle.hack_run.specs.Worlds.{FilesView}
 

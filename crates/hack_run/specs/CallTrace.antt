@@ -8,6 +8,8 @@ use Rattle.std.proofs.Common.{Global, String}
 use Rattle.hack_base.specs.Names.{Name}
 use Rattle.hack_base.specs.Notes.{Note}
 use Rattle.hack_base.specs.Writes.{AppendsFront}
+use Rattle.hack_term.specs.declared.term.Coloring.{Coloring}
+use Rattle.hack_term.specs.declared.term.Coloring.TheVariants.{Auto, Always, Never}
 use Rattle.hack_load.specs.ContextOf.{IsContextFrom}
 use Rattle.hack_load.specs.Contexts.{ContextRecord}
 use Rattle.hack_load.specs.declared.answers.Answers.{Answers}
@@ -138,3 +140,9 @@ pub record IsCallTrace (done : Bool) (tells : Type 0) (words : List Name) (env :
   pub asked : MayAdd (rustup_asked (string_bytes env.rustup)) old.host.calls mid
   pub needed : wants_rustup words ≡ false → mid ≡ old.host.calls
   pub behind : Stops done mid old.host new.host ⊎ ReadsAndObeys done tells words env mid old new
+
+-- the colouring of a call: what `--color` asks for, and under `auto` that of its terminal
+abbrev pub colored_by : Coloring → Coloring → Coloring
+colored_by Auto own = own
+colored_by Always own = Always
+colored_by Never own = Never

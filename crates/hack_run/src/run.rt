@@ -6,9 +6,11 @@ ghost use Rattle.std.specs.Io.KnownBytes.{Appends};
 ghost use Rattle.hack_base.specs.Names.{names_of};
 ghost use Rattle.hack_base.specs.Notes.{note_of};
 ghost use Rattle.hack_base.specs.Writes.{AppendsFront};
+ghost use Rattle.hack_files.specs.Files.{KeepsAllBut};
 ghost use Rattle.hack_process.specs.Calls.{IsSuccess, MayAdd};
 ghost use Rattle.hack_process.specs.Faults.{GotAnswer};
-ghost use Rattle.hack_run.specs.CallTrace.{IsCallTrace, Obeys, listing_asked, warned_by};
+ghost use Rattle.hack_run.specs.CallTrace.{IsCallTrace, Obeys, colored_by, listing_asked};
+ghost use Rattle.hack_run.specs.CallTrace.{warned_by};
 ghost use Rattle.hack_run.specs.Questions.{rustup_asked};
 ghost use Rattle.hack_run.specs.Readings.{IsEarlyReadingOrRefusal};
 ghost use Rattle.hack_run.specs.TemporaryEdits.{BringsBack, ComesBack, IsClean, RestoresEdits};
@@ -76,6 +78,12 @@ pub fn run<F: Files, C: Caller, O: Write, E: Write>(
     ensures back { RestoresEdits host.old.env.now (names_of words.now) → F.tells
         → BringsBack (files_view F.Files files.old) (files_view F.Files files.new) }
 
+    // And these are paths whose writes were refused in this call: no other failure leaves a path
+    // changed.
+    ensures spoilt { RestoresEdits host.old.env.now (names_of words.now)
+        → KeepsAllBut (F.refuses files.old files.new) F.tells
+        (F.bytes_at files.old) (F.bytes_at files.new) }
+
     // A call of the files that failed is reported as an error: where none was reported, none
     // failed, and each path holds what it held, unless the command line asks for edits that stay.
     ensures clean { host.new.term.now.error ≡ false
@@ -110,6 +118,9 @@ fn read<F: Files, C: Caller, O: Write, E: Write>(
         (world_of F.Files C.Caller O.Write files.new host.new) }
     ensures back { RestoresEdits host.old.env.now (names_of words.now) → F.tells
         → BringsBack (files_view F.Files files.old) (files_view F.Files files.new) }
+    ensures spoilt { RestoresEdits host.old.env.now (names_of words.now)
+        → KeepsAllBut (F.refuses files.old files.new) F.tells
+        (F.bytes_at files.old) (F.bytes_at files.new) }
     ensures clean { OnOk result (host.new.term.now.error ≡ false
         → IsClean (RestoresEdits host.old.env.now (names_of words.now)) F.tells
         (files_view F.Files files.old) (files_view F.Files files.new)) }
@@ -148,6 +159,8 @@ fn obey<F: Files, C: Caller, O: Write, E: Write>(
         (world_of F.Files C.Caller O.Write files.new host.new) }
     ensures back { ComesBack parsed → F.tells
         → BringsBack (files_view F.Files files.old) (files_view F.Files files.new) }
+    ensures spoilt { ComesBack parsed → KeepsAllBut (F.refuses files.old files.new) F.tells
+        (F.bytes_at files.old) (F.bytes_at files.new) }
     ensures clean { OnOk result (host.new.term.now.error ≡ false
         → IsClean (ComesBack parsed) F.tells
         (files_view F.Files files.old) (files_view F.Files files.new)) }
@@ -171,6 +184,7 @@ fn dress(term: &mut Term, args: &Args)
     ensures error { term.new.error ≡ term.old.error }
     ensures warn { term.new.warn ≡ term.old.warn }
     ensures verbose { term.new.verbose ≡ args.now.verbose }
+    ensures coloring { term.new.coloring ≡ colored_by args.now.coloring term.old.coloring }
 {
     term.verbose = args.verbose;
     if args.coloring != Coloring::Auto {

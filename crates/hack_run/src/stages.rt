@@ -9,7 +9,7 @@ ghost use Rattle.hack_load.specs.ContextOf.{IsContextFrom, warnings_of};
 ghost use Rattle.hack_load.specs.ContextView.{context_view};
 ghost use Rattle.hack_load.specs.CargoQuestions.{told_version};
 ghost use Rattle.hack_prepare.specs.PreparedView.{HoldTextsIn, IsPreparedIn, notes_in};
-ghost use Rattle.hack_prepare.specs.EditSteps.{Grows};
+ghost use Rattle.hack_files.specs.Files.{Grows, KeepsAllBut};
 ghost use Rattle.hack_run.specs.CallTrace.{AfterLoading, LoadsAndPerforms};
 ghost use Rattle.hack_run.specs.Internal.{MayPerformItsPlan, PerformsItsPlan};
 ghost use Rattle.hack_run.specs.TemporaryEdits.{BringsBack, IsClean};
@@ -53,6 +53,8 @@ pub(crate) fn perform<F: Files, C: Caller, O: Write, E: Write>(
         (world_of F.Files C.Caller O.Write files.new host.new) }
     ensures back { args.remove_dev_deps ≡ false → F.tells
         → BringsBack (files_view F.Files files.old) (files_view F.Files files.new) }
+    ensures spoilt { args.remove_dev_deps ≡ false → KeepsAllBut (F.refuses files.old files.new)
+        F.tells (F.bytes_at files.old) (F.bytes_at files.new) }
     ensures clean { OnOk result (host.new.term.now.error ≡ false
         → IsClean (args.remove_dev_deps ≡ false) F.tells
         (files_view F.Files files.old) (files_view F.Files files.new)) }

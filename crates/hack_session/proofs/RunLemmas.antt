@@ -202,3 +202,7 @@ all_passed step = λ k d lt. go k d lt
     go : (k : ℕ) (d : Handed) → k < length {A = Handed} (record { step = step; outcome = Passed } ∷ []) → HasPassed (get_or (record { step = step; outcome = Passed } ∷ []) k d)
     go zero d lt = refl
     go (suc k) d lt = absurd (omega arith)
+
+-- a step that failed isn't among steps that all passed
+pub not_passed : {X : Type 0} (step : Step) → All HasPassed (record { step = step; outcome = Failed } ∷ []) → X
+not_passed step all = let e : Failed ≡ Passed = all 0 (record { step = step; outcome = Failed }) (omega arith) in cc

@@ -1,12 +1,16 @@
 -- Calls of steps, one after the other: what the laws of runners need.
-use Rattle.std.proofs.Common.{◌≡◌, ◌⊎◌, inl, inr, ◌+◌, ℕ, List, [], ◌∷◌, ◌++◌, refl, sym, ◌∙◌, ap, append_assoc, append-nil, arith}
+use Rattle.std.proofs.Common.{◌≡◌, ◌⊎◌, inl, inr, ◌+◌, ℕ, List, [], ◌∷◌, ◌++◌, Option, refl, sym, ◌∙◌, ap, append_assoc, append-nil, arith}
 use Rattle.std.specs.Prelude.{All}
 use Rattle.std.proofs.lemmas.List.Elements.{All-append}
+use Rattle.hack_samples.proofs.ShowLemmas.{all-left}
+use Rattle.hack_suspects.proofs.PatternLemmas.{all-right}
 use Rattle.hack_process.specs.Calls.{Call}
 use Rattle.hack_plan.specs.View.{PlanView}
 use Rattle.hack_session.specs.declared.step.Handed.{Handed}
 use Rattle.hack_session.specs.Histories.{HasPassed}
-use Rattle.hack_session.specs.StepCalls.{PerformsAll, HasPerformed}
+use Rattle.hack_session.specs.StepCalls.{PerformsAll, HasPerformed, IsQuiet}
+use Rattle.hack_process.specs.declared.fault.ProcessFault.{ProcessFault}
+use Rattle.hack_term.specs.declared.term.Term.{Term}
 use Rattle.hack_base.specs.Counters.{GrowsBy}
 
 pub grows_more : (k l a b c : ℕ) → GrowsBy k a b → GrowsBy l b c → GrowsBy (k + l) a c
@@ -40,3 +44,10 @@ passed_or P Q R steps more (inl a) f (inl b) = inl (All-append P steps more a b)
 
 pub none_passed : All HasPassed []
 none_passed = λ k d lt. absurd (omega arith)
+
+-- where all steps pass, nothing is reported in the first, nor in the others
+pub quiet_more : (P : Handed → Type 0) (steps more : List Handed) (a b c : Term) (x y z : Option ProcessFault) → (All P steps → IsQuiet a b x y) → (All P more → IsQuiet b c y z) → All P (steps ++ more) → IsQuiet a c x z
+quiet_more P steps more a b c x y z f g all =
+    let first = f (all-left P steps more all) in
+    let later = g (all-right P steps more all) in
+    (later.0 ∙ first.0, later.1 ∙ first.1)

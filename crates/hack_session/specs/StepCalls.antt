@@ -177,3 +177,7 @@ pub record HasPerformed (plan : PlanView) (steps : List Handed) (old new : List 
 -- a failure was reported: an error line was printed, or an error is kept for the last line
 abbrev pub HasTold : Term → Option ProcessFault → Type 0
 HasTold term fault = (term.error ≡ true) ⊎ IsSome fault
+
+-- nothing was reported: the terminal notes just what it did, and just the same error is kept
+abbrev pub IsQuiet : Term → Term → Option ProcessFault → Option ProcessFault → Type 0
+IsQuiet term later fault after = (later ≡ term) × (after ≡ fault)

@@ -5,9 +5,9 @@ ghost use Rattle.std.proofs.Common.{◌∙◌, refl, inl};
 ghost use Rattle.hack_base.specs.Writes.{Writes};
 ghost use Rattle.hack_session.specs.Histories.{HasPassed};
 ghost use Rattle.hack_session.specs.References.{IsHandedOver};
-ghost use Rattle.hack_session.specs.StepCalls.{HasPerformed, HasTold};
+ghost use Rattle.hack_session.specs.StepCalls.{HasPerformed, HasTold, IsQuiet};
 ghost use Rattle.hack_session.specs.JoinedCalls.{performed_none, performed_more, none_passed};
-ghost use Rattle.hack_session.specs.JoinedCalls.{passed_or};
+ghost use Rattle.hack_session.specs.JoinedCalls.{passed_or, quiet_more};
 ghost use Rattle.hack_session.specs.JoinedOutput.{error_alone, manner_stays, shown_more};
 ghost use Rattle.hack_session.specs.JoinedOutput.{shown_none};
 ghost use Rattle.hack_session.specs.StepOutput.{HasShown, is_run as is_run_step, manner_of};
@@ -105,7 +105,8 @@ impl<C: Caller, O: Sink, E: Sink> Runner for Starter<'_, C, O, E> {
         × HasShown a.keep_going (manner_of a.log_group a.term.now) plan steps
         (streams O.contents O.failed E.contents E.failed a.out.now a.err.now)
         (streams O.contents O.failed E.contents E.failed b.out.now b.err.now)
-        a.refused b.refused };
+        a.refused b.refused
+        × (All HasPassed steps → IsQuiet a.term.now b.term.now a.fault.now b.fault.now) };
 
     ghost ran_none = { λ plan a. (
       refl,
@@ -122,6 +123,7 @@ impl<C: Caller, O: Sink, E: Sink> Runner for Starter<'_, C, O, E> {
       refl,
       shown_none a.keep_going (manner_of a.log_group a.term.now) plan
           (streams O.contents O.failed E.contents E.failed a.out.now a.err.now) a.refused,
+      λ passed. (refl, refl),
     ) };
 
     ghost ran_more = { λ plan steps more a b c p q. (
@@ -146,6 +148,8 @@ impl<C: Caller, O: Sink, E: Sink> Runner for Starter<'_, C, O, E> {
           (streams O.contents O.failed E.contents E.failed c.out.now c.err.now)
           a.refused b.refused c.refused p.9
           (manner_stays a.log_group b.log_group a.term.now b.term.now p.10 p.11) p.12 q.12,
+      quiet_more HasPassed steps more a.term.now b.term.now c.term.now a.fault.now b.fault.now
+          c.fault.now p.13 q.13,
     ) };
 
     fn step(&mut self, plan: &Plan, step: Step) -> Outcome {

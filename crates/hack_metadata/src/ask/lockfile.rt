@@ -2,7 +2,7 @@
 
 ghost use Rattle.std.specs.Prelude.{◌≡◌, ◌↔◌, ◌++◌, ◌∷◌, [], List, ℕ, Some, IfOk, IfErr, OnOk};
 ghost use Rattle.std.specs.Prelude.{OnErr, IsOk, IsTrue, IsSome};
-ghost use Rattle.hack_files.specs.Files.{KeepsAll, Makes, MakesOrNot};
+ghost use Rattle.hack_files.specs.Files.{KeepsAll, Makes, MakesOrNot, refused_path};
 ghost use Rattle.hack_files.specs.Restore.{Kept, registered_files, write_of};
 ghost use Rattle.hack_metadata.specs.FileFaults.{IsUnread};
 ghost use Rattle.hack_metadata.specs.FilesAfterAsking.{LeavesFiles};
@@ -22,6 +22,7 @@ pub(crate) fn is_there<F: Files>(alloc: Global, path: &str, files: &mut F) -> Re
         (F.failed files.old) (F.failed files.new) result }
     ensures there { IfOk result (λ there. F.tells →
         IsTrue there ↔ IsSome (F.bytes_at files.old path.now)) }
+    ensures same { F.tells → KeepsAll (F.bytes_at files.old) (F.bytes_at files.new) }
     ensures untraced { F.whole → Makes [] (F.trace files.old) (F.trace files.new)
         (F.bytes_at files.old) (F.bytes_at files.new) }
     ensures fault { IfErr result (IsFileFault (IsUnread path.now)) }
@@ -49,6 +50,7 @@ pub(crate) fn keep<F: Files>(
     ensures ok { OnOk result (KeepsOneMore path.now F.tells (F.bytes_at files.old)
         (registered_files manager.old) (registered_files manager.new)) }
     ensures err { OnErr result (registered_files manager.new ≡ registered_files manager.old) }
+    ensures same { F.tells → KeepsAll (F.bytes_at files.old) (F.bytes_at files.new) }
     ensures untraced { F.whole → Makes [] (F.trace files.old) (F.trace files.new)
         (F.bytes_at files.old) (F.bytes_at files.new) }
     ensures fault { IfErr result (IsFileFault (IsUnread path.now)) }
@@ -77,6 +79,9 @@ pub(crate) fn put_back<F: Files>(files: &mut F, manager: &mut Manager) -> Result
         → registered_files manager.old ≡ earlier ++ file ∷ [] → F.whole
         → MakesOrNot (write_of file) (F.trace files.old) (F.trace files.new)
         (F.bytes_at files.old) (F.bytes_at files.new)) }
+    ensures refused_path { (file : Kept) (earlier : List Kept)
+        → registered_files manager.old ≡ earlier ++ file ∷ []
+        → F.refuses files.old files.new (refused_path result file.path) }
     ensures none { registered_files manager.old ≡ [] → IsOk result }
     ensures kept { (file : Kept) (earlier : List Kept)
         → registered_files manager.old ≡ earlier ++ file ∷ [] → registered_files manager.new

@@ -1,5 +1,7 @@
 use Rattle.std.proofs.Common.{◌≡◌, OnOk, ap, false, map, refl, subst, sym}
 use Rattle.hack_base.specs.Notes.{note_of}
+use Rattle.hack_files.specs.Files.{KeepsAllBut}
+use Rattle.hack_files.proofs.RefusalLemmas.{but_none}
 use Rattle.hack_term.specs.declared.term.Term.{Term}
 use Rattle.hack_words.specs.declared.cli.parse.Parsed.{Parsed}
 use Rattle.hack_run.specs.TemporaryEdits.{ComesBack, IsClean}
@@ -61,3 +63,13 @@ returns-in-Print-clause-clean g c =
 pub returns-in-List-clause-clean : goal.returns-in-List-clause-clean
 returns-in-List-clause-clean g c =
     clean_rest (c.tell_all-in-List.new.term.error ≡ false) (ComesBack c.args.parsed) g.F.Files.tells (files_view g.F.Files c.args.files.now) c.list_commands.result
+
+pub returns-in-Args-clause-spoilt : goal.returns-in-Args-clause-spoilt
+returns-in-Args-clause-spoilt g c =
+    subst (λ (p : Parsed). ComesBack p → KeepsAllBut (g.F.Files.refuses c.args.files.now c.perform.new.files) g.F.Files.tells (g.F.Files.bytes_at c.args.files.now) (g.F.Files.bytes_at c.perform.new.files)) (sym c.in-Args.is) c.perform.ensures.spoilt
+
+pub returns-in-Print-clause-spoilt : goal.returns-in-Print-clause-spoilt
+returns-in-Print-clause-spoilt g c = λ back. but_none (g.F.Files.refuses c.args.files.now c.args.files.now) _ _ (g.F.Files.refuses_none _)
+
+pub returns-in-List-clause-spoilt : goal.returns-in-List-clause-spoilt
+returns-in-List-clause-spoilt g c = λ back. but_none (g.F.Files.refuses c.args.files.now c.args.files.now) _ _ (g.F.Files.refuses_none _)

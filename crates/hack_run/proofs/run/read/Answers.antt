@@ -1,6 +1,7 @@
 use Rattle.std.proofs.Common.{◌≡◌, ap, false, map}
 use Rattle.hack_base.specs.Names.{names_of}
 use Rattle.hack_base.specs.Notes.{note_of}
+use Rattle.hack_files.proofs.RefusalLemmas.{but_none}
 use Rattle.hack_words.proofs.AnswerLemmas.{answers-never}
 use Rattle.hack_words.specs.ParseAnswers.{around_of}
 use Rattle.hack_run.specs.TemporaryEdits.{ComesBack, RestoresEdits}
@@ -27,3 +28,14 @@ returns-in-Accepted-clause-clean g c =
     let after = rw c.in-Accepted.is at c.in_ok-parsed.ensures.read in
     clean_by (ComesBack c.in-Accepted.parsed) (RestoresEdits c.args.host.now.env.now (names_of c.args.words.now)) (c.obey.new.host.term.now.error ≡ false) g.F.Files.tells (files_view g.F.Files c.args.files.now) (files_view g.F.Files c.obey.new.files) c.obey.result
     (λ back. back after.rustup c.in-Accepted.parsed (map note_of c.in-Accepted.notices.items) after.read) c.obey.ensures.clean
+
+pub returns-in-Accepted-clause-spoilt : goal.returns-in-Accepted-clause-spoilt
+returns-in-Accepted-clause-spoilt g c = λ back.
+    let after = rw c.in-Accepted.is at c.in_ok-parsed.ensures.read in
+    c.obey.ensures.spoilt (back after.rustup c.in-Accepted.parsed (map note_of c.in-Accepted.notices.items) after.read)
+
+pub returns-in-Refused-clause-spoilt : goal.returns-in-Refused-clause-spoilt
+returns-in-Refused-clause-spoilt g c = λ back. but_none (g.F.Files.refuses c.args.files.now c.args.files.now) _ _ (g.F.Files.refuses_none _)
+
+pub returns-in_err-parsed-clause-spoilt : goal.returns-in_err-parsed-clause-spoilt
+returns-in_err-parsed-clause-spoilt g c = λ back. but_none (g.F.Files.refuses c.args.files.now c.args.files.now) _ _ (g.F.Files.refuses_none _)

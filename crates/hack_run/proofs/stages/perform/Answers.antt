@@ -2,6 +2,7 @@ use Rattle.std.proofs.Common.{◌≡◌, ◌<◌, ◌∙◌, ap, false, inr}
 use Rattle.std.specs.Prelude.{IfOk, not}
 use Rattle.hack_load.specs.Answers.{IsLoaded}
 use Rattle.hack_files.specs.Restore.{registered_files}
+use Rattle.hack_files.proofs.RefusalLemmas.{but_restored, but_then}
 use Rattle.hack_run.proofs.BackLemmas.{brings_none, cleans, kept_none, leaves, safe_new, whole_keeps}
 use Rattle.hack_run.specs.Worlds.{files_view, host_view}
 use Rattle.hack_term.specs.declared.term.Term.{Term}
@@ -55,3 +56,14 @@ returns-clause-clean g c =
 
 pub returns-clause-stays : goal.returns-clause-stays
 returns-clause-stays g c = g.F.Files.stays_more _ _ _ c.ask-answers.ensures.stays (g.F.Files.stays_more _ _ _ c.follow-came.ensures.stays c.finish.ensures.stays)
+
+pub returns-clause-spoilt : goal.returns-clause-spoilt
+returns-clause-spoilt g c = λ kept.
+    let asked = g.F.Files.bytes_at c.ask-answers.new.files in
+    let first = g.F.Files.refuses c.args.files.now c.ask-answers.new.files in
+    let later = g.F.Files.refuses c.ask-answers.new.files c.finish.new.files in
+    but_then first later (g.F.Files.refuses c.args.files.now c.finish.new.files) _ _ _ _ (λ ps qs one other. g.F.Files.refuses_more _ _ _ ps qs one other) c.ask-answers.ensures.spoilt
+    (but_restored (g.F.Files.refuses c.ask-answers.new.files c.follow-came.new.files) (g.F.Files.refuses c.follow-came.new.files c.finish.new.files) later _ _ _ _ _ _ (λ ps qs one other. g.F.Files.refuses_more _ _ _ ps qs one other)
+    (g.F.Files.refuses_some _ _ c.follow-came.ensures.grows)
+    (λ t. c.follow-came.ensures.safe t c.ask-answers.ensures.read (c.ask-answers.ensures.needs ∙ c.new-manager.ensures.needs ∙ ap not kept) (safe_new c.new-manager.result c.ask-answers.new.manager asked c.new-manager.ensures.nothing c.ask-answers.ensures.kept))
+    c.finish.ensures.refused)

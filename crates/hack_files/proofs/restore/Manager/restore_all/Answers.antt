@@ -1,12 +1,12 @@
 use Rattle.std.proofs.Common.{length, ap, ◌<◌, arith, rules, map}
 use Rattle.hack_files.specs.Restore.{kept_file}
-use Rattle.hack_files.proofs.RestoreLemmas.{so_far_none, so_far_written, so_far_failed, brings_all, tried_none, tried_written, tried_failed, grows_more, is_at, IsAt, noted_none, noted_failed, noted_written, grows_still, below_kept, end_kept}
+use Rattle.hack_files.proofs.RestoreLemmas.{back_none, back_written, back_refused, back_all, brings_of, tried_none, tried_written, tried_failed, grows_more, is_at, IsAt, noted_none, noted_failed, noted_written, grows_still, below_kept, end_kept}
 use Rattle.hack_files.proofs.restore.Manager.restore_all.Goals as goal
 use Rattle.hack_files.proofs.restore.Manager.restore_all.Goals.{then-not-put_back, else-not-put_back}
 
 pub loop-file-init : goal.loop-file-init
 loop-file-init g c =
-    (omega arith, search rules, (λ low. omega (arith, low)), (λ _. so_far_none _ _), (λ _. tried_none (map kept_file c.deref-file-items.result.now) _ _), noted_none _, search rules)
+    (omega arith, search rules, (λ low. omega (arith, low)), back_none (g.F.Files.refuses _ _) _ _ _ (g.F.Files.refuses_none _), (λ _. tried_none (map kept_file c.deref-file-items.result.now) _ _), noted_none _, search rules)
 
 pub loop-file-preserved : goal.loop-file-preserved
 loop-file-preserved g c =
@@ -19,7 +19,7 @@ loop-file-preserved g c =
             omega (arith, w.failures-is),
             search rules,
             rw w.failures-is (grows_more c.loop-file.failures 1 _ _ _ before.2 told.counted),
-            (λ tells. rw w.failures-is (so_far_failed _ _ _ _ _ _ _ lt at (told.others tells) (before.3 tells))),
+            rw w.failures-is (back_refused _ (g.F.Files.refuses _ _) _ _ _ _ _ _ _ _ lt at (λ ps h. g.F.Files.refuses_more _ _ _ ps _ h told.refused_path) told.others before.3),
             (λ whole. rw w.failures-is (tried_failed _ _ _ _ _ _ _ _ _ _ lt at (told.refused whole) (before.4 whole))),
             rw w.failures-is (noted_failed _ _ _ (ap (λ t. t.error) told.noted)),
             search rules,
@@ -29,12 +29,15 @@ loop-file-preserved g c =
             omega (arith, w.failures-is),
             search rules,
             rw w.failures-is (grows_still c.loop-file.failures _ _ _ before.2 told.counted),
-            (λ tells. rw w.failures-is (so_far_written _ _ _ _ _ _ _ lt at (told.others tells) (told.written tells) (before.3 tells))),
+            rw w.failures-is (back_written _ (g.F.Files.refuses _ _) _ _ _ _ _ _ _ _ lt at (λ ps h. g.F.Files.refuses_more _ _ _ ps _ h told.refused_path) told.others told.written before.3),
             (λ whole. rw w.failures-is (tried_written _ _ _ _ _ _ _ _ _ _ lt at (told.traced whole) (before.4 whole))),
             rw w.failures-is (noted_written _ _ _ _ (ap (λ t. t.error) told.noted) before.5),
             search rules,
           )
     ]
 
+pub returns-clause-refused : goal.returns-clause-refused
+returns-clause-refused g c = rw (← c.deref-file-items.ensures.value) (back_all _ _ _ _ _ _ _ (end_kept _ _ c.loop-file-test.false) c.loop-file.invariant.3)
+
 pub returns-clause-restored : goal.returns-clause-restored
-returns-clause-restored g c = λ tells. rw (← c.deref-file-items.ensures.value) (brings_all _ _ _ _ _ (end_kept _ _ c.loop-file-test.false) (c.loop-file.invariant.3 tells))
+returns-clause-restored g c = brings_of _ _ _ _ _ _ (returns-clause-refused g c)

@@ -1,5 +1,6 @@
-use Rattle.std.proofs.Common.{refl, []}
+use Rattle.std.proofs.Common.{refl, arith, []}
 use Rattle.hack_journal.specs.SafeLaws.{stays_none, makes_none}
+use Rattle.hack_journal.proofs.CountLemmas.{refuses_nothing}
 use Rattle.hack_journal.proofs.SafeLemmas.{hides, without_all}
 use Rattle.hack_journal.proofs.journaled.JournaledFiles.read.Goals as goal
 
@@ -7,6 +8,7 @@ pub returns-then-is_of_journal-clause-looks : goal.returns-then-is_of_journal-cl
 returns-then-is_of_journal-clause-looks g c = record {
   stays = (refl, λ tells whole. stays_none _ _ _ _ _ _ (makes_none _ _), g.F.Files.stays_none c.args.self.now.files);
   counted = c.count_failure.ensures;
+  refused_none = λ low. let now = c.count_failure.ensures low in (omega (arith, now), omega (arith, now));
   same = λ tells q. refl;
   untraced = λ both. makes_none _ _;
 }
@@ -15,6 +17,7 @@ pub returns-clause-looks : goal.returns-clause-looks
 returns-clause-looks g c = record {
   stays = (refl, λ tells whole. stays_none _ _ _ _ _ _ (c.read-outcome.ensures.untraced whole), c.read-outcome.ensures.stays);
   counted = rw c.counted.ensures.same c.counted.ensures.counted;
+  refused_none = refuses_nothing _ _ _ c.counted.ensures.counted;
   same = λ tells. without_all _ _ _ (c.read-outcome.ensures.same tells);
   untraced = λ both. hides _ [] _ _ _ _ (c.read-outcome.ensures.untraced both.1);
 }

@@ -3,7 +3,8 @@ use Rattle.std.specs.Prelude.{option_copied}
 use Rattle.hack_metadata.specs.QuestionCalls.{WroteWhereKnown}
 use Rattle.hack_metadata.specs.Requests.{question}
 use Rattle.hack_load.proofs.AnswerLemmas.{ends-known, follows-earlier, loaded-later}
-use Rattle.hack_load.proofs.LeaveLemmas.{few-left, few-reads}
+use Rattle.hack_files.proofs.RefusalLemmas.{but_same, but_then}
+use Rattle.hack_load.proofs.LeaveLemmas.{few-left, few-reads, reads-grow}
 use Rattle.hack_load.proofs.answers.Asker.load.Goals as goal
 
 pub returns-in-Ok-clause-left : goal.returns-in-Ok-clause-left
@@ -44,3 +45,9 @@ returns-in-Err-clause-asked g c =
       ends = ends-known g.F.Files.tells q held (g.C.Caller.calls c.args.caller.now) (g.C.Caller.calls c.new.new.caller) (WroteWhereKnown g.F.Files.whole g.F.Files.tells (g.F.Files.trace c.args.files.now) (g.F.Files.trace c.new.new.files) held (g.F.Files.bytes_at c.new.new.files)) (Err c.in-Err.fault) (c.in-Err.ensures.ends called);
       follows = (refl, c.of_question.result, c.of_question.ensures, refl);
     }
+
+pub returns-in-Ok-clause-spoilt : goal.returns-in-Ok-clause-spoilt
+returns-in-Ok-clause-spoilt g c =
+    let looked = reads-grow g.F.Files.tells (g.F.Files.bytes_at c.new.new.files) (g.F.Files.bytes_at c.load_behind.new.files) (g.F.Files.failed c.new.new.files) (g.F.Files.failed c.load_behind.new.files) c.load_behind.result c.load_behind.ensures.left in
+    but_then (g.F.Files.refuses c.args.files.now c.new.new.files) (g.F.Files.refuses c.new.new.files c.load_behind.new.files) (g.F.Files.refuses c.args.files.now c.load_behind.new.files) _ _ _ _ (λ ps qs one other. g.F.Files.refuses_more _ _ _ ps qs one other)
+    c.in-Ok.ensures.spoilt (but_same _ _ _ _ (g.F.Files.refuses_some _ _ looked.0) looked.1)

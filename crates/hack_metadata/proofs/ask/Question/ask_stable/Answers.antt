@@ -1,6 +1,7 @@
-use Rattle.std.proofs.Common.{◌≡◌, ◌∷◌, [], inl, refl, sym, subst, map, string_bytes, rules}
+use Rattle.std.proofs.Common.{◌≡◌, ◌∷◌, [], Err, inl, refl, sym, subst, map, string_bytes, rules}
 use Rattle.std.specs.Prelude.{MatchOption}
 use Rattle.std.proofs.lemmas.Result.{err_from_is_err_and, IfErr-weaker}
+use Rattle.hack_files.proofs.RefusalLemmas.{but_none, but_same, but_then}
 use Rattle.hack_process.specs.CommandTexts.{text_of}
 use Rattle.hack_process.specs.Commands.{command_of}
 use Rattle.hack_metadata.specs.InternalAskView.{question_of}
@@ -8,6 +9,7 @@ use Rattle.hack_metadata.specs.QuestionCalls.{ReadsOutput, FailsToRead, IsLockfi
 use Rattle.hack_metadata.specs.MetadataReading.{read_metadata}
 use Rattle.hack_metadata.specs.Requests.{by_stable}
 use Rattle.hack_metadata.proofs.AskWays.{asked-counts, back-wrote, counts-ends, fallen-ends, first-ends, left-more, over-stops, over-wrote, text-spares, unchanged, whole-left, whole-leaves, whole-more, wrote-none}
+use Rattle.hack_metadata.proofs.SpoiltLemmas.{left-grows}
 use Rattle.hack_metadata.proofs.ask.Question.ask_stable.Goals as goal
 
 pub returns-in_err-first-clause-left : goal.returns-in_err-first-clause-left
@@ -133,3 +135,32 @@ returns-clause-ends g c =
     (c.in_ok-make_lockfile.ensures.ok called start c.args.minor text lock (answers text way (c.in_ok-first.ensures.ok called)))
     (subst (λ k. FailsToRead k mid old) is (subst (λ o. MatchOption o (FailsToRead (command_of c.in_ok-asked.asked) mid old) (λ t. ReadsOutput (command_of c.in_ok-asked.asked) (string_bytes t) mid old)) c.in-None.is (c.in_ok-told.ensures.ok called)))
     put (c.fall_back.ensures.fell called c.in_ok-first.ensures.command)
+
+pub returns-in_err-first-clause-spoilt : goal.returns-in_err-first-clause-spoilt
+returns-in_err-first-clause-spoilt g c = but_none (g.F.Files.refuses c.args.files.now c.args.files.now) _ _ (g.F.Files.refuses_none _)
+
+pub returns-in_err-make_lockfile-clause-spoilt : goal.returns-in_err-make_lockfile-clause-spoilt
+returns-in_err-make_lockfile-clause-spoilt g c =
+    but_same (g.F.Files.refuses c.args.files.now c.make_lockfile.new.files) _ _ _ (g.F.Files.refuses_some _ _ (left-grows {X = Unit {0}} _ _ _ _ _ _ (Err c.in_err-make_lockfile.field-0.0) c.in_err-make_lockfile.ensures.left)) c.in_err-make_lockfile.ensures.same
+
+pub returns-in_err-asked-clause-spoilt : goal.returns-in_err-asked-clause-spoilt
+returns-in_err-asked-clause-spoilt g c =
+    but_same (g.F.Files.refuses c.args.files.now c.make_lockfile.new.files) _ _ _ (g.F.Files.refuses_some _ _ (0, c.in_ok-make_lockfile.ensures.left.0)) c.in_ok-make_lockfile.ensures.same
+
+pub returns-in_err-told-clause-spoilt : goal.returns-in_err-told-clause-spoilt
+returns-in_err-told-clause-spoilt g c =
+    but_then (g.F.Files.refuses c.args.files.now c.make_lockfile.new.files) (g.F.Files.refuses c.make_lockfile.new.files c.read_over.new.files) (g.F.Files.refuses c.args.files.now c.read_over.new.files) _ _ _ _ (λ ps qs one other. g.F.Files.refuses_more _ _ _ ps qs one other)
+    (but_same _ _ _ _ (g.F.Files.refuses_some _ _ (0, c.in_ok-make_lockfile.ensures.left.0)) c.in_ok-make_lockfile.ensures.same)
+    c.in_err-told.ensures.spoilt
+
+pub returns-in-Some-clause-spoilt : goal.returns-in-Some-clause-spoilt
+returns-in-Some-clause-spoilt g c =
+    but_then (g.F.Files.refuses c.args.files.now c.make_lockfile.new.files) (g.F.Files.refuses c.make_lockfile.new.files c.read_over.new.files) (g.F.Files.refuses c.args.files.now c.read_over.new.files) _ _ _ _ (λ ps qs one other. g.F.Files.refuses_more _ _ _ ps qs one other)
+    (but_same _ _ _ _ (g.F.Files.refuses_some _ _ (0, c.in_ok-make_lockfile.ensures.left.0)) c.in_ok-make_lockfile.ensures.same)
+    c.in_ok-told.ensures.spoilt
+
+pub returns-clause-spoilt : goal.returns-clause-spoilt
+returns-clause-spoilt g c =
+    but_then (g.F.Files.refuses c.args.files.now c.make_lockfile.new.files) (g.F.Files.refuses c.make_lockfile.new.files c.read_over.new.files) (g.F.Files.refuses c.args.files.now c.read_over.new.files) _ _ _ _ (λ ps qs one other. g.F.Files.refuses_more _ _ _ ps qs one other)
+    (but_same _ _ _ _ (g.F.Files.refuses_some _ _ (0, c.in_ok-make_lockfile.ensures.left.0)) c.in_ok-make_lockfile.ensures.same)
+    c.in_ok-told.ensures.spoilt

@@ -1,7 +1,9 @@
-use Rattle.std.proofs.Common.{inl, refl}
+use Rattle.std.proofs.Common.{inl, refl, Err}
 use Rattle.std.proofs.lemmas.Result.{err_from_is_err_and}
 use Rattle.hack_files.specs.Restore.{registered_files}
+use Rattle.hack_files.proofs.RefusalLemmas.{but_same, but_then}
 use Rattle.hack_metadata.proofs.AskWays.{held-back, restored, unread-over}
+use Rattle.hack_metadata.proofs.SpoiltLemmas.{but_one, left-grows}
 use Rattle.hack_metadata.proofs.ask.Question.read_over.Goals as goal
 
 pub returns-in_err-keep-clause-err : goal.returns-in_err-keep-clause-err
@@ -23,3 +25,27 @@ pub returns-in-Err-clause-left : goal.returns-in-Err-clause-left
 returns-in-Err-clause-left g c =
     inl (restored c.args.over.now.lockfile.now g.F.Files.tells (g.F.Files.bytes_at c.args.files.now) (g.F.Files.bytes_at c.keep.new.files) (g.F.Files.bytes_at c.put_back.new.files) (g.F.Files.failed c.args.files.now) (g.F.Files.failed c.keep.new.files) (g.F.Files.failed c.put_back.new.files)
     (registered_files c.args.manager.now) (registered_files c.keep.new.manager) c.in_ok-keep.ensures.left c.in_ok-keep.ensures.ok c.in_ok-put_back.ensures.back)
+
+pub returns-in_err-keep-clause-spoilt : goal.returns-in_err-keep-clause-spoilt
+returns-in_err-keep-clause-spoilt g c =
+    but_same (g.F.Files.refuses c.args.files.now c.keep.new.files) _ _ _ (g.F.Files.refuses_some _ _ (left-grows {X = Unit {0}} _ _ _ _ _ _ (Err c.in_err-keep.field-0.0) c.in_err-keep.ensures.left)) c.in_err-keep.ensures.same
+
+pub returns-in_err-put_back-clause-spoilt : goal.returns-in_err-put_back-clause-spoilt
+returns-in_err-put_back-clause-spoilt g c =
+    let kept = c.in_ok-keep.ensures.ok in
+    let path = c.args.over.now.lockfile.now in
+    but_then (g.F.Files.refuses c.args.files.now c.keep.new.files) (g.F.Files.refuses c.keep.new.files c.put_back.new.files) (g.F.Files.refuses c.args.files.now c.put_back.new.files) _ _ _ _ (λ ps qs one other. g.F.Files.refuses_more _ _ _ ps qs one other)
+    (but_same _ _ _ _ (g.F.Files.refuses_some _ _ (0, c.in_ok-keep.ensures.left.0)) c.in_ok-keep.ensures.same)
+    (but_one _ _ path _ _ (c.in_err-put_back.ensures.refused_path (record { path = path; bytes = kept.0 }) _ kept.1) (c.in_err-put_back.ensures.back (record { path = path; bytes = kept.0 }) _ kept.1).1.1)
+
+pub returns-in-Ok-clause-spoilt : goal.returns-in-Ok-clause-spoilt
+returns-in-Ok-clause-spoilt g c =
+    let whole = restored c.args.over.now.lockfile.now g.F.Files.tells (g.F.Files.bytes_at c.args.files.now) (g.F.Files.bytes_at c.keep.new.files) (g.F.Files.bytes_at c.put_back.new.files) (g.F.Files.failed c.args.files.now) (g.F.Files.failed c.keep.new.files) (g.F.Files.failed c.put_back.new.files)
+    (registered_files c.args.manager.now) (registered_files c.keep.new.manager) c.in_ok-keep.ensures.left c.in_ok-keep.ensures.ok c.in_ok-put_back.ensures.back in
+    but_same (g.F.Files.refuses c.args.files.now c.put_back.new.files) _ _ _ (g.F.Files.refuses_some _ _ (0, whole.0)) whole.1
+
+pub returns-in-Err-clause-spoilt : goal.returns-in-Err-clause-spoilt
+returns-in-Err-clause-spoilt g c =
+    let whole = restored c.args.over.now.lockfile.now g.F.Files.tells (g.F.Files.bytes_at c.args.files.now) (g.F.Files.bytes_at c.keep.new.files) (g.F.Files.bytes_at c.put_back.new.files) (g.F.Files.failed c.args.files.now) (g.F.Files.failed c.keep.new.files) (g.F.Files.failed c.put_back.new.files)
+    (registered_files c.args.manager.now) (registered_files c.keep.new.manager) c.in_ok-keep.ensures.left c.in_ok-keep.ensures.ok c.in_ok-put_back.ensures.back in
+    but_same (g.F.Files.refuses c.args.files.now c.put_back.new.files) _ _ _ (g.F.Files.refuses_some _ _ (0, whole.0)) whole.1
