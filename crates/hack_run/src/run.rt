@@ -92,7 +92,7 @@ pub fn run<F: Files, C: Caller, O: Write, E: Write>(
 {
     let env = host.env;
     let came = read(words, reading, files, host);
-    tell_end(host.alloc, came, host.term, host.err);
+    tell_end(host.alloc, came, env, host.term, host.err);
     host.term.status(env.deny_warnings)
 }
 

@@ -12,6 +12,7 @@ use hack_load::metadata::AskFault;
 use hack_planner::fault::PlanFault;
 use hack_process::process::ProcessFault;
 use hack_term::term::Term;
+use hack_words::cli::Env;
 use std::alloc::Global;
 use std::io::Write;
 
@@ -19,14 +20,25 @@ use std::io::Write;
 const CHOICE: &str =
     "cargo is chosen by CARGO_HACK_CARGO_SRC or CARGO, and rustup by CARGO_HACK_RUSTUP";
 
+/// The lines on a program that no variable chose.
+const NO_CARGO: &str = "no `cargo` is in the `PATH`";
+
+const NO_RUSTUP: &str = "no `rustup` is in the `PATH`";
+
 /// The line on how a call has fewer runs.
 const FEWER: &str = "--depth and --strength make fewer runs";
 
 /// Reports an error. Where the user can do something about it, a line on that comes first.
-pub(crate) fn tell<E: Write>(alloc: Global, fault: &RunFault, term: &mut Term, err: &mut E)
+pub(crate) fn tell<E: Write>(
+    alloc: Global,
+    fault: &RunFault,
+    env: &Env,
+    term: &mut Term,
+    err: &mut E,
+)
     ensures { term.new ≡ record term.old { error = true } }
 {
-    if let Some(line) = advice(fault) {
+    if let Some(line) = advice(fault, env) {
         let _ = term.info(line, err);
     }
     match format!(in alloc; "{fault}") {
@@ -39,11 +51,11 @@ pub(crate) fn tell<E: Write>(alloc: Global, fault: &RunFault, term: &mut Term, e
     }
 }
 
-/// What the user can do: choose another program where one couldn't be started, or ask for fewer
-/// runs where there are too many.
-fn advice(fault: &RunFault) -> Option<&'static str> {
-    if is_missing(fault) {
-        return Some(CHOICE);
+/// What the user can do: install or choose another program where one couldn't be started, or ask
+/// for fewer runs where there are too many.
+fn advice(fault: &RunFault, env: &Env) -> Option<&'static str> {
+    if let Some(command) = unstarted(fault) {
+        return Some(choice(command, env));
     }
     match fault {
         RunFault::Plan(PlanFault::TooManyRuns) => Some(FEWER),
@@ -51,22 +63,32 @@ fn advice(fault: &RunFault) -> Option<&'static str> {
     }
 }
 
-/// Returns whether the error is that a program couldn't be started.
-fn is_missing(fault: &RunFault) -> bool {
+/// What to say of the program of a command that couldn't be started, which is shown in backquotes:
+/// that none is in the `PATH`, where no variable chose it.
+fn choice(command: &str, env: &Env) -> &'static str {
+    if env.cargo.as_str() == "cargo" && command.starts_with("`cargo ") {
+        return NO_CARGO;
+    }
+    if env.rustup.as_str() == "rustup" && command.starts_with("`rustup ") {
+        return NO_RUSTUP;
+    }
+    CHOICE
+}
+
+/// The command that couldn't be started, where that is the error.
+fn unstarted(fault: &RunFault) -> Option<&str> {
     match fault {
-        RunFault::Process(fault) => is_never_executed(fault),
-        RunFault::Context(ContextFault::Process(fault)) => is_never_executed(fault),
-        RunFault::Context(ContextFault::Asked(AskFault::Process(fault))) => {
-            is_never_executed(fault)
-        }
-        _ => false,
+        RunFault::Process(fault) => command_of(fault),
+        RunFault::Context(ContextFault::Process(fault)) => command_of(fault),
+        RunFault::Context(ContextFault::Asked(AskFault::Process(fault))) => command_of(fault),
+        _ => None,
     }
 }
 
-fn is_never_executed(fault: &ProcessFault) -> bool {
+fn command_of(fault: &ProcessFault) -> Option<&str> {
     match fault {
-        ProcessFault::NeverExecuted(_) => true,
-        _ => false,
+        ProcessFault::NeverExecuted(command) => Some(command.as_str()),
+        _ => None,
     }
 }
 
@@ -74,6 +96,7 @@ fn is_never_executed(fault: &ProcessFault) -> bool {
 pub(crate) fn tell_end<E: Write>(
     alloc: Global,
     came: Result<(), RunFault>,
+    env: &Env,
     term: &mut Term,
     err: &mut E,
 )
@@ -82,7 +105,7 @@ pub(crate) fn tell_end<E: Write>(
 {
     match came {
         Ok(()) => (),
-        Err(fault) => tell(alloc, &fault, term, err),
+        Err(fault) => tell(alloc, &fault, env, term, err),
     }
 }
 

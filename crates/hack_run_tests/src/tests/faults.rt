@@ -103,8 +103,16 @@ fn a_missing_program(rt: HostRuntime) -> Result<(), Wrong> {
             | rustup run stable cargo -vV
             | cargo metadata --format-version=1 --no-deps
             | err
-            | info: cargo is chosen by CARGO_HACK_CARGO_SRC or CARGO, and rustup by CARGO_HACK_RUSTUP
+            | info: no `cargo` is in the `PATH`
             | error: could not execute process `cargo metadata --format-version=1 --no-deps` (never executed)
+            | status 1
+            > hack check; chosen own; missing own metadata --format-version=1 --no-deps
+            | own -vV
+            | rustup run stable cargo -vV
+            | own metadata --format-version=1 --no-deps
+            | err
+            | info: cargo is chosen by CARGO_HACK_CARGO_SRC or CARGO, and rustup by CARGO_HACK_RUSTUP
+            | error: could not execute process `own metadata --format-version=1 --no-deps` (never executed)
             | status 1
         "#,
     )

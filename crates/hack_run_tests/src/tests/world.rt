@@ -264,9 +264,10 @@ pub fn files_of(alloc: Global, world: &str) -> Result<MemoryFiles, AllocError> {
 }
 
 pub fn env_of(alloc: Global, world: &str) -> Result<Env, AllocError> {
-    let cargo = match given(world, "no") {
-        "cargo" => "",
-        _ => "cargo",
+    let cargo = match (given(world, "no"), given(world, "chosen")) {
+        ("cargo", _) => "",
+        (_, "") => "cargo",
+        (_, program) => program,
     };
     let cargo = String::from_str(alloc, cargo)?;
     let rustup = String::from_str(alloc, "rustup")?;
