@@ -29,8 +29,8 @@ returns-in-Some-clause-err c =
     (λ e up. refused w (questions_asked c.sample_of.new.rules) e c.if-not-args.false (ap is_some c.in-Some.is) up)
     c.sample_of.ensures.given_up
 
-pub returns-clause-sets : goal.returns-clause-sets
-returns-clause-sets c =
+pub returns-in_ok-found-in-None-clause-sets : goal.returns-in_ok-found-in-None-clause-sets
+returns-in_ok-found-in-None-clause-sets c =
     let r = c.args.rules.now in
     let w : Args = c.args.args.now in
     sets-by w.feature_powerset w.strength _ (choice_of r) (size_of r) (sets_in c.in_ok-found-in-None.found.sets) c.if-not-args.false c.in-None.is c.in_ok-found-in-None.ensures.sets
