@@ -1,8 +1,9 @@
 -- Which packages use a version: what versions with their packages say of it, and what it says of a plan.
-use Rattle.std.proofs.Common.{◌≡◌, ◌↔◌, ◌⊎◌, refl, sym, ap, subst, ◌∙◌, arith, ℕ, zero, suc, ◌+◌, ◌*◌, ◌≤◌, ◌<◌, List, [], ◌∷◌, length, get_or, map, inl, inr, Bool, true, false, Option, Some, None, IfSome, IsTrue, All, Contains, option_map}
+use Rattle.std.proofs.Common.{◌≡◌, ◌↔◌, ◌⊎◌, refl, sym, ap, subst, ◌∙◌, arith, ℕ, zero, suc, ◌+◌, ◌*◌, ◌≤◌, ◌<◌, List, [], ◌∷◌, length, get_or, take, map, ◌++◌, inl, inr, Bool, true, false, not, Option, Some, None, IfSome, IsTrue, All, Contains, option_map}
 use Rattle.std.specs.Prelude.{slice_get}
 use Rattle.std.specs.List.{AllZip}
-use Rattle.std.proofs.lemmas.List.Elements.{All-cons, All-contains, All-head, All-tail}
+use Rattle.std.proofs.lemmas.List.Elements.{All-cons, All-contains, All-head, All-tail, Contains-push_cases}
+use Rattle.std.proofs.lemmas.List.{take_more}
 use Rattle.std.proofs.lemmas.Option.{same_Some}
 use Rattle.hack_base.specs.Names.{Name}
 use Rattle.hack_load.specs.Contexts.{ContextRecord, rust_version_at}
@@ -26,6 +27,16 @@ use Rattle.hack_versions.proofs.RangeLemmas.{version-same}
 use Rattle.hack_planner.specs.Calls.{HasCoverage, IsChosenPackage, IsCoveredIn, IsInputOf, IsMember, IsOwn, IsPackageOf, IsUsed, UsesSome}
 use Rattle.hack_planner.specs.InternalUses.{InGroups, InSome, IsCoveredAs, IsPlannedAs, IsRight, id_of}
 use Rattle.hack_planner.specs.declared.uses.Chosen.{Chosen}
+
+-- ---- lists
+
+-- none so far, and this one isn't either
+pub none-more : {X : Type 0} (P : X → Type 0) (xs : List X) (i : ℕ) (d : X) → i < length xs → ¬ P (get_or xs i d) → ((x : X) → Contains (take i xs) x → ¬ P x) → (x : X) → Contains (take (i + 1) xs) x → ¬ P x
+none-more P xs i d lt here before x c p =
+    elim (Contains-push_cases (take i xs) (get_or xs i d) x (subst (λ l. Contains l x) (take_more xs i d lt) c)) [
+      | inl w ↦ before x w p
+      | inr same ↦ here (subst P (sym same) p)
+    ]
 
 -- ---- the steps of a range
 
@@ -132,6 +143,12 @@ right-more cx ids s versions p one of_call at are told =
 
 -- ---- packages in a plan
 
+pub turned : (b other : Bool) → not b ≡ other → b ≡ not other
+turned true true e = absurd (cc)
+turned true false e = refl
+turned false true e = refl
+turned false false e = absurd (cc)
+
 pub not-true : (b : Bool) → ¬ IsTrue b → b ≡ false
 not-true true none = absurd (none refl)
 not-true false none = refl
@@ -180,8 +197,8 @@ all-chosen P [] ids e all = λ k d lt. absurd (omega (arith, lt))
 all-chosen P (x ∷ xs) [] e all = absurd (cc)
 all-chosen P (x ∷ xs) (y ∷ ys) e all =
     All-cons (λ (one : Chosen). P one.id.index) x xs
-    (subst P (sym (first-same x.id.index y.id.index (map id_of xs) (map place_at ys) e)) (All-head (λ (id : PackageId). P id.index) y ys all))
-    (all-chosen P xs ys (rest-same x.id.index y.id.index (map id_of xs) (map place_at ys) e) (All-tail (λ (id : PackageId). P id.index) y ys all))
+    (subst P (sym (first-same x.id.index y.index (map id_of xs) (map place_at ys) e)) (All-head (λ (id : PackageId). P id.index) y ys all))
+    (all-chosen P xs ys (rest-same x.id.index y.index (map id_of xs) (map place_at ys) e) (All-tail (λ (id : PackageId). P id.index) y ys all))
 
 -- where it is said rightly which of the chosen packages are used, the packages of a plan are those of its input
 pub packages-of : (cx : ContextRecord) (s : PlanInput) (latest : Option Version) (chosen : List Chosen) (packages : List PackageView) → All (IsRight cx s latest) chosen → AllZip (IsPlannedAs cx) chosen packages → AllZip (IsPackageOf cx s latest) (map id_of chosen) packages

@@ -85,5 +85,5 @@ returns-in-Err-TooManyQuestions-clause-err c =
       known = c.packages-pkg.ensures;
       loaded = c.pkg_features.ensures;
       called = c.in_ok-name-in-Err-TooManyQuestions.ensures.ok ∙ c.as_str.ensures.value;
-      wide = wide.1;
+      wide = rw c.in-Err-TooManyQuestions.field-0-is wide.1;
     })

@@ -19,7 +19,7 @@ returns-clause-kind c =
     let p = package_view c.args.pkg.now in
     let f = c.args.features.now in
     let found = c.in_ok-found.found in
-    subst (IsKind w p f) (sym c.kind_from-kind.ensures) (made-kind w p f found.is_plain c.in_ok-candidates.candidates found.runs (rows_of found.settings.items) c.in_ok-candidates.ensures c.in_ok-found.ensures)
+    subst (IsKind w p f) (sym c.kind_from-kind.ensures) (made-kind w p f found.is_plain c.in_ok-candidates.candidates found.runs (rows_of found.settings.items) c.in_ok-candidates.ensures c.in_ok-found.ensures.made)
 
 pub returns-clause-covered : goal.returns-clause-covered
 returns-clause-covered c = λ powerset all.
@@ -27,7 +27,7 @@ returns-clause-covered c = λ powerset all.
     let p = package_view c.args.pkg.now in
     let f = c.args.features.now in
     let found = c.in_ok-found.found in
-    let h = c.in_ok-found.ensures in
+    let h = c.in_ok-found.ensures.made in
     let same = ap runs_of c.kind_from-kind.ensures ∙ made-runs w f h.sets w.feature_powerset found.is_plain c.in_ok-candidates.candidates found.runs h.made in
     subst (AreCovering w p f) (sym same) (made-covering w p f found.is_plain (runs_in found.runs) (rows_of found.settings.items) h powerset all)
 
@@ -37,6 +37,6 @@ returns-clause-settings c =
     let p = package_view c.args.pkg.now in
     let f = c.args.features.now in
     let found = c.in_ok-found.found in
-    let h = c.in_ok-found.ensures in
+    let h = c.in_ok-found.ensures.made in
     let same = ap runs_of c.kind_from-kind.ensures ∙ made-runs w f h.sets w.feature_powerset found.is_plain c.in_ok-candidates.candidates found.runs h.made in
     subst (λ (runs : List PackageRun). AreRunSettings w.strength (package_choice w p f) runs (rows_of found.settings.items)) (sym same) h.settings

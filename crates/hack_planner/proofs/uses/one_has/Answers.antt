@@ -1,6 +1,15 @@
-use Rattle.std.proofs.Common.{ℕ, List, Contains, subst, sym, arith}
+use Rattle.std.proofs.Common.{◌≡◌, ◌∙◌, ℕ, List, Contains, true, false, ap, subst, sym, arith}
 use Rattle.std.proofs.lemmas.List.{take_all}
+use Rattle.hack_versions.specs.declared.group.VersionGroup.{VersionGroup}
+use Rattle.hack_planner.proofs.UseLemmas.{none-more}
 use Rattle.hack_planner.proofs.uses.one_has.Goals as goal
+
+pub loop-group-preserved : goal.loop-group-preserved
+loop-group-preserved c =
+    none-more (λ (group : VersionGroup). Contains group.packages.items c.args.place) c.args.groups.now c.loop-group.group-index c.group-item.result c.loop-group-test.true
+    (λ w. let t = c.has.ensures.1 (subst (λ (l : List ℕ). Contains l c.args.place) (ap (λ (group : VersionGroup). group.packages.items) (sym c.group-item.is) ∙ sym c.as_slice.ensures.value) w) in
+    let e : true ≡ false = sym t ∙ c.if-has.false in absurd (cc))
+    c.loop-group.invariant
 
 pub returns-then-has : goal.returns-then-has
 returns-then-has c = (

@@ -1,5 +1,5 @@
-use Rattle.std.proofs.Common.{◌≡◌, ◌∙◌, ◌↔◌, ℕ, ◌+◌, [], ◌∷◌, ◌++◌, List, length, map, take, get_or, sym, ap, subst, arith, All, IsTrue, length-append}
-use Rattle.std.proofs.lemmas.List.{map-append, take_all}
+use Rattle.std.proofs.Common.{◌≡◌, ◌∙◌, ◌↔◌, ℕ, ◌+◌, [], ◌∷◌, ◌++◌, List, length, map, take, get_or, sym, ap, subst, arith, All, IsTrue, vec_len, length-append}
+use Rattle.std.proofs.lemmas.List.{get_or_default, map-append, take_all}
 use Rattle.std.proofs.lemmas.List.Elements.{All-push}
 use Rattle.hack_metadata.specs.RecordViews.{place_at}
 use Rattle.hack_metadata.specs.declared.metadata.resolve.PackageId.{PackageId}
@@ -19,19 +19,22 @@ loop-id-init c = record {
 
 pub loop-id-preserved : goal.loop-id-preserved
 loop-id-preserved c =
-    let ids = c.args.ids.now in
+    let ids : List PackageId = c.args.ids.now in
     let i = c.loop-id.id-index in
-    let one : Chosen = record { id = c.id-item.result; is_used = c.is_used-is_used.result } in
+    let lt = c.loop-id-test.true in
+    let id : PackageId = get_or ids i (record { index = 0 }) in
+    let is : id ≡ get_or ids i id = get_or_default ids i (record { index = 0 }) id lt in
+    let one : Chosen = record { id = id; is_used = c.is_used-is_used.result } in
+    let counted : vec_len c.loop-id.chosen ≡ i = omega (arith, c.loop-id.chosen.ok.0, c.loop-id.invariant.count) in
     let pushed = c.in_ok-push.ensures.items in
     let input = c.args.input.now in
     let versions = c.args.versions.now in
     record {
       count = ap length pushed ∙ length-append c.loop-id.chosen.items (one ∷ []) ∙ ap (λ n. n + 1) c.loop-id.invariant.count;
-      same = ap (map id_of) pushed ∙ map-append id_of c.loop-id.chosen.items (one ∷ []) ∙ ap (λ l. l ++ one.id.index ∷ []) c.loop-id.invariant.same
-          ∙ ap (λ (id : PackageId). map place_at (take i ids) ++ id.index ∷ []) c.id-item.is ∙ sym (at-more place_at ids i c.id-item.result c.loop-id-test.true);
+      same = ap (map id_of) pushed ∙ map-append id_of c.loop-id.chosen.items (one ∷ []) ∙ ap (λ l. l ++ id.index ∷ []) c.loop-id.invariant.same ∙ sym (at-more place_at ids i (record { index = 0 }) lt);
       right = λ cx of_call. subst (All (IsRight cx input versions.stable)) (sym pushed) (All-push (IsRight cx input versions.stable) c.loop-id.chosen.items one (c.loop-id.invariant.right cx of_call)
-          (right-more cx (map place_at ids) input versions i one of_call (place-of ids i c.id-item.result c.loop-id-test.true c.id-item.is) c.requires
-          (subst (λ p. IsTrue c.is_used-is_used.result ↔ InGroups input.range versions.groups.items p) (c.len.ensures ∙ c.loop-id.invariant.count) c.is_used-is_used.ensures)));
+          (right-more cx (map place_at ids) input versions i one of_call (place-of ids i id lt is) c.requires
+          (subst (λ p. IsTrue c.is_used-is_used.result ↔ InGroups input.range versions.groups.items p) (c.len.ensures ∙ counted) c.is_used-is_used.ensures)));
     }
 
 pub returns-clause-same : goal.returns-clause-same
