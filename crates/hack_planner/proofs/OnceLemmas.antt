@@ -141,8 +141,8 @@ package-once cx all s latest id k l a b =
     let features = same_Some a.features b.features (sym a.loaded ∙ b.loaded) in
     let many = λ (rs : List PackageRun). length rs in
     let used : IsUsed cx s latest id → length k.runs ≡ length l.runs = λ u.
-        let runs = subst (λ q. AreRuns cx.args q b.features k.runs) pkg (subst (λ f. AreRuns cx.args a.pkg f k.runs) features (a.runs u)) in
-        ap many (runs-once (cx.args.each_feature || cx.args.feature_powerset) cx.args b.pkg b.features k.runs l.runs all runs (b.runs u)) in
+    let runs = subst (λ q. AreRuns cx.args q b.features k.runs) pkg (subst (λ f. AreRuns cx.args a.pkg f k.runs) features (a.runs u)) in
+    ap many (runs-once (cx.args.each_feature || cx.args.feature_powerset) cx.args b.pkg b.features k.runs l.runs all runs (b.runs u)) in
     let unused : ¬ IsUsed cx s latest id → length k.runs ≡ length l.runs = λ none. ap many ((a.unused none).1 ∙ sym (b.unused none).1) in
     not-apart (length k.runs) (length l.runs) (λ apart. apart (unused (λ u. apart (used u))))
 

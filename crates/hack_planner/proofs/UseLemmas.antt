@@ -121,7 +121,7 @@ in-groups (Some range) s latest groups p m text are at own = (
       let v = used.2.1 in
       let own_is = own-once (Some range) text used.2.0 m.rust_version used.2.2 own in
       let uses = by-same used.0 are.0 (same-steps range s.step (owns_of s) latest used.0 are.0 used.1 are.1) range.start_inclusive range.end_inclusive (own_of m) v
-          (subst (λ o. UsesBy range.start_inclusive range.end_inclusive used.0 (option_map strip_patch o) v) own_is used.2.3) in
+      (subst (λ o. UsesBy range.start_inclusive range.end_inclusive used.0 (option_map strip_patch o) v) own_is used.2.3) in
       let at_v : UsesAt range are.0 s.packages.items v p = (m, at, uses) in
       let g = are.2.complete v p at_v in
       let group = All-contains (IsVersionGroup (UsesAt range are.0 s.packages.items)) groups g.0 are.2.each g.1 in

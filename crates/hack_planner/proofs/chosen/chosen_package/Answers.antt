@@ -79,11 +79,14 @@ returns-in-Err-TooManyQuestions-clause-err c =
     let pkg = package_view c.packages-pkg.result.now in
     let features = c.pkg_features.result.now in
     let wide = no-sample cx.args pkg features (IsTrue c.args.one.is_used) c.in-Err-TooManyQuestions.tally c.in-Err-TooManyQuestions.field-0 c.in-Err-TooManyQuestions.field-0-is (c.in-Err-TooManyQuestions.ensures.err pkg features c.packages-pkg.ensures c.pkg_features.ensures) in
-    inr (wide.0, record {
-      pkg = pkg;
-      features = features;
-      known = c.packages-pkg.ensures;
-      loaded = c.pkg_features.ensures;
-      called = c.in_ok-name-in-Err-TooManyQuestions.ensures.ok ∙ c.as_str.ensures.value;
-      wide = rw c.in-Err-TooManyQuestions.field-0-is wide.1;
-    })
+    inr (
+      wide.0,
+      record {
+        pkg = pkg;
+        features = features;
+        known = c.packages-pkg.ensures;
+        loaded = c.pkg_features.ensures;
+        called = c.in_ok-name-in-Err-TooManyQuestions.ensures.ok ∙ c.as_str.ensures.value;
+        wide = rw c.in-Err-TooManyQuestions.field-0-is wide.1;
+      },
+    )
