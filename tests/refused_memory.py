@@ -4,9 +4,10 @@
 usage: tests/refused_memory.py [--every K] CARGO_HACK [POWERSET_LIST]
 
 A small allocator, built by the machine's C compiler and loaded before the program, refuses its n-th call, or that one and
-all after it, for n from 1 (with K: 1, K + 1, ..) until a run meets no refusal. Each run has to end with status 0 and the
-bytes of a run with ample memory, or with status 1 and the last line `error: out of memory` or that of such a run, never by
-a signal; and every file of the workspace has to hold its bytes at the end.
+all after it, for n from 1 (with K: 1, K + 1, ..) until a run meets no refusal. Each run has to end with the status and the
+bytes of a run with ample memory, or with status 1 and the last line `error: out of memory` (or, where such a run fails,
+its last line), never by a signal; and every file of the workspace has to hold its bytes at the end. So a sample, in whose
+search memory was refused, is the very same or none.
 
 Prints a line for each call. The last line is `N passed, M failed, K skipped`; the status is 1 where one failed.
 """
@@ -82,6 +83,13 @@ CALLS = {
     "private members left out": ["check", "--workspace", "--no-private"],
 }
 
+# Calls that are told of eight features, some of which enable others: their samples take some search.
+WIDE = {
+    "a sample of eight features": ["check", "--feature-powerset", "--strength", "3", "--print-command-list", "-p", "p"],
+    "a sample with groups": ["check", "--feature-powerset", "--strength", "2", "--print-command-list", "-p", "p"]
+    + ["--mutually-exclusive-features", "a,b", "--at-least-one-of", "c,e"],
+}
+
 # The maps of powerset-list.
 MAPS = {
     "a map": '{"a":[],"b":["a"],"c":["b","x/y"],"d":["dep:e"]}',
@@ -91,15 +99,16 @@ MAPS = {
 
 
 def lay_out(folder):
-    """The workspace, and the stand-in beside it, whose path is returned. It tells of three features: so many have more than one
-    sample of pairs."""
-    workspace, cargo = f"{folder}/w", f"{folder}/tools/cargo"
+    """The workspace, and two stand-ins beside it. The first tells of three features: so many have more than one sample of
+    pairs. The second tells of eight."""
+    workspace, tools = f"{folder}/w", [f"{folder}/tools/cargo", f"{folder}/wide/cargo"]
     write_files(workspace)
-    stand_in(cargo, STAND_IN, workspace)
-    with open(f"{cargo}.metadata", encoding="utf-8") as it:
-        told = it.read()
-    write(f"{cargo}.metadata", told.replace('"b":[]', '"b":[],"c":[]'))
-    return workspace, cargo
+    for cargo, more in zip(tools, ('"c":[]', '"c":[],"d":["a"],"e":[],"f":["b","e"],"g":[],"h":["d"]')):
+        stand_in(cargo, STAND_IN, workspace)
+        with open(f"{cargo}.metadata", encoding="utf-8") as it:
+            told = it.read()
+        write(f"{cargo}.metadata", told.replace('"b":[]', f'"b":[],{more}'))
+    return workspace, *tools
 
 
 def run(words, workspace, cargo, given="", refuse=None):
@@ -129,7 +138,7 @@ def fault_of(ended, ample, workspace):
         return None
     if status != 1:
         return f"status {status}, in place of {ample[0]} or 1"
-    allowed = ["error: out of memory", *ample[2].decode().splitlines()[-1:]]
+    allowed = ["error: out of memory", *(ample[2].decode().splitlines()[-1:] if ample[0] else [])]
     last = err.decode().splitlines()[-1:]
     return None if last and last[0] in allowed else f"its last line is {last}"
 
@@ -160,9 +169,11 @@ def main():
         every, words = int(words[1]), words[2:]
     if not words or len(words) > 2:
         sys.exit(__doc__)
-    calls = [(name, [os.path.realpath(words[0]), "hack", *more], "") for name, more in CALLS.items()]
+    program = [os.path.realpath(words[0]), "hack"]
+    calls = [(name, [*program, *more], "", 1) for name, more in CALLS.items()]
+    calls += [(name, [*program, *more], "", 2) for name, more in WIDE.items()]
     if len(words) > 1:
-        calls += [(f"powerset-list of {name}", [os.path.realpath(words[1])], given) for name, given in MAPS.items()]
+        calls += [(f"powerset-list of {name}", [os.path.realpath(words[1])], given, 1) for name, given in MAPS.items()]
     if shutil.which("cc") is None:
         print(f"no C compiler: {len(calls)} calls skipped")
         print(f"0 passed, 0 failed, {len(calls)} skipped")
@@ -173,8 +184,8 @@ def main():
         places = lay_out(folder)
         preload = f"{folder}/allocator.so"
         library(preload, ALLOCATOR)
-        for name, program, given in calls:
-            tried, fault = try_call(name, program, places, preload, every, given)
+        for name, called, given, tool in calls:
+            tried, fault = try_call(name, called, (places[0], places[tool]), preload, every, given)
             print(fault or f"{name}: {tried} refusals")
             failed += fault is not None
     print(f"{len(calls) - failed} passed, {failed} failed, 0 skipped")

@@ -16,7 +16,7 @@ use Rattle.hack_plan.specs.declared.parts.PlanPackage.{PlanPackage}
 use Rattle.hack_base.specs.Notes.{Note, note_of}
 use Rattle.hack_base.specs.declared.notice.Notice.{Notice}
 use Rattle.hack_versions.specs.declared.version.Version.{Version}
-use Rattle.hack_planner.specs.Calls.{IsChosenPackage, IsInputOf}
+use Rattle.hack_planner.specs.Calls.{IsInputOf, IsPackageOf}
 use Rattle.hack_planner.specs.CallPlan.{IsCause, run_counts}
 use Rattle.hack_planner.specs.Internal.{SaysRangeRefused}
 use Rattle.hack_planner.specs.InternalFaultConversions.{of_places}
@@ -47,7 +47,7 @@ counts-same (k ∷ ks) = ap (λ l. count_in k ∷ l) (counts-same ks)
 
 -- too many runs are a cause to refuse the plan
 pub places-cause : (cx : ContextRecord) (ids : List ℕ) (s : PlanInput) (stable latest : Option Version) (packages : List PlanPackage) (e : PlacesFault) → AreChosen cx ids → IsInputOf cx ids s
-    → AllZip (IsChosenPackage cx) ids (map plan_package_view packages) → stable ≡ latest → (e ≡ places.Memory) ⊎ ((e ≡ places.TooManyRuns) × HasTooMany s (counts_in packages) stable) → (of_places e ≡ fault.Memory) ⊎ IsCause cx latest (of_places e)
+    → AllZip (IsPackageOf cx s latest) ids (map plan_package_view packages) → stable ≡ latest → (e ≡ places.Memory) ⊎ ((e ≡ places.TooManyRuns) × HasTooMany s (counts_in packages) stable) → (of_places e ≡ fault.Memory) ⊎ IsCause cx latest (of_places e)
 places-cause cx ids s stable latest packages places.Memory chosen of_call each newest h = inl refl
 places-cause cx ids s stable latest packages places.TooManyRuns chosen of_call each newest (inl e) = absurd (cc)
 places-cause cx ids s stable latest packages places.TooManyRuns chosen of_call each newest (inr h) = inr (record {

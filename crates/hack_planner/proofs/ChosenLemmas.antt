@@ -20,24 +20,28 @@ use Rattle.hack_base.specs.Notes.{Note}
 use Rattle.hack_versions.specs.declared.version.VersionFault.{VersionFault}
 use Rattle.hack_planner.specs.Calls.{IsBadOwn, HasBadOwn}
 
--- one id more
-id-more : (ids : List PackageId) (i : ℕ) (d : PackageId) → i < length ids → map place_at (take (i + 1) ids) ≡ map place_at (take i ids) ++ (get_or ids i d).index ∷ []
-id-more ids i d lt = ap (map place_at) (take_more ids i d lt) ∙ map-append place_at (take i ids) (get_or ids i d ∷ [])
+-- one item more
+pub zip-next : {A B : Type 0} (R : A → B → Type 0) (xs : List A) (i : ℕ) (d : A) → i < length xs → (ys : List B) (y : B) → R (get_or xs i d) y → AllZip R (take i xs) ys → AllZip R (take (i + 1) xs) (ys ++ y ∷ [])
+zip-next R xs i d lt ys y is before = subst (λ zs. AllZip R zs (ys ++ y ∷ [])) (sym (take_more xs i d lt)) (each-join R (take i xs) (get_or xs i d ∷ []) ys (y ∷ []) before (is, tt))
+
+-- one place more
+pub at-more : {A : Type 0} (at : A → ℕ) (xs : List A) (i : ℕ) (d : A) → i < length xs → map at (take (i + 1) xs) ≡ map at (take i xs) ++ at (get_or xs i d) ∷ []
+at-more at xs i d lt = ap (map at) (take_more xs i d lt) ∙ map-append at (take i xs) (get_or xs i d ∷ [])
 
 -- one package more
 pub zip-more : {B : Type 0} (R : ℕ → B → Type 0) (ids : List PackageId) (i : ℕ) (d : PackageId) → i < length ids → (ys : List B) (y : B) → R (get_or ids i d).index y
     → AllZip R (map place_at (take i ids)) ys → AllZip R (map place_at (take (i + 1) ids)) (ys ++ y ∷ [])
 zip-more R ids i d lt ys y is before =
-    subst (λ ps. AllZip R ps (ys ++ y ∷ [])) (sym (id-more ids i d lt))
+    subst (λ ps. AllZip R ps (ys ++ y ∷ [])) (sym (at-more place_at ids i d lt))
     (each-join R (map place_at (take i ids)) ((get_or ids i d).index ∷ []) ys (y ∷ []) before (is, tt))
 
 -- the notices on one package more
-pub notes-more : (f : ℕ → List Note) (ids : List PackageId) (i : ℕ) (d : PackageId) → i < length ids → (old new more : List Note) → new ≡ old ++ more → more ≡ f (get_or ids i d).index
-    → old ≡ flat_map f (map place_at (take i ids)) → new ≡ flat_map f (map place_at (take (i + 1) ids))
-notes-more f ids i d lt old new more grown is before =
-    grown ∙ ap (λ l. old ++ l) is ∙ ap (λ l. l ++ f (get_or ids i d).index) before
-    ∙ flat_map_more f [] (map place_at (take i ids)) (get_or ids i d).index
-    ∙ ap (flat_map f) (sym (id-more ids i d lt))
+pub notes-more : {A : Type 0} (at : A → ℕ) (f : ℕ → List Note) (xs : List A) (i : ℕ) (d : A) → i < length xs → (old new more : List Note) → new ≡ old ++ more → more ≡ f (at (get_or xs i d))
+    → old ≡ flat_map f (map at (take i xs)) → new ≡ flat_map f (map at (take (i + 1) xs))
+notes-more at f xs i d lt old new more grown is before =
+    grown ∙ ap (λ l. old ++ l) is ∙ ap (λ l. l ++ f (at (get_or xs i d))) before
+    ∙ flat_map_more f [] (map at (take i xs)) (at (get_or xs i d))
+    ∙ ap (flat_map f) (sym (at-more at xs i d lt))
 
 -- a package whose own version can't be read is one of them
 pub bad-at : (cx : ContextRecord) (ids : List PackageId) (i : ℕ) (d : PackageId) → i < length ids → (e : VersionFault) → IsBadOwn cx.args.version_range (rust_version_at cx (get_or ids i d).index) e → HasBadOwn cx (map place_at ids) e
@@ -48,7 +52,7 @@ bad-at cx ids i d lt e bad =
 pub none-bad-more : (cx : ContextRecord) (ids : List PackageId) (i : ℕ) (d : PackageId) → i < length ids → ((e : VersionFault) → ¬ IsBadOwn cx.args.version_range (rust_version_at cx (get_or ids i d).index) e)
     → ((e : VersionFault) → ¬ HasBadOwn cx (map place_at (take i ids)) e) → (e : VersionFault) → ¬ HasBadOwn cx (map place_at (take (i + 1) ids)) e
 none-bad-more cx ids i d lt here before e bad =
-    elim (Contains-push_cases (map place_at (take i ids)) (get_or ids i d).index bad.0 (subst (λ ps. Contains ps bad.0) (id-more ids i d lt) bad.1)) [
+    elim (Contains-push_cases (map place_at (take i ids)) (get_or ids i d).index bad.0 (subst (λ ps. Contains ps bad.0) (at-more place_at ids i d lt) bad.1)) [
       | inl w ↦ before e (bad.0, w, bad.2)
       | inr same ↦ here e (subst (λ p. IsBadOwn cx.args.version_range (rust_version_at cx p) e) (sym same) bad.2)
     ]

@@ -116,7 +116,8 @@ module _ (s t : PlanInput) (same : AgreeInputs s t) where
   pub fault-same : (latest : Option Version) (e : RangeFault) → IsVersionsFault s.range s latest e → IsVersionsFault t.range t latest e
   fault-same latest e h = subst (λ r. IsVersionsFault r t latest e) same.range (fault-within s.range latest e h)
 
-  steps-same : (r : Option VersionRange) (latest : Option Version) (steps : List Version) → IsStepList r s latest steps → IsStepList r t latest steps
+  -- the steps of one input are those of the other
+  pub steps-same : (r : Option VersionRange) (latest : Option Version) (steps : List Version) → IsStepList r s latest steps → IsStepList r t latest steps
   steps-same None latest steps h = h
   steps-same (Some r) latest steps h = subst (λ n. AreStepsOf r n (owns_of t) latest steps) same.step (subst (λ l. AreStepsOf r s.step l latest steps) owns-same h)
 

@@ -1,6 +1,6 @@
 -- The sets of a package and its runs.
-use Rattle.std.proofs.Common.{◌≡◌, ◌∙◌, ℕ, ◌+◌, ◌-◌, ◌<◌, List, [], ◌∷◌, ◌++◌, length, get_or, take, drop, map, Contains, Bool, true, false, not, Some, inl, inr, refl, ap, sym, subst, arith, eqb-true}
-use Rattle.std.specs.Prelude.{nat_lt, ◌&&◌, ◌||◌, ◌==◌, if◌then◌else◌}
+use Rattle.std.proofs.Common.{◌≡◌, ◌∙◌, ℕ, ◌+◌, ◌-◌, ◌<◌, List, [], ◌∷◌, ◌++◌, length, get_or, take, drop, map, Contains, Bool, true, false, not, None, Some, Global, inl, inr, refl, ap, sym, subst, arith, eqb-true}
+use Rattle.std.specs.Prelude.{Vec, nat_lt, ◌&&◌, ◌||◌, ◌==◌, if◌then◌else◌}
 use Rattle.std.specs.Borrow.{Bor}
 use Rattle.std.proofs.lemmas.List.{map-append, take-append-drop, length-map, get_or-map}
 use Rattle.std.proofs.lemmas.List.Elements.{Contains-append_left, Contains-append_right, Contains-append_cases}
@@ -10,7 +10,8 @@ use Rattle.hack_metadata.specs.Records.{PackageRecord}
 use Rattle.hack_words.specs.declared.cli.args.Args.{Args}
 use Rattle.hack_features.specs.declared.feature.Feature.{Feature}
 use Rattle.hack_features.specs.Feature.{group_of, groups_of, candidates_of}
-use Rattle.hack_features.specs.Rules.{AreCovers}
+use Rattle.hack_features.specs.Rules.{Choice, AreCovers}
+use Rattle.hack_features.specs.Sets.{singles}
 use Rattle.hack_base.proofs.Steps.{seen-next}
 use Rattle.hack_plan.specs.declared.runs.RunOptions.{RunOptions}
 use Rattle.std.specs.Option.{option_map_or}
@@ -18,8 +19,11 @@ use Rattle.hack_plan.specs.Runs.{PackageRun, Plain, AllFeatures, NoDefaultFeatur
 use Rattle.hack_planner.specs.declared.kind.Kind.{Kind}
 use Rattle.hack_planner.specs.declared.kind.Kind.TheVariants.{Normal, Each, Powerset}
 use Rattle.hack_planner.specs.Candidates.{candidates}
-use Rattle.hack_planner.specs.Kinds.{AreSetRuns, AreRuns, HasPlainRun, HasSetRuns, AreCovering, package_choice, options_of}
+use Rattle.hack_planner.specs.Kinds.{AreSetsBy, AreRunSettings, AreSetRuns, AreRuns, HasPlainRun, HasSetRuns, AreCovering, package_choice, options_of}
 use Rattle.hack_planner.specs.KindsView.{IsKind, runs_of}
+use Rattle.hack_planner.specs.InternalKinds.{AreMade, IsMadeOf, kind_from}
+use Rattle.hack_plan.specs.declared.runs.Runs.{Runs}
+use Rattle.hack_plan.specs.RunsView.{runs_in}
 
 -- references to features, after one more
 pub candidates-next : (all new : List (Bor Feature)) (features : List Feature) (k : ℕ) (f : Bor Feature) → new ≡ all ++ f ∷ [] → candidates_of all ≡ take k (groups_of features)
@@ -93,6 +97,48 @@ pub runs-of_kind : (w : Args) (p : PackageRecord) (f : Features) (kind : Kind) �
 runs-of_kind w p f Normal h = plain-by w p f (w.each_feature || w.feature_powerset) refl h
 runs-of_kind w p f (Each list runs) h = subst (λ b. MatchBool b (AreSetRuns w p f (runs_of (Each list runs))) ((runs_of (Each list runs)) ≡ Plain ∷ [])) (sym (ap (λ b. b || w.feature_powerset) h.0)) (set-runs w p f (runs_of (Each list runs)) h.3)
 runs-of_kind w p f (Powerset list runs) h = subst (λ b. MatchBool b (AreSetRuns w p f (runs_of (Powerset list runs))) ((runs_of (Powerset list runs)) ≡ Plain ∷ [])) (sym (ap (λ b. w.each_feature || b) h.0 ∙ or-true w.each_feature)) (set-runs w p f (runs_of (Powerset list runs)) h.2)
+
+-- what comes of each candidate alone
+pub alone-made : (w : Args) (f : Features) (c : Choice) (n : ℕ) (sets : List (List ℕ)) (runs : List PackageRun) (plain : Bool) (rows : List (List Bool)) → w.feature_powerset ≡ false → w.strength ≡ None → sets ≡ singles n → IsMadeOf w f sets runs plain → rows ≡ []
+    → AreMade w f c n runs plain rows
+alone-made w f c n sets runs plain rows each all is made none = record {
+  sets = sets;
+  are_sets = subst (λ b. AreSetsBy b w.strength c n sets) (sym each) is;
+  covers = λ powerset _. let e : true ≡ false = sym powerset ∙ each in absurd (cc);
+  made = made;
+  settings = subst (λ o. AreRunSettings o c runs rows) (sym all) none;
+}
+
+-- what comes of rules comes of what they were made for
+pub made-for : (w : Args) (f : Features) (c d : Choice) (m n : ℕ) (runs : List PackageRun) (plain : Bool) (rows : List (List Bool)) → c ≡ d → m ≡ n → AreMade w f c m runs plain rows → AreMade w f d n runs plain rows
+made-for w f c d m n runs plain rows same size h = subst (λ q. AreMade w f q n runs plain rows) same (subst (λ k. AreMade w f c k runs plain rows) size h)
+
+or-first : (a b : Bool) → (a || b) ≡ true → b ≡ false → a ≡ true
+or-first true b some none = refl
+or-first false b some none = absurd (cc)
+
+kind-by : (w : Args) (p : PackageRecord) (f : Features) (powerset plain : Bool) (list : Vec Feature Global) (runs : Runs) (rows : List (List Bool)) → w.feature_powerset ≡ powerset → groups_of list.items ≡ candidates w f
+    → AreMade w f (package_choice w p f) (length (candidates w f)) (runs_in runs) plain rows → IsKind w p f (kind_from powerset plain list runs)
+kind-by w p f powerset true list runs rows is names h = record { sets = h.sets; are_sets = λ _. h.are_sets; plain = h.made.1 }
+kind-by w p f true false list runs rows is names h = (is, names, record { sets = h.sets; are_sets = h.are_sets; made = h.made.2; some = h.made.1 })
+kind-by w p f false false list runs rows is names h = (or-first w.each_feature w.feature_powerset h.made.0 is, is, names, record { sets = h.sets; are_sets = h.are_sets; made = h.made.2; some = h.made.1 })
+
+-- what comes of a package's candidates gives its kind
+pub made-kind : (w : Args) (p : PackageRecord) (f : Features) (plain : Bool) (list : Vec Feature Global) (runs : Runs) (rows : List (List Bool)) → groups_of list.items ≡ candidates w f
+    → AreMade w f (package_choice w p f) (length (candidates w f)) (runs_in runs) plain rows → IsKind w p f (kind_from w.feature_powerset plain list runs)
+made-kind w p f plain list runs rows names h = kind-by w p f w.feature_powerset plain list runs rows refl names h
+
+-- whose runs are those
+pub made-runs : (w : Args) (f : Features) (sets : List (List ℕ)) (powerset plain : Bool) (list : Vec Feature Global) (runs : Runs) → IsMadeOf w f sets (runs_in runs) plain → runs_of (kind_from powerset plain list runs) ≡ runs_in runs
+made-runs w f sets powerset true list runs h = sym h.0
+made-runs w f sets true false list runs h = refl
+made-runs w f sets false false list runs h = refl
+
+-- and which cover its sets under a powerset of all of them
+pub made-covering : (w : Args) (p : PackageRecord) (f : Features) (plain : Bool) (runs : List PackageRun) (rows : List (List Bool)) → AreMade w f (package_choice w p f) (length (candidates w f)) runs plain rows → w.feature_powerset ≡ true → w.strength ≡ None
+    → AreCovering w p f runs
+made-covering w p f true runs rows h powerset all = covering-plain w p f h.sets runs (h.made.1 (ap (λ b. w.each_feature || b) powerset ∙ or-true w.each_feature)) (h.covers powerset all)
+made-covering w p f false runs rows h powerset all = covering-runs w p f h.sets runs h.made.1 (h.covers powerset all) h.made.2
 
 -- what holds of some arguments, package and features holds of those that are equal to them
 pub moved : {A X Y : Type 0} (F : A → X → Y → Type 0) (a b : A) (x x' : X) (y y' : Y) → a ≡ b → Some x' ≡ Some x → Some y' ≡ Some y → F a x y → F b x' y'

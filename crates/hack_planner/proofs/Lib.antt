@@ -7,6 +7,7 @@ pub mod RowLemmas
 pub mod SampleLemmas
 pub mod SetLemmas
 pub mod LeastLemmas
+mod UseLemmas
 mod ChosenLemmas
 mod NoteLemmas
 mod FaultLemmas

@@ -12,11 +12,11 @@ use Rattle.hack_plan.specs.View.{PackageView}
 use Rattle.hack_versions.specs.declared.rustup.RangeFault.{RangeFault}
 use Rattle.hack_versions.specs.declared.version.Version.{Version}
 use Rattle.hack_versions.specs.declared.version.VersionFault.{VersionFault}
-use Rattle.hack_planner.specs.Calls.{IsChosenPackage, HasBadOwn, IsInputOf}
+use Rattle.hack_planner.specs.Calls.{HasBadOwn, IsInputOf, IsPackageOf}
 use Rattle.hack_planner.specs.CallPlan.{IsSureCause, IsSureCauseBy, IsSureCauseOf, run_counts}
 use Rattle.hack_planner.specs.declared.fault.PlanFault.{PlanFault}
 use Rattle.hack_planner.specs.declared.fault.PlanFault.TheVariants as fault
-use Rattle.hack_planner.proofs.OnceLemmas.{chosen-once, counts-once, inputs-agree}
+use Rattle.hack_planner.proofs.OnceLemmas.{chosen-once, counts-once, inputs-agree, packages-same}
 use Rattle.hack_planner.proofs.InputLemmas.{fault-same, many-same}
 
 -- a call whose parts are all accepted
@@ -26,7 +26,7 @@ pub record IsSound (cx : ContextRecord) (latest : Option Version) : Type 0 where
   pub packages : List PackageView
   pub chosen : AreChosen cx ids
   pub of_call : IsInputOf cx ids input
-  pub each : AllZip (IsChosenPackage cx) ids packages
+  pub each : AllZip (IsPackageOf cx input latest) ids packages
   pub known : (e : PackagesFault) → ¬ IsChoiceFault cx e
   pub readable : (e : VersionFault) → ¬ HasBadOwn cx ids e
   pub in_range : (e : RangeFault) → ¬ IsVersionsFault input.range input latest e
@@ -45,13 +45,14 @@ no-cause cx latest h (fault.Range e) bad =
     let ids = chosen-once cx bad.ids h.ids bad.chosen h.chosen in
     let agree = inputs-agree cx h.ids bad.input h.input (subst (λ l. IsInputOf cx l bad.input) ids bad.of_call) h.of_call in
     h.in_range e (fault-same bad.input h.input agree latest e bad.bad)
-no-cause cx latest h (fault.TooManyQuestions name tally) both = no-strength cx.args.strength both.0 both.1.wide.2.wide.given
+no-cause cx latest h (fault.TooManyQuestions name tally) both = no-strength cx.args.strength both.0 both.1.wide.3.wide.given
 no-cause cx latest h fault.TooManyRuns both =
     let bad = both.1 in
     let ids = chosen-once cx bad.ids h.ids bad.chosen h.chosen in
     let agree = inputs-agree cx h.ids bad.input h.input (subst (λ l. IsInputOf cx l bad.input) ids bad.of_call) h.of_call in
-    let each = subst (λ l. AllZip (IsChosenPackage cx) l bad.packages) ids bad.each in
-    let counts = counts-once cx both.0 h.ids bad.packages h.packages each h.each in
+    let back = inputs-agree cx h.ids h.input bad.input h.of_call (subst (λ l. IsInputOf cx l bad.input) ids bad.of_call) in
+    let each = packages-same cx bad.input h.input latest agree back h.ids bad.packages (subst (λ l. AllZip (IsPackageOf cx bad.input latest) l bad.packages) ids bad.each) in
+    let counts = counts-once cx both.0 h.input latest h.ids bad.packages h.packages each h.each in
     h.fits (subst (λ ns. HasTooMany h.input ns latest) counts (many-same bad.input h.input agree (run_counts bad.packages) latest bad.many))
 
 -- a sure cause that depends on the answer for `stable` is one for this version

@@ -1,8 +1,9 @@
 -- What a call determines: which packages are chosen, and the name, the own version and the runs of
 -- each.
-use Rattle.std.proofs.Common.{◌≡◌, ◌↔◌, refl, sym, ap, subst, ◌∙◌, inl, inr, ℕ, List, [], ◌∷◌, map, filter, length, not, Bool, true, false, Option, Some, None, IsTrue, All, Contains, string_bytes}
+use Rattle.std.proofs.Common.{◌≡◌, ◌↔◌, refl, sym, ap, subst, ◌∙◌, inl, inr, ℕ, List, [], ◌∷◌, map, filter, length, not, Bool, true, false, Option, Some, None, IsTrue, All, Contains, string_bytes, arith}
 use Rattle.std.specs.Prelude.{◌||◌}
 use Rattle.std.specs.List.{AllZip}
+use Rattle.std.proofs.lemmas.Bool.{cases_lt}
 use Rattle.std.proofs.lemmas.List.Elements.{All-contains}
 use Rattle.std.proofs.lemmas.Option.{same_Some}
 use Rattle.std.specs.Bool.{MatchBool}
@@ -24,11 +25,12 @@ use Rattle.hack_plan.specs.declared.versions.PlanInput.{PlanInput}
 use Rattle.hack_plan.specs.View.{PackageView}
 use Rattle.hack_versions.specs.declared.group.PackageVersion.{PackageVersion}
 use Rattle.hack_versions.specs.declared.version.Version.{Version}
-use Rattle.hack_versions.specs.declared.version.VersionRange.{VersionRange}
-use Rattle.hack_versions.proofs.RangeLemmas.{version-same}
-use Rattle.hack_planner.specs.Calls.{IsChosenPackage, IsMember, IsOwn, IsInputOf}
+use Rattle.hack_plan.specs.Inputs.{IsStepList}
+use Rattle.hack_planner.specs.Calls.{IsMember, IsInputOf, IsPackageOf, IsUsed, UsesSome}
 use Rattle.hack_planner.specs.CallPlan.{run_counts}
-use Rattle.hack_planner.proofs.InputLemmas.{AgreeInputs, AreAlike, map-alike, zip-alike}
+use Rattle.hack_planner.proofs.InputLemmas.{AgreeInputs, AreAlike, map-alike, steps-same, zip-alike}
+use Rattle.hack_planner.proofs.PlanLemmas.{zip-weaker}
+use Rattle.hack_planner.proofs.UseLemmas.{own-once, package-moved}
 
 -- ---- the chosen packages
 
@@ -56,13 +58,6 @@ pub chosen-once : (cx : ContextRecord) (ids others : List ℕ) → AreChosen cx 
 chosen-once cx ids others h k = listed-once cx.args (current_name cx) (members_in cx) ids others h k
 
 -- ---- their own versions
-
-own-once : (range : Option VersionRange) (text : Option Name) (v w : Option Version) → IsOwn range text v → IsOwn range text w → v ≡ w
-own-once None text v w h k = h ∙ sym k
-own-once (Some range) None v w h k = h ∙ sym k
-own-once (Some range) (Some text) None w h k = absurd h
-own-once (Some range) (Some text) (Some v) None h k = absurd k
-own-once (Some range) (Some text) (Some v) (Some w) h k = ap Some (version-same text v w h k)
 
 member-once : (cx : ContextRecord) (id : ℕ) (m n : PackageVersion) → IsMember cx id m → IsMember cx id n → AreAlike m n
 member-once cx id m n h k = record {
@@ -131,16 +126,42 @@ runs-once : (b : Bool) (w : Args) (p : PackageRecord) (f : Features) (xs ys : Li
 runs-once true w p f xs ys all h k = h.made ∙ ap (runs_from (options_of w f)) (sets-once w.feature_powerset w p f h.sets k.sets all h.are_sets k.are_sets) ∙ sym k.made
 runs-once false w p f xs ys all h k = h ∙ sym k
 
+-- numbers that can't differ are equal
+not-apart : (m n : ℕ) → ¬ (¬ (m ≡ n)) → m ≡ n
+not-apart m n h =
+    elim (cases_lt m n) [
+      | inl lt ↦ absurd (h (λ e. omega (arith, lt, e)))
+      | inr le ↦ elim (cases_lt n m) [ inl lt ↦ absurd (h (λ e. omega (arith, lt, e))) | inr ge ↦ omega (arith, le, ge) ]
+    ]
+
 -- a package has one number of runs
-package-once : (cx : ContextRecord) → cx.args.strength ≡ None → (id : ℕ) (k l : PackageView) → IsChosenPackage cx id k → IsChosenPackage cx id l → length k.runs ≡ length l.runs
-package-once cx all id k l a b =
+package-once : (cx : ContextRecord) → cx.args.strength ≡ None → (s : PlanInput) (latest : Option Version) (id : ℕ) (k l : PackageView) → IsPackageOf cx s latest id k → IsPackageOf cx s latest id l → length k.runs ≡ length l.runs
+package-once cx all s latest id k l a b =
     let pkg = same_Some a.pkg b.pkg (sym a.known ∙ b.known) in
     let features = same_Some a.features b.features (sym a.loaded ∙ b.loaded) in
-    let runs = subst (λ q. AreRuns cx.args q b.features k.runs) pkg (subst (λ f. AreRuns cx.args a.pkg f k.runs) features a.runs) in
-    ap (λ (rs : List PackageRun). length rs) (runs-once (cx.args.each_feature || cx.args.feature_powerset) cx.args b.pkg b.features k.runs l.runs all runs b.runs)
+    let many = λ (rs : List PackageRun). length rs in
+    let used : IsUsed cx s latest id → length k.runs ≡ length l.runs = λ u.
+    let runs = subst (λ q. AreRuns cx.args q b.features k.runs) pkg (subst (λ f. AreRuns cx.args a.pkg f k.runs) features (a.runs u)) in
+    ap many (runs-once (cx.args.each_feature || cx.args.feature_powerset) cx.args b.pkg b.features k.runs l.runs all runs (b.runs u)) in
+    let unused : ¬ IsUsed cx s latest id → length k.runs ≡ length l.runs = λ none. ap many ((a.unused none).1 ∙ sym (b.unused none).1) in
+    not-apart (length k.runs) (length l.runs) (λ apart. apart (unused (λ u. apart (used u))))
 
 -- the number of runs of each chosen package is determined, where there are no samples
-pub counts-once : (cx : ContextRecord) → cx.args.strength ≡ None → (ids : List ℕ) (packages others : List PackageView) → AllZip (IsChosenPackage cx) ids packages → AllZip (IsChosenPackage cx) ids others → run_counts packages ≡ run_counts others
-counts-once cx all ids packages others h k =
+pub counts-once : (cx : ContextRecord) → cx.args.strength ≡ None → (s : PlanInput) (latest : Option Version) (ids : List ℕ) (packages others : List PackageView) → AllZip (IsPackageOf cx s latest) ids packages → AllZip (IsPackageOf cx s latest) ids others
+    → run_counts packages ≡ run_counts others
+counts-once cx all s latest ids packages others h k =
     map-alike (λ (p q : PackageView). length p.runs ≡ length q.runs) (λ p. length p.runs) (λ p q e. e) packages others
-    (zip-alike (IsChosenPackage cx) (λ (p q : PackageView). length p.runs ≡ length q.runs) (package-once cx all) ids packages others h k)
+    (zip-alike (IsPackageOf cx s latest) (λ (p q : PackageView). length p.runs ≡ length q.runs) (package-once cx all s latest) ids packages others h k)
+
+used-same : (cx : ContextRecord) (s t : PlanInput) (latest : Option Version) → AgreeInputs s t → (id : ℕ) → IsUsed cx s latest id → IsUsed cx t latest id
+used-same cx s t latest same id used = (
+  used.0,
+  subst (λ r. IsStepList r t latest used.0) same.range (steps-same s t same s.range latest used.0 used.1),
+  subst (λ r. UsesSome r used.0 (rust_version_at cx id)) same.range used.2,
+)
+
+-- the packages of one input are those of another that agrees with it
+pub packages-same : (cx : ContextRecord) (s t : PlanInput) (latest : Option Version) → AgreeInputs s t → AgreeInputs t s → (ids : List ℕ) (packages : List PackageView) → AllZip (IsPackageOf cx s latest) ids packages → AllZip (IsPackageOf cx t latest) ids packages
+packages-same cx s t latest same back ids packages =
+    zip-weaker (IsPackageOf cx s latest) (IsPackageOf cx t latest)
+    (λ id k h. package-moved cx (IsUsed cx s latest id) (IsUsed cx t latest id) id k (used-same cx s t latest same id) (used-same cx t s latest back id) h) ids packages

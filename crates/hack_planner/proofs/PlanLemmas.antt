@@ -24,9 +24,10 @@ use Rattle.hack_plan.specs.View.{PackageView, PlanView}
 use Rattle.hack_versions.specs.declared.version.Version.{Version}
 use Rattle.hack_base.specs.Notes.{Note}
 use Rattle.hack_rules.specs.declared.uses.behavior.WorkspaceBehavior.TheVariants.{Cargo}
-use Rattle.hack_planner.specs.Calls.{HasCoverage}
+use Rattle.hack_planner.specs.Calls.{IsCoveredIn}
 use Rattle.hack_planner.specs.CallPlan.{HasJustRuns, IsPlan, run_counts}
 use Rattle.hack_planner.specs.CoveredSets.{AreCovered, HoldsCover}
+use Rattle.hack_planner.proofs.UseLemmas.{used-at, zip-at}
 
 -- the candidates of a kind are those of its package, or none where the package has a plain run alone
 pub of-kind : (w : Args) (p : PackageRecord) (f : Features) (kind : Kind) (groups : List (List Name)) (runs : List PackageRun) → groups ≡ candidates_in kind → runs ≡ runs_of kind → IsKind w p f kind → (groups ≡ candidates w f) ⊎ ((groups ≡ []) × (runs ≡ Plain ∷ []))
@@ -36,13 +37,6 @@ of-kind w p f (Powerset list sets) groups runs g r h = inl (g ∙ h.1)
 
 pub same_some : {X : Type 0} (a b : X) → Some a ≡ Some b → a ≡ b
 same_some a b e = cc
-
--- what stands beside an element of the first list
-pub zip-at : {A B : Type 0} (R : A → B → Type 0) (xs : List A) (ys : List B) (k : ℕ) (x : A) → AllZip R xs ys → slice_get xs k ≡ Some x → (y : B) × (slice_get ys k ≡ Some y) × R x y
-zip-at R [] ys k x h at = absurd (cc)
-zip-at R (z ∷ xs) [] k x h at = absurd h
-zip-at R (z ∷ xs) (y ∷ ys) zero x h at = (y, refl, subst (λ w. R w y) (same_some z x at) h.0)
-zip-at R (z ∷ xs) (y ∷ ys) (suc k) x h at = zip-at R xs ys k x h.1 at
 
 -- what follows beside each element of the first list
 pub zip-weaker : {A B : Type 0} (R S : A → B → Type 0) → ((x : A) (y : B) → R x y → S x y) → (xs : List A) (ys : List B) → AllZip R xs ys → AllZip S xs ys
@@ -92,9 +86,10 @@ covers cx rustup latest plan notes h powerset all each =
       of_call = base.of_call;
       on_steps = base.places.1;
       covered = λ place id p features version slot s at known loaded uses within selection wanted.
-          let m = zip-at (HasCoverage cx) base.ids plan.packages place id h.covered at in
+          let m = zip-at (IsCoveredIn cx base.input latest) base.ids plan.packages place id h.covered at in
+          let used = used-at cx base.ids base.input latest base.places.0 version place id base.of_call at base.places.1 uses in
           let same_p = same_some m.2.pkg p (sym m.2.known ∙ known) in
           let same_f = same_some m.2.features features (sym m.2.loaded ∙ loaded) in
-          let covering = subst (λ q. AreCovering cx.args q features m.0.runs) same_p (subst (λ f. AreCovering cx.args m.2.pkg f m.0.runs) same_f (m.2.covered powerset all)) in
+          let covering = subst (λ q. AreCovering cx.args q features m.0.runs) same_p (subst (λ f. AreCovering cx.args m.2.pkg f m.0.runs) same_f (m.2.covered used powerset all)) in
           cover-at cx latest plan base (not-all base.input.as_cargo _ base.of_call.as_cargo each) place id p features version slot s uses within m.0 m.1 covering selection wanted;
     }

@@ -1,5 +1,5 @@
 -- The samples of a plan's packages.
-use Rattle.std.proofs.Common.{◌≡◌, ◌≢◌, refl, sym, ap, subst, ◌∙◌, ℕ, ◌<◌, List, [], ◌∷◌, ◌⊎◌, inl, inr, length, get_or, map, true, false, Option, Some, Contains}
+use Rattle.std.proofs.Common.{◌≡◌, ◌≢◌, refl, sym, ap, subst, ◌∙◌, ℕ, ◌<◌, List, [], ◌∷◌, ◌⊎◌, inl, inr, length, get_or, map, true, false, Option, Some, All, Contains, IsTrue}
 use Rattle.std.specs.Prelude.{IsSomeAnd, slice_get, ◌||◌}
 use Rattle.std.proofs.lemmas.List.{get_or_default}
 use Rattle.std.proofs.lemmas.List.Elements.{All-contains, Contains-get_or}
@@ -14,8 +14,6 @@ use Rattle.hack_samples.specs.declared.sets.Setting.{Setting}
 use Rattle.hack_load.specs.Contexts.{ContextRecord, package_at, features_at}
 use Rattle.hack_load.specs.declared.features.Features.{Features}
 use Rattle.hack_metadata.specs.Records.{PackageRecord}
-use Rattle.hack_metadata.specs.RecordViews.{place_at}
-use Rattle.hack_metadata.specs.declared.metadata.resolve.PackageId.{PackageId}
 use Rattle.hack_planner.specs.Candidates.{candidates}
 use Rattle.hack_planner.specs.ContextMembers.{AreChosen}
 use Rattle.hack_planner.specs.Kinds.{ArePowersets, AreSets, AreSetRuns, AreRuns, IsUnsampled, package_choice, options_of}
@@ -27,45 +25,54 @@ use Rattle.hack_plan.specs.Entries.{HasRun}
 use Rattle.hack_plan.specs.Runs.{PackageRun, Plain, AllFeatures, NoDefaultFeatures, Set, is_plain}
 use Rattle.hack_plan.specs.Inputs.{UsesVersion, slots_of}
 use Rattle.hack_plan.specs.declared.places.PlanEntry.{PlanEntry}
+use Rattle.hack_plan.specs.declared.versions.PlanInput.{PlanInput}
 use Rattle.hack_plan.specs.View.{PackageView, PlanView}
 use Rattle.hack_versions.specs.declared.version.Version.{Version}
 use Rattle.hack_rules.specs.declared.uses.behavior.WorkspaceBehavior.TheVariants.{Cargo}
-use Rattle.hack_planner.specs.Calls.{IsChosenPackage}
+use Rattle.hack_planner.specs.Calls.{IsInputOf, IsPackageOf, IsUsed}
+use Rattle.hack_planner.specs.InternalUses.{IsRight, id_of}
+use Rattle.hack_planner.specs.declared.uses.Chosen.{Chosen}
 use Rattle.hack_planner.specs.Internal.{SaysNoSample, HasRunsFault}
 use Rattle.hack_planner.specs.CallPlan.{HasJustRuns, IsCause, run_counts}
 use Rattle.hack_planner.specs.Powersets.{run_sets_of}
 use Rattle.hack_planner.specs.Samples.{IsSampleOf, HaveSamples, HoldsPattern, ArePatternsHeld}
 use Rattle.hack_planner.specs.declared.fault.PlanFault.{PlanFault}
 use Rattle.hack_planner.specs.declared.fault.PlanFault.TheVariants as fault
-use Rattle.hack_planner.proofs.PlanLemmas.{below-count, not-all, same_some, zip-at, zip-weaker}
+use Rattle.hack_planner.proofs.PlanLemmas.{below-count, not-all, same_some, zip-weaker}
+use Rattle.hack_planner.proofs.UseLemmas.{used-at, zip-at}
 use Rattle.hack_planner.proofs.PowersetLemmas.{apart, apart-turned, from-turned, in-turned, or-true, sets_of-runs}
 
 -- a package whose runs have too many questions has no sample
-pub no-sample : (w : Args) (p : PackageRecord) (f : Features) (tally : Tally) (e : RunsFault) → e ≡ questions.TooManyQuestions tally → (e ≡ questions.Memory) ⊎ IsNotSampled w p f e → IsUnsampled w p f tally
-no-sample w p f tally e is (inl m) = absurd (cc)
-no-sample w p f tally e is (inr h) = subst (IsNotSampled w p f) is h
+pub no-sample : (w : Args) (p : PackageRecord) (f : Features) (used : Type 0) (tally : Tally) (e : RunsFault) → e ≡ questions.TooManyQuestions tally → (e ≡ questions.Memory) ⊎ (used × IsNotSampled w p f e) → used × IsUnsampled w p f tally
+no-sample w p f used tally e is (inl m) = absurd (cc)
+no-sample w p f used tally e is (inr h) = (h.0, subst (IsNotSampled w p f) is h.1)
 
 -- a package without a sample is one of them
-pub runs-at : (cx : ContextRecord) (ids : List PackageId) (i : ℕ) (d : PackageId) → i < length ids → (e : PlanFault) → SaysNoSample cx (get_or ids i d).index e → HasRunsFault cx (map place_at ids) e
-runs-at cx ids i d lt e bad =
-    ((get_or ids i d).index, Contains-map place_at ids (get_or ids i d) (i, lt, get_or_default ids i (get_or ids i d) d lt), bad)
+pub runs-at : (cx : ContextRecord) (chosen : List Chosen) (i : ℕ) (d : Chosen) → i < length chosen → (e : PlanFault) → IsTrue (get_or chosen i d).is_used × SaysNoSample cx (get_or chosen i d).id.index e → HasRunsFault cx chosen e
+runs-at cx chosen i d lt e bad = (get_or chosen i d, (i, lt, get_or_default chosen i (get_or chosen i d) d lt), bad.0, bad.1)
 
 -- that there is no sample is a cause to refuse the plan
-pub sample-cause : (cx : ContextRecord) (ids : List ℕ) (latest : Option Version) (e : PlanFault) → AreChosen cx ids
-    → (e ≡ fault.Memory) ⊎ HasRunsFault cx ids e → (e ≡ fault.Memory) ⊎ IsCause cx latest e
-sample-cause cx ids latest fault.Memory chosen h = inl refl
-sample-cause cx ids latest (fault.Stable text) chosen (inl e) = absurd (cc)
-sample-cause cx ids latest (fault.Stable text) chosen (inr bad) = absurd bad.2
-sample-cause cx ids latest (fault.Packages e) chosen (inl m) = absurd (cc)
-sample-cause cx ids latest (fault.Packages e) chosen (inr bad) = absurd bad.2
-sample-cause cx ids latest (fault.Version e) chosen (inl m) = absurd (cc)
-sample-cause cx ids latest (fault.Version e) chosen (inr bad) = absurd bad.2
-sample-cause cx ids latest (fault.Range e) chosen (inl m) = absurd (cc)
-sample-cause cx ids latest (fault.Range e) chosen (inr bad) = absurd bad.2
-sample-cause cx ids latest (fault.TooManyQuestions name tally) chosen (inl e) = absurd (cc)
-sample-cause cx ids latest (fault.TooManyQuestions name tally) chosen (inr bad) = inr (record { ids = ids; chosen = chosen; wide = bad })
-sample-cause cx ids latest fault.TooManyRuns chosen (inl e) = absurd (cc)
-sample-cause cx ids latest fault.TooManyRuns chosen (inr bad) = absurd bad.2
+pub sample-cause : (cx : ContextRecord) (s : PlanInput) (latest : Option Version) (chosen : List Chosen) (e : PlanFault) → AreChosen cx (map id_of chosen) → IsInputOf cx (map id_of chosen) s → All (IsRight cx s latest) chosen
+    → (e ≡ fault.Memory) ⊎ HasRunsFault cx chosen e → (e ≡ fault.Memory) ⊎ IsCause cx latest e
+sample-cause cx s latest chosen fault.Memory are of_call right h = inl refl
+sample-cause cx s latest chosen (fault.Stable text) are of_call right (inl e) = absurd (cc)
+sample-cause cx s latest chosen (fault.Stable text) are of_call right (inr bad) = absurd bad.3
+sample-cause cx s latest chosen (fault.Packages e) are of_call right (inl m) = absurd (cc)
+sample-cause cx s latest chosen (fault.Packages e) are of_call right (inr bad) = absurd bad.3
+sample-cause cx s latest chosen (fault.Version e) are of_call right (inl m) = absurd (cc)
+sample-cause cx s latest chosen (fault.Version e) are of_call right (inr bad) = absurd bad.3
+sample-cause cx s latest chosen (fault.Range e) are of_call right (inl m) = absurd (cc)
+sample-cause cx s latest chosen (fault.Range e) are of_call right (inr bad) = absurd bad.3
+sample-cause cx s latest chosen (fault.TooManyQuestions name tally) are of_call right (inl e) = absurd (cc)
+sample-cause cx s latest chosen (fault.TooManyQuestions name tally) are of_call right (inr bad) = inr (record {
+  ids = map id_of chosen;
+  input = s;
+  chosen = are;
+  of_call = of_call;
+  wide = (id_of bad.0, Contains-map id_of chosen bad.0 bad.1, (All-contains (IsRight cx s latest) chosen bad.0 right bad.1).0 bad.2, bad.3);
+})
+sample-cause cx s latest chosen fault.TooManyRuns are of_call right (inl e) = absurd (cc)
+sample-cause cx s latest chosen fault.TooManyRuns are of_call right (inr bad) = absurd bad.3
 
 -- the sets of a package's runs under a strength
 sample : (w : Args) (p : PackageRecord) (f : Features) (strength : ℕ) (runs : List PackageRun) → w.feature_powerset ≡ true → w.strength ≡ Some strength → AreRuns w p f runs → IsSampleOf (package_choice w p f) strength runs
@@ -95,15 +102,17 @@ sample w p f strength runs is given made =
 
 -- with a strength each chosen package of a plan has a sample
 pub samples : (cx : ContextRecord) (latest : Option Version) (plan : PlanView) (strength : ℕ) → HasJustRuns cx latest plan
-    → cx.args.feature_powerset ≡ true → cx.args.strength ≡ Some strength → HaveSamples cx strength plan
+    → cx.args.feature_powerset ≡ true → cx.args.strength ≡ Some strength → HaveSamples cx strength latest plan
 samples cx latest plan strength h is given = record {
   ids = h.ids;
+  input = h.input;
   chosen = h.chosen;
-  each = zip-weaker (IsChosenPackage cx) (λ (id : ℕ) (k : PackageView). (p : PackageRecord) (f : Features) → package_at cx id ≡ Some p → features_at cx id ≡ Some f → IsSampleOf (package_choice cx.args p f) strength k.runs)
-      (λ id k m p f known loaded.
+  of_call = h.of_call;
+  each = zip-weaker (IsPackageOf cx h.input latest) (λ (id : ℕ) (k : PackageView). IsUsed cx h.input latest id → (p : PackageRecord) (f : Features) → package_at cx id ≡ Some p → features_at cx id ≡ Some f → IsSampleOf (package_choice cx.args p f) strength k.runs)
+      (λ id k m used p f known loaded.
       let same_p = same_some m.pkg p (sym m.known ∙ known) in
       let same_f = same_some m.features f (sym m.loaded ∙ loaded) in
-      let runs = subst (λ q. AreRuns cx.args q f k.runs) same_p (subst (λ g. AreRuns cx.args m.pkg g k.runs) same_f m.runs) in
+      let runs = subst (λ q. AreRuns cx.args q f k.runs) same_p (subst (λ g. AreRuns cx.args m.pkg g k.runs) same_f (m.runs used)) in
       sample cx.args p f strength k.runs is given runs)
       h.ids plan.packages h.packages;
 }
@@ -149,10 +158,11 @@ patterns cx latest plan strength h is given each = record {
   of_call = h.of_call;
   on_steps = h.places.1;
   held = λ place id p features version slot pattern s at known loaded uses within few selection listed shows.
-      let m = zip-at (IsChosenPackage cx) h.ids plan.packages place id h.packages at in
+      let m = zip-at (IsPackageOf cx h.input latest) h.ids plan.packages place id h.packages at in
+      let used = used-at cx h.ids h.input latest h.places.0 version place id h.of_call at h.places.1 uses in
       let same_p = same_some m.2.pkg p (sym m.2.known ∙ known) in
       let same_f = same_some m.2.features features (sym m.2.loaded ∙ loaded) in
-      let runs = subst (λ q. AreRuns cx.args q features m.0.runs) same_p (subst (λ f. AreRuns cx.args m.2.pkg f m.0.runs) same_f m.2.runs) in
+      let runs = subst (λ q. AreRuns cx.args q features m.0.runs) same_p (subst (λ f. AreRuns cx.args m.2.pkg f m.0.runs) same_f (m.2.runs used)) in
       let by = (sample cx.args p features strength m.0.runs is given runs).covers pattern few s selection listed shows in
       pattern-at cx latest plan h (not-all h.input.as_cargo _ h.of_call.as_cargo each) place p features version slot pattern uses within m.0 m.1 by.0 by.1 by.2;
 }

@@ -19,7 +19,7 @@ use Rattle.hack_plan.specs.RunsView.{with_last_first}
 use Rattle.hack_plan.specs.declared.runs.RunOptions.{RunOptions}
 use Rattle.hack_plan.specs.View.{PackageView, PlanView}
 use Rattle.hack_versions.specs.declared.version.Version.{Version}
-use Rattle.hack_planner.specs.Calls.{IsChosenPackage}
+use Rattle.hack_planner.specs.Calls.{IsPackageOf, IsUsed}
 use Rattle.hack_planner.specs.CallPlan.{HasJustRuns}
 use Rattle.hack_planner.specs.Powersets.{HavePowersets, IsPowerset, set_of, run_sets_of}
 use Rattle.hack_planner.proofs.PlanLemmas.{same_some, zip-weaker}
@@ -136,15 +136,17 @@ powerset w p f runs is all made =
     }
 
 -- under a powerset each chosen package of a plan has its powerset
-pub powersets : (cx : ContextRecord) (latest : Option Version) (plan : PlanView) → HasJustRuns cx latest plan → cx.args.feature_powerset ≡ true → cx.args.strength ≡ None → HavePowersets cx plan
+pub powersets : (cx : ContextRecord) (latest : Option Version) (plan : PlanView) → HasJustRuns cx latest plan → cx.args.feature_powerset ≡ true → cx.args.strength ≡ None → HavePowersets cx latest plan
 powersets cx latest plan h is all = record {
   ids = h.ids;
+  input = h.input;
   chosen = h.chosen;
-  each = zip-weaker (IsChosenPackage cx) (λ (id : ℕ) (k : PackageView). (p : PackageRecord) (f : Features) → package_at cx id ≡ Some p → features_at cx id ≡ Some f → IsPowerset (package_choice cx.args p f) k.runs)
-      (λ id k m p f known loaded.
+  of_call = h.of_call;
+  each = zip-weaker (IsPackageOf cx h.input latest) (λ (id : ℕ) (k : PackageView). IsUsed cx h.input latest id → (p : PackageRecord) (f : Features) → package_at cx id ≡ Some p → features_at cx id ≡ Some f → IsPowerset (package_choice cx.args p f) k.runs)
+      (λ id k m used p f known loaded.
       let same_p = same_some m.pkg p (sym m.known ∙ known) in
       let same_f = same_some m.features f (sym m.loaded ∙ loaded) in
-      let runs = subst (λ q. AreRuns cx.args q f k.runs) same_p (subst (λ g. AreRuns cx.args m.pkg g k.runs) same_f m.runs) in
+      let runs = subst (λ q. AreRuns cx.args q f k.runs) same_p (subst (λ g. AreRuns cx.args m.pkg g k.runs) same_f (m.runs used)) in
       powerset cx.args p f k.runs is all runs)
       h.ids plan.packages h.packages;
 }

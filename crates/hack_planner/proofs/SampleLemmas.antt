@@ -1,5 +1,5 @@
 -- Why there is no sample of a package, and what holds of both clauses of a result.
-use Rattle.std.proofs.Common.{◌≡◌, ℕ, ◌⊎◌, inl, inr, refl, List, Option, None, Some, Bool, true, Result, Ok, Err, IfOk, IfErr, is_some, arith}
+use Rattle.std.proofs.Common.{◌≡◌, ◌∙◌, ℕ, ◌⊎◌, inl, inr, refl, sym, subst, List, Option, None, Some, Bool, true, Result, Ok, Err, IfOk, IfErr, IsSome, is_some}
 use Rattle.std.specs.List.{AllZip}
 use Rattle.hack_planner.specs.Kinds.{package_choice}
 use Rattle.hack_load.specs.declared.features.Features.{Features}
@@ -13,21 +13,28 @@ use Rattle.hack_features.specs.declared.rules.Rules.{Rules}
 use Rattle.hack_features.specs.View.{choice_of, questions_asked}
 use Rattle.hack_planner.specs.Kinds as kinds
 use Rattle.hack_planner.specs.KindsView.{IsRunsFault}
-use Rattle.hack_planner.specs.Internal.{IsGivenUp}
+use Rattle.hack_planner.specs.Internal.{IsGivenUp, IsRefused}
 
--- an error of rules that were asked as many questions as they may is one of the package
-pub tired : (w : Args) (p : PackageRecord) (f : Features) (strength : ℕ) (asked : Rules) (e : RunsFault) → w.feature_powerset ≡ true → w.strength ≡ Some strength → choice_of asked ≡ kinds.package_choice w p f
-    → IsGivenUp (questions_asked asked) e → (e ≡ fault.Memory) ⊎ IsRunsFault w p f e
-tired w p f strength asked fault.Memory powerset given made_for up = inl refl
-tired w p f strength asked (fault.TooManyQuestions tally) powerset given made_for up = inr (record {
-  strength = strength;
-  powerset = powerset;
-  given = given;
-  asked = asked;
-  made_for = made_for;
-  told = up.0;
-  spent = omega (arith, up.0, up.1);
-})
+is-given : (o : Option ℕ) → IsSome o → (strength : ℕ) × (o ≡ Some strength)
+is-given None some = absurd (cc)
+is-given (Some strength) some = (strength, refl)
+
+-- an error of rules of the package, which were asked as many questions as they may, is one of the package
+pub tired : (w : Args) (p : PackageRecord) (f : Features) (asked : Rules) (e : RunsFault) → choice_of asked ≡ kinds.package_choice w p f → (e ≡ fault.Memory) ⊎ IsRefused w (questions_asked asked) e → (e ≡ fault.Memory) ⊎ IsRunsFault w p f e
+tired w p f asked fault.Memory made_for h = inl refl
+tired w p f asked (fault.TooManyQuestions tally) made_for (inl e) = absurd (cc)
+tired w p f asked (fault.TooManyQuestions tally) made_for (inr up) =
+    let given = is-given w.strength up.1 in
+    inr (record { strength = given.0; powerset = up.0; given = given.1; asked = asked; made_for = made_for; told = up.2; spent = up.2 ∙ up.3 })
+
+-- a sample that is given up is refused where it was asked for
+pub refused : (w : Args) (asked : ℕ) (e : RunsFault) → w.feature_powerset ≡ true → IsSome w.strength → IsGivenUp asked e → (e ≡ fault.Memory) ⊎ IsRefused w asked e
+refused w asked fault.Memory powerset given up = inl refl
+refused w asked (fault.TooManyQuestions tally) powerset given up = inr (powerset, given, up.0, up.1)
+
+-- sets of a powerset with this strength
+pub sets-by : (powerset : Bool) (strength given : Option ℕ) (c : Choice) (n : ℕ) (sets : List (List ℕ)) → powerset ≡ true → strength ≡ given → kinds.ArePowersets given c n sets → kinds.AreSetsBy powerset strength c n sets
+sets-by powerset strength given c n sets is same are = subst (λ b. kinds.AreSetsBy b strength c n sets) (sym is) (subst (λ o. kinds.ArePowersets o c n sets) (sym same) are)
 
 -- if two things hold of what is returned, so does what follows from both
 pub ok-both : {X E : Type 0} (r : Result X E) (P Q R : X → Type 0) → ((x : X) → P x → Q x → R x) → IfOk r P → IfOk r Q → IfOk r R

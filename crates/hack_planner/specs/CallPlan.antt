@@ -16,7 +16,7 @@ use Rattle.hack_plan.specs.Inputs.{AreVersions, AreNotices, IsVersionsFault}
 use Rattle.hack_plan.specs.Spans.{AreSpans, AreTiled, versions_of}
 use Rattle.hack_plan.specs.declared.versions.PlanInput.{PlanInput}
 use Rattle.hack_versions.specs.declared.group.VersionGroup.{VersionGroup}
-use Rattle.hack_planner.specs.Calls.{IsInputOf, IsChosenPackage, HasCoverage, HasBadOwn, HasNoSample, call_of, candidate_notes_at, left_out_notes}
+use Rattle.hack_planner.specs.Calls.{IsInputOf, IsPackageOf, IsCoveredIn, IsUsed, HasBadOwn, HasNoSample, call_of, candidate_notes_at, left_out_notes}
 use Rattle.hack_plan.specs.Prepared.{ArePrepared, span_of}
 use Rattle.hack_plan.specs.View.{PackageView, PlanView}
 use Rattle.hack_planner.specs.declared.fault.PlanFault.{PlanFault}
@@ -26,14 +26,14 @@ use Rattle.hack_planner.specs.declared.fault.PlanFault.TheVariants as fault
 abbrev pub run_counts : List PackageView → List ℕ
 run_counts packages = map (λ k. length k.runs) packages
 
--- a plan has exactly the chosen packages, each with its texts, its candidates and its runs; and its
--- places are exactly the admissible runs, in order, where `stable` is this version
+-- a plan has exactly the chosen packages, each with its texts, its candidates and its runs, or a plain
+-- run where it uses no version; and its places are exactly the admissible runs, in order, where `stable` is this version
 pub record HasJustRuns (cx : ContextRecord) (latest : Option Version) (plan : PlanView) : Type 0 where
   pub ids : List ℕ
   pub input : PlanInput
   pub chosen : AreChosen cx ids
   pub of_call : IsInputOf cx ids input
-  pub packages : AllZip (IsChosenPackage cx) ids plan.packages
+  pub packages : AllZip (IsPackageOf cx input latest) ids plan.packages
   pub places : ArePlaces input (run_counts plan.packages) latest plan.entries
 
 -- what the calls and the notices of a call with a subcommand depend on, where `stable` is this
@@ -64,7 +64,7 @@ pub record IsPerformable (cx : ContextRecord) (rustup : Name) (latest : Option V
 pub record IsPlan (cx : ContextRecord) (rustup : Name) (latest : Option Version) (plan : PlanView)
     (notes : List Note) : Type 0 where
   pub performed : IsPerformable cx rustup latest plan notes
-  pub covered : AllZip (HasCoverage cx) performed.base.ids plan.packages
+  pub covered : AllZip (IsCoveredIn cx performed.base.input latest) performed.base.ids plan.packages
   pub tiled : AreTiled 0 (map span_of plan.versions) (length plan.entries)
   pub readable : (e : VersionFault) → ¬ HasBadOwn cx performed.base.ids e
   pub fits : ¬ HasTooMany performed.base.input (run_counts plan.packages) latest
@@ -113,14 +113,16 @@ pub record AreTooManyRuns (cx : ContextRecord) (latest : Option Version) : Type 
   pub packages : List PackageView
   pub chosen : AreChosen cx ids
   pub of_call : IsInputOf cx ids input
-  pub each : AllZip (IsChosenPackage cx) ids packages
+  pub each : AllZip (IsPackageOf cx input latest) ids packages
   pub many : HasTooMany input (run_counts packages) latest
 
--- the sample of one of the chosen packages, of this name, needs too many questions: so many were asked
-pub record IsTooWide (cx : ContextRecord) (name : Name) (tally : Tally) : Type 0 where
+-- the sample of one of the chosen packages that are used, of this name, needs too many questions: so many were asked
+pub record IsTooWide (cx : ContextRecord) (latest : Option Version) (name : Name) (tally : Tally) : Type 0 where
   pub ids : List ℕ
+  pub input : PlanInput
   pub chosen : AreChosen cx ids
-  pub wide : HasNoSample cx ids name tally
+  pub of_call : IsInputOf cx ids input
+  pub wide : HasNoSample cx (IsUsed cx input latest) ids name tally
 
 -- the causes to refuse a call with a subcommand, where `stable` is this version
 abbrev pub IsCause : ContextRecord → Option Version → PlanFault → Type 0
@@ -129,7 +131,7 @@ IsCause cx latest (fault.Stable text) = ⊥
 IsCause cx latest (fault.Packages e) = IsChoiceFault cx e
 IsCause cx latest (fault.Version e) = IsBadVersion cx e
 IsCause cx latest (fault.Range e) = IsBadRange cx latest e
-IsCause cx latest (fault.TooManyQuestions name tally) = IsTooWide cx (string_bytes name) tally
+IsCause cx latest (fault.TooManyQuestions name tally) = IsTooWide cx latest (string_bytes name) tally
 IsCause cx latest fault.TooManyRuns = AreTooManyRuns cx latest
 
 -- the causes that leave no plan, whatever samples are found: with a strength another sample could have too many runs, or need
@@ -140,7 +142,7 @@ IsSureCause cx latest (fault.Stable text) = ⊥
 IsSureCause cx latest (fault.Packages e) = IsChoiceFault cx e
 IsSureCause cx latest (fault.Version e) = IsBadVersion cx e
 IsSureCause cx latest (fault.Range e) = IsBadRange cx latest e
-IsSureCause cx latest (fault.TooManyQuestions name tally) = (cx.args.strength ≡ None) × IsTooWide cx (string_bytes name) tally
+IsSureCause cx latest (fault.TooManyQuestions name tally) = (cx.args.strength ≡ None) × IsTooWide cx latest (string_bytes name) tally
 IsSureCause cx latest fault.TooManyRuns = (cx.args.strength ≡ None) × AreTooManyRuns cx latest
 
 -- the causes, given the answer for `stable`: its error, or one of the causes above

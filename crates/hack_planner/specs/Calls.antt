@@ -15,12 +15,14 @@ use Rattle.hack_versions.specs.declared.version.VersionRange.{VersionRange}
 use Rattle.hack_versions.specs.declared.group.PackageVersion.{PackageVersion}
 use Rattle.hack_versions.specs.declared.group.VersionGroup.{VersionGroup}
 use Rattle.hack_base.specs.Notes.{Note}
+use Rattle.hack_versions.specs.VersionOrder.{strip_patch}
 use Rattle.hack_versions.specs.VersionTexts.{IsVersionText, IsVersionFault}
+use Rattle.hack_versions.specs.VersionUses.{UsesBy}
 use Rattle.hack_rules.specs.declared.uses.behavior.WorkspaceBehavior.TheVariants.{Cargo}
 use Rattle.hack_planner.specs.Candidates.{candidates, candidate_notes}
 use Rattle.hack_planner.specs.Kinds.{AreRuns, AreCovering, AreRunSettings, IsUnsampled, package_choice}
 use Rattle.hack_plan.specs.Runs.{Plain}
-use Rattle.hack_plan.specs.Inputs.{slots_of}
+use Rattle.hack_plan.specs.Inputs.{IsStepList, slots_of}
 use Rattle.hack_plan.specs.declared.versions.PlanInput.{PlanInput}
 use Rattle.hack_plan.specs.View.{CallView, PackageView}
 
@@ -70,6 +72,16 @@ pub record IsInputOf (cx : ContextRecord) (ids : List ℕ) (s : PlanInput) : Typ
   pub cargo_minor : s.cargo_minor ≡ cx.cargo_minor
   pub members : AllZip (IsMember cx) ids s.packages.items
 
+-- a package with this text of an own version uses one of these steps, or its own version; without a range each package is used
+abbrev pub UsesSome : Option VersionRange → List Version → Option Name → Type 0
+UsesSome None steps text = Unit {0}
+UsesSome (Some range) steps text = (own : Option Version) × (v : Version) × IsOwn (Some range) text own
+    × UsesBy range.start_inclusive range.end_inclusive steps (option_map strip_patch own) v
+
+-- the package is used: it uses a version of the call, so that the plan has places for its runs
+abbrev pub IsUsed : ContextRecord → PlanInput → Option Version → ℕ → Type 0
+IsUsed cx s latest id = (steps : List Version) × IsStepList s.range s latest steps × UsesSome s.range steps (rust_version_at cx id)
+
 -- the own version of a chosen package can't be read
 abbrev pub HasBadOwn : ContextRecord → List ℕ → VersionFault → Type 0
 HasBadOwn cx ids e = (id : ℕ) × Contains ids id × IsBadOwn cx.args.version_range (rust_version_at cx id) e
@@ -83,13 +95,13 @@ pub record HasNoSampleAt (cx : ContextRecord) (id : ℕ) (name : Name) (tally : 
   pub called : name ≡ pkg.name
   pub wide : IsUnsampled cx.args pkg features tally
 
--- one of the packages, of this name, has no sample
-abbrev pub HasNoSample : ContextRecord → List ℕ → Name → Tally → Type 0
-HasNoSample cx ids name tally = (id : ℕ) × Contains ids id × HasNoSampleAt cx id name tally
+-- one of the packages that are used, of this name, has no sample
+abbrev pub HasNoSample : ContextRecord → (ℕ → Type 0) → List ℕ → Name → Tally → Type 0
+HasNoSample cx Used ids name tally = (id : ℕ) × Contains ids id × Used id × HasNoSampleAt cx id name tally
 
--- a chosen package in the plan has its texts, the features of `--features` that it gets, its runs,
--- and its candidates, or none where its one run is plain
-pub record IsChosenPackage (cx : ContextRecord) (id : ℕ) (k : PackageView) : Type 0 where
+-- a chosen package in the plan has its texts, the features of `--features` that it gets, and its
+-- candidates, or none where its one run is plain; and where it is used its runs, else a plain one
+pub record IsChosenPackage (cx : ContextRecord) (used : Type 0) (id : ℕ) (k : PackageView) : Type 0 where
   pub pkg : PackageRecord
   pub features : Features
   pub known : package_at cx id ≡ Some pkg
@@ -99,19 +111,28 @@ pub record IsChosenPackage (cx : ContextRecord) (id : ℕ) (k : PackageView) : T
   pub given : k.features ≡ passed_for cx (Some id)
   pub candidates : (k.candidates ≡ candidates cx.args features)
       ⊎ ((k.candidates ≡ []) × (k.runs ≡ Plain ∷ []))
-  pub runs : AreRuns cx.args pkg features k.runs
+  pub runs : used → AreRuns cx.args pkg features k.runs
+  pub unused : ¬ used → (k.candidates ≡ []) × (k.runs ≡ Plain ∷ [])
 
--- under a powerset without a strength the runs of a chosen package cover each set that has to be
--- covered; with a strength the plan says which candidates are on in each run
-pub record HasCoverage (cx : ContextRecord) (id : ℕ) (k : PackageView) : Type 0 where
+-- under a powerset without a strength the runs of a chosen package that is used cover each set that
+-- has to be covered; with a strength the plan says which candidates are on in each run
+pub record HasCoverage (cx : ContextRecord) (used : Type 0) (id : ℕ) (k : PackageView) : Type 0 where
   pub pkg : PackageRecord
   pub features : Features
   pub known : package_at cx id ≡ Some pkg
   pub loaded : features_at cx id ≡ Some features
-  pub covered : cx.args.feature_powerset ≡ true → cx.args.strength ≡ None
+  pub covered : used → cx.args.feature_powerset ≡ true → cx.args.strength ≡ None
       → AreCovering cx.args pkg features k.runs
-  pub settings :
-      AreRunSettings cx.args.strength (package_choice cx.args pkg features) k.runs k.settings
+  pub settings : used
+      → AreRunSettings cx.args.strength (package_choice cx.args pkg features) k.runs k.settings
+  pub unused : ¬ used → k.settings ≡ []
+
+-- the same, where a package is used if it uses a version of this input
+abbrev pub IsPackageOf : ContextRecord → PlanInput → Option Version → ℕ → PackageView → Type 0
+IsPackageOf cx s latest id k = IsChosenPackage cx (IsUsed cx s latest id) id k
+
+abbrev pub IsCoveredIn : ContextRecord → PlanInput → Option Version → ℕ → PackageView → Type 0
+IsCoveredIn cx s latest id k = HasCoverage cx (IsUsed cx s latest id) id k
 
 -- the notices on the features of a package
 abbrev pub candidate_notes_at : ContextRecord → Bool → ℕ → List Note

@@ -1,5 +1,5 @@
 -- What only private functions of the crate promise each other.
-use Rattle.std.specs.Prelude.{Option, ℕ, List, Contains, string_bytes, ◌≡◌, ◌≤◌, length}
+use Rattle.std.specs.Prelude.{Option, ℕ, List, true, Contains, IsTrue, IsSome, string_bytes, ◌≡◌, ◌≤◌, length}
 use Rattle.hack_load.specs.Contexts.{ContextRecord}
 use Rattle.hack_planner.specs.ContextMembers.{IsChoiceFault}
 use Rattle.hack_versions.specs.declared.version.Version.{Version}
@@ -11,6 +11,8 @@ use Rattle.hack_planner.specs.Calls.{HasBadOwn, HasNoSampleAt}
 use Rattle.hack_planner.specs.declared.fault.RunsFault.{RunsFault}
 use Rattle.hack_planner.specs.declared.fault.RunsFault.TheVariants as runs
 use Rattle.hack_planner.specs.Kinds.{most_questions}
+use Rattle.hack_planner.specs.declared.uses.Chosen.{Chosen}
+use Rattle.hack_words.specs.declared.cli.args.Args.{Args}
 use Rattle.hack_features.specs.View.{asked_in}
 use Rattle.hack_features.specs.Sets.{IsListing}
 use Rattle.hack_features.specs.Rules.{Choice, IsListed, AreCovers}
@@ -55,9 +57,9 @@ SaysNoSample cx id (fault.Range e) = ⊥
 SaysNoSample cx id (fault.TooManyQuestions name tally) = HasNoSampleAt cx id (string_bytes name) tally
 SaysNoSample cx id fault.TooManyRuns = ⊥
 
--- the error says that one of these packages has no sample
-abbrev pub HasRunsFault : ContextRecord → List ℕ → PlanFault → Type 0
-HasRunsFault cx ids e = (id : ℕ) × Contains ids id × SaysNoSample cx id e
+-- the error says that one of the chosen packages, which is used, has no sample
+abbrev pub HasRunsFault : ContextRecord → List Chosen → PlanFault → Type 0
+HasRunsFault cx chosen e = (one : Chosen) × Contains chosen one × IsTrue one.is_used × SaysNoSample cx one.id.index e
 
 -- the listed sets are at least so many, and each set that has to be covered is covered by one of them
 pub record ListsAtLeast (c : Choice) (n least : ℕ) : Type 0 where
@@ -66,7 +68,13 @@ pub record ListsAtLeast (c : Choice) (n least : ℕ) : Type 0 where
   pub covers : AreCovers c n sets
   pub enough : least ≤ length sets
 
--- a sample is given up for want of memory, or after the most questions that may be asked, which the tally tells
+-- a sample is given up for want of memory, or after just as many questions as may be asked, which the tally tells
 abbrev pub IsGivenUp : ℕ → RunsFault → Type 0
 IsGivenUp asked runs.Memory = Unit {0}
-IsGivenUp asked (runs.TooManyQuestions tally) = (asked_in tally ≡ asked) × (most_questions ≤ asked)
+IsGivenUp asked (runs.TooManyQuestions tally) = (asked_in tally ≡ asked) × (asked ≡ most_questions)
+
+-- the error says that a sample was asked for and given up after just as many questions as were asked of these rules
+abbrev pub IsRefused : Args → ℕ → RunsFault → Type 0
+IsRefused args asked runs.Memory = ⊥
+IsRefused args asked (runs.TooManyQuestions tally) = (args.feature_powerset ≡ true) × IsSome args.strength
+    × (asked_in tally ≡ asked) × (asked ≡ most_questions)

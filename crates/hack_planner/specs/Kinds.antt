@@ -48,11 +48,15 @@ abbrev pub ArePowersets : Option ℕ → Choice → ℕ → List (List ℕ) → 
 ArePowersets None c n sets = IsListing n (IsListed c) sets
 ArePowersets (Some strength) c n sets = IsSample c n sets × CoversPatterns c n strength sets × IsLean c strength sets
 
--- the sets of a package: under a powerset those that are listed or a sample of them, else each candidate alone
+-- the sets of a choice of n candidates: under a powerset those that are listed or a sample of them, else each candidate alone
+abbrev pub AreSetsBy : Bool → Option ℕ → Choice → ℕ → List (List ℕ) → Type 0
+AreSetsBy true strength c n sets = ArePowersets strength c n sets
+AreSetsBy false strength c n sets = sets ≡ singles n
+
+-- the sets of a package
 abbrev pub AreSets : Bool → Args → PackageRecord → Features → List (List ℕ) → Type 0
-AreSets true args p f sets =
-    ArePowersets args.strength (package_choice args p f) (length (candidates args f)) sets
-AreSets false args p f sets = sets ≡ singles (length (candidates args f))
+AreSets powerset args p f sets =
+    AreSetsBy powerset args.strength (package_choice args p f) (length (candidates args f)) sets
 
 -- the runs are those of the package's sets
 pub record AreSetRuns (args : Args) (p : PackageRecord) (f : Features) (runs : List PackageRun)
@@ -104,7 +108,7 @@ AreRunSettings (Some strength) c runs rows = AllZip (IsRowOf c) runs rows
 abbrev pub most_questions : ℕ
 most_questions = 20000000
 
--- the sample is given up: rules of the package's choice were asked `most_questions` or more, as the tally tells
+-- the sample is given up: rules of the package's choice were asked `most_questions`, no more and no fewer, as the tally tells
 pub record IsUnsampled (args : Args) (p : PackageRecord) (f : Features) (tally : Tally) : Type 0 where
   pub strength : ℕ
   pub powerset : args.feature_powerset ≡ true
@@ -112,7 +116,7 @@ pub record IsUnsampled (args : Args) (p : PackageRecord) (f : Features) (tally :
   pub asked : Rules
   pub made_for : rules.choice_of asked ≡ package_choice args p f
   pub told : rules.asked_in tally ≡ rules.questions_asked asked
-  pub spent : most_questions ≤ rules.asked_in tally
+  pub spent : rules.asked_in tally ≡ most_questions
 
 -- the call asks for all sets of one candidate, and has no exclusion or at-least-one groups
 pub record IsDepthOne (args : Args) : Type 0 where

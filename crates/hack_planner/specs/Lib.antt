@@ -7,12 +7,14 @@ pub mod PackagesView
 pub mod Candidates
 pub mod Kinds
 pub mod KindsView
+pub mod InternalKinds
 pub mod LeastRuns
 pub mod ContextMembers
 pub mod Calls
 pub mod CoveredSets
-pub mod InternalLeastPlaces
+pub mod InternalUses
 pub mod CallPlan
+pub mod InternalLeastPlaces
 pub mod Powersets
 pub mod Samples
 pub mod InternalFaultConversions

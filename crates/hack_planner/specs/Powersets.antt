@@ -6,9 +6,12 @@ use Rattle.hack_features.specs.Sets.{IsSelection, Pairwise}
 use Rattle.hack_load.specs.Contexts.{ContextRecord, package_at, features_at}
 use Rattle.hack_load.specs.declared.features.Features.{Features}
 use Rattle.hack_metadata.specs.Records.{PackageRecord}
+use Rattle.hack_planner.specs.Calls.{IsInputOf, IsUsed}
 use Rattle.hack_planner.specs.ContextMembers.{AreChosen}
 use Rattle.hack_plan.specs.Runs.{PackageRun, Set}
 use Rattle.hack_plan.specs.View.{PlanView}
+use Rattle.hack_plan.specs.declared.versions.PlanInput.{PlanInput}
+use Rattle.hack_versions.specs.declared.version.Version.{Version}
 use Rattle.hack_planner.specs.Kinds.{package_choice}
 
 -- the set of a run, if the run has one
@@ -25,13 +28,16 @@ pub record IsPowerset (choice : Choice) (runs : List PackageRun) : Type 0 where
   pub exact : (s : List ℕ) → Contains (run_sets_of runs) s ↔ (IsSelection (length choice.candidates) s × IsListed choice s)
   pub once : Pairwise (λ s t. s ≢ t) (run_sets_of runs)
 
--- the plan has exactly the chosen packages, and P holds of what each one's sets are chosen from and of its runs
-pub record HoldsOfEach (cx : ContextRecord) (plan : PlanView) (P : Choice → List PackageRun → Type 0) : Type 0 where
+-- the plan has exactly the chosen packages, and P holds of what each one's sets are chosen from and of its runs, where it uses a
+-- version
+pub record HoldsOfEach (cx : ContextRecord) (latest : Option Version) (plan : PlanView) (P : Choice → List PackageRun → Type 0) : Type 0 where
   pub ids : List ℕ
+  pub input : PlanInput
   pub chosen : AreChosen cx ids
-  pub each : AllZip (λ id k. (p : PackageRecord) (f : Features) → package_at cx id ≡ Some p
+  pub of_call : IsInputOf cx ids input
+  pub each : AllZip (λ id k. IsUsed cx input latest id → (p : PackageRecord) (f : Features) → package_at cx id ≡ Some p
       → features_at cx id ≡ Some f → P (package_choice cx.args p f) k.runs) ids plan.packages
 
--- the plan has exactly the chosen packages, and the runs of each have its powerset
-abbrev pub HavePowersets : ContextRecord → PlanView → Type 0
-HavePowersets cx plan = HoldsOfEach cx plan IsPowerset
+-- the plan has exactly the chosen packages, and the runs of each that uses a version have its powerset
+abbrev pub HavePowersets : ContextRecord → Option Version → PlanView → Type 0
+HavePowersets cx latest plan = HoldsOfEach cx latest plan IsPowerset

@@ -26,9 +26,9 @@ pub record IsSampleOf (choice : Choice) (strength : ℕ) (runs : List PackageRun
   pub covers : CoversPatterns choice (length choice.candidates) strength (run_sets_of runs)
   pub lean : IsLean choice strength (run_sets_of runs)
 
--- the plan has exactly the chosen packages, and the sets of each one's runs are a sample
-abbrev pub HaveSamples : ContextRecord → ℕ → PlanView → Type 0
-HaveSamples cx strength plan = HoldsOfEach cx plan (λ choice runs. IsSampleOf choice strength runs)
+-- the plan has exactly the chosen packages, and the sets of the runs of each that uses a version are a sample
+abbrev pub HaveSamples : ContextRecord → ℕ → Option Version → PlanView → Type 0
+HaveSamples cx strength latest plan = HoldsOfEach cx latest plan (λ choice runs. IsSampleOf choice strength runs)
 
 -- the plan holds a place of the version, slot and package, whose run has a set that shows the pattern
 pub record HoldsPattern (plan : PlanView) (version : Option Version) (slot place : ℕ) (choice : Choice) (pattern : List Setting) : Type 0 where

@@ -1,21 +1,29 @@
 //! The chosen packages, as a plan needs them.
 
-ghost use Rattle.std.specs.Prelude.{◌≡◌, ◌⊎◌, All, Contains, IfErr, IfOk, map};
+ghost use Rattle.std.specs.Prelude.{◌≡◌, ◌⊎◌, [], All, Contains, IfErr, IfOk, IsTrue, None, Some};
+ghost use Rattle.std.specs.Prelude.{false, map, true};
 ghost use Rattle.std.specs.List.{AllZip, flat_map};
-ghost use Rattle.hack_features.specs.Feature.{groups_of};
-ghost use Rattle.hack_base.specs.Names.{names_of, names_behind};
-ghost use Rattle.hack_planner.specs.KindsView.{candidates_in, runs_of};
-ghost use Rattle.hack_plan.specs.RunsView.{runs_in};
-ghost use Rattle.hack_metadata.specs.RecordViews.{place_at};
-ghost use Rattle.hack_load.specs.ContextView.{context_view};
 ghost use Rattle.hack_base.specs.Notes.{note_of};
+ghost use Rattle.hack_features.specs.Feature.{groups_of};
+ghost use Rattle.hack_load.specs.ContextView.{context_view};
+ghost use Rattle.hack_load.specs.Contexts.{package_at, features_at};
+ghost use Rattle.hack_load.specs.declared.features.Features.{Features as Loaded};
+ghost use Rattle.hack_metadata.specs.Records.{PackageRecord};
+ghost use Rattle.hack_plan.specs.RunsView.{runs_in};
 ghost use Rattle.hack_plan.specs.View.{plan_package_view};
-ghost use Rattle.hack_planner.specs.Calls.{IsChosenPackage, HasCoverage, candidate_notes_at};
+ghost use Rattle.hack_samples.specs.Sets.{rows_of};
+ghost use Rattle.hack_planner.specs.Calls.{candidate_notes_at};
+ghost use Rattle.hack_planner.specs.Candidates.{candidate_notes};
 ghost use Rattle.hack_planner.specs.Internal.{SaysNoSample, HasRunsFault};
+ghost use Rattle.hack_planner.specs.InternalUses.{IsCoveredAs, IsPlannedAs, id_of};
+ghost use Rattle.hack_planner.specs.Kinds.{AreCovering, AreRuns, AreRunSettings, package_choice};
+ghost use Rattle.hack_planner.specs.KindsView.{IsKind, IsRunsFault, candidates_in, runs_of};
 
+use crate::candidates::notes_on;
 use crate::determine::determine_kind;
 use crate::fault::{PlanFault, RunsFault};
-use crate::kind::Kind;
+use crate::kind::{Kind, PackageRuns};
+use crate::uses::Chosen;
 use crate::words::given_path;
 use hack_base::copies::copies;
 use hack_base::notice::Notice;
@@ -39,28 +47,108 @@ fn parts_of(alloc: Global, kind: Kind) -> Result<(Vec<Feature>, Runs), AllocErro
     }
 }
 
-/// A chosen package, with the notices on its features.
-fn chosen_package(
+/// The runs of a chosen package, and the notices on its features. Where it isn't used it gets a plain
+/// run, for which the plan has no place.
+fn runs_for(
+    alloc: Global,
+    cx: &Context,
+    one: Chosen,
+    single: bool,
+) -> Result<(PackageRuns, Vec<Notice>), RunsFault>
+    requires { Contains (context_view cx.now).metadata.workspace_members one.id.index }
+    ensures kind { IsTrue one.is_used → (p : PackageRecord) (features : Loaded)
+        → package_at (context_view cx.now) one.id.index ≡ Some p
+        → features_at (context_view cx.now) one.id.index ≡ Some features
+        → IfOk result (λ answer. IsKind (context_view cx.now).args p features answer.0.kind) }
+    ensures runs { IsTrue one.is_used → (p : PackageRecord) (features : Loaded)
+        → package_at (context_view cx.now) one.id.index ≡ Some p
+        → features_at (context_view cx.now) one.id.index ≡ Some features
+        → IfOk result (λ answer. AreRuns (context_view cx.now).args p features
+        (runs_of answer.0.kind)) }
+    ensures covered { IsTrue one.is_used → (p : PackageRecord) (features : Loaded)
+        → package_at (context_view cx.now) one.id.index ≡ Some p
+        → features_at (context_view cx.now) one.id.index ≡ Some features
+        → (context_view cx.now).args.feature_powerset ≡ true
+        → (context_view cx.now).args.strength ≡ None
+        → IfOk result (λ answer. AreCovering (context_view cx.now).args p features
+        (runs_of answer.0.kind)) }
+    ensures settings { IsTrue one.is_used → (p : PackageRecord) (features : Loaded)
+        → package_at (context_view cx.now) one.id.index ≡ Some p
+        → features_at (context_view cx.now) one.id.index ≡ Some features
+        → IfOk result (λ answer. AreRunSettings (context_view cx.now).args.strength
+        (package_choice (context_view cx.now).args p features)
+        (runs_of answer.0.kind) (rows_of answer.0.settings.items)) }
+    ensures unused { one.is_used ≡ false → IfOk result (λ answer.
+        (answer.0.kind ≡ Kind.Normal) × (rows_of answer.0.settings.items ≡ [])) }
+    ensures notices { (p : PackageRecord) (features : Loaded)
+        → package_at (context_view cx.now) one.id.index ≡ Some p
+        → features_at (context_view cx.now) one.id.index ≡ Some features
+        → IfOk result (λ answer. map note_of answer.1.items
+        ≡ candidate_notes single (context_view cx.now).args p.name features) }
+    ensures err { (p : PackageRecord) (features : Loaded)
+        → package_at (context_view cx.now) one.id.index ≡ Some p
+        → features_at (context_view cx.now) one.id.index ≡ Some features
+        → IfErr result (λ e. (e ≡ RunsFault.Memory) ⊎ (IsTrue one.is_used
+        × IsRunsFault (context_view cx.now).args p features e)) }
+{
+    if one.is_used {
+        return determine_kind(alloc, cx, one.id, single);
+    }
+    Ok(plain_runs(alloc, cx, one.id, single)?)
+}
+
+/// A plain run for a package, with the notices on its features.
+fn plain_runs(
     alloc: Global,
     cx: &Context,
     id: PackageId,
     single: bool,
-) -> Result<(PlanPackage, Vec<Notice>), PlanFault>
+) -> Result<(PackageRuns, Vec<Notice>), AllocError>
     requires { Contains (context_view cx.now).metadata.workspace_members id.index }
-    ensures ok { IfOk result (λ answer. IsChosenPackage (context_view cx.now) id.index
-        (plan_package_view answer.0)) }
-    ensures coverage { IfOk result (λ answer. HasCoverage (context_view cx.now) id.index
-        (plan_package_view answer.0)) }
-    ensures notes { IfOk result (λ answer.
-        map note_of answer.1.items ≡ candidate_notes_at (context_view cx.now) single id.index) }
-    ensures err { IfErr result (λ e. (e ≡ PlanFault.Memory)
-        ⊎ SaysNoSample (context_view cx.now) id.index e) }
+    ensures plain { IfOk result (λ answer.
+        (answer.0.kind ≡ Kind.Normal) × (rows_of answer.0.settings.items ≡ [])) }
+    ensures notices { (p : PackageRecord) (features : Loaded)
+        → package_at (context_view cx.now) id.index ≡ Some p
+        → features_at (context_view cx.now) id.index ≡ Some features
+        → IfOk result (λ answer. map note_of answer.1.items
+        ≡ candidate_notes single (context_view cx.now).args p.name features) }
 {
     // This call promises that what was loaded fits together.
     let _ = cx.workspace_members();
-    let _ = cx.pkg_features(id);
     let pkg = cx.packages(id);
-    let (found, notices) = match determine_kind(alloc, cx, id, single) {
+    let features = cx.pkg_features(id);
+    let notices = notes_on(alloc, cx.args(), pkg, features, single)?;
+    let runs = PackageRuns {
+        id,
+        kind: Kind::Normal,
+        feature_count: 1,
+        settings: Vec::new(alloc),
+    };
+    Ok((runs, notices))
+}
+
+/// A chosen package, with the notices on its features.
+fn chosen_package(
+    alloc: Global,
+    cx: &Context,
+    one: Chosen,
+    single: bool,
+) -> Result<(PlanPackage, Vec<Notice>), PlanFault>
+    requires { Contains (context_view cx.now).metadata.workspace_members one.id.index }
+    ensures ok { IfOk result (λ answer. IsPlannedAs (context_view cx.now) one
+        (plan_package_view answer.0)) }
+    ensures coverage { IfOk result (λ answer. IsCoveredAs (context_view cx.now) one
+        (plan_package_view answer.0)) }
+    ensures notes { IfOk result (λ answer.
+        map note_of answer.1.items ≡ candidate_notes_at (context_view cx.now) single one.id.index) }
+    ensures err { IfErr result (λ e. (e ≡ PlanFault.Memory)
+        ⊎ (IsTrue one.is_used × SaysNoSample (context_view cx.now) one.id.index e)) }
+{
+    // This call promises that what was loaded fits together.
+    let _ = cx.workspace_members();
+    let _ = cx.pkg_features(one.id);
+    let pkg = cx.packages(one.id);
+    let (found, notices) = match runs_for(alloc, cx, one, single) {
         Ok(answer) => answer,
         Err(RunsFault::Memory) => return Err(PlanFault::Memory),
         Err(RunsFault::TooManyQuestions(tally)) => {
@@ -69,7 +157,7 @@ fn chosen_package(
         }
     };
     let (candidates, runs) = parts_of(alloc, found.kind)?;
-    let (given, _) = features_for(alloc, cx, id)?;
+    let (given, _) = features_for(alloc, cx, one.id)?;
     let features = copies(alloc, given.as_slice())?;
     let bare = cx.args().no_manifest_path;
     let planned = PlanPackage {
@@ -88,24 +176,24 @@ fn chosen_package(
 pub(crate) fn chosen_packages(
     alloc: Global,
     cx: &Context,
-    ids: &[PackageId],
+    chosen: &[Chosen],
     single: bool,
 ) -> Result<(Vec<PlanPackage>, Vec<Notice>), PlanFault>
-    requires { All (λ id. Contains (context_view cx.now).metadata.workspace_members id.index)
-        ids.now }
-    ensures ok { IfOk result (λ answer. AllZip (IsChosenPackage (context_view cx.now))
-        (map place_at ids.now) (map plan_package_view answer.0.items)) }
-    ensures coverage { IfOk result (λ answer. AllZip (HasCoverage (context_view cx.now))
-        (map place_at ids.now) (map plan_package_view answer.0.items)) }
+    requires { All (λ one. Contains (context_view cx.now).metadata.workspace_members one.id.index)
+        chosen.now }
+    ensures ok { IfOk result (λ answer. AllZip (IsPlannedAs (context_view cx.now))
+        chosen.now (map plan_package_view answer.0.items)) }
+    ensures coverage { IfOk result (λ answer. AllZip (IsCoveredAs (context_view cx.now))
+        chosen.now (map plan_package_view answer.0.items)) }
     ensures notes { IfOk result (λ answer. map note_of answer.1.items
-        ≡ flat_map (candidate_notes_at (context_view cx.now) single) (map place_at ids.now)) }
+        ≡ flat_map (candidate_notes_at (context_view cx.now) single) (map id_of chosen.now)) }
     ensures err { IfErr result (λ e. (e ≡ PlanFault.Memory)
-        ⊎ HasRunsFault (context_view cx.now) (map place_at ids.now) e) }
+        ⊎ HasRunsFault (context_view cx.now) chosen.now e) }
 {
-    let mut packages = Vec::with_capacity(alloc, ids.len())?;
+    let mut packages = Vec::with_capacity(alloc, chosen.len())?;
     let mut notices = Vec::new(alloc);
-    for id in ids {
-        match chosen_package(alloc, cx, *id, single) {
+    for one in chosen {
+        match chosen_package(alloc, cx, *one, single) {
             Ok((package, mut told)) => {
                 packages.push(package)?;
                 notices.append(&mut told)?;

@@ -1,38 +1,29 @@
 //! The runs of a package, and its candidates.
 
-ghost use Rattle.std.specs.Prelude.{◌≡◌, ◌<◌, ◌⊎◌, ◌++◌, ◌==◌, [], IfErr, IfOk, false};
+ghost use Rattle.std.specs.Prelude.{◌≡◌, ◌<◌, ◌⊎◌, ◌++◌, [], IfErr, IfOk};
 ghost use Rattle.std.specs.Prelude.{None, OnOk, Some, length, map, slice_get, string_bytes, true};
 ghost use Rattle.std.specs.List.{slice_index_or};
-ghost use Rattle.hack_features.specs.Feature.{groups_of, candidates_of};
-ghost use Rattle.hack_features.specs.Forest.{sets_in};
-ghost use Rattle.hack_features.specs.Rules.{AreCovers};
+ghost use Rattle.hack_features.specs.Feature.{groups_of};
 ghost use Rattle.hack_base.specs.Names.{names_of, names_behind};
-ghost use Rattle.hack_load.specs.declared.features.Features.{Features as Loaded};
 ghost use Rattle.hack_plan.specs.Runs.{run_of};
 ghost use Rattle.hack_base.specs.Notes.{note_of};
-ghost use Rattle.hack_planner.specs.Candidates.{candidates as are_candidates, candidate_notes};
+ghost use Rattle.hack_planner.specs.Candidates.{candidate_notes};
 ghost use Rattle.hack_metadata.specs.RecordViews.{package_view};
-ghost use Rattle.hack_planner.specs.Kinds.{AreSets, AreRuns, options_of};
-ghost use Rattle.std.specs.Option.{option_map_or};
+ghost use Rattle.hack_planner.specs.Kinds.{AreRuns, AreRunSettings};
 ghost use Rattle.hack_plan.specs.Commands.{candidate_names_at};
 ghost use Rattle.hack_planner.specs.Kinds.{AreCovering, package_choice, IsDepthOne, as_each};
-ghost use Rattle.hack_planner.specs.Kinds.{IsRowOf, AreRunSettings};
-ghost use Rattle.hack_planner.specs.Candidates.{lifted_for};
 ghost use Rattle.hack_samples.specs.Sets.{rows_of};
-ghost use Rattle.hack_features.specs.View.{choice_of as rules_choice, size_of, questions_asked};
-ghost use Rattle.std.specs.List.{AllZip};
-ghost use Rattle.hack_features.specs.Samples.{IsSample, CoversPatterns, IsLean};
-ghost use Rattle.hack_planner.specs.Internal.{IsGivenUp};
+ghost use Rattle.hack_planner.specs.InternalKinds.{kind_from as kind_made};
 ghost use Rattle.hack_planner.specs.KindsView.{IsKind, IsRunsFault, runs_of, candidates_in};
 
-use crate::candidates::{candidates, is_bare, notes_on};
+use crate::candidates::{candidates, notes_on};
 use crate::fault::RunsFault;
-use crate::lifts::lifted_groups;
+use crate::found::found_among;
 use hack_base::notice::Notice;
-use hack_features::{Feature, FeatureSets, Rules, SampleFault};
+use hack_features::Feature;
 use hack_load::features::Features;
 use hack_metadata::metadata::{Package, PackageId};
-use hack_plan::runs::{Run, RunOptions, Runs};
+use hack_plan::runs::{Run, Runs};
 use hack_words::cli::Args;
 use std::alloc::{AllocError, Global};
 
@@ -157,250 +148,42 @@ impl PackageRuns {
     }
 }
 
-/// References to all features.
-pub(crate) fn all_of<'a>(
-    alloc: Global,
-    features: &'a [Feature],
-) -> Result<Vec<&'a Feature>, AllocError>
-    ensures { IfOk result (λ all. candidates_of all.items ≡ groups_of features.now) }
+/// The kind with these candidates and runs.
+fn kind_from(args: &Args, candidates: Vec<Feature>, runs: Runs, is_plain: bool) -> Kind
+    ensures { result ≡ kind_made args.now.feature_powerset is_plain candidates runs }
 {
-    let mut all = Vec::with_capacity(alloc, features.len())?;
-    for feature in features {
-        all.push(feature)?;
+    if is_plain {
+        return Kind::Normal;
     }
-    Ok(all)
-}
-
-/// The rules of the package; `all` has references to all its candidates.
-pub(crate) fn rules_of<'a>(
-    alloc: Global,
-    args: &'a Args,
-    pkg: &'a Package,
-    all: &'a [&'a Feature],
-    lifted: &'a [bool],
-) -> Result<Rules<'a>, AllocError>
-    ensures choice { (features : Loaded)
-        → candidates_of all.now ≡ are_candidates args.now features
-        → lifted.now ≡ lifted_for args.now (string_bytes pkg.now.name)
-        → IfOk result (λ rules. rules_choice rules
-        ≡ package_choice args.now (package_view pkg.now) features) }
-    ensures size { IfOk result (λ rules. size_of rules ≡ length all.now) }
-    ensures fresh { IfOk result (λ rules. questions_asked rules ≡ 0) }
-{
-    Rules::new(
-        alloc,
-        all,
-        args.depth,
-        args.at_least_one_of.as_slice(),
-        args.mutually_exclusive_features.as_slice(),
-        &pkg.features,
-        lifted,
-    )
-}
-
-/// How many questions are asked at most for the sample of a package: more than any sample in the
-/// tests needs, and so few that they take only seconds.
-const MOST_QUESTIONS: u64 = 20_000_000;
-
-/// A sample of the sets of the rules, which nobody asked before. If it needs too many questions, the
-/// error says how many these rules were asked.
-fn sample_of(alloc: Global, rules: &mut Rules, strength: usize) -> Result<FeatureSets, RunsFault>
-    requires { questions_asked rules.old ≡ 0 }
-    ensures sample { IfOk result (λ sets. IsSample (rules_choice rules.old) (size_of rules.old)
-        (sets_in sets)) }
-    ensures covers { IfOk result (λ sets. CoversPatterns (rules_choice rules.old)
-        (size_of rules.old) strength (sets_in sets)) }
-    ensures lean { IfOk result (λ sets. IsLean (rules_choice rules.old) strength (sets_in sets)) }
-    ensures given_up { IfErr result (IsGivenUp (questions_asked rules.new)) }
-    ensures same_choice { rules_choice rules.new ≡ rules_choice rules.old }
-{
-    match rules.sample(alloc, strength, MOST_QUESTIONS) {
-        Ok(sets) => Ok(sets),
-        Err(SampleFault::Memory) => Err(RunsFault::Memory),
-        Err(SampleFault::TooManyQuestions) => Err(RunsFault::TooManyQuestions(rules.tally())),
-    }
-}
-
-/// The sets of a powerset: all that are listed, or with a strength a sample of them.
-fn powerset_sets(
-    alloc: Global,
-    args: &Args,
-    pkg: &Package,
-    candidates: &[Feature],
-) -> Result<FeatureSets, RunsFault>
-    ensures sets { (features : Loaded)
-        → groups_of candidates.now ≡ are_candidates args.now features
-        → IfOk result (λ sets. AreSets true args.now (package_view pkg.now) features
-        (sets_in sets)) }
-    ensures covers { (features : Loaded)
-        → groups_of candidates.now ≡ are_candidates args.now features
-        → args.now.strength ≡ None
-        → IfOk result (λ sets. AreCovers (package_choice args.now
-        (package_view pkg.now) features)
-        (length (are_candidates args.now features))
-        (sets_in sets)) }
-    ensures err { (features : Loaded)
-        → groups_of candidates.now ≡ are_candidates args.now features
-        → args.now.feature_powerset ≡ true
-        → IfErr result (λ e. (e ≡ RunsFault.Memory)
-        ⊎ IsRunsFault args.now (package_view pkg.now) features e) }
-{
-    let lifted = lifted_groups(alloc, args, pkg.name.as_str())?;
-    let all = all_of(alloc, candidates)?;
-    let mut rules = rules_of(alloc, args, pkg, all.as_slice(), lifted.as_slice())?;
-    match args.strength {
-        Some(strength) => sample_of(alloc, &mut rules, strength),
-        None => {
-            let found = rules.listed(alloc)?;
-            Ok(found.sets)
-        }
-    }
-}
-
-/// The sets of a package: those of a powerset, or each candidate alone.
-fn sets_of(
-    alloc: Global,
-    args: &Args,
-    pkg: &Package,
-    candidates: &[Feature],
-) -> Result<FeatureSets, RunsFault>
-    ensures sets { (features : Loaded)
-        → groups_of candidates.now ≡ are_candidates args.now features
-        → IfOk result (λ sets. AreSets args.now.feature_powerset args.now
-        (package_view pkg.now) features (sets_in sets)) }
-    ensures covers { (features : Loaded)
-        → groups_of candidates.now ≡ are_candidates args.now features
-        → args.now.feature_powerset ≡ true
-        → args.now.strength ≡ None
-        → IfOk result (λ sets. AreCovers (package_choice args.now
-        (package_view pkg.now) features)
-        (length (are_candidates args.now features))
-        (sets_in sets)) }
-    ensures err { (features : Loaded)
-        → groups_of candidates.now ≡ are_candidates args.now features
-        → IfErr result (λ e. (e ≡ RunsFault.Memory)
-        ⊎ IsRunsFault args.now (package_view pkg.now) features e) }
-{
     if args.feature_powerset {
-        powerset_sets(alloc, args, pkg, candidates)
+        Kind::Powerset { candidates, runs }
     } else {
-        Ok(FeatureSets::singles(alloc, candidates.len())?)
+        Kind::Each { candidates, runs }
     }
 }
 
-/// Whether `--optional-deps` is given without names.
-fn takes_all(args: &Args) -> bool
-    ensures { result
-        ≡ option_map_or (λ asked. length asked.items == 0) args.now.optional_deps false }
-{
-    match &args.optional_deps {
-        None => false,
-        Some(asked) => asked.is_empty(),
-    }
-}
-
-/// The options that decide, together with its sets, which runs a package has.
-fn options(args: &Args, features: &Features) -> RunOptions
-    ensures { result ≡ options_of args.now features.now }
-{
-    RunOptions {
-        powerset: args.feature_powerset,
-        depth: args.depth,
-        normal: features.normal().len(),
-        optional: features.optional_deps().len(),
-        all_optional_deps: takes_all(args),
-        included: !is_bare(&args.include_features),
-        exclude_all_features: args.exclude_all_features,
-        exclude_no_default_features: args.exclude_no_default_features,
-    }
-}
-
-/// How a package runs.
+/// How a package runs, and with a strength the rows of its runs.
 fn kind_of(
     alloc: Global,
     args: &Args,
     pkg: &Package,
     features: &Features,
-) -> Result<Kind, RunsFault>
-    ensures kind { IfOk result (IsKind args.now (package_view pkg.now) features.now) }
-    ensures covered { IfOk result (λ kind. args.now.feature_powerset ≡ true
+) -> Result<(Kind, Vec<Vec<bool>>), RunsFault>
+    ensures kind { IfOk result (λ made.
+        IsKind args.now (package_view pkg.now) features.now made.0) }
+    ensures covered { IfOk result (λ made. args.now.feature_powerset ≡ true
         → args.now.strength ≡ None
-        → AreCovering args.now (package_view pkg.now) features.now (runs_of kind)) }
+        → AreCovering args.now (package_view pkg.now) features.now (runs_of made.0)) }
+    ensures settings { IfOk result (λ made. AreRunSettings args.now.strength
+        (package_choice args.now (package_view pkg.now) features.now)
+        (runs_of made.0) (rows_of made.1.items)) }
     ensures err { IfErr result (λ e. (e ≡ RunsFault.Memory)
         ⊎ IsRunsFault args.now (package_view pkg.now) features.now e) }
 {
-    if !args.each_feature && !args.feature_powerset {
-        return Ok(Kind::Normal);
-    }
     let candidates = candidates(alloc, args, features)?;
-    let sets = sets_of(alloc, args, pkg, &candidates)?;
-    let options = options(args, features);
-    if options.is_plain(sets.len()) {
-        return Ok(Kind::Normal);
-    }
-    let runs = Runs::new(alloc, options, sets)?;
-    if args.feature_powerset {
-        Ok(Kind::Powerset { candidates, runs })
-    } else {
-        Ok(Kind::Each { candidates, runs })
-    }
-}
-
-/// Returns a row that says which candidates are on in a run. A plain run counts as one with the
-/// empty set.
-fn settings_in(
-    alloc: Global,
-    rules: &Rules,
-    run: Run,
-    positions: &[usize],
-) -> Result<Vec<bool>, AllocError>
-    ensures { IfOk result (λ row. IsRowOf (rules_choice rules.now)
-        (run_of run positions.now) row.items) }
-{
-    match run {
-        Run::AllFeatures => rules.settings_of_all(alloc),
-        Run::Features => rules.settings(alloc, positions),
-        Run::Plain => rules.settings(alloc, &[]),
-        Run::NoDefaultFeatures => rules.settings(alloc, &[]),
-    }
-}
-
-/// For each run of the kind a row that says which candidates are on in it.
-fn rows_of_runs(alloc: Global, rules: &Rules, kind: &Kind) -> Result<Vec<Vec<bool>>, AllocError>
-    ensures { IfOk result (λ rows. AllZip (IsRowOf (rules_choice rules.now))
-        (runs_of kind.now) (rows_of rows.items)) }
-{
-    let mut rows = Vec::new(alloc);
-    let mut positions = Vec::new(alloc);
-    for rank in 0..kind.count() {
-        let run = kind.run(rank, &mut positions)?;
-        let row = settings_in(alloc, rules, run, positions.as_slice())?;
-        rows.push(row)?;
-    }
-    Ok(rows)
-}
-
-/// With a strength, for each run of the kind a row that says which candidates are on in it; else
-/// nothing.
-fn run_settings(
-    alloc: Global,
-    args: &Args,
-    pkg: &Package,
-    features: &Features,
-    kind: &Kind,
-) -> Result<Vec<Vec<bool>>, AllocError>
-    ensures { IfOk result (λ rows. AreRunSettings args.now.strength
-        (package_choice args.now (package_view pkg.now) features.now)
-        (runs_of kind.now) (rows_of rows.items)) }
-{
-    if args.strength.is_none() {
-        return Ok(Vec::new(alloc));
-    }
-    let candidates = candidates(alloc, args, features)?;
-    let lifted = lifted_groups(alloc, args, pkg.name.as_str())?;
-    let all = all_of(alloc, &candidates)?;
-    let rules = rules_of(alloc, args, pkg, all.as_slice(), lifted.as_slice())?;
-    rows_of_runs(alloc, &rules, kind)
+    let found = found_among(alloc, args, pkg, features, &candidates)?;
+    let kind = kind_from(args, candidates, found.runs, found.is_plain);
+    Ok((kind, found.settings))
 }
 
 /// Returns the runs of a package, and the notices about its features. `single` says whether it is
@@ -445,9 +228,8 @@ pub fn determine_runs(
         ⊎ IsRunsFault args.now (package_view pkg.now) features.now e) }
 {
     let notices = notes_on(alloc, args, pkg, features, single)?;
-    let kind = kind_of(alloc, args, pkg, features)?;
+    let (kind, settings) = kind_of(alloc, args, pkg, features)?;
     let feature_count = kind.count();
-    let settings = run_settings(alloc, args, pkg, features, &kind)?;
     let runs = PackageRuns {
         id,
         kind,

@@ -5,7 +5,7 @@ ghost use Rattle.hack_metadata.specs.RecordViews.{package_view};
 ghost use Rattle.hack_planner.specs.LeastRuns.{HasRunsAtLeast};
 
 use crate::candidates::candidates;
-use crate::kind::{all_of, rules_of};
+use crate::found::{all_of, rules_of};
 use crate::least_sets::least_listed;
 use crate::lifts::lifted_groups;
 use hack_load::features::Features;

@@ -4,15 +4,16 @@
 
 ghost use Rattle.std.specs.Prelude.{◌≡◌, ◌⊎◌, All, Contains, IfErr, IfOk, None, map, true};
 ghost use Rattle.hack_load.specs.ContextView.{context_view};
-ghost use Rattle.hack_metadata.specs.RecordViews.{place_at};
 ghost use Rattle.hack_planner.specs.ContextMembers.{AreChosen};
 ghost use Rattle.hack_plan.specs.Inputs.{AreVersionsOf};
 ghost use Rattle.hack_planner.specs.Calls.{IsInputOf};
 ghost use Rattle.hack_planner.specs.InternalLeastPlaces.{HasAtLeast, HaveAtLeast};
+ghost use Rattle.hack_planner.specs.InternalUses.{IsRight, id_of};
 ghost use Rattle.hack_planner.specs.CallPlan.{IsCause};
 
 use crate::determine::least_count;
 use crate::fault::{PlanFault, of_places};
+use crate::uses::Chosen;
 use hack_load::context::Context;
 use hack_metadata::metadata::PackageId;
 use hack_plan::places::Places;
@@ -31,13 +32,13 @@ fn has_many(cx: &Context, id: PackageId) -> bool
     normal.saturating_add(features.optional_deps().len()) >= MANY_FEATURES
 }
 
-/// Whether one of the packages has many features.
-fn one_has_many(cx: &Context, ids: &[PackageId]) -> bool
-    requires { All (λ id. Contains (context_view cx.now).metadata.workspace_members id.index)
-        ids.now }
+/// Whether one of the packages that are used has many features.
+fn one_has_many(cx: &Context, chosen: &[Chosen]) -> bool
+    requires { All (λ one. Contains (context_view cx.now).metadata.workspace_members one.id.index)
+        chosen.now }
 {
-    for id in ids {
-        if has_many(cx, *id) {
+    for one in chosen {
+        if one.is_used && has_many(cx, one.id) {
             return true;
         }
     }
@@ -45,31 +46,34 @@ fn one_has_many(cx: &Context, ids: &[PackageId]) -> bool
 }
 
 /// Returns a number, of which a chosen package has at least as many runs.
-fn least_runs(alloc: Global, cx: &Context, id: PackageId) -> Result<usize, AllocError>
-    requires member { Contains (context_view cx.now).metadata.workspace_members id.index }
+fn least_runs(alloc: Global, cx: &Context, one: Chosen) -> Result<usize, AllocError>
+    requires member { Contains (context_view cx.now).metadata.workspace_members one.id.index }
     requires powerset { (context_view cx.now).args.feature_powerset ≡ true }
     requires all { (context_view cx.now).args.strength ≡ None }
-    ensures { IfOk result (HasAtLeast (context_view cx.now) id.index) }
+    ensures { IfOk result (HasAtLeast (context_view cx.now) one) }
 {
     // This call promises that what was loaded fits together.
     let _ = cx.workspace_members();
-    let _ = cx.pkg_features(id);
-    let _ = cx.packages(id);
-    least_count(alloc, cx, id)
+    let _ = cx.pkg_features(one.id);
+    let _ = cx.packages(one.id);
+    if !one.is_used {
+        return Ok(1);
+    }
+    least_count(alloc, cx, one.id)
 }
 
 /// For each of the chosen packages a number, of which it has at least as many runs.
-fn least_counts(alloc: Global, cx: &Context, ids: &[PackageId]) -> Result<Vec<usize>, AllocError>
-    requires members { All (λ id. Contains (context_view cx.now).metadata.workspace_members
-        id.index) ids.now }
+fn least_counts(alloc: Global, cx: &Context, chosen: &[Chosen]) -> Result<Vec<usize>, AllocError>
+    requires members { All (λ one. Contains (context_view cx.now).metadata.workspace_members
+        one.id.index) chosen.now }
     requires powerset { (context_view cx.now).args.feature_powerset ≡ true }
     requires all { (context_view cx.now).args.strength ≡ None }
     ensures { IfOk result (λ counts.
-        HaveAtLeast (context_view cx.now) (map place_at ids.now) counts.items) }
+        HaveAtLeast (context_view cx.now) chosen.now counts.items) }
 {
     let mut counts = Vec::new(alloc);
-    for id in ids {
-        counts.push(least_runs(alloc, cx, *id)?)?;
+    for one in chosen {
+        counts.push(least_runs(alloc, cx, *one)?)?;
     }
     Ok(counts)
 }
@@ -79,15 +83,16 @@ fn least_counts(alloc: Global, cx: &Context, ids: &[PackageId]) -> Result<Vec<us
 pub(crate) fn refuse_too_many(
     alloc: Global,
     cx: &Context,
-    ids: &[PackageId],
+    chosen: &[Chosen],
     input: &PlanInput,
     versions: &Versions,
 ) -> Result<(), PlanFault>
-    requires members { All (λ id. Contains (context_view cx.now).metadata.workspace_members
-        id.index) ids.now }
-    requires input { IsInputOf (context_view cx.now) (map place_at ids.now) input.now }
+    requires members { All (λ one. Contains (context_view cx.now).metadata.workspace_members
+        one.id.index) chosen.now }
+    requires input { IsInputOf (context_view cx.now) (map id_of chosen.now) input.now }
     requires versions { AreVersionsOf input.now versions.now }
-    ensures { AreChosen (context_view cx.now) (map place_at ids.now)
+    requires right { All (IsRight (context_view cx.now) input.now versions.now.stable) chosen.now }
+    ensures { AreChosen (context_view cx.now) (map id_of chosen.now)
         → IfErr result (λ e. (e ≡ PlanFault.Memory)
         ⊎ IsCause (context_view cx.now) versions.now.stable e) }
 {
@@ -95,10 +100,10 @@ pub(crate) fn refuse_too_many(
     if !args.feature_powerset || args.strength.is_some() {
         return Ok(());
     }
-    if !one_has_many(cx, ids) {
+    if !one_has_many(cx, chosen) {
         return Ok(());
     }
-    let counts = least_counts(alloc, cx, ids)?;
+    let counts = least_counts(alloc, cx, chosen)?;
     match Places::new(alloc, input, versions, counts.as_slice()) {
         Ok(_) => Ok(()),
         Err(fault) => Err(of_places(fault)),

@@ -26,6 +26,7 @@ use crate::input::input;
 use crate::least_places::refuse_too_many;
 use crate::packages::PackageList;
 use crate::plan_notes::left_out;
+use crate::uses::with_uses;
 use crate::words::call_words;
 use hack_base::notice::Notice;
 use hack_load::context::Context;
@@ -59,19 +60,21 @@ pub fn plan_of(
         → ¬ ((context_view cx.now).args.workspace_behavior ≡ Cargo)
         → IfOk result (λ answer. AreCovered (context_view cx.now) latest answer.0) }
 
-    // Under a powerset the sets of each chosen package's runs are exactly the listed ones, each
-    // once.
-    ensures powersets { IsSome (context_view cx.now).args.subcommand
+    // Under a powerset the sets of the runs of each chosen package that uses a version are exactly
+    // the listed ones, each once.
+    ensures powersets { (latest : Option Version) → stable ≡ Ok latest
+        → IsSome (context_view cx.now).args.subcommand
         → (context_view cx.now).args.feature_powerset ≡ true
         → (context_view cx.now).args.strength ≡ None
-        → IfOk result (λ answer. HavePowersets (context_view cx.now) answer.0) }
+        → IfOk result (λ answer. HavePowersets (context_view cx.now) latest answer.0) }
 
     // With a strength they are a sample of these: each of its sets is listed, and none is there
     // twice; and each pattern of at most so many candidates that some listed set shows is shown.
-    ensures samples { (strength : ℕ) → IsSome (context_view cx.now).args.subcommand
+    ensures samples { (strength : ℕ) (latest : Option Version) → stable ≡ Ok latest
+        → IsSome (context_view cx.now).args.subcommand
         → (context_view cx.now).args.feature_powerset ≡ true
         → (context_view cx.now).args.strength ≡ Some strength
-        → IfOk result (λ answer. HaveSamples (context_view cx.now) strength answer.0) }
+        → IfOk result (λ answer. HaveSamples (context_view cx.now) strength latest answer.0) }
 
     // Each such pattern has a place, for each package, each version that it uses and each slot.
     ensures patterns { (strength : ℕ) (latest : Option Version) → stable ≡ Ok latest
@@ -124,10 +127,12 @@ fn plan_by(
     let input = input(alloc, cx, list.ids.as_slice())?;
     let (versions, mut on_range) = versions_of(alloc, &input, latest)?;
     let ids = list.ids.as_slice();
-    if let Err(fault) = refuse_too_many(alloc, cx, ids, &input, &versions) {
+    let uses = with_uses(alloc, ids, &input, &versions)?;
+    let chosen = uses.as_slice();
+    if let Err(fault) = refuse_too_many(alloc, cx, chosen, &input, &versions) {
         return Err(fault);
     }
-    let (packages, mut on_features) = match chosen_packages(alloc, cx, ids, list.is_single) {
+    let (packages, mut on_features) = match chosen_packages(alloc, cx, chosen, list.is_single) {
         Ok(answer) => answer,
         Err(fault) => return Err(fault),
     };

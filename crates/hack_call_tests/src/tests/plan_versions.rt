@@ -81,6 +81,35 @@ fn used_versions(rt: HostRuntime) -> Result<(), Wrong> {
     )
 }
 
+/// No set is made for a package that no version of the range uses, so its many features refuse no call.
+/// Notices on its features come nevertheless.
+#[test]
+fn unused_packages(rt: HostRuntime) -> Result<(), Wrong> {
+    on(
+        rt.alloc(),
+        Show::Versions,
+        "p 1.60 a;q 1.70 a b c d e f g h i j k l m n o p q r s t u v w x y z A B C D E F G H I J K L M N",
+        "
+            > check --workspace --version-range ..=1.61 --feature-powerset --strength 9
+            | 1.60 t0 0..2
+            | 1.61 t1 2..4
+            | : p p p p
+            | warning: skipping q, rust-version (1.70) is not in specified range (..=1.61)
+            > check --workspace --version-range ..=1.60 --feature-powerset --group-features a,b --ignore-unknown-features
+            | 1.60 t0 0..1
+            | : p
+            | info: skipped applying group `a,b` to p
+            | warning: skipping q, rust-version (1.70) is not in specified range (..=1.60)
+            > check --workspace --version-range ..=1.60 --feature-powerset --group-features a,zz --ignore-unknown-features
+            | 1.60 t0 0..1
+            | : p
+            | info: skipped applying group `a,zz` to p
+            | info: skipped applying group `a,zz` to q
+            | warning: skipping q, rust-version (1.70) is not in specified range (..=1.60)
+        ",
+    )
+}
+
 #[test]
 fn before_the_runs(rt: HostRuntime) -> Result<(), Wrong> {
     on(

@@ -12,7 +12,7 @@ use Rattle.hack_features.specs.ChoiceView.{choice}
 use Rattle.hack_load.specs.declared.features.Features.{Features}
 use Rattle.hack_planner.specs.Candidates.{candidates, lifted_for}
 use Rattle.hack_planner.specs.Kinds as kinds
-use Rattle.hack_planner.proofs.kind.rules_of.Goals as goal
+use Rattle.hack_planner.proofs.found.rules_of.Goals as goal
 
 pub returns-clause-choice : goal.returns-clause-choice
 returns-clause-choice c = λ (features : Features) names lifts.

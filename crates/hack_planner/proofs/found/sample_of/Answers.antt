@@ -1,5 +1,5 @@
 use Rattle.std.proofs.Common.{arith}
-use Rattle.hack_planner.proofs.kind.sample_of.Goals as goal
+use Rattle.hack_planner.proofs.found.sample_of.Goals as goal
 
 pub returns-in-Err-TooManyQuestions-clause-given_up : goal.returns-in-Err-TooManyQuestions-clause-given_up
 returns-in-Err-TooManyQuestions-clause-given_up c =

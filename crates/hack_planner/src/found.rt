@@ -1,0 +1,302 @@
+//! What comes of the candidates of a package: its sets, their runs, and with a strength a row for each
+//! run. The rules that choose among the sets are made once, and everything is asked of these.
+
+ghost use Rattle.std.specs.Prelude.{◌≡◌, ◌⊎◌, ◌==◌, [], IfErr, IfOk, None, false, true};
+ghost use Rattle.std.specs.Prelude.{length, string_bytes};
+ghost use Rattle.std.specs.List.{AllZip};
+ghost use Rattle.std.specs.Option.{option_map_or};
+ghost use Rattle.hack_features.specs.Feature.{groups_of, candidates_of};
+ghost use Rattle.hack_features.specs.Forest.{sets_in};
+ghost use Rattle.hack_features.specs.Rules.{Choice, AreCovers};
+ghost use Rattle.hack_features.specs.Samples.{IsSample, CoversPatterns, IsLean};
+ghost use Rattle.hack_features.specs.View.{choice_of as rules_choice, size_of, questions_asked};
+ghost use Rattle.hack_load.specs.declared.features.Features.{Features as Loaded};
+ghost use Rattle.hack_metadata.specs.RecordViews.{package_view};
+ghost use Rattle.hack_plan.specs.Runs.{run_of};
+ghost use Rattle.hack_plan.specs.RunsView.{runs_in};
+ghost use Rattle.hack_samples.specs.Sets.{rows_of};
+ghost use Rattle.hack_planner.specs.Candidates.{candidates as are_candidates, lifted_for};
+ghost use Rattle.hack_planner.specs.Internal.{IsGivenUp, IsRefused};
+ghost use Rattle.hack_planner.specs.InternalKinds.{AreMade, IsMadeOf};
+ghost use Rattle.hack_planner.specs.Kinds.{AreRunSettings, AreSetsBy, IsRowOf, options_of};
+ghost use Rattle.hack_planner.specs.Kinds.{package_choice};
+ghost use Rattle.hack_planner.specs.KindsView.{IsRunsFault};
+
+use crate::candidates::is_bare;
+use crate::fault::RunsFault;
+use crate::lifts::lifted_groups;
+use hack_features::{Feature, FeatureSets, Rules, SampleFault};
+use hack_load::features::Features;
+use hack_metadata::metadata::Package;
+use hack_plan::runs::{Run, RunOptions, Runs};
+use hack_samples::Allowed;
+use hack_words::cli::Args;
+use std::alloc::{AllocError, Global};
+
+/// What comes of a package's candidates: its runs, before the candidates are put to them.
+#[derive(Drop)]
+pub(crate) struct Found {
+    pub runs: Runs,
+    /// Whether the runs are a single plain one.
+    pub is_plain: bool,
+    /// As in `PackageRuns`.
+    pub settings: Vec<Vec<bool>>,
+}
+
+/// What comes of the candidates of a package.
+pub(crate) fn found_among(
+    alloc: Global,
+    args: &Args,
+    pkg: &Package,
+    features: &Features,
+    candidates: &[Feature],
+) -> Result<Found, RunsFault>
+    requires { groups_of candidates.now ≡ are_candidates args.now features.now }
+    ensures made { IfOk result (λ found. AreMade args.now features.now
+        (package_choice args.now (package_view pkg.now) features.now)
+        (length (are_candidates args.now features.now)) (runs_in found.runs) found.is_plain
+        (rows_of found.settings.items)) }
+    ensures err { IfErr result (λ e. (e ≡ RunsFault.Memory)
+        ⊎ IsRunsFault args.now (package_view pkg.now) features.now e) }
+{
+    if !args.feature_powerset && args.strength.is_none() {
+        return Ok(each_alone(alloc, args, features, candidates.len())?);
+    }
+    let lifted = lifted_groups(alloc, args, pkg.name.as_str())?;
+    let all = all_of(alloc, candidates)?;
+    let mut rules = rules_of(alloc, args, pkg, all.as_slice(), lifted.as_slice())?;
+    by_rules(alloc, args, features, &mut rules)
+}
+
+/// References to all features.
+pub(crate) fn all_of<'a>(
+    alloc: Global,
+    features: &'a [Feature],
+) -> Result<Vec<&'a Feature>, AllocError>
+    ensures { IfOk result (λ all. candidates_of all.items ≡ groups_of features.now) }
+{
+    let mut all = Vec::with_capacity(alloc, features.len())?;
+    for feature in features {
+        all.push(feature)?;
+    }
+    Ok(all)
+}
+
+/// The rules of the package; `all` has references to all its candidates.
+pub(crate) fn rules_of<'a>(
+    alloc: Global,
+    args: &'a Args,
+    pkg: &'a Package,
+    all: &'a [&'a Feature],
+    lifted: &'a [bool],
+) -> Result<Rules<'a>, AllocError>
+    ensures choice { (features : Loaded)
+        → candidates_of all.now ≡ are_candidates args.now features
+        → lifted.now ≡ lifted_for args.now (string_bytes pkg.now.name)
+        → IfOk result (λ rules. rules_choice rules
+        ≡ package_choice args.now (package_view pkg.now) features) }
+    ensures size { IfOk result (λ rules. size_of rules ≡ length all.now) }
+    ensures fresh { IfOk result (λ rules. questions_asked rules ≡ 0) }
+{
+    Rules::new(
+        alloc,
+        all,
+        args.depth,
+        args.at_least_one_of.as_slice(),
+        args.mutually_exclusive_features.as_slice(),
+        &pkg.features,
+        lifted,
+    )
+}
+
+/// How many questions are asked at most for the sample of a package: more than any sample in the
+/// tests needs, and so few that they take only seconds.
+const MOST_QUESTIONS: u64 = 20_000_000;
+
+/// A sample of the sets of the rules, which nobody asked before. If it needs too many questions, the
+/// error says how many these rules were asked.
+fn sample_of(alloc: Global, rules: &mut Rules, strength: usize) -> Result<FeatureSets, RunsFault>
+    requires { questions_asked rules.old ≡ 0 }
+    ensures sample { IfOk result (λ sets. IsSample (rules_choice rules.old) (size_of rules.old)
+        (sets_in sets)) }
+    ensures covers { IfOk result (λ sets. CoversPatterns (rules_choice rules.old)
+        (size_of rules.old) strength (sets_in sets)) }
+    ensures lean { IfOk result (λ sets. IsLean (rules_choice rules.old) strength (sets_in sets)) }
+    ensures given_up { IfErr result (IsGivenUp (questions_asked rules.new)) }
+    ensures same_choice { rules_choice rules.new ≡ rules_choice rules.old }
+{
+    match rules.sample(alloc, strength, MOST_QUESTIONS) {
+        Ok(sets) => Ok(sets),
+        Err(SampleFault::Memory) => Err(RunsFault::Memory),
+        Err(SampleFault::TooManyQuestions) => Err(RunsFault::TooManyQuestions(rules.tally())),
+    }
+}
+
+/// The sets that a package's rules, which nobody asked before, give it: those of a powerset, all
+/// that are listed or with a strength a sample of them; else each candidate alone.
+fn sets_of(alloc: Global, args: &Args, rules: &mut Rules) -> Result<FeatureSets, RunsFault>
+    requires { questions_asked rules.old ≡ 0 }
+    ensures sets { IfOk result (λ sets. AreSetsBy args.now.feature_powerset args.now.strength
+        (rules_choice rules.old) (size_of rules.old) (sets_in sets)) }
+    ensures covers { args.now.feature_powerset ≡ true → args.now.strength ≡ None
+        → IfOk result (λ sets. AreCovers (rules_choice rules.old) (size_of rules.old)
+        (sets_in sets)) }
+    ensures err { IfErr result (λ e. (e ≡ RunsFault.Memory)
+        ⊎ IsRefused args.now (questions_asked rules.new) e) }
+    ensures same_choice { rules_choice rules.new ≡ rules_choice rules.old }
+{
+    if !args.feature_powerset {
+        return Ok(FeatureSets::singles(alloc, rules.positions())?);
+    }
+    match args.strength {
+        Some(strength) => sample_of(alloc, rules, strength),
+        None => {
+            let found = rules.listed(alloc)?;
+            Ok(found.sets)
+        }
+    }
+}
+
+/// Whether `--optional-deps` is given without names.
+fn takes_all(args: &Args) -> bool
+    ensures { result
+        ≡ option_map_or (λ asked. length asked.items == 0) args.now.optional_deps false }
+{
+    match &args.optional_deps {
+        None => false,
+        Some(asked) => asked.is_empty(),
+    }
+}
+
+/// The options that decide, together with its sets, which runs a package has.
+fn options(args: &Args, features: &Features) -> RunOptions
+    ensures { result ≡ options_of args.now features.now }
+{
+    RunOptions {
+        powerset: args.feature_powerset,
+        depth: args.depth,
+        normal: features.normal().len(),
+        optional: features.optional_deps().len(),
+        all_optional_deps: takes_all(args),
+        included: !is_bare(&args.include_features),
+        exclude_all_features: args.exclude_all_features,
+        exclude_no_default_features: args.exclude_no_default_features,
+    }
+}
+
+/// The runs of these sets, and whether they are a single plain one.
+fn runs_of_sets(
+    alloc: Global,
+    args: &Args,
+    features: &Features,
+    sets: FeatureSets,
+) -> Result<(Runs, bool), AllocError>
+    ensures { IfOk result (λ made.
+        IsMadeOf args.now features.now (sets_in sets) (runs_in made.0) made.1) }
+{
+    if !args.each_feature && !args.feature_powerset {
+        return Ok((Runs::plain(alloc)?, true));
+    }
+    let options = options(args, features);
+    if options.is_plain(sets.len()) {
+        return Ok((Runs::plain(alloc)?, true));
+    }
+    Ok((Runs::new(alloc, options, sets)?, false))
+}
+
+/// Returns a row that says which candidates are on in a run. A plain run counts as one with the
+/// empty set.
+fn settings_in(
+    alloc: Global,
+    rules: &Rules,
+    run: Run,
+    positions: &[usize],
+) -> Result<Vec<bool>, AllocError>
+    ensures { IfOk result (λ row. IsRowOf (rules_choice rules.now)
+        (run_of run positions.now) row.items) }
+{
+    match run {
+        Run::AllFeatures => rules.settings_of_all(alloc),
+        Run::Features => rules.settings(alloc, positions),
+        Run::Plain => rules.settings(alloc, &[]),
+        Run::NoDefaultFeatures => rules.settings(alloc, &[]),
+    }
+}
+
+/// For each of the runs a row that says which candidates are on in it.
+fn rows_of_runs(alloc: Global, rules: &Rules, runs: &Runs) -> Result<Vec<Vec<bool>>, AllocError>
+    ensures { IfOk result (λ rows. AllZip (IsRowOf (rules_choice rules.now))
+        (runs_in runs.now) (rows_of rows.items)) }
+{
+    let mut rows = Vec::new(alloc);
+    let mut positions = Vec::new(alloc);
+    for rank in 0..runs.len() {
+        let run = runs.run(rank, &mut positions)?;
+        let row = settings_in(alloc, rules, run, positions.as_slice())?;
+        rows.push(row)?;
+    }
+    Ok(rows)
+}
+
+/// With a strength, for each of the runs a row that says which candidates are on in it; else
+/// nothing.
+fn run_settings(
+    alloc: Global,
+    args: &Args,
+    rules: &Rules,
+    runs: &Runs,
+) -> Result<Vec<Vec<bool>>, AllocError>
+    ensures { IfOk result (λ rows. AreRunSettings args.now.strength (rules_choice rules.now)
+        (runs_in runs.now) (rows_of rows.items)) }
+{
+    if args.strength.is_none() {
+        return Ok(Vec::new(alloc));
+    }
+    rows_of_runs(alloc, rules, runs)
+}
+
+/// The runs of each of so many candidates alone, among which no rule chooses.
+fn each_alone(
+    alloc: Global,
+    args: &Args,
+    features: &Features,
+    candidates: usize,
+) -> Result<Found, AllocError>
+    requires each { args.now.feature_powerset ≡ false }
+    requires all { args.now.strength ≡ None }
+    ensures { (choice : Choice) → IfOk result (λ found. AreMade args.now features.now choice
+        candidates (runs_in found.runs) found.is_plain (rows_of found.settings.items)) }
+{
+    let sets = FeatureSets::singles(alloc, candidates)?;
+    let (runs, is_plain) = runs_of_sets(alloc, args, features, sets)?;
+    Ok(Found {
+        runs,
+        is_plain,
+        settings: Vec::new(alloc),
+    })
+}
+
+/// What comes of a package's rules, which nobody asked before: its sets and their rows are both
+/// theirs. If a sample needs too many questions, the error says how many these rules were asked.
+fn by_rules(
+    alloc: Global,
+    args: &Args,
+    features: &Features,
+    rules: &mut Rules,
+) -> Result<Found, RunsFault>
+    requires { questions_asked rules.old ≡ 0 }
+    ensures made { IfOk result (λ found. AreMade args.now features.now (rules_choice rules.old)
+        (size_of rules.old) (runs_in found.runs) found.is_plain (rows_of found.settings.items)) }
+    ensures err { IfErr result (λ e. (e ≡ RunsFault.Memory)
+        ⊎ IsRefused args.now (questions_asked rules.new) e) }
+    ensures same_choice { rules_choice rules.new ≡ rules_choice rules.old }
+{
+    let sets = sets_of(alloc, args, rules)?;
+    let (runs, is_plain) = runs_of_sets(alloc, args, features, sets)?;
+    let settings = run_settings(alloc, args, rules, &runs)?;
+    Ok(Found {
+        runs,
+        is_plain,
+        settings,
+    })
+}
