@@ -1,5 +1,5 @@
 -- The runs of a package are at least as many as its sets, and one without features.
-use Rattle.std.proofs.Common.{◌≡◌, ◌∙◌, ℕ, ◌+◌, ◌-◌, ◌≤◌, List, [], ◌∷◌, ◌++◌, length, take, drop, map, Bool, true, false, cond, not, Option, None, Some, inl, inr, refl, ap, sym, subst, arith, eqb-true, length-append}
+use Rattle.std.proofs.Common.{◌≡◌, ◌∙◌, ℕ, ◌+◌, ◌-◌, ◌≤◌, List, [], ◌∷◌, ◌++◌, length, take, drop, map, Bool, true, false, cond, not, None, inl, inr, refl, ap, sym, subst, arith, eqb-true, length-append}
 use Rattle.std.specs.Prelude.{nat_lt, ◌&&◌, ◌||◌, ◌==◌, if◌then◌else◌}
 use Rattle.std.proofs.lemmas.Bool.{cases_Bool}
 use Rattle.std.proofs.lemmas.List.{take-append-drop, length-map}
@@ -7,10 +7,9 @@ use Rattle.std.specs.Bool.{MatchBool}
 use Rattle.hack_load.specs.declared.features.Features.{Features}
 use Rattle.hack_metadata.specs.Records.{PackageRecord}
 use Rattle.hack_words.specs.declared.cli.args.Args.{Args}
-use Rattle.hack_features.specs.Rules.{Choice}
 use Rattle.hack_plan.specs.declared.runs.RunOptions.{RunOptions}
 use Rattle.std.specs.Option.{option_map_or}
-use Rattle.hack_plan.specs.Runs.{PackageRun, Plain, AllFeatures, NoDefaultFeatures, Set, in_turn, is_plain, keeps_all, run_if, runs_from}
+use Rattle.hack_plan.specs.Runs.{Plain, AllFeatures, NoDefaultFeatures, Set, in_turn, is_plain, keeps_all, run_if, runs_from}
 use Rattle.hack_plan.specs.RunsView.{with_last_first}
 use Rattle.hack_planner.specs.Candidates.{candidates}
 use Rattle.hack_planner.specs.Kinds.{ArePowersets, AreSets, AreSetRuns, package_choice, options_of}

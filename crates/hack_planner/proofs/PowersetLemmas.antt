@@ -1,20 +1,19 @@
 -- The powersets of a plan's packages.
-use Rattle.std.proofs.Common.{◌≡◌, ◌≢◌, refl, sym, ap, subst, ◌∙◌, arith, ℕ, ◌+◌, ◌-◌, ◌<◌, List, [], ◌∷◌, ◌++◌, ◌⊎◌, inl, inr, length, map, take, drop, get_or, Bool, true, false, not, Option, None, Some, All, Contains}
+use Rattle.std.proofs.Common.{◌≡◌, ◌≢◌, refl, sym, ap, subst, ◌∙◌, arith, ℕ, ◌+◌, ◌-◌, List, [], ◌∷◌, ◌++◌, inl, inr, length, map, take, drop, get_or, Bool, true, false, not, Option, None, Some, All, Contains}
 use Rattle.std.specs.Prelude.{nat_lt, ◌&&◌, ◌||◌, ◌==◌, if◌then◌else◌}
-use Rattle.std.specs.List.{filter_map}
 use Rattle.std.proofs.lemmas.Bool.{eqb-true}
 use Rattle.std.proofs.lemmas.List.{take-append-drop, get_or_append_left, get_or-append-add, length-append}
 use Rattle.std.proofs.lemmas.List.Elements.{All-append, All-cons, All-head, All-tail, Contains-append_left, Contains-append_right, Contains-append_cases, filter_map-append}
 use Rattle.std.specs.Bool.{MatchBool}
 use Rattle.hack_words.specs.declared.cli.args.Args.{Args}
-use Rattle.hack_features.specs.Sets.{IsBefore, IsListing, Pairwise}
+use Rattle.hack_features.specs.Sets.{IsBefore, Pairwise}
 use Rattle.hack_load.specs.Contexts.{ContextRecord, package_at, features_at}
 use Rattle.hack_load.specs.declared.features.Features.{Features}
 use Rattle.hack_metadata.specs.Records.{PackageRecord}
 use Rattle.hack_planner.specs.Candidates.{candidates}
 use Rattle.hack_planner.specs.Kinds.{ArePowersets, AreSets, AreSetRuns, AreRuns, package_choice, options_of}
 use Rattle.std.specs.Option.{option_map_or}
-use Rattle.hack_plan.specs.Runs.{PackageRun, Plain, AllFeatures, NoDefaultFeatures, Set, is_plain, in_turn, keeps_all, run_if, last_first, runs_from}
+use Rattle.hack_plan.specs.Runs.{PackageRun, Plain, AllFeatures, NoDefaultFeatures, Set, is_plain, in_turn, keeps_all, run_if, runs_from}
 use Rattle.hack_plan.specs.RunsView.{with_last_first}
 use Rattle.hack_plan.specs.declared.runs.RunOptions.{RunOptions}
 use Rattle.hack_plan.specs.View.{PackageView, PlanView}

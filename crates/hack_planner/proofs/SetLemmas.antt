@@ -1,5 +1,5 @@
 -- The sets between two sets are listed, so that the listed sets are at least as many.
-use Rattle.std.proofs.Common.{◌≡◌, ◌≢◌, ℕ, zero, suc, ◌+◌, ◌-◌, ◌^◌, ◌<◌, ◌≤◌, List, [], ◌∷◌, ◌++◌, length, get_or, set, map, filter, refl, sym, ◌∙◌, ap, subst, arith, Bool, true, false, inl, inr, IsTrue, All, Contains, length-append, pow-suc, pow_mono, le_trans}
+use Rattle.std.proofs.Common.{◌≡◌, ◌≢◌, ℕ, zero, suc, ◌+◌, ◌-◌, ◌^◌, ◌<◌, ◌≤◌, List, [], ◌∷◌, ◌++◌, length, get_or, set, map, filter, refl, sym, ◌∙◌, ap, subst, arith, Bool, true, false, inl, inr, All, Contains, length-append, pow-suc}
 use Rattle.std.specs.List.{list_any, remove}
 use Rattle.std.proofs.lemmas.Bool.Decides.{eqb_tells}
 use Rattle.std.proofs.lemmas.List.{length-map, length-set, get_or-set_same, get_or-set_other}

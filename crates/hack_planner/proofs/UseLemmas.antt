@@ -1,5 +1,5 @@
 -- Which packages use a version: what versions with their packages say of it, and what it says of a plan.
-use Rattle.std.proofs.Common.{◌≡◌, ◌↔◌, ◌⊎◌, refl, sym, ap, subst, ◌∙◌, arith, ℕ, zero, suc, ◌+◌, ◌*◌, ◌≤◌, ◌<◌, List, [], ◌∷◌, length, get_or, take, map, ◌++◌, inl, inr, Bool, true, false, not, Option, Some, None, IfSome, IsTrue, All, Contains, option_map}
+use Rattle.std.proofs.Common.{◌≡◌, ◌↔◌, ◌⊎◌, refl, sym, ap, subst, ◌∙◌, arith, ℕ, zero, suc, ◌+◌, ◌*◌, ◌<◌, List, [], ◌∷◌, length, get_or, take, map, inl, inr, Bool, true, false, not, Option, Some, None, IfSome, IsTrue, All, Contains, option_map}
 use Rattle.std.specs.Prelude.{slice_get}
 use Rattle.std.specs.List.{AllZip}
 use Rattle.std.proofs.lemmas.List.Elements.{All-cons, All-contains, All-head, All-tail, Contains-push_cases}
@@ -21,11 +21,11 @@ use Rattle.hack_versions.specs.declared.version.Version.{Version}
 use Rattle.hack_versions.specs.declared.version.VersionRange.{VersionRange}
 use Rattle.hack_versions.specs.RangeSteps.{IsLowest, IsBound, AreSteps, AreStepsOf}
 use Rattle.hack_versions.specs.VersionOrder.{IsAtMost, one, strip_patch}
-use Rattle.hack_versions.specs.VersionUses.{AreVersionGroups, HasStepFrom, IsStepFor, IsVersionGroup, UsesAt, UsesBy, own_of}
+use Rattle.hack_versions.specs.VersionUses.{HasStepFrom, IsStepFor, IsVersionGroup, UsesAt, UsesBy, own_of}
 use Rattle.hack_versions.proofs.OrderLemmas.{at_most-both}
 use Rattle.hack_versions.proofs.RangeLemmas.{version-same}
 use Rattle.hack_planner.specs.Calls.{HasCoverage, IsChosenPackage, IsCoveredIn, IsInputOf, IsMember, IsOwn, IsPackageOf, IsUsed, UsesSome}
-use Rattle.hack_planner.specs.InternalUses.{InGroups, InSome, IsCoveredAs, IsPlannedAs, IsRight, id_of}
+use Rattle.hack_planner.specs.InternalUses.{InGroups, IsCoveredAs, IsPlannedAs, IsRight, id_of}
 use Rattle.hack_planner.specs.declared.uses.Chosen.{Chosen}
 
 -- ---- lists

@@ -1,4 +1,4 @@
-use Rattle.std.proofs.Common.{◌∙◌, ◌≡◌, ◌+◌, ◌++◌, [], ◌∷◌, List, refl, sym, ap, subst, take, map, inl, inr}
+use Rattle.std.proofs.Common.{◌∙◌, ◌+◌, [], ◌∷◌, List, sym, ap, subst, take, map, inl, inr}
 use Rattle.std.specs.List.{AllZip, flat_map}
 use Rattle.std.proofs.lemmas.List.{map-append, take_all}
 use Rattle.hack_load.specs.ContextView.{context_view}

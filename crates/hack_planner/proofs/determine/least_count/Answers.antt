@@ -1,5 +1,4 @@
-use Rattle.std.proofs.Common.{◌≡◌, ◌∙◌, IfOk, None, Some, sym, ap, true}
-use Rattle.hack_load.specs.ContextView.{context_view}
+use Rattle.std.proofs.Common.{◌∙◌, IfOk, sym, ap}
 use Rattle.hack_load.specs.declared.features.Features.{Features}
 use Rattle.hack_metadata.specs.Records.{PackageRecord}
 use Rattle.hack_words.specs.declared.cli.args.Args.{Args}

@@ -1,4 +1,4 @@
-use Rattle.std.proofs.Common.{sym, subst}
+use Rattle.std.proofs.Common.{subst}
 use Rattle.hack_features.specs.Forest.{sets_in}
 use Rattle.hack_features.specs.Rules.{Choice}
 use Rattle.hack_plan.specs.RunsView.{runs_in}

@@ -1,16 +1,14 @@
 use Rattle.std.proofs.Common.{◌≡◌, ◌∙◌, ◌⊎◌, length, sym, ap}
-use Rattle.std.proofs.lemmas.List.{length-map}
 use Rattle.std.proofs.lemmas.Result.{IfOk-weaker}
 use Rattle.hack_metadata.specs.RecordViews.{package_view}
 use Rattle.hack_words.specs.declared.cli.args.Args.{Args}
-use Rattle.hack_features.specs.Feature.{candidates_of, group_of}
+use Rattle.hack_features.specs.Feature.{candidates_of}
 use Rattle.hack_features.specs.View.{choice_of, size_of, questions_asked}
 use Rattle.hack_features.proofs.CandidateLemmas.{length-candidates_of}
 use Rattle.hack_plan.specs.RunsView.{runs_in}
 use Rattle.hack_samples.specs.Sets.{rows_of}
 use Rattle.hack_planner.specs.Candidates.{candidates, lifted_for}
 use Rattle.hack_planner.specs.Internal.{IsRefused}
-use Rattle.hack_planner.specs.InternalKinds.{AreMade}
 use Rattle.hack_planner.specs.Kinds as kinds
 use Rattle.hack_planner.specs.KindsView.{IsRunsFault}
 use Rattle.hack_planner.specs.declared.fault.RunsFault.TheVariants.{Memory}

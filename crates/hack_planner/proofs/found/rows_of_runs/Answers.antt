@@ -1,7 +1,4 @@
-use Rattle.std.proofs.Common.{◌≡◌, ◌∙◌, ◌+◌, length, take, sym, ap, subst, arith}
-use Rattle.std.specs.List.{AllZip}
-use Rattle.std.proofs.lemmas.List.{take_all}
-use Rattle.hack_samples.specs.Sets.{rows_of}
+use Rattle.std.proofs.Common.{subst, arith}
 use Rattle.hack_features.specs.View.{choice_of}
 use Rattle.hack_plan.specs.Runs.{run_of}
 use Rattle.hack_planner.specs.Kinds.{IsRowOf}

@@ -1,4 +1,4 @@
-use Rattle.std.proofs.Common.{◌≡◌, ◌∙◌, List, length, sym, ap}
+use Rattle.std.proofs.Common.{◌≡◌, ◌∙◌, List, ap}
 use Rattle.std.proofs.lemmas.Result.{IfOk-weaker}
 use Rattle.hack_planner.specs.Kinds.{package_choice}
 use Rattle.hack_metadata.specs.RecordViews.{package_view}
@@ -10,7 +10,7 @@ use Rattle.hack_features.specs.Rules.{Choice, unlifted_groups}
 use Rattle.hack_features.specs.View.{choice_of}
 use Rattle.hack_features.specs.ChoiceView.{choice}
 use Rattle.hack_load.specs.declared.features.Features.{Features}
-use Rattle.hack_planner.specs.Candidates.{candidates, lifted_for}
+use Rattle.hack_planner.specs.Candidates.{candidates}
 use Rattle.hack_planner.specs.Kinds as kinds
 use Rattle.hack_planner.proofs.found.rules_of.Goals as goal
 

@@ -1,4 +1,4 @@
-use Rattle.std.proofs.Common.{◌≡◌, ◌∙◌, List, sym, ap, subst}
+use Rattle.std.proofs.Common.{◌∙◌, List, sym, ap, subst}
 use Rattle.hack_metadata.specs.RecordViews.{package_view}
 use Rattle.hack_words.specs.declared.cli.args.Args.{Args}
 use Rattle.hack_features.specs.Feature.{groups_of}

@@ -1,4 +1,4 @@
-use Rattle.std.proofs.Common.{◌∙◌, sym}
+use Rattle.std.proofs.Common.{◌∙◌}
 use Rattle.hack_features.specs.ClosureLaws.{same_none, same_more}
 use Rattle.hack_planner.proofs.SetLemmas.{same-size, same-permitted}
 use Rattle.hack_planner.proofs.least_sets.count_ties.Goals as goal

@@ -1,4 +1,4 @@
-use Rattle.std.proofs.Common.{◌≡◌, ◌∙◌, sym, ap, true}
+use Rattle.std.proofs.Common.{◌∙◌, sym, ap}
 use Rattle.hack_features.specs.ClosureLaws.{same_more}
 use Rattle.hack_features.specs.Samples.{positions_of}
 use Rattle.hack_planner.proofs.SetLemmas.{same-permitted}

@@ -1,9 +1,9 @@
-use Rattle.std.proofs.Common.{◌≡◌, ◌∙◌, length, replicate, sym, subst, ap, true, false}
+use Rattle.std.proofs.Common.{◌≡◌, ◌∙◌, length, sym, subst, ap, true, false}
 use Rattle.std.proofs.lemmas.List.{length-replicate}
 use Rattle.hack_features.specs.ClosureLaws.{may-empty, same_more}
 use Rattle.hack_features.specs.Samples.{positions_of}
 use Rattle.hack_features.specs.View.{may_of, size_of}
-use Rattle.hack_planner.proofs.SetLemmas.{same-permitted, same-size}
+use Rattle.hack_planner.proofs.SetLemmas.{same-permitted}
 use Rattle.hack_planner.proofs.least_sets.large_set.Goals as goal
 
 pub all_ties-requires-clause-permitted : goal.all_ties-requires-clause-permitted

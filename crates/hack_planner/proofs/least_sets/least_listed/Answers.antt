@@ -1,4 +1,4 @@
-use Rattle.std.proofs.Common.{◌≡◌, ◌∙◌, ◌-◌, ◌^◌, ◌≤◌, ◌+◌, ℕ, length, sym, subst, ap, true, arith}
+use Rattle.std.proofs.Common.{◌≡◌, ◌∙◌, ◌-◌, ◌^◌, ◌≤◌, ◌+◌, length, sym, subst, ap, arith}
 use Rattle.hack_samples.specs.Sets.{IsInside}
 use Rattle.hack_features.specs.Samples.{positions_of}
 use Rattle.hack_planner.proofs.SetLemmas.{enough, none}

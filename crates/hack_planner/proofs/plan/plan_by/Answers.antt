@@ -15,9 +15,7 @@ use Rattle.hack_plan.specs.View.{CallView, plan_package_view}
 use Rattle.hack_base.specs.Notes.{note_of}
 use Rattle.hack_versions.specs.declared.version.VersionFault.{VersionFault}
 use Rattle.hack_planner.specs.Calls.{IsInputOf, IsMember, IsPackageOf, IsCoveredIn, HasBadOwn, candidate_notes_at, left_out_notes}
-use Rattle.hack_planner.specs.InternalUses.{IsCoveredAs, IsPlannedAs, IsRight, id_of}
-use Rattle.hack_planner.specs.declared.uses.Chosen.{Chosen}
-use Rattle.hack_planner.specs.Internal.{HasRunsFault}
+use Rattle.hack_planner.specs.InternalUses.{IsPlannedAs, IsRight, id_of}
 use Rattle.hack_planner.specs.CallPlan.{IsCause, run_counts}
 use Rattle.hack_planner.proofs.CauseLemmas.{range-cause, places-cause, counts-same, few-places, all-told}
 use Rattle.hack_planner.proofs.NeverLemmas.{no-cause}

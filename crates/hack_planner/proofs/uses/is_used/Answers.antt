@@ -1,4 +1,4 @@
-use Rattle.std.proofs.Common.{◌↔◌, ◌≡◌, List, sym, subst, Option, IsTrue}
+use Rattle.std.proofs.Common.{◌↔◌, List, sym, subst, Option, IsTrue}
 use Rattle.hack_versions.specs.declared.group.VersionGroup.{VersionGroup}
 use Rattle.hack_versions.specs.declared.version.VersionRange.{VersionRange}
 use Rattle.hack_planner.specs.InternalUses.{InGroups, InSome}

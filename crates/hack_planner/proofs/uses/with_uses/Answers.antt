@@ -1,4 +1,4 @@
-use Rattle.std.proofs.Common.{◌≡◌, ◌∙◌, ◌↔◌, ℕ, ◌+◌, [], ◌∷◌, ◌++◌, List, length, map, take, get_or, sym, ap, subst, arith, All, IsTrue, vec_len, length-append}
+use Rattle.std.proofs.Common.{◌≡◌, ◌∙◌, ◌↔◌, ◌+◌, [], ◌∷◌, ◌++◌, List, length, map, get_or, sym, ap, subst, arith, All, IsTrue, vec_len, length-append}
 use Rattle.std.proofs.lemmas.List.{get_or_default, map-append, take_all}
 use Rattle.std.proofs.lemmas.List.Elements.{All-push}
 use Rattle.hack_metadata.specs.RecordViews.{place_at}
