@@ -1,0 +1,4 @@
+pub mod SetLemmas
+pub mod RuleLemmas
+pub mod KnownLemmas
+pub mod ShrinkLemmas
