@@ -48,26 +48,29 @@ cut_off r most k s spent next = record {
 
 -- nothing was recorded
 
+pub sound_as : (k m : Known) → told m ≡ told k → conflicts_of m ≡ conflicts_of k → passing_of m ≡ passing_of k → (r : Rules) (most : Option ℕ) → IsSound r most k → IsSound r most m
+sound_as k m same conflicts passing r most h = record {
+  course = subst (IsCourse r most) (sym same) h.course;
+  failed = subst (λ l. All (HasFailed l) (conflicts_of m)) (sym same) (subst (All (HasFailed (told k))) (sym conflicts) h.failed);
+  passed = subst (λ l. All (HasPassed l) (passing_of m)) (sym same) (subst (All (HasPassed (told k))) (sym passing) h.passed);
+  least = subst (λ l. All (IsLeast r l) (conflicts_of m)) (sym same) (subst (All (IsLeast r (told k))) (sym conflicts) h.least);
+  widest = subst (λ l. All (IsWidest l) (passing_of m)) (sym same) (subst (All (IsWidest (told k))) (sym passing) h.widest);
+  conflicts_apart = subst (AllPairs AreApart) (sym conflicts) h.conflicts_apart;
+  passing_apart = subst (AllPairs AreApart) (sym passing) h.passing_apart;
+}
+
+pub grows_as : (k m : Known) → told m ≡ told k → conflicts_of m ≡ conflicts_of k → Grows k m
+grows_as k m same conflicts a h = record {
+  conflicts = λ s there. subst (λ l. Contains l s) (sym conflicts) (h.conflicts s there);
+  runs = λ run there. subst (λ l. Contains l run) (sym same) (h.runs run there);
+}
+
 module _ (k m : Known) (same : told m ≡ told k) (same_conflicts : m.conflicts ≡ k.conflicts) (same_passing : m.passing ≡ k.passing) where
   pub sound_same : (r : Rules) (most : Option ℕ) → IsSound r most k → IsSound r most m
-  sound_same r most h =
-      let conflicts : conflicts_of m ≡ conflicts_of k = ap (λ v. rows_of v.items) same_conflicts in
-      let passing : passing_of m ≡ passing_of k = ap (λ v. rows_of v.items) same_passing in
-      record {
-        course = subst (IsCourse r most) (sym same) h.course;
-        failed = subst (λ l. All (HasFailed l) (conflicts_of m)) (sym same) (subst (All (HasFailed (told k))) (sym conflicts) h.failed);
-        passed = subst (λ l. All (HasPassed l) (passing_of m)) (sym same) (subst (All (HasPassed (told k))) (sym passing) h.passed);
-        least = subst (λ l. All (IsLeast r l) (conflicts_of m)) (sym same) (subst (All (IsLeast r (told k))) (sym conflicts) h.least);
-        widest = subst (λ l. All (IsWidest l) (passing_of m)) (sym same) (subst (All (IsWidest (told k))) (sym passing) h.widest);
-        conflicts_apart = subst (AllPairs AreApart) (sym conflicts) h.conflicts_apart;
-        passing_apart = subst (AllPairs AreApart) (sym passing) h.passing_apart;
-      }
+  sound_same r most = sound_as k m same (ap (λ v. rows_of v.items) same_conflicts) (ap (λ v. rows_of v.items) same_passing) r most
 
   pub grows_same : Grows k m
-  grows_same a h = record {
-    conflicts = λ s there. subst (λ v. Contains (rows_of v.items) s) (sym same_conflicts) (h.conflicts s there);
-    runs = λ run there. subst (λ l. Contains l run) (sym same) (h.runs run there);
-  }
+  grows_same = grows_as k m same (ap (λ v. rows_of v.items) same_conflicts)
 
 -- one more run was recorded
 

@@ -2,3 +2,5 @@ pub mod SetLemmas
 pub mod RuleLemmas
 pub mod KnownLemmas
 pub mod ShrinkLemmas
+pub mod QueueLemmas
+pub mod SearchLemmas

@@ -40,7 +40,7 @@ pub part_apart : (small large t : List Bool) → IsPart small large → IsWithin
 part_apart small large t part w v = part.lacks (v part.member (w part.member part.has))
 
 module _ (k m : Known) (s : List Bool) (ran : told m ≡ told k ++ record { set = s; outcome = Passed } ∷ []) (same_conflicts : m.conflicts ≡ k.conflicts) (same_passing : m.passing ≡ k.passing) where
-  going_passed : IsGoing k → IsGoing m
+  pub going_passed : IsGoing k → IsGoing m
   going_passed going = subst (All (λ (run : Run). run.outcome ≢ Broken)) (sym ran) (All-push (λ (run : Run). run.outcome ≢ Broken) (told k) (record { set = s; outcome = Passed }) going passed-not-broken)
 
   failed_before : (t : List Bool) → HasFailed (told m) t → HasFailed (told k) t

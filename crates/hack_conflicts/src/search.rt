@@ -1,6 +1,6 @@
 //! Finds the least sets that fail, and sets that pass.
 
-ghost use Rattle.std.specs.Prelude.{◌≡◌, ◌<◌, ◌≤◌, ◌+◌, ◌-◌, ◌*◌, ℕ, List, Bool, IfOk, IfErr, OnOk, All, length};
+ghost use Rattle.std.specs.Prelude.{◌<◌, ◌≤◌, ◌+◌, ◌⊎◌, ℕ, List, Bool, IfOk, IfErr, OnOk};
 ghost use Rattle.hack_conflicts.specs.Sets.{Has, IsWithin, IsInside, HasInside, rows_of};
 ghost use Rattle.hack_conflicts.specs.Rules.{IsPreorder, IsClosed, IsChoice, size_of};
 ghost use Rattle.hack_conflicts.specs.Internal.{IsSound, Grows, IsEnd, IsNext, IsSteady, IsQueue, AreCovered};
