@@ -4,3 +4,5 @@ pub mod KnownLemmas
 pub mod ShrinkLemmas
 pub mod QueueLemmas
 pub mod SearchLemmas
+pub mod GreatestLemmas
+pub mod EndLemmas

@@ -1,10 +1,9 @@
 //! The greatest of the sets that passed.
 
-ghost use Rattle.std.specs.Prelude.{◌++◌, ◌∷◌, [], List, Bool, IfOk, AllPairs};
+ghost use Rattle.std.specs.Prelude.{◌<◌, ◌+◌, take, length, IfOk, AllPairs};
 ghost use Rattle.hack_conflicts.specs.Sets.{rows_of, AreApart};
-ghost use Rattle.hack_conflicts.specs.Runs.{Run, runs_in};
+ghost use Rattle.hack_conflicts.specs.Runs.{runs_in};
 ghost use Rattle.hack_conflicts.specs.Internal.{KeepsOthers, AreOthers};
-ghost use Rattle.hack_conflicts.specs.declared.tried.Outcome.TheVariants.{Passed};
 
 use crate::known::{has_passed, set_of};
 use crate::sets::{is_inside, is_within, set_at};
@@ -30,19 +29,25 @@ fn without_inner(
     Ok(left)
 }
 
-/// The other sets with one more that passed, without those that lie inside another.
-fn add_other(
+/// The other sets with that of the run at the place, if it passed and lies inside none of them and
+/// none of the first, without those that lie inside another.
+fn add_run(
     alloc: Global,
     first: &[Vec<bool>],
     others: Vec<Vec<bool>>,
-    set: &[bool],
+    runs: &[Tried],
+    place: usize,
 ) -> Result<Vec<Vec<bool>>, AllocError>
-    requires { AllPairs AreApart (rows_of others.items) }
-    ensures { IfOk result (λ left. (front : List Run)
-        → AreOthers (rows_of first.now) front (rows_of others.items)
-        → AreOthers (rows_of first.now) (front ++ record { set = set.now; outcome = Passed } ∷ [])
-        (rows_of left.items)) }
+    requires inside { place < length runs.now }
+    requires others { AreOthers (rows_of first.now) (take place (runs_in runs.now)) (rows_of
+        others.items) }
+    ensures { IfOk result (λ left. AreOthers (rows_of first.now) (take (place
+        + 1) (runs_in runs.now)) (rows_of left.items)) }
 {
+    if !has_passed(runs, place) {
+        return Ok(others);
+    }
+    let set = set_of(runs, place);
     if is_inside(first, set) {
         return Ok(others);
     }
@@ -65,9 +70,7 @@ pub(crate) fn other_sets(
 {
     let mut others = Vec::new(alloc);
     for place in 0..runs.len() {
-        if has_passed(runs, place) {
-            others = add_other(alloc, first, others, set_of(runs, place))?;
-        }
+        others = add_run(alloc, first, others, runs, place)?;
     }
     Ok(others)
 }
