@@ -6,3 +6,4 @@ pub mod QueueLemmas
 pub mod SearchLemmas
 pub mod GreatestLemmas
 pub mod EndLemmas
+pub mod FoundLemmas
