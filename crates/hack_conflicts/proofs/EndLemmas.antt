@@ -66,7 +66,6 @@ undecided_by k passing passed s open' decided = elim decided [
   | inr (t, there, w) ↦ open' (inr (t, All-contains (HasPassed (told k)) passing t passed there, w))
 ]
 
-
 passes : (b : Bool) → Passed ≡ cond b Passed Failed → b ≡ true
 passes true e = refl
 passes false e = absurd (passed-not-failed e)
@@ -86,8 +85,8 @@ module _ (r : Rules) (builds : List Bool → Bool) (monotone : IsMonotone r buil
   fails_there conflicts passing passed s choice decided e = elim decided [
     | inl h ↦ h
     | inr (t, there, w) ↦
-      let run : HasPassed runs t = All-contains (HasPassed runs) passing t passed there in
-      absurd (false≢true (sym e ∙ monotone s t choice (choice_of t Passed run) w (passes (builds t) (answer t Passed run))))
+        let run : HasPassed runs t = All-contains (HasPassed runs) passing t passed there in
+        absurd (false≢true (sym e ∙ monotone s t choice (choice_of t Passed run) w (passes (builds t) (answer t Passed run))))
   ]
 
   fails_with : (conflicts : List (List Bool)) → All (HasFailed runs) conflicts → (s : List Bool) → IsChoice r s → HasInside conflicts s → builds s ≡ false

@@ -123,16 +123,16 @@ all_pairs_append R xs ys h k cross i j d lt le =
     let size : length (xs ++ ys) ≡ length xs + length ys = length-append xs ys in
     elim (cases_lt j (length xs)) [
       | inl j_first ↦
-        let i_first : i < length xs = omega arith in
-        subst (λ x. R x (get_or (xs ++ ys) j d)) (sym (get_or-append xs ys d i i_first)) (subst (R (get_or xs i d)) (sym (get_or-append xs ys d j j_first)) (h i j d lt j_first))
+          let i_first : i < length xs = omega arith in
+          subst (λ x. R x (get_or (xs ++ ys) j d)) (sym (get_or-append xs ys d i i_first)) (subst (R (get_or xs i d)) (sym (get_or-append xs ys d j j_first)) (h i j d lt j_first))
       | inr j_second ↦
-        let j_less : j - length xs < length ys = omega arith in
-        subst (R (get_or (xs ++ ys) i d)) (sym (get_or-append_right xs ys (length xs) j d refl j_second)) (elim (cases_lt i (length xs)) [
-          | inl i_first ↦ subst (λ x. R x (get_or ys (j - length xs) d)) (sym (get_or-append xs ys d i i_first))
-              (cross (get_or xs i d) (get_or ys (j - length xs) d) (Contains-get_or xs i d i_first) (Contains-get_or ys (j - length xs) d j_less))
-          | inr i_second ↦ subst (λ x. R x (get_or ys (j - length xs) d)) (sym (get_or-append_right xs ys (length xs) i d refl i_second))
-              (k (i - length xs) (j - length xs) d (omega arith) j_less)
-        ])
+          let j_less : j - length xs < length ys = omega arith in
+          subst (R (get_or (xs ++ ys) i d)) (sym (get_or-append_right xs ys (length xs) j d refl j_second)) (elim (cases_lt i (length xs)) [
+            | inl i_first ↦ subst (λ x. R x (get_or ys (j - length xs) d)) (sym (get_or-append xs ys d i i_first))
+                (cross (get_or xs i d) (get_or ys (j - length xs) d) (Contains-get_or xs i d i_first) (Contains-get_or ys (j - length xs) d j_less))
+            | inr i_second ↦ subst (λ x. R x (get_or ys (j - length xs) d)) (sym (get_or-append_right xs ys (length xs) i d refl i_second))
+                (k (i - length xs) (j - length xs) d (omega arith) j_less)
+          ])
     ]
 
 -- the first sets and the others together

@@ -20,9 +20,9 @@ passing_clear : (r : Rules) (k : Known) (s : List Bool) → All (HasPassed (told
 passing_clear r k s passed steady choice fresh (q, there, w) = elim (within_or s q) [
   | inl inside ↦ fresh (q, All-contains (HasPassed (told k)) (passing_of k) q passed there, inside)
   | inr (x, has, lacks) ↦
-    let large : members (size_of r) s ≤ members (size_of r) q = All-contains (λ t. members (size_of r) s ≤ members (size_of r) t) (passing_of k) q steady.large there in
-    let fewer : members (size_of r) q < members (size_of r) s = members_fewer (size_of r) q s w x (choice.closed.below x has) has lacks in
-    absurd (omega arith)
+      let large : members (size_of r) s ≤ members (size_of r) q = All-contains (λ t. members (size_of r) s ≤ members (size_of r) t) (passing_of k) q steady.large there in
+      let fewer : members (size_of r) q < members (size_of r) s = members_fewer (size_of r) q s w x (choice.closed.below x has) has lacks in
+      absurd (omega arith)
 ]
 
 -- a set that may be chosen, and isn't settled, is the next to be tried
@@ -40,7 +40,7 @@ next_from r most k s sound steady choice fresh none = record {
 
 -- k knows what is known before a build with s was tried, which passed, and a after; m has s as one more passing set
 module _ (r : Rules) (most : Option ℕ) (k a m : Known) (s : List Bool) (ran : told a ≡ told k ++ record { set = s; outcome = Passed } ∷ []) (same_conflicts : a.conflicts ≡ k.conflicts) (same_passing : a.passing ≡ k.passing)
-  (next : IsNext r k s) (before : IsSound r most k) (sound : IsSound r most a) (same_runs : told m ≡ told a) (kept : conflicts_of m ≡ conflicts_of a) (more : passing_of m ≡ passing_of a ++ s ∷ []) where
+    (next : IsNext r k s) (before : IsSound r most k) (sound : IsSound r most a) (same_runs : told m ≡ told a) (kept : conflicts_of m ≡ conflicts_of a) (more : passing_of m ≡ passing_of a ++ s ∷ []) where
   passing_k : passing_of a ≡ passing_of k
   passing_k = ap (λ v. rows_of v.items) same_passing
 
@@ -90,7 +90,7 @@ module _ (r : Rules) (most : Option ℕ) (k a m : Known) (s : List Bool) (ran : 
 
 -- a set that failed and is least, after which m has it as one more conflict
 module _ (r : Rules) (most : Option ℕ) (b m : Known) (d : List Bool) (failing : IsFailing r b d) (least : IsLeast r (told b) d) (sound : IsSound r most b)
-  (same_runs : told m ≡ told b) (more : conflicts_of m ≡ conflicts_of b ++ d ∷ []) (kept : passing_of m ≡ passing_of b) where
+    (same_runs : told m ≡ told b) (more : conflicts_of m ≡ conflicts_of b ++ d ∷ []) (kept : passing_of m ≡ passing_of b) where
   apart_d : (i : ℕ) (e : List Bool) → i < length (conflicts_of b) → AreApart (get_or (conflicts_of b) i e) d
   apart_d i e lt =
       let c : List Bool = get_or (conflicts_of b) i e in

@@ -157,8 +157,8 @@ lacks_one r set s p q clash choice w = elim (cases_Bool (mark s p)) [
   | inl a ↦ elim (cases_Bool (mark s q)) [
     | inr e ↦ inr (λ h. false≢true (sym e ∙ h))
     | inl b ↦
-      let (t, member, up, over) = All-contains (HasOneOf r s) (rows_of r.exclusive.items) clash.group choice.exclusive clash.excludes p q a b clash.first_in clash.second_in in
-      absurd (clash.apart (t, w t member, up, over))
+        let (t, member, up, over) = All-contains (HasOneOf r s) (rows_of r.exclusive.items) clash.group choice.exclusive clash.excludes p q a b clash.first_in clash.second_in in
+        absurd (clash.apart (t, w t member, up, over))
   ]
 ]
 
@@ -173,8 +173,8 @@ later_none k = record { conflicts = λ s h. h; runs = λ run h. h }
 pub exclusive_less : (r : Rules) (s t : List Bool) → IsPreorder r → IsPlain r → IsClosed r s → IsWithin s t → IsExclusive r t → IsExclusive r s
 exclusive_less r s t o plain closed w exclusive =
     each_of (HasOneOf r s) (rows_of r.exclusive.items) (λ group there p q a b in_p in_q.
-        let (x, member, up, over) = All-contains (HasOneOf r t) (rows_of r.exclusive.items) group exclusive there p q (w p a) (w q b) in_p in_q in
-        elim (All-contains (EnablesOneOf r) (rows_of r.exclusive.items) group plain there x p q up over in_p in_q) [
-          | inl e ↦ (p, a, o.reflexive p (closed.below p a), e)
-          | inr e ↦ (q, b, e, o.reflexive q (closed.below q b))
-        ])
+    let (x, member, up, over) = All-contains (HasOneOf r t) (rows_of r.exclusive.items) group exclusive there p q (w p a) (w q b) in_p in_q in
+    elim (All-contains (EnablesOneOf r) (rows_of r.exclusive.items) group plain there x p q up over in_p in_q) [
+      | inl e ↦ (p, a, o.reflexive p (closed.below p a), e)
+      | inr e ↦ (q, b, e, o.reflexive q (closed.below q b))
+    ])

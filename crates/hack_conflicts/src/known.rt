@@ -4,7 +4,6 @@ ghost use Rattle.std.specs.Prelude.{◌≡◌, ◌<◌, ◌≤◌, ◌+◌, ◌+
 ghost use Rattle.std.specs.List.{slice_index_or};
 ghost use Rattle.hack_conflicts.specs.Runs.{Run, runs_in, IsPassed, IsSpent, AreMonotone};
 ghost use Rattle.hack_conflicts.specs.declared.tried.Outcome.TheVariants.{Passed, Failed, Broken as BrokenRun};
-
 ghost use Rattle.hack_conflicts.specs.Internal.{IsSound, IsNext, Grows, IsEnd, told};
 
 use crate::builds::Builds;

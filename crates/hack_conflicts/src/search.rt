@@ -252,7 +252,16 @@ fn search_level<B: Builds>(
 {
     let mut next = Vec::new(alloc);
     for place in 0..left.len() {
-        visit(alloc, rules, most, known, size, set_at(left, place), &mut next, builder)?;
+        visit(
+            alloc,
+            rules,
+            most,
+            known,
+            size,
+            set_at(left, place),
+            &mut next,
+            builder,
+        )?;
     }
     Ok(next)
 }
@@ -280,7 +289,15 @@ pub(crate) fn search_all<B: Builds>(
     let mut left = Vec::new(alloc);
     left.push(vec![in alloc; true; n]?)?;
     for done in 0..n {
-        left = search_level(alloc, rules, most, known, n - done, left.as_slice(), builder)?;
+        left = search_level(
+            alloc,
+            rules,
+            most,
+            known,
+            n - done,
+            left.as_slice(),
+            builder,
+        )?;
     }
     let _none = search_level(alloc, rules, most, known, 0, left.as_slice(), builder)?;
     Ok(())

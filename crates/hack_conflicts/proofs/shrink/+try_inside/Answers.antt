@@ -84,7 +84,7 @@ returns-in-Some-clause-failing g t c = λ large part h.
     let w : IsWithout r c.in-Some.p s u = subst (IsWithout r c.in-Some.p s) (sym c.as_slice-in-Some.ensures.value) c.in_ok-first.ensures in
     let w' : IsWithout r c.in-Some.q s v = subst (IsWithout r c.in-Some.q s) (sym c.as_slice-in-Some-2.ensures.value) c.in_ok-second.ensures in
     let failing : IsFailing r m large = subst (λ o. MatchOption o (IsFailing r m large) (λ less. IsFailing r m less.items)) c.in_default-found.is
-        (c.in_ok-found.ensures.failing large (part_less u s large (without_within r c.in-Some.p s u w) part) h) in
+    (c.in_ok-found.ensures.failing large (part_less u s large (without_within r c.in-Some.p s u w) part) h) in
     c.in_ok-last.ensures.failing large (part_less v s large (without_within r c.in-Some.q s v w') part) failing
 
 pub returns-in-Some-clause-passed : goal.returns-in-Some-clause-passed

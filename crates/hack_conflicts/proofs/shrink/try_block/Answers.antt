@@ -42,7 +42,7 @@ returns-clause-needs g c =
     let m = c.try_inside.new.known in
     if_none c.in_ok-left.left ((x : List Bool) → IsChoice r x → IsWithin x v → IsPassed (told m) x) (c.args.from + 1 ≡ c.args.to → Has s c.args.from → Needs r (told m) s c.args.from)
     (λ passed one member x choice inside lacks. passed x choice (subst (IsWithin x) (sym c.as_slice.ensures.value)
-        (c.in_ok-smaller.ensures.around x choice.closed inside (λ y from to has. let same : y ≡ c.args.from = omega arith in lacks (subst (Has x) same has)))))
+    (c.in_ok-smaller.ensures.around x choice.closed inside (λ y from to has. let same : y ≡ c.args.from = omega arith in lacks (subst (Has x) same has)))))
     c.in_ok-left.ensures.passed
 
 pub returns-in_err-left-clause-few : goal.returns-in_err-left-clause-few
