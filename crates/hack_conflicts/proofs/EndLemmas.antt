@@ -1,12 +1,12 @@
 -- The start and the end of a search.
-use Rattle.std.proofs.Common.{◌≡◌, ◌≢◌, ◌≤◌, ℕ, ◌+◌, ◌*◌, List, [], ◌++◌, length, arith, Bool, true, false, cond, sym, ◌∙◌, ap, subst, inl, inr, ◌↔◌, All, Contains, Option, None, Some, IfSome, refl}
+use Rattle.std.proofs.Common.{◌≡◌, ◌≢◌, ◌≤◌, ℕ, List, [], length, arith, Bool, true, false, cond, sym, ◌∙◌, ap, subst, inl, inr, ◌↔◌, All, Contains, Option, None, Some, IfSome, refl}
 use Rattle.std.specs.Prelude.{AllPairs}
 use Rattle.std.proofs.lemmas.Bool.{false≢true, cases_Bool}
 use Rattle.std.proofs.lemmas.List.Elements.{All-nil, All-contains}
-use Rattle.hack_conflicts.specs.Sets.{IsWithin, HasInside, IsInside, AreApart, rows_of}
-use Rattle.hack_conflicts.specs.Rules.{IsChoice, IsPlain, size_of}
-use Rattle.hack_conflicts.specs.Runs.{Run, runs_in, HasFailed, HasPassed, IsNew, IsCourse, IsLeast, IsDecided, Answers, IsMonotone}
-use Rattle.hack_conflicts.specs.Internal.{IsSound, IsSteady, IsSettled, IsBlamed, IsWidest, AreOthers, members, worth, told, conflicts_of, passing_of}
+use Rattle.hack_conflicts.specs.Sets.{HasInside, IsInside, AreApart, rows_of}
+use Rattle.hack_conflicts.specs.Rules.{IsChoice, size_of}
+use Rattle.hack_conflicts.specs.Runs.{Run, runs_in, HasFailed, HasPassed, IsNew, IsLeast, IsDecided, Answers, IsMonotone}
+use Rattle.hack_conflicts.specs.Internal.{IsSound, IsSteady, IsSettled, IsWidest, members, told, conflicts_of, passing_of}
 use Rattle.hack_conflicts.specs.declared.rules.Rules.{Rules}
 use Rattle.hack_conflicts.specs.declared.known.Known.{Known}
 use Rattle.hack_conflicts.specs.declared.tried.Outcome.{Outcome}

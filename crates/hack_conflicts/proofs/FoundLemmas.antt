@@ -1,17 +1,17 @@
 -- What is found by what is known at the end.
-use Rattle.std.proofs.Common.{◌≡◌, ◌≤◌, ℕ, ◌+◌, ◌*◌, List, ◌++◌, length, arith, Bool, true, false, sym, subst, ap, ◌∙◌, ◌↔◌, All, Contains, Option}
+use Rattle.std.proofs.Common.{◌≡◌, ◌≤◌, ℕ, ◌+◌, ◌*◌, List, ◌++◌, length, arith, Bool, false, sym, subst, ap, ◌∙◌, ◌↔◌, ◌⊎◌, All, Option}
 use Rattle.std.specs.Prelude.{AllPairs, Vec}
 use Rattle.std.proofs.lemmas.List.{length-append, length-map}
 use Rattle.hack_conflicts.specs.Sets.{HasInside, IsInside, AreApart, rows_of}
-use Rattle.hack_conflicts.specs.Rules.{IsChoice, IsPlain, size_of}
-use Rattle.hack_conflicts.specs.Runs.{Run, HasFailed, HasPassed, IsLeast, IsDecided, IsIncomplete, Answers, IsMonotone, IsGreatest}
-use Rattle.hack_conflicts.specs.Internal.{IsSound, IsSteady, IsSettled, IsBlamed, IsUnsettled, AreOthers, worth, told, conflicts_of, passing_of}
+use Rattle.hack_conflicts.specs.Rules.{IsChoice}
+use Rattle.hack_conflicts.specs.Runs.{Run, HasFailed, HasPassed, IsLeast, AreBlamed, IsUnfinished, IsDecided, IsIncomplete, Answers, IsMonotone, IsGreatest}
+use Rattle.hack_conflicts.specs.Internal.{IsSound, IsSettled, IsUnsettled, AreOthers, worth, told, conflicts_of, passing_of}
 use Rattle.hack_conflicts.specs.declared.rules.Rules.{Rules}
 use Rattle.hack_conflicts.specs.declared.known.Known.{Known}
-use Rattle.hack_conflicts.specs.declared.tried.Outcome.TheVariants.{Passed, Failed}
 use Rattle.hack_conflicts.proofs.KnownLemmas.{each_of}
 use Rattle.hack_conflicts.proofs.GreatestLemmas.{all_passed, all_covered, all_apart, none_greater}
 use Rattle.hack_conflicts.proofs.EndLemmas.{decided_by, undecided_by, law}
+use Rattle.hack_conflicts.proofs.SearchLemmas.{one_more}
 
 -- what is found is what is known
 pub record IsFoundBy (k : Known) (runs : List Run) (conflicts passing : List (List Bool)) : Type 0 where
@@ -46,8 +46,12 @@ module _ (r : Rules) (most : Option ℕ) (k : Known) (runs : List Run) (conflict
   pub found_passing_apart : AllPairs AreApart passing
   found_passing_apart = subst (AllPairs AreApart) (sym found.both) (all_apart (passing_of k) (told k) found.others found.rest sound.passing_apart sound.widest)
 
-  pub found_blamed : IsBlamed k → (s : List Bool) → HasFailed runs s → HasInside conflicts s
+  pub found_blamed : AreBlamed (told k) (conflicts_of k) → AreBlamed runs conflicts
   found_blamed blamed s failed = subst (λ l. HasInside l s) (sym found.same_conflicts) (blamed s (subst (λ l. HasFailed l s) found.same_runs failed))
+
+  pub found_unfinished : AreBlamed (told k) (conflicts_of k) ⊎ IsUnfinished r (told k) (conflicts_of k) → AreBlamed runs conflicts ⊎ IsUnfinished r runs conflicts
+  found_unfinished blamed =
+      subst (λ l. AreBlamed l conflicts ⊎ IsUnfinished r l conflicts) (sym found.same_runs) (subst (λ l. AreBlamed (told k) l ⊎ IsUnfinished r (told k) l) (sym found.same_conflicts) blamed)
 
   pub found_complete : ((s : List Bool) → IsChoice r s → IsSettled k s) → (s : List Bool) → IsChoice r s → IsDecided conflicts passing s
   found_complete settled s choice = subst (λ l. IsDecided l passing s) (sym found.same_conflicts) (decided_by k passing covers_k s (settled s choice))
@@ -68,6 +72,9 @@ module _ (r : Rules) (most : Option ℕ) (k : Known) (runs : List Run) (conflict
 -- as many runs as what is found accounts for
 pub found_few : (n : ℕ) (k : Known) (runs p x : ℕ) → runs ≤ worth n k → length k.passing.items ≤ p → x ≡ length k.conflicts.items → runs ≤ p + x * (2 * n + 1)
 found_few n k runs p x paid more same = rw same (omega arith)
+
+pub found_so_far : (n : ℕ) (k : Known) (runs p x : ℕ) → runs ≤ worth n k + (2 * n + 1) → length k.passing.items ≤ p → x ≡ length k.conflicts.items → runs ≤ p + (x + 1) * (2 * n + 1)
+found_so_far n k runs p x paid more same = rw (same, one_more (length k.conflicts.items) (2 * n)) (omega arith)
 
 -- the first of two lists is no longer than both
 pub longer : {X Z : Type 0} (all first : List (Vec X Z)) (others : List (List X)) → rows_of all ≡ rows_of first ++ others → length first ≤ length all

@@ -1,5 +1,5 @@
 -- The greatest of some sets.
-use Rattle.std.proofs.Common.{◌≡◌, ◌<◌, ◌≤◌, ℕ, ◌+◌, ◌-◌, List, [], ◌∷◌, ◌++◌, length, get_or, take, min, arith, Bool, false, sym, ◌∙◌, ap, subst, inl, inr, ◌⊎◌, refl, Contains, All}
+use Rattle.std.proofs.Common.{◌≡◌, ◌<◌, ℕ, ◌+◌, ◌-◌, List, [], ◌∷◌, ◌++◌, length, get_or, take, min, arith, Bool, false, sym, ◌∙◌, ap, subst, inl, inr, ◌⊎◌, refl, Contains, All}
 use Rattle.std.specs.Prelude.{AllPairs}
 use Rattle.std.proofs.lemmas.Bool.{false≢true, cases_order, cases_lt}
 use Rattle.std.proofs.lemmas.List.{length-take, get_or-take, get_or_default, take_more, length-append, get_or-append_right}

@@ -1,15 +1,15 @@
 -- What a search knows after another run.
-use Rattle.std.proofs.Common.{◌≡◌, ◌≢◌, ◌<◌, ◌≤◌, ℕ, ◌+◌, List, [], ◌∷◌, ◌++◌, length, get_or, set, ◌-◌, arith, Bool, true, false, cond, sym, ◌∙◌, ap, subst, inl, inr, ◌⊎◌, refl, All, Contains, Option, Some, None, IfSome}
+use Rattle.std.proofs.Common.{◌≡◌, ◌<◌, ◌≤◌, ℕ, ◌+◌, List, [], ◌∷◌, ◌++◌, length, get_or, set, ◌-◌, arith, Bool, sym, ◌∙◌, ap, subst, inl, inr, ◌⊎◌, All, Contains, Option, Some, None, IfSome}
 use Rattle.std.specs.Prelude.{AllPairs}
 use Rattle.std.proofs.lemmas.List.{map-append, length-map, length-append, map-set}
 use Rattle.std.proofs.Math.ListN.{get_or-map}
 use Rattle.std.proofs.Math.Seq.{get_or-append_seam, set-append_seam}
 use Rattle.std.proofs.lemmas.List.Quantifiers.{all_pairs_push}
-use Rattle.std.proofs.lemmas.List.Elements.{All-nil, All-push, All-weaker, All-contains, All-contains_itself, Contains-push, Contains-push_cases, Contains-append_left}
-use Rattle.hack_conflicts.specs.Sets.{Has, IsWithin, IsInside, HasInside, AreApart, rows_of}
+use Rattle.std.proofs.lemmas.List.Elements.{All-push, All-weaker, All-contains, All-contains_itself, Contains-push, Contains-push_cases, Contains-append_left}
+use Rattle.hack_conflicts.specs.Sets.{IsWithin, AreApart, rows_of}
 use Rattle.hack_conflicts.specs.Rules.{IsChoice}
 use Rattle.hack_conflicts.specs.Runs.{Run, runs_in, HasFailed, HasPassed, IsPassed, IsNew, IsCourse, Needs, IsLeast, IsSpent}
-use Rattle.hack_conflicts.specs.Internal.{IsSound, IsLater, Grows, IsNext, IsClear, IsGoing, IsWidest, IsCutOff, IsSettled, told, conflicts_of, passing_of}
+use Rattle.hack_conflicts.specs.Internal.{IsSound, Grows, IsNext, IsWidest, IsCutOff, IsSettled, told, conflicts_of, passing_of}
 use Rattle.hack_conflicts.specs.declared.rules.Rules.{Rules}
 use Rattle.hack_conflicts.specs.declared.known.Known.{Known}
 use Rattle.hack_conflicts.specs.declared.tried.Tried.{Tried}
@@ -33,6 +33,9 @@ ended_so runs run o h e = subst (λ p. Contains runs (record { set = run.set; ou
 pub passed_later : (a b : List Run) → ((run : Run) → Contains a run → Contains b run) → (s : List Bool) → IsPassed a s → IsPassed b s
 passed_later a b h s (t, there, w) = (t, h (record { set = t; outcome = Passed }) there, w)
 
+pub passed_less : (runs : List Run) (s t : List Bool) → IsWithin s t → IsPassed runs t → IsPassed runs s
+passed_less runs s t w (u, there, v) = (u, there, λ p has. v p (w p has))
+
 pub needs_later : (r : Rules) (a b : List Run) → ((run : Run) → Contains a run → Contains b run) → (set less : List Bool) → IsWithin less set → (x : ℕ) → Needs r a set x → Needs r b less x
 needs_later r a b h set less w x needs = λ s choice within lacks. passed_later a b h s (needs s choice (λ p has. w p (within p has)) lacks)
 
@@ -44,6 +47,7 @@ cut_off r most k s spent next = record {
   spent = spent;
   unsettled = (s, next.choice, λ (settled : IsSettled k s). elim settled [ inl h ↦ next.clear.conflicts h | inr h ↦ next.fresh h ]);
   going = next.clear.going;
+  blamed = next.blamed;
 }
 
 -- nothing was recorded

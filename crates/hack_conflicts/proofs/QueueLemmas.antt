@@ -1,19 +1,19 @@
 -- Sets that are left for later.
-use Rattle.std.proofs.Common.{◌≡◌, ◌<◌, ◌≤◌, ℕ, ◌+◌, List, [], ◌∷◌, ◌++◌, length, replicate, arith, Bool, true, false, sym, ◌∙◌, ap, subst, inl, inr, ◌⊎◌, Contains}
+use Rattle.std.proofs.Common.{◌≡◌, ◌<◌, ◌≤◌, ℕ, ◌+◌, List, [], ◌∷◌, ◌++◌, replicate, arith, Bool, true, false, sym, ◌∙◌, subst, inl, inr, Contains}
 use Rattle.std.specs.Prelude.{Vec}
 use Rattle.std.proofs.lemmas.Bool.{false≢true}
 use Rattle.std.proofs.lemmas.List.{map-append}
 use borrow.Author.Count.{below_more}
 use Rattle.std.proofs.lemmas.List.Elements.{All-nil, All-cons, All-push, All-contains, Contains-push}
-use Rattle.hack_conflicts.specs.Sets.{Has, mark, IsWithin, IsInside, HasInside, rows_of}
-use Rattle.hack_conflicts.specs.Rules.{IsPreorder, IsClosed, IsRequired, IsChoice, size_of}
+use Rattle.hack_conflicts.specs.Sets.{Has, mark, IsWithin, IsInside, rows_of}
+use Rattle.hack_conflicts.specs.Rules.{IsPreorder, IsClosed, IsRequired, size_of}
 use Rattle.hack_conflicts.specs.Runs.{IsPassed}
-use Rattle.hack_conflicts.specs.Internal.{members, Grows, IsLater, IsQueue, AreCovered, Avoids, Leaves, IsSettled, Clashes, told, conflicts_of}
+use Rattle.hack_conflicts.specs.Internal.{members, Grows, IsLater, IsQueue, AreCovered, Avoids, Leaves, IsSettled, told, conflicts_of}
 use Rattle.hack_conflicts.specs.declared.rules.Rules.{Rules}
 use Rattle.hack_conflicts.specs.declared.known.Known.{Known}
 use Rattle.hack_conflicts.proofs.SetLemmas.{inside_left, within_or}
 use Rattle.hack_conflicts.proofs.ShrinkLemmas.{required_more, later_none}
-use Rattle.hack_conflicts.proofs.KnownLemmas.{passed_later}
+use Rattle.hack_conflicts.proofs.KnownLemmas.{passed_later, passed_less}
 use Rattle.hack_conflicts.proofs.RuleLemmas.{full_closed, full_around, members_most}
 
 -- a list with one more vector behind, by items
@@ -37,9 +37,6 @@ inside_push sets s = (s, Contains-push sets s, λ p has. has)
 
 pub inside_less : (sets : List (List Bool)) (s t : List Bool) → IsWithin s t → IsInside sets t → IsInside sets s
 inside_less sets s t w (u, there, v) = (u, there, λ p has. v p (w p has))
-
-pub passed_less : (k : Known) (s t : List Bool) → IsWithin s t → IsPassed (told k) t → IsPassed (told k) s
-passed_less k s t w (u, there, v) = (u, there, λ p has. v p (w p has))
 
 -- the members of the conflict below n were gone through
 pub record Spreads (r : Rules) (set conflict : List Bool) (n : ℕ) (old new : List (List Bool)) : Type 0 where
@@ -77,7 +74,7 @@ pub leaves_none : (r : Rules) (k : Known) (set : List Bool) (left : List (List B
 leaves_none r k set left none = λ s choice w. absurd (none (required_more r s set w choice.required))
 
 pub leaves_passed : (r : Rules) (k : Known) (set : List Bool) (left : List (List Bool)) → IsPassed (told k) set → Leaves r k set left
-leaves_passed r k set left passed = λ s choice w. inl (inr (passed_less k s set w passed))
+leaves_passed r k set left passed = λ s choice w. inl (inr (passed_less (told k) s set w passed))
 
 pub leaves_conflict : (r : Rules) (k : Known) (set conflict : List Bool) (left : List (List Bool)) → Contains (conflicts_of k) conflict → ((x : ℕ) → Has conflict x → Avoids r set x left) → Leaves r k set left
 leaves_conflict r k set conflict left there avoids = λ s choice w. elim (within_or conflict s) [

@@ -1,17 +1,17 @@
 -- What a search knows after another passing set or conflict.
-use Rattle.std.proofs.Common.{◌≡◌, ◌≢◌, ◌<◌, ◌≤◌, ℕ, ◌+◌, ◌*◌, List, [], ◌∷◌, ◌++◌, length, get_or, arith, rules, Bool, sym, ◌∙◌, ap, subst, inl, inr, ◌⊎◌, refl, All, Contains, Option}
+use Rattle.std.proofs.Common.{◌≡◌, ◌≢◌, ◌<◌, ◌≤◌, ℕ, ◌+◌, ◌*◌, List, [], ◌∷◌, ◌++◌, length, get_or, arith, rules, Bool, sym, ◌∙◌, ap, subst, inl, inr, All, Contains, Option}
 use Rattle.std.specs.Prelude.{AllPairs}
 use Rattle.std.proofs.lemmas.List.Quantifiers.{all_pairs_push}
-use Rattle.std.proofs.lemmas.List.Elements.{All-nil, All-push, All-weaker, All-contains, All-contains_itself, Contains-push, Contains-push_cases, Contains-append_left}
-use Rattle.hack_conflicts.specs.Sets.{Has, IsWithin, IsInside, HasInside, AreApart, rows_of}
+use Rattle.std.proofs.lemmas.List.Elements.{All-push, All-weaker, All-contains, All-contains_itself, Contains-push, Contains-append_left}
+use Rattle.hack_conflicts.specs.Sets.{IsWithin, HasInside, AreApart, rows_of}
 use Rattle.hack_conflicts.specs.Rules.{IsPlain, IsChoice, size_of}
-use Rattle.hack_conflicts.specs.Runs.{Run, HasFailed, HasPassed, IsPassed, IsLeast, IsCourse}
-use Rattle.hack_conflicts.specs.Internal.{IsSound, IsLater, Grows, IsNext, IsClear, IsGoing, IsBlamed, IsFailing, IsWidest, IsSteady, IsSettled, Leaves, members, worth, told, conflicts_of, passing_of}
+use Rattle.hack_conflicts.specs.Runs.{Run, HasFailed, HasPassed, IsPassed, IsLeast, AreBlamed, IsCourse}
+use Rattle.hack_conflicts.specs.Internal.{IsSound, Grows, IsNext, IsGoing, IsFailing, IsWidest, IsSteady, members, worth, told, conflicts_of, passing_of}
 use Rattle.hack_conflicts.specs.declared.rules.Rules.{Rules}
 use Rattle.hack_conflicts.specs.declared.known.Known.{Known}
 use Rattle.hack_conflicts.specs.declared.tried.Outcome.TheVariants.{Passed, Failed, Broken}
-use Rattle.hack_conflicts.proofs.KnownLemmas.{run_cases, run_there, passed_later, each_of}
-use Rattle.hack_conflicts.proofs.SetLemmas.{within_or, inside_left}
+use Rattle.hack_conflicts.proofs.KnownLemmas.{run_cases, run_there}
+use Rattle.hack_conflicts.proofs.SetLemmas.{within_or}
 use Rattle.hack_conflicts.proofs.RuleLemmas.{members_fewer}
 use Rattle.hack_conflicts.proofs.ShrinkLemmas.{passed-not-failed}
 
@@ -36,6 +36,7 @@ next_from r most k s sound steady choice fresh none = record {
     conflicts = none;
     passing = passing_clear r k s sound.passed steady choice fresh;
   };
+  blamed = inl steady.blamed;
 }
 
 -- k knows what is known before a build with s was tried, which passed, and a after; m has s as one more passing set
@@ -114,7 +115,7 @@ module _ (r : Rules) (most : Option ℕ) (b m : Known) (d : List Bool) (failing 
     passing_apart = subst (AllPairs AreApart) (sym kept) sound.passing_apart;
   }
 
-  blamed_m : IsBlamed m
+  blamed_m : AreBlamed (told m) (conflicts_of m)
   blamed_m t there = subst (λ l. HasInside l t) (sym more) (elim (failing.blamed t (subst (λ l. HasFailed l t) same_runs there)) [
     | inl (u, known, w) ↦ (u, Contains-append_left (conflicts_of b) (d ∷ []) u known, w)
     | inr w ↦ (d, Contains-push (conflicts_of b) d, w)
@@ -137,7 +138,7 @@ module _ (r : Rules) (most : Option ℕ) (b m : Known) (d : List Bool) (failing 
   pub conflict_there : Contains (conflicts_of m) d
   conflict_there = subst (λ l. Contains l d) (sym more) (Contains-push (conflicts_of b) d)
 
-one_more : (x n : ℕ) → (x + 1) * (n + 1) ≡ x * (n + 1) + (n + 1)
+pub one_more : (x n : ℕ) → (x + 1) * (n + 1) ≡ x * (n + 1) + (n + 1)
 one_more x n = search (arith, rules)
 
 -- a passing set pays its run, and a conflict pays its own and those by which it was made smaller

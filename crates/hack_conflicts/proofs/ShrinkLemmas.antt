@@ -1,17 +1,17 @@
 -- A set that fails, after a part of it was tried.
-use Rattle.std.proofs.Common.{◌≡◌, ◌≢◌, ◌<◌, ◌≤◌, ◌+◌, ℕ, List, [], ◌∷◌, ◌++◌, length, arith, Bool, true, false, sym, ◌∙◌, ap, subst, inl, inr, ◌⊎◌, refl, All, Contains, Option, Some, None, IfSome, IfNone}
+use Rattle.std.proofs.Common.{◌≡◌, ◌≢◌, ◌<◌, ℕ, List, [], ◌∷◌, ◌++◌, arith, Bool, sym, ◌∙◌, ap, subst, inl, inr, ◌⊎◌, refl, All, Option, Some, None, IfSome, IfNone}
 use Rattle.std.proofs.lemmas.Bool.{false≢true, cases_Bool}
 use Rattle.std.proofs.lemmas.List.Elements.{All-push, All-weaker, All-contains}
-use Rattle.hack_conflicts.specs.Sets.{Has, mark, IsWithin, IsInside, HasInside, rows_of}
-use Rattle.hack_conflicts.specs.Rules.{IsPreorder, IsClosed, IsExclusive, IsRequired, IsChoice, IsPlain, HasAbove, HasOneOf, EnablesOneOf, Meets, enables, size_of}
+use Rattle.hack_conflicts.specs.Sets.{Has, mark, IsWithin, HasInside, rows_of}
+use Rattle.hack_conflicts.specs.Rules.{IsPreorder, IsClosed, IsExclusive, IsRequired, IsChoice, IsPlain, HasOneOf, EnablesOneOf, Meets, size_of}
 use Rattle.hack_conflicts.specs.Runs.{Run, HasFailed, HasPassed, IsPassed}
-use Rattle.hack_conflicts.specs.Internal.{IsNext, IsClear, IsGoing, IsFailing, IsPart, IsSettled, Clashes, IsWithout, IsLater, members, told, conflicts_of, passing_of}
+use Rattle.hack_conflicts.specs.Internal.{IsNext, IsClear, IsGoing, IsFailing, IsPart, IsPartOfFailing, Clashes, IsWithout, IsLater, members, told, conflicts_of}
 use Rattle.hack_conflicts.specs.declared.rules.Rules.{Rules}
 use Rattle.hack_conflicts.specs.declared.known.Known.{Known}
 use Rattle.hack_conflicts.specs.declared.tried.Outcome.{Outcome}
 use Rattle.hack_conflicts.specs.declared.tried.Outcome.TheVariants.{Passed, Failed, Broken}
-use Rattle.hack_conflicts.proofs.KnownLemmas.{run_cases, run_there, runs_kept, passed_later, each_of}
-use Rattle.hack_conflicts.proofs.RuleLemmas.{without_within, without_lacks, without_around, members_fewer}
+use Rattle.hack_conflicts.proofs.KnownLemmas.{run_cases, run_there, runs_kept, each_of}
+use Rattle.hack_conflicts.proofs.RuleLemmas.{without_within, without_lacks, members_fewer}
 
 abbrev number_of : Outcome → ℕ
 number_of Passed = 0
@@ -128,6 +128,21 @@ clear_part r k s large part h = record {
   ];
   conflicts = λ (u, there, v). h.conflicts (u, there, λ p has. part.within p (v p has));
   passing = λ (u, there, v). h.passing (u, there, λ p has. part.within p (v p has));
+}
+
+-- a part of a set that fails that may be chosen, and isn't known to pass, is the next to be tried
+pub next_part : (r : Rules) (k : Known) (s : List Bool) → IsPartOfFailing r k s → IsChoice r s → ¬ IsPassed (told k) s → IsNext r k s
+next_part r k s (large, part, failing) choice fresh = record {
+  choice = choice;
+  fresh = fresh;
+  clear = clear_part r k s large part failing;
+  blamed = inr (record {
+    set = large;
+    failed = failing.failed;
+    clear = failing.conflicts;
+    smaller = λ least. fresh (least part.member part.has s choice part.within part.lacks);
+    blamed = failing.blamed;
+  });
 }
 
 pub required_more : (r : Rules) (s t : List Bool) → IsWithin s t → IsRequired r s → IsRequired r t

@@ -1,8 +1,8 @@
 -- What only private functions of the crate promise each other.
-use Rattle.std.specs.Prelude.{◌≡◌, ◌≢◌, ◌<◌, ◌≤◌, ◌+◌, ◌*◌, ℕ, zero, suc, List, [], ◌++◌, ◌∷◌, length, Bool, cond, not, ◌&&◌, IsTrue, All, AllPairs, Contains, ◌⊎◌, Option}
+use Rattle.std.specs.Prelude.{◌≡◌, ◌≢◌, ◌<◌, ◌≤◌, ◌+◌, ◌*◌, ℕ, zero, suc, List, length, Bool, cond, not, ◌&&◌, All, AllPairs, Contains, ◌⊎◌, Option}
 use Rattle.hack_conflicts.specs.Sets.{rows_of, mark, Has, IsWithin, IsInside, HasInside, AreApart}
 use Rattle.hack_conflicts.specs.Rules.{IsChoice, IsClosed, IsPlain, HasAbove, enables, size_of}
-use Rattle.hack_conflicts.specs.Runs.{Run, runs_in, HasFailed, HasPassed, IsPassed, IsCourse, IsLeast, IsIncomplete, IsSpent}
+use Rattle.hack_conflicts.specs.Runs.{Run, runs_in, HasFailed, HasPassed, IsPassed, IsCourse, IsLeast, AreBlamed, IsUnfinished, IsSpent}
 use Rattle.hack_conflicts.specs.declared.rules.Rules.{Rules}
 use Rattle.hack_conflicts.specs.declared.known.Known.{Known}
 use Rattle.hack_conflicts.specs.declared.fault.End.{End}
@@ -73,6 +73,7 @@ pub record IsCutOff (r : Rules) (most : Option ℕ) (k : Known) : Type 0 where
   pub spent : IsSpent most (length k.runs.items)
   pub unsettled : IsUnsettled r k
   pub going : IsGoing k
+  pub blamed : AreBlamed (told k) (conflicts_of k) ⊎ IsUnfinished r (told k) (conflicts_of k)
 
 -- why a search ends before it is done
 abbrev pub IsEnd : Rules → Option ℕ → Known → End → Type 0
@@ -92,10 +93,7 @@ pub record IsNext (r : Rules) (k : Known) (s : List Bool) : Type 0 where
   pub choice : IsChoice r s
   pub fresh : ¬ IsPassed (told k) s
   pub clear : IsClear k s
-
--- each failed run has a conflict inside it
-abbrev pub IsBlamed : Known → Type 0
-IsBlamed k = (s : List Bool) → HasFailed (told k) s → HasInside (conflicts_of k) s
+  pub blamed : AreBlamed (told k) (conflicts_of k) ⊎ IsUnfinished r (told k) (conflicts_of k)
 
 -- a set that failed, inside which no conflict is known, but which is inside each such set
 pub record IsFailing (r : Rules) (k : Known) (s : List Bool) : Type 0 where
@@ -114,6 +112,10 @@ pub record IsPart (small large : List Bool) : Type 0 where
   pub has : Has large member
   pub lacks : ¬ Has small member
 
+-- the set is a part of some set that fails
+abbrev pub IsPartOfFailing : Rules → Known → List Bool → Type 0
+IsPartOfFailing r k s = (large : List Bool) × IsPart s large × IsFailing r k large
+
 -- how many positions below n the set has
 abbrev pub members : ℕ → List Bool → ℕ
 members zero s = 0
@@ -126,7 +128,7 @@ worth n k = length k.passing.items + length k.conflicts.items * (2 * n + 1)
 -- no set is being made smaller, and no passing set has fewer members than so many
 pub record IsSteady (r : Rules) (size : ℕ) (k : Known) : Type 0 where
   pub going : IsGoing k
-  pub blamed : IsBlamed k
+  pub blamed : AreBlamed (told k) (conflicts_of k)
   pub large : All (λ s. size ≤ members (size_of r) s) (passing_of k)
   pub paid : IsPlain r → length k.runs.items ≤ worth (size_of r) k
 

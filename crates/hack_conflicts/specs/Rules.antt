@@ -1,7 +1,7 @@
 -- Which sets of positions may be chosen.
 use Rattle.std.specs.Prelude.{◌<◌, ℕ, List, [], length, Bool, All, IsTrue, ◌⊎◌}
 use Rattle.std.specs.List.{slice_index_or}
-use Rattle.hack_conflicts.specs.Sets.{rows_of, mark, Has, IsWithin}
+use Rattle.hack_conflicts.specs.Sets.{rows_of, mark, Has}
 use Rattle.hack_conflicts.specs.declared.rules.Rules.{Rules}
 
 -- how many positions there are

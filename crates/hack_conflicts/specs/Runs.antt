@@ -1,5 +1,5 @@
 -- Builds that were tried, and what is found by them.
-use Rattle.std.specs.Prelude.{◌≡◌, ◌≢◌, ◌<◌, ◌≤◌, ℕ, List, [], map, length, Bool, cond, IsTrue, All, AllPairs, Contains, ◌⊎◌, Option, IfSome, MatchOption}
+use Rattle.std.specs.Prelude.{◌≡◌, ◌≢◌, ◌≤◌, ℕ, List, map, length, Bool, cond, IsTrue, All, AllPairs, Contains, ◌⊎◌, Option, IfSome, MatchOption}
 use Rattle.hack_conflicts.specs.Sets.{Has, IsWithin, IsInside, HasInside}
 use Rattle.hack_conflicts.specs.Rules.{IsChoice}
 use Rattle.hack_conflicts.specs.declared.rules.Rules.{Rules}
@@ -51,6 +51,19 @@ Needs r runs set x = (s : List Bool) → IsChoice r s → IsWithin s set → ¬ 
 -- that is so for each member: each part of the set that may be chosen lies inside one that passed
 abbrev pub IsLeast : Rules → List Run → List Bool → Type 0
 IsLeast r runs set = (x : ℕ) → Has set x → Needs r runs set x
+
+-- each set that failed has a conflict inside it
+abbrev pub AreBlamed : List Run → List (List Bool) → Type 0
+AreBlamed runs conflicts = (s : List Bool) → HasFailed runs s → HasInside conflicts s
+
+-- a set that failed has no conflict inside it and isn't known to be least, and each set that failed
+-- has a conflict inside it or this set
+pub record IsUnfinished (r : Rules) (runs : List Run) (conflicts : List (List Bool)) : Type 0 where
+  pub set : List Bool
+  pub failed : HasFailed runs set
+  pub clear : ¬ HasInside conflicts set
+  pub smaller : ¬ IsLeast r runs set
+  pub blamed : (s : List Bool) → HasFailed runs s → HasInside conflicts s ⊎ IsWithin set s
 
 -- a conflict lies inside the set, or the set lies inside one that passed
 abbrev pub IsDecided : List (List Bool) → List (List Bool) → List Bool → Type 0

@@ -1,5 +1,5 @@
 -- The laws of what a builder in memory answers.
-use Rattle.std.specs.Prelude.{◌≡◌, List, Bool, [], ◌++◌, All, refl}
+use Rattle.std.specs.Prelude.{List, [], ◌++◌, All, refl}
 use Rattle.std.proofs.Common.{◌∙◌, subst}
 use Rattle.std.proofs.lemmas.List.Elements.{All-append, All-nil}
 use Rattle.hack_conflicts.specs.Runs.{Run}

@@ -1,12 +1,12 @@
 //! Finds the least sets that fail and the greatest that pass.
 
-ghost use Rattle.std.specs.Prelude.{◌≡◌, ◌≢◌, ◌≤◌, ◌++◌, ◌+◌, ◌*◌, ◌↔◌, List, Bool, true, false, IsTrue, IfOk, IfErr, All, AllPairs, length};
+ghost use Rattle.std.specs.Prelude.{◌≡◌, ◌≢◌, ◌≤◌, ◌++◌, ◌+◌, ◌*◌, ◌↔◌, ◌⊎◌, List, Bool, true, false, IsTrue, IfOk, IfErr, All, AllPairs, length};
 ghost use Rattle.hack_conflicts.specs.Sets.{HasInside, IsInside, AreApart, rows_of};
 ghost use Rattle.hack_conflicts.specs.Rules.{IsPreorder, IsChoice, IsPlain, size_of};
-ghost use Rattle.hack_conflicts.specs.Runs.{Run, runs_in, HasFailed, HasPassed, IsCourse, IsLeast};
+ghost use Rattle.hack_conflicts.specs.Runs.{Run, runs_in, HasFailed, HasPassed, IsCourse, IsLeast, AreBlamed, IsUnfinished};
 ghost use Rattle.hack_conflicts.specs.Runs.{IsDecided, IsIncomplete, IsSpent, AreMonotone};
 ghost use Rattle.hack_conflicts.specs.Runs.{Answers, IsMonotone, IsGreatest, IsFaultOf};
-ghost use Rattle.hack_conflicts.specs.Internal.{IsSound, IsSteady, IsSettled, IsCutOff, IsGoing, told};
+ghost use Rattle.hack_conflicts.specs.Internal.{IsSound, IsSteady, IsSettled, IsCutOff, IsGoing, worth, told};
 ghost use Rattle.hack_conflicts.specs.Internal.{conflicts_of, passing_of, AreOthers};
 ghost use Rattle.hack_conflicts.specs.declared.tried.Outcome.TheVariants.{Broken};
 
@@ -48,6 +48,8 @@ fn search<B: Builds>(
     ensures sound { IsSound rules.now most_runs known.new }
     ensures ran { (start : B) → B.ran (told known.old) start builder.old
         → B.ran (told known.new) start builder.new }
+    ensures owes { IsPlain rules.now → length known.new.runs.items
+        ≤ worth (size_of rules.now) known.new + (2 * size_of rules.now + 1) }
     ensures going { IfOk result (λ complete. IsGoing known.new) }
     ensures cut_off { IfOk result (λ complete. complete ≡ false
         → IsCutOff rules.now most_runs known.new) }
@@ -136,20 +138,26 @@ pub fn find_conflicts<B: Builds>(
     ensures complete { IfOk result (λ found. IsTrue found.complete → (s : List Bool)
         → IsChoice rules.now s
         → IsDecided (rows_of found.conflicts.items) (rows_of found.passing.items) s) }
-    ensures blamed { IfOk result (λ found. IsTrue found.complete → (s : List Bool)
-        → HasFailed (runs_in found.runs.items) s
-        → HasInside (rows_of found.conflicts.items) s) }
+    ensures blamed { IfOk result (λ found. IsTrue found.complete
+        → AreBlamed (runs_in found.runs.items) (rows_of found.conflicts.items)) }
+    ensures unfinished { IfOk result (λ found. found.complete ≡ false
+        → AreBlamed (runs_in found.runs.items) (rows_of found.conflicts.items)
+        ⊎ IsUnfinished rules.now (runs_in found.runs.items) (rows_of found.conflicts.items)) }
     ensures incomplete { IfOk result (λ found. found.complete ≡ false
         → IsIncomplete rules.now (rows_of found.conflicts.items) (rows_of
         found.passing.items)) }
     ensures spent { IfOk result (λ found. found.complete ≡ false
         → IsSpent most_runs (length found.runs.items)) }
 
-    // A complete search needs one build for each passing set, and for each conflict one and two for
-    // each position; more only where a position enables two of an exclusion group.
+    // One build is tried for each passing set, and for each conflict one and two for each position;
+    // more only where a position enables two of an exclusion group. A search that isn't complete may
+    // have begun with one more conflict.
     ensures few { IfOk result (λ found. IsTrue found.complete → IsPlain rules.now
         → length found.runs.items ≤ length found.passing.items
         + length found.conflicts.items * (2 * size_of rules.now + 1)) }
+    ensures few_so_far { IfOk result (λ found. IsPlain rules.now → length found.runs.items
+        ≤ length found.passing.items
+        + (length found.conflicts.items + 1) * (2 * size_of rules.now + 1)) }
 
     ensures monotone { IfOk result (λ found.
         IsTrue found.monotone ↔ AreMonotone (runs_in found.runs.items)) }

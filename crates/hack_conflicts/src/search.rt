@@ -1,10 +1,10 @@
 //! Finds the least sets that fail, and sets that pass.
 
-ghost use Rattle.std.specs.Prelude.{◌<◌, ◌≤◌, ◌+◌, ◌⊎◌, ℕ, List, Bool, IfOk, IfErr, OnOk};
+ghost use Rattle.std.specs.Prelude.{◌<◌, ◌≤◌, ◌+◌, ◌*◌, ◌⊎◌, ℕ, List, Bool, IfOk, IfErr, OnOk, length};
 ghost use Rattle.hack_conflicts.specs.Sets.{Has, IsWithin, IsInside, HasInside, rows_of};
-ghost use Rattle.hack_conflicts.specs.Rules.{IsPreorder, IsClosed, IsChoice, size_of};
+ghost use Rattle.hack_conflicts.specs.Rules.{IsPreorder, IsClosed, IsChoice, IsPlain, size_of};
 ghost use Rattle.hack_conflicts.specs.Internal.{IsSound, Grows, IsEnd, IsNext, IsSteady, IsQueue, AreCovered};
-ghost use Rattle.hack_conflicts.specs.Internal.{Avoids, Leaves, IsSettled, Clashes, members, told, conflicts_of, passing_of};
+ghost use Rattle.hack_conflicts.specs.Internal.{Avoids, Leaves, IsSettled, Clashes, members, worth, told, conflicts_of, passing_of};
 
 use crate::builds::Builds;
 use crate::fault::End;
@@ -119,6 +119,8 @@ fn run_set<B: Builds>(
     ensures grows { Grows known.old known.new }
     ensures ran { (start : B) → B.ran (told known.old) start builder.old
         → B.ran (told known.new) start builder.new }
+    ensures owes { IsPlain rules.now → length known.new.runs.items
+        ≤ worth (size_of rules.now) known.new + (2 * size_of rules.now + 1) }
     ensures ends { IfErr result (IsEnd rules.now most known.new) }
     ensures steady { OnOk result (IsSteady rules.now (members (size_of rules.now) set.now) known.new) }
     ensures queue { OnOk result ((size : ℕ) → members (size_of rules.now) set.now ≤ size
@@ -156,6 +158,8 @@ fn search_set<B: Builds>(
     ensures grows { Grows known.old known.new }
     ensures ran { (start : B) → B.ran (told known.old) start builder.old
         → B.ran (told known.new) start builder.new }
+    ensures owes { IsPlain rules.now → length known.new.runs.items
+        ≤ worth (size_of rules.now) known.new + (2 * size_of rules.now + 1) }
     ensures ends { IfErr result (IsEnd rules.now most known.new) }
     ensures steady { OnOk result (IsSteady rules.now (members (size_of rules.now) set.now) known.new) }
     ensures queue { OnOk result ((size : ℕ) → members (size_of rules.now) set.now ≤ size
@@ -209,6 +213,8 @@ fn visit<B: Builds>(
     ensures grows { Grows known.old known.new }
     ensures ran { (start : B) → B.ran (told known.old) start builder.old
         → B.ran (told known.new) start builder.new }
+    ensures owes { IsPlain rules.now → length known.new.runs.items
+        ≤ worth (size_of rules.now) known.new + (2 * size_of rules.now + 1) }
     ensures ends { IfErr result (IsEnd rules.now most known.new) }
     ensures steady { OnOk result (IsSteady rules.now size known.new) }
     ensures queue { OnOk result (IsQueue rules.now size (rows_of next.old.items)
@@ -243,6 +249,8 @@ fn search_level<B: Builds>(
     ensures grows { Grows known.old known.new }
     ensures ran { (start : B) → B.ran (told known.old) start builder.old
         → B.ran (told known.new) start builder.new }
+    ensures owes { IsPlain rules.now → length known.new.runs.items
+        ≤ worth (size_of rules.now) known.new + (2 * size_of rules.now + 1) }
     ensures ends { IfErr result (IsEnd rules.now most known.new) }
     ensures steady { IfOk result (λ next. IsSteady rules.now size known.new) }
     ensures queue { IfOk result (λ next. IsQueue rules.now size (rows_of next.items)) }
@@ -280,6 +288,8 @@ pub(crate) fn search_all<B: Builds>(
     ensures sound { IsSound rules.now most known.new }
     ensures ran { (start : B) → B.ran (told known.old) start builder.old
         → B.ran (told known.new) start builder.new }
+    ensures owes { IsPlain rules.now → length known.new.runs.items
+        ≤ worth (size_of rules.now) known.new + (2 * size_of rules.now + 1) }
     ensures ends { IfErr result (IsEnd rules.now most known.new) }
     ensures steady { OnOk result (IsSteady rules.now 0 known.new) }
     ensures settled { OnOk result ((s : List Bool) → IsChoice rules.now s

@@ -4,7 +4,7 @@ ghost use Rattle.std.specs.Prelude.{◌≡◌, ◌<◌, ◌≤◌, ◌+◌, ◌-
 ghost use Rattle.hack_conflicts.specs.Sets.{Has, IsWithin};
 ghost use Rattle.hack_conflicts.specs.Rules.{IsPreorder, IsClosed, IsExclusive, IsChoice, IsPlain, size_of};
 ghost use Rattle.hack_conflicts.specs.Runs.{IsPassed, Needs, IsLeast};
-ghost use Rattle.hack_conflicts.specs.Internal.{IsSound, Grows, IsEnd, IsNext, IsClear, IsFailing, IsPart, told};
+ghost use Rattle.hack_conflicts.specs.Internal.{IsSound, Grows, IsEnd, IsNext, IsFailing, IsPart, IsPartOfFailing, told};
 
 use crate::builds::Builds;
 use crate::fault::End;
@@ -34,8 +34,6 @@ fn try_choice<B: Builds>(
     ensures ends { IfErr result (IsEnd rules.now most known.new) }
     ensures within { IfOk result (λ left. IfSome left (λ less. IsWithin less.items set.now)) }
     ensures passed { IfOk result (λ left. IfNone left (IsPassed (told known.new) set.now)) }
-    ensures clear { IfOk result (λ left. IfNone left ((s : List Bool) → IsClear known.old s
-        → IsClear known.new s)) }
     ensures failing { IfOk result (λ left. (large : List Bool) → IsPart set.now large
         → IsFailing rules.now known.old large → MatchOption left
         (IsFailing rules.now known.new large)
@@ -61,7 +59,7 @@ fn try_inside<B: Builds>(
     requires order { IsPreorder rules.now }
     requires closed { IsClosed rules.now set.now }
     requires sound { IsSound rules.now most known.old }
-    requires clear { IsClear known.old set.now }
+    requires part { IsPartOfFailing rules.now known.old set.now }
     ensures sound { IsSound rules.now most known.new }
     ensures grows { Grows known.old known.new }
     ensures ran { (start : B) → B.ran (told known.old) start builder.old
@@ -74,8 +72,6 @@ fn try_inside<B: Builds>(
     ensures within { IfOk result (λ left. IfSome left (λ less. IsWithin less.items set.now)) }
     ensures passed { IfOk result (λ left. IfNone left ((s : List Bool) → IsChoice rules.now s
         → IsWithin s set.now → IsPassed (told known.new) s)) }
-    ensures clear { IfOk result (λ left. IfNone left ((s : List Bool) → IsClear known.old s
-        → IsClear known.new s)) }
     ensures failing { IfOk result (λ left. (large : List Bool) → IsPart set.now large
         → IsFailing rules.now known.old large → MatchOption left
         (IsFailing rules.now known.new large)

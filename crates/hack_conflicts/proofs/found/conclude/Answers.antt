@@ -1,8 +1,8 @@
-use Rattle.std.proofs.Common.{◌≡◌, ◌++◌, ◌↔◌, List, Bool, IsTrue, subst, ap, ◌∙◌}
+use Rattle.std.proofs.Common.{◌↔◌, List, Bool, IsTrue, subst, ap, ◌∙◌}
 use Rattle.std.proofs.lemmas.List.{map-append}
 use Rattle.hack_conflicts.specs.Sets.{rows_of}
 use Rattle.hack_conflicts.specs.Runs.{runs_in, AreMonotone}
-use Rattle.hack_conflicts.specs.Internal.{AreOthers, told, passing_of}
+use Rattle.hack_conflicts.specs.Internal.{AreOthers, told}
 use Rattle.hack_conflicts.proofs.found.conclude.Goals as goal
 
 pub returns-clause-monotone : goal.returns-clause-monotone

@@ -1,12 +1,11 @@
-use Rattle.std.proofs.Common.{◌≡◌, ◌≤◌, ◌+◌, ◌*◌, ◌++◌, ℕ, List, Bool, true, false, IsTrue, length, sym, subst, ap, ◌∙◌, ◌↔◌}
+use Rattle.std.proofs.Common.{◌≡◌, ◌≤◌, ◌+◌, ◌*◌, ℕ, List, Bool, IsTrue, length, sym, subst, ap, ◌∙◌, ◌↔◌}
 use Rattle.std.proofs.lemmas.List.{length-map}
 use Rattle.hack_conflicts.specs.Sets.{rows_of}
 use Rattle.hack_conflicts.specs.Rules.{size_of}
 use Rattle.hack_conflicts.specs.Runs.{Run, runs_in, AreMonotone}
-use Rattle.hack_conflicts.specs.Internal.{told, conflicts_of, passing_of}
 use Rattle.hack_conflicts.proofs.KnownLemmas.{length-runs}
-use Rattle.hack_conflicts.proofs.EndLemmas.{sound_none, steady_none}
-use Rattle.hack_conflicts.proofs.FoundLemmas.{IsFoundBy, found_failed, found_least, found_conflicts_apart, found_passed, found_covers, found_passing_apart, found_blamed, found_complete, found_incomplete, found_law, found_greatest, found_few, longer}
+use Rattle.hack_conflicts.proofs.EndLemmas.{sound_none}
+use Rattle.hack_conflicts.proofs.FoundLemmas.{IsFoundBy, found_failed, found_least, found_conflicts_apart, found_passed, found_covers, found_passing_apart, found_blamed, found_complete, found_incomplete, found_unfinished, found_law, found_greatest, found_few, found_so_far, longer}
 use Rattle.hack_conflicts.proofs.found.find_conflicts.Goals as goal
 
 pub search-requires-clause-sound : goal.search-requires-clause-sound
@@ -150,5 +149,31 @@ returns-clause-few g c = λ complete plain.
     subst (λ m. m ≤ length f.passing.items + length f.conflicts.items * (2 * n + 1)) as_many
     (found_few n k (length k.runs.items) (length f.passing.items) (length f.conflicts.items) ((c.in_ok-complete.ensures.steady (subst IsTrue e.complete complete)).paid plain) (longer f.passing.items k.passing.items e.passing.0 e.passing.1) same)
 
+pub returns-clause-few_so_far : goal.returns-clause-few_so_far
+returns-clause-few_so_far g c = λ plain.
+    let k = c.search.new.known in
+    let f = c.in_ok-conclude.field-0 in
+    let runs : List Run = runs_in f.runs.items in
+    let conflicts : List (List Bool) = rows_of f.conflicts.items in
+    let passing : List (List Bool) = rows_of f.passing.items in
+    let e = c.in_ok-conclude.ensures in
+    let found : IsFoundBy k runs conflicts passing = record { others = e.passing.0; same_runs = e.runs; same_conflicts = e.conflicts; both = e.passing.1; rest = e.passing.2 } in
+    let same : length f.conflicts.items ≡ length k.conflicts.items = sym (length-map f.conflicts.items (λ l. l.items)) ∙ ap length e.conflicts ∙ length-map k.conflicts.items (λ l. l.items) in
+    let as_many : length k.runs.items ≡ length f.runs.items = sym (length-runs k.runs.items) ∙ sym (ap length e.runs) ∙ length-runs f.runs.items in
+    let n : ℕ = size_of c.args.rules.now in
+    subst (λ m. m ≤ length f.passing.items + (length f.conflicts.items + 1) * (2 * n + 1)) as_many
+    (found_so_far n k (length k.runs.items) (length f.passing.items) (length f.conflicts.items) (c.in_ok-complete.ensures.owes plain) (longer f.passing.items k.passing.items e.passing.0 e.passing.1) same)
+
 pub returns-clause-monotone : goal.returns-clause-monotone
 returns-clause-monotone g c = subst (λ l. IsTrue c.in_ok-conclude.field-0.monotone ↔ AreMonotone l) (sym c.in_ok-conclude.ensures.runs) c.in_ok-conclude.ensures.monotone
+
+pub returns-clause-unfinished : goal.returns-clause-unfinished
+returns-clause-unfinished g c = λ cut.
+    let k = c.search.new.known in
+    let f = c.in_ok-conclude.field-0 in
+    let runs : List Run = runs_in f.runs.items in
+    let conflicts : List (List Bool) = rows_of f.conflicts.items in
+    let passing : List (List Bool) = rows_of f.passing.items in
+    let e = c.in_ok-conclude.ensures in
+    let found : IsFoundBy k runs conflicts passing = record { others = e.passing.0; same_runs = e.runs; same_conflicts = e.conflicts; both = e.passing.1; rest = e.passing.2 } in
+    found_unfinished c.args.rules.now c.args.most_runs k runs conflicts passing c.in_ok-complete.ensures.sound found (c.in_ok-complete.ensures.cut_off (sym e.complete ∙ cut)).blamed

@@ -1,10 +1,10 @@
-use Rattle.std.proofs.Common.{◌≡◌, ◌++◌, ◌∷◌, [], List, Bool, true, false, arith, sym, subst, ◌∙◌, ap, length, ◌+◌}
+use Rattle.std.proofs.Common.{◌≡◌, ◌++◌, ◌∷◌, [], arith, sym, subst, ◌∙◌, ap, length, ◌+◌}
 use Rattle.std.proofs.lemmas.List.{length-append}
 use Rattle.std.proofs.lemmas.Bool.{false≢true}
-use Rattle.hack_conflicts.specs.Runs.{Run, runs_in, IsSpent}
+use Rattle.hack_conflicts.specs.Runs.{IsSpent}
 use Rattle.hack_conflicts.specs.Internal.{told}
 use Rattle.hack_conflicts.specs.declared.tried.Outcome.{Outcome}
-use Rattle.hack_conflicts.specs.declared.tried.Outcome.TheVariants.{Passed, Failed, Broken}
+use Rattle.hack_conflicts.specs.declared.tried.Outcome.TheVariants.{Broken}
 use Rattle.hack_conflicts.proofs.KnownLemmas.{sound_same, grows_same, sound_ran, grows_ran, run_there, still_within, length-runs}
 use Rattle.hack_conflicts.proofs.known.ask.Goals as goal
 

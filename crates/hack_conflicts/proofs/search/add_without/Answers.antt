@@ -1,6 +1,6 @@
-use Rattle.std.proofs.Common.{◌≡◌, ◌<◌, ℕ, arith, List, Bool, sym, subst}
-use Rattle.hack_conflicts.specs.Sets.{rows_of, IsWithin}
-use Rattle.hack_conflicts.specs.Rules.{IsClosed, size_of}
+use Rattle.std.proofs.Common.{◌<◌, arith, List, Bool, sym, subst}
+use Rattle.hack_conflicts.specs.Sets.{rows_of}
+use Rattle.hack_conflicts.specs.Rules.{size_of}
 use Rattle.hack_conflicts.specs.Internal.{IsWithout, members}
 use Rattle.hack_conflicts.proofs.RuleLemmas.{without_closed, without_around}
 use Rattle.hack_conflicts.proofs.ShrinkLemmas.{fewer_without}

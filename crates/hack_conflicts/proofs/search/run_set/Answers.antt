@@ -1,9 +1,8 @@
-use Rattle.std.proofs.Common.{◌≡◌, ◌<◌, ◌≤◌, ◌+◌, ◌*◌, ℕ, ◌++◌, ◌∷◌, [], arith, List, Bool, true, false, cond, length, sym, subst, ap, ◌∙◌, refl, inl, inr, All}
+use Rattle.std.proofs.Common.{◌≡◌, ◌≤◌, ◌+◌, ◌*◌, ℕ, ◌++◌, ◌∷◌, [], List, Bool, cond, length, sym, subst, ap, ◌∙◌, refl, inl, All}
 use Rattle.std.proofs.lemmas.List.{length-append}
 use Rattle.hack_conflicts.specs.Sets.{Has, rows_of}
-use Rattle.hack_conflicts.specs.Rules.{IsPlain, size_of}
-use Rattle.hack_conflicts.specs.Runs.{IsLeast}
-use Rattle.hack_conflicts.specs.Internal.{IsFailing, IsNext, IsSound, members, told, conflicts_of, passing_of}
+use Rattle.hack_conflicts.specs.Rules.{size_of}
+use Rattle.hack_conflicts.specs.Internal.{IsSound, members, told, conflicts_of, passing_of}
 use Rattle.hack_conflicts.specs.declared.known.Known.{Known}
 use Rattle.hack_conflicts.specs.declared.tried.Outcome.TheVariants.{Passed, Failed}
 use Rattle.hack_conflicts.proofs.KnownLemmas.{sound_as, grows_as}

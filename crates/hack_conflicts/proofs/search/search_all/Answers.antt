@@ -1,4 +1,4 @@
-use Rattle.std.proofs.Common.{◌≡◌, ℕ, ◌<◌, ◌≤◌, ◌+◌, ◌-◌, ◌∷◌, ◌++◌, [], arith, List, Bool, true, replicate, sym, subst, ap, ◌∙◌, inl, inr}
+use Rattle.std.proofs.Common.{◌≡◌, ℕ, ◌+◌, ◌-◌, ◌∷◌, ◌++◌, [], arith, List, Bool, true, replicate, sym, subst, ap, ◌∙◌, inl, inr}
 use Rattle.hack_conflicts.specs.Sets.{rows_of, IsInside}
 use Rattle.hack_conflicts.specs.Rules.{size_of}
 use Rattle.hack_conflicts.specs.Internal.{IsQueue, IsSteady}

@@ -1,4 +1,4 @@
-use Rattle.std.proofs.Common.{◌≤◌, ◌+◌, ◌-◌, List, Bool, ◌⊎◌}
+use Rattle.std.proofs.Common.{◌+◌, ◌-◌, List, Bool, ◌⊎◌}
 use Rattle.hack_conflicts.specs.Sets.{rows_of, IsInside}
 use Rattle.hack_conflicts.specs.Rules.{IsChoice, size_of}
 use Rattle.hack_conflicts.specs.Internal.{IsSound, Grows, IsSteady, IsQueue, IsSettled, told}

@@ -1,9 +1,9 @@
-use Rattle.std.proofs.Common.{◌≡◌, ◌<◌, ℕ, [], arith, List, Bool, length, get_or, sym, subst, refl, inl, inr, Contains}
+use Rattle.std.proofs.Common.{◌≡◌, ◌<◌, ℕ, [], List, Bool, length, get_or, sym, subst, refl}
 use Rattle.std.proofs.lemmas.Bool.{false≢true}
-use Rattle.hack_conflicts.specs.Sets.{Has, rows_of, IsWithin, HasInside}
-use Rattle.hack_conflicts.specs.Rules.{IsChoice, IsExclusive}
+use Rattle.hack_conflicts.specs.Sets.{Has, rows_of, HasInside}
+use Rattle.hack_conflicts.specs.Rules.{IsChoice}
 use Rattle.hack_conflicts.specs.Runs.{runs_in, IsPassed}
-use Rattle.hack_conflicts.specs.Internal.{told, conflicts_of}
+use Rattle.hack_conflicts.specs.Internal.{conflicts_of}
 use Rattle.hack_conflicts.proofs.SetLemmas.{contains_at}
 use Rattle.hack_conflicts.proofs.QueueLemmas.{leaves_none, leaves_passed, leaves_conflict}
 use Rattle.hack_conflicts.proofs.SearchLemmas.{next_from}

@@ -1,8 +1,6 @@
-use Rattle.std.proofs.Common.{◌≡◌, ◌≤◌, ℕ, arith, sym, subst, ap, ◌∙◌, List, Bool, inl, inr}
-use Rattle.hack_conflicts.specs.Sets.{rows_of}
+use Rattle.std.proofs.Common.{◌≡◌, arith, ap, ◌∙◌, List, Bool}
 use Rattle.hack_conflicts.specs.Rules.{size_of}
-use Rattle.hack_conflicts.specs.Internal.{members, IsSteady}
-use Rattle.hack_conflicts.proofs.QueueLemmas.{inside_less}
+use Rattle.hack_conflicts.specs.Internal.{members}
 use Rattle.hack_conflicts.proofs.search.visit.Goals as goal
 
 pub returns-then-count_members-size-clause-queue : goal.returns-then-count_members-size-clause-queue

@@ -1,8 +1,8 @@
-use Rattle.std.proofs.Common.{◌≡◌, ◌+◌, ◌-◌, ◌/◌, ℕ, arith, rules, List, Bool, sym, subst, ap, Option, IfNone, MatchOption, inl, inr}
+use Rattle.std.proofs.Common.{◌≡◌, ◌+◌, ◌-◌, ◌/◌, arith, List, Bool, subst, IfNone, inl, inr}
 use Rattle.std.proofs.lemmas.Bool.{cases_lt}
 use Rattle.hack_conflicts.specs.Sets.{Has}
 use Rattle.hack_conflicts.specs.Runs.{Needs}
-use Rattle.hack_conflicts.specs.Internal.{IsFailing, told}
+use Rattle.hack_conflicts.specs.Internal.{told}
 use Rattle.hack_conflicts.proofs.KnownLemmas.{needs_later}
 use Rattle.hack_conflicts.proofs.ShrinkLemmas.{later_none}
 use Rattle.hack_conflicts.proofs.shrink.+shrink_block.Goals as goal

@@ -1,12 +1,12 @@
-use Rattle.std.proofs.Common.{◌≡◌, ◌<◌, ℕ, arith, rules, List, Bool, sym, subst, inl, inr, refl, Contains, Option, IfNone, IfSome, MatchOption}
+use Rattle.std.proofs.Common.{◌<◌, ℕ, rules, List, Bool, sym, subst, inl, inr, refl, IfNone, MatchOption}
 use Rattle.std.proofs.lemmas.Bool.{false≢true}
-use Rattle.hack_conflicts.specs.Sets.{Has, IsWithin}
-use Rattle.hack_conflicts.specs.Rules.{IsClosed, IsExclusive, IsChoice, size_of}
-use Rattle.hack_conflicts.specs.Runs.{Run, IsPassed}
-use Rattle.hack_conflicts.specs.Internal.{IsClear, IsFailing, IsNext, IsWithout, Clashes, members, told}
+use Rattle.hack_conflicts.specs.Sets.{IsWithin}
+use Rattle.hack_conflicts.specs.Rules.{IsClosed, IsChoice, size_of}
+use Rattle.hack_conflicts.specs.Runs.{runs_in, IsPassed}
+use Rattle.hack_conflicts.specs.Internal.{IsFailing, IsPartOfFailing, IsWithout, Clashes, members, told}
 use Rattle.hack_conflicts.proofs.RuleLemmas.{without_within, without_closed, without_around}
-use Rattle.hack_conflicts.proofs.KnownLemmas.{passed_later}
-use Rattle.hack_conflicts.proofs.ShrinkLemmas.{required_more, clear_less, part_less, lacks_one, fewer_without, if_none, if_some, later_none}
+use Rattle.hack_conflicts.proofs.KnownLemmas.{passed_later, passed_less}
+use Rattle.hack_conflicts.proofs.ShrinkLemmas.{required_more, next_part, part_less, lacks_one, fewer_without, if_none, if_some, later_none}
 use Rattle.hack_conflicts.proofs.shrink.+try_inside.Goals as goal
 
 pub returns-then-not-is_required-clause-passed : goal.returns-then-not-is_required-clause-passed
@@ -19,12 +19,23 @@ try_inside-requires g t c =
     let s : List Bool = c.args.set.now in
     let u : List Bool = c.as_slice-in-Some.result.now in
     let p : ℕ = c.in-Some.p in
+    let k = c.args.known.now in
     let clash : Clashes r s c.in-Some.p c.in-Some.q = c.in-Some.ensures in
     let w : IsWithout r p s u = subst (IsWithout r p s) (sym c.as_slice-in-Some.ensures.value) c.in_ok-first.ensures in
     let less : members (size_of r) u < members (size_of r) s = fewer_without r p s u c.requires.order c.requires.closed clash.first w in
     let closed : IsClosed r u = without_closed r p s u w c.requires.order c.requires.closed in
-    let clear : IsClear c.args.known.now u = clear_less c.args.known.now u s (without_within r p s u w) c.requires.clear in
-    λ κs lives. (search rules, (search rules, (c.requires.order, (closed, (c.requires.sound, clear)))))
+    let (large, part, failing) = c.requires.part in
+    let part' : IsPartOfFailing r k u = (large, part_less u s large (without_within r p s u w) part, failing) in
+    λ κs lives. (search rules, (search rules, (c.requires.order, (closed, (c.requires.sound, part')))))
+
+pub try_choice-requires-clause-next : goal.try_choice-requires-clause-next
+try_choice-requires-clause-next g t c =
+    let r = c.args.rules.now in
+    let k = c.args.known.now in
+    let s : List Bool = c.args.set.now in
+    let choice : IsChoice r s = record { closed = c.requires.closed; exclusive = c.in_default.ensures; required = c.if-not-is_required.ensures.0 refl } in
+    next_part r k s c.requires.part choice
+    (λ passed. false≢true (c.if-is_passed.ensures.1 (subst (λ l. IsPassed (runs_in l) s) (sym c.as_slice.ensures.value) passed)))
 
 pub returns-in-Some-found-clause-failing : goal.returns-in-Some-found-clause-failing
 returns-in-Some-found-clause-failing g t c = λ large part h.
@@ -40,17 +51,22 @@ pub try_inside-requires-in-Some : goal.try_inside-requires-in-Some
 try_inside-requires-in-Some g t c =
     let r = c.args.rules.now in
     let s : List Bool = c.args.set.now in
-    let u : List Bool = c.as_slice-in-Some-2.result.now in
+    let u : List Bool = c.as_slice-in-Some.result.now in
+    let v : List Bool = c.as_slice-in-Some-2.result.now in
+    let p : ℕ = c.in-Some.p in
     let q : ℕ = c.in-Some.q in
     let k = c.args.known.now in
     let m = c.try_inside.new.known in
     let clash : Clashes r s c.in-Some.p c.in-Some.q = c.in-Some.ensures in
-    let w : IsWithout r q s u = subst (IsWithout r q s) (sym c.as_slice-in-Some-2.ensures.value) c.in_ok-second.ensures in
-    let less : members (size_of r) u < members (size_of r) s = fewer_without r q s u c.requires.order c.requires.closed clash.second w in
-    let closed : IsClosed r u = without_closed r q s u w c.requires.order c.requires.closed in
-    let stays : (v : List Bool) → IsClear k v → IsClear m v = subst (λ o. IfNone o ((v : List Bool) → IsClear k v → IsClear m v)) c.in_default-found.is c.in_ok-found.ensures.clear in
-    let clear : IsClear m u = stays u (clear_less k u s (without_within r q s u w) c.requires.clear) in
-    λ κs lives. (search rules, (search rules, (c.requires.order, (closed, (c.in_ok-found.ensures.sound, clear)))))
+    let w : IsWithout r p s u = subst (IsWithout r p s) (sym c.as_slice-in-Some.ensures.value) c.in_ok-first.ensures in
+    let w' : IsWithout r q s v = subst (IsWithout r q s) (sym c.as_slice-in-Some-2.ensures.value) c.in_ok-second.ensures in
+    let less : members (size_of r) v < members (size_of r) s = fewer_without r q s v c.requires.order c.requires.closed clash.second w' in
+    let closed : IsClosed r v = without_closed r q s v w' c.requires.order c.requires.closed in
+    let (large, part, failing) = c.requires.part in
+    let later : IsFailing r m large = subst (λ o. MatchOption o (IsFailing r m large) (λ less. IsFailing r m less.items)) c.in_default-found.is
+    (c.in_ok-found.ensures.failing large (part_less u s large (without_within r p s u w) part) failing) in
+    let part' : IsPartOfFailing r m v = (large, part_less v s large (without_within r q s v w') part, later) in
+    λ κs lives. (search rules, (search rules, (c.requires.order, (closed, (c.in_ok-found.ensures.sound, part')))))
 
 pub returns-in_err-last-clause-grows : goal.returns-in_err-last-clause-grows
 returns-in_err-last-clause-grows g t c = λ a h. c.in_err-last.ensures.grows a (c.in_ok-found.ensures.grows a h)
@@ -65,14 +81,6 @@ returns-in-Some-clause-within g t c =
     let u : List Bool = c.as_slice-in-Some-2.result.now in
     let w : IsWithout r c.in-Some.q s u = subst (IsWithout r c.in-Some.q s) (sym c.as_slice-in-Some-2.ensures.value) c.in_ok-second.ensures in
     if_some c.in_ok-last.last (λ less. IsWithin less.items u) (λ less. IsWithin less.items s) (λ less h p has. without_within r c.in-Some.q s u w p (h p has)) c.in_ok-last.ensures.within
-
-pub returns-in-Some-clause-clear : goal.returns-in-Some-clause-clear
-returns-in-Some-clause-clear g t c =
-    let k = c.args.known.now in
-    let m = c.try_inside.new.known in
-    let l = c.try_inside-in-Some.new.known in
-    let stays : (v : List Bool) → IsClear k v → IsClear m v = subst (λ o. IfNone o ((v : List Bool) → IsClear k v → IsClear m v)) c.in_default-found.is c.in_ok-found.ensures.clear in
-    if_none c.in_ok-last.last ((v : List Bool) → IsClear m v → IsClear l v) ((v : List Bool) → IsClear k v → IsClear l v) (λ h v clear. h v (stays v clear)) c.in_ok-last.ensures.clear
 
 pub returns-in-Some-clause-failing : goal.returns-in-Some-clause-failing
 returns-in-Some-clause-failing g t c = λ large part h.
@@ -105,3 +113,14 @@ returns-in-Some-clause-passed g t c =
       | inr lacks ↦ second x choice (without_around r c.in-Some.q s v w' x choice.closed inside lacks)
     ])
     c.in_ok-last.ensures.passed
+
+pub returns-then-is_passed-clause-passed : goal.returns-then-is_passed-clause-passed
+returns-then-is_passed-clause-passed g t c = λ s choice w.
+    passed_less (told c.args.known.now) s c.args.set.now w (subst (λ l. IsPassed (runs_in l) c.args.set.now) c.as_slice.ensures.value (c.if-is_passed.ensures.0 refl))
+
+pub returns-clause-passed : goal.returns-clause-passed
+returns-clause-passed g t c =
+    let r = c.args.rules.now in
+    let s : List Bool = c.args.set.now in
+    let m = c.try_choice.new.known in
+    if_none c.in_ok-left.left (IsPassed (told m) s) ((x : List Bool) → IsChoice r x → IsWithin x s → IsPassed (told m) x) (λ passed x choice w. passed_less (told m) x s w passed) c.in_ok-left.ensures.passed

@@ -1,18 +1,18 @@
-use Rattle.std.proofs.Common.{◌≡◌, ◌<◌, ◌≤◌, ◌+◌, ℕ, arith, List, Bool, sym, subst, Option, IfNone, IfSome, MatchOption}
+use Rattle.std.proofs.Common.{◌≡◌, ◌<◌, ◌≤◌, ◌+◌, ℕ, arith, List, Bool, sym, subst}
 use Rattle.hack_conflicts.specs.Sets.{Has, IsWithin}
-use Rattle.hack_conflicts.specs.Rules.{IsClosed, IsExclusive, IsChoice}
+use Rattle.hack_conflicts.specs.Rules.{IsExclusive, IsChoice}
 use Rattle.hack_conflicts.specs.Runs.{IsPassed, Needs}
-use Rattle.hack_conflicts.specs.Internal.{IsClear, IsPart, told}
-use Rattle.hack_conflicts.proofs.ShrinkLemmas.{clear_part, exclusive_less, if_none, if_some}
+use Rattle.hack_conflicts.specs.Internal.{IsPart, told}
+use Rattle.hack_conflicts.proofs.ShrinkLemmas.{exclusive_less, if_none, if_some}
 use Rattle.hack_conflicts.proofs.shrink.try_block.Goals as goal
 
-pub try_inside-requires-clause-clear : goal.try_inside-requires-clause-clear
-try_inside-requires-clause-clear g c =
+pub try_inside-requires-clause-part : goal.try_inside-requires-clause-part
+try_inside-requires-clause-part g c =
     let s : List Bool = c.args.set.now in
     let u : List Bool = c.in_ok-smaller.smaller.items in
     let (x, from, to, member) = c.if-not-has_any.ensures in
     let part : IsPart u s = record { within = c.in_ok-smaller.ensures.within; member = x; has = member; lacks = c.in_ok-smaller.ensures.lacks x from to } in
-    subst (IsClear c.args.known.now) (sym c.as_slice.ensures.value) (clear_part c.args.rules.now c.args.known.now u s part c.requires.failing)
+    (s, subst (λ v. IsPart v s) (sym c.as_slice.ensures.value) part, c.requires.failing)
 
 pub returns-clause-failing : goal.returns-clause-failing
 returns-clause-failing g c =

@@ -1,16 +1,8 @@
-use Rattle.std.proofs.Common.{◌≡◌, ◌++◌, ◌∷◌, [], List, Bool, true, false, cond, sym, subst}
+use Rattle.std.proofs.Common.{◌≡◌, ◌++◌, ◌∷◌, [], List, Bool, cond, sym, subst}
 use Rattle.hack_conflicts.specs.Internal.{IsFailing, told}
 use Rattle.hack_conflicts.specs.declared.tried.Outcome.TheVariants.{Passed, Failed}
-use Rattle.hack_conflicts.proofs.ShrinkLemmas.{clear_passed, failing_passed, failing_failed, blamed_part}
+use Rattle.hack_conflicts.proofs.ShrinkLemmas.{failing_passed, failing_failed, blamed_part}
 use Rattle.hack_conflicts.proofs.shrink.try_choice.Goals as goal
-
-pub returns-then-passed-clause-clear : goal.returns-then-passed-clause-clear
-returns-then-passed-clause-clear g c = λ s h.
-    let k = c.args.known.now in
-    let m = c.ask.new.known in
-    let e = c.in_ok-passed.ensures in
-    let ran : told m ≡ told k ++ record { set = c.args.set.now; outcome = Passed } ∷ [] = subst (λ b. told m ≡ told k ++ record { set = c.args.set.now; outcome = cond b Passed Failed } ∷ []) c.if-passed.true e.told in
-    clear_passed k m c.args.set.now ran e.same_conflicts e.same_passing s h
 
 pub returns-then-passed-clause-failing : goal.returns-then-passed-clause-failing
 returns-then-passed-clause-failing g c = λ large part h.

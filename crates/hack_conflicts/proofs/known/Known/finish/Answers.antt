@@ -1,4 +1,4 @@
-use Rattle.std.proofs.Common.{ℕ, arith}
+use Rattle.std.proofs.Common.{arith}
 use Rattle.hack_conflicts.proofs.KnownLemmas.{finish_last}
 use Rattle.hack_conflicts.proofs.known.Known.finish.Goals as goal
 

@@ -1,4 +1,4 @@
-use Rattle.std.proofs.Common.{rules, arith, ◌<◌, ◌≤◌, [], get_or}
+use Rattle.std.proofs.Common.{arith}
 use Rattle.hack_conflicts.specs.Sets.{rows_of}
 use Rattle.hack_conflicts.specs.Rules.{HasOneOf}
 use Rattle.hack_conflicts.proofs.SetLemmas.{each_set, length-rows}
