@@ -1,13 +1,16 @@
 -- What is found by what is known at the end.
-use Rattle.std.proofs.Common.{◌≡◌, ◌≤◌, ℕ, ◌+◌, ◌*◌, List, ◌++◌, length, arith, Bool, false, sym, subst, ap, ◌∙◌, ◌↔◌, ◌⊎◌, All, Option}
+use Rattle.std.proofs.Common.{◌≡◌, ◌≤◌, ℕ, ◌+◌, ◌*◌, List, ◌++◌, length, get_or, inl, inr, arith, Bool, false, sym, subst, ap, ◌∙◌, ◌↔◌, ◌⊎◌, All, Option}
 use Rattle.std.specs.Prelude.{AllPairs, Vec}
-use Rattle.std.proofs.lemmas.List.{length-append, length-map}
-use Rattle.hack_conflicts.specs.Sets.{HasInside, IsInside, AreApart, rows_of}
+use Rattle.std.proofs.lemmas.List.{length-append, length-map, get_or_default}
+use Rattle.std.proofs.lemmas.Bool.{cases_order}
+use Rattle.hack_conflicts.proofs.ShrinkLemmas.{passed-not-failed}
+use Rattle.hack_conflicts.specs.Sets.{IsWithin, HasInside, IsInside, AreApart, rows_of}
 use Rattle.hack_conflicts.specs.Rules.{IsChoice}
-use Rattle.hack_conflicts.specs.Runs.{Run, HasFailed, HasPassed, IsLeast, AreBlamed, IsUnfinished, IsDecided, IsIncomplete, Answers, IsMonotone, IsGreatest}
+use Rattle.hack_conflicts.specs.Runs.{Run, HasFailed, HasPassed, IsLeast, AreBlamed, IsUnfinished, IsNew, AreMonotone, IsDecided, IsIncomplete, Answers, IsMonotone, IsGreatest}
 use Rattle.hack_conflicts.specs.Internal.{IsSound, IsSettled, IsUnsettled, AreOthers, worth, told, conflicts_of, passing_of}
 use Rattle.hack_conflicts.specs.declared.rules.Rules.{Rules}
 use Rattle.hack_conflicts.specs.declared.known.Known.{Known}
+use Rattle.hack_conflicts.specs.declared.tried.Outcome.TheVariants.{Passed, Failed}
 use Rattle.hack_conflicts.proofs.KnownLemmas.{each_of}
 use Rattle.hack_conflicts.proofs.GreatestLemmas.{all_passed, all_covered, all_apart, none_greater}
 use Rattle.hack_conflicts.proofs.EndLemmas.{decided_by, undecided_by, law}
@@ -83,3 +86,14 @@ longer all first others e =
     let a : length (rows_of all) ≡ length all = length-map all (λ l. l.items) in
     let b : length (rows_of first) ≡ length first = length-map first (λ l. l.items) in
     omega arith
+
+-- where no run is a foregone conclusion, no set that passed has one inside that failed
+pub monotone_runs : (runs : List Run) → AllPairs IsNew runs → AreMonotone runs
+monotone_runs runs fresh s t (i, li, si) (j, lj, tj) w =
+    let d : Run = record { set = s; outcome = Failed } in
+    let ti : get_or runs j d ≡ record { set = t; outcome = Passed } = get_or_default runs j d (record { set = t; outcome = Passed }) lj ∙ tj in
+    elim (cases_order i j) [
+      | inl e ↦ absurd (passed-not-failed (ap (λ (run : Run). run.outcome) (sym ti ∙ ap (λ k. get_or runs k d) (sym e) ∙ si)))
+      | inr (inl lt) ↦ (fresh i j d lt lj).failed (ap (λ (run : Run). run.outcome) si) (subst (λ u. IsWithin u (get_or runs j d).set) (ap (λ (run : Run). run.set) (sym si)) (subst (IsWithin s) (ap (λ (run : Run). run.set) (sym ti)) w))
+      | inr (inr lt) ↦ (fresh j i d lt li).passed (ap (λ (run : Run). run.outcome) ti) (subst (λ u. IsWithin u (get_or runs j d).set) (ap (λ (run : Run). run.set) (sym si)) (subst (IsWithin s) (ap (λ (run : Run). run.set) (sym ti)) w))
+    ]

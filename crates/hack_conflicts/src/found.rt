@@ -13,7 +13,7 @@ ghost use Rattle.hack_conflicts.specs.declared.tried.Outcome.TheVariants.{Broken
 use crate::builds::Builds;
 use crate::fault::{End, SearchFault};
 use crate::greatest::other_sets;
-use crate::known::{Known, are_monotone};
+use crate::known::Known;
 use crate::rules::Rules;
 use crate::search::search_all;
 use crate::tried::Tried;
@@ -30,8 +30,6 @@ pub struct Found {
     pub runs: Vec<Tried>,
     /// Whether each set that may be chosen has a conflict inside it, or lies inside a passing set.
     pub complete: bool,
-    /// Whether no set that passed has one inside that failed.
-    pub monotone: bool,
 }
 
 /// Searches, as far as so many runs allow, and returns whether all sets are settled.
@@ -73,13 +71,11 @@ fn conclude(alloc: Global, known: Known, complete: bool) -> Result<Found, AllocE
     ensures conflicts { IfOk result (λ found. rows_of found.conflicts.items
         ≡ conflicts_of known) }
     ensures complete { IfOk result (λ found. found.complete ≡ complete) }
-    ensures monotone { IfOk result (λ found. IsTrue found.monotone ↔ AreMonotone (told known)) }
     ensures passing { IfOk result (λ found. (others : List (List Bool)) × (rows_of
         found.passing.items ≡ passing_of known ++ others)
         × AreOthers (passing_of known) (told known) others) }
 {
     let mut others = other_sets(alloc, known.passing.as_slice(), known.runs.as_slice())?;
-    let monotone = are_monotone(known.runs.as_slice());
     let runs = known.runs;
     let conflicts = known.conflicts;
     let mut passing = known.passing;
@@ -89,7 +85,6 @@ fn conclude(alloc: Global, known: Known, complete: bool) -> Result<Found, AllocE
         passing,
         runs,
         complete,
-        monotone,
     })
 }
 
@@ -113,6 +108,9 @@ pub fn find_conflicts<B: Builds>(
         IsCourse rules.now most_runs (runs_in found.runs.items)) }
     ensures whole { IfOk result (λ found.
         All (λ run. run.outcome ≢ Broken) (runs_in found.runs.items)) }
+
+    // So no set that passed has one inside that failed, whatever the builder answers.
+    ensures monotone { IfOk result (λ found. AreMonotone (runs_in found.runs.items)) }
 
     // Each conflict was tried and failed, and each part of it that may be chosen lies inside a set
     // that was tried and passed. No conflict lies inside another.
@@ -158,9 +156,6 @@ pub fn find_conflicts<B: Builds>(
     ensures few_so_far { IfOk result (λ found. IsPlain rules.now → length found.runs.items
         ≤ length found.passing.items
         + (length found.conflicts.items + 1) * (2 * size_of rules.now + 1)) }
-
-    ensures monotone { IfOk result (λ found.
-        IsTrue found.monotone ↔ AreMonotone (runs_in found.runs.items)) }
 
     // Where the outcomes are those of a test by which of sets that may be chosen what lies inside
     // one that builds builds, and the search is complete, such a set fails just where it has a

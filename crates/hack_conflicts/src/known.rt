@@ -2,7 +2,7 @@
 
 ghost use Rattle.std.specs.Prelude.{◌≡◌, ◌<◌, ◌≤◌, ◌+◌, ◌++◌, ◌∷◌, ◌↔◌, [], List, Bool, cond, length, IsTrue, IfOk, IfErr, OnOk, OnErr};
 ghost use Rattle.std.specs.List.{slice_index_or};
-ghost use Rattle.hack_conflicts.specs.Runs.{Run, runs_in, IsPassed, IsSpent, AreMonotone};
+ghost use Rattle.hack_conflicts.specs.Runs.{Run, runs_in, IsPassed, IsSpent};
 ghost use Rattle.hack_conflicts.specs.declared.tried.Outcome.TheVariants.{Passed, Failed, Broken as BrokenRun};
 ghost use Rattle.hack_conflicts.specs.Internal.{IsSound, IsNext, Grows, IsEnd, told};
 
@@ -67,17 +67,6 @@ pub(crate) fn has_passed(runs: &[Tried], place: usize) -> bool
     }
 }
 
-/// Whether the run at the place failed.
-pub(crate) fn has_failed(runs: &[Tried], place: usize) -> bool
-    ensures { IsTrue result ↔ ((slice_index_or (runs_in runs.now) place
-        (record { set = []; outcome = BrokenRun })).outcome ≡ Failed) }
-{
-    match outcome_of(runs, place) {
-        Outcome::Failed => true,
-        _ => false,
-    }
-}
-
 /// Whether the set lies inside one that passed.
 pub(crate) fn is_passed(runs: &[Tried], set: &[bool]) -> bool
     ensures { IsTrue result ↔ IsPassed (runs_in runs.now) set.now }
@@ -88,18 +77,6 @@ pub(crate) fn is_passed(runs: &[Tried], set: &[bool]) -> bool
         }
     }
     false
-}
-
-/// Whether no set that passed has one inside that failed.
-pub(crate) fn are_monotone(runs: &[Tried]) -> bool
-    ensures { IsTrue result ↔ AreMonotone (runs_in runs.now) }
-{
-    for place in 0..runs.len() {
-        if has_failed(runs, place) && is_passed(runs, set_of(runs, place)) {
-            return false;
-        }
-    }
-    true
 }
 
 impl Known {

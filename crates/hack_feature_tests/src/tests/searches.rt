@@ -112,9 +112,6 @@ fn found_text(alloc: Global, found: &Found) -> Result<String, AllocError> {
     if !found.complete {
         text.push_str(", and more are needed")?;
     }
-    if !found.monotone {
-        text.push_str(", not monotone")?;
-    }
     text.push_str("\nfails")?;
     push_sets(&mut text, alloc, found.conflicts.as_slice())?;
     text.push_str("\npasses")?;
@@ -154,16 +151,156 @@ impl Ask for Search {
     }
 }
 
+/// Checks rows.
+fn on(alloc: Global, rows: &str) -> Result<(), Wrong> {
+    hold(alloc, &mut Search, rows)
+}
+
 #[test]
-fn searches(rt: HostRuntime) -> Result<(), Wrong> {
-    hold(
+fn pairs_that_conflict(rt: HostRuntime) -> Result<(), Wrong> {
+    on(
         rt.alloc(),
-        &mut Search,
         "
+            > find 6
+            | 1 runs
+            | fails
+            | passes [0,1,2,3,4,5]
+
             > find 6 fails=0,1;2,3
             | 14 runs
-            | fails [0,1] [2,3]
-            | passes [1,3,4,5] [1,2,4,5] [0,3,4,5] [0,2,4,5]
+            | fails [2,3] [0,1]
+            | passes [1,2,4,5] [0,2,4,5] [1,3,4,5] [0,3,4,5]
+
+            # Of 1048576 sets.
+            > find 20 fails=0,1
+            | 10 runs
+            | fails [0,1]
+            | passes [1,2,3,4,5,6,7,8,9,10,11,12,13,14,15,16,17,18,19] [0,2,3,4,5,6,7,8,9,10,11,12,13,14,15,16,17,18,19]
+
+            # The package itself doesn't build.
+            > find 6 fails=-
+            | 2 runs
+            | fails []
+            | passes
+
+            > find 4 fails=2
+            | 6 runs
+            | fails [2]
+            | passes [0,1,3]
+            > runs 4 fails=2
+            | [0,1,2,3]- []+ [2,3]- [3]+ [2]- [0,1,3]+
+
+            > find 0
+            | 1 runs
+            | fails
+            | passes []
+        ",
+    )
+}
+
+#[test]
+fn features_that_enable_others(rt: HostRuntime) -> Result<(), Wrong> {
+    on(
+        rt.alloc(),
+        "
+            > find 3 enables=0:1,2 fails=1,2
+            | 5 runs
+            | fails [1,2]
+            | passes [2] [1]
+
+            > find 4 enables=0:1,2 fails=0,3
+            | 5 runs
+            | fails [0,1,2,3]
+            | passes [1,2,3] [0,1,2]
+
+            # 0 enables 1, and 1 enables 2, but 0 doesn't enable 2.
+            > find 3 enables=0:1;1:2
+            | no preorder
+            > find 3 enables=0:1,2;1:2 fails=1
+            | 4 runs
+            | fails [1,2]
+            | passes [2]
+        ",
+    )
+}
+
+#[test]
+fn groups_of_features(rt: HostRuntime) -> Result<(), Wrong> {
+    on(
+        rt.alloc(),
+        "
+            > find 4 some=0,1 fails=0,2
+            | 7 runs
+            | fails [0,2]
+            | passes [0,1,3] [1,2,3]
+
+            > find 4 apart=0,1,2 fails=0,3
+            | 4 runs
+            | fails [0,3]
+            | passes [2,3] [1,3] [0]
+            > runs 4 apart=0,1,2 fails=0,3
+            | [2,3]+ [1,3]+ [0,3]- [0]+
+
+            # A feature that enables two of an exclusion group may be chosen, as its name is the only
+            # one that is given; the two may not.
+            > runs 4 enables=0:1,2 apart=0,1,2 fails=3
+            | [0,1,2,3]- []+ [2,3]- [3]- [0,1,2]+
+
+            # No feature serves the group.
+            > find 2 some=-
+            | 0 runs
+            | fails
+            | passes
+        ",
+    )
+}
+
+#[test]
+fn searches_that_end_early(rt: HostRuntime) -> Result<(), Wrong> {
+    on(
+        rt.alloc(),
+        "
+            > runs 6 fails=0,1;2,3 most=4
+            | [0,1,2,3,4,5]- []+ [3,4,5]+ [1,2,3,4,5]-
+            > find 6 fails=0,1;2,3 most=4
+            | 4 runs, and more are needed
+            | fails
+            | passes [3,4,5]
+            > find 6 fails=0,1;2,3 most=0
+            | 0 runs, and more are needed
+            | fails
+            | passes
+            > find 6 fails=0,1;2,3 most=13
+            | 13 runs, and more are needed
+            | fails [2,3] [0,1]
+            | passes [1,2,4,5] [0,2,4,5] [1,3,4,5]
+            > find 6 fails=0,1;2,3 most=14
+            | 14 runs
+            | fails [2,3] [0,1]
+            | passes [1,2,4,5] [0,2,4,5] [1,3,4,5] [0,3,4,5]
+            > find 3 fails=0,1 breaks=2
+            | a build was broken
+            > find 3 fails=0,1 breaks=-
+            | a build was broken
+        ",
+    )
+}
+
+#[test]
+fn outcomes_that_are_not_monotone(rt: HostRuntime) -> Result<(), Wrong> {
+    on(
+        rt.alloc(),
+        "
+            # [0] fails, but it is never tried, since it lies inside a set that passes.
+            > find 3 fails=0 passes=0,1
+            | 1 runs
+            | fails
+            | passes [0,1,2]
+
+            > runs 4 fails=0,1;3 passes=1,3
+            | [0,1,2,3]+
+            > runs 3 fails=0;1;2 passes=0,1
+            | [0,1,2]+
         ",
     )
 }

@@ -1,12 +1,9 @@
-use Rattle.std.proofs.Common.{◌↔◌, List, Bool, IsTrue, subst, ap, ◌∙◌}
+use Rattle.std.proofs.Common.{List, Bool, subst, ap, ◌∙◌}
 use Rattle.std.proofs.lemmas.List.{map-append}
 use Rattle.hack_conflicts.specs.Sets.{rows_of}
-use Rattle.hack_conflicts.specs.Runs.{runs_in, AreMonotone}
+use Rattle.hack_conflicts.specs.Runs.{runs_in}
 use Rattle.hack_conflicts.specs.Internal.{AreOthers, told}
 use Rattle.hack_conflicts.proofs.found.conclude.Goals as goal
-
-pub returns-clause-monotone : goal.returns-clause-monotone
-returns-clause-monotone c = subst (λ l. IsTrue c.are_monotone-monotone.result ↔ AreMonotone (runs_in l)) c.as_slice-3.ensures.value c.are_monotone-monotone.ensures
 
 pub returns-clause-passing : goal.returns-clause-passing
 returns-clause-passing c =

@@ -1,11 +1,12 @@
-use Rattle.std.proofs.Common.{◌≡◌, ◌≤◌, ◌+◌, ◌*◌, ℕ, List, Bool, IsTrue, length, sym, subst, ap, ◌∙◌, ◌↔◌}
+use Rattle.std.proofs.Common.{◌≡◌, ◌≤◌, ◌+◌, ◌*◌, ℕ, List, Bool, IsTrue, length, sym, subst, ap, ◌∙◌}
 use Rattle.std.proofs.lemmas.List.{length-map}
 use Rattle.hack_conflicts.specs.Sets.{rows_of}
 use Rattle.hack_conflicts.specs.Rules.{size_of}
 use Rattle.hack_conflicts.specs.Runs.{Run, runs_in, AreMonotone}
+use Rattle.hack_conflicts.specs.Internal.{told}
 use Rattle.hack_conflicts.proofs.KnownLemmas.{length-runs}
 use Rattle.hack_conflicts.proofs.EndLemmas.{sound_none}
-use Rattle.hack_conflicts.proofs.FoundLemmas.{IsFoundBy, found_failed, found_least, found_conflicts_apart, found_passed, found_covers, found_passing_apart, found_blamed, found_complete, found_incomplete, found_unfinished, found_law, found_greatest, found_few, found_so_far, longer}
+use Rattle.hack_conflicts.proofs.FoundLemmas.{IsFoundBy, monotone_runs, found_failed, found_least, found_conflicts_apart, found_passed, found_covers, found_passing_apart, found_blamed, found_complete, found_incomplete, found_unfinished, found_law, found_greatest, found_few, found_so_far, longer}
 use Rattle.hack_conflicts.proofs.found.find_conflicts.Goals as goal
 
 pub search-requires-clause-sound : goal.search-requires-clause-sound
@@ -165,7 +166,7 @@ returns-clause-few_so_far g c = λ plain.
     (found_so_far n k (length k.runs.items) (length f.passing.items) (length f.conflicts.items) (c.in_ok-complete.ensures.owes plain) (longer f.passing.items k.passing.items e.passing.0 e.passing.1) same)
 
 pub returns-clause-monotone : goal.returns-clause-monotone
-returns-clause-monotone g c = subst (λ l. IsTrue c.in_ok-conclude.field-0.monotone ↔ AreMonotone l) (sym c.in_ok-conclude.ensures.runs) c.in_ok-conclude.ensures.monotone
+returns-clause-monotone g c = subst AreMonotone (sym c.in_ok-conclude.ensures.runs) (monotone_runs (told c.search.new.known) c.in_ok-complete.ensures.sound.course.fresh)
 
 pub returns-clause-unfinished : goal.returns-clause-unfinished
 returns-clause-unfinished g c = λ cut.
