@@ -11,8 +11,8 @@ pub trait Builds {
     ghost ran: { List Run → Self → Self → Type 0 };
 
     /// Tries a build with the set, which has a mark for each position. A builder that can't say
-    /// whether it passes, for example since a program can't be started, keeps the fault, and answers
-    /// `Broken`: it is asked no more.
+    /// whether it passes, for example since a program can't be started, keeps the fault to itself and
+    /// answers `Broken`; the search then ends, and asks it no more.
     fn build(&mut self, set: &[bool]) -> Outcome
         ensures { ran (record { set = set.now; outcome = result } ∷ []) self.old self.new };
 

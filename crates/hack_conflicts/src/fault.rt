@@ -10,7 +10,7 @@ use thiserror::Error;
 pub enum SearchFault {
     #[error("out of memory")]
     Memory,
-    /// The last build was broken.
+    /// The last build was broken. The builder knows why.
     #[error("a build was broken")]
     Broken,
 }

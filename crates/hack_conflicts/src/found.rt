@@ -19,14 +19,16 @@ use crate::search::search_all;
 use crate::tried::Tried;
 use std::alloc::{AllocError, Global};
 
-/// What a search has found. A set has a mark for each position.
+/// What a search has found. A set has a mark for each position, and a position past its last mark
+/// isn't one of its members.
 #[derive(Drop)]
 pub struct Found {
-    /// The least sets that fail.
+    /// The least sets that fail, in the order in which they were found.
     pub conflicts: Vec<Vec<bool>>,
-    /// The greatest sets that pass.
+    /// The greatest sets that passed. None lies inside another.
     pub passing: Vec<Vec<bool>>,
-    /// The builds that were tried, the first one first.
+    /// The builds that were tried, the first one first. If the search isn't complete, a last set that
+    /// failed and has no conflict inside it was being made smaller.
     pub runs: Vec<Tried>,
     /// Whether each set that may be chosen has a conflict inside it, or lies inside a passing set.
     pub complete: bool,
@@ -88,9 +90,17 @@ fn conclude(alloc: Global, known: Known, complete: bool) -> Result<Found, AllocE
     })
 }
 
-/// Finds the least sets that fail and the greatest that pass. Builds are tried one after another,
-/// as long as some set isn't decided, and at most `most_runs` if that is given. A set may be chosen
-/// if it is closed, exclusive and required by the rules.
+/// Finds the least sets that fail, and the greatest that pass, of those that may be chosen. Builds
+/// are tried one after another, as long as some set isn't decided, and at most `most_runs` if that
+/// is given. Nothing is assumed of their outcomes.
+///
+/// A set may be chosen if it is what some names enable that a command line may give: by the README
+/// of cargo-hack, at most one of them reaches each group of `--mutually-exclusive-features`, and one
+/// of them serves each group of `--at-least-one-of`.
+///
+/// # Errors
+///
+/// `Broken` if a build was broken, with which the search ends; `Memory` if memory is refused.
 pub fn find_conflicts<B: Builds>(
     alloc: Global,
     rules: &Rules,
@@ -169,8 +179,8 @@ pub fn find_conflicts<B: Builds>(
         → IsTrue found.complete
         → All (IsGreatest rules.now builds) (rows_of found.passing.items)) }
 
-    // After a fault, too, no other builds were tried than such. One that is no want of memory comes
-    // of a run that was broken, which was the last.
+    // After an error, too, no other builds were tried than such; `Broken` comes of a broken one,
+    // after which none was tried.
     ensures fault { IfErr result (λ fault. (runs : List Run)
         × B.ran runs builder.old builder.new × IsCourse rules.now most_runs runs
         × IsFaultOf runs fault) }

@@ -9,15 +9,18 @@ ghost use Rattle.hack_conflicts.specs.Internal.{IsWithout, Clashes};
 use crate::sets::{has, is_within, set_at};
 use std::alloc::{AllocError, Global};
 
-/// Positions, by what each of them enables, and the groups by which sets of them may be chosen.
+/// Positions, by what each of them enables, and the groups by which sets of them may be chosen. A row
+/// has an entry for each position; one past its end is false.
 #[derive(Drop)]
 pub struct Rules {
-    /// For each position a mark at each that it enables, itself too.
+    /// A row for each position: whether it enables the entry's position. Each enables itself.
     pub enables: Vec<Vec<bool>>,
-    /// For each exclusion group a mark at each position that reaches it. A set may be chosen only if
-    /// of the members that no other member enables at most one reaches the group.
+    /// A row for each exclusion group: whether the entry's position reaches the group. A set may be
+    /// chosen only if at most one of its greatest members reaches the group, those that no other
+    /// member enables.
     pub exclusive: Vec<Vec<bool>>,
-    /// For each at-least-one group a mark at each position that serves it.
+    /// A row for each at-least-one group: whether the entry's position serves the group. A set may be
+    /// chosen only if a member serves it.
     pub needed: Vec<Vec<bool>>,
 }
 
@@ -188,7 +191,8 @@ impl Rules {
         true
     }
 
-    /// Whether each position enables itself, only positions, and all that those enable.
+    /// Whether each position enables itself, only positions that there are, and all that those
+    /// enable, as `find_conflicts` requires.
     pub fn is_preorder(&self) -> bool
         ensures { IsTrue result ↔ IsPreorder self.now }
     {

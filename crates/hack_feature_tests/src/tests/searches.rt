@@ -273,7 +273,7 @@ fn searches_that_end_early(rt: HostRuntime) -> Result<(), Wrong> {
             > find 6 fails=0,1;2,3 most=13
             | 13 runs, and more are needed
             | fails [2,3] [0,1]
-            | passes [1,2,4,5] [0,2,4,5] [1,3,4,5]
+            | passes [1,2,4,5] [1,3,4,5] [0,3,4,5]
             > find 6 fails=0,1;2,3 most=14
             | 14 runs
             | fails [2,3] [0,1]
