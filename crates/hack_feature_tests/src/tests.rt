@@ -12,6 +12,7 @@ mod places;
 mod plain;
 mod rules;
 mod samples;
+mod searches;
 mod settings;
 mod shown;
 mod streams;

@@ -1,0 +1,99 @@
+-- Builds that were tried, and what is found by them.
+use Rattle.std.specs.Prelude.{◌≡◌, ◌≢◌, ◌≤◌, ℕ, List, map, length, Bool, cond, IsTrue, All, AllPairs, Contains, ◌⊎◌, Option, IfSome, MatchOption}
+use Rattle.hack_conflicts.specs.Sets.{Has, IsWithin, IsInside, HasInside}
+use Rattle.hack_conflicts.specs.Rules.{IsChoice}
+use Rattle.hack_conflicts.specs.declared.rules.Rules.{Rules}
+use Rattle.hack_conflicts.specs.declared.tried.Outcome.{Outcome}
+use Rattle.hack_conflicts.specs.declared.tried.Outcome.TheVariants.{Passed, Failed, Broken}
+use Rattle.hack_conflicts.specs.declared.tried.Tried.{Tried}
+use Rattle.hack_conflicts.specs.declared.fault.SearchFault.{SearchFault}
+use Rattle.hack_conflicts.specs.declared.fault.SearchFault.TheVariants.{Memory, Broken as BrokenFault}
+
+-- a build with a set, and how it ended
+pub record Run : Type 0 where
+  pub set : List Bool
+  pub outcome : Outcome
+
+-- the runs that are recorded
+abbrev pub runs_in : List Tried → List Run
+runs_in tried = map (λ one. record { set = one.set.items; outcome = one.outcome }) tried
+
+-- a build with the set was tried, and failed
+abbrev pub HasFailed : List Run → List Bool → Type 0
+HasFailed runs s = Contains runs (record { set = s; outcome = Failed })
+
+-- a build with the set was tried, and passed
+abbrev pub HasPassed : List Run → List Bool → Type 0
+HasPassed runs s = Contains runs (record { set = s; outcome = Passed })
+
+-- the set lies inside one that was tried and passed
+abbrev pub IsPassed : List Run → List Bool → Type 0
+IsPassed runs s = (t : List Bool) × HasPassed runs t × IsWithin s t
+
+-- the later run is no foregone conclusion: the earlier one wasn't broken, and if it passed, the
+-- later set doesn't lie inside its set, and if it failed, its set doesn't lie inside the later one
+pub record IsNew (earlier later : Run) : Type 0 where
+  pub whole : earlier.outcome ≢ Broken
+  pub passed : earlier.outcome ≡ Passed → ¬ IsWithin later.set earlier.set
+  pub failed : earlier.outcome ≡ Failed → ¬ IsWithin earlier.set later.set
+
+-- the runs of a search: each is of a set that may be chosen, none is a foregone conclusion, and
+-- they are at most as many as are allowed
+pub record IsCourse (r : Rules) (most : Option ℕ) (runs : List Run) : Type 0 where
+  pub chosen : All (λ run. IsChoice r run.set) runs
+  pub fresh : AllPairs IsNew runs
+  pub within : IfSome most (λ m. length runs ≤ m)
+
+-- each set inside the set that may be chosen, and lacks x, lies inside one that passed
+abbrev pub Needs : Rules → List Run → List Bool → ℕ → Type 0
+Needs r runs set x = (s : List Bool) → IsChoice r s → IsWithin s set → ¬ Has s x → IsPassed runs s
+
+-- that is so for each member: each part of the set that may be chosen lies inside one that passed
+abbrev pub IsLeast : Rules → List Run → List Bool → Type 0
+IsLeast r runs set = (x : ℕ) → Has set x → Needs r runs set x
+
+-- each set that failed has a conflict inside it
+abbrev pub AreBlamed : List Run → List (List Bool) → Type 0
+AreBlamed runs conflicts = (s : List Bool) → HasFailed runs s → HasInside conflicts s
+
+-- a set that failed has no conflict inside it and isn't known to be least, and each set that failed
+-- has a conflict inside it or this set
+pub record IsUnfinished (r : Rules) (runs : List Run) (conflicts : List (List Bool)) : Type 0 where
+  pub set : List Bool
+  pub failed : HasFailed runs set
+  pub clear : ¬ HasInside conflicts set
+  pub smaller : ¬ IsLeast r runs set
+  pub blamed : (s : List Bool) → HasFailed runs s → HasInside conflicts s ⊎ IsWithin set s
+
+-- a conflict lies inside the set, or the set lies inside one that passed
+abbrev pub IsDecided : List (List Bool) → List (List Bool) → List Bool → Type 0
+IsDecided conflicts passing s = HasInside conflicts s ⊎ IsInside passing s
+
+-- some set may be chosen, and isn't decided
+abbrev pub IsIncomplete : Rules → List (List Bool) → List (List Bool) → Type 0
+IsIncomplete r conflicts passing = (s : List Bool) × IsChoice r s × ¬ IsDecided conflicts passing s
+
+-- so many runs are all that are allowed
+abbrev pub IsSpent : Option ℕ → ℕ → Type 0
+IsSpent most runs = MatchOption most ⊥ (λ m. m ≤ runs)
+
+-- the outcomes are monotone: no set that passed has one inside that failed
+abbrev pub AreMonotone : List Run → Type 0
+AreMonotone runs = (s t : List Bool) → HasFailed runs s → HasPassed runs t → ¬ IsWithin s t
+
+-- the outcomes are those of the test
+abbrev pub Answers : (List Bool → Bool) → List Run → Type 0
+Answers builds runs = All (λ run. run.outcome ≡ cond (builds run.set) Passed Failed) runs
+
+-- of sets that may be chosen, one inside another that builds builds
+abbrev pub IsMonotone : Rules → (List Bool → Bool) → Type 0
+IsMonotone r builds = (s t : List Bool) → IsChoice r s → IsChoice r t → IsWithin s t → IsTrue (builds t) → IsTrue (builds s)
+
+-- no set that may be chosen and builds is greater
+abbrev pub IsGreatest : Rules → (List Bool → Bool) → List Bool → Type 0
+IsGreatest r builds t = (s : List Bool) → IsChoice r s → IsTrue (builds s) → IsWithin t s → IsWithin s t
+
+-- a fault of a search that is no want of memory is the last run's
+abbrev pub IsFaultOf : List Run → SearchFault → Type 0
+IsFaultOf runs Memory = Unit {0}
+IsFaultOf runs BrokenFault = (s : List Bool) × Contains runs (record { set = s; outcome = Broken })
