@@ -1,8 +1,8 @@
 -- What only private functions of the crate promise each other.
-use Rattle.std.specs.Prelude.{◌≡◌, ◌≢◌, ◌<◌, ◌≤◌, ◌+◌, ◌*◌, ℕ, zero, suc, List, length, Bool, cond, not, ◌&&◌, All, AllPairs, Contains, ◌⊎◌, Option}
+use Rattle.std.specs.Prelude.{◌≡◌, ◌<◌, ◌≤◌, ◌+◌, ◌*◌, ℕ, zero, suc, List, length, Bool, cond, not, ◌&&◌, All, AllPairs, Contains, ◌⊎◌, Option}
 use Rattle.hack_conflicts.specs.Sets.{rows_of, mark, Has, IsWithin, IsInside, HasInside, AreApart}
 use Rattle.hack_conflicts.specs.Rules.{IsChoice, IsClosed, IsPlain, HasAbove, enables, size_of}
-use Rattle.hack_conflicts.specs.Runs.{Run, runs_in, HasFailed, HasPassed, IsPassed, IsCourse, IsLeast, AreBlamed, IsUnfinished, IsSpent}
+use Rattle.hack_conflicts.specs.Runs.{Run, runs_in, HasFailed, HasPassed, IsPassed, IsCourse, IsLeast, AreBlamed, IsUnfinished, AreWhole, IsSpent}
 use Rattle.hack_conflicts.specs.declared.rules.Rules.{Rules}
 use Rattle.hack_conflicts.specs.declared.known.Known.{Known}
 use Rattle.hack_conflicts.specs.declared.fault.End.{End}
@@ -66,7 +66,7 @@ IsUnsettled r k = (s : List Bool) × IsChoice r s × ¬ IsSettled k s
 
 -- no run was broken
 abbrev pub IsGoing : Known → Type 0
-IsGoing k = All (λ (run : Run). run.outcome ≢ Broken) (told k)
+IsGoing k = AreWhole (told k)
 
 -- the runs are used up while some set isn't settled, and no run was broken
 pub record IsCutOff (r : Rules) (most : Option ℕ) (k : Known) : Type 0 where
@@ -77,7 +77,7 @@ pub record IsCutOff (r : Rules) (most : Option ℕ) (k : Known) : Type 0 where
 
 -- why a search ends before it is done
 abbrev pub IsEnd : Rules → Option ℕ → Known → End → Type 0
-IsEnd r most k Memory = Unit {0}
+IsEnd r most k Memory = IsGoing k
 IsEnd r most k BrokenEnd = (s : List Bool) × Contains (told k) (record { set = s; outcome = Broken })
 IsEnd r most k Spent = IsCutOff r most k
 

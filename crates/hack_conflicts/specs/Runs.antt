@@ -93,7 +93,11 @@ IsMonotone r builds = (s t : List Bool) → IsChoice r s → IsChoice r t → Is
 abbrev pub IsGreatest : Rules → (List Bool → Bool) → List Bool → Type 0
 IsGreatest r builds t = (s : List Bool) → IsChoice r s → IsTrue (builds s) → IsWithin t s → IsWithin s t
 
--- a fault of a search that is no want of memory is the last run's
+-- no run was broken
+abbrev pub AreWhole : List Run → Type 0
+AreWhole runs = All (λ (run : Run). run.outcome ≢ Broken) runs
+
+-- memory is wanting only where no run was broken, and else one was
 abbrev pub IsFaultOf : List Run → SearchFault → Type 0
-IsFaultOf runs Memory = Unit {0}
+IsFaultOf runs Memory = AreWhole runs
 IsFaultOf runs BrokenFault = (s : List Bool) × Contains runs (record { set = s; outcome = Broken })

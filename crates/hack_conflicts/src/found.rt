@@ -5,10 +5,9 @@ ghost use Rattle.hack_conflicts.specs.Sets.{HasInside, IsInside, AreApart, rows_
 ghost use Rattle.hack_conflicts.specs.Rules.{IsPreorder, IsChoice, IsPlain, size_of};
 ghost use Rattle.hack_conflicts.specs.Runs.{Run, runs_in, HasFailed, HasPassed, IsCourse, IsLeast, AreBlamed, IsUnfinished};
 ghost use Rattle.hack_conflicts.specs.Runs.{IsDecided, IsIncomplete, IsSpent, AreMonotone};
-ghost use Rattle.hack_conflicts.specs.Runs.{Answers, IsMonotone, IsGreatest, IsFaultOf};
+ghost use Rattle.hack_conflicts.specs.Runs.{Answers, IsMonotone, IsGreatest, AreWhole, IsFaultOf};
 ghost use Rattle.hack_conflicts.specs.Internal.{IsSound, IsSteady, IsSettled, IsCutOff, IsGoing, worth, told};
 ghost use Rattle.hack_conflicts.specs.Internal.{conflicts_of, passing_of, AreOthers};
-ghost use Rattle.hack_conflicts.specs.declared.tried.Outcome.TheVariants.{Broken};
 
 use crate::builds::Builds;
 use crate::fault::{End, SearchFault};
@@ -117,7 +116,7 @@ pub fn find_conflicts<B: Builds>(
     ensures course { IfOk result (λ found.
         IsCourse rules.now most_runs (runs_in found.runs.items)) }
     ensures whole { IfOk result (λ found.
-        All (λ run. run.outcome ≢ Broken) (runs_in found.runs.items)) }
+        AreWhole (runs_in found.runs.items)) }
 
     // So no set that passed has one inside that failed, whatever the builder answers.
     ensures monotone { IfOk result (λ found. AreMonotone (runs_in found.runs.items)) }
@@ -179,8 +178,8 @@ pub fn find_conflicts<B: Builds>(
         → IsTrue found.complete
         → All (IsGreatest rules.now builds) (rows_of found.passing.items)) }
 
-    // After an error, too, no other builds were tried than such; `Broken` comes of a broken one,
-    // after which none was tried.
+    // After an error, too, no other builds were tried than such. The error is `Broken` just if one
+    // was broken, after which none was tried.
     ensures fault { IfErr result (λ fault. (runs : List Run)
         × B.ran runs builder.old builder.new × IsCourse rules.now most_runs runs
         × IsFaultOf runs fault) }

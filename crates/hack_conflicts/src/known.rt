@@ -4,7 +4,7 @@ ghost use Rattle.std.specs.Prelude.{◌≡◌, ◌<◌, ◌≤◌, ◌+◌, ◌+
 ghost use Rattle.std.specs.List.{slice_index_or};
 ghost use Rattle.hack_conflicts.specs.Runs.{Run, runs_in, IsPassed, IsSpent};
 ghost use Rattle.hack_conflicts.specs.declared.tried.Outcome.TheVariants.{Passed, Failed, Broken as BrokenRun};
-ghost use Rattle.hack_conflicts.specs.Internal.{IsSound, IsNext, Grows, IsEnd, told};
+ghost use Rattle.hack_conflicts.specs.Internal.{IsSound, IsNext, IsGoing, Grows, IsEnd, told};
 
 use crate::builds::Builds;
 use crate::fault::End;
@@ -138,6 +138,7 @@ pub(crate) fn ask<B: Builds>(
         → B.ran (told known.new) start builder.new }
     ensures told { IfOk result (λ passed. told known.new
         ≡ told known.old ++ record { set = set.now; outcome = cond passed Passed Failed } ∷ []) }
+    ensures going { IfOk result (λ passed. IsGoing known.old → IsGoing known.new) }
     ensures same_conflicts { known.new.conflicts ≡ known.old.conflicts }
     ensures same_passing { known.new.passing ≡ known.old.passing }
     ensures few { length known.new.runs.items ≤ length known.old.runs.items + 1 }

@@ -4,7 +4,7 @@ ghost use Rattle.std.specs.Prelude.{◌≡◌, ◌<◌, ◌≤◌, ◌+◌, ◌-
 ghost use Rattle.hack_conflicts.specs.Sets.{Has, IsWithin};
 ghost use Rattle.hack_conflicts.specs.Rules.{IsPreorder, IsClosed, IsExclusive, IsChoice, IsPlain, size_of};
 ghost use Rattle.hack_conflicts.specs.Runs.{IsPassed, Needs, IsLeast};
-ghost use Rattle.hack_conflicts.specs.Internal.{IsSound, Grows, IsEnd, IsNext, IsFailing, IsPart, IsPartOfFailing, told};
+ghost use Rattle.hack_conflicts.specs.Internal.{IsSound, Grows, IsEnd, IsNext, IsGoing, IsFailing, IsPart, IsPartOfFailing, told};
 
 use crate::builds::Builds;
 use crate::fault::End;
@@ -28,6 +28,7 @@ fn try_choice<B: Builds>(
     ensures grows { Grows known.old known.new }
     ensures ran { (start : B) → B.ran (told known.old) start builder.old
         → B.ran (told known.new) start builder.new }
+    ensures going { IfOk result (λ left. IsGoing known.old → IsGoing known.new) }
     ensures same_conflicts { known.new.conflicts ≡ known.old.conflicts }
     ensures same_passing { known.new.passing ≡ known.old.passing }
     ensures few { length known.new.runs.items ≤ length known.old.runs.items + 1 }
@@ -60,10 +61,12 @@ fn try_inside<B: Builds>(
     requires closed { IsClosed rules.now set.now }
     requires sound { IsSound rules.now most known.old }
     requires part { IsPartOfFailing rules.now known.old set.now }
+    requires going { IsGoing known.old }
     ensures sound { IsSound rules.now most known.new }
     ensures grows { Grows known.old known.new }
     ensures ran { (start : B) → B.ran (told known.old) start builder.old
         → B.ran (told known.new) start builder.new }
+    ensures going { IfOk result (λ left. IsGoing known.old → IsGoing known.new) }
     ensures same_conflicts { known.new.conflicts ≡ known.old.conflicts }
     ensures same_passing { known.new.passing ≡ known.old.passing }
     ensures few { IsExclusive rules.now set.now

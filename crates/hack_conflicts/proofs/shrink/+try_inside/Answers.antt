@@ -3,7 +3,7 @@ use Rattle.std.proofs.lemmas.Bool.{false≢true}
 use Rattle.hack_conflicts.specs.Sets.{IsWithin}
 use Rattle.hack_conflicts.specs.Rules.{IsClosed, IsChoice, size_of}
 use Rattle.hack_conflicts.specs.Runs.{runs_in, IsPassed}
-use Rattle.hack_conflicts.specs.Internal.{IsFailing, IsPartOfFailing, IsWithout, Clashes, members, told}
+use Rattle.hack_conflicts.specs.Internal.{IsGoing, IsFailing, IsPartOfFailing, IsWithout, Clashes, members, told}
 use Rattle.hack_conflicts.proofs.RuleLemmas.{without_within, without_closed, without_around}
 use Rattle.hack_conflicts.proofs.KnownLemmas.{passed_later, passed_less}
 use Rattle.hack_conflicts.proofs.ShrinkLemmas.{required_more, next_part, part_less, lacks_one, fewer_without, if_none, if_some, later_none}
@@ -26,7 +26,7 @@ try_inside-requires g t c =
     let closed : IsClosed r u = without_closed r p s u w c.requires.order c.requires.closed in
     let (large, part, failing) = c.requires.part in
     let part' : IsPartOfFailing r k u = (large, part_less u s large (without_within r p s u w) part, failing) in
-    λ κs lives. (search rules, (search rules, (c.requires.order, (closed, (c.requires.sound, part')))))
+    λ κs lives. (search rules, (search rules, (c.requires.order, (closed, (c.requires.sound, (part', c.requires.going))))))
 
 pub try_choice-requires-clause-next : goal.try_choice-requires-clause-next
 try_choice-requires-clause-next g t c =
@@ -66,7 +66,7 @@ try_inside-requires-in-Some g t c =
     let later : IsFailing r m large = subst (λ o. MatchOption o (IsFailing r m large) (λ less. IsFailing r m less.items)) c.in_default-found.is
     (c.in_ok-found.ensures.failing large (part_less u s large (without_within r p s u w) part) failing) in
     let part' : IsPartOfFailing r m v = (large, part_less v s large (without_within r q s v w') part, later) in
-    λ κs lives. (search rules, (search rules, (c.requires.order, (closed, (c.in_ok-found.ensures.sound, part')))))
+    λ κs lives. (search rules, (search rules, (c.requires.order, (closed, (c.in_ok-found.ensures.sound, (part', later.going))))))
 
 pub returns-in_err-last-clause-grows : goal.returns-in_err-last-clause-grows
 returns-in_err-last-clause-grows g t c = λ a h. c.in_err-last.ensures.grows a (c.in_ok-found.ensures.grows a h)
@@ -124,3 +124,9 @@ returns-clause-passed g t c =
     let s : List Bool = c.args.set.now in
     let m = c.try_choice.new.known in
     if_none c.in_ok-left.left (IsPassed (told m) s) ((x : List Bool) → IsChoice r x → IsWithin x s → IsPassed (told m) x) (λ passed x choice w. passed_less (told m) x s w passed) c.in_ok-left.ensures.passed
+
+pub returns-in_err-second-clause-ends : goal.returns-in_err-second-clause-ends
+returns-in_err-second-clause-ends g t c = let going : IsGoing c.try_inside.new.known = c.in_ok-found.ensures.going c.requires.going in search rules
+
+pub returns-in-Some-clause-going : goal.returns-in-Some-clause-going
+returns-in-Some-clause-going g t c = λ h. c.in_ok-last.ensures.going (c.in_ok-found.ensures.going h)
