@@ -1,12 +1,15 @@
 //! Finds the least sets that fail and the greatest that pass.
 
-ghost use Rattle.std.specs.Prelude.{◌≡◌, ◌≢◌, ◌≤◌, ◌++◌, ◌+◌, ◌*◌, ◌↔◌, ◌⊎◌, List, Bool, true, false, IsTrue, IfOk, IfErr, All, AllPairs, length};
+ghost use Rattle.std.specs.Prelude.{◌≡◌, ◌≢◌, ◌≤◌, ◌++◌, ◌+◌, ◌*◌, ◌↔◌, ◌⊎◌, List, Bool, true};
+ghost use Rattle.std.specs.Prelude.{false, IsTrue, IfOk, IfErr, All, AllPairs, length};
 ghost use Rattle.hack_conflicts.specs.Sets.{HasInside, IsInside, AreApart, rows_of};
 ghost use Rattle.hack_conflicts.specs.Rules.{IsPreorder, IsChoice, IsPlain, size_of};
-ghost use Rattle.hack_conflicts.specs.Runs.{Run, runs_in, HasFailed, HasPassed, IsCourse, IsLeast, AreBlamed, IsUnfinished};
+ghost use Rattle.hack_conflicts.specs.Runs.{Run, runs_in, HasFailed, HasPassed, IsCourse, IsLeast};
+ghost use Rattle.hack_conflicts.specs.Runs.{AreBlamed, IsUnfinished};
 ghost use Rattle.hack_conflicts.specs.Runs.{IsDecided, IsIncomplete, IsSpent, AreMonotone};
 ghost use Rattle.hack_conflicts.specs.Runs.{Answers, IsMonotone, IsGreatest, AreWhole, IsFaultOf};
-ghost use Rattle.hack_conflicts.specs.Internal.{IsSound, IsSteady, IsSettled, IsCutOff, IsGoing, worth, told};
+ghost use Rattle.hack_conflicts.specs.Internal.{IsSound, IsSteady, IsSettled, IsCutOff, IsGoing};
+ghost use Rattle.hack_conflicts.specs.Internal.{worth, told};
 ghost use Rattle.hack_conflicts.specs.Internal.{conflicts_of, passing_of, AreOthers};
 
 use crate::builds::Builds;

@@ -1,9 +1,11 @@
 //! What a search knows from its runs.
 
-ghost use Rattle.std.specs.Prelude.{◌≡◌, ◌<◌, ◌≤◌, ◌+◌, ◌++◌, ◌∷◌, ◌↔◌, [], List, Bool, cond, length, IsTrue, IfOk, IfErr, OnOk, OnErr};
+ghost use Rattle.std.specs.Prelude.{◌≡◌, ◌<◌, ◌≤◌, ◌+◌, ◌++◌, ◌∷◌, ◌↔◌, [], List, Bool, cond};
+ghost use Rattle.std.specs.Prelude.{length, IsTrue, IfOk, IfErr, OnOk, OnErr};
 ghost use Rattle.std.specs.List.{slice_index_or};
 ghost use Rattle.hack_conflicts.specs.Runs.{Run, runs_in, IsPassed, IsSpent};
-ghost use Rattle.hack_conflicts.specs.declared.tried.Outcome.TheVariants.{Passed, Failed, Broken as BrokenRun};
+ghost use Rattle.hack_conflicts.specs.declared.tried.Outcome.TheVariants.{Passed, Failed};
+ghost use Rattle.hack_conflicts.specs.declared.tried.Outcome.TheVariants.{Broken as BrokenRun};
 ghost use Rattle.hack_conflicts.specs.Internal.{IsSound, IsNext, IsGoing, Grows, IsEnd, told};
 
 use crate::builds::Builds;

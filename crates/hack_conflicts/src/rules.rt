@@ -1,6 +1,7 @@
 //! What sets are chosen from, and by which rules.
 
-ghost use Rattle.std.specs.Prelude.{◌≡◌, ◌<◌, ◌≤◌, ◌↔◌, ℕ, List, Bool, All, Contains, IfOk, IsTrue, MatchOption};
+ghost use Rattle.std.specs.Prelude.{◌≡◌, ◌<◌, ◌≤◌, ◌↔◌, ℕ, List, Bool, All, Contains, IfOk, IsTrue};
+ghost use Rattle.std.specs.Prelude.{MatchOption};
 ghost use Rattle.hack_conflicts.specs.Sets.{rows_of, Has, IsWithin};
 ghost use Rattle.hack_conflicts.specs.Rules.{Meets, IsRequired, IsExclusive, IsPreorder, IsClosed};
 ghost use Rattle.hack_conflicts.specs.Rules.{enables, row_of, size_of, HasAbove, HasOneOf};

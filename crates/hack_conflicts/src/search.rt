@@ -1,10 +1,13 @@
 //! Finds the least sets that fail, and sets that pass.
 
-ghost use Rattle.std.specs.Prelude.{◌<◌, ◌≤◌, ◌+◌, ◌*◌, ◌⊎◌, ℕ, List, Bool, IfOk, IfErr, OnOk, length};
+ghost use Rattle.std.specs.Prelude.{◌<◌, ◌≤◌, ◌+◌, ◌*◌, ◌⊎◌, ℕ, List, Bool, IfOk, IfErr, OnOk};
+ghost use Rattle.std.specs.Prelude.{length};
 ghost use Rattle.hack_conflicts.specs.Sets.{Has, IsWithin, IsInside, HasInside, rows_of};
 ghost use Rattle.hack_conflicts.specs.Rules.{IsPreorder, IsClosed, IsChoice, IsPlain, size_of};
-ghost use Rattle.hack_conflicts.specs.Internal.{IsSound, Grows, IsEnd, IsNext, IsSteady, IsQueue, AreCovered};
-ghost use Rattle.hack_conflicts.specs.Internal.{Avoids, Leaves, IsSettled, Clashes, members, worth, told, conflicts_of, passing_of};
+ghost use Rattle.hack_conflicts.specs.Internal.{IsSound, Grows, IsEnd, IsNext, IsSteady, IsQueue};
+ghost use Rattle.hack_conflicts.specs.Internal.{AreCovered};
+ghost use Rattle.hack_conflicts.specs.Internal.{Avoids, Leaves, IsSettled, Clashes, members, worth};
+ghost use Rattle.hack_conflicts.specs.Internal.{told, conflicts_of, passing_of};
 
 use crate::builds::Builds;
 use crate::fault::End;

@@ -1,6 +1,7 @@
 //! Sets of positions, as a mark for each position.
 
-ghost use Rattle.std.specs.Prelude.{◌≡◌, ◌<◌, ◌≤◌, ◌↔◌, ℕ, [], length, IsTrue, MatchBool, MatchOption, false};
+ghost use Rattle.std.specs.Prelude.{◌≡◌, ◌<◌, ◌≤◌, ◌↔◌, ℕ, [], length, IsTrue, MatchBool};
+ghost use Rattle.std.specs.Prelude.{MatchOption, false};
 ghost use Rattle.std.specs.List.{slice_index_or};
 ghost use Rattle.hack_conflicts.specs.Sets.{Has, IsInside, HasInside, IsWithin, mark, rows_of};
 ghost use Rattle.hack_conflicts.specs.Internal.{members};

@@ -1,10 +1,13 @@
 //! Makes a set that fails smaller.
 
-ghost use Rattle.std.specs.Prelude.{◌≡◌, ◌<◌, ◌≤◌, ◌+◌, ◌-◌, ◌*◌, ℕ, List, Bool, IfOk, IfErr, IfSome, IfNone, MatchOption, length};
+ghost use Rattle.std.specs.Prelude.{◌≡◌, ◌<◌, ◌≤◌, ◌+◌, ◌-◌, ◌*◌, ℕ, List, Bool, IfOk, IfErr};
+ghost use Rattle.std.specs.Prelude.{IfSome, IfNone, MatchOption, length};
 ghost use Rattle.hack_conflicts.specs.Sets.{Has, IsWithin};
-ghost use Rattle.hack_conflicts.specs.Rules.{IsPreorder, IsClosed, IsExclusive, IsChoice, IsPlain, size_of};
+ghost use Rattle.hack_conflicts.specs.Rules.{IsPreorder, IsClosed, IsExclusive, IsChoice, IsPlain};
+ghost use Rattle.hack_conflicts.specs.Rules.{size_of};
 ghost use Rattle.hack_conflicts.specs.Runs.{IsPassed, Needs, IsLeast};
-ghost use Rattle.hack_conflicts.specs.Internal.{IsSound, Grows, IsEnd, IsNext, IsGoing, IsFailing, IsPart, IsPartOfFailing, told};
+ghost use Rattle.hack_conflicts.specs.Internal.{IsSound, Grows, IsEnd, IsNext, IsGoing, IsFailing};
+ghost use Rattle.hack_conflicts.specs.Internal.{IsPart, IsPartOfFailing, told};
 
 use crate::builds::Builds;
 use crate::fault::End;
