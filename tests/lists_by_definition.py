@@ -469,7 +469,7 @@ class Plan:
         self.runs = runs = {}
         for place, it in chosen:
             version = next((version for version in self.versions if place in used[version]), None)
-            runs[place] = runs_of(workspace, asked, it, functools.partial(self.sample, it, version))
+            runs[place] = self.runs_in_list(it, version)
         if asked.own_handling:
             places = {(version, slot, None, 0) for version in used for slot in self.slots(version)}
         else:
@@ -482,9 +482,26 @@ class Plan:
         self.places = sorted(places, key=lambda it: (it[0], it[1], -1 if it[2] is None else it[2], it[3]))
         self.texts = [command(workspace, asked, it, packages, runs) for it in self.places]
 
-    def sample(self, package, version, choice, sets):
+    def runs_in_list(self, package, version):
+        """The runs of a package; where two sets of its sample have one command, with that which the list's order means."""
+        kept = len(self.faults)
+        for last_first in (False, True, False):
+            del self.faults[kept:]
+            runs = runs_of(self.workspace, self.asked, package, functools.partial(self.sample, package, version, last_first))
+            if version is None or self.asked.strength is None or self.asked.own_handling:
+                break
+            place = (version, self.slots(version)[0], 0)
+            lines = iter(self.whole.splitlines(keepends=True))
+            if all(
+                last_line(command(self.workspace, self.asked, (*place, rank), {0: package}, {0: runs})) in lines
+                for rank in range(len(runs))
+            ):
+                break
+        return runs
+
+    def sample(self, package, version, last_first, choice, sets):
         """Those of the listed sets whose commands the whole list has, and a fault where they miss a pattern, or where one of
-        them shows none that no other does."""
+        them shows none that no other does. With `last_first` the list begins with the last of them."""
         self.choices[package["name"]] = choice
         if version is None or self.asked.own_handling:
             return sets
@@ -496,7 +513,7 @@ class Plan:
                 lines.remove(line)
                 found.append(it)
         if len(set(texts)) < len(texts):
-            found = self.in_order(sets, texts, found)
+            found = self.in_order(sets, texts, found, last_first)
         own = [patterns(choice.settings_of(it), self.asked.strength) for it in found]
         shown = set().union(*own)
         for place, it in enumerate(found):
@@ -506,11 +523,12 @@ class Plan:
         self.faults += [f"in {package['name']} no run shows {min(them)}, which {it} shows" for it, them in missed if them]
         return found
 
-    def in_order(self, sets, texts, found):
+    def in_order(self, sets, texts, found, last_first):
         """Those that were found of the sets with these commands, or as many with the same commands in the order of the list:
         two sets have one command where two candidates have one name."""
+        told = [line for line in self.whole.splitlines(keepends=True) if line in texts]
         same, at = [], 0
-        for line in self.whole.splitlines(keepends=True):
+        for line in told[1:] + told[:1] if last_first else told:
             if line in texts[at:]:
                 at = texts.index(line, at) + 1
                 same.append(sets[at - 1])
