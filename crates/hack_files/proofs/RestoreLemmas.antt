@@ -2,6 +2,7 @@
 use Rattle.std.proofs.Common.{◌≡◌, ◌≢◌, ◌⊎◌, inl, inr, ℕ, suc, zero, ◌+◌, ◌<◌, ◌≤◌, List, [], ◌∷◌, ◌++◌, Some, length, map, take, refl, sym, ◌∙◌, arith, subst, ap, below_more, append-nil, length-append, Bool, true, IsTrue, ◌↔◌}
 use Rattle.std.specs.Prelude.{Contains, slice_index_or}
 use Rattle.std.proofs.lemmas.List.{get_or-map, take_more, take_all, length-map}
+use Rattle.std.proofs.lemmas.List.Elements.{Contains-append_left, Contains-append_right}
 use Rattle.hack_files.specs.declared.restore.Saved.{Saved}
 use Rattle.hack_files.specs.Files.{Change, Contents, KeepsOthers, Makes, MakesOrNot}
 use Rattle.hack_base.specs.Counters.{GrowsBy}
@@ -40,22 +41,10 @@ IsAt files i file = (d : Kept) → slice_index_or files i d ≡ file
 pub is_at : (saved : List Saved) (i : ℕ) (file : Saved) → i < length saved → file ≡ slice_index_or saved i file → IsAt (map kept_file saved) i (kept_file file)
 is_at saved i file lt is d = get_or-map kept_file saved i file d lt ∙ ap kept_file (sym is)
 
-contains_more : (xs : List (List ℕ)) (x y : List ℕ) → Contains xs y → Contains (x ∷ xs) y
-contains_more xs x y h = (suc h.0, omega (arith, h.1), h.2)
-
-contains_left : (xs ys : List (List ℕ)) (y : List ℕ) → Contains xs y → Contains (xs ++ ys) y
-contains_left [] ys y h = absurd (omega (arith, h.1))
-contains_left (x ∷ xs) ys y (zero, lt, is) = (zero, omega arith, is)
-contains_left (x ∷ xs) ys y (suc j, lt, is) = contains_more (xs ++ ys) x y (contains_left xs ys y (j, omega (arith, lt), is))
-
-contains_last : (xs : List (List ℕ)) (x : List ℕ) → Contains (xs ++ x ∷ []) x
-contains_last [] x = (zero, omega arith, refl)
-contains_last (y ∷ xs) x = contains_more (xs ++ x ∷ []) y x (contains_last xs x)
-
 contains_path : (files : List Kept) (j : ℕ) (d : Kept) (q : List ℕ) → j < length files → q ≡ path_at files j d → Contains (paths files) q
 contains_path [] j d q lt is = absurd (omega (arith, lt))
 contains_path (x ∷ xs) zero d q lt is = (zero, omega arith, sym is)
-contains_path (x ∷ xs) (suc j) d q lt is = contains_more (paths xs) x.path q (contains_path xs j d q (omega (arith, lt)) is)
+contains_path (x ∷ xs) (suc j) d q lt is = Contains-append_right (x.path ∷ []) (paths xs) q (contains_path xs j d q (omega (arith, lt)) is)
 
 -- an earlier file that is back stays back when this one is written
 still : (files : List Kept) (i j : ℕ) (file : Kept) (spoilt : List (List ℕ)) (mid new : Contents) → AreDistinct files → i < length files → IsAt files i file
@@ -96,7 +85,7 @@ pub back_refused : (R S : List (List ℕ) → Type 0) (tells : Type 0) (files : 
     → BackBut R tells files i failures old mid → BackBut S tells files (i + 1) (failures + 1) old new
 back_refused R S tells files i failures file old mid new lt at more keeps b =
     let spoilt : List (List ℕ) = b.spoilt ++ file.path ∷ [] in
-    let also : (j : ℕ) → IsBack files b.spoilt new j → IsBack files spoilt new j = λ j h d within. elim (h d within) [ inl bad ↦ inl (contains_left b.spoilt (file.path ∷ []) _ bad) | inr good ↦ inr good ] in
+    let also : (j : ℕ) → IsBack files b.spoilt new j → IsBack files spoilt new j = λ j h d within. elim (h d within) [ inl bad ↦ inl (Contains-append_left b.spoilt (file.path ∷ []) _ bad) | inr good ↦ inr good ] in
     record {
       spoilt = spoilt;
       refused = more b.spoilt b.refused;
@@ -105,7 +94,7 @@ back_refused R S tells files i failures file old mid new lt at more keeps b =
           let to = b.back t distinct in
           record {
             held = below_more _ _ (λ j h. also j (still files i j file b.spoilt mid new distinct lt at (keeps t) h (to.held j h)))
-                (λ d within. let P : Kept → Type 0 = λ f. Contains spoilt f.path ⊎ (new f.path ≡ Some f.bytes) in subst P (sym (at d)) (inl (contains_last b.spoilt file.path)));
+                (λ d within. let P : Kept → Type 0 = λ f. Contains spoilt f.path ⊎ (new f.path ≡ Some f.bytes) in subst P (sym (at d)) (inl (Contains-append_right b.spoilt (file.path ∷ []) file.path (zero, omega arith, refl))));
             others = others_more files i file old mid new lt at (keeps t) to.others;
           };
     }

@@ -93,16 +93,12 @@ fn is_plain(held: &Metadata) -> bool {
     held.is_file() && held.nlink() == 1
 }
 
-// A new file that can replace the one at the target, which is no link. None where what is there
-// can't be replaced.
+// A new file that can replace the plain file at the target. None where it can't be made.
 fn successor_of<R: rt::Files + AllocGlobal>(
     rt: &R,
     target: PathBuf,
     held: &Metadata,
 ) -> Option<Successor<R::File>> {
-    if !is_plain(held) {
-        return None;
-    }
     // A file that may not be written is not to be replaced either.
     let mut options = OpenOptions::new();
     let _writable = options.write(true).open(rt, target.as_path()).ok()?;
@@ -114,10 +110,13 @@ fn successor_of<R: rt::Files + AllocGlobal>(
     Some(Successor { file, name, target })
 }
 
-// The same, after all links at the path are followed.
+// The same, after all links at the path are followed. None also where no plain file is there.
 fn linked_at<R: rt::Files + AllocGlobal>(rt: &R, path: &str) -> Option<Successor<R::File>> {
     let target = fs::canonicalize(rt, path).ok()?;
     let held = fs::metadata(rt, target.as_path()).ok()?;
+    if !is_plain(&held) {
+        return None;
+    }
     successor_of(rt, target, &held)
 }
 
@@ -165,9 +164,22 @@ fn read_file<R: rt::Files>(rt: &R, alloc: Global, path: &str) -> io::Result<Vec<
     Ok(bytes)
 }
 
+// Whether nothing is at a path: its folder, or what its folder is in, may be none.
+fn is_absence(error: &io::Error) -> bool {
+    error.kind() == ErrorKind::NotFound || error.kind() == ErrorKind::NotADirectory
+}
+
+fn exists<R: rt::Files>(rt: &R, path: &str) -> io::Result<bool> {
+    match fs::metadata(rt, path) {
+        Ok(_) => Ok(true),
+        Err(e) if is_absence(&e) => Ok(false),
+        Err(e) => Err(e),
+    }
+}
+
 fn remove_file<R: rt::Files>(rt: &R, path: &str) -> io::Result<()> {
     match fs::remove_file(rt, path) {
-        Err(e) if e.kind() == ErrorKind::NotFound => Ok(()),
+        Err(e) if is_absence(&e) => Ok(()),
         outcome => outcome,
     }
 }
@@ -232,7 +244,7 @@ impl<R: rt::Files + AllocGlobal + Drop> Files for Disk<R> {
     }
 
     fn exists(&mut self, path: &str) -> Result<bool, FileFault> {
-        count_outcome(fs::exists(&self.rt, path), &mut self.failures)
+        count_outcome(exists(&self.rt, path), &mut self.failures)
     }
 
     fn remove(&mut self, path: &str) -> Result<(), FileFault> {
