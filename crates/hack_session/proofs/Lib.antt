@@ -3,7 +3,8 @@ pub mod ScheduleLemmas
 pub mod CursorLemmas
 pub mod CallLemmas
 pub mod RunLemmas
-pub mod ShownLemmas
+pub mod EffectLemmas
+pub mod StepLemmas
 pub mod ToolchainLemmas
 pub mod Headline
 pub mod ListLemmas

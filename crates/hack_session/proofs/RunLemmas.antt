@@ -1,36 +1,30 @@
 -- Commands that follow commands, and what they amount to as a step.
-use Rattle.std.proofs.Common.{◌≡◌, ◌≢◌, inl, inr, ℕ, ◌<◌, List, [], ◌∷◌, ◌++◌, refl, sym, ◌∙◌, ap, subst, append_assoc, append-nil, arith, rules, Bool, true, false, Result, Ok, Err, Option, Some, map, length, get_or, zero, suc, if◌then◌else◌}
-use Rattle.std.specs.Prelude.{All, IfSome, string_bytes, slice_get, ◌==◌}
-use Rattle.std.proofs.Common.{String, Global}
-use Rattle.std.proofs.lemmas.Option.{slice_get_cases}
-use Rattle.hack_versions.specs.declared.version.Version.{Version}
-use Rattle.hack_plan.specs.declared.places.PlanEntry.{PlanEntry}
+use Rattle.std.proofs.Common.{◌≡◌, ◌≢◌, inl, inr, ◌+◌, ℕ, List, [], ◌∷◌, ◌++◌, refl, sym, ◌∙◌, ap, subst, append_assoc, append-nil, arith, true, false, Result, Ok, Err}
 use Rattle.hack_process.specs.declared.fault.ProcessFault.{ProcessFault}
 use Rattle.hack_process.specs.declared.fault.ProcessFault.TheVariants.{Memory, EmptyProgram, NeverExecuted, NotText, Failed as ByFailure}
-use Rattle.hack_process.specs.CommandTexts.{Command}
 use Rattle.hack_process.specs.Calls.{Asked, Call}
-use Rattle.hack_process.specs.Commands.{asked_of}
 use Rattle.hack_plan.specs.View.{PlanView}
-use Rattle.hack_plan.specs.Commands.{clean_command, command_of_entry, chosen_package_at, toolchain_of}
 use Rattle.hack_session.specs.declared.step.Step.{Step}
 use Rattle.hack_session.specs.declared.step.Outcome.{Outcome}
 use Rattle.hack_session.specs.declared.step.Outcome.TheVariants.{Passed, Failed}
 use Rattle.hack_session.specs.declared.step.Handed.{Handed}
-use Rattle.hack_session.specs.Histories.{HasPassed}
-use Rattle.hack_session.specs.Toolchains.{addition_of, toolchain_name, trial_of}
-use Rattle.hack_session.specs.StepCalls.{Succeeds, Fails, CallsUpToFailure, MayCall, Breaks, Installs, BreaksInstall, EndsOrIsCut, TriesAndAdds, MakesCalls, run_commands, own_asked, cleaning_asked, Exactly, IsCutShort, Performs, PerformsAll, HasPerformed}
+use Rattle.hack_session.specs.StepCalls.{Succeeds, Fails, CallsUpToFailure, MayCall, Breaks, Installs, BreaksInstall, MakesCalls, Exactly, IsCutShort, Performs, PerformsAll}
 use Rattle.hack_base.specs.Counters.{GrowsBy}
-use Rattle.hack_session.specs.InternalStepCalls.{is_memory}
-use Rattle.hack_session.specs.InternalStepResults.{CallsInOrder, InstallsVersion, MakesStepCalls}
+use Rattle.hack_session.specs.StepEffects.{is_memory}
+use Rattle.hack_session.proofs.CallLemmas.{CallsInOrder, EndsOrIsCut, TriesAndAdds}
 
-pub comes_fault : (T : Type 0) (fault : ProcessFault) (A B : Outcome → Type 0) (C D : Type 0) → (A Failed → B Failed) → (C → D) → EndsOrIsCut {T = T} A C (Err fault) → EndsOrIsCut {T = T} B D (Err fault)
+-- the calls of a step, or those up to where memory was refused
+abbrev pub MakesStepCalls : {T : Type 0} → PlanView → Step → Result T ProcessFault → List Call → Type 0
+MakesStepCalls plan step r calls = EndsOrIsCut (Exactly plan step calls) (IsCutShort plan step calls) r
+
+comes_fault : (T : Type 0) (fault : ProcessFault) (A B : Outcome → Type 0) (C D : Type 0) → (A Failed → B Failed) → (C → D) → EndsOrIsCut {T = T} A C (Err fault) → EndsOrIsCut {T = T} B D (Err fault)
 comes_fault T Memory A B C D f g h = g h
 comes_fault T EmptyProgram A B C D f g h = f h
 comes_fault T (NeverExecuted text) A B C D f g h = f h
 comes_fault T (NotText text) A B C D f g h = f h
 comes_fault T (ByFailure failure) A B C D f g h = f h
 
-pub comes_map : (T : Type 0) (r : Result T ProcessFault) (A B : Outcome → Type 0) (C D : Type 0) → ((o : Outcome) → A o → B o) → (C → D) → EndsOrIsCut A C r → EndsOrIsCut B D r
+comes_map : (T : Type 0) (r : Result T ProcessFault) (A B : Outcome → Type 0) (C D : Type 0) → ((o : Outcome) → A o → B o) → (C → D) → EndsOrIsCut A C r → EndsOrIsCut B D r
 comes_map T (Ok d) A B C D f g h = f Passed h
 comes_map T (Err fault) A B C D f g h = comes_fault T fault A B C D (f Failed) g h
 
@@ -75,29 +69,10 @@ run_stops S T fault first more a b p =
     as_t (NotText text) s x = x
     as_t (ByFailure failure) s x = x
 
-pub run_plain : (plan : PlanView) (o : Option PlanEntry) (q : PlanEntry) (own : Command) → o ≡ Some q → own ≡ command_of_entry plan q → plan.call.clean_per_run ≡ false → asked_of false own ∷ [] ≡ run_commands plan o
-run_plain plan o q own e f b = ap (λ (c : Command). asked_of false c ∷ []) f ∙ sym (ap (run_commands plan) e ∙ at_flag plan q plan.call.clean_per_run b)
-  where
-    at_flag : (plan : PlanView) (q : PlanEntry) (flag : Bool) → flag ≡ false → (if flag then cleaning_asked plan q ∷ own_asked plan q ∷ [] else own_asked plan q ∷ []) ≡ own_asked plan q ∷ []
-    at_flag plan q true b = absurd (cc)
-    at_flag plan q false b = refl
-
-pub run_cleaned : (plan : PlanView) (o : Option PlanEntry) (q : PlanEntry) (own clean : Command) → o ≡ Some q → own ≡ command_of_entry plan q → IfSome o (λ x. clean ≡ clean_command plan.call (chosen_package_at plan.packages x.package)) → plan.call.clean_per_run ≡ true → asked_of false clean ∷ asked_of false own ∷ [] ≡ run_commands plan o
-run_cleaned plan o q own clean e f g b =
-    let h : clean ≡ clean_command plan.call (chosen_package_at plan.packages q.package) = subst (λ (x : Option PlanEntry). IfSome x (λ y. clean ≡ clean_command plan.call (chosen_package_at plan.packages y.package))) e g in
-    ap (λ (c : Command). asked_of false c ∷ asked_of false own ∷ []) h ∙ ap (λ (c : Command). cleaning_asked plan q ∷ asked_of false c ∷ []) f ∙ sym (ap (run_commands plan) e ∙ at_flag plan q plan.call.clean_per_run b)
-  where
-    at_flag : (plan : PlanView) (q : PlanEntry) (flag : Bool) → flag ≡ true → (if flag then cleaning_asked plan q ∷ own_asked plan q ∷ [] else own_asked plan q ∷ []) ≡ cleaning_asked plan q ∷ own_asked plan q ∷ []
-    at_flag plan q false b = absurd (cc)
-    at_flag plan q true b = refl
-
-pub ran_as : (T : Type 0) (r : Result T ProcessFault) (cs ds : List Asked) (a b : List Call) → cs ≡ ds → MakesCalls (CallsInOrder cs r) a b → MakesCalls (CallsInOrder ds r) a b
-ran_as T r cs ds a b e p = subst (λ (l : List Asked). MakesCalls (CallsInOrder l r) a b) e p
-
 pub tried_ok : (T : Type 0) (done : T) (try add : Asked) (a b : List Call) → MakesCalls (CallsInOrder {T = T} (try ∷ []) (Ok done)) a b → MakesCalls (TriesAndAdds {T = T} [] try add (Ok done)) a b
 tried_ok T done try add a b p = made_as (CallsInOrder {T = T} (try ∷ []) (Ok done)) (TriesAndAdds {T = T} [] try add (Ok done)) a b (λ s x. inl (followed try s x, refl)) p
 
-pub is_cut : (T : Type 0) (fault : ProcessFault) (A B : Outcome → Type 0) (C D : Type 0) → true ≡ is_memory fault → (C → D) → EndsOrIsCut {T = T} A C (Err fault) → EndsOrIsCut {T = T} B D (Err fault)
+is_cut : (T : Type 0) (fault : ProcessFault) (A B : Outcome → Type 0) (C D : Type 0) → true ≡ is_memory fault → (C → D) → EndsOrIsCut {T = T} A C (Err fault) → EndsOrIsCut {T = T} B D (Err fault)
 is_cut T Memory A B C D e g h = g h
 is_cut T EmptyProgram A B C D e g h = absurd (cc)
 is_cut T (NeverExecuted text) A B C D e g h = absurd (cc)
@@ -115,7 +90,7 @@ not_memory (NeverExecuted text) e = λ h. cc
 not_memory (NotText text) e = λ h. cc
 not_memory (ByFailure failure) e = λ h. cc
 
-pub not_cut : (T : Type 0) (fault : ProcessFault) (A : Outcome → Type 0) (C : Type 0) → fault ≢ Memory → EndsOrIsCut {T = T} A C (Err fault) → A Failed
+not_cut : (T : Type 0) (fault : ProcessFault) (A : Outcome → Type 0) (C : Type 0) → fault ≢ Memory → EndsOrIsCut {T = T} A C (Err fault) → A Failed
 not_cut T Memory A C ne h = absurd (ne refl)
 not_cut T EmptyProgram A C ne h = h
 not_cut T (NeverExecuted text) A C ne h = h
@@ -129,25 +104,14 @@ tried_then S T fault r try add a b c ne p q =
     (λ o h. inr (s, u, refl, failed try s (not_cut S fault (CallsUpToFailure (try ∷ []) s) (Breaks (try ∷ []) s) ne x), h))
     (λ h. inr (s, u, refl, failed try s (not_cut S fault (CallsUpToFailure (try ∷ []) s) (Breaks (try ∷ []) s) ne x), h)) y) p q
 
--- targets are given: the toolchain is just added
-pub with_targets : (T : Type 0) (r : Result T ProcessFault) (xs : List (String Global)) (try add : Asked) (a b : List Call) → false ≡ (length xs == 0) → MakesCalls (CallsInOrder (add ∷ []) r) a b → MakesCalls (TriesAndAdds (map string_bytes xs) try add r) a b
-with_targets T r [] try add a b e p = absurd (cc)
-with_targets T r (x ∷ xs) try add a b e p = p
-
-pub without_targets : (T : Type 0) (r : Result T ProcessFault) (xs : List (String Global)) (try add : Asked) (a b : List Call) → true ≡ (length xs == 0) → MakesCalls (TriesAndAdds [] try add r) a b → MakesCalls (TriesAndAdds (map string_bytes xs) try add r) a b
-without_targets T r [] try add a b e p = p
-without_targets T r (x ∷ xs) try add a b e p = absurd (search rules)
-
-abbrev pub Sure : {T : Type 0} → List ℕ → List ℕ → List (List ℕ) → Result T ProcessFault → List Call → Type 0
-Sure rustup name targets r calls = TriesAndAdds targets (asked_of true (trial_of rustup (toolchain_name name))) (asked_of false (addition_of rustup (toolchain_name name) targets)) r calls
-
-pub install_as : (T : Type 0) (r : Result T ProcessFault) (plan : PlanView) (o : Option Version) (v : Version) (rustup name : List ℕ) (targets : List (List ℕ)) (a b : List Call)
-    → Some v ≡ o → rustup ≡ plan.call.rustup → name ≡ toolchain_of v → targets ≡ plan.call.targets → MakesCalls (Sure rustup name targets r) a b → MakesCalls (InstallsVersion plan o r) a b
-install_as T r plan o v rustup name targets a b e f g h p =
-    subst (λ (x : Option Version). MakesCalls (InstallsVersion plan x r) a b) e
-    (subst (λ (x : List ℕ). MakesCalls (Sure x (toolchain_of v) plan.call.targets r) a b) f
-    (subst (λ (x : List ℕ). MakesCalls (Sure rustup x plan.call.targets r) a b) g
-    (subst (λ (x : List (List ℕ)). MakesCalls (Sure rustup name x r) a b) h p)))
+-- new is old with the calls of the steps after it, and the count of steps that were cut short
+-- because memory was refused grew by those
+pub record HasPerformed (plan : PlanView) (steps : List Handed) (old new : List Call) (before now : ℕ) : Type 0 where
+  pub made : List Call
+  pub cut : ℕ
+  pub grown : new ≡ old ++ made
+  pub counted : GrowsBy cut before now
+  pub performed : PerformsAll plan steps made cut
 
 one_step : (plan : PlanView) (h : Handed) (calls : List Call) (cut : ℕ) → Performs plan h calls cut → PerformsAll plan (h ∷ []) calls cut
 one_step plan h calls cut p = (calls, [], cut, 0, sym (append-nil calls), omega arith, p, (refl, refl))
@@ -164,7 +128,7 @@ step_failed T fault plan step a b n ne p = record {
   performed = one_step plan (record { step = step; outcome = Failed }) p.made 0 (inl (not_cut T fault (Exactly plan step p.made) (IsCutShort plan step p.made) ne p.such, refl));
 }
 
-pub cut_of : (T : Type 0) (fault : ProcessFault) (A : Outcome → Type 0) (C : Type 0) → true ≡ is_memory fault → EndsOrIsCut {T = T} A C (Err fault) → C
+cut_of : (T : Type 0) (fault : ProcessFault) (A : Outcome → Type 0) (C : Type 0) → true ≡ is_memory fault → EndsOrIsCut {T = T} A C (Err fault) → C
 cut_of T Memory A C e h = h
 cut_of T EmptyProgram A C e h = absurd (cc)
 cut_of T (NeverExecuted text) A C e h = absurd (cc)
@@ -180,29 +144,27 @@ step_cut T fault plan step a b n m e grows p = record {
   performed = one_step plan (record { step = step; outcome = Failed }) p.made 1 (inr (cut_of T fault (Exactly plan step p.made) (IsCutShort plan step p.made) e p.such, refl, refl));
 }
 
-no_call : (plan : PlanView) (q : PlanEntry) → Breaks (run_commands plan (Some q)) []
-no_call plan q = go plan.call.clean_per_run
+-- ---- steps, one after the other
+
+grows_more : (k l a b c : ℕ) → GrowsBy k a b → GrowsBy l b c → GrowsBy (k + l) a c
+grows_more k l a b c p q h = let e = p h in let f = q (omega (arith, e)) in omega (arith, e, f)
+
+performs-append : (plan : PlanView) (steps more : List Handed) (calls next : List Call) (cut later : ℕ) → PerformsAll plan steps calls cut → PerformsAll plan more next later → PerformsAll plan (steps ++ more) (calls ++ next) (cut + later)
+performs-append plan [] more calls next cut later p q = rw (p.0, p.1) (rw zero_plus q)
   where
-    go : (flag : Bool) → Breaks (if flag then cleaning_asked plan q ∷ own_asked plan q ∷ [] else own_asked plan q ∷ []) []
-    go true = inl (inl refl)
-    go false = inl (inl refl)
+    zero_plus : 0 + later ≡ later
+    zero_plus = omega arith
+performs-append plan (h ∷ steps) more calls next cut later p q =
+    (p.0, p.1 ++ next, p.2, p.3 + later, ap (λ (cs : List Call). cs ++ next) p.4 ∙ append_assoc p.0 p.1 next, omega (arith, p.5), p.6, performs-append plan steps more p.1 next p.3 later p.7 q)
 
--- memory was refused before the first command of a run
-pub cut_run : (T : Type 0) (r : Result T ProcessFault) (plan : PlanView) (place : ℕ) (calls : List Call) → place < length plan.entries → r ≡ Err Memory → MakesCalls (CallsInOrder (run_commands plan (slice_get plan.entries place)) r) calls calls
-cut_run T r plan place calls lt e =
-    let none : Breaks (run_commands plan (slice_get plan.entries place)) [] = elim (slice_get_cases plan.entries place).1 [
-      | inl w ↦ subst (λ (o : Option PlanEntry). Breaks (run_commands plan o) []) (sym w.2) (no_call plan w.0)
-      | inr w ↦ absurd (omega arith)
-    ] in
-    subst (λ (s : Result T ProcessFault). MakesCalls (CallsInOrder (run_commands plan (slice_get plan.entries place)) s) calls calls) (sym e) (record { made = []; grown = sym (append-nil calls); such = none })
+pub performed_none : (plan : PlanView) (calls : List Call) (n : ℕ) → HasPerformed plan [] calls calls n n
+performed_none plan calls n = record { made = []; cut = 0; grown = sym (append-nil calls); counted = λ h. omega arith; performed = (refl, refl) }
 
-pub all_passed : (step : Step) → All HasPassed (record { step = step; outcome = Passed } ∷ [])
-all_passed step = λ k d lt. go k d lt
-  where
-    go : (k : ℕ) (d : Handed) → k < length {A = Handed} (record { step = step; outcome = Passed } ∷ []) → HasPassed (get_or (record { step = step; outcome = Passed } ∷ []) k d)
-    go zero d lt = refl
-    go (suc k) d lt = absurd (omega arith)
-
--- a step that failed isn't among steps that all passed
-pub not_passed : {X : Type 0} (step : Step) → All HasPassed (record { step = step; outcome = Failed } ∷ []) → X
-not_passed step all = let e : Failed ≡ Passed = all 0 (record { step = step; outcome = Failed }) (omega arith) in cc
+pub performed_more : (plan : PlanView) (steps more : List Handed) (a b c : List Call) (x y z : ℕ) → HasPerformed plan steps a b x y → HasPerformed plan more b c y z → HasPerformed plan (steps ++ more) a c x z
+performed_more plan steps more a b c x y z p q = record {
+  made = p.made ++ q.made;
+  cut = p.cut + q.cut;
+  grown = q.grown ∙ ap (λ (l : List Call). l ++ q.made) p.grown ∙ append_assoc a p.made q.made;
+  counted = grows_more p.cut q.cut x y z p.counted q.counted;
+  performed = performs-append plan steps more p.made q.made p.cut q.cut p.performed q.performed;
+}

@@ -5,15 +5,13 @@ pub mod Handouts
 pub mod References
 pub mod Toolchains
 pub mod StepCalls
-pub mod JoinedCalls
 pub mod Statuses
 pub mod StepOutput
-pub mod JoinedOutput
+pub mod StepEffects
+pub mod JoinedSteps
 pub mod ListLines
 pub mod JoinedLists
 pub mod Reports
 pub mod Suspects
 pub mod SuspectNotes
 pub mod Internal
-pub mod InternalStepCalls
-pub mod InternalStepResults

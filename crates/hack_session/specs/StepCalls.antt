@@ -1,14 +1,9 @@
 -- What a step asks of a caller.
-use Rattle.hack_base.specs.Counters.{GrowsBy}
 use Rattle.std.specs.Option.{option_map_or}
-use Rattle.std.specs.Prelude.{◌≡◌, ◌≢◌, ◌⊎◌, ◌+◌, ℕ, true, false, List, [], ◌∷◌, ◌++◌, Result, Ok, Err, Option, Some, None, option_and_then, slice_get, IsSome, IsSomeAnd, if◌then◌else◌}
-use Rattle.hack_process.specs.declared.fault.ProcessFault.{ProcessFault}
-use Rattle.hack_process.specs.declared.fault.ProcessFault.TheVariants.{Memory, EmptyProgram, NeverExecuted, NotText, Failed as ByFailure}
+use Rattle.std.specs.Prelude.{◌≡◌, ◌≢◌, ◌⊎◌, ◌+◌, ℕ, true, false, List, [], ◌∷◌, ◌++◌, Option, Some, None, option_and_then, slice_get, IsSomeAnd, if◌then◌else◌}
 use Rattle.hack_process.specs.Calls.{Asked, Call, IsSuccess}
 use Rattle.hack_process.specs.declared.caller.End.{End}
-use Rattle.hack_process.specs.declared.caller.Caller.{Ghosts as Calling}
 use Rattle.hack_process.specs.Commands.{asked_of}
-use Rattle.hack_term.specs.declared.term.Term.{Term}
 use Rattle.hack_versions.specs.declared.version.Version.{Version}
 use Rattle.hack_plan.specs.declared.places.PlanEntry.{PlanEntry}
 use Rattle.hack_plan.specs.declared.parts.PlanVersion.{PlanVersion}
@@ -128,28 +123,11 @@ IsCutShort plan (Prepare (Clean v)) calls = Breaks (asked_of false (clean_comman
 IsCutShort plan (Skip place) calls = calls ≡ []
 IsCutShort plan (Run place) calls = Breaks (run_commands plan (slice_get plan.entries place)) calls
 
--- by what commands returned: they ended with an outcome, or memory was refused
-abbrev pub EndsOrIsCut : {T : Type 0} → (Outcome → Type 0) → Type 0 → Result T ProcessFault → Type 0
-EndsOrIsCut ended cut (Ok done) = ended Passed
-EndsOrIsCut ended cut (Err Memory) = cut
-EndsOrIsCut ended cut (Err EmptyProgram) = ended Failed
-EndsOrIsCut ended cut (Err (NeverExecuted text)) = ended Failed
-EndsOrIsCut ended cut (Err (NotText text)) = ended Failed
-EndsOrIsCut ended cut (Err (ByFailure failure)) = ended Failed
-
--- a toolchain is tried and added, or that is cut short
-abbrev pub TriesAndAdds : {T : Type 0} → List (List ℕ) → Asked → Asked → Result T ProcessFault → List Call → Type 0
-TriesAndAdds targets try add r calls = EndsOrIsCut (Installs targets try add calls) (BreaksInstall targets try add calls) r
-
 -- new is old with such calls after it
 pub record MakesCalls (P : List Call → Type 0) (old new : List Call) : Type 0 where
   pub made : List Call
   pub grown : new ≡ old ++ made
   pub such : P made
-
--- a caller made such calls, where those are known
-abbrev pub MakesCallsOn : {C : Type 0} → Calling C → (List Call → Type 0) → C → C → Type 0
-MakesCallsOn c P old new = c.tells → MakesCalls P (c.calls old) (c.calls new)
 
 -- the calls of a step, and whether it was cut short: no, and they are just its own; or memory was
 -- refused in it, and it counts as one
@@ -164,20 +142,3 @@ PerformsAll plan [] calls cut = (calls ≡ []) × (cut ≡ 0)
 PerformsAll plan (h ∷ steps) calls cut =
     (first rest : List Call) × (here : ℕ) × (later : ℕ) × (calls ≡ first ++ rest) × (cut ≡ here + later)
     × Performs plan h first here × PerformsAll plan steps rest later
-
--- new is old with the calls of the steps after it, and the count of steps that were cut short
--- because memory was refused grew by those
-pub record HasPerformed (plan : PlanView) (steps : List Handed) (old new : List Call) (before now : ℕ) : Type 0 where
-  pub made : List Call
-  pub cut : ℕ
-  pub grown : new ≡ old ++ made
-  pub counted : GrowsBy cut before now
-  pub performed : PerformsAll plan steps made cut
-
--- a failure was reported: an error line was printed, or an error is kept for the last line
-abbrev pub HasTold : Term → Option ProcessFault → Type 0
-HasTold term fault = (term.error ≡ true) ⊎ IsSome fault
-
--- nothing was reported: the terminal notes just what it did, and just the same error is kept
-abbrev pub IsQuiet : Term → Term → Option ProcessFault → Option ProcessFault → Type 0
-IsQuiet term later fault after = (later ≡ term) × (after ≡ fault)

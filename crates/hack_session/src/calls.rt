@@ -1,11 +1,11 @@
 //! Commands that are run through a caller, and what the caller was asked.
 
-ghost use Rattle.std.specs.Prelude.{◌≡◌, ◌∷◌, [], true, false, not};
+ghost use Rattle.std.specs.Prelude.{◌≡◌, true, false, not};
+ghost use Rattle.hack_process.specs.CommandTexts.{text_of};
 ghost use Rattle.hack_process.specs.Commands.{asked_of, command_of};
-ghost use Rattle.hack_session.specs.StepCalls.{MakesCallsOn};
-ghost use Rattle.hack_session.specs.InternalStepResults.{CallsInOrder};
-ghost use Rattle.hack_session.specs.InternalStepCalls.{is_memory as is_want};
-ghost use Rattle.hack_session.specs.StepOutput.{IsSameScreen, PrintsOn, group_shown, manner_on};
+ghost use Rattle.hack_session.specs.StepEffects.{ComesTo, DoesTask, is_memory as is_want};
+ghost use Rattle.hack_session.specs.StepEffects.{scene_of, task_of};
+ghost use Rattle.hack_session.specs.StepOutput.{IsSameScreen, group_said, manner_on};
 
 use crate::screen::Screen;
 use hack_base::writes::Sink;
@@ -21,8 +21,9 @@ pub(crate) fn call<C: Caller>(
     print_output: bool,
     dir: &str,
 ) -> Result<(), ProcessFault>
-    ensures { MakesCallsOn C.Caller (CallsInOrder
-        (asked_of (not print_output) (command_of command.now) ∷ []) result) caller.old caller.new }
+    ensures { ComesTo C.tells (asked_of (not print_output) (command_of command.now))
+        (text_of true dir.now (command_of command.now)) result
+        (C.calls caller.old) (C.calls caller.new) }
 {
     if print_output {
         return command.run(alloc, caller, dir);
@@ -42,10 +43,10 @@ pub(crate) fn call_in_group<C: Caller, O: Sink, E: Sink>(
     text: &str,
     dir: &str,
 ) -> Result<(), ProcessFault>
-    ensures made { MakesCallsOn C.Caller (CallsInOrder
-        (asked_of false (command_of command.now) ∷ []) result) caller.old caller.new }
-    ensures shown { PrintsOn O.Sink E.Sink
-        (λ shown. shown ≡ group_shown (manner_on screen.old) text.now) screen.old screen.new }
+    ensures does { DoesTask C.tells (task_of (group_said (manner_on screen.old) text.now) false
+        dir.now (command_of command.now)) result
+        (scene_of C.Caller O.Sink E.Sink caller.old screen.old)
+        (scene_of C.Caller O.Sink E.Sink caller.new screen.new) }
     ensures screen { IsSameScreen screen.old screen.new }
 {
     let guard = screen.open(text);

@@ -6,7 +6,6 @@ ghost use Rattle.std.specs.Io.KnownBytes.{Appends, Keeps};
 
 use std::alloc::AllocError;
 use std::fmt;
-use std::io::Write;
 
 /// Why a line isn't written.
 #[derive(Clone, Copy, Debug, PartialEq, Eq)]
@@ -54,40 +53,4 @@ pub trait Lines {
     ghost stays_none: { (a : Self) → stays a a };
 
     ghost stays_more: { (a b c : Self) → stays a b → stays b c → stays a c };
-}
-
-/// Lines on a writer.
-#[derive(Drop)]
-pub struct LineWriter<'a, W: Write> {
-    pub out: &'a mut W,
-    /// How many lines could not be written.
-    pub failed: u64,
-}
-
-impl<W: Write> Lines for LineWriter<'_, W> {
-    ghost use Rattle.std.specs.Prelude.{◌≡◌};
-    ghost use Rattle.std.proofs.Common.{◌∙◌, refl};
-
-    ghost contents = { λ w. W.contents w.out.now };
-
-    // A writer may take a part of a text before it fails.
-    ghost whole = { ⊥ };
-
-    ghost failed = { λ w. w.failed };
-
-    ghost stays = { λ a b. a.out.ghost_name ≡ b.out.ghost_name };
-
-    ghost stays_none = { λ a. refl };
-
-    ghost stays_more = { λ a b c p q. p ∙ q };
-
-    fn line<D: fmt::Display + Drop>(&mut self, text: D) -> Result<(), fmt::Error> {
-        match self.out.writeln(text) {
-            Ok(()) => Ok(()),
-            Err(_) => {
-                self.failed = self.failed.saturating_add(1);
-                Err(fmt::Error)
-            }
-        }
-    }
 }

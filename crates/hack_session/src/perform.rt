@@ -1,19 +1,16 @@
 //! The steps of a plan, performed by commands.
 
-ghost use Rattle.std.specs.Prelude.{◌≡◌, ◌<◌, ◌∷◌, [], IfOk, None, Some, codes};
-ghost use Rattle.std.specs.Prelude.{false, length, option_map, slice_get, string_bytes};
-ghost use Rattle.hack_process.specs.Commands.{asked_of, command_of};
+ghost use Rattle.std.specs.Prelude.{◌≡◌, ◌<◌, IfOk, IsSomeAnd, None, length};
+ghost use Rattle.std.specs.Prelude.{option_map, slice_get, string_bytes};
+ghost use Rattle.hack_process.specs.Commands.{command_of};
 ghost use Rattle.hack_plan.specs.Commands.{clean_command, command_of_entry, name_in};
 ghost use Rattle.hack_plan.specs.Commands.{chosen_package_at};
 ghost use Rattle.hack_session.specs.Histories.{IsStepOf};
-ghost use Rattle.hack_session.specs.StepCalls.{MakesCallsOn, lockfile_commands, number_at};
-ghost use Rattle.hack_session.specs.StepCalls.{run_commands};
-ghost use Rattle.hack_session.specs.StepOutput.{IsSameScreen, PrintsOn, ShowsAddition};
-ghost use Rattle.hack_session.specs.StepOutput.{addition_parts, cleaning_shown, manner_on};
-ghost use Rattle.hack_session.specs.StepOutput.{skip_parts, status_shown};
-ghost use Rattle.hack_session.specs.InternalStepResults.{CallsInOrder, InstallsVersion};
-ghost use Rattle.hack_session.specs.InternalStepResults.{MakesStepCalls, ShowsAsFar, ShowsParts};
-ghost use Rattle.hack_session.specs.InternalStepResults.{ShowsStepParts};
+ghost use Rattle.hack_session.specs.StepCalls.{number_at};
+ghost use Rattle.hack_session.specs.StepEffects.{DoesTask, DoesTasks, EnsuresToolchain, Performed};
+ghost use Rattle.hack_session.specs.StepEffects.{Runs, Skips, cleaning_task, lockfile_tasks};
+ghost use Rattle.hack_session.specs.StepEffects.{own_task, scene_of};
+ghost use Rattle.hack_session.specs.StepOutput.{IsSameScreen, Streams, manner_on, streams_of};
 ghost use Rattle.hack_session.specs.Statuses.{place_status, told_name as name_told};
 
 use crate::calls::{call, call_in_group};
@@ -36,10 +33,9 @@ pub(crate) fn perform<C: Caller, O: Sink, E: Sink>(
     screen: &mut Screen<'_, O, E>,
 ) -> Result<(), ProcessFault>
     requires { IsStepOf plan.now step }
-    ensures made { MakesCallsOn C.Caller
-        (MakesStepCalls plan.now step result) caller.old caller.new }
-    ensures shown { PrintsOn O.Sink E.Sink
-        (ShowsStepParts (manner_on screen.old) plan.now step result) screen.old screen.new }
+    ensures does { Performed C.tells (manner_on screen.old) plan.now step result
+        (scene_of C.Caller O.Sink E.Sink caller.old screen.old)
+        (scene_of C.Caller O.Sink E.Sink caller.new screen.new) }
     ensures screen { IsSameScreen screen.old screen.new }
 {
     match step {
@@ -50,10 +46,7 @@ pub(crate) fn perform<C: Caller, O: Sink, E: Sink>(
             generate_lockfile(alloc, caller, plan, number(plan, version))
         }
         Step::Prepare(Preparation::Clean(_)) => clean_all(alloc, caller, screen, plan),
-        Step::Skip(place) => match skip(alloc, screen, plan, place) {
-            Ok(()) => Ok(()),
-            Err(AllocError) => Err(ProcessFault::Memory),
-        },
+        Step::Skip(place) => skip(alloc, screen, plan, place),
         Step::Run(place) => run(alloc, caller, screen, plan, place),
     }
 }
@@ -76,10 +69,9 @@ fn install<C: Caller, O: Sink, E: Sink>(
     plan: &Plan,
     number: Option<Version>,
 ) -> Result<(), ProcessFault>
-    ensures made { MakesCallsOn C.Caller
-        (InstallsVersion plan.now number result) caller.old caller.new }
-    ensures shown { PrintsOn O.Sink E.Sink (ShowsAddition (addition_parts (manner_on screen.old)
-        plan.now number) (plan.now.call.targets ≡ []) result) screen.old screen.new }
+    ensures does { EnsuresToolchain C.tells (manner_on screen.old) plan.now number result
+        (scene_of C.Caller O.Sink E.Sink caller.old screen.old)
+        (scene_of C.Caller O.Sink E.Sink caller.new screen.new) }
     ensures screen { IsSameScreen screen.old screen.new }
 {
     match number {
@@ -107,8 +99,9 @@ fn generate_lockfile<C: Caller>(
     plan: &Plan,
     number: Option<Version>,
 ) -> Result<(), ProcessFault>
-    ensures { MakesCallsOn C.Caller
-        (CallsInOrder (lockfile_commands plan.now number) result) caller.old caller.new }
+    ensures { (streams : Streams) → DoesTasks C.tells (lockfile_tasks plan.now number) result
+        (record { calls = C.calls caller.old; streams = streams })
+        (record { calls = C.calls caller.new; streams = streams }) }
 {
     match number {
         Some(number) => {
@@ -126,10 +119,10 @@ fn clean_all<C: Caller, O: Sink, E: Sink>(
     screen: &mut Screen<'_, O, E>,
     plan: &Plan,
 ) -> Result<(), ProcessFault>
-    ensures made { MakesCallsOn C.Caller (CallsInOrder
-        (asked_of false (clean_command plan.now.call None) ∷ []) result) caller.old caller.new }
-    ensures shown { PrintsOn O.Sink E.Sink (ShowsParts (cleaning_shown (manner_on screen.old)
-        plan.now.call.dir (clean_command plan.now.call None) ∷ []) result) screen.old screen.new }
+    ensures does { DoesTask C.tells (cleaning_task (manner_on screen.old) plan.now.call.dir
+        (clean_command plan.now.call None)) result
+        (scene_of C.Caller O.Sink E.Sink caller.old screen.old)
+        (scene_of C.Caller O.Sink E.Sink caller.new screen.new) }
     ensures screen { IsSameScreen screen.old screen.new }
 {
     let command = plan.cleaning(alloc)?;
@@ -144,10 +137,10 @@ fn clean<C: Caller, O: Sink, E: Sink>(
     command: &ProcessBuilder<'_>,
     dir: &str,
 ) -> Result<(), ProcessFault>
-    ensures made { MakesCallsOn C.Caller (CallsInOrder
-        (asked_of false (command_of command.now) ∷ []) result) caller.old caller.new }
-    ensures shown { PrintsOn O.Sink E.Sink (ShowsParts (cleaning_shown (manner_on screen.old)
-        dir.now (command_of command.now) ∷ []) result) screen.old screen.new }
+    ensures does { DoesTask C.tells (cleaning_task (manner_on screen.old) dir.now
+        (command_of command.now)) result
+        (scene_of C.Caller O.Sink E.Sink caller.old screen.old)
+        (scene_of C.Caller O.Sink E.Sink caller.new screen.new) }
     ensures screen { IsSameScreen screen.old screen.new }
 {
     screen.tell_cleaning(alloc, command, dir)?;
@@ -160,10 +153,11 @@ fn skip<O: Sink, E: Sink>(
     screen: &mut Screen<'_, O, E>,
     plan: &Plan,
     place: usize,
-) -> Result<(), AllocError>
+) -> Result<(), ProcessFault>
     requires { place < length plan.now.entries }
-    ensures shown { PrintsOn O.Sink E.Sink (ShowsAsFar (skip_parts (manner_on screen.old)
-        plan.now place (slice_get plan.now.entries place)) result) screen.old screen.new }
+    ensures says { IsSomeAnd (slice_get plan.now.entries place) (λ q.
+        Skips (manner_on screen.old) plan.now place q result
+        (streams_of O.Sink E.Sink screen.old) (streams_of O.Sink E.Sink screen.new)) }
     ensures screen { IsSameScreen screen.old screen.new }
 {
     screen.space(place);
@@ -183,10 +177,10 @@ fn run<C: Caller, O: Sink, E: Sink>(
     place: usize,
 ) -> Result<(), ProcessFault>
     requires { place < length plan.now.entries }
-    ensures made { MakesCallsOn C.Caller (CallsInOrder (run_commands plan.now
-        (slice_get plan.now.entries place)) result) caller.old caller.new }
-    ensures shown { PrintsOn O.Sink E.Sink (ShowsStepParts (manner_on screen.old) plan.now
-        (Step.Run place) result) screen.old screen.new }
+    ensures does { IsSomeAnd (slice_get plan.now.entries place) (λ q.
+        Runs C.tells (manner_on screen.old) plan.now place q result
+        (scene_of C.Caller O.Sink E.Sink caller.old screen.old)
+        (scene_of C.Caller O.Sink E.Sink caller.new screen.new)) }
     ensures screen { IsSameScreen screen.old screen.new }
 {
     screen.space(place);
@@ -214,10 +208,10 @@ fn run_own<C: Caller, O: Sink, E: Sink>(
     requires name { option_map (λ name. name.now) run.now.name
         ≡ name_in (chosen_package_at plan.now.packages run.now.entry.package) }
     requires command { command_of run.now.command ≡ command_of_entry plan.now run.now.entry }
-    ensures made { MakesCallsOn C.Caller (CallsInOrder
-        (asked_of false (command_of run.now.command) ∷ []) result) caller.old caller.new }
-    ensures shown { PrintsOn O.Sink E.Sink (ShowsParts (status_shown (manner_on screen.old)
-        (codes "running") plan.now place run.now.entry ∷ []) result) screen.old screen.new }
+    ensures does { DoesTask C.tells (own_task (manner_on screen.old) plan.now place
+        run.now.entry) result
+        (scene_of C.Caller O.Sink E.Sink caller.old screen.old)
+        (scene_of C.Caller O.Sink E.Sink caller.new screen.new) }
     ensures screen { IsSameScreen screen.old screen.new }
 {
     let text = status(alloc, "running", screen.term.verbose, plan, place, run)?;

@@ -1,13 +1,11 @@
 //! Toolchains that rustup adds.
 
 ghost use Rattle.std.specs.Prelude.{◌≡◌, ◌≢◌, ◌∷◌, [], List, ℕ, IfOk, MatchOption};
-ghost use Rattle.std.specs.Prelude.{false, map, not, string_bytes, true};
-ghost use Rattle.hack_process.specs.Commands.{asked_of, command_of};
-ghost use Rattle.hack_session.specs.StepCalls.{MakesCallsOn, TriesAndAdds};
-ghost use Rattle.hack_session.specs.StepOutput.{IsSameScreen, PrintsOn, ShowsAddition};
-ghost use Rattle.hack_session.specs.StepOutput.{addition_shown, manner_on};
-ghost use Rattle.hack_session.specs.InternalStepResults.{CallsInOrder, ShowsParts};
-ghost use Rattle.hack_session.specs.InternalStepResults.{ShowsPartsOrNone};
+ghost use Rattle.std.specs.Prelude.{false, map, string_bytes, true};
+ghost use Rattle.hack_process.specs.Commands.{command_of};
+ghost use Rattle.hack_session.specs.StepEffects.{DoesTask, TriesFirst, adding_task, scene_of};
+ghost use Rattle.hack_session.specs.StepEffects.{task_of};
+ghost use Rattle.hack_session.specs.StepOutput.{IsSameScreen, manner_on};
 ghost use Rattle.hack_session.specs.Toolchains.{addition_of, toolchain_name, trial_of};
 
 use crate::calls::{call, call_in_group, is_memory};
@@ -29,15 +27,13 @@ pub fn install_toolchain<C: Caller, O: Sink, E: Sink>(
     print_output: bool,
     dir: &str,
 ) -> Result<(), ProcessFault>
-    ensures made { MakesCallsOn C.Caller (TriesAndAdds (map string_bytes target.now)
-        (asked_of true (trial_of rustup.now (toolchain_name toolchain.now)))
-        (asked_of (not print_output) (addition_of rustup.now (toolchain_name toolchain.now)
-        (map string_bytes target.now))) result) caller.old caller.new }
+    ensures does { TriesFirst C.tells (map string_bytes target.now)
+        (task_of [] true dir.now (trial_of rustup.now (toolchain_name toolchain.now)))
+        (adding_task print_output (manner_on screen.old) dir.now (addition_of rustup.now
+        (toolchain_name toolchain.now) (map string_bytes target.now))) result
+        (scene_of C.Caller O.Sink E.Sink caller.old screen.old)
+        (scene_of C.Caller O.Sink E.Sink caller.new screen.new) }
     ensures quiet { print_output ≡ false → screen.new ≡ screen.old }
-    ensures shown { print_output ≡ true → PrintsOn O.Sink E.Sink (ShowsAddition
-        (addition_shown (manner_on screen.old) dir.now (addition_of rustup.now
-        (toolchain_name toolchain.now) (map string_bytes target.now)) ∷ [])
-        (map string_bytes target.now ≡ []) result) screen.old screen.new }
     ensures screen { IsSameScreen screen.old screen.new }
 {
     let commands = commands(alloc, rustup, without_plus(toolchain), target)?;
@@ -82,14 +78,12 @@ fn try_toolchain<C: Caller, O: Sink, E: Sink>(
     print_output: bool,
     dir: &str,
 ) -> Result<(), ProcessFault>
-    ensures made { MakesCallsOn C.Caller (TriesAndAdds []
-        (asked_of true (command_of commands.now.trial))
-        (asked_of (not print_output) (command_of commands.now.add)) result)
-        caller.old caller.new }
+    ensures does { TriesFirst C.tells []
+        (task_of [] true dir.now (command_of commands.now.trial))
+        (adding_task print_output (manner_on screen.old) dir.now (command_of commands.now.add))
+        result (scene_of C.Caller O.Sink E.Sink caller.old screen.old)
+        (scene_of C.Caller O.Sink E.Sink caller.new screen.new) }
     ensures quiet { print_output ≡ false → screen.new ≡ screen.old }
-    ensures shown { print_output ≡ true → PrintsOn O.Sink E.Sink (ShowsPartsOrNone
-        (addition_shown (manner_on screen.old) dir.now (command_of commands.now.add) ∷ [])
-        result) screen.old screen.new }
     ensures screen { IsSameScreen screen.old screen.new }
 {
     match call(alloc, caller, &commands.trial, false, dir) {
@@ -112,12 +106,11 @@ fn add_toolchain<C: Caller, O: Sink, E: Sink>(
     print_output: bool,
     dir: &str,
 ) -> Result<(), ProcessFault>
-    ensures made { MakesCallsOn C.Caller (CallsInOrder
-        (asked_of (not print_output) (command_of add.now) ∷ []) result) caller.old caller.new }
+    ensures does { DoesTask C.tells
+        (adding_task print_output (manner_on screen.old) dir.now (command_of add.now)) result
+        (scene_of C.Caller O.Sink E.Sink caller.old screen.old)
+        (scene_of C.Caller O.Sink E.Sink caller.new screen.new) }
     ensures quiet { print_output ≡ false → screen.new ≡ screen.old }
-    ensures shown { print_output ≡ true → PrintsOn O.Sink E.Sink (ShowsParts
-        (addition_shown (manner_on screen.old) dir.now (command_of add.now) ∷ []) result)
-        screen.old screen.new }
     ensures screen { IsSameScreen screen.old screen.new }
 {
     if !print_output {

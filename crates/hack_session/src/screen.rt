@@ -1,12 +1,12 @@
 //! The lines that are printed while steps are performed. An error of writing them is ignored.
 
-ghost use Rattle.std.specs.Prelude.{◌≡◌, ◌↔◌, [], IfOk, IsSome, MatchResult, Some, option_map};
+ghost use Rattle.std.specs.Prelude.{◌≡◌, ◌↔◌, IfOk, IsSome, OnErr, OnOk, Some, option_map};
 ghost use Rattle.std.specs.Prelude.{string_bytes};
 ghost use Rattle.hack_process.specs.CommandTexts.{text_of};
 ghost use Rattle.hack_process.specs.Commands.{command_of};
-ghost use Rattle.hack_session.specs.StepOutput.{IsSameScreen, PrintsOn, cleaning_shown, manner_on};
-ghost use Rattle.hack_session.specs.StepOutput.{on_err, space_before};
-ghost use Rattle.hack_session.specs.Internal.{end_shown, opening_shown};
+ghost use Rattle.hack_session.specs.StepOutput.{IsSameScreen, Says, SaysOn, cleaning_said};
+ghost use Rattle.hack_session.specs.StepOutput.{end_said, manner_on, opening_said, space_said};
+ghost use Rattle.hack_session.specs.StepOutput.{streams_of};
 ghost use Rattle.hack_session.specs.Statuses.{on_text, running_text, status_text};
 
 use hack_base::writes::{Sink, write_front};
@@ -29,8 +29,8 @@ pub struct Screen<'a, O: Sink, E: Sink> {
 impl<O: Sink, E: Sink> Screen<'_, O, E> {
     /// Writes the empty line before each place but the first, where lines aren't grouped.
     pub(crate) fn space(&mut self, place: usize)
-        ensures shown { PrintsOn O.Sink E.Sink
-            (λ shown. shown ≡ on_err (space_before self.old.log_group place)) self.old self.new }
+        ensures says { SaysOn O.Sink E.Sink (space_said self.old.log_group place)
+            self.old self.new }
         ensures screen { IsSameScreen self.old self.new }
     {
         if place > 0 && self.log_group == LogGroup::None {
@@ -41,8 +41,8 @@ impl<O: Sink, E: Sink> Screen<'_, O, E> {
     /// Opens a group with a text, or writes the text on a line of its own.
     pub(crate) fn open(&mut self, text: &str) -> Option<LogGroupGuard>
         ensures guard { IsSome result ↔ (self.old.log_group ≡ LogGroup.GithubActions) }
-        ensures shown { PrintsOn O.Sink E.Sink
-            (λ shown. shown ≡ opening_shown (manner_on self.old) text.now) self.old self.new }
+        ensures says { Says (opening_said (manner_on self.old) text.now)
+            (streams_of O.Sink E.Sink self.old) (streams_of O.Sink E.Sink self.new) }
         ensures screen { IsSameScreen self.old self.new }
     {
         let (guard, _told) = self.log_group.print(self.term, text, self.out, self.err);
@@ -52,8 +52,7 @@ impl<O: Sink, E: Sink> Screen<'_, O, E> {
     /// Ends a group.
     pub(crate) fn close(&mut self, guard: Option<LogGroupGuard>)
         requires { IsSome guard ↔ (self.now.log_group ≡ LogGroup.GithubActions) }
-        ensures shown { PrintsOn O.Sink E.Sink
-            (λ shown. shown ≡ end_shown (manner_on self.old)) self.old self.new }
+        ensures says { SaysOn O.Sink E.Sink (end_said self.old.log_group) self.old self.new }
         ensures screen { IsSameScreen self.old self.new }
     {
         if let Some(guard) = guard {
@@ -68,9 +67,10 @@ impl<O: Sink, E: Sink> Screen<'_, O, E> {
         command: &ProcessBuilder<'_>,
         dir: &str,
     ) -> Result<(), AllocError>
-        ensures shown { PrintsOn O.Sink E.Sink (λ shown. MatchResult result
-            (λ _. shown ≡ cleaning_shown (manner_on self.old) dir.now (command_of command.now))
-            (λ _. shown ≡ on_err [])) self.old self.new }
+        ensures ok { OnOk result (SaysOn O.Sink E.Sink
+            (cleaning_said (manner_on self.old) dir.now (command_of command.now))
+            self.old self.new) }
+        ensures err { OnErr result (self.new ≡ self.old) }
         ensures screen { IsSameScreen self.old self.new }
     {
         if self.term.verbose {

@@ -5,7 +5,7 @@ ghost use Rattle.hack_session.specs.Histories.{IsHistory, IsStepOf, Hands, next_
 ghost use Rattle.hack_session.specs.Schedules.{IsSchedule};
 
 pub use crate::history::History;
-pub use crate::lines::{LineFault, LineWriter, Lines};
+pub use crate::lines::{LineFault, Lines};
 pub use crate::lister::Lister;
 pub use crate::report::KeepGoing;
 pub use crate::runner::{Runner, drive, drive_plan};

@@ -1,17 +1,11 @@
 //! Who performs the steps of a plan by commands.
 
-ghost use Rattle.std.specs.Prelude.{◌≡◌, ◌⊎◌, All, List, ℕ, false, true};
-ghost use Rattle.std.proofs.Common.{◌∙◌, refl, inl};
-ghost use Rattle.hack_base.specs.Writes.{Writes};
-ghost use Rattle.hack_session.specs.Histories.{HasPassed};
+ghost use Rattle.std.specs.Prelude.{◌≡◌, List, ℕ, false, true};
+ghost use Rattle.std.proofs.Common.{◌∙◌, refl};
 ghost use Rattle.hack_session.specs.References.{IsHandedOver};
-ghost use Rattle.hack_session.specs.StepCalls.{HasPerformed, HasTold, IsQuiet};
-ghost use Rattle.hack_session.specs.JoinedCalls.{performed_none, performed_more, none_passed};
-ghost use Rattle.hack_session.specs.JoinedCalls.{passed_or, quiet_more};
-ghost use Rattle.hack_session.specs.JoinedOutput.{error_alone, manner_stays, shown_more};
-ghost use Rattle.hack_session.specs.JoinedOutput.{shown_none};
-ghost use Rattle.hack_session.specs.StepOutput.{HasShown, is_run as is_run_step, manner_of};
-ghost use Rattle.hack_session.specs.StepOutput.{streams};
+ghost use Rattle.hack_session.specs.JoinedSteps.{error_alone, done_more, manner_stays};
+ghost use Rattle.hack_session.specs.StepEffects.{DoesAll, IsToldAs, is_run as is_run_step, state};
+ghost use Rattle.hack_session.specs.StepOutput.{WritesText, manner_of, streams};
 ghost use Rattle.hack_term.specs.Lines.{error_line};
 
 use crate::calls::is_memory;
@@ -92,64 +86,42 @@ impl<C: Caller, O: Sink, E: Sink> Runner for Starter<'_, C, O, E> {
     ghost ran = { λ plan steps a b. (a.caller.ghost_name ≡ b.caller.ghost_name)
         × (a.term.ghost_name ≡ b.term.ghost_name)
         × (a.fault.ghost_name ≡ b.fault.ghost_name)
-        × (C.tells → HasPerformed plan steps (C.calls a.caller.now) (C.calls b.caller.now)
-        a.refused b.refused)
-        × (HasTold a.term.now a.fault.now → HasTold b.term.now b.fault.now)
-        × (All HasPassed steps ⊎ HasTold b.term.now b.fault.now)
-        × (b.term.now.warn ≡ a.term.now.warn)
         × (a.out.ghost_name ≡ b.out.ghost_name)
         × (a.err.ghost_name ≡ b.err.ghost_name)
         × (a.keep_going ≡ b.keep_going)
         × (a.log_group ≡ b.log_group)
         × (b.term.now ≡ record a.term.now { error = b.term.now.error })
-        × HasShown a.keep_going (manner_of a.log_group a.term.now) plan steps
+        × DoesAll C.tells a.keep_going (manner_of a.log_group a.term.now) plan steps
+        (state (C.calls a.caller.now)
         (streams O.contents O.failed E.contents E.failed a.out.now a.err.now)
+        a.fault.now a.term.now.error a.refused)
+        (state (C.calls b.caller.now)
         (streams O.contents O.failed E.contents E.failed b.out.now b.err.now)
-        a.refused b.refused
-        × (All HasPassed steps → IsQuiet a.term.now b.term.now a.fault.now b.fault.now) };
+        b.fault.now b.term.now.error b.refused) };
 
-    ghost ran_none = { λ plan a. (
-      refl,
-      refl,
-      refl,
-      λ t. performed_none plan (C.calls a.caller.now) a.refused,
-      λ told. told,
-      inl none_passed,
-      refl,
-      refl,
-      refl,
-      refl,
-      refl,
-      refl,
-      shown_none a.keep_going (manner_of a.log_group a.term.now) plan
-          (streams O.contents O.failed E.contents E.failed a.out.now a.err.now) a.refused,
-      λ passed. (refl, refl),
-    ) };
+    ghost ran_none = { λ plan a. (refl, refl, refl, refl, refl, refl, refl, refl, refl) };
 
     ghost ran_more = { λ plan steps more a b c p q. (
       p.0 ∙ q.0,
       p.1 ∙ q.1,
       p.2 ∙ q.2,
-      λ t. performed_more plan steps more (C.calls a.caller.now) (C.calls b.caller.now)
-          (C.calls c.caller.now) a.refused b.refused c.refused (p.3 t) (q.3 t),
-      λ told. q.4 (p.4 told),
-      passed_or HasPassed (HasTold b.term.now b.fault.now) (HasTold c.term.now c.fault.now) steps
-          more p.5 q.4 q.5,
-      q.6 ∙ p.6,
-      p.7 ∙ q.7,
-      p.8 ∙ q.8,
-      p.9 ∙ q.9,
-      p.10 ∙ q.10,
-      error_alone a.term.now b.term.now c.term.now p.11 q.11,
-      shown_more a.keep_going b.keep_going (manner_of a.log_group a.term.now)
+      p.3 ∙ q.3,
+      p.4 ∙ q.4,
+      p.5 ∙ q.5,
+      p.6 ∙ q.6,
+      error_alone a.term.now b.term.now c.term.now p.7 q.7,
+      done_more C.tells a.keep_going b.keep_going (manner_of a.log_group a.term.now)
           (manner_of b.log_group b.term.now) plan steps more
+          (state (C.calls a.caller.now)
           (streams O.contents O.failed E.contents E.failed a.out.now a.err.now)
+          a.fault.now a.term.now.error a.refused)
+          (state (C.calls b.caller.now)
           (streams O.contents O.failed E.contents E.failed b.out.now b.err.now)
+          b.fault.now b.term.now.error b.refused)
+          (state (C.calls c.caller.now)
           (streams O.contents O.failed E.contents E.failed c.out.now c.err.now)
-          a.refused b.refused c.refused p.9
-          (manner_stays a.log_group b.log_group a.term.now b.term.now p.10 p.11) p.12 q.12,
-      quiet_more HasPassed steps more a.term.now b.term.now c.term.now a.fault.now b.fault.now
-          c.fault.now p.13 q.13,
+          c.fault.now c.term.now.error c.refused)
+          p.5 (manner_stays a.log_group b.log_group a.term.now b.term.now p.6 p.7) p.8 q.8,
     ) };
 
     fn step(&mut self, plan: &Plan, step: Step) -> Outcome {
@@ -190,8 +162,9 @@ fn is_run(step: Step) -> bool
 /// Reports an error at once.
 fn tell_fault<E: Sink>(alloc: Global, term: &mut Term, err: &mut E, fault: &ProcessFault)
     ensures noted { term.new ≡ record term.old { error = true } }
-    ensures shown { (text : List ℕ) × Writes (E.contents err.old) (E.contents err.new)
-        (E.failed err.old) (E.failed err.new) (error_line term.old.coloring text) }
+    ensures told { (text : List ℕ) × IsToldAs fault.now text
+        × WritesText (E.contents err.old) (E.contents err.new) (E.failed err.old)
+        (E.failed err.new) (error_line term.old.coloring text) }
 {
     match format!(in alloc; "{fault}") {
         Ok(text) => {

@@ -12,11 +12,46 @@ use hack_holds::Wrong;
 use hack_load::context::Context;
 use hack_process::process::{End, FakeCaller};
 use hack_run::drive::Teller;
-use hack_session::session::{LineWriter, Lines, Lister, Starter};
+use hack_session::session::{Lines, Lister, Starter};
 use hack_term::term::{Coloring, LogGroup, Term};
 use std::alloc::{AllocError, Global};
-use std::io;
 use std::io::Write;
+use std::{fmt, io};
+
+/// Lines that are written one by one.
+#[derive(Drop)]
+struct Written<'a, W: Write> {
+    out: &'a mut W,
+    failed: u64,
+}
+
+impl<W: Write> Lines for Written<'_, W> {
+    ghost use Rattle.std.specs.Prelude.{◌≡◌};
+    ghost use Rattle.std.proofs.Common.{◌∙◌, refl};
+
+    ghost contents = { λ w. W.contents w.out.now };
+
+    // A writer may take a part of a text before it fails.
+    ghost whole = { ⊥ };
+
+    ghost failed = { λ w. w.failed };
+
+    ghost stays = { λ a b. a.out.ghost_name ≡ b.out.ghost_name };
+
+    ghost stays_none = { λ a. refl };
+
+    ghost stays_more = { λ a b c p q. p ∙ q };
+
+    fn line<D: fmt::Display + Drop>(&mut self, text: D) -> Result<(), fmt::Error> {
+        match self.out.writeln(text) {
+            Ok(()) => Ok(()),
+            Err(_) => {
+                self.failed = self.failed.saturating_add(1);
+                Err(fmt::Error)
+            }
+        }
+    }
+}
 
 /// Lists a plan on lines, and sends what isn't listed to a runner; how many steps were handed out.
 fn list_over<W: Lines, R: Teller>(
@@ -54,7 +89,7 @@ fn list_on<W: Write>(alloc: Global, cx: &Context, list: &mut W) -> Result<(usize
         &mut fault,
     );
     starter.set_manner(LogGroup::None, cx.args().keep_going);
-    let mut lines = LineWriter {
+    let mut lines = Written {
         out: list,
         failed: 0,
     };

@@ -1,11 +1,12 @@
-use Rattle.std.proofs.Common.{◌≡◌}
-use Rattle.std.proofs.lemmas.Result.{err_from_is_err_and}
+use Rattle.std.proofs.Common.{refl, ◌∙◌}
 use Rattle.hack_process.specs.Commands.{command_of}
-use Rattle.hack_session.specs.StepOutput.{cleaning_shown, manner_on}
-use Rattle.hack_session.proofs.ShownLemmas.{err_nothing}
+use Rattle.hack_term.specs.Lines.{info_line}
+use Rattle.hack_session.specs.StepOutput.{manner_on, streams, streams_of}
+use Rattle.hack_session.proofs.EffectLemmas.{cleaning_told, says_by}
 use Rattle.hack_session.proofs.screen.Screen.tell_cleaning.Goals as goal
 
-pub returns-in_err-text-clause-shown : goal.returns-in_err-text-clause-shown
-returns-in_err-text-clause-shown g c =
-    let p = err_from_is_err_and c.from_residual.result c.from_residual.ensures.1 in
-    err_nothing _ _ c.from_residual.result p.0 (λ s. s ≡ cleaning_shown (manner_on c.args.self.now) c.args.dir.now (command_of c.args.command.now)) _ p.1
+pub returns-in_ok-text-clause-ok : goal.returns-in_ok-text-clause-ok
+returns-in_ok-text-clause-ok g c =
+    cleaning_told (manner_on c.args.self.now) c.args.dir.now (command_of c.args.command.now) c.deref.result.now (streams_of g.O.Sink g.E.Sink c.args.self.now)
+    (streams g.O.Sink.contents g.O.Sink.failed g.E.Sink.contents g.E.Sink.failed c.args.self.now.out.now c.info.new.out) c.if-self.true (c.deref.ensures ∙ c.in_ok-text.ensures)
+    (says_by _ _ _ _ _ _ (info_line c.args.self.now.term.now.coloring c.deref.result.now) c.info.result c.info.ensures.line c.info.ensures.front c.info.ensures.counted, refl)

@@ -1,9 +1,10 @@
-use Rattle.std.proofs.Common.{inl, inr, refl, ap, arith, codes, sym}
-use Rattle.hack_base.proofs.WriteLemmas.{writes-by}
+use Rattle.std.proofs.Common.{Err, Ok, Some, ap, arith, codes, refl, sym}
 use Rattle.hack_term.specs.Lines.{error_line}
-use Rattle.hack_session.specs.StepOutput.{manner_of}
-use Rattle.hack_session.proofs.RunLemmas.{step_passed, step_failed, step_cut, not_memory, all_passed, not_passed}
-use Rattle.hack_session.proofs.ShownLemmas.{and_not, not_and, error_noted, prints_err, prints_line, shown_cut, shown_passed, shown_told, shown_untold}
+use Rattle.hack_session.specs.StepEffects.{scene_of, state}
+use Rattle.hack_session.specs.StepOutput.{manner_of, streams}
+use Rattle.hack_session.specs.declared.step.Outcome.TheVariants.{Failed, Passed}
+use Rattle.hack_session.proofs.EffectLemmas.{says_by}
+use Rattle.hack_session.proofs.StepLemmas.{and_not, error_noted, kept_fault, not_and, one_step, tells_line, told_fault, told_memory}
 use Rattle.hack_session.proofs.starter.StarterRunner.step.Goals as goal
 use Rattle.hack_session.proofs.starter.StarterRunner.step.Goals.{else-self-via-then-self+else-is_run, else-self-via-else-self}
 
@@ -12,17 +13,15 @@ returns-in-Ok g c = (
   refl,
   refl,
   refl,
-  λ t. step_passed (Unit {0}) tt _ _ _ _ _ (c.in-Ok.ensures.made t),
-  λ told. told,
-  inl (all_passed c.args.step),
   refl,
   refl,
   refl,
   refl,
   refl,
-  refl,
-  shown_passed (Unit {0}) tt _ _ _ _ _ _ _ c.in-Ok.ensures.shown,
-  λ passed. (refl, refl),
+  one_step g.C.Caller.tells c.args.self.now.keep_going (manner_of c.args.self.now.log_group c.args.self.now.term.now) c.args.plan.now (record { step = c.args.step; outcome = Passed }) (Ok tt) (scene_of g.C.Caller g.O.Sink g.E.Sink c.perform.new.caller c.perform.new.screen)
+      (state (g.C.Caller.calls c.args.self.now.caller.now) (streams g.O.Sink.contents g.O.Sink.failed g.E.Sink.contents g.E.Sink.failed c.args.self.now.out.now c.args.self.now.err.now) c.args.self.now.fault.now c.args.self.now.term.now.error c.args.self.now.refused)
+      (state (g.C.Caller.calls c.perform.new.caller) (streams g.O.Sink.contents g.O.Sink.failed g.E.Sink.contents g.E.Sink.failed c.perform.new.screen.out.now c.perform.new.screen.err.now) c.args.self.now.fault.now c.args.self.now.term.now.error c.args.self.now.refused)
+      c.in-Ok.ensures.does (refl, refl),
 )
 
 pub returns-then-is_memory : goal.returns-then-is_memory
@@ -30,18 +29,24 @@ returns-then-is_memory g c = (
   refl,
   refl,
   refl,
-  λ t. step_cut (Unit {0}) c.in-Err.fault _ _ _ _ _ _ c.if-is_memory.ensures (λ h. omega (arith, c.saturating_add-self.ensures)) (c.in-Err.ensures.made t),
-  λ told. inl (ap (λ term. term.error) c.error.ensures.noted),
-  inr (inl (ap (λ term. term.error) c.error.ensures.noted)),
-  ap (λ term. term.warn) c.error.ensures.noted,
   refl,
   refl,
   refl,
   refl,
   error_noted c.args.self.now.term.now c.error.new.self c.error.ensures.noted,
-  shown_cut (Unit {0}) c.in-Err.fault _ _ _ _ _ _ _ _ _ c.if-is_memory.ensures (λ h. omega (arith, c.saturating_add-self.ensures)) c.in-Err.ensures.shown
-      (prints_err (error_line c.args.self.now.term.now.coloring (codes "out of memory")) _ _ _ _ _ _ (writes-by _ _ _ _ _ _ _ _ c.error.ensures.line c.error.ensures.counted)),
-  not_passed c.args.step,
+  one_step g.C.Caller.tells c.args.self.now.keep_going (manner_of c.args.self.now.log_group c.args.self.now.term.now) c.args.plan.now (record { step = c.args.step; outcome = Failed }) (Err c.in-Err.fault) (scene_of g.C.Caller g.O.Sink g.E.Sink c.perform.new.caller c.perform.new.screen)
+      (state (g.C.Caller.calls c.args.self.now.caller.now) (streams g.O.Sink.contents g.O.Sink.failed g.E.Sink.contents g.E.Sink.failed c.args.self.now.out.now c.args.self.now.err.now) c.args.self.now.fault.now c.args.self.now.term.now.error c.args.self.now.refused)
+      (state (g.C.Caller.calls c.perform.new.caller) (streams g.O.Sink.contents g.O.Sink.failed g.E.Sink.contents g.E.Sink.failed c.perform.new.screen.out.now c.error.new.out) c.args.self.now.fault.now c.error.new.self.error c.saturating_add-self.result)
+      c.in-Err.ensures.does (
+        refl,
+        told_memory c.args.self.now.keep_going (manner_of c.args.self.now.log_group c.args.self.now.term.now) c.args.step c.in-Err.fault
+            (state (g.C.Caller.calls c.perform.new.caller) (streams g.O.Sink.contents g.O.Sink.failed g.E.Sink.contents g.E.Sink.failed c.perform.new.screen.out.now c.perform.new.screen.err.now) c.args.self.now.fault.now c.args.self.now.term.now.error c.args.self.now.refused)
+            (state (g.C.Caller.calls c.perform.new.caller) (streams g.O.Sink.contents g.O.Sink.failed g.E.Sink.contents g.E.Sink.failed c.perform.new.screen.out.now c.error.new.out) c.args.self.now.fault.now c.error.new.self.error c.saturating_add-self.result)
+            c.if-is_memory.ensures (λ h. omega (arith, c.saturating_add-self.ensures))
+            (tells_line (manner_of c.args.self.now.log_group c.args.self.now.term.now) (codes "out of memory") (state (g.C.Caller.calls c.perform.new.caller) (streams g.O.Sink.contents g.O.Sink.failed g.E.Sink.contents g.E.Sink.failed c.perform.new.screen.out.now c.perform.new.screen.err.now) c.args.self.now.fault.now c.args.self.now.term.now.error c.saturating_add-self.result)
+            (streams g.O.Sink.contents g.O.Sink.failed g.E.Sink.contents g.E.Sink.failed c.perform.new.screen.out.now c.error.new.out) c.error.new.self.error (ap (λ term. term.error) c.error.ensures.noted)
+            (says_by _ _ _ _ _ _ (error_line c.args.self.now.term.now.coloring (codes "out of memory")) c.error.result c.error.ensures.line c.error.ensures.front c.error.ensures.counted, refl)),
+      ),
 )
 
 pub returns-then-is_run : goal.returns-then-is_run
@@ -49,18 +54,24 @@ returns-then-is_run g c = (
   refl,
   refl,
   refl,
-  λ t. step_failed (Unit {0}) c.in-Err.fault _ _ _ _ _ (not_memory c.in-Err.fault c.if-is_memory.ensures) (c.in-Err.ensures.made t),
-  λ told. inl (ap (λ term. term.error) c.tell_fault.ensures.noted),
-  inr (inl (ap (λ term. term.error) c.tell_fault.ensures.noted)),
-  ap (λ term. term.warn) c.tell_fault.ensures.noted,
   refl,
   refl,
   refl,
   refl,
   error_noted c.args.self.now.term.now c.tell_fault.new.term c.tell_fault.ensures.noted,
-  shown_told (Unit {0}) c.in-Err.fault _ _ _ _ _ _ _ _ (not_memory c.in-Err.fault c.if-is_memory.ensures) c.if-self.true (sym c.if-is_run.ensures) c.in-Err.ensures.shown
-      (prints_line (manner_of c.args.self.now.log_group c.args.self.now.term.now) c.tell_fault.ensures.shown.0 _ _ _ _ _ _ c.tell_fault.ensures.shown.1),
-  not_passed c.args.step,
+  one_step g.C.Caller.tells c.args.self.now.keep_going (manner_of c.args.self.now.log_group c.args.self.now.term.now) c.args.plan.now (record { step = c.args.step; outcome = Failed }) (Err c.in-Err.fault) (scene_of g.C.Caller g.O.Sink g.E.Sink c.perform.new.caller c.perform.new.screen)
+      (state (g.C.Caller.calls c.args.self.now.caller.now) (streams g.O.Sink.contents g.O.Sink.failed g.E.Sink.contents g.E.Sink.failed c.args.self.now.out.now c.args.self.now.err.now) c.args.self.now.fault.now c.args.self.now.term.now.error c.args.self.now.refused)
+      (state (g.C.Caller.calls c.perform.new.caller) (streams g.O.Sink.contents g.O.Sink.failed g.E.Sink.contents g.E.Sink.failed c.perform.new.screen.out.now c.tell_fault.new.err) c.args.self.now.fault.now c.tell_fault.new.term.error c.args.self.now.refused)
+      c.in-Err.ensures.does (
+        refl,
+        told_fault c.args.self.now.keep_going (manner_of c.args.self.now.log_group c.args.self.now.term.now) c.args.step c.in-Err.fault
+            (state (g.C.Caller.calls c.perform.new.caller) (streams g.O.Sink.contents g.O.Sink.failed g.E.Sink.contents g.E.Sink.failed c.perform.new.screen.out.now c.perform.new.screen.err.now) c.args.self.now.fault.now c.args.self.now.term.now.error c.args.self.now.refused)
+            (state (g.C.Caller.calls c.perform.new.caller) (streams g.O.Sink.contents g.O.Sink.failed g.E.Sink.contents g.E.Sink.failed c.perform.new.screen.out.now c.tell_fault.new.err) c.args.self.now.fault.now c.tell_fault.new.term.error c.args.self.now.refused)
+            c.tell_fault.ensures.told.0 c.if-is_memory.ensures c.if-self.true c.if-is_run.ensures c.tell_fault.ensures.told.1
+            (tells_line (manner_of c.args.self.now.log_group c.args.self.now.term.now) c.tell_fault.ensures.told.0 (state (g.C.Caller.calls c.perform.new.caller) (streams g.O.Sink.contents g.O.Sink.failed g.E.Sink.contents g.E.Sink.failed c.perform.new.screen.out.now c.perform.new.screen.err.now) c.args.self.now.fault.now c.args.self.now.term.now.error c.args.self.now.refused)
+            (streams g.O.Sink.contents g.O.Sink.failed g.E.Sink.contents g.E.Sink.failed c.perform.new.screen.out.now c.tell_fault.new.err) c.tell_fault.new.term.error (ap (λ term. term.error) c.tell_fault.ensures.noted)
+            (c.tell_fault.ensures.told.2, refl)),
+      ),
 )
 
 pub returns-else-self : goal.returns-else-self
@@ -68,16 +79,20 @@ returns-else-self g c = (
   refl,
   refl,
   refl,
-  λ t. step_failed (Unit {0}) c.in-Err.fault _ _ _ _ _ (not_memory c.in-Err.fault c.if-is_memory.ensures) (c.in-Err.ensures.made t),
-  λ told. inr refl,
-  inr (inr refl),
   refl,
   refl,
   refl,
   refl,
   refl,
-  refl,
-  shown_untold (Unit {0}) c.in-Err.fault _ _ _ _ _ _ _ (not_memory c.in-Err.fault c.if-is_memory.ensures)
-      (elim c.else-self.branch [ else-self-via-then-self+else-is_run w ↦ and_not _ _ (sym w.if-is_run.ensures) | else-self-via-else-self w ↦ not_and _ _ w.if-self.false ]) c.in-Err.ensures.shown,
-  not_passed c.args.step,
+  one_step g.C.Caller.tells c.args.self.now.keep_going (manner_of c.args.self.now.log_group c.args.self.now.term.now) c.args.plan.now (record { step = c.args.step; outcome = Failed }) (Err c.in-Err.fault) (scene_of g.C.Caller g.O.Sink g.E.Sink c.perform.new.caller c.perform.new.screen)
+      (state (g.C.Caller.calls c.args.self.now.caller.now) (streams g.O.Sink.contents g.O.Sink.failed g.E.Sink.contents g.E.Sink.failed c.args.self.now.out.now c.args.self.now.err.now) c.args.self.now.fault.now c.args.self.now.term.now.error c.args.self.now.refused)
+      (state (g.C.Caller.calls c.perform.new.caller) (streams g.O.Sink.contents g.O.Sink.failed g.E.Sink.contents g.E.Sink.failed c.perform.new.screen.out.now c.perform.new.screen.err.now) (Some c.in-Err.fault) c.args.self.now.term.now.error c.args.self.now.refused)
+      c.in-Err.ensures.does (
+        refl,
+        kept_fault c.args.self.now.keep_going (manner_of c.args.self.now.log_group c.args.self.now.term.now) c.args.step c.in-Err.fault
+            (state (g.C.Caller.calls c.perform.new.caller) (streams g.O.Sink.contents g.O.Sink.failed g.E.Sink.contents g.E.Sink.failed c.perform.new.screen.out.now c.perform.new.screen.err.now) c.args.self.now.fault.now c.args.self.now.term.now.error c.args.self.now.refused)
+            (state (g.C.Caller.calls c.perform.new.caller) (streams g.O.Sink.contents g.O.Sink.failed g.E.Sink.contents g.E.Sink.failed c.perform.new.screen.out.now c.perform.new.screen.err.now) (Some c.in-Err.fault) c.args.self.now.term.now.error c.args.self.now.refused)
+            c.if-is_memory.ensures
+            (elim c.else-self.branch [ else-self-via-then-self+else-is_run w ↦ and_not _ _ (sym w.if-is_run.ensures) | else-self-via-else-self w ↦ not_and _ _ w.if-self.false ]) refl,
+      ),
 )
