@@ -110,7 +110,7 @@ def whole_name(crate, file, block, name):
     block = block.partition("{")[0].partition(" where ")[0]
     of_trait, is_for, of_type = (re.sub(r"\w+::|\s", "", it) for it in block.partition(" for "))
     if is_for:
-        return "::".join([*module, of_type + of_trait, name])
+        return "::".join([*module, of_type[:1].upper() + of_type[1:] + of_trait, name])
     return f"{of_trait}::{name}" if block else "::".join([*module, name])
 
 

@@ -6,3 +6,4 @@ pub use hack_journal::journaled::Journaled;
 pub use hack_journal::place::Place;
 pub use hack_journal::recover::{RecoverFault, recover};
 pub use hack_journal::rows::{Row, row_at};
+pub use hack_journal::unkept::Unkept;

@@ -6,3 +6,4 @@ pub mod SafeLemmas
 mod FinishLemmas
 pub mod RecoverLemmas
 mod CountLemmas
+pub mod RefusingLemmas

@@ -29,10 +29,10 @@ pub record GoesToOne {A B : Type 0} (path : List ℕ) (old new : Apart A B) : Ty
   pub lockfiles : ¬ IsTrue (is_lockfile path) → new.lockfiles ≡ old.lockfiles
 
 -- where the journal of these files lies
-abbrev pub spot_in : {F : Type 0} → Journaled F → Spot
+abbrev pub spot_in : {F U : Type 0} → Journaled F U → Spot
 spot_in files = record { folder = string_bytes files.folder; journal = files.notes.journal }
 
 -- whatever the paths held at first: files that are journaled stay safe and journaled
-abbrev pub StaysJournaled : {F : Type 0} → Filing F → Journaled F → Journaled F → Type 0
+abbrev pub StaysJournaled : {F U : Type 0} → Filing F → Journaled F U → Journaled F U → Type 0
 StaysJournaled f old new = f.tells → f.whole
     → Stays (spot_in old) old.notes.entries new.notes.entries (f.trace old.files) (f.trace new.files) (f.bytes_at old.files) (f.bytes_at new.files)

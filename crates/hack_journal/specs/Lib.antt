@@ -6,3 +6,5 @@ pub mod Recovery
 pub mod LockfilesApart
 pub mod FileCalls
 pub mod Internal
+pub mod Refusing
+pub mod RefusingLaws

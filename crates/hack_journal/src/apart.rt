@@ -4,9 +4,6 @@
 //! other files have a journal, writes of lockfiles don't go through it.
 
 ghost use Rattle.std.specs.Prelude.{◌≡◌, ◌↔◌, [], None, Some, IfOk, OnOk, IsTrue, IsSome};
-ghost use Rattle.std.specs.Prelude.{length};
-ghost use Rattle.hack_files.specs.Files.{GrowsAtLeastBy};
-ghost use Rattle.hack_files.specs.RefusalLaws.{at_least_none, at_least_more, at_least_some};
 ghost use Rattle.hack_journal.specs.LockfilesApart.{is_lockfile, apart, KeepsLockfiles};
 
 use hack_files::fs::{FileFault, Files, counted};
@@ -46,32 +43,47 @@ impl<A: Files, B: Files> Apart<A, B> {
 impl<A: Files, B: Files> Files for Apart<A, B> {
     ghost use Rattle.std.proofs.Common.{refl, ◌∙◌};
     ghost use Rattle.hack_journal.specs.FileCalls.{OnlyLooks, ChangesOnly, GoesToOne};
+    ghost use Rattle.hack_journal.specs.Refusing.{AreJust, GrowsWithin, HoldsByKind, IsRefused};
+    ghost use Rattle.hack_journal.specs.RefusingLaws.{just_none, just_more, just_some};
+    ghost use Rattle.hack_journal.specs.RefusingLaws.{within_none, within_more};
 
     ghost tells = { A.tells × B.tells };
 
     // The order of changes across the two is not known.
     ghost whole = { ⊥ };
 
-    // What `A` holds at paths of lockfiles never changes.
+    // What `A` holds at paths of lockfiles never changes, and only what failed in one of the two is
+    // counted.
     ghost stays = { λ a b. A.stays a.files b.files × B.stays a.lockfiles b.lockfiles
-        × (A.tells → KeepsLockfiles (A.bytes_at a.files) (A.bytes_at b.files)) };
+        × (A.tells → KeepsLockfiles (A.bytes_at a.files) (A.bytes_at b.files))
+        × GrowsWithin (A.failed a.files) (A.failed b.files)
+        (B.failed a.lockfiles) (B.failed b.lockfiles) a.failures b.failures };
 
-    ghost stays_none = { λ a. (A.stays_none a.files, B.stays_none a.lockfiles, λ t q lock. refl) };
+    ghost stays_none = { λ a. (
+      A.stays_none a.files,
+      B.stays_none a.lockfiles,
+      λ t q lock. refl,
+      within_none (A.failed a.files) (B.failed a.lockfiles) a.failures,
+    ) };
 
     ghost stays_more = { λ a b c f g. (
       A.stays_more a.files b.files c.files f.0 g.0,
       B.stays_more a.lockfiles b.lockfiles c.lockfiles f.1 g.1,
       λ t q lock. g.2 t q lock ∙ f.2 t q lock,
+      within_more _ _ _ _ _ _ _ _ _ f.3 g.3,
     ) };
 
-    ghost refuses = { λ old new paths. GrowsAtLeastBy (length paths) old.failures new.failures };
+    // Each of these paths was refused by those files that it goes to.
+    ghost refuses = { λ old new paths.
+        AreJust (HoldsByKind (IsRefused A.Files) (IsRefused B.Files)) paths old.failures new.failures };
 
-    ghost refuses_none = { λ files. at_least_none files.failures };
+    ghost refuses_none = { λ files. just_none (HoldsByKind (IsRefused A.Files) (IsRefused B.Files)) files.failures };
 
-    ghost refuses_more = { λ a b c ps qs.
-        at_least_more ps qs a.failures b.failures c.failures };
+    ghost refuses_more = { λ a b c ps qs. just_more (HoldsByKind (IsRefused A.Files) (IsRefused B.Files))
+        ps qs a.failures b.failures c.failures };
 
-    ghost refuses_some = { λ a b grown. at_least_some a.failures b.failures grown };
+    ghost refuses_some = { λ a b grown. just_some (HoldsByKind (IsRefused A.Files) (IsRefused B.Files))
+        a.failures b.failures grown };
 
     ghost bytes_at = { λ s. apart (A.bytes_at s.files) (B.bytes_at s.lockfiles) };
 

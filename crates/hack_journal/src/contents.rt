@@ -3,7 +3,7 @@
 ghost use Rattle.std.specs.Prelude.{◌≡◌, ◌↔◌, [], ◌∷◌, IfOk, OnOk, OnErr, IsTrue};
 ghost use Rattle.std.specs.Option.{option_map};
 ghost use Rattle.hack_files.specs.Files.{CountsFailedCall, KeepsOthers, KeepsAll, Makes};
-ghost use Rattle.hack_files.specs.Files.{MakesOrNot};
+ghost use Rattle.hack_files.specs.Files.{MakesOrNot, refused_path};
 ghost use Rattle.hack_journal.specs.Journal.{edit_of, edits_of};
 ghost use Rattle.hack_journal.specs.SafeFiles.{AreBack, gives};
 
@@ -38,6 +38,7 @@ pub fn look<F: Files>(
 pub fn put<F: Files>(files: &mut F, path: &str, bytes: Option<&[u8]>) -> Result<(), FileFault>
     ensures stays { F.stays files.old files.new }
     ensures failures { CountsFailedCall (F.failed files.old) (F.failed files.new) result }
+    ensures refused_path { F.refuses files.old files.new (refused_path result path.now) }
     ensures put { OnOk result (F.tells →
         F.bytes_at files.new path.now ≡ option_map (λ bytes. bytes.now) bytes.entry) }
     ensures others { F.tells → KeepsOthers path.now (F.bytes_at files.old) (F.bytes_at files.new) }

@@ -3,25 +3,29 @@
 //!
 //! Wherever the program ends, each path holds what it held at first, or the journal has it, and
 //! [`crate::recover::recover`] puts it back.
+//!
+//! A write or removal is refused by the files below, or because the journal can't keep what it
+//! replaces: then an [`Unkept`] is told of it.
 
 ghost use Rattle.std.specs.Prelude.{◌≡◌, ◌<◌, ◌++◌, ◌+◌, ◌^◌, [], ◌∷◌, ℕ, None, Some, length};
-ghost use Rattle.std.specs.Prelude.{false};
+ghost use Rattle.std.specs.Prelude.{Ok, false};
 ghost use Rattle.std.specs.Prelude.{IfOk, OnOk, OnErr, IsTrue, IsSome, ◌↔◌, string_bytes};
 ghost use Rattle.std.specs.Option.{option_map};
 ghost use Rattle.hack_files.specs.Files.{Contents, CountsFailedCall, KeepsOthers, KeepsAll};
-ghost use Rattle.hack_files.specs.Files.{Makes, MakesOrNot, GrowsAtLeastBy};
-ghost use Rattle.hack_files.specs.RefusalLaws.{at_least_none, at_least_more, at_least_some};
+ghost use Rattle.hack_files.specs.Files.{Makes, MakesOrNot, Grows, puts, refused_path, removes};
 ghost use Rattle.hack_journal.specs.Journal.{edit_of};
 ghost use Rattle.hack_journal.specs.Rows.{spot_of, file_at, is_of_journal, IsNoteOf, KeepsBeside};
 ghost use Rattle.hack_journal.specs.SafeFiles.{SomeEntryHasBytes, first_entry_of, AreBack, gives};
 ghost use Rattle.hack_journal.specs.SafeFiles.{IsJournaled, Stays, changes_besides, without};
 ghost use Rattle.hack_journal.specs.Internal.{Hidden, IsHeld, IsNotable, ShortensRow};
+ghost use Rattle.hack_journal.specs.Refusing.{IsCounted, IsRefusedOrUnkept, TellsItsOwn};
 
 use crate::contents::{are_back, look, put};
 use crate::entries::{copy, first, tells};
 use crate::journal::{Entry, spell_at};
 use crate::notes::Notes;
 use crate::place::{Place, relative};
+use crate::unkept::Unkept;
 use hack_files::fs::{FileFault, Files, count_failure, counted};
 use std::alloc::Global;
 
@@ -30,23 +34,25 @@ use std::alloc::Global;
 ///
 /// Each edit adds a file to the journal's row, so its cost doesn't grow with the edits before it.
 #[derive(Drop)]
-pub struct Journaled<F: Files> {
+pub struct Journaled<F: Files, U: Unkept> {
     alloc: Global,
     files: F,
     folder: String,
     notes: Notes,
     failures: u64,
+    unkept: U,
 }
 
-impl<F: Files> Journaled<F> {
+impl<F: Files, U: Unkept> Journaled<F, U> {
     ghost use Rattle.hack_journal.specs.FileCalls.{StaysJournaled, spot_in};
 
     /// Files over these, of which nothing is kept yet, with no failed call counted. The journal is
     /// written to this place before the first change; one that is there already would be lost, so
-    /// call `recover` first.
-    pub fn new(alloc: Global, files: F, place: Place) -> Self
+    /// call `recover` first. `unkept` is told of each write and removal that can't be kept.
+    pub fn new(alloc: Global, files: F, place: Place, unkept: U) -> Self
         ensures place { spot_in result ≡ spot_of place }
         ensures files { result.files ≡ files }
+        ensures unkept { result.unkept ≡ unkept }
         ensures failures { result.failures ≡ 0 }
         ensures begun { F.bytes_at files (string_bytes place.journal) ≡ None →
             IsJournaled (spot_in result) (F.bytes_at files)
@@ -58,19 +64,23 @@ impl<F: Files> Journaled<F> {
             folder: place.folder,
             notes: Notes::new(alloc, place.journal),
             failures: 0,
+            unkept,
         }
     }
 
-    /// Returns the files below. A journal that is still there stays.
-    pub fn into_inner(self) -> F
-        ensures { result ≡ self.files }
+    /// Returns the files below, and who was told of what couldn't be kept. A journal that is still
+    /// there stays.
+    pub fn into_inner(self) -> (F, U)
+        ensures files { result.0 ≡ self.files }
+        ensures unkept { result.1 ≡ self.unkept }
     {
-        self.files
+        (self.files, self.unkept)
     }
 
     // Returns what the path held before its first edit.
     fn held_at_first(&mut self, path: &str) -> Result<Option<Vec<u8>>, FileFault>
         ensures handed { F.stays self.old.files self.new.files }
+        ensures below { Grows (F.failed self.old.files) (F.failed self.new.files) }
         ensures rest { self.new ≡ record self.old { files = self.new.files } }
         ensures held { IfOk result (λ held. F.tells →
             IsHeld (first_entry_of self.old.notes.entries path.now)
@@ -92,6 +102,7 @@ impl<F: Files> Journaled<F> {
     // Makes the entry of a path that is to hold these bytes, or be removed.
     fn entry(&mut self, path: &str, bytes: Option<&[u8]>) -> Result<Entry, FileFault>
         ensures handed { F.stays self.old.files self.new.files }
+        ensures below { Grows (F.failed self.old.files) (F.failed self.new.files) }
         ensures rest { self.new ≡ record self.old { files = self.new.files } }
         ensures path { IfOk result (λ entry. (edit_of entry).path ≡ path.now) }
         ensures wrote { IfOk result (λ entry.
@@ -133,6 +144,7 @@ impl<F: Files> Journaled<F> {
     // is there already would become part of the row.
     fn look_ahead(&mut self) -> Result<String, FileFault>
         ensures handed { F.stays self.old.files self.new.files }
+        ensures below { Grows (F.failed self.old.files) (F.failed self.new.files) }
         ensures rest { self.new ≡ record self.old { files = self.new.files } }
         ensures path { IfOk result (λ path. string_bytes path ≡
             file_at self.old.notes.journal (length self.old.notes.entries + 1)) }
@@ -157,6 +169,7 @@ impl<F: Files> Journaled<F> {
     // Adds a file to the row that keeps this entry.
     fn append(&mut self, entry: Entry) -> Result<(), FileFault>
         ensures handed { F.stays self.old.files self.new.files }
+        ensures below { Grows (F.failed self.old.files) (F.failed self.new.files) }
         ensures journal { self.new.notes.journal ≡ self.old.notes.journal }
         ensures rest { self.new ≡
             record self.old { files = self.new.files; notes = self.new.notes } }
@@ -185,11 +198,15 @@ impl<F: Files> Journaled<F> {
     // the journal, unless one of the path has these bytes already.
     fn keep(&mut self, path: &str, bytes: Option<&[u8]>) -> Result<(), FileFault>
         ensures handed { F.stays self.old.files self.new.files }
+        ensures below { Grows (F.failed self.old.files) (F.failed self.new.files) }
         ensures journal { self.new.notes.journal ≡ self.old.notes.journal }
         ensures rest { self.new ≡
             record self.old { files = self.new.files; notes = self.new.notes } }
         ensures told { OnOk result (SomeEntryHasBytes self.new.notes.entries path.now
             (option_map (λ bytes. bytes.now) bytes.entry)) }
+        ensures sure { SomeEntryHasBytes self.old.notes.entries path.now
+            (option_map (λ bytes. bytes.now) bytes.entry) →
+            (result ≡ Ok tt) × (self.new ≡ self.old) }
         ensures others { F.tells → KeepsAll
             (without self.old.notes.journal (F.bytes_at self.old.files))
             (without self.old.notes.journal (F.bytes_at self.new.files)) }
@@ -206,12 +223,24 @@ impl<F: Files> Journaled<F> {
         self.append(entry)
     }
 
-    // Keeps what the path holds, and then gives it these bytes, or removes what is there.
+    // Keeps what the path holds, and then gives it these bytes, or removes what is there. What an
+    // entry has already needs no keeping.
     fn change(&mut self, path: &str, bytes: Option<&[u8]>) -> Result<(), FileFault>
         ensures handed { F.stays self.old.files self.new.files }
         ensures journal { self.new.notes.journal ≡ self.old.notes.journal }
-        ensures rest { self.new ≡
-            record self.old { files = self.new.files; notes = self.new.notes } }
+        ensures rest { self.new ≡ record self.old {
+          files = self.new.files;
+          notes = self.new.notes;
+          unkept = self.new.unkept;
+        } }
+        ensures counted { IsCounted result (F.failed self.old.files) (F.failed self.new.files)
+            (U.told self.old.unkept) (U.told self.new.unkept) }
+        ensures why { OnErr result (IsRefusedOrUnkept F.Files U.Unkept path.now) }
+        ensures unkept { TellsItsOwn U.Unkept path.now result self.old.unkept self.new.unkept }
+        ensures sure { SomeEntryHasBytes self.old.notes.entries path.now
+            (option_map (λ bytes. bytes.now) bytes.entry) →
+            is_of_journal self.old.notes.journal path.now ≡ false →
+            F.refuses self.old.files self.new.files (refused_path result path.now) }
         ensures put { OnOk result (F.tells →
             without self.old.notes.journal (F.bytes_at self.new.files) path.now ≡
             option_map (λ bytes. bytes.now) bytes.entry) }
@@ -233,10 +262,16 @@ impl<F: Files> Journaled<F> {
         ensures stays { StaysJournaled F.Files self.old self.new }
     {
         if self.notes.is_of_journal(path) {
+            self.unkept.note(path);
             return Err(FileFault::Device);
         }
-        self.keep(path, bytes)?;
-        put(&mut self.files, path, bytes)
+        match self.keep(path, bytes) {
+            Ok(()) => put(&mut self.files, path, bytes),
+            Err(fault) => {
+                self.unkept.note(path);
+                Err(fault)
+            }
+        }
     }
 
     // Removes the row, from its last file on. The file that would come next may be there too, after
@@ -279,6 +314,7 @@ impl<F: Files> Journaled<F> {
         // It fails only where a call of the files below failed.
         ensures below { CountsFailedCall (F.failed self.old.files)
             (F.failed self.new.files) result }
+        ensures unkept { self.new.unkept ≡ self.old.unkept }
         // Nothing but the files of the row and the one that would come next is changed.
         ensures others { F.tells → KeepsBeside self.old.notes.journal
             (length self.old.notes.entries + 1)
@@ -307,25 +343,32 @@ impl<F: Files> Journaled<F> {
     }
 }
 
-impl<F: Files> Files for Journaled<F> {
+impl<F: Files, U: Unkept> Files for Journaled<F, U> {
     ghost use Rattle.std.proofs.Common.{refl, ◌∙◌};
     ghost use Rattle.hack_journal.specs.SafeLaws.{stays_none, stays_join, makes_none};
-    ghost use Rattle.hack_journal.specs.FileCalls.{OnlyLooks, spot_in};
+    ghost use Rattle.hack_journal.specs.FileCalls.{ChangesOnly, OnlyLooks, spot_in};
+    ghost use Rattle.hack_journal.specs.Refusing.{AreJust, GrowsWithin};
+    ghost use Rattle.hack_journal.specs.RefusingLaws.{just_none, just_more, just_some};
+    ghost use Rattle.hack_journal.specs.RefusingLaws.{within_none, within_more};
 
     ghost tells = { F.tells };
 
     ghost whole = { F.tells × F.whole };
 
+    // Only what failed below, or couldn't be kept, is counted.
     ghost stays = { λ a b. (spot_in a ≡ spot_in b) ×
         (F.tells → F.whole → Stays (spot_in a) a.notes.entries b.notes.entries
         (F.trace a.files) (F.trace b.files) (F.bytes_at a.files) (F.bytes_at b.files)) ×
-        F.stays a.files b.files };
+        F.stays a.files b.files ×
+        GrowsWithin (F.failed a.files) (F.failed b.files)
+        (U.told a.unkept) (U.told b.unkept) a.failures b.failures };
 
     ghost stays_none = { λ a. (
       refl,
       λ _ _. stays_none _ _ _ _ _ _
           (makes_none (F.trace a.files) (F.bytes_at a.files)),
       F.stays_none a.files,
+      within_none (F.failed a.files) (U.told a.unkept) a.failures,
     ) };
 
     ghost stays_more = { λ a b c f g. (
@@ -334,16 +377,21 @@ impl<F: Files> Files for Journaled<F> {
           stays_join _ _ _ b.notes.entries _ _ (F.trace b.files) _ _ (F.bytes_at b.files)
           _ f.0 (f.1 tells whole) (g.1 tells whole),
       F.stays_more a.files b.files c.files f.2 g.2,
+      within_more _ _ _ _ _ _ _ _ _ f.3 g.3,
     ) };
 
-    ghost refuses = { λ old new paths. GrowsAtLeastBy (length paths) old.failures new.failures };
+    // Each of these paths was refused by the files below, or it couldn't be kept.
+    ghost refuses = { λ old new paths.
+        AreJust (IsRefusedOrUnkept F.Files U.Unkept) paths old.failures new.failures };
 
-    ghost refuses_none = { λ files. at_least_none files.failures };
+    ghost refuses_none = { λ files.
+        just_none (IsRefusedOrUnkept F.Files U.Unkept) files.failures };
 
-    ghost refuses_more = { λ a b c ps qs.
-        at_least_more ps qs a.failures b.failures c.failures };
+    ghost refuses_more = { λ a b c ps qs. just_more (IsRefusedOrUnkept F.Files U.Unkept)
+        ps qs a.failures b.failures c.failures };
 
-    ghost refuses_some = { λ a b grown. at_least_some a.failures b.failures grown };
+    ghost refuses_some = { λ a b grown. just_some (IsRefusedOrUnkept F.Files U.Unkept)
+        a.failures b.failures grown };
 
     ghost bytes_at = { λ files. without files.notes.journal (F.bytes_at files.files) };
 
@@ -352,14 +400,18 @@ impl<F: Files> Files for Journaled<F> {
     ghost failed = { λ files. files.failures };
 
     fn read(&mut self, alloc: Global, path: &str) -> Result<Vec<u8>, FileFault>
-        ensures looks { OnlyLooks ⟦<Journaled<F> as Files>⟧ self.old self.new result }
+        ensures looks { OnlyLooks ⟦<Journaled<F, U> as Files>⟧ self.old self.new result }
         ensures bytes { IfOk result (λ bytes. F.tells → without self.old.notes.journal
             (F.bytes_at self.old.files) path.now ≡ Some bytes.items) }
         // Not even a journal is written.
         ensures below { F.whole → Makes [] (F.trace self.old.files) (F.trace self.new.files)
             (F.bytes_at self.old.files) (F.bytes_at self.new.files) }
+        // Nobody is told of a refused write.
+        ensures unkept { is_of_journal self.old.notes.journal path.now ≡ false →
+            self.new.unkept ≡ self.old.unkept }
     {
         if self.notes.is_of_journal(path) {
+            self.unkept.note_read();
             count_failure(&mut self.failures);
             return Err(FileFault::Device);
         }
@@ -367,18 +419,40 @@ impl<F: Files> Files for Journaled<F> {
         counted(&mut self.failures, outcome)
     }
 
-    fn write(&mut self, path: &str, bytes: &[u8]) -> Result<(), FileFault> {
+    fn write(&mut self, path: &str, bytes: &[u8]) -> Result<(), FileFault>
+        ensures changes { ChangesOnly ⟦<Journaled<F, U> as Files>⟧ path.now
+            self.old self.new result }
+        ensures written { OnOk result (F.tells → without self.new.notes.journal
+            (F.bytes_at self.new.files) path.now ≡ Some bytes.now) }
+        ensures traced { OnOk result (F.tells × F.whole → Makes (puts path.now bytes.now ∷ [])
+            (changes_besides self.old.notes.journal (F.trace self.old.files))
+            (changes_besides self.new.notes.journal (F.trace self.new.files))
+            (without self.old.notes.journal (F.bytes_at self.old.files))
+            (without self.new.notes.journal (F.bytes_at self.new.files))) }
+        ensures refused { OnErr result (F.tells × F.whole → MakesOrNot (puts path.now bytes.now)
+            (changes_besides self.old.notes.journal (F.trace self.old.files))
+            (changes_besides self.new.notes.journal (F.trace self.new.files))
+            (without self.old.notes.journal (F.bytes_at self.old.files))
+            (without self.new.notes.journal (F.bytes_at self.new.files))) }
+        ensures unkept { TellsItsOwn U.Unkept path.now result self.old.unkept self.new.unkept }
+        // What an entry has already nothing but the files below can refuse.
+        ensures sure { SomeEntryHasBytes self.old.notes.entries path.now (Some bytes.now) →
+            is_of_journal self.old.notes.journal path.now ≡ false →
+            F.refuses self.old.files self.new.files (refused_path result path.now) }
+    {
         let outcome = self.change(path, Some(bytes));
         counted(&mut self.failures, outcome)
     }
 
     fn exists(&mut self, path: &str) -> Result<bool, FileFault>
-        ensures looks { OnlyLooks ⟦<Journaled<F> as Files>⟧ self.old self.new result }
+        ensures looks { OnlyLooks ⟦<Journaled<F, U> as Files>⟧ self.old self.new result }
         ensures there { IfOk result (λ there. F.tells → IsTrue there ↔ IsSome
             (without self.old.notes.journal (F.bytes_at self.old.files) path.now)) }
         // Not even a journal is written.
         ensures below { F.whole → Makes [] (F.trace self.old.files) (F.trace self.new.files)
             (F.bytes_at self.old.files) (F.bytes_at self.new.files) }
+        // Nobody is told of a refused write.
+        ensures unkept { self.new.unkept ≡ self.old.unkept }
     {
         if self.notes.is_of_journal(path) {
             return Ok(false);
@@ -387,7 +461,27 @@ impl<F: Files> Files for Journaled<F> {
         counted(&mut self.failures, outcome)
     }
 
-    fn remove(&mut self, path: &str) -> Result<(), FileFault> {
+    fn remove(&mut self, path: &str) -> Result<(), FileFault>
+        ensures changes { ChangesOnly ⟦<Journaled<F, U> as Files>⟧ path.now
+            self.old self.new result }
+        ensures removed { OnOk result (F.tells → without self.new.notes.journal
+            (F.bytes_at self.new.files) path.now ≡ None) }
+        ensures traced { OnOk result (F.tells × F.whole → Makes (removes path.now ∷ [])
+            (changes_besides self.old.notes.journal (F.trace self.old.files))
+            (changes_besides self.new.notes.journal (F.trace self.new.files))
+            (without self.old.notes.journal (F.bytes_at self.old.files))
+            (without self.new.notes.journal (F.bytes_at self.new.files))) }
+        ensures refused { OnErr result (F.tells × F.whole → MakesOrNot (removes path.now)
+            (changes_besides self.old.notes.journal (F.trace self.old.files))
+            (changes_besides self.new.notes.journal (F.trace self.new.files))
+            (without self.old.notes.journal (F.bytes_at self.old.files))
+            (without self.new.notes.journal (F.bytes_at self.new.files))) }
+        ensures unkept { TellsItsOwn U.Unkept path.now result self.old.unkept self.new.unkept }
+        // What an entry has already nothing but the files below can refuse.
+        ensures sure { SomeEntryHasBytes self.old.notes.entries path.now None →
+            is_of_journal self.old.notes.journal path.now ≡ false →
+            F.refuses self.old.files self.new.files (refused_path result path.now) }
+    {
         let outcome = self.change(path, None);
         counted(&mut self.failures, outcome)
     }

@@ -10,3 +10,4 @@ mod notes;
 pub mod place;
 pub mod recover;
 pub mod rows;
+pub mod unkept;

@@ -49,8 +49,8 @@ fn journaled<F: Files + Drop>(
     alloc: Global,
     files: F,
     folder: &str,
-) -> Result<Journaled<F>, AllocError> {
-    Ok(Journaled::new(alloc, files, place(alloc, folder)?))
+) -> Result<Journaled<F, u64>, AllocError> {
+    Ok(Journaled::new(alloc, files, place(alloc, folder)?, 0u64))
 }
 
 /// The files that these steps make.
@@ -96,7 +96,7 @@ fn memory(alloc: Global, files: &mut MemoryFiles, question: &str) -> Result<Stri
 
 #[derive(Drop)]
 struct Call {
-    over: Apart<Journaled<MemoryFiles>, MemoryFiles>,
+    over: Apart<Journaled<MemoryFiles, u64>, MemoryFiles>,
     below: MemoryFiles,
     front: MemoryFiles,
 }
@@ -112,7 +112,7 @@ impl Call {
 
     fn end(&mut self, alloc: Global) -> Result<String, AllocError> {
         let none = journaled(alloc, MemoryFiles::new(alloc), "")?;
-        self.below = mem::replace(&mut self.over.files, none).into_inner();
+        self.below = mem::replace(&mut self.over.files, none).into_inner().0;
         String::from_str(alloc, "ok")
     }
 

@@ -1,6 +1,6 @@
 //! Calls on files with a journal: `journal` with arguments answers the status, how many calls of
-//! the files failed, the paths that the call changed, and after a bar those of its lockfiles. A `-`
-//! precedes a path that was removed.
+//! the files failed, how many writes couldn't be kept, the paths that the call changed, and after a
+//! bar those of its lockfiles. A `-` precedes a path that was removed.
 
 use crate::tests::asked::on;
 use crate::tests::scene::scene_of;
@@ -32,10 +32,9 @@ pub fn journaled(alloc: Global, world: &str, words: &str) -> Result<String, Allo
         journal: String::from_str(alloc, "/w/journal")?,
     };
     let (words, _, mut host) = scene.parts(alloc);
-    let (status, files, lockfiles, failed): (u8, MemoryFiles, MemoryFiles, u64) = run_journaled(
-        words, None, files, lockfiles, place, &mut host,
-    );
-    let mut text = format!(in alloc; "status {status}, {failed} failed")?;
+    let (status, files, lockfiles, failed, unkept): (u8, MemoryFiles, MemoryFiles, u64, u64) =
+        run_journaled(words, None, files, lockfiles, place, 0u64, &mut host);
+    let mut text = format!(in alloc; "status {status}, {failed} failed, {unkept} unkept")?;
     push_paths(&mut text, files.steps(), scene.first)?;
     text.push_str(" |")?;
     push_paths(&mut text, lockfiles.steps(), scene.first)?;
@@ -49,12 +48,12 @@ fn journals(rt: HostRuntime) -> Result<(), Wrong> {
         ROOT,
         r#"
             > journal: hack check
-            | status 0, 0 failed |
+            | status 0, 0 failed, 0 unkept |
 
             # The journal, the edit, its undoing, which the journal has already, and no journal: its
             # next file, which no edit wrote, is removed too.
             > journal: hack check --no-dev-deps
-            | status 0, 0 failed /w/journal /w/Cargo.toml /w/Cargo.toml -/w/journal~1 -/w/journal | /w/Cargo.lock
+            | status 0, 0 failed, 0 unkept /w/journal /w/Cargo.toml /w/Cargo.toml -/w/journal~1 -/w/journal | /w/Cargo.lock
         "#,
     )
 }
@@ -66,7 +65,7 @@ fn journals_of_a_workspace(rt: HostRuntime) -> Result<(), Wrong> {
         VIRTUAL,
         r#"
             > journal: hack check --no-private --workspace
-            | status 0, 0 failed /w/journal /w/Cargo.toml /w/Cargo.toml -/w/journal~1 -/w/journal |
+            | status 0, 0 failed, 0 unkept /w/journal /w/Cargo.toml /w/Cargo.toml -/w/journal~1 -/w/journal |
         "#,
     )
 }
@@ -81,19 +80,19 @@ fn journaled_calls_that_fail(rt: HostRuntime) -> Result<(), Wrong> {
         ROOT,
         r#"
             > journal: hack check --no-dev-deps; fails 101 cargo check --manifest-path Cargo.toml
-            | status 1, 0 failed /w/journal /w/Cargo.toml /w/Cargo.toml -/w/journal~1 -/w/journal | /w/Cargo.lock
+            | status 1, 0 failed, 0 unkept /w/journal /w/Cargo.toml /w/Cargo.toml -/w/journal~1 -/w/journal | /w/Cargo.lock
 
             > journal: hack check --each-feature --keep-going --no-dev-deps; fails 101 cargo check --manifest-path Cargo.toml --no-default-features
-            | status 1, 0 failed /w/journal /w/Cargo.toml /w/Cargo.toml -/w/journal~1 -/w/journal | /w/Cargo.lock
+            | status 1, 0 failed, 0 unkept /w/journal /w/Cargo.toml /w/Cargo.toml -/w/journal~1 -/w/journal | /w/Cargo.lock
 
             > journal: hack check --no-dev-deps --version-range 1.60..=1.50
-            | status 1, 0 failed /w/journal /w/Cargo.toml /w/Cargo.toml -/w/journal~1 -/w/journal | /w/Cargo.lock
+            | status 1, 0 failed, 0 unkept /w/journal /w/Cargo.toml /w/Cargo.toml -/w/journal~1 -/w/journal | /w/Cargo.lock
 
             > journal: hack check --no-dev-deps --print-command-list; broken write 1
-            | status 1, 0 failed /w/journal /w/Cargo.toml /w/Cargo.toml -/w/journal~1 -/w/journal | /w/Cargo.lock
+            | status 1, 0 failed, 0 unkept /w/journal /w/Cargo.toml /w/Cargo.toml -/w/journal~1 -/w/journal | /w/Cargo.lock
 
             > journal: hack check --no-dev-deps --each-feature --feature-powerset
-            | status 1, 0 failed |
+            | status 1, 0 failed, 0 unkept |
         "#,
     )
 }

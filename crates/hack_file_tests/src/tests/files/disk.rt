@@ -191,7 +191,7 @@ fn paths_where_no_file_can_be(rt: HostRuntime) -> Result<(), Wrong> {
             > remove none/a
             | ok
 
-            # A file where a folder should be.
+            # A file where a folder should be: nothing is below it.
             > write file x
             | ok
             > read file/a
@@ -199,9 +199,9 @@ fn paths_where_no_file_can_be(rt: HostRuntime) -> Result<(), Wrong> {
             > write file/a x
             | device
             > exists file/a
-            | device
+            | false
             > remove file/a
-            | device
+            | ok
 
             # A name that no system takes.
             > read a\0b
@@ -214,7 +214,7 @@ fn paths_where_no_file_can_be(rt: HostRuntime) -> Result<(), Wrong> {
             | device
 
             > failures
-            | 13
+            | 11
             > names
             | 2
         ",

@@ -39,14 +39,14 @@ fn edited(alloc: Global, call: u64) -> Result<MemoryFiles, AllocError> {
     let _ = files.write("a", b"one");
     let mut files = journaled(alloc, FailingFiles::new(files, call), "")?;
     let _ = edit(&mut files);
-    let done = files.into_inner();
+    let (done, _) = files.into_inner();
     match replayed(alloc, done.inner().steps()) {
         Ok(files) => Ok(files),
         Err(_) => Ok(MemoryFiles::new(alloc)),
     }
 }
 
-fn edit<F: Files>(files: &mut Journaled<F>) -> Result<bool, FileFault> {
+fn edit<F: Files>(files: &mut Journaled<F, u64>) -> Result<bool, FileFault> {
     files.write("a", b"x")?;
     files.write("c", b"new")?;
     files.write("a", b"one")?;

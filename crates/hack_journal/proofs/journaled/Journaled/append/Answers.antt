@@ -7,6 +7,7 @@ use Rattle.hack_journal.specs.SafeFiles.{Stays}
 use Rattle.hack_journal.specs.SafeLaws.{stays_none, makes_none}
 use Rattle.hack_journal.proofs.SafeLemmas.{append_hidden, append_made, append_noted, append_others, ready_of}
 use Rattle.hack_journal.proofs.FinishLemmas.{all_same}
+use Rattle.hack_journal.proofs.RefusingLemmas.{grow_more}
 use Rattle.hack_journal.proofs.journaled.Journaled.append.Goals as goal
 
 pub returns-in_err-text-clause-stays : goal.returns-in_err-text-clause-stays
@@ -83,3 +84,21 @@ returns-clause-stays g c = λ notable tells whole.
     let kept : c.push.new.self.entries ≡ s.notes.entries = c.in-Err.ensures.kept ∙ ap (λ (n : Noted). n.entries) notes in
     subst (λ (es : List Edit). Stays (spot_in s) s.notes.entries es (g.F.Files.trace s.files) (g.F.Files.trace c.write.new.self) (g.F.Files.bytes_at s.files) (g.F.Files.bytes_at c.write.new.self)) (sym kept)
     (append_made (spot_in s) s.notes.entries (edit_of c.args.entry) _ c.in_ok-text.text.items _ _ _ _ _ _ path (c.in_ok-after.ensures.untraced whole) ready (inr (rw text at (c.in_ok-write.ensures.traced whole))))
+
+pub returns-in_err-write-clause-handed : goal.returns-in_err-write-clause-handed
+returns-in_err-write-clause-handed g c = g.F.Files.stays_more _ _ _ c.in_ok-after.ensures.handed c.in_err-write.ensures.stays
+
+pub returns-in-Ok-clause-handed : goal.returns-in-Ok-clause-handed
+returns-in-Ok-clause-handed g c = g.F.Files.stays_more _ _ _ c.in_ok-after.ensures.handed c.in_ok-write.ensures.stays
+
+pub returns-clause-handed : goal.returns-clause-handed
+returns-clause-handed g c = g.F.Files.stays_more _ _ _ c.in_ok-after.ensures.handed c.in_ok-write.ensures.stays
+
+pub returns-in_err-write-clause-below : goal.returns-in_err-write-clause-below
+returns-in_err-write-clause-below g c = grow_more _ _ _ c.in_ok-after.ensures.below (_, c.in_err-write.ensures.counted)
+
+pub returns-in-Ok-clause-below : goal.returns-in-Ok-clause-below
+returns-in-Ok-clause-below g c = grow_more _ _ _ c.in_ok-after.ensures.below (_, c.in_ok-write.ensures.counted)
+
+pub returns-clause-below : goal.returns-clause-below
+returns-clause-below g c = grow_more _ _ _ c.in_ok-after.ensures.below (_, c.in_ok-write.ensures.counted)

@@ -1,30 +1,36 @@
-use Rattle.std.proofs.Common.{◌≡◌, ◌∙◌, false, inl, sym}
-use Rattle.std.proofs.lemmas.Result.{err_from_is_err_and, on_ok_weaker, on_err_weaker}
+use Rattle.std.proofs.Common.{◌≡◌, ◌∙◌, ap, false, inl, sym}
+use Rattle.std.proofs.lemmas.Result.{on_ok_weaker, on_err_weaker}
 use Rattle.hack_journal.specs.Rows.{is_of_journal}
 use Rattle.hack_journal.specs.SafeLaws.{stays_none, makes_none, stays_more}
+use Rattle.hack_journal.proofs.RefusingLemmas.{counted_below}
 use Rattle.hack_journal.proofs.SafeLemmas.{hidden_put, hidden_alone, hidden_or_not, put_or_not_stays, at_either}
 use Rattle.hack_journal.proofs.journaled.Journaled.change.Goals as goal
 
 pub returns-then-is_of_journal-clause-stays : goal.returns-then-is_of_journal-clause-stays
 returns-then-is_of_journal-clause-stays g c = λ tells whole. stays_none _ _ _ _ _ _ (makes_none _ _)
 
-pub returns-in_err-keep-clause-refused : goal.returns-in_err-keep-clause-refused
-returns-in_err-keep-clause-refused g c =
-    let p = err_from_is_err_and c.from_residual.result c.from_residual.ensures.1 in
-    rw p.1 (λ whole. inl (hidden_alone _ _ _ _ _ (c.in_err-keep.ensures.hidden whole)))
+pub returns-in-Err-clause-refused : goal.returns-in-Err-clause-refused
+returns-in-Err-clause-refused g c = λ whole. inl (hidden_alone _ _ _ _ _ (c.in-Err.ensures.hidden whole))
 
-pub returns-clause-traced : goal.returns-clause-traced
-returns-clause-traced g c =
+pub returns-in-Ok-clause-handed : goal.returns-in-Ok-clause-handed
+returns-in-Ok-clause-handed g c = g.F.Files.stays_more _ _ _ c.in-Ok.ensures.handed c.put.ensures.stays
+
+pub returns-in-Ok-clause-counted : goal.returns-in-Ok-clause-counted
+returns-in-Ok-clause-counted g c = counted_below c.put.result _ _ _ _ _ c.in-Ok.ensures.below c.put.ensures.failures (ap (λ s. g.U.Unkept.told s.unkept) c.in-Ok.ensures.rest)
+
+pub returns-in-Ok-clause-traced : goal.returns-in-Ok-clause-traced
+returns-in-Ok-clause-traced g c =
     let out : is_of_journal c.args.self.now.notes.journal c.args.path.now ≡ false = sym c.is_of_journal.ensures ∙ c.if-is_of_journal.false in
-    on_ok_weaker c.put.result (λ makes whole. hidden_put _ _ _ _ _ _ _ _ _ out (c.in_ok-keep.ensures.hidden whole) (makes whole)) c.put.ensures.traced
+    on_ok_weaker c.put.result (λ makes whole. hidden_put _ _ _ _ _ _ _ _ _ out (c.in-Ok.ensures.hidden whole) (makes whole)) c.put.ensures.traced
 
-pub returns-clause-refused : goal.returns-clause-refused
-returns-clause-refused g c =
+pub returns-in-Ok-clause-refused : goal.returns-in-Ok-clause-refused
+returns-in-Ok-clause-refused g c =
     let out : is_of_journal c.args.self.now.notes.journal c.args.path.now ≡ false = sym c.is_of_journal.ensures ∙ c.if-is_of_journal.false in
-    on_err_weaker c.put.result (λ makes whole. hidden_or_not _ _ _ _ _ _ _ _ _ out (c.in_ok-keep.ensures.hidden whole) (makes whole)) c.put.ensures.refused
+    on_err_weaker c.put.result (λ makes whole. hidden_or_not _ _ _ _ _ _ _ _ _ out (c.in-Ok.ensures.hidden whole) (makes whole)) c.put.ensures.refused
 
-pub returns-clause-stays : goal.returns-clause-stays
-returns-clause-stays g c = λ tells whole.
+pub returns-in-Ok-clause-stays : goal.returns-in-Ok-clause-stays
+returns-in-Ok-clause-stays g c = λ tells whole.
     let out : is_of_journal c.args.self.now.notes.journal c.args.path.now ≡ false = sym c.is_of_journal.ensures ∙ c.if-is_of_journal.false in
     let makes = at_either c.put.result _ _ _ _ _ c.put.ensures.traced c.put.ensures.refused whole in
-    stays_more _ _ _ _ _ _ _ _ _ _ (c.in_ok-keep.ensures.stays out tells whole) (put_or_not_stays _ _ _ _ _ _ _ _ out c.in_ok-keep.ensures.told makes)
+    let told = rw c.in-Ok.is at c.keep.ensures.told in
+    stays_more _ _ _ _ _ _ _ _ _ _ (c.in-Ok.ensures.stays out tells whole) (put_or_not_stays _ _ _ _ _ _ _ _ out told makes)

@@ -5,6 +5,7 @@ use Rattle.hack_journal.specs.Internal.{IsNotable}
 use Rattle.hack_journal.specs.Rows.{Noted}
 use Rattle.hack_journal.specs.FileCalls.{spot_in}
 use Rattle.hack_journal.proofs.FinishLemmas.{all_same}
+use Rattle.hack_journal.proofs.RefusingLemmas.{grow_more}
 use Rattle.hack_journal.proofs.SafeLemmas.{notable_of, told_ok}
 use Rattle.hack_journal.specs.Journal.{edit_of}
 use Rattle.hack_journal.proofs.journaled.Journaled.keep.Goals as goal
@@ -33,3 +34,9 @@ returns-clause-stays g c = λ out tells whole.
     stays_join (spot_in s) (spot_in mid) s.notes.entries mid.notes.entries c.append.new.self.notes.entries (g.F.Files.trace s.files) (g.F.Files.trace mid.files) (g.F.Files.trace c.append.new.self.files) (g.F.Files.bytes_at s.files) (g.F.Files.bytes_at mid.files) (g.F.Files.bytes_at c.append.new.self.files)
     (sym spot) (subst (λ (n : Noted). Stays (spot_in s) s.notes.entries n.entries (g.F.Files.trace s.files) (g.F.Files.trace mid.files) (g.F.Files.bytes_at s.files) (g.F.Files.bytes_at mid.files)) (sym notes) look)
     (c.append.ensures.stays (λ t. noted) tells whole)
+
+pub returns-clause-handed : goal.returns-clause-handed
+returns-clause-handed g c = g.F.Files.stays_more _ _ _ c.in_ok-entry.ensures.handed c.append.ensures.handed
+
+pub returns-clause-below : goal.returns-clause-below
+returns-clause-below g c = grow_more _ _ _ c.in_ok-entry.ensures.below c.append.ensures.below

@@ -1,0 +1,19 @@
+use Rattle.std.proofs.Common.{◌≡◌, ap, refl, rules}
+use Rattle.hack_journal.proofs.RefusingLemmas.{just_looks, within_first, within_second}
+use Rattle.hack_journal.proofs.apart.ApartFiles.exists.Goals.{then-is_lockfile, else-is_lockfile}
+use Rattle.hack_journal.proofs.apart.ApartFiles.exists.Goals as goal
+
+pub returns-clause-looks : goal.returns-clause-looks
+returns-clause-looks g c =
+    let same : c.if-is_lockfile.self.failures ≡ c.args.self.now.failures = elim c.if-is_lockfile.branch [ then-is_lockfile w ↦ ap (λ s. s.failures) w.self-is | else-is_lockfile w ↦ ap (λ s. s.failures) w.self-is ] in
+    let counted = rw same at c.counted.ensures.counted in
+    record {
+      stays = elim c.if-is_lockfile.branch [
+        | then-is_lockfile w ↦ rw w.self-is (g.A.Files.stays_none _, w.exists-outcome.ensures.stays, (λ t q lock. refl), within_second w.exists-outcome.result _ _ _ _ _ w.exists-outcome.ensures.counted (rw w.outcome-is at counted))
+        | else-is_lockfile w ↦ rw w.self-is (w.exists-outcome-else-is_lockfile.ensures.stays, g.B.Files.stays_none _, (λ t q lock. w.exists-outcome-else-is_lockfile.ensures.same t q), within_first w.exists-outcome-else-is_lockfile.result _ _ _ _ _ w.exists-outcome-else-is_lockfile.ensures.counted (rw w.outcome-is at counted))
+      ];
+      counted = search rules;
+      refused_none = just_looks _ _ _ _ counted;
+      same = search rules;
+      untraced = λ e. absurd e;
+    }

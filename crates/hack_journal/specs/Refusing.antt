@@ -1,0 +1,55 @@
+-- Which writes and removals were refused, and by whom.
+use Rattle.std.specs.Prelude.{◌≡◌, ◌⊎◌, ◌≤◌, ◌+◌, ◌∷◌, [], ℕ, List, Result, OnErr, IsErr, IsTrue, All, length}
+use Rattle.hack_base.specs.Counters.{GrowsBy}
+use Rattle.hack_files.specs.Files.{GrowsAtLeastBy}
+use Rattle.hack_files.specs.declared.fs.Files.{Ghosts as Filing}
+use Rattle.hack_journal.specs.LockfilesApart.{is_lockfile}
+use Rattle.hack_journal.specs.declared.unkept.Unkept.{Ghosts as Noting}
+
+-- these files refused a write or removal of this path
+pub record IsRefused {F : Type 0} (f : Filing F) (path : List ℕ) : Type 0 where
+  pub before : F
+  pub after : F
+  pub refused : f.refuses before after (path ∷ [])
+
+-- it was told that a write or removal of this path couldn't be kept
+pub record IsUnkept {U : Type 0} (u : Noting U) (path : List ℕ) : Type 0 where
+  pub before : U
+  pub after : U
+  pub missed : u.misses before after path
+
+-- a write or removal of this path was refused by the files below, or couldn't be kept
+abbrev pub IsRefusedOrUnkept : {F U : Type 0} → Filing F → Noting U → List ℕ → Type 0
+IsRefusedOrUnkept f u path = IsRefused f path ⊎ IsUnkept u path
+
+-- nobody was told that something couldn't be kept; or the call failed, and its own path was told
+abbrev pub TellsItsOwn : {U T E : Type 0} → Noting U → List ℕ → Result T E → U → U → Type 0
+TellsItsOwn u path result old new = (new ≡ old) ⊎ (IsErr result × u.misses old new path)
+
+-- P holds of the path, or Q where it is a lockfile's
+pub record HoldsByKind (P Q : List ℕ → Type 0) (path : List ℕ) : Type 0 where
+  pub files : ¬ IsTrue (is_lockfile path) → P path
+  pub lockfiles : IsTrue (is_lockfile path) → Q path
+
+-- P holds of each of these paths, and at least as many calls failed
+pub record AreJust (P : List ℕ → Type 0) (paths : List (List ℕ)) (old new : ℕ) : Type 0 where
+  pub each : All P paths
+  pub failed : GrowsAtLeastBy (length paths) old new
+
+-- a count grew by no more than two others together
+pub record GrowsWithin (one_old one_new two_old two_new old new : ℕ) : Type 0 where
+  pub first : ℕ
+  pub second : ℕ
+  pub both : ℕ
+  pub one : GrowsBy first one_old one_new
+  pub two : GrowsBy second two_old two_new
+  pub sum : GrowsBy both old new
+  pub most : both ≤ first + second
+
+-- a call that failed is counted by one of two counts
+pub record IsCounted {T E : Type 0} (result : Result T E) (one_old one_new two_old two_new : ℕ) : Type 0 where
+  pub first : ℕ
+  pub second : ℕ
+  pub one : GrowsBy first one_old one_new
+  pub two : GrowsBy second two_old two_new
+  pub some : OnErr result (1 ≤ first + second)

@@ -1,0 +1,36 @@
+-- What the laws of refused writes are proved by.
+use Rattle.std.proofs.Common.{ℕ, List, [], ◌++◌, ◌+◌, arith}
+use Rattle.std.proofs.lemmas.List.Elements.{All-append, All-nil}
+use Rattle.hack_base.specs.Counters.{GrowsBy}
+use Rattle.hack_files.specs.Files.{Grows}
+use Rattle.hack_files.specs.RefusalLaws.{at_least_none, at_least_more}
+use Rattle.hack_journal.specs.Refusing.{AreJust, GrowsWithin}
+
+pub just_none : (P : List ℕ → Type 0) (n : ℕ) → AreJust P [] n n
+just_none P n = record { each = All-nil P; failed = at_least_none n }
+
+pub just_more : (P : List ℕ → Type 0) (ps qs : List (List ℕ)) (a b c : ℕ) → AreJust P ps a b → AreJust P qs b c → AreJust P (ps ++ qs) a c
+just_more P ps qs a b c f g = record { each = All-append P ps qs f.each g.each; failed = at_least_more ps qs a b c f.failed g.failed }
+
+pub just_some : (P : List ℕ → Type 0) (a b : ℕ) → Grows a b → (ps : List (List ℕ)) × AreJust P ps a b
+just_some P a b grown = ([], record { each = All-nil P; failed = λ low. let now = grown.1 low in (omega (arith, now), omega (arith, now)) })
+
+pub grows_none : (n : ℕ) → GrowsBy 0 n n
+grows_none n = λ low. omega (arith, low)
+
+pub grows_more : (i j x y z : ℕ) → GrowsBy i x y → GrowsBy j y z → GrowsBy (i + j) x z
+grows_more i j x y z f g = λ low. let first = f low in let second = g (omega (arith, first)) in omega (arith, first, second)
+
+pub within_none : (a b c : ℕ) → GrowsWithin a a b b c c
+within_none a b c = record { first = 0; second = 0; both = 0; one = grows_none a; two = grows_none b; sum = grows_none c; most = omega arith }
+
+pub within_more : (a b c x y z u v w : ℕ) → GrowsWithin a b x y u v → GrowsWithin b c y z v w → GrowsWithin a c x z u w
+within_more a b c x y z u v w f g = record {
+  first = f.first + g.first;
+  second = f.second + g.second;
+  both = f.both + g.both;
+  one = grows_more f.first g.first a b c f.one g.one;
+  two = grows_more f.second g.second x y z f.two g.two;
+  sum = grows_more f.both g.both u v w f.sum g.sum;
+  most = omega (arith, f.most, g.most);
+}
