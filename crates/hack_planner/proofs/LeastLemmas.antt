@@ -1,7 +1,6 @@
 -- The runs of a package are at least as many as its sets, and one without features.
-use Rattle.std.proofs.Common.{◌≡◌, ◌∙◌, ℕ, ◌+◌, ◌-◌, ◌≤◌, List, [], ◌∷◌, ◌++◌, length, take, drop, map, Bool, true, false, cond, not, None, inl, inr, refl, ap, sym, subst, arith, eqb-true, length-append}
+use Rattle.std.proofs.Common.{◌≡◌, ◌∙◌, ℕ, ◌+◌, ◌-◌, ◌≤◌, List, [], ◌∷◌, ◌++◌, length, take, drop, map, Bool, true, false, cond, not, None, refl, ap, sym, subst, arith, eqb-true, length-append}
 use Rattle.std.specs.Prelude.{nat_lt, ◌&&◌, ◌||◌, ◌==◌, if◌then◌else◌}
-use Rattle.std.proofs.lemmas.Bool.{cases_Bool}
 use Rattle.std.proofs.lemmas.List.{take-append-drop, length-map}
 use Rattle.std.specs.Bool.{MatchBool}
 use Rattle.hack_load.specs.declared.features.Features.{Features}
@@ -13,9 +12,8 @@ use Rattle.hack_plan.specs.Runs.{Plain, AllFeatures, NoDefaultFeatures, Set, in_
 use Rattle.hack_plan.specs.RunsView.{with_last_first}
 use Rattle.hack_planner.specs.Candidates.{candidates}
 use Rattle.hack_planner.specs.Kinds.{ArePowersets, AreSets, AreSetRuns, package_choice, options_of}
-use Rattle.hack_planner.specs.LeastRuns.{HasRunsAtLeast}
-use Rattle.hack_planner.specs.Internal.{ListsAtLeast}
-use Rattle.hack_planner.proofs.KindLemmas.{covering-plain, covering-runs, first-true, or-true}
+use Rattle.hack_planner.specs.InternalLeastPlaces.{GivesAtLeast, HasRunsAtLeast}
+use Rattle.hack_planner.proofs.KindLemmas.{first-true, or-true}
 
 pub length-turned : (b : Bool) (sets : List (List ℕ)) → length (with_last_first b sets) ≡ length sets
 length-turned true sets =
@@ -49,21 +47,17 @@ many-by o sets n least false is enough most none =
       most,
     )
 
--- under a powerset of all sets, a package of so many listed sets
-pub runs-at_least : (w : Args) (p : PackageRecord) (f : Features) (n least : ℕ) → w.feature_powerset ≡ true → w.strength ≡ None → ListsAtLeast (package_choice w p f) (length (candidates w f)) n → least ≤ n + cond w.exclude_no_default_features 0 1 → (n ≡ 0 → least ≡ 0)
-    → HasRunsAtLeast w p f least
-runs-at_least w p f n least powerset strength h most none =
+-- under a powerset of all sets, a package whose listed sets give so many runs
+pub runs-at_least : (w : Args) (p : PackageRecord) (f : Features) (least : ℕ) → w.feature_powerset ≡ true → w.strength ≡ None → GivesAtLeast w (package_choice w p f) (length (candidates w f)) least → HasRunsAtLeast w p f least
+runs-at_least w p f least powerset strength h =
     let o = options_of w f in
+    let sets = h.lists.sets in
     let asked : (w.each_feature || w.feature_powerset) ≡ true = ap (λ b. w.each_feature || b) powerset ∙ or-true w.each_feature in
-    let listed : ArePowersets w.strength (package_choice w p f) (length (candidates w f)) h.sets = subst (λ s. ArePowersets s (package_choice w p f) (length (candidates w f)) h.sets) (sym strength) h.listing in
-    let are : AreSets w.feature_powerset w p f h.sets = subst (λ b. AreSets b w p f h.sets) (sym powerset) listed in
-    let made : AreSetRuns w p f (runs_from o h.sets) = record { sets = h.sets; are_sets = are; made = refl } in
+    let listed : ArePowersets w.strength (package_choice w p f) (length (candidates w f)) sets = subst (λ s. ArePowersets s (package_choice w p f) (length (candidates w f)) sets) (sym strength) h.lists.listing in
+    let are : AreSets w.feature_powerset w p f sets = subst (λ b. AreSets b w p f sets) (sym powerset) listed in
+    let made : AreSetRuns w p f (runs_from o sets) = record { sets = sets; are_sets = are; made = refl } in
     record {
-      runs = runs_from o h.sets;
-      are_runs = subst (λ b. MatchBool b (AreSetRuns w p f (runs_from o h.sets)) ((runs_from o h.sets) ≡ Plain ∷ [])) (sym asked) made;
-      covering = elim (cases_Bool (is_plain o h.sets)) [
-        | inl plain ↦ covering-plain w p f h.sets (runs_from o h.sets) plain h.covers
-        | inr some ↦ covering-runs w p f h.sets (runs_from o h.sets) some h.covers refl
-      ];
-      enough = many-by o h.sets n least (is_plain o h.sets) refl h.enough most none;
+      runs = runs_from o sets;
+      are_runs = subst (λ b. MatchBool b (AreSetRuns w p f (runs_from o sets)) ((runs_from o sets) ≡ Plain ∷ [])) (sym asked) made;
+      enough = many-by o sets h.sets least (is_plain o sets) refl h.lists.enough h.most h.none;
     }

@@ -19,7 +19,7 @@ use Rattle.hack_features.specs.Tables.{bit, is_required}
 use Rattle.hack_features.specs.View.{choice_of, may_of, size_of, whole_of}
 use Rattle.hack_features.proofs.MemberLemmas.{member_iff}
 use Rattle.hack_features.proofs.Permitted.{Passes, listing_filter, listing_same, permitted_below, permitted_listing, whole_iff}
-use Rattle.hack_features.proofs.RuleLemmas.{covers_of, listing_of, tables_of}
+use Rattle.hack_features.proofs.RuleLemmas.{listing_of, tables_of}
 use Rattle.hack_features.proofs.SampleLemmas.{selected}
 use Rattle.hack_planner.specs.Internal.{ListsAtLeast}
 
@@ -242,13 +242,12 @@ module _ (r : Rules) where
         record {
           sets = all_listed;
           listing = listing;
-          covers = covers_of r (tables_of r) all_listed listing;
           enough = omega (arith, few, all, length-between 0 least most, ap (λ j. 2 ^ j) free);
         }
 
   -- there are at least none
   pub none : ListsAtLeast (choice_of r) (size_of r) 0
-  none = record { sets = all_listed; listing = listing; covers = covers_of r (tables_of r) all_listed listing; enough = omega arith }
+  none = record { sets = all_listed; listing = listing; enough = omega arith }
 
 -- ---- rules after questions
 

@@ -1,9 +1,8 @@
 -- Which packages use a version: what versions with their packages say of it, and what it says of a plan.
-use Rattle.std.proofs.Common.{◌≡◌, ◌↔◌, ◌⊎◌, refl, sym, ap, subst, ◌∙◌, arith, ℕ, zero, suc, ◌+◌, ◌*◌, ◌<◌, List, [], ◌∷◌, length, get_or, take, map, inl, inr, Bool, true, false, not, Option, Some, None, IfSome, IsTrue, All, Contains, option_map}
+use Rattle.std.proofs.Common.{◌≡◌, ◌↔◌, ◌⊎◌, refl, sym, ap, subst, ◌∙◌, arith, ℕ, zero, suc, ◌+◌, ◌*◌, List, [], ◌∷◌, map, inl, inr, Bool, true, false, not, Option, Some, None, IfSome, IsTrue, All, Contains, option_map}
 use Rattle.std.specs.Prelude.{slice_get}
 use Rattle.std.specs.List.{AllZip}
-use Rattle.std.proofs.lemmas.List.Elements.{All-cons, All-contains, All-head, All-tail, Contains-push_cases}
-use Rattle.std.proofs.lemmas.List.{take_more}
+use Rattle.std.proofs.lemmas.List.Elements.{All-cons, All-contains, All-head, All-tail}
 use Rattle.std.proofs.lemmas.Option.{same_Some}
 use Rattle.hack_base.specs.Names.{Name}
 use Rattle.hack_load.specs.Contexts.{ContextRecord, rust_version_at}
@@ -27,16 +26,6 @@ use Rattle.hack_versions.proofs.RangeLemmas.{version-same}
 use Rattle.hack_planner.specs.Calls.{HasCoverage, IsChosenPackage, IsCoveredIn, IsInputOf, IsMember, IsOwn, IsPackageOf, IsUsed, UsesSome}
 use Rattle.hack_planner.specs.InternalUses.{InGroups, IsCoveredAs, IsPlannedAs, IsRight, id_of}
 use Rattle.hack_planner.specs.declared.uses.Chosen.{Chosen}
-
--- ---- lists
-
--- none so far, and this one isn't either
-pub none-more : {X : Type 0} (P : X → Type 0) (xs : List X) (i : ℕ) (d : X) → i < length xs → ¬ P (get_or xs i d) → ((x : X) → Contains (take i xs) x → ¬ P x) → (x : X) → Contains (take (i + 1) xs) x → ¬ P x
-none-more P xs i d lt here before x c p =
-    elim (Contains-push_cases (take i xs) (get_or xs i d) x (subst (λ l. Contains l x) (take_more xs i d lt) c)) [
-      | inl w ↦ before x w p
-      | inr same ↦ here (subst P (sym same) p)
-    ]
 
 -- ---- the steps of a range
 

@@ -15,7 +15,7 @@ use Rattle.hack_planner.specs.declared.uses.Chosen.{Chosen}
 use Rattle.hack_words.specs.declared.cli.args.Args.{Args}
 use Rattle.hack_features.specs.View.{asked_in}
 use Rattle.hack_features.specs.Sets.{IsListing}
-use Rattle.hack_features.specs.Rules.{Choice, IsListed, AreCovers}
+use Rattle.hack_features.specs.Rules.{Choice, IsListed}
 
 -- the error says that the packages aren't known
 abbrev pub SaysPackagesUnknown : ContextRecord → PlanFault → Type 0
@@ -61,11 +61,10 @@ SaysNoSample cx id fault.TooManyRuns = ⊥
 abbrev pub HasRunsFault : ContextRecord → List Chosen → PlanFault → Type 0
 HasRunsFault cx chosen e = (one : Chosen) × Contains chosen one × IsTrue one.is_used × SaysNoSample cx one.id.index e
 
--- the listed sets are at least so many, and each set that has to be covered is covered by one of them
+-- the listed sets are at least so many
 pub record ListsAtLeast (c : Choice) (n least : ℕ) : Type 0 where
   pub sets : List (List ℕ)
   pub listing : IsListing n (IsListed c) sets
-  pub covers : AreCovers c n sets
   pub enough : least ≤ length sets
 
 -- a sample is given up for want of memory, or after just as many questions as may be asked, which the tally tells

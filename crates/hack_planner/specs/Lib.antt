@@ -8,7 +8,6 @@ pub mod Candidates
 pub mod Kinds
 pub mod KindsView
 pub mod InternalKinds
-pub mod LeastRuns
 pub mod ContextMembers
 pub mod Calls
 pub mod CoveredSets

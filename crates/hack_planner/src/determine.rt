@@ -13,14 +13,12 @@ ghost use Rattle.hack_planner.specs.Kinds.{AreRuns, AreCovering, IsDepthOne, as_
 ghost use Rattle.hack_planner.specs.Kinds.{AreRunSettings, package_choice};
 ghost use Rattle.hack_samples.specs.Sets.{rows_of};
 ghost use Rattle.hack_planner.specs.KindsView.{IsKind, IsRunsFault, runs_of};
-ghost use Rattle.hack_planner.specs.LeastRuns.{HasRunsAtLeast};
 ghost use Rattle.hack_planner.specs.ContextMembers.{member_at, members_in};
 ghost use Rattle.hack_planner.specs.ContextMembers.{current_name as current_called};
 ghost use Rattle.hack_planner.specs.ContextMembers.{AreChosen, AreChoiceNotes, IsChoiceFault};
 
 use crate::fault::{PackagesFault, RunsFault};
 use crate::kind::{PackageRuns, determine_runs};
-use crate::least::least_runs;
 use crate::member::Member;
 use crate::packages::{PackageList, choose_packages};
 use hack_base::notice::Notice;
@@ -162,23 +160,4 @@ pub fn determine_kind(
     let pkg = context.packages(id);
     let features = context.pkg_features(id);
     determine_runs(alloc, context.args(), id, pkg, features, single)
-}
-
-/// Returns a number, of which a member of the workspace has at least as many runs under a powerset
-/// without a strength. It is found without a list of its sets.
-pub fn least_count(alloc: Global, context: &Context, id: PackageId) -> Result<usize, AllocError>
-    requires member { Contains (context_view context.now).metadata.workspace_members id.index }
-    requires powerset { (context_view context.now).args.feature_powerset ≡ true }
-    requires all { (context_view context.now).args.strength ≡ None }
-    ensures { (p : PackageRecord) (features : Loaded)
-        → package_at (context_view context.now) id.index ≡ Some p
-        → features_at (context_view context.now) id.index ≡ Some features
-        → IfOk result
-        (HasRunsAtLeast (context_view context.now).args p features) }
-{
-    // This call promises that what was loaded fits together.
-    let _ = context.workspace_members();
-    let pkg = context.packages(id);
-    let features = context.pkg_features(id);
-    least_runs(alloc, context.args(), pkg, features)
 }

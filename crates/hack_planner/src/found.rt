@@ -2,7 +2,7 @@
 //! run. The rules that choose among the sets are made once, and everything is asked of these.
 
 ghost use Rattle.std.specs.Prelude.{◌≡◌, ◌⊎◌, ◌==◌, [], IfErr, IfOk, None, false, true};
-ghost use Rattle.std.specs.Prelude.{length, string_bytes};
+ghost use Rattle.std.specs.Prelude.{IfSome, IsSome, length, string_bytes};
 ghost use Rattle.std.specs.List.{AllZip};
 ghost use Rattle.std.specs.Option.{option_map_or};
 ghost use Rattle.hack_features.specs.Feature.{groups_of, candidates_of};
@@ -12,18 +12,21 @@ ghost use Rattle.hack_features.specs.Samples.{IsSample, CoversPatterns, IsLean};
 ghost use Rattle.hack_features.specs.View.{choice_of as rules_choice, size_of, questions_asked};
 ghost use Rattle.hack_load.specs.declared.features.Features.{Features as Loaded};
 ghost use Rattle.hack_metadata.specs.RecordViews.{package_view};
+ghost use Rattle.hack_plan.specs.Inputs.{AreVersionsOf};
 ghost use Rattle.hack_plan.specs.Runs.{run_of};
 ghost use Rattle.hack_plan.specs.RunsView.{runs_in};
 ghost use Rattle.hack_samples.specs.Sets.{rows_of};
 ghost use Rattle.hack_planner.specs.Candidates.{candidates as are_candidates, lifted_for};
 ghost use Rattle.hack_planner.specs.Internal.{IsGivenUp, IsRefused};
 ghost use Rattle.hack_planner.specs.InternalKinds.{AreMade, IsMadeOf};
+ghost use Rattle.hack_planner.specs.InternalLeastPlaces.{HasRunsAtLeast, IsOver};
 ghost use Rattle.hack_planner.specs.Kinds.{AreRunSettings, AreSetsBy, IsRowOf, options_of};
 ghost use Rattle.hack_planner.specs.Kinds.{package_choice};
 ghost use Rattle.hack_planner.specs.KindsView.{IsRunsFault};
 
 use crate::candidates::is_bare;
 use crate::fault::RunsFault;
+use crate::least_places::{Limit, too_many};
 use crate::lifts::lifted_groups;
 use hack_features::{Feature, FeatureSets, Rules, SampleFault};
 use hack_load::features::Features;
@@ -43,36 +46,42 @@ pub(crate) struct Found {
     pub settings: Vec<Vec<bool>>,
 }
 
-/// What comes of the candidates of a package.
+/// What comes of the candidates of a package; or how many runs it has at least, if there is a limit
+/// and they pass it. Then no set is listed.
 pub(crate) fn found_among(
     alloc: Global,
     args: &Args,
     pkg: &Package,
     features: &Features,
     candidates: &[Feature],
-) -> Result<Found, RunsFault>
-    requires { groups_of candidates.now ≡ are_candidates args.now features.now }
-    ensures made { IfOk result (λ found. AreMade args.now features.now
+    limit: Option<Limit<'_>>,
+) -> Result<Result<Found, usize>, RunsFault>
+    requires candidates { groups_of candidates.now ≡ are_candidates args.now features.now }
+    requires versions { IfSome limit (λ l. AreVersionsOf l.input.now l.versions.now) }
+    ensures made { IfOk result (λ listed. IfOk listed (λ found. AreMade args.now features.now
         (package_choice args.now (package_view pkg.now) features.now)
         (length (are_candidates args.now features.now)) (runs_in found.runs) found.is_plain
-        (rows_of found.settings.items)) }
+        (rows_of found.settings.items))) }
+    ensures over { IfOk result (λ listed. IfErr listed (λ least.
+        HasRunsAtLeast args.now (package_view pkg.now) features.now least
+        × IsOver limit.entry least)) }
     ensures err { IfErr result (λ e. (e ≡ RunsFault.Memory)
         ⊎ IsRunsFault args.now (package_view pkg.now) features.now e) }
 {
     if !args.feature_powerset && args.strength.is_none() {
-        return Ok(each_alone(alloc, args, features, candidates.len())?);
+        return Ok(Ok(each_alone(alloc, args, features, candidates.len())?));
     }
     let lifted = lifted_groups(alloc, args, pkg.name.as_str())?;
     let all = all_of(alloc, candidates)?;
     let mut rules = rules_of(alloc, args, pkg, all.as_slice(), lifted.as_slice())?;
-    by_rules(alloc, args, features, &mut rules)
+    match too_many(alloc, args, &mut rules, limit)? {
+        Some(least) => Ok(Err(least)),
+        None => Ok(Ok(by_rules(alloc, args, features, &mut rules)?)),
+    }
 }
 
 /// References to all features.
-pub(crate) fn all_of<'a>(
-    alloc: Global,
-    features: &'a [Feature],
-) -> Result<Vec<&'a Feature>, AllocError>
+fn all_of<'a>(alloc: Global, features: &'a [Feature]) -> Result<Vec<&'a Feature>, AllocError>
     ensures { IfOk result (λ all. candidates_of all.items ≡ groups_of features.now) }
 {
     let mut all = Vec::with_capacity(alloc, features.len())?;
@@ -83,7 +92,7 @@ pub(crate) fn all_of<'a>(
 }
 
 /// The rules of the package; `all` has references to all its candidates.
-pub(crate) fn rules_of<'a>(
+fn rules_of<'a>(
     alloc: Global,
     args: &'a Args,
     pkg: &'a Package,
@@ -135,7 +144,7 @@ fn sample_of(alloc: Global, rules: &mut Rules, strength: usize) -> Result<Featur
 /// The sets that a package's rules, which nobody asked before, give it: those of a powerset, all
 /// that are listed or with a strength a sample of them; else each candidate alone.
 fn sets_of(alloc: Global, args: &Args, rules: &mut Rules) -> Result<FeatureSets, RunsFault>
-    requires { questions_asked rules.old ≡ 0 }
+    requires { IsSome args.now.strength → questions_asked rules.old ≡ 0 }
     ensures sets { IfOk result (λ sets. AreSetsBy args.now.feature_powerset args.now.strength
         (rules_choice rules.old) (size_of rules.old) (sets_in sets)) }
     ensures covers { args.now.feature_powerset ≡ true → args.now.strength ≡ None
@@ -276,15 +285,15 @@ fn each_alone(
     })
 }
 
-/// What comes of a package's rules, which nobody asked before: its sets and their rows are both
-/// theirs. If a sample needs too many questions, the error says how many these rules were asked.
+/// What comes of a package's rules, which nobody asked before if a sample is asked for: its sets and
+/// their rows are both theirs. If a sample needs too many questions, the error says how many these rules were asked.
 fn by_rules(
     alloc: Global,
     args: &Args,
     features: &Features,
     rules: &mut Rules,
 ) -> Result<Found, RunsFault>
-    requires { questions_asked rules.old ≡ 0 }
+    requires { IsSome args.now.strength → questions_asked rules.old ≡ 0 }
     ensures made { IfOk result (λ found. AreMade args.now features.now (rules_choice rules.old)
         (size_of rules.old) (runs_in found.runs) found.is_plain (rows_of found.settings.items)) }
     ensures err { IfErr result (λ e. (e ≡ RunsFault.Memory)

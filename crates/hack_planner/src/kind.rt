@@ -1,7 +1,7 @@
 //! The runs of a package, and its candidates.
 
 ghost use Rattle.std.specs.Prelude.{◌≡◌, ◌<◌, ◌⊎◌, ◌++◌, [], IfErr, IfOk};
-ghost use Rattle.std.specs.Prelude.{None, OnOk, Some, length, map, slice_get, string_bytes, true};
+ghost use Rattle.std.specs.Prelude.{IfSome, None, OnOk, Some, length, map, slice_get, string_bytes, true};
 ghost use Rattle.std.specs.List.{slice_index_or};
 ghost use Rattle.hack_features.specs.Feature.{groups_of};
 ghost use Rattle.hack_base.specs.Names.{names_of, names_behind};
@@ -14,11 +14,14 @@ ghost use Rattle.hack_plan.specs.Commands.{candidate_names_at};
 ghost use Rattle.hack_planner.specs.Kinds.{AreCovering, package_choice, IsDepthOne, as_each};
 ghost use Rattle.hack_samples.specs.Sets.{rows_of};
 ghost use Rattle.hack_planner.specs.InternalKinds.{kind_from as kind_made};
+ghost use Rattle.hack_planner.specs.InternalLeastPlaces.{HasRunsAtLeast, IsOver};
 ghost use Rattle.hack_planner.specs.KindsView.{IsKind, IsRunsFault, runs_of, candidates_in};
+ghost use Rattle.hack_plan.specs.Inputs.{AreVersionsOf};
 
 use crate::candidates::{candidates, notes_on};
 use crate::fault::RunsFault;
 use crate::found::found_among;
+use crate::least_places::Limit;
 use hack_base::notice::Notice;
 use hack_features::Feature;
 use hack_load::features::Features;
@@ -162,28 +165,39 @@ fn kind_from(args: &Args, candidates: Vec<Feature>, runs: Runs, is_plain: bool) 
     }
 }
 
-/// How a package runs, and with a strength the rows of its runs.
-fn kind_of(
+/// How a package runs, and with a strength the rows of its runs; or how many runs it has at least, if
+/// there is a limit and they pass it.
+pub(crate) fn kind_of(
     alloc: Global,
     args: &Args,
     pkg: &Package,
     features: &Features,
-) -> Result<(Kind, Vec<Vec<bool>>), RunsFault>
-    ensures kind { IfOk result (λ made.
-        IsKind args.now (package_view pkg.now) features.now made.0) }
-    ensures covered { IfOk result (λ made. args.now.feature_powerset ≡ true
-        → args.now.strength ≡ None
-        → AreCovering args.now (package_view pkg.now) features.now (runs_of made.0)) }
-    ensures settings { IfOk result (λ made. AreRunSettings args.now.strength
+    limit: Option<Limit<'_>>,
+) -> Result<Result<(Kind, Vec<Vec<bool>>), usize>, RunsFault>
+    requires { IfSome limit (λ l. AreVersionsOf l.input.now l.versions.now) }
+    ensures kind { IfOk result (λ listed. IfOk listed (λ made.
+        IsKind args.now (package_view pkg.now) features.now made.0)) }
+    ensures covered { IfOk result (λ listed. IfOk listed (λ made.
+        args.now.feature_powerset ≡ true → args.now.strength ≡ None
+        → AreCovering args.now (package_view pkg.now) features.now (runs_of made.0))) }
+    ensures settings { IfOk result (λ listed. IfOk listed (λ made.
+        AreRunSettings args.now.strength
         (package_choice args.now (package_view pkg.now) features.now)
-        (runs_of made.0) (rows_of made.1.items)) }
+        (runs_of made.0) (rows_of made.1.items))) }
+    ensures over { IfOk result (λ listed. IfErr listed (λ least.
+        HasRunsAtLeast args.now (package_view pkg.now) features.now least
+        × IsOver limit.entry least)) }
     ensures err { IfErr result (λ e. (e ≡ RunsFault.Memory)
         ⊎ IsRunsFault args.now (package_view pkg.now) features.now e) }
 {
     let candidates = candidates(alloc, args, features)?;
-    let found = found_among(alloc, args, pkg, features, &candidates)?;
-    let kind = kind_from(args, candidates, found.runs, found.is_plain);
-    Ok((kind, found.settings))
+    match found_among(alloc, args, pkg, features, &candidates, limit)? {
+        Ok(found) => {
+            let kind = kind_from(args, candidates, found.runs, found.is_plain);
+            Ok(Ok((kind, found.settings)))
+        }
+        Err(least) => Ok(Err(least)),
+    }
 }
 
 /// Returns the runs of a package, and the notices about its features. `single` says whether it is
@@ -228,7 +242,9 @@ pub fn determine_runs(
         ⊎ IsRunsFault args.now (package_view pkg.now) features.now e) }
 {
     let notices = notes_on(alloc, args, pkg, features, single)?;
-    let (kind, settings) = kind_of(alloc, args, pkg, features)?;
+    let Ok((kind, settings)) = kind_of(alloc, args, pkg, features, None)? else {
+        unreachable!()
+    };
     let feature_count = kind.count();
     let runs = PackageRuns {
         id,

@@ -1,111 +1,122 @@
-//! Refuses a call with too many runs before the sets of its packages are listed.
+//! Looks whether a call has too many runs, before the sets of a package are listed.
 //!
 //! That this finds every such call isn't promised: the plan refuses the others.
 
-ghost use Rattle.std.specs.Prelude.{◌≡◌, ◌⊎◌, All, Contains, IfErr, IfOk, None, map, true};
-ghost use Rattle.hack_load.specs.ContextView.{context_view};
-ghost use Rattle.hack_planner.specs.ContextMembers.{AreChosen};
+ghost use Rattle.std.specs.Prelude.{◌≡◌, ◌<◌, ◌≤◌, ◌+◌, ◌^◌, IfOk, IfSome, IsSome, IsTrue};
+ghost use Rattle.std.specs.Prelude.{ℕ, None, Some, cond, length, slice_index};
+ghost use Rattle.hack_features.specs.Samples.{IsSame};
+ghost use Rattle.hack_features.specs.View.{choice_of, questions_asked, size_of};
 ghost use Rattle.hack_plan.specs.Inputs.{AreVersionsOf};
-ghost use Rattle.hack_planner.specs.Calls.{IsInputOf};
-ghost use Rattle.hack_planner.specs.InternalLeastPlaces.{HasAtLeast, HaveAtLeast};
-ghost use Rattle.hack_planner.specs.InternalUses.{IsRight, id_of};
-ghost use Rattle.hack_planner.specs.CallPlan.{IsCause};
+ghost use Rattle.hack_planner.specs.InternalLeastPlaces.{GivesAtLeast, IsOver};
 
-use crate::determine::least_count;
-use crate::fault::{PlanFault, of_places};
-use crate::uses::Chosen;
-use hack_load::context::Context;
-use hack_metadata::metadata::PackageId;
-use hack_plan::places::Places;
+use crate::least_sets::least_listed;
+use hack_features::Rules;
+use hack_plan::places::{Places, PlacesFault};
 use hack_plan::versions::{PlanInput, Versions};
+use hack_words::cli::Args;
 use std::alloc::{AllocError, Global};
 
-/// All sets of fewer features than this are listed within seconds.
-const MANY_FEATURES: usize = 24;
-
-/// Whether a package has many features.
-fn has_many(cx: &Context, id: PackageId) -> bool
-    requires { Contains (context_view cx.now).metadata.workspace_members id.index }
-{
-    let features = cx.pkg_features(id);
-    let normal = features.normal().len();
-    normal.saturating_add(features.optional_deps().len()) >= MANY_FEATURES
+/// What is known of a call when the next of its packages is looked at.
+#[derive(Clone, Copy)]
+pub(crate) struct Limit<'a> {
+    pub input: &'a PlanInput,
+    pub versions: &'a Versions,
+    /// For each of the packages before, a number of which it has at least as many runs.
+    pub counts: &'a [usize],
 }
 
-/// Whether one of the packages that are used has many features.
-fn one_has_many(cx: &Context, chosen: &[Chosen]) -> bool
-    requires { All (λ one. Contains (context_view cx.now).metadata.workspace_members one.id.index)
-        chosen.now }
+/// The number at the place; 0 past the end.
+fn count_at(counts: &[usize], place: usize) -> usize
+    ensures { result ≡ slice_index counts.now place }
 {
-    for one in chosen {
-        if one.is_used && has_many(cx, one.id) {
-            return true;
-        }
+    match counts.get(place) {
+        Some(count) => *count,
+        None => 0,
     }
-    false
 }
 
-/// Returns a number, of which a chosen package has at least as many runs.
-fn least_runs(alloc: Global, cx: &Context, one: Chosen) -> Result<usize, AllocError>
-    requires member { Contains (context_view cx.now).metadata.workspace_members one.id.index }
-    requires powerset { (context_view cx.now).args.feature_powerset ≡ true }
-    requires all { (context_view cx.now).args.strength ≡ None }
-    ensures { IfOk result (HasAtLeast (context_view cx.now) one) }
+/// A number for each package: these, and zeros behind them.
+fn padded(alloc: Global, counts: &[usize], packages: usize) -> Result<Vec<usize>, AllocError>
+    ensures long { IfOk result (λ all. length all.items ≡ packages) }
+    ensures fewer { IfOk result (λ all.
+        (p : ℕ) → slice_index all.items p ≤ slice_index counts.now p) }
 {
-    // This call promises that what was loaded fits together.
-    let _ = cx.workspace_members();
-    let _ = cx.pkg_features(one.id);
-    let _ = cx.packages(one.id);
-    if !one.is_used {
-        return Ok(1);
+    let mut all = Vec::with_capacity(alloc, packages)?;
+    for place in 0..packages {
+        all.push(count_at(counts, place))?;
     }
-    least_count(alloc, cx, one.id)
+    Ok(all)
 }
 
-/// For each of the chosen packages a number, of which it has at least as many runs.
-fn least_counts(alloc: Global, cx: &Context, chosen: &[Chosen]) -> Result<Vec<usize>, AllocError>
-    requires members { All (λ one. Contains (context_view cx.now).metadata.workspace_members
-        one.id.index) chosen.now }
-    requires powerset { (context_view cx.now).args.feature_powerset ≡ true }
-    requires all { (context_view cx.now).args.strength ≡ None }
-    ensures { IfOk result (λ counts.
-        HaveAtLeast (context_view cx.now) chosen.now counts.items) }
+/// Whether there are too many runs if the next package has so many.
+fn is_passed(alloc: Global, limit: Limit<'_>, least: usize) -> Result<bool, AllocError>
+    requires { AreVersionsOf limit.input.now limit.versions.now }
+    ensures { IfOk result (λ passed. IsTrue passed → IsOver (Some limit.entry) least) }
 {
-    let mut counts = Vec::new(alloc);
-    for one in chosen {
-        counts.push(least_runs(alloc, cx, *one)?)?;
+    let mut known = Vec::from_slice(alloc, limit.counts)?;
+    known.push(least)?;
+    let counts = padded(alloc, known.as_slice(), limit.input.packages.len())?;
+    match Places::new(alloc, limit.input, limit.versions, counts.as_slice()) {
+        Ok(_) => Ok(false),
+        Err(PlacesFault::TooManyRuns) => Ok(true),
+        Err(PlacesFault::Memory) => Err(AllocError),
     }
-    Ok(counts)
 }
 
-/// Refuses too many runs of chosen packages with many features, if that shows without a list of
-/// their sets.
-pub(crate) fn refuse_too_many(
+/// How many runs there are at least, if there are that many sets at least.
+fn runs_of(sets: usize, without_features_excluded: bool) -> usize
+    requires { sets < 2 ^ 62 }
+    ensures most { result ≤ sets + cond without_features_excluded 0 1 }
+    ensures none { sets ≡ 0 → result ≡ 0 }
+{
+    if without_features_excluded || sets == 0 {
+        return sets;
+    }
+    sets + 1
+}
+
+/// How many runs the listed sets of these rules give at least, if that is too many.
+fn least_over(
     alloc: Global,
-    cx: &Context,
-    chosen: &[Chosen],
-    input: &PlanInput,
-    versions: &Versions,
-) -> Result<(), PlanFault>
-    requires members { All (λ one. Contains (context_view cx.now).metadata.workspace_members
-        one.id.index) chosen.now }
-    requires input { IsInputOf (context_view cx.now) (map id_of chosen.now) input.now }
-    requires versions { AreVersionsOf input.now versions.now }
-    requires right { All (IsRight (context_view cx.now) input.now versions.now.stable) chosen.now }
-    ensures { AreChosen (context_view cx.now) (map id_of chosen.now)
-        → IfErr result (λ e. (e ≡ PlanFault.Memory)
-        ⊎ IsCause (context_view cx.now) versions.now.stable e) }
+    args: &Args,
+    rules: &mut Rules,
+    limit: Limit<'_>,
+) -> Result<Option<usize>, AllocError>
+    requires { AreVersionsOf limit.input.now limit.versions.now }
+    ensures over { IfOk result (λ over. IfSome over (λ least.
+        GivesAtLeast args.now (choice_of rules.old) (size_of rules.old) least
+        × IsOver (Some limit.entry) least)) }
+    ensures same { IsSame rules.old rules.new }
 {
-    let args = cx.args();
-    if !args.feature_powerset || args.strength.is_some() {
-        return Ok(());
+    let sets = least_listed(alloc, rules)?;
+    let least = runs_of(sets, args.exclude_no_default_features);
+    if is_passed(alloc, limit, least)? {
+        return Ok(Some(least));
     }
-    if !one_has_many(cx, chosen) {
-        return Ok(());
+    Ok(None)
+}
+
+/// How many runs the listed sets of these rules give at least, if there is a limit and that is too
+/// many. With a strength they aren't listed.
+pub(crate) fn too_many(
+    alloc: Global,
+    args: &Args,
+    rules: &mut Rules,
+    limit: Option<Limit<'_>>,
+) -> Result<Option<usize>, AllocError>
+    requires { IfSome limit (λ l. AreVersionsOf l.input.now l.versions.now) }
+    ensures over { IfOk result (λ over. IfSome over (λ least. (args.now.strength ≡ None)
+        × GivesAtLeast args.now (choice_of rules.old) (size_of rules.old) least
+        × IsOver limit.entry least)) }
+    ensures same { IsSame rules.old rules.new }
+    ensures fresh { IsSome args.now.strength
+        → questions_asked rules.new ≡ questions_asked rules.old }
+{
+    if args.strength.is_some() {
+        return Ok(None);
     }
-    let counts = least_counts(alloc, cx, chosen)?;
-    match Places::new(alloc, input, versions, counts.as_slice()) {
-        Ok(_) => Ok(()),
-        Err(fault) => Err(of_places(fault)),
+    match limit {
+        Some(limit) => least_over(alloc, args, rules, limit),
+        None => Ok(None),
     }
 }

@@ -222,6 +222,7 @@ fn subsets(members: usize) -> usize
 pub(crate) fn least_listed(alloc: Global, rules: &mut Rules) -> Result<usize, AllocError>
     ensures least { IfOk result (ListsAtLeast (choice_of rules.old) (size_of rules.old)) }
     ensures few { IfOk result (λ least. least < 2 ^ 62) }
+    ensures same { IsSame rules.old rules.new }
 {
     let most = large_set(alloc, rules)?;
     if !serves_each(alloc, rules, most.as_slice())? {

@@ -9,7 +9,6 @@ pub mod fault;
 mod found;
 mod input;
 pub mod kind;
-mod least;
 mod least_places;
 mod least_sets;
 mod lifts;

@@ -23,7 +23,6 @@ use crate::chosen::chosen_packages;
 use crate::determine::determine_package_list;
 use crate::fault::{PackagesFault, PlanFault, of_packages, of_places, of_range};
 use crate::input::input;
-use crate::least_places::refuse_too_many;
 use crate::packages::PackageList;
 use crate::plan_notes::left_out;
 use crate::uses::with_uses;
@@ -129,10 +128,10 @@ fn plan_by(
     let ids = list.ids.as_slice();
     let uses = with_uses(alloc, ids, &input, &versions)?;
     let chosen = uses.as_slice();
-    if let Err(fault) = refuse_too_many(alloc, cx, chosen, &input, &versions) {
-        return Err(fault);
-    }
-    let (packages, mut on_features) = match chosen_packages(alloc, cx, chosen, list.is_single) {
+    let single = list.is_single;
+    let (packages, mut on_features) = match chosen_packages(
+        alloc, cx, chosen, &input, &versions, single,
+    ) {
         Ok(answer) => answer,
         Err(fault) => return Err(fault),
     };

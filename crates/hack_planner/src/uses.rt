@@ -1,7 +1,7 @@
 //! Which of the chosen packages use a version. The others have no place in the plan, so no set of their
 //! features is made.
 
-ghost use Rattle.std.specs.Prelude.{◌≡◌, ◌↔◌, All, Contains, IfOk, IsTrue, map};
+ghost use Rattle.std.specs.Prelude.{◌≡◌, ◌↔◌, All, IfOk, IsTrue, map};
 ghost use Rattle.hack_load.specs.Contexts.{ContextRecord};
 ghost use Rattle.hack_metadata.specs.RecordViews.{place_at};
 ghost use Rattle.hack_plan.specs.Inputs.{AreVersionsOf};
@@ -55,22 +55,5 @@ fn is_used(input: &PlanInput, versions: &Versions, place: usize) -> bool
 fn one_has(groups: &[VersionGroup], place: usize) -> bool
     ensures { IsTrue result ↔ InSome groups.now place }
 {
-    for group in groups {
-        if has(group.packages.as_slice(), place) {
-            return true;
-        }
-    }
-    false
-}
-
-/// Whether one of the places is this one.
-fn has(places: &[usize], place: usize) -> bool
-    ensures { IsTrue result ↔ Contains places.now place }
-{
-    for own in places {
-        if *own == place {
-            return true;
-        }
-    }
-    false
+    groups.iter().any(|group| group.packages.contains(&place))
 }

@@ -63,6 +63,12 @@ fn too_many_sets(rt: HostRuntime) -> Result<(), Wrong> {
             | too many runs
             > members p - a:b b:c c:d d:e e:f f:g g:h h:i i:j j:k k:l l:m m:n n:o o:p p:q q:r r:s s:t t:u u:v v:w w:x x:y y:z z:A A:B B:C C:D D:E E:F F:G G:H H:I I:J J:K K:L L:M M:N N $ check --feature-powerset
             | a plan
+
+            # Such a package before another one, and behind it.
+            > members p - a b c d e f g h i j k l m n o p q r s t u v w x y z A B C D E F G H I J K L M N;q - x $ check -p p -p q --feature-powerset
+            | too many runs
+            > members p - x;q - a b c d e f g h i j k l m n o p q r s t u v w x y z A B C D E F G H I J K L M N $ check -p p -p q --feature-powerset
+            | too many runs
         ",
     )
 }

@@ -1,16 +1,21 @@
-use Rattle.std.proofs.Common.{◌≡◌, ◌∙◌, [], ◌∷◌, List, IsTrue, false, sym, ap, subst, Some, inl, inr}
+use Rattle.std.proofs.Common.{◌≡◌, ◌⊎◌, ◌∙◌, [], ◌∷◌, List, IsTrue, false, sym, ap, subst, Some, inl, inr}
 use Rattle.std.proofs.lemmas.Bool.{cases_Bool}
 use Rattle.hack_features.specs.Feature.{groups_of}
 use Rattle.hack_base.specs.Names.{names_behind}
 use Rattle.hack_load.specs.ContextView.{context_view}
 use Rattle.hack_metadata.specs.RecordViews.{package_view}
+use Rattle.hack_planner.specs.Candidates.{candidate_notes}
+use Rattle.hack_planner.specs.InternalLeastPlaces.{HasRunsAtLeast}
 use Rattle.hack_planner.specs.Kinds.{AreRuns, AreCovering, AreRunSettings, package_choice}
 use Rattle.hack_plan.specs.Runs.{PackageRun, Plain}
-use Rattle.hack_planner.specs.KindsView.{candidates_in, runs_of}
+use Rattle.hack_planner.specs.KindsView.{IsKind, IsRunsFault, candidates_in, runs_of}
 use Rattle.hack_samples.specs.Sets.{rows_of}
 use Rattle.hack_plan.specs.RunsView.{runs_in}
 use Rattle.hack_words.specs.declared.cli.args.Args.{Args}
 use Rattle.hack_planner.specs.Calls.{given_path}
+use Rattle.hack_planner.specs.declared.fault.RunsFault.TheVariants.{Memory}
+use Rattle.hack_planner.proofs.KindLemmas.{runs-of_kind}
+use Rattle.hack_planner.proofs.LeastPlaceLemmas.{planned-at_least}
 use Rattle.hack_planner.proofs.NoteLemmas.{notes-at}
 use Rattle.hack_planner.proofs.PlanLemmas.{of-kind}
 use Rattle.hack_planner.proofs.PlanSampleLemmas.{no-sample}
@@ -21,28 +26,28 @@ pub returns-clause-ok : goal.returns-clause-ok
 returns-clause-ok c =
     let cx = context_view c.args.cx.now in
     let pkg = package_view c.packages-pkg.result.now in
-    let features = c.pkg_features.result.now in
-    let known = c.packages-pkg.ensures in
-    let loaded = c.pkg_features.ensures in
-    let found = c.in-Ok.ensures in
+    let features = c.pkg_features-features.result.now in
+    let kind = c.in-Ok-Ok.made.0 in
     let parts = c.in_ok-candidates.ensures in
+    let found : IsTrue c.args.one.is_used → IsKind cx.args pkg features kind =
+    λ used. subst (λ (w : Args). IsKind w pkg features kind) c.args-args.ensures ((rw c.in-Ok-Ok.field-0-is at c.in-Ok-Ok.ensures.kind) used) in
     let plain : c.args.one.is_used ≡ false → (groups_of c.in_ok-candidates.candidates.items ≡ []) × (runs_in c.in_ok-candidates.runs ≡ Plain ∷ []) =
-    λ unused. (parts.candidates ∙ ap candidates_in (found.unused unused).0, parts.runs ∙ ap runs_of (found.unused unused).0) in
+    λ unused. let e = (rw c.in-Ok-Ok.field-0-is at c.in-Ok-Ok.ensures.unused) unused in (parts.candidates ∙ ap candidates_in e.0, parts.runs ∙ ap runs_of e.0) in
     record {
       pkg = pkg;
       features = features;
-      known = known;
-      loaded = loaded;
+      known = c.packages-pkg.ensures;
+      loaded = c.pkg_features-features.ensures;
       name = c.in_ok-from_str.ensures.ok ∙ c.as_str-2.ensures.value;
       path = c.in_ok-given_path.ensures
-          ∙ ap (λ (a : Args). given_path a.no_manifest_path c.current_dir.result.now (Some pkg)) c.args-2.ensures
+          ∙ ap (λ (a : Args). given_path a.no_manifest_path c.current_dir.result.now (Some pkg)) c.args-args.ensures
           ∙ ap (λ dir. given_path cx.args.no_manifest_path dir (Some pkg)) c.current_dir.ensures;
       given = c.in_ok-features.ensures ∙ ap names_behind c.as_slice.ensures.value ∙ c.in_ok-given.ensures.names;
       candidates = elim (cases_Bool c.args.one.is_used) [
-        | inl used ↦ of-kind cx.args pkg features c.in-Ok.answer.0.kind (groups_of c.in_ok-candidates.candidates.items) (runs_in c.in_ok-candidates.runs) parts.candidates parts.runs (found.kind used pkg features known loaded)
+        | inl used ↦ of-kind cx.args pkg features kind (groups_of c.in_ok-candidates.candidates.items) (runs_in c.in_ok-candidates.runs) parts.candidates parts.runs (found used)
         | inr unused ↦ inr (plain unused)
       ];
-      runs = λ used. subst (AreRuns cx.args pkg features) (sym parts.runs) (found.runs used pkg features known loaded);
+      runs = λ used. subst (AreRuns cx.args pkg features) (sym parts.runs) (runs-of_kind cx.args pkg features kind (found used));
       unused = λ none. plain (not-true c.args.one.is_used none);
     }
 
@@ -50,42 +55,58 @@ pub returns-clause-coverage : goal.returns-clause-coverage
 returns-clause-coverage c =
     let cx = context_view c.args.cx.now in
     let pkg = package_view c.packages-pkg.result.now in
-    let features = c.pkg_features.result.now in
-    let known = c.packages-pkg.ensures in
-    let loaded = c.pkg_features.ensures in
-    let found = c.in-Ok.ensures in
+    let features = c.pkg_features-features.result.now in
+    let made = c.in-Ok-Ok.made in
+    let same = c.args-args.ensures in
     let parts = c.in_ok-candidates.ensures in
     record {
       pkg = pkg;
       features = features;
-      known = known;
-      loaded = loaded;
-      covered = λ used powerset all. subst (AreCovering cx.args pkg features) (sym parts.runs) (found.covered used pkg features known loaded powerset all);
-      settings = λ used. subst (λ (rs : List PackageRun). AreRunSettings cx.args.strength (package_choice cx.args pkg features) rs (rows_of c.in-Ok.answer.0.settings.items)) (sym parts.runs) (found.settings used pkg features known loaded);
-      unused = λ none. (found.unused (not-true c.args.one.is_used none)).1;
+      known = c.packages-pkg.ensures;
+      loaded = c.pkg_features-features.ensures;
+      covered = λ used powerset all. subst (AreCovering cx.args pkg features) (sym parts.runs)
+          (subst (λ (w : Args). AreCovering w pkg features (runs_of made.0)) same
+          ((rw c.in-Ok-Ok.field-0-is at c.in-Ok-Ok.ensures.covered) used (ap (λ (w : Args). w.feature_powerset) same ∙ powerset) (ap (λ (w : Args). w.strength) same ∙ all)));
+      settings = λ used. subst (λ (rs : List PackageRun). AreRunSettings cx.args.strength (package_choice cx.args pkg features) rs (rows_of made.1.items)) (sym parts.runs)
+          (subst (λ (w : Args). AreRunSettings w.strength (package_choice w pkg features) (runs_of made.0) (rows_of made.1.items)) same
+          ((rw c.in-Ok-Ok.field-0-is at c.in-Ok-Ok.ensures.settings) used));
+      unused = λ none. ((rw c.in-Ok-Ok.field-0-is at c.in-Ok-Ok.ensures.unused) (not-true c.args.one.is_used none)).1;
     }
 
 pub returns-clause-notes : goal.returns-clause-notes
 returns-clause-notes c =
     let pkg = package_view c.packages-pkg.result.now in
-    let features = c.pkg_features.result.now in
-    let known = c.packages-pkg.ensures in
-    let loaded = c.pkg_features.ensures in
-    c.in-Ok.ensures.notices pkg features known loaded ∙ sym (notes-at (context_view c.args.cx.now) c.args.single c.args.one.id.index pkg features known loaded)
+    let features = c.pkg_features-features.result.now in
+    c.in_ok-notices.ensures
+    ∙ ap (λ (w : Args). candidate_notes c.args.single w pkg.name features) c.args-args.ensures
+    ∙ sym (notes-at (context_view c.args.cx.now) c.args.single c.args.one.id.index pkg features c.packages-pkg.ensures c.pkg_features-features.ensures)
+
+pub returns-in-Ok-Err-clause-over : goal.returns-in-Ok-Err-clause-over
+returns-in-Ok-Err-clause-over c =
+    let cx = context_view c.args.cx.now in
+    let pkg = package_view c.packages-pkg.result.now in
+    let features = c.pkg_features-features.result.now in
+    let h = rw c.in-Ok-Err.field-0-is at c.in-Ok-Err.ensures.over in (
+      planned-at_least cx c.args.one c.in-Ok-Err.least pkg features c.packages-pkg.ensures c.pkg_features-features.ensures h.0
+          (subst (λ (w : Args). HasRunsAtLeast w pkg features c.in-Ok-Err.least) c.args-args.ensures h.1),
+      h.2,
+    )
 
 pub returns-in-Err-TooManyQuestions-clause-err : goal.returns-in-Err-TooManyQuestions-clause-err
 returns-in-Err-TooManyQuestions-clause-err c =
     let cx = context_view c.args.cx.now in
     let pkg = package_view c.packages-pkg.result.now in
-    let features = c.pkg_features.result.now in
-    let wide = no-sample cx.args pkg features (IsTrue c.args.one.is_used) c.in-Err-TooManyQuestions.tally c.in-Err-TooManyQuestions.field-0 c.in-Err-TooManyQuestions.field-0-is (c.in-Err-TooManyQuestions.ensures.err pkg features c.packages-pkg.ensures c.pkg_features.ensures) in
+    let features = c.pkg_features-features.result.now in
+    let fault = c.in-Err-TooManyQuestions.field-0 in
+    let wide = no-sample cx.args pkg features (IsTrue c.args.one.is_used) c.in-Err-TooManyQuestions.tally fault c.in-Err-TooManyQuestions.field-0-is
+    (subst (λ (w : Args). (fault ≡ Memory) ⊎ (IsTrue c.args.one.is_used × IsRunsFault w pkg features fault)) c.args-args.ensures c.in-Err-TooManyQuestions.ensures.err) in
     inr (
       wide.0,
       record {
         pkg = pkg;
         features = features;
         known = c.packages-pkg.ensures;
-        loaded = c.pkg_features.ensures;
+        loaded = c.pkg_features-features.ensures;
         called = c.in_ok-name-in-Err-TooManyQuestions.ensures.ok ∙ c.as_str.ensures.value;
         wide = rw c.in-Err-TooManyQuestions.field-0-is wide.1;
       },

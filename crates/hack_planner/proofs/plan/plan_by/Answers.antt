@@ -20,7 +20,7 @@ use Rattle.hack_planner.specs.CallPlan.{IsCause, run_counts}
 use Rattle.hack_planner.proofs.CauseLemmas.{range-cause, places-cause, counts-same, few-places, all-told}
 use Rattle.hack_planner.proofs.NeverLemmas.{no-cause}
 use Rattle.hack_planner.proofs.PlanLemmas.{covers}
-use Rattle.hack_planner.proofs.PlanSampleLemmas.{sample-cause}
+use Rattle.hack_planner.proofs.LeastPlaceLemmas.{chosen-cause}
 use Rattle.hack_planner.proofs.UseLemmas.{all-chosen, coverage-of, packages-of}
 use Rattle.hack_planner.specs.declared.fault.PlanFault.TheVariants as fault
 use Rattle.hack_planner.proofs.plan.plan_by.Goals as goal
@@ -37,45 +37,14 @@ pub left_out-requires : goal.left_out-requires
 left_out-requires c =
     subst (λ l. All (λ (id : PackageId). Contains (context_view c.args.cx.now).metadata.workspace_members id.index) l) (sym c.as_slice-ids.ensures.value) c.in_ok-list.ensures.members
 
-pub chosen_packages-requires : goal.chosen_packages-requires
-chosen_packages-requires c =
+pub chosen_packages-requires-clause-members : goal.chosen_packages-requires-clause-members
+chosen_packages-requires-clause-members c =
     let cx = context_view c.args.cx.now in
     let ids = c.in_ok-list.list.ids.items in
     let input = c.in_ok-input.input in
     let chosen = c.as_slice-chosen.result.now in
     let same = ap (map id_of) c.as_slice-chosen.ensures.value ∙ c.in_ok-uses.ensures.same ∙ ap (map place_at) c.as_slice-ids.ensures.value in
     all-chosen (Contains cx.metadata.workspace_members) chosen ids same c.in_ok-list.ensures.members
-
-pub refuse_too_many-requires-clause-members : goal.refuse_too_many-requires-clause-members
-refuse_too_many-requires-clause-members c =
-    let cx = context_view c.args.cx.now in
-    let ids = c.in_ok-list.list.ids.items in
-    let input = c.in_ok-input.input in
-    let chosen = c.as_slice-chosen.result.now in
-    let same = ap (map id_of) c.as_slice-chosen.ensures.value ∙ c.in_ok-uses.ensures.same ∙ ap (map place_at) c.as_slice-ids.ensures.value in
-    all-chosen (Contains cx.metadata.workspace_members) chosen ids same c.in_ok-list.ensures.members
-
-pub refuse_too_many-requires-clause-input : goal.refuse_too_many-requires-clause-input
-refuse_too_many-requires-clause-input c =
-    let cx = context_view c.args.cx.now in
-    let ids = c.in_ok-list.list.ids.items in
-    let input = c.in_ok-input.input in
-    let chosen = c.as_slice-chosen.result.now in
-    let same = ap (map id_of) c.as_slice-chosen.ensures.value ∙ c.in_ok-uses.ensures.same ∙ ap (map place_at) c.as_slice-ids.ensures.value in
-    let of_call : IsInputOf cx (map place_at ids) input = subst (λ l. IsInputOf cx (map place_at l) input) c.as_slice.ensures.value c.in_ok-input.ensures.ok in
-    subst (λ l. IsInputOf cx l input) (sym same) of_call
-
-pub refuse_too_many-requires-clause-right : goal.refuse_too_many-requires-clause-right
-refuse_too_many-requires-clause-right c =
-    let cx = context_view c.args.cx.now in
-    let ids = c.in_ok-list.list.ids.items in
-    let input = c.in_ok-input.input in
-    let chosen = c.as_slice-chosen.result.now in
-    let same = ap (map id_of) c.as_slice-chosen.ensures.value ∙ c.in_ok-uses.ensures.same ∙ ap (map place_at) c.as_slice-ids.ensures.value in
-    let of_call : IsInputOf cx (map place_at ids) input = subst (λ l. IsInputOf cx (map place_at l) input) c.as_slice.ensures.value c.in_ok-input.ensures.ok in
-    let right : All (IsRight cx input c.in_ok-versions.versions.stable) chosen =
-    subst (All (IsRight cx input c.in_ok-versions.versions.stable)) (sym c.as_slice-chosen.ensures.value) (c.in_ok-uses.ensures.right cx (subst (λ l. IsInputOf cx (map place_at l) input) (sym c.as_slice-ids.ensures.value) of_call)) in
-    right
 
 pub of_input-requires-clause-packages : goal.of_input-requires-clause-packages
 of_input-requires-clause-packages c =
@@ -98,21 +67,11 @@ returns-in-Err-clause-err c =
     let input = c.in_ok-input.input in
     let chosen = c.as_slice-chosen.result.now in
     let same = ap (map id_of) c.as_slice-chosen.ensures.value ∙ c.in_ok-uses.ensures.same ∙ ap (map place_at) c.as_slice-ids.ensures.value in
-    subst (λ v. (c.in-Err.fault ≡ fault.Memory) ⊎ IsCause cx v c.in-Err.fault) c.in_ok-versions.ensures.stable
-    (c.in-Err.ensures (subst (AreChosen cx) (sym same) c.in_ok-list.ensures.ok))
-
-pub returns-in-Err-chosen_packages-clause-err : goal.returns-in-Err-chosen_packages-clause-err
-returns-in-Err-chosen_packages-clause-err c =
-    let cx = context_view c.args.cx.now in
-    let ids = c.in_ok-list.list.ids.items in
-    let input = c.in_ok-input.input in
-    let chosen = c.as_slice-chosen.result.now in
-    let same = ap (map id_of) c.as_slice-chosen.ensures.value ∙ c.in_ok-uses.ensures.same ∙ ap (map place_at) c.as_slice-ids.ensures.value in
     let of_call : IsInputOf cx (map place_at ids) input = subst (λ l. IsInputOf cx (map place_at l) input) c.as_slice.ensures.value c.in_ok-input.ensures.ok in
     let right : All (IsRight cx input c.in_ok-versions.versions.stable) chosen =
     subst (All (IsRight cx input c.in_ok-versions.versions.stable)) (sym c.as_slice-chosen.ensures.value) (c.in_ok-uses.ensures.right cx (subst (λ l. IsInputOf cx (map place_at l) input) (sym c.as_slice-ids.ensures.value) of_call)) in
-    let right_now = subst (λ v. All (IsRight cx input v) chosen) c.in_ok-versions.ensures.stable right in
-    sample-cause cx input c.args.latest chosen c.in-Err-chosen_packages.fault (subst (AreChosen cx) (sym same) c.in_ok-list.ensures.ok) (subst (λ l. IsInputOf cx l input) (sym same) of_call) right_now c.in-Err-chosen_packages.ensures.err
+    subst (λ v. (c.in-Err.fault ≡ fault.Memory) ⊎ IsCause cx v c.in-Err.fault) c.in_ok-versions.ensures.stable
+    (chosen-cause cx input c.in_ok-versions.versions.stable chosen c.in-Err.fault (subst (AreChosen cx) (sym same) c.in_ok-list.ensures.ok) (subst (λ l. IsInputOf cx l input) (sym same) of_call) right c.in-Err.ensures.err)
 
 pub returns-in-Err-of_input-clause-err : goal.returns-in-Err-of_input-clause-err
 returns-in-Err-of_input-clause-err c =

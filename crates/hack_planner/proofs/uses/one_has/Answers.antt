@@ -1,21 +1,19 @@
-use Rattle.std.proofs.Common.{◌≡◌, ◌∙◌, ℕ, List, Contains, true, false, ap, subst, sym, arith}
-use Rattle.std.proofs.lemmas.List.{take_all}
+use Rattle.std.proofs.Common.{◌∙◌, sym, subst, ℕ, Bool, rules, tests, Contains, nat_eq, refl, eqb-true, eq-eqb}
+use Rattle.std.specs.List.{list_any}
+use Rattle.std.proofs.lemmas.Iterator.{YieldsList-from_slice}
+use Rattle.std.proofs.lemmas.Iterator.Search.{any_from_yields_List}
+use Rattle.std.proofs.lemmas.List.Folds.{Any-from_list_any, list_any-from_Any}
 use Rattle.hack_versions.specs.declared.group.VersionGroup.{VersionGroup}
-use Rattle.hack_planner.proofs.UseLemmas.{none-more}
 use Rattle.hack_planner.proofs.uses.one_has.Goals as goal
 
-pub loop-group-preserved : goal.loop-group-preserved
-loop-group-preserved c =
-    none-more (λ (group : VersionGroup). Contains group.packages.items c.args.place) c.args.groups.now c.loop-group.group-index c.group-item.result c.loop-group-test.true
-    (λ w. let t = c.has.ensures.1 (subst (λ (l : List ℕ). Contains l c.args.place) (ap (λ (group : VersionGroup). group.packages.items) (sym c.group-item.is) ∙ sym c.as_slice.ensures.value) w) in
-    let e : true ≡ false = sym t ∙ c.if-has.false in absurd (cc))
-    c.loop-group.invariant
-
-pub returns-then-has : goal.returns-then-has
-returns-then-has c = (
-  λ t. (c.group-item.result, (c.loop-group.group-index, omega arith, sym c.group-item.is), subst (λ (l : List ℕ). Contains l c.args.place) c.as_slice.ensures.value (c.has.ensures.0 c.if-has.true)),
-  λ w. cc,
-)
-
 pub returns : goal.returns
-returns c = (λ t. cc, λ w. absurd (c.loop-group.invariant w.0 (subst (λ xs. Contains xs w.0) (sym (take_all c.loop-group.group-index c.args.groups.now (omega arith))) w.1) w.2))
+returns c =
+    let here : ℕ → Bool = λ n. nat_eq n c.args.place in
+    let in_group : VersionGroup → Bool = λ g. list_any here g.packages.items in
+    let same = any_from_yields_List in_group _ _ _ c.any.ensures.ran (YieldsList-from_slice c.args.groups.now cc) (λ x b q k. search (rules, tests)) in (
+      λ t.
+          let g = Any-from_list_any in_group c.args.groups.now (sym same ∙ t) in
+          let p = Any-from_list_any here g.1.packages.items g.4 in
+          (g.1, (g.0, g.2, g.3), subst (Contains g.1.packages.items) (eqb-true p.1 c.args.place p.4) (p.0, p.2, p.3)),
+      λ w. same ∙ list_any-from_Any in_group c.args.groups.now (w.1.0, w.0, w.1.1, w.1.2, list_any-from_Any here w.0.packages.items (w.2.0, c.args.place, w.2.1, w.2.2, eq-eqb c.args.place c.args.place refl)),
+    )
