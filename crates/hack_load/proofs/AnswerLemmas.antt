@@ -1,11 +1,11 @@
 -- Questions that follow one another.
-use Rattle.std.proofs.Common.{◌≡◌, inl, inr, ℕ, List, Ok, Err, Result, sym, length, map, ◌∙◌}
+use Rattle.std.proofs.Common.{◌≡◌, inl, inr, ℕ, List, [], ◌∷◌, ◌++◌, Ok, Err, Result, sym, length, map, ◌∙◌}
 use Rattle.std.specs.Prelude.{IfOk}
 use Rattle.std.proofs.lemmas.List.{length-map}
 use Rattle.std.proofs.lemmas.Slice.Zip.{AllZip-long}
-use Rattle.hack_files.specs.Files.{Change, Contents}
+use Rattle.hack_files.specs.Files.{Change, Contents, Makes}
 use Rattle.hack_process.specs.Calls.{Call}
-use Rattle.hack_metadata.specs.QuestionCalls.{QuestionEndsWith, EndsSo, Stage}
+use Rattle.hack_metadata.specs.QuestionCalls.{EndsSo, Stage, Wrote, WroteWhereKnown, begun, first, locked, newer, taken, to_cargo, versioned}
 use Rattle.hack_metadata.specs.FilesAfterAsking.{Whole}
 use Rattle.hack_metadata.specs.Requests.{Question}
 use Rattle.hack_metadata.specs.RecordViews.{place_at}
@@ -20,16 +20,34 @@ use Rattle.hack_load.specs.Internal.{ReadsOnly}
 use Rattle.hack_load.specs.CargoQuestions.{AreOfMembers, IsOfMember}
 use Rattle.hack_load.specs.declared.fault.ContextFault.{ContextFault}
 use Rattle.hack_load.specs.declared.loaded.Loaded.{Loaded}
+use Rattle.hack_load.proofs.LeaveLemmas.{makes_still}
 use Rattle.hack_load.proofs.MemberLemmas.{each-earlier, member-fault-earlier}
 
 -- one manifest for each member
 pub members-long : (tells : Type 0) (held : Contents) (m : Metadata) (xs : List Manifest) → AreOfMembers tells held (metadata_view m) xs → length xs ≡ length m.workspace_members.items
 members-long tells held m xs are = AllZip-long (IsOfMember tells held (metadata_view m)) (map place_at m.workspace_members.items) xs are ∙ length-map m.workspace_members.items place_at
 
--- a question that ended, whatever was written
-pub ends-known : (tells : Type 0) (q : Question) (held : Contents) (old new : List Call) (W : Stage → List Change → Type 0) (r : Result Metadata AskFault) → EndsSo tells q held old new W r → QuestionEndsWith tells q held old new r
-ends-known tells q held old new W (Ok m) h = (h.0, h.1, h.2, h.3, h.4, tt, h.6)
-ends-known tells q held old new W (Err e) h = (h.0, h.1, h.2, h.3, h.4, tt)
+wrote-by : (tells : Type 0) (held : Contents) (P Q : List Change → Type 0) → ((cs : List Change) → P cs → Q cs) → (stage : Stage) (made : List Change) → Wrote tells held P stage made → Wrote tells held Q stage made
+wrote-by tells held P Q f begun made h = f made h
+wrote-by tells held P Q f (versioned minor) made h = f made h
+wrote-by tells held P Q f to_cargo made h = f made h
+wrote-by tells held P Q f (newer minor) made h = f made h
+wrote-by tells held P Q f (first minor text) made h = f made h
+wrote-by tells held P Q f (locked minor text) made (inl h) = inl (f made h)
+wrote-by tells held P Q f (locked minor text) made (inr h) = inr (h.0, h.1, f (made ++ h.0 ∷ []) h.2)
+wrote-by tells held P Q f (taken by text minor) made h = f made h
+
+-- just these writes were made, where no change follows them
+pub wrote-still : (whole tells : Type 0) (before mid now : List Change) (held later last : Contents) → (whole → Makes [] mid now later last) → (stage : Stage) (made : List Change)
+    → WroteWhereKnown whole tells before mid held later stage made → WroteWhereKnown whole tells before now held last stage made
+wrote-still whole tells before mid now held later last still stage made wrote = λ w.
+    wrote-by tells held (λ cs. Makes cs before mid held later) (λ cs. Makes cs before now held last) (λ cs h. makes_still cs before mid now held later last h (still w)) stage made (wrote w)
+
+-- of the writes of a question that ended, something weaker holds
+pub ends-map : (tells : Type 0) (q : Question) (held : Contents) (old new : List Call) (V W : Stage → List Change → Type 0) → ((stage : Stage) (made : List Change) → V stage made → W stage made)
+    → (r : Result Metadata AskFault) → EndsSo tells q held old new V r → EndsSo tells q held old new W r
+ends-map tells q held old new V W f (Ok m) h = (h.0, h.1, h.2, h.3, h.4, f (taken h.0 h.1 h.2) h.3 h.5, h.6)
+ends-map tells q held old new V W f (Err e) h = (h.0, h.1, h.2, h.3, h.4, f h.0 h.2 h.5)
 
 -- what was loaded still agrees with the files after calls that changed nothing
 pub loaded-later : (tells : Type 0) (b c : Contents) (y z : ℕ) (env : Env) (r : Result Loaded ContextFault) → ReadsOnly tells b c y z r → IfOk r (IsLoaded tells b env) → IfOk r (IsLoaded tells c env)

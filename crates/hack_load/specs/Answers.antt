@@ -1,11 +1,11 @@
 -- The results of all questions of a call.
-use Rattle.std.specs.Prelude.{◌≡◌, ◌⊎◌, ℕ, true, List, Option, Result, Ok, Err, MatchResult, string_bytes}
+use Rattle.std.specs.Prelude.{◌≡◌, ◌⊎◌, [], ℕ, true, List, Option, Result, Ok, Err, MatchResult, string_bytes}
 use Rattle.std.specs.Result.{result_unwrap_or}
 use Rattle.hack_base.specs.Names.{Name}
-use Rattle.hack_files.specs.Files.{Contents}
+use Rattle.hack_files.specs.Files.{Change, Contents}
 use Rattle.hack_process.specs.Calls.{Call, MayAdd}
 use Rattle.hack_process.specs.Commands.{asked_of}
-use Rattle.hack_metadata.specs.QuestionCalls.{QuestionEndsWith}
+use Rattle.hack_metadata.specs.QuestionCalls.{EndsSo, Stage, begun}
 use Rattle.hack_metadata.specs.Requests.{question}
 use Rattle.hack_metadata.specs.MetadataView.{metadata_view}
 use Rattle.hack_metadata.specs.declared.ask.fault.AskFault.{AskFault}
@@ -41,25 +41,30 @@ module _ (tells : Type 0) (args : Args) (env : Env) (held : Contents) (before no
       × FailsLocate (Unit {0}) (locate args env) (string_bytes env.current_dir) mid new e)
 
   -- the questions after the one for the version: that for metadata was answered, and the others
-  -- followed; or it ended in an error, and nothing followed
-  pub record LoadsTo (minor : ℕ) (host : Option Name) (old new : List Call) (r : Result Loaded ContextFault)
-      : Type 0 where
+  -- followed; or it ended in an error, and nothing followed. `W` holds of the writes of that one:
+  -- the others make none
+  pub record LoadsTo (W : Stage → List Change → Type 0) (minor : ℕ) (host : Option Name)
+      (old new : List Call) (r : Result Loaded ContextFault) : Type 0 where
     pub asked : Result Metadata AskFault
     pub mid : List Call
-    pub ends : QuestionEndsWith tells (question args env minor host) held old mid asked
+    pub ends : EndsSo tells (question args env minor host) held old mid W asked
     pub follows : MatchResult asked (λ m. LoadsFromMetadata m mid new r)
         (λ e. (new ≡ mid) × (fault : ContextFault) × IsAskFault e fault × (r ≡ Err fault))
 
--- the questions of a call in their order, with the result of each; none follows one that ended them
-pub record AreAsked (tells : Type 0) (args : Args) (env : Env) (held : Contents) (before now : ℕ) (old new : List Call) (a : Answers) : Type 0 where
+-- the questions of a call in their order, with the result of each; none follows one that ended
+-- them. `W` holds of their writes, at the stage where the question for metadata ended
+pub record AreAsked (tells : Type 0) (W : Stage → List Change → Type 0) (args : Args) (env : Env)
+    (held : Contents) (before now : ℕ) (old new : List Call) (a : Answers) : Type 0 where
   pub host : Option Name
   pub mid : List Call
   pub own : IsSelf args env (told_version a.cargo_version) host old mid
-  pub loads :
-      LoadsTo tells args env held before now (result_unwrap_or a.cargo_version 0) host mid new a.loaded
+  pub loads : LoadsTo tells args env held before now W (result_unwrap_or a.cargo_version 0) host
+      mid new a.loaded
 
--- the same; or memory was refused at the first question
-abbrev pub AreAnswers : Type 0 → Args → Env → Contents → ℕ → ℕ → List Call → List Call → Answers → Type 0
-AreAnswers tells args env held before now old new a =
-    AreAsked tells args env held before now old new a
-    ⊎ ((a.loaded ≡ Err faults.Memory) × MayAdd (asked_of true (self_command (string_bytes env.cargo))) old new)
+-- the same; or memory was refused at the first question, and nothing was written
+abbrev pub AreAnswers : Type 0 → (Stage → List Change → Type 0) → Args → Env → Contents → ℕ → ℕ
+    → List Call → List Call → Answers → Type 0
+AreAnswers tells W args env held before now old new a =
+    AreAsked tells W args env held before now old new a
+    ⊎ ((a.loaded ≡ Err faults.Memory) × W begun []
+    × MayAdd (asked_of true (self_command (string_bytes env.cargo))) old new)

@@ -1,14 +1,15 @@
 //! The questions of a call, before its context is made: cargo's version, the metadata of the
 //! workspace, the manifests of its members, and the current manifest.
 
-ghost use Rattle.std.specs.Prelude.{◌≡◌, Err, IfOk, OnOk, option_copied};
-ghost use Rattle.hack_files.specs.Files.{KeepsAllBut};
+ghost use Rattle.std.specs.Prelude.{◌≡◌, [], Err, IfOk, OnOk, option_copied};
+ghost use Rattle.hack_files.specs.Files.{KeepsAllBut, Makes};
 ghost use Rattle.hack_files.specs.Restore.{registered_files};
 ghost use Rattle.hack_load.specs.Answers.{AreAnswers, LoadsFromMetadata, IsAskFault, IsLoaded};
 ghost use Rattle.hack_load.specs.Answers.{LoadsTo};
 ghost use Rattle.hack_load.specs.FilesAfterLoading.{LeavesFew};
 ghost use Rattle.hack_load.specs.Internal.{ReadsOnly};
 ghost use Rattle.hack_metadata.specs.FilesAfterAsking.{Whole};
+ghost use Rattle.hack_metadata.specs.QuestionCalls.{WroteWhereKnown};
 
 use crate::cargo_version::{CargoVersion, minor_of};
 use crate::fault::ContextFault;
@@ -53,9 +54,10 @@ impl Answers {
         ensures kept { registered_files manager.new ≡ registered_files manager.old }
         ensures needs { manager.new.needs_restore ≡ manager.old.needs_restore }
         ensures read { IfOk result.loaded (IsLoaded F.tells (F.bytes_at files.new) env.now) }
-        ensures asked { C.tells → AreAnswers F.tells args.now env.now (F.bytes_at files.old)
-            (F.failed files.old) (F.failed files.new) (C.calls caller.old) (C.calls caller.new)
-            result }
+        ensures asked { C.tells → AreAnswers F.tells (WroteWhereKnown F.whole F.tells
+            (F.trace files.old) (F.trace files.new) (F.bytes_at files.old) (F.bytes_at files.new))
+            args.now env.now (F.bytes_at files.old) (F.failed files.old) (F.failed files.new)
+            (C.calls caller.old) (C.calls caller.new) result }
     {
         let told = match CargoVersion::ask(alloc, args, env, caller) {
             Ok(told) => told,
@@ -116,8 +118,11 @@ impl<'a, 'h> Asker<'a, 'h> {
         ensures needs { manager.new.needs_restore ≡ manager.old.needs_restore }
         ensures read { IfOk result (IsLoaded F.tells (F.bytes_at files.new) self.now.env.now) }
         ensures asked { C.tells → LoadsTo F.tells self.now.args.now self.now.env.now
-            (F.bytes_at files.old) (F.failed files.old) (F.failed files.new) self.now.minor
-            (option_copied self.now.host) (C.calls caller.old) (C.calls caller.new) result }
+            (F.bytes_at files.old) (F.failed files.old) (F.failed files.new)
+            (WroteWhereKnown F.whole F.tells
+            (F.trace files.old) (F.trace files.new) (F.bytes_at files.old) (F.bytes_at files.new))
+            self.now.minor (option_copied self.now.host) (C.calls caller.old) (C.calls caller.new)
+            result }
     {
         match Metadata::new(
             alloc, self.args, self.env, self.minor, self.host, caller, files, manager,
@@ -138,6 +143,8 @@ impl<'a, 'h> Asker<'a, 'h> {
         ensures stays { F.stays files.old files.new }
         ensures left { ReadsOnly F.tells (F.bytes_at files.old) (F.bytes_at files.new)
             (F.failed files.old) (F.failed files.new) result }
+        ensures untraced { F.whole → Makes [] (F.trace files.old) (F.trace files.new)
+            (F.bytes_at files.old) (F.bytes_at files.new) }
         ensures read { IfOk result (IsLoaded F.tells (F.bytes_at files.old) self.now.env.now) }
         ensures asked { C.tells → LoadsFromMetadata F.tells self.now.args.now self.now.env.now
             (F.bytes_at files.old) (F.failed files.old) (F.failed files.new) metadata

@@ -1,8 +1,8 @@
 //! The manifests of the members of a workspace, read from their files.
 
-ghost use Rattle.std.specs.Prelude.{◌≡◌, ◌<◌, ◌⊎◌, IfOk, IfErr, Some, Contains, length, map};
+ghost use Rattle.std.specs.Prelude.{◌≡◌, ◌<◌, ◌⊎◌, [], IfOk, IfErr, Some, Contains, length, map};
 ghost use Rattle.std.specs.Prelude.{slice_get};
-ghost use Rattle.hack_files.specs.Files.{KeepsAll};
+ghost use Rattle.hack_files.specs.Files.{KeepsAll, Makes};
 ghost use Rattle.hack_base.specs.Counters.{GrowsBy};
 ghost use Rattle.hack_metadata.specs.RecordViews.{package_view, place_at};
 ghost use Rattle.hack_metadata.specs.MetadataView.{metadata_view};
@@ -26,6 +26,8 @@ pub(crate) fn manifests_of<F: Files>(
     ensures stays { F.stays files.old files.new }
     ensures left { ReadsOnly F.tells (F.bytes_at files.old) (F.bytes_at files.new)
         (F.failed files.old) (F.failed files.new) result }
+    ensures untraced { F.whole → Makes [] (F.trace files.old) (F.trace files.new)
+        (F.bytes_at files.old) (F.bytes_at files.new) }
     ensures ok { IfOk result (λ found. AreOfMembers F.tells (F.bytes_at files.old)
         (metadata_view metadata.now) found.items) }
     ensures err { IfErr result (IsMemberFault F.tells (F.bytes_at files.old)
@@ -53,6 +55,8 @@ fn manifest_of<F: Files>(
     ensures stays { F.stays files.old files.new }
     ensures left { ReadsOnly F.tells (F.bytes_at files.old) (F.bytes_at files.new)
         (F.failed files.old) (F.failed files.new) result }
+    ensures untraced { F.whole → Makes [] (F.trace files.old) (F.trace files.new)
+        (F.bytes_at files.old) (F.bytes_at files.new) }
     ensures ok { IfOk result (IsOfMember F.tells (F.bytes_at files.old)
         (metadata_view metadata.now) id.index) }
     ensures err { IfErr result (IsPackageFault F.tells (F.bytes_at files.old)

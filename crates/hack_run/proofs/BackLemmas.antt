@@ -74,7 +74,7 @@ clean_by P Q quiet tells old new (Ok v) f h = λ q. let c = h q in (c.0, λ back
 clean_by P Q quiet tells old new (Err e) f h = tt
 
 -- a count that is reported where it is above 0 is 0 where nothing is reported
-none_told : (b : Bool) (r : ℕ) → (0 < r → IsTrue b) → b ≡ false → r ≡ 0
+pub none_told : (b : Bool) (r : ℕ) → (0 < r → IsTrue b) → b ≡ false → r ≡ 0
 none_told true r told quiet = absurd (cc)
 none_told false zero told quiet = refl
 none_told false (suc r) told quiet = let t : IsTrue false = told (omega arith) in absurd (cc)

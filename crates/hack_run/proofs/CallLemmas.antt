@@ -14,7 +14,8 @@ use Rattle.hack_process.specs.declared.fault.ProcessFault.{ProcessFault}
 use Rattle.hack_process.specs.declared.fault.ProcessFault.TheVariants as process
 use Rattle.hack_versions.specs.ToolTexts.{TellsRelease}
 use Rattle.hack_versions.specs.declared.version.Version.{Version}
-use Rattle.hack_session.specs.StepCalls.{EndsOrIsCut, MakesCalls}
+use Rattle.hack_session.proofs.CallLemmas.{EndsOrIsCut}
+use Rattle.hack_session.specs.StepCalls.{MakesCalls}
 use Rattle.hack_session.specs.declared.step.Outcome.{Outcome}
 use Rattle.hack_session.specs.declared.step.Outcome.TheVariants.{Passed}
 use Rattle.hack_versions.specs.declared.rustup.Rustup.{Rustup}

@@ -2,15 +2,21 @@
 use Rattle.std.proofs.Common.{◌≡◌, ◌⊎◌, ◌∙◌, ◌+◌, ◌-◌, ◌^◌, min, inl, inr, ap, arith, refl, sym, ℕ, Bool, true, false, List, [], ◌∷◌, ◌++◌}
 use Rattle.std.proofs.lemmas.List.{length-append}
 use Rattle.std.proofs.lemmas.List.Elements.{Contains-append_left}
-use Rattle.hack_files.specs.Files.{Contents, KeepsAll}
+use Rattle.std.specs.Prelude.{All}
+use Rattle.hack_base.specs.Counters.{GrowsBy}
+use Rattle.hack_files.specs.Files.{Contents, KeepsAll, KeepsAllBut}
+use Rattle.hack_files.specs.declared.fs.Files.{Ghosts as Filing}
 use Rattle.hack_journal.specs.LockfilesApart.{KeepsLockfiles, apart, is_lockfile}
 use Rattle.hack_journal.specs.Journal.{Edit}
 use Rattle.hack_journal.specs.SafeFiles.{AreBack, KeepFirst, without}
+use Rattle.hack_journal.specs.Refusing.{AreJust, GrowsWithin, HoldsByKind, IsRefused, IsRefusedOrUnkept}
+use Rattle.hack_journal.specs.RefusingLaws.{grows_more}
 use Rattle.hack_journal.specs.Rows.{KeepsBeside, is_of_journal}
+use Rattle.hack_journal.specs.declared.unkept.Unkept.{Ghosts as Noting}
 use Rattle.hack_journal.proofs.RowLemmas.{apart_from}
 use Rattle.hack_journal.proofs.SafeLemmas.{without_at, without_same}
 use Rattle.hack_load.specs.FilesAfterLoading.{LeavesFew}
-use Rattle.hack_run.specs.Journals.{contents_seen}
+use Rattle.hack_run.specs.Journals.{IsAccounted, contents_seen}
 
 -- where the journal alone was changed the call sees the same, by the journal's first path too
 pub seen_same : (first j : List ℕ) (k : ℕ) (m n last lockfiles : Contents) → first ≡ j → KeepsBeside j k m n → last ≡ n → apart (without j m) lockfiles ≡ contents_seen first last lockfiles
@@ -51,3 +57,35 @@ same_path j first mid before now all locks p ne = sym (without_at j mid p ne) �
 pub entries_back : (j : List ℕ) (first mid before now : Contents) (es more : List Edit) → KeepFirst j first (es ++ more) → KeepsAll (apart (without j first) before) (apart (without j mid) now) → KeepsLockfiles (without j first) (without j mid) → AreBack es mid
 entries_back j first mid before now [] more keeps all locks = tt
 entries_back j first mid before now (e ∷ es) more keeps all locks = (same_path j first mid before now all locks e.path keeps.1 ∙ keeps.0, entries_back j first mid before now es more keeps.3 all locks)
+
+-- a count of calls over two counts, and that over two others, with one that failed at the end
+pub accounted : (f g h l m u v one two last : ℕ) → GrowsWithin f g u v 0 one → GrowsWithin 0 one l m 0 two → (k : ℕ) × GrowsBy k g h × GrowsBy k two last → IsAccounted f h l m u v last
+accounted f g h l m u v one two last below both end = record {
+  of_files = below.first + end.0;
+  of_lockfiles = both.second;
+  of_unkept = below.second;
+  files = grows_more below.first end.0 f g h below.one end.1;
+  lockfiles = both.two;
+  unkept = below.two;
+  most =
+      let first = below.sum (omega arith) in
+      let again = both.one (omega arith) in
+      let second = both.sum (omega arith) in
+      let third = end.2 (omega (arith, second)) in
+      omega (arith, first, again, second, third, below.most, both.most);
+}
+
+-- what was refused over a journal was refused below it, or couldn't be kept
+pub refused_once : {A F U L : Type 0} (a : Filing A) (f : Filing F) (u : Noting U) (l : Filing L) (path : List ℕ) → ((x y : A) (ps : List (List ℕ)) → a.refuses x y ps → All (IsRefusedOrUnkept f u) ps) → HoldsByKind (IsRefused a) (IsRefused l) path → HoldsByKind (IsRefusedOrUnkept f u) (IsRefused l) path
+refused_once a f u l path each r = record { files = λ other. let one = r.files other in each one.before one.after (path ∷ []) one.refused 0 path (omega arith); lockfiles = r.lockfiles }
+
+-- what is spoilt where the removal of the journal may fail
+pub spoilt_end : (P Q : List ℕ → Type 0) (tells : Type 0) (a b c : Contents) (n m : ℕ) → ((p : List ℕ) → P p → Q p) → (tells → b ≡ c) → ((m ≡ n) ⊎ (m ≡ min (n + 1) (2 ^ 64 - 1))) → KeepsAllBut (λ ps. AreJust P ps 0 n) tells a b → KeepsAllBut (λ ps. AreJust Q ps 0 m) tells a c
+spoilt_end P Q tells a b c n m turn same more h = record {
+  spoilt = h.spoilt;
+  refused = record {
+    each = λ k d lt. turn _ (h.refused.each k d lt);
+    failed = λ low. let was = h.refused.failed low in elim more [ inl is ↦ (omega (arith, was.0, is), omega (arith, was.1, is)) | inr one ↦ (omega (arith, was.0, was.1, one), omega (arith, was.1, one)) ];
+  };
+  others = λ t q fine. ap (λ (x : Contents). x q) (sym (same t)) ∙ h.others t q fine;
+}

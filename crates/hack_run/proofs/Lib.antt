@@ -1,5 +1,6 @@
 mod BackLemmas
 pub mod CallLemmas
+mod ChangeLemmas
 mod GatherLemmas
 mod HeadlineLemmas
 mod JournalLemmas

@@ -28,6 +28,7 @@ use Rattle.hack_words.specs.declared.cli.args.Args.{Args}
 use Rattle.hack_words.specs.declared.cli.env.Env.{Env}
 use Rattle.hack_load.specs.Answers.{AreAnswers, IsAskFault, LoadsFromMetadata}
 use Rattle.hack_load.specs.CargoQuestions.{FailsLocate, IsSelf, TellsVersion, locate, self_command, shown_self, told_version, unknown_version}
+use Rattle.hack_load.proofs.AnswerLemmas.{ends-map}
 use Rattle.hack_load.specs.ContextOf.{warnings_of}
 use Rattle.hack_load.specs.declared.answers.Answers.{Answers}
 use Rattle.hack_load.specs.declared.fault.ContextFault.{ContextFault}
@@ -106,12 +107,14 @@ loads tells args env held before now q old mid new r (Err x) e f =
     subst (λ (r : Result Loaded ContextFault). Loads tells args env held q old new (result_ok r)) (sym f.3)
     (at_metadata e.0 e.1 e.2 e.3 (stops q e.0 e.1 new x (subst (λ (calls : List Call). StopsQuestion q e.0 e.1 calls x) (sym f.0) e.4)))
 
--- the questions of a call, whichever error ended them
-pub loaded : (tells : Type 0) (args : Args) (env : Env) (held : Contents) (before now : ℕ) (old new : List Call) (a : Answers) → AreAnswers tells args env held before now old new a → AreLoaded tells args env held old new a
-loaded tells args env held before now old new a (inl h) = inl (record {
-  host = h.host;
-  mid = h.mid;
-  own = own args env a.cargo_version h.host old h.mid h.own;
-  loads = loads tells args env held before now (question args env (result_unwrap_or a.cargo_version 0) h.host) h.mid h.loads.mid new a.loaded h.loads.asked h.loads.ends h.loads.follows;
-})
-loaded tells args env held before now old new a (inr h) = inr (ap result_ok h.0, h.1)
+-- the questions of a call, whichever error ended them, and whatever they wrote
+pub loaded : (tells : Type 0) (W : Stage → List Change → Type 0) (args : Args) (env : Env) (held : Contents) (before now : ℕ) (old new : List Call) (a : Answers) → AreAnswers tells W args env held before now old new a → AreLoaded tells args env held old new a
+loaded tells W args env held before now old new a (inl h) =
+    let q = question args env (result_unwrap_or a.cargo_version 0) h.host in
+    inl (record {
+      host = h.host;
+      mid = h.mid;
+      own = own args env a.cargo_version h.host old h.mid h.own;
+      loads = loads tells args env held before now q h.mid h.loads.mid new a.loaded h.loads.asked (ends-map tells q held h.mid h.loads.mid W (λ stage made. Unit {0}) (λ stage made w. tt) h.loads.asked h.loads.ends) h.loads.follows;
+    })
+loaded tells W args env held before now old new a (inr h) = inr (ap result_ok h.0, h.2)

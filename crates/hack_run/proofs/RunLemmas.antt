@@ -14,7 +14,9 @@ use Rattle.hack_plan.specs.View.{PlanView}
 use Rattle.hack_session.specs.Histories.{Course, HasPassed}
 use Rattle.hack_session.specs.ListLines.{ListsStep, ListsAll, Page, has_failed, is_sent, is_sent_step, lines_written, step_lines}
 use Rattle.hack_session.specs.Internal.{IsListedStep}
-use Rattle.hack_session.specs.StepCalls.{HasPerformed, HasTold, MakesCalls, PerformsAll}
+use Rattle.hack_session.proofs.RunLemmas.{HasPerformed}
+use Rattle.hack_session.proofs.StepLemmas.{HasTold}
+use Rattle.hack_session.specs.StepCalls.{MakesCalls, PerformsAll}
 use Rattle.hack_session.specs.declared.step.Handed.{Handed}
 use Rattle.hack_plan.specs.declared.parts.Preparation.TheVariants.{Toolchain, Lockfile, Clean}
 use Rattle.hack_session.specs.declared.step.Step.{Step}
@@ -41,7 +43,7 @@ none_kept None n s = cc
 none_kept (Some e) n s = cc
 
 -- where no error is kept and none was reported, each step passed
-pub all_passed : (steps : List Handed) (term : Term) (fault : Option ProcessFault) → (All HasPassed steps ⊎ HasTold term fault) → fault ≡ None → term.error ≡ false → All HasPassed steps
+pub all_passed : (steps : List Handed) (term : Term) (fault : Option ProcessFault) → (All HasPassed steps ⊎ HasTold term.error fault) → fault ≡ None → term.error ≡ false → All HasPassed steps
 all_passed steps term fault (inl a) none quiet = a
 all_passed steps term fault (inr (inl told)) none quiet = let e : true ≡ false = sym told ∙ quiet in absurd (cc)
 all_passed steps term fault (inr (inr kept)) none quiet = absurd (none_kept fault none kept)
@@ -233,7 +235,7 @@ handed_makes whole had has Told Ran cx stable rustup a b (inr l) w calls refused
 -- one history of a plan, each step of which passed where no error was reported
 pub runs_one : (cx : ContextRecord) (stable : Result (Option Version) (String Global)) (rustup : Name) (course : Course) (notes : List Note) (old new : HostView) (mid : List Call) (before now : ℕ) (term : Term) (fault : Option ProcessFault) → mid ≡ old.calls
     → IsPlanOf cx.args.subcommand stable cx rustup course.plan notes → IsDriven cx.args.partition cx.args.keep_going course → HasPerformed course.plan course.handed mid new.calls before now
-    → (All HasPassed course.handed ⊎ HasTold term fault) → Warned notes old.term.warn new.term.warn → fault ≡ None → term.error ≡ false → PerformsOne true false cx stable rustup old.term.warn old new
+    → (All HasPassed course.handed ⊎ HasTold term.error fault) → Warned notes old.term.warn new.term.warn → fault ≡ None → term.error ≡ false → PerformsOne true false cx stable rustup old.term.warn old new
 runs_one cx stable rustup course notes old new mid before now term fault same planned driven performed told warned none quiet = record {
   course = course;
   notes = notes;
@@ -264,7 +266,7 @@ runs_some cx stable rustup course notes old new mid before now same planned driv
 -- a list that was handed over, each step of which passed or was listed where no error was reported
 pub lists_one : {R : Type 0} (had has : Option (List ℕ)) (Told : List Note → R → R → Type 0) (Ran : PlanView → List Handed → R → R → Type 0) (cx : ContextRecord) (stable : Result (Option Version) (String Global)) (rustup : Name) (a b : R) (l : ListsOver (Unit {0}) had has Told Ran cx stable rustup a b)
     → (calls : R → List Call) (before now : ℕ) (was term : Term) (fault : Option ProcessFault) → calls l.over.mid ≡ calls a → HasPerformed l.over.course.plan (filter is_sent l.over.course.handed) (calls l.over.mid) (calls b) before now
-    → (All HasPassed (filter is_sent l.over.course.handed) ⊎ HasTold term fault) → Warned l.over.notes was.warn term.warn → fault ≡ None → term.error ≡ false
+    → (All HasPassed (filter is_sent l.over.course.handed) ⊎ HasTold term.error fault) → Warned l.over.notes was.warn term.warn → fault ≡ None → term.error ≡ false
     → PerformsOne true true cx stable rustup was.warn (record { calls = calls a; out = had; term = was }) (record { calls = calls b; out = has; term = term })
 lists_one had has Told Ran cx stable rustup a b l calls before now was term fault same performed told warned none quiet = record {
   course = l.over.course;

@@ -19,7 +19,8 @@ use Rattle.hack_process.specs.Calls.{Call, IsSuccess, MayAdd}
 use Rattle.hack_process.specs.Faults.{GotAnswer}
 use Rattle.hack_process.specs.declared.fault.ProcessFault.{ProcessFault}
 use Rattle.hack_process.specs.declared.fault.ProcessFault.TheVariants as process
-use Rattle.hack_session.specs.StepCalls.{EndsOrIsCut, MakesCalls}
+use Rattle.hack_session.proofs.CallLemmas.{EndsOrIsCut}
+use Rattle.hack_session.specs.StepCalls.{MakesCalls}
 use Rattle.hack_session.specs.declared.step.Outcome.{Outcome}
 use Rattle.hack_session.specs.declared.step.Outcome.TheVariants.{Failed}
 use Rattle.hack_term.specs.declared.term.Term.{Term}
@@ -54,7 +55,7 @@ fails tells Ended Cut old new (Err (process.Failed failure)) h = λ t. let m = h
 pub unended : {A : Type 0} → false ≡ true → A
 unended e = absurd (cc)
 
-on_ok : {T E : Type 0} (P Q : Type 0) (r : Result T E) → (P → Q) → OnOk r P → OnOk r Q
+pub on_ok : {T E : Type 0} (P Q : Type 0) (r : Result T E) → (P → Q) → OnOk r P → OnOk r Q
 on_ok P Q (Ok v) f p = f p
 on_ok P Q (Err e) f p = tt
 
@@ -90,7 +91,7 @@ pub one_made : (listing : Bool) (cx : ContextRecord) (stable : Result (Option Ve
 one_made listing cx stable rustup warned other old new was now h =
     record { course = h.course; notes = h.notes; cut = h.cut; planned = h.planned; driven = h.driven; calls = h.calls; wrote = h.wrote; passed = λ e. unended e; warns = λ e. unended e }
 
-plan_told : (done : Bool) (cx : ContextRecord) (rustup : Name) (warned : Bool) (old new : HostView) (was now : Term) → (done ≡ true → now.warn ≡ new.term.warn)
+pub plan_told : (done : Bool) (cx : ContextRecord) (rustup : Name) (warned : Bool) (old new : HostView) (was now : Term) → (done ≡ true → now.warn ≡ new.term.warn)
     → PerformsPlan done cx rustup warned old new → PerformsPlan done cx rustup warned (record old { term = was }) (record new { term = now })
 plan_told done cx rustup warned old new was now same (inl stopped) = inl stopped
 plan_told done cx rustup warned old new was now same (inr h) = inr (h.0, h.1, h.2, h.3, one_told done cx.args.print_command_list cx h.1 rustup warned (host_at h.0 old) new was now same h.4)
@@ -127,7 +128,7 @@ loads_moved done T args env warned old new later was now held same h = record {
 -- ---- a call
 
 -- where no error is reported in the end, none was before
-quiet_before : (X : Type 0) (before now : Bool) → (IsTrue before ⊎ X → IsTrue now) → now ≡ false → before ≡ false
+pub quiet_before : (X : Type 0) (before now : Bool) → (IsTrue before ⊎ X → IsTrue now) → now ≡ false → before ≡ false
 quiet_before X true now f quiet = let e : true ≡ false = sym (f (inl refl)) ∙ quiet in absurd (cc)
 quiet_before X false now f quiet = refl
 
@@ -143,27 +144,27 @@ goes_on T args answers rustup warned old new cx stable mid term context asked ne
     go (inr one) = inr (mid, stable, told, unasked, one_made cx.args.print_command_list cx stable rustup term.warn (is_err answers.cargo_version || warned) (record (host_at mid old.host) { term = term }) new.host old.host.term new.host.term one)
 
 -- the same to the end
-pub follows : {T E : Type 0} (tells told quiet : Type 0) (r : Result T E) (args : Args) (answers : Answers) (rustup : Name) (old new : World) (mid : List Call) (term : Term) (cx : ContextRecord) (stable : Result (Option Version) (String Global))
-    → term.warn ≡ (is_err answers.cargo_version || old.host.term.warn) → (told → IsPrepared (wanted_in cx) (member_manifests_in cx) old.files.held new.files.held)
-    → IsContextFrom args answers cx → (¬ NeedsAnswer cx.args → stable ≡ Ok None) → (tells → AsksStable rustup stable old.host.calls mid)
-    → OnOk r (quiet → tells → PerformsOne true cx.args.print_command_list cx stable rustup term.warn (record (host_at mid old.host) { term = term }) new.host)
-    → OnOk r (quiet → tells → AfterLoading true told args answers rustup old.host.term.warn old new)
-follows tells told quiet r args answers rustup old new mid term cx stable warned prepared context unasked stable_told ran =
-    on_ok (quiet → tells → PerformsOne true cx.args.print_command_list cx stable rustup term.warn (record (host_at mid old.host) { term = term }) new.host)
-    (quiet → tells → AfterLoading true told args answers rustup old.host.term.warn old new) r
+pub plan_follows : {T E : Type 0} (tells quiet : Type 0) (r : Result T E) (cx : ContextRecord) (rustup : Name) (warned : Bool) (old new : HostView) (mid : List Call) (term : Term) (stable : Result (Option Version) (String Global))
+    → term.warn ≡ warned → (¬ NeedsAnswer cx.args → stable ≡ Ok None) → (tells → AsksStable rustup stable old.calls mid)
+    → OnOk r (quiet → tells → PerformsOne true cx.args.print_command_list cx stable rustup term.warn (record (host_at mid old) { term = term }) new)
+    → OnOk r (quiet → tells → PerformsPlan true cx rustup warned old new)
+plan_follows tells quiet r cx rustup warned old new mid term stable same unasked stable_told ran =
+    on_ok (quiet → tells → PerformsOne true cx.args.print_command_list cx stable rustup term.warn (record (host_at mid old) { term = term }) new) (quiet → tells → PerformsPlan true cx rustup warned old new) r
     (λ runs q t. inr (
-      cx,
-      context,
-      inr (
-        mid,
-        stable,
-        stable_told t,
-        unasked,
-        subst (λ (b : Bool). PerformsOne true cx.args.print_command_list cx stable rustup b (host_at mid old.host) new.host) warned
-            (one_told true cx.args.print_command_list cx stable rustup term.warn (record (host_at mid old.host) { term = term }) new.host old.host.term new.host.term (λ d. refl) (runs q t)),
-      ),
-      λ d u e. prepared u,
+      mid,
+      stable,
+      stable_told t,
+      unasked,
+      subst (λ (b : Bool). PerformsOne true cx.args.print_command_list cx stable rustup b (host_at mid old) new) same
+          (one_told true cx.args.print_command_list cx stable rustup term.warn (record (host_at mid old) { term = term }) new old.term new.term (λ d. refl) (runs q t)),
     )) ran
+
+pub follows : {T E : Type 0} (tells told quiet : Type 0) (r : Result T E) (args : Args) (answers : Answers) (rustup : Name) (warned : Bool) (old new : World) (cx : ContextRecord)
+    → (told → IsPrepared (wanted_in cx) (member_manifests_in cx) old.files.held new.files.held) → IsContextFrom args answers cx
+    → OnOk r (quiet → tells → PerformsPlan true cx rustup (is_err answers.cargo_version || warned) old.host new.host) → OnOk r (quiet → tells → AfterLoading true told args answers rustup warned old new)
+follows tells told quiet r args answers rustup warned old new cx prepared context planned =
+    on_ok (quiet → tells → PerformsPlan true cx rustup (is_err answers.cargo_version || warned) old.host new.host) (quiet → tells → AfterLoading true told args answers rustup warned old new) r
+    (λ plan q t. inr (cx, context, plan q t, λ d u e. prepared u)) planned
 
 -- a call continued after its questions were answered
 pub performs : {T E : Type 0} (tells told holds X : Type 0) (r : Result T E) (args : Args) (env : Env) (first asked prepared last : FilesView) (begun ended : HostView) (mid : List Call) (term : Term) (answers : Answers)

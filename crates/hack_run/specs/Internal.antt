@@ -1,18 +1,27 @@
 -- What only private functions of the crate promise each other.
-use Rattle.std.specs.Prelude.{ℕ, ◌≡◌, ◌≢◌, ◌⊎◌, [], Bool, false, true, List, Option, Result, Some, None, Ok, Err, string_bytes, All, filter}
+use Rattle.std.specs.Prelude.{ℕ, ◌≡◌, ◌≢◌, ◌⊎◌, ◌||◌, [], IfSome, Bool, false, true, List, Option, Result, Some, None, Ok, Err, string_bytes, All, filter}
 use Rattle.std.specs.Io.KnownBytes.{Keeps, Appends, append_known}
 use Rattle.std.proofs.Common.{Global, String}
 use Rattle.hack_base.specs.Names.{Name}
+use Rattle.std.specs.Result.{is_err}
+use Rattle.hack_files.specs.Restore.{is_kept, registered_files}
+use Rattle.hack_files.specs.declared.restore.Manager.{Manager}
+use Rattle.hack_load.specs.ContextOf.{IsContextFrom}
 use Rattle.hack_load.specs.Contexts.{ContextRecord}
+use Rattle.hack_load.specs.declared.answers.Answers.{Answers}
+use Rattle.hack_prepare.specs.EditSteps.{KeepsOnly}
+use Rattle.hack_prepare.specs.PreparedView.{AreWritesIn, IsTouchedIn, edits_in, wanted_in}
+use Rattle.hack_prepare.specs.Writes.{MakesSome}
+use Rattle.hack_words.specs.declared.cli.args.Args.{Args}
 use Rattle.hack_plan.specs.View.{PlanView}
 use Rattle.hack_session.specs.declared.step.Handed.{Handed}
 use Rattle.hack_base.specs.Notes.{Note}
 use Rattle.hack_versions.specs.declared.version.Version.{Version}
-use Rattle.hack_run.specs.Worlds.{HostView, host_view}
+use Rattle.hack_run.specs.Worlds.{HostView, World, host_view}
 use Rattle.hack_run.specs.declared.host.Host.{Host}
 use Rattle.std.specs.declared.io.traits.Write.{Ghosts as Writing}
 use Rattle.hack_process.specs.declared.caller.Caller.{Ghosts as Calling}
-use Rattle.hack_run.specs.CallTrace.{PerformsOne, WritesText}
+use Rattle.hack_run.specs.CallTrace.{PerformsOne, PerformsPlan, WritesText}
 use Rattle.hack_process.specs.Calls.{Call}
 use Rattle.hack_versions.specs.ToolTexts.{rustup_part}
 use Rattle.hack_versions.specs.declared.rustup.Rustup.{Rustup}
@@ -98,3 +107,18 @@ TellsMinor answer known = (known ≢ Unasked) × IsMinorIn (rustup_part answer) 
 -- rustup's version isn't known
 abbrev pub IsUnknown : Rustup → Type 0
 IsUnknown known = (known ≢ Unasked) × (known_of known ≡ None)
+
+-- a context was made of answers and its plan performed; its edits were made, each by one write, and
+-- what they change is kept, if anything is: no others, but for the lockfile
+pub record EditsAndPerforms (tells : Type 0) (args : Args) (answers : Answers) (rustup : Name)
+    (before now : Manager) (old new : World) : Type 0 where
+  pub cx : ContextRecord
+  pub context : IsContextFrom args answers cx
+  pub performed :
+      PerformsPlan true cx rustup (is_err answers.cargo_version || old.host.term.warn) old.host new.host
+  pub edited : MakesSome (AreWritesIn cx tells old.files.held)
+      old.files.trace new.files.trace old.files.held new.files.held
+  pub only : KeepsOnly (IsTouchedIn cx) before now
+  pub lockfile : tells → before.needs_restore ≡ true → edits_in cx ≡ true
+      → IfSome (new.files.held (wanted_in cx).lockfile) (λ _.
+      is_kept (registered_files now) (wanted_in cx).lockfile ≡ true)

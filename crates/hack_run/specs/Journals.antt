@@ -1,5 +1,6 @@
 -- What a call over files with a journal sees.
-use Rattle.std.specs.Prelude.{[], ℕ, List}
+use Rattle.std.specs.Prelude.{[], ◌+◌, ◌≤◌, ℕ, List}
+use Rattle.hack_base.specs.Counters.{GrowsBy}
 use Rattle.hack_files.specs.Files.{Contents}
 use Rattle.hack_journal.specs.LockfilesApart.{apart}
 use Rattle.hack_journal.specs.SafeFiles.{without}
@@ -17,3 +18,13 @@ files_seen journal files lockfiles failed = record { held = contents_seen journa
 -- the same with a host
 abbrev pub world_seen : List ℕ → Contents → Contents → ℕ → HostView → World
 world_seen journal files lockfiles failed host = record { files = files_seen journal files lockfiles failed; host = host }
+
+-- a number of failures is no greater than by how much three counts grew together
+pub record IsAccounted (files_old files_new lockfiles_old lockfiles_new unkept_old unkept_new number : ℕ) : Type 0 where
+  pub of_files : ℕ
+  pub of_lockfiles : ℕ
+  pub of_unkept : ℕ
+  pub files : GrowsBy of_files files_old files_new
+  pub lockfiles : GrowsBy of_lockfiles lockfiles_old lockfiles_new
+  pub unkept : GrowsBy of_unkept unkept_old unkept_new
+  pub most : number ≤ of_files + of_lockfiles + of_unkept

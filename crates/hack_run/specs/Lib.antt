@@ -1,6 +1,7 @@
 pub mod Headline
 pub mod Journals
 pub mod CallTrace
+pub mod CallChanges
 pub mod Questions
 pub mod TemporaryEdits
 pub mod Loading

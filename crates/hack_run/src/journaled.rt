@@ -1,12 +1,16 @@
 //! A whole call over files with a journal: wherever it ends, nothing is lost.
 
-ghost use Rattle.std.specs.Prelude.{◌≡◌, ◌⊎◌, ◌≤◌, ◌+◌, ◌-◌, ◌^◌, None, false, min};
+ghost use Rattle.std.specs.Prelude.{◌≡◌, ◌⊎◌, ◌≤◌, ◌+◌, ◌-◌, ◌^◌, ℕ, None, false, min};
 ghost use Rattle.std.specs.Prelude.{IfSome, length, string_bytes, true};
 ghost use Rattle.hack_base.specs.Names.{names_of};
-ghost use Rattle.hack_files.specs.Files.{KeepsAll};
+ghost use Rattle.hack_base.specs.Counters.{GrowsBy};
+ghost use Rattle.hack_files.specs.Files.{KeepsAll, KeepsAllBut};
 ghost use Rattle.hack_journal.specs.FileCalls.{spot_in};
+ghost use Rattle.hack_journal.specs.Refusing.{AreJust, HoldsByKind, IsRefused};
+ghost use Rattle.hack_journal.specs.Refusing.{IsRefusedOrUnkept};
 ghost use Rattle.hack_journal.specs.Rows.{KeepsBeside, spot_of};
 ghost use Rattle.hack_journal.specs.SafeFiles.{AreBack, Stays, StaysSafe};
+ghost use Rattle.hack_run.specs.Journals.{IsAccounted};
 ghost use Rattle.hack_run.specs.Journals.{contents_seen, files_seen, world_seen};
 ghost use Rattle.hack_run.specs.CallTrace.{IsCallTrace};
 ghost use Rattle.hack_run.specs.Readings.{IsEarlyReadingOrRefusal};
@@ -22,21 +26,24 @@ use hack_files::fs::Files;
 use hack_journal::apart::Apart;
 use hack_journal::journaled::Journaled;
 use hack_journal::place::Place;
+use hack_journal::unkept::Unkept;
 use hack_process::process::Caller;
 use std::io::Write;
 
-/// Performs a call as [`run`] does, and returns its exit status, the files, the lockfiles, and how
-/// many of their calls failed. Each change of the files is first noted in a journal at this place,
-/// where no file may be yet; at the end the journal is removed, unless some file isn't restored.
-/// Lockfiles, which cargo changes too, are those of `lockfiles`.
-pub fn run_journaled<F: Files, L: Files, C: Caller, O: Write, E: Write>(
+/// Performs a call as [`run`] does, and returns its exit status, the files, the lockfiles, how many
+/// of their calls failed, and `unkept`. Each change of the files is first noted in a journal at this
+/// place, where no file may be yet; at the end the journal is removed, unless some file isn't
+/// restored. A change that can't be noted is refused, and `unkept` is told of it: so it is where
+/// memory is refused for that. Lockfiles, which cargo changes too, are those of `lockfiles`.
+pub fn run_journaled<F: Files, L: Files, U: Unkept, C: Caller, O: Write, E: Write>(
     words: &[String],
     reading: Option<Reading>,
     files: F,
     lockfiles: L,
     place: Place,
+    unkept: U,
     host: &mut Host<'_, C, O, E>,
-) -> (u8, F, L, u64)
+) -> (u8, F, L, u64, U)
     requires { IfSome reading (IsEarlyReadingOrRefusal host.old.env.now (names_of words.now)) }
     ensures host { IsSameHost host.old host.new }
     ensures status { IsExitStatus host.old.env.now.deny_warnings host.new.term.now result.0 }
@@ -73,6 +80,20 @@ pub fn run_journaled<F: Files, L: Files, C: Caller, O: Write, E: Write>(
         result.3) }
     ensures few { host.new.term.now.error ≡ false → result.3 ≤ 1 }
 
+    // And these are paths whose writes were refused: a lockfile's by `lockfiles`, any other's by
+    // `files`, or it couldn't be kept. A failed read leaves no path changed.
+    ensures spoilt { RestoresEdits host.old.env.now (names_of words.now) → KeepsAllBut
+        (λ paths. AreJust (HoldsByKind (IsRefusedOrUnkept F.Files U.Unkept) (IsRefused L.Files))
+        paths 0 result.3)
+        (F.tells × L.tells)
+        (contents_seen (string_bytes place.journal) (F.bytes_at files) (L.bytes_at lockfiles))
+        (contents_seen (string_bytes place.journal) (F.bytes_at result.1) (L.bytes_at result.2)) }
+
+    // The number of failed calls is no greater than what `files`, `lockfiles` and `unkept` count.
+    ensures number { IsAccounted (F.failed files) (F.failed result.1)
+        (L.failed lockfiles) (L.failed result.2)
+        (U.told unkept) (U.told result.4) result.3 }
+
     // The journal is removed: where none existed before, edits don't stay and no call failed, none
     // exists at the end.
     ensures gone { RestoresEdits host.old.env.now (names_of words.now)
@@ -89,19 +110,23 @@ pub fn run_journaled<F: Files, L: Files, C: Caller, O: Write, E: Write>(
         → StaysSafe (spot_of place) (F.bytes_at files)
         (F.trace files) (F.trace result.1) (F.bytes_at files) (F.bytes_at result.1) }
 {
-    let mut files = Apart::new(Journaled::new(host.alloc, files, place), lockfiles);
+    let mut files = Apart::new(Journaled::new(host.alloc, files, place, unkept), lockfiles);
     let status = run(words, reading, &mut files, host);
     let known = files.failures();
     let failed = end_journal(&mut files.files, known);
-    (status, files.files.into_inner(), files.lockfiles, failed)
+    let (below, unkept) = files.files.into_inner();
+    (status, below, files.lockfiles, failed, unkept)
 }
 
 /// Removes the journal where all files are restored, and returns the number of failed calls, with
 /// an error of that counted. What the journal still has to keep is left to the next call.
-fn end_journal<F: Files>(files: &mut Journaled<F>, failed: u64) -> u64
+fn end_journal<F: Files, U: Unkept>(files: &mut Journaled<F, U>, failed: u64) -> u64
     ensures handed { F.stays files.old.files files.new.files }
     ensures place { spot_in files.new ≡ spot_in files.old }
     ensures failed { (result ≡ failed) ⊎ (result ≡ min (failed + 1) (2 ^ 64 - 1)) }
+    ensures counted { (k : ℕ) × GrowsBy k (F.failed files.old.files) (F.failed files.new.files)
+        × GrowsBy k failed result }
+    ensures unkept { files.new.unkept ≡ files.old.unkept }
     ensures others { F.tells → KeepsBeside files.old.notes.journal
         (length files.old.notes.entries + 1)
         (F.bytes_at files.old.files) (F.bytes_at files.new.files) }

@@ -9,6 +9,7 @@ ghost use Rattle.hack_base.specs.Writes.{AppendsFront};
 ghost use Rattle.hack_files.specs.Files.{KeepsAllBut};
 ghost use Rattle.hack_process.specs.Calls.{IsSuccess, MayAdd};
 ghost use Rattle.hack_process.specs.Faults.{GotAnswer};
+ghost use Rattle.hack_run.specs.CallChanges.{IsChangeTrace, ObeysAndChanges};
 ghost use Rattle.hack_run.specs.CallTrace.{IsCallTrace, Obeys, colored_by, listing_asked};
 ghost use Rattle.hack_run.specs.CallTrace.{warned_by};
 ghost use Rattle.hack_run.specs.Questions.{rustup_asked};
@@ -66,6 +67,14 @@ pub fn run<F: Files, C: Caller, O: Write, E: Write>(
         (world_of F.Files C.Caller O.Write files.old host.old)
         (world_of F.Files C.Caller O.Write files.new host.new) }
 
+    // Then files that show their changes show just these, in order: the lockfile is written back by
+    // the questions, where stable's cargo was asked for metadata; each manifest that is edited is
+    // written once; and unless edits stay, what they changed and the lockfile are written back.
+    ensures traced { host.new.term.now.error ≡ false → C.tells → F.whole
+        → IsChangeTrace F.tells (names_of words.now) host.old.env.now
+        (world_of F.Files C.Caller O.Write files.old host.old)
+        (world_of F.Files C.Caller O.Write files.new host.new) }
+
     // Whatever comes of the call: after its questions the steps of one history of the plan made
     // just their calls, or no step made one; and a list printed nothing but the lines of the steps
     // that passed, in order, or the beginning of these lines.
@@ -113,6 +122,10 @@ fn read<F: Files, C: Caller, O: Write, E: Write>(
         → IsCallTrace true F.tells (names_of words.now) host.old.env.now
         (world_of F.Files C.Caller O.Write files.old host.old)
         (world_of F.Files C.Caller O.Write files.new host.new)) }
+    ensures traced { OnOk result (host.new.term.now.error ≡ false → C.tells → F.whole
+        → IsChangeTrace F.tells (names_of words.now) host.old.env.now
+        (world_of F.Files C.Caller O.Write files.old host.old)
+        (world_of F.Files C.Caller O.Write files.new host.new)) }
     ensures made { C.tells → IsCallTrace false F.tells (names_of words.now) host.old.env.now
         (world_of F.Files C.Caller O.Write files.old host.old)
         (world_of F.Files C.Caller O.Write files.new host.new) }
@@ -150,6 +163,11 @@ fn obey<F: Files, C: Caller, O: Write, E: Write>(
     ensures stays { F.stays files.old files.new }
     ensures done { OnOk result (host.new.term.now.error ≡ false → C.tells
         → Obeys true F.tells parsed host.old.env.now
+        (warned_by parsed (map note_of notices.now) host.old.term.now.warn)
+        (world_of F.Files C.Caller O.Write files.old host.old)
+        (world_of F.Files C.Caller O.Write files.new host.new)) }
+    ensures traced { OnOk result (host.new.term.now.error ≡ false → C.tells → F.whole
+        → ObeysAndChanges F.tells parsed host.old.env.now
         (warned_by parsed (map note_of notices.now) host.old.term.now.warn)
         (world_of F.Files C.Caller O.Write files.old host.old)
         (world_of F.Files C.Caller O.Write files.new host.new)) }

@@ -1,17 +1,21 @@
 //! The stages of a call after its command line is parsed: loading, edits of manifests, the plan,
 //! and its runs or their list.
 
-ghost use Rattle.std.specs.Prelude.{◌≡◌, IfOk, IsOk, OnOk, false, string_bytes, true};
+ghost use Rattle.std.specs.Prelude.{◌≡◌, IfOk, IfSome, IsOk, OnOk, false, string_bytes, true};
 ghost use Rattle.hack_base.specs.Counters.{GrowsBy};
-ghost use Rattle.hack_files.specs.Restore.{AreSafe, registered_files};
+ghost use Rattle.hack_files.specs.Restore.{AreSafe, is_kept, registered_files};
 ghost use Rattle.hack_load.specs.Answers.{IsLoaded};
 ghost use Rattle.hack_load.specs.ContextOf.{IsContextFrom, warnings_of};
 ghost use Rattle.hack_load.specs.ContextView.{context_view};
 ghost use Rattle.hack_load.specs.CargoQuestions.{told_version};
-ghost use Rattle.hack_prepare.specs.PreparedView.{HoldTextsIn, IsPreparedIn, notes_in};
+ghost use Rattle.hack_prepare.specs.EditSteps.{KeepsOnly};
+ghost use Rattle.hack_prepare.specs.PreparedView.{AreWritesIn, HoldTextsIn, IsPreparedIn};
+ghost use Rattle.hack_prepare.specs.PreparedView.{IsTouchedIn, edits_in, notes_in, wanted_in};
+ghost use Rattle.hack_prepare.specs.Writes.{MakesSome};
 ghost use Rattle.hack_files.specs.Files.{Grows, KeepsAllBut};
+ghost use Rattle.hack_run.specs.CallChanges.{LoadsAndChanges};
 ghost use Rattle.hack_run.specs.CallTrace.{AfterLoading, LoadsAndPerforms};
-ghost use Rattle.hack_run.specs.Internal.{MayPerformItsPlan, PerformsItsPlan};
+ghost use Rattle.hack_run.specs.Internal.{EditsAndPerforms, MayPerformItsPlan, PerformsItsPlan};
 ghost use Rattle.hack_run.specs.TemporaryEdits.{BringsBack, IsClean};
 ghost use Rattle.hack_run.specs.Questions.{IsAnswered};
 ghost use Rattle.hack_run.specs.Warnings.{after_notes};
@@ -45,6 +49,10 @@ pub(crate) fn perform<F: Files, C: Caller, O: Write, E: Write>(
     ensures stays { F.stays files.old files.new }
     ensures done { OnOk result (host.new.term.now.error ≡ false → C.tells
         → LoadsAndPerforms true F.tells args host.old.env.now host.old.term.now.warn
+        (world_of F.Files C.Caller O.Write files.old host.old)
+        (world_of F.Files C.Caller O.Write files.new host.new)) }
+    ensures traced { OnOk result (host.new.term.now.error ≡ false → C.tells → F.whole
+        → LoadsAndChanges F.tells args host.old.env.now host.old.term.now.warn
         (world_of F.Files C.Caller O.Write files.old host.old)
         (world_of F.Files C.Caller O.Write files.new host.new)) }
     ensures made { C.tells
@@ -87,6 +95,11 @@ fn follow<F: Files, C: Caller, O: Write, E: Write>(
         → AfterLoading true (F.tells
         × IfOk answers.loaded (IsLoaded F.tells (F.bytes_at files.old) host.old.env.now))
         args answers (string_bytes host.old.env.now.rustup) host.old.term.now.warn
+        (world_of F.Files C.Caller O.Write files.old host.old)
+        (world_of F.Files C.Caller O.Write files.new host.new)) }
+    ensures traced { OnOk result (host.new.term.now.error ≡ false → C.tells → F.whole
+        → EditsAndPerforms F.tells args answers (string_bytes host.old.env.now.rustup)
+        manager.old manager.new
         (world_of F.Files C.Caller O.Write files.old host.old)
         (world_of F.Files C.Caller O.Write files.new host.new)) }
     ensures made { C.tells → AfterLoading false F.tells args answers
@@ -149,6 +162,15 @@ fn edit<F: Files, E: Write>(
     ensures prepared { OnOk result (F.tells
         → HoldTextsIn (context_view cx.now) (F.bytes_at files.old)
         → IsPreparedIn (context_view cx.now) (F.bytes_at files.old) (F.bytes_at files.new)) }
+    ensures traced { OnOk result (F.whole → MakesSome
+        (AreWritesIn (context_view cx.now) F.tells (F.bytes_at files.old))
+        (F.trace files.old) (F.trace files.new) (F.bytes_at files.old) (F.bytes_at files.new)) }
+    ensures kept { OnOk result
+        (KeepsOnly (IsTouchedIn (context_view cx.now)) manager.old manager.new) }
+    ensures lockfile { OnOk result (F.tells → manager.old.needs_restore ≡ true
+        → edits_in (context_view cx.now) ≡ true
+        → IfSome (F.bytes_at files.new (wanted_in (context_view cx.now)).lockfile) (λ _.
+        is_kept (registered_files manager.new) (wanted_in (context_view cx.now)).lockfile ≡ true)) }
     ensures unkept { manager.old.needs_restore ≡ false
         → registered_files manager.new ≡ registered_files manager.old }
     ensures safe { F.tells → HoldTextsIn (context_view cx.now) (F.bytes_at files.old)

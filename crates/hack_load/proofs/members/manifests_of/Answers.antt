@@ -1,11 +1,11 @@
-use Rattle.std.proofs.Common.{◌<◌, List, inl, inr, sym, subst, length, get_or, rules}
+use Rattle.std.proofs.Common.{◌<◌, List, [], inl, inr, sym, subst, length, get_or, rules}
 use Rattle.std.proofs.lemmas.Result.{err_from_is_err_and}
 use Rattle.hack_metadata.proofs.KnownLemmas.{member-below}
 use Rattle.hack_metadata.specs.RecordViews.{nodes_view}
 use Rattle.hack_metadata.specs.MetadataView.{metadata_view}
 use Rattle.hack_metadata.specs.declared.metadata.resolve.PackageId.{PackageId}
 use Rattle.hack_load.specs.CargoQuestions.{IsOfMember, IsPackageFault}
-use Rattle.hack_load.proofs.LeaveLemmas.{may-more, whole-more}
+use Rattle.hack_load.proofs.LeaveLemmas.{makes_still, may-more, whole-more}
 use Rattle.hack_load.proofs.MemberLemmas.{each-more, fault-earlier, id-contained, of-earlier}
 use Rattle.hack_load.proofs.members.manifests_of.Goals as goal
 
@@ -57,4 +57,5 @@ loop-id-preserved g c =
       each-more (IsOfMember g.F.Files.tells a m) ms i (record { index = 0 }) c.loop-id.found.items c.push.new.self.items c.in-Ok.manifest (subst (λ (xs : List PackageId). i < length xs) is c.loop-id-test.true) c.loop-id.invariant.2
           (of-earlier g.F.Files.tells g.F.Files.tells a b (λ t. t) (λ t. whole.1 t) m (get_or ms i (record { index = 0 })).index c.in-Ok.manifest
           (subst (λ (xs : List PackageId). IsOfMember g.F.Files.tells b m (get_or xs i (record { index = 0 })).index c.in-Ok.manifest) is c.in-Ok.ensures.ok)) c.in_ok-push.ensures.items,
+      λ w. makes_still [] (g.F.Files.trace c.args.files.now) (g.F.Files.trace c.loop-id.files) (g.F.Files.trace c.manifest_of.new.files) a b (g.F.Files.bytes_at c.manifest_of.new.files) (c.loop-id.invariant.3 w) (c.in-Ok.ensures.untraced w),
     )

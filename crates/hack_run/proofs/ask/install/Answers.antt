@@ -3,6 +3,7 @@ use Rattle.hack_process.specs.Commands.{asked_of}
 use Rattle.hack_session.specs.StepCalls.{BreaksInstall, Installs}
 use Rattle.hack_session.specs.Toolchains.{addition_of, trial_of}
 use Rattle.hack_run.specs.Questions.{FailsStable, InstallsStable}
+use Rattle.hack_session.proofs.StepLemmas.{quietly_added}
 use Rattle.hack_run.proofs.CallLemmas.{installed}
 use Rattle.hack_run.proofs.TraceLemmas.{fails}
 use Rattle.hack_run.proofs.ask.install.Goals as goal
@@ -15,7 +16,7 @@ returns-clause-ok g c =
     (λ calls. Installs [] (asked_of true (trial_of c.as_str.result.now (codes "stable"))) (asked_of true (addition_of c.as_str.result.now (codes "stable") [])) calls)
     (λ calls. BreaksInstall [] (asked_of true (trial_of c.as_str.result.now (codes "stable"))) (asked_of true (addition_of c.as_str.result.now (codes "stable") [])) calls)
     (g.C.Caller.calls c.args.caller.now) (g.C.Caller.calls c.install_toolchain.new.caller) c.install_toolchain.result
-    c.install_toolchain.ensures.made)
+    (quietly_added g.C.Caller.tells c.install_toolchain.result (asked_of true (trial_of c.as_str.result.now (codes "stable"))) (asked_of true (addition_of c.as_str.result.now (codes "stable") [])) _ _ _ _ c.install_toolchain.ensures.does))
 
 pub returns-clause-err : goal.returns-clause-err
 returns-clause-err g c =
@@ -24,4 +25,4 @@ returns-clause-err g c =
     (λ calls. Installs [] (asked_of true (trial_of c.as_str.result.now (codes "stable"))) (asked_of true (addition_of c.as_str.result.now (codes "stable") [])) calls)
     (λ calls. BreaksInstall [] (asked_of true (trial_of c.as_str.result.now (codes "stable"))) (asked_of true (addition_of c.as_str.result.now (codes "stable") [])) calls)
     (g.C.Caller.calls c.args.caller.now) (g.C.Caller.calls c.install_toolchain.new.caller) c.install_toolchain.result
-    c.install_toolchain.ensures.made)
+    (quietly_added g.C.Caller.tells c.install_toolchain.result (asked_of true (trial_of c.as_str.result.now (codes "stable"))) (asked_of true (addition_of c.as_str.result.now (codes "stable") [])) _ _ _ _ c.install_toolchain.ensures.does))

@@ -2,6 +2,7 @@ use Rattle.std.proofs.Common.{sym, ◌∙◌, ap, string_bytes}
 use Rattle.hack_load.specs.ContextView.{context_view}
 use Rattle.hack_run.specs.Worlds.{HostView, host_view}
 use Rattle.hack_run.proofs.RunLemmas.{runs_one, runs_some}
+use Rattle.hack_session.proofs.StepLemmas.{has_performed, passed_or_told}
 use Rattle.hack_run.proofs.ToldLemmas.{warned_run}
 use Rattle.hack_run.proofs.execute.hand_to_starter.Goals as goal
 
@@ -20,8 +21,8 @@ returns-clause-done g c = λ none quiet t.
     let after : HostView = record { calls = calls last.caller.now; out = g.O.Write.contents last.out.now; term = last.term.now } in
     let fault_is = c.fault-1.given.1 (sym c.new-starter.ensures.fault.0 ∙ ap (λ s. s.fault.ghost_name) (sym made) ∙ told.2 ∙ ran.2) in
     runs_one cx c.args.stable (string_bytes c.args.host.now.env.now.rustup) session notes (host_view g.C.Caller g.O.Write c.args.host.now) after (calls mid.caller.now) mid.refused last.refused last.term.now last.fault.now
-    (ap calls (told.3 ∙ ap (λ s. s.caller.now) made ∙ c.new-starter.ensures.caller.1)) (rw c.as_str-rustup.ensures.value at c.in_ok-session.ensures.ran.2) headline.driven (ran.3 t) ran.5
-    (warned_run c.args.host.now.term.now c.set_manner.new.self.term.now mid.term.now last.term.now notes (ap (λ s. s.term.now) made ∙ c.new-starter.ensures.term.1) told.6 ran.6) (sym fault_is ∙ none) quiet
+    (ap calls (told.3 ∙ ap (λ s. s.caller.now) made ∙ c.new-starter.ensures.caller.1)) (rw c.as_str-rustup.ensures.value at c.in_ok-session.ensures.ran.2) headline.driven (has_performed g.C.Caller.tells _ _ session.plan session.handed _ _ ran.8 t) (passed_or_told g.C.Caller.tells _ _ session.plan session.handed _ _ ran.8)
+    (warned_run c.args.host.now.term.now c.set_manner.new.self.term.now mid.term.now last.term.now notes (ap (λ s. s.term.now) made ∙ c.new-starter.ensures.term.1) told.6 (ap (λ s. s.warn) ran.7)) (sym fault_is ∙ none) quiet
 
 pub returns-clause-made : goal.returns-clause-made
 returns-clause-made g c = λ t.
@@ -34,4 +35,4 @@ returns-clause-made g c = λ t.
     let last = c.drive_context.new.runner in
     let after : HostView = record { calls = calls last.caller.now; out = g.O.Write.contents last.out.now; term = last.term.now } in
     runs_some cx c.args.stable (string_bytes c.args.host.now.env.now.rustup) session c.in_ok-session.ensures.ran.0 (host_view g.C.Caller g.O.Write c.args.host.now) after (calls mid.caller.now) mid.refused last.refused
-    (ap calls (told.3 ∙ ap (λ s. s.caller.now) c.set_manner.ensures ∙ c.new-starter.ensures.caller.1)) (rw c.as_str-rustup.ensures.value at c.in_ok-session.ensures.ran.2) c.in_ok-session.ensures.headline.driven (ran.3 t)
+    (ap calls (told.3 ∙ ap (λ s. s.caller.now) c.set_manner.ensures ∙ c.new-starter.ensures.caller.1)) (rw c.as_str-rustup.ensures.value at c.in_ok-session.ensures.ran.2) c.in_ok-session.ensures.headline.driven (has_performed g.C.Caller.tells _ _ session.plan session.handed _ _ ran.8 t)

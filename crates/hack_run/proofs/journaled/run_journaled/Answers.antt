@@ -8,7 +8,7 @@ use Rattle.hack_journal.specs.SafeFiles.{without}
 use Rattle.hack_journal.specs.SafeLaws.{stays_join}
 use Rattle.hack_run.specs.Journals.{contents_seen, files_seen, world_seen}
 use Rattle.hack_run.specs.Worlds.{FilesView, host_view}
-use Rattle.hack_run.proofs.JournalLemmas.{entries_back, leaves_end, leaves_nothing, none_before, seen_same}
+use Rattle.hack_run.proofs.JournalLemmas.{accounted, entries_back, leaves_end, leaves_nothing, none_before, refused_once, seen_same, spoilt_end}
 use Rattle.hack_run.proofs.TraceLemmas.{call_moved, keeps_same, unended}
 use Rattle.hack_run.proofs.journaled.run_journaled.Goals as goal
 
@@ -21,10 +21,10 @@ returns-clause-done g c = λ quiet t.
     let same : string_bytes c.args.place.journal ≡ mid.files.notes.journal = sym named ∙ ap (λ (s : Spot). s.journal) ran.0.0 in
     let did = rw (c.new-files.ensures.files, c.new-files.ensures.lockfiles, c.new-files.ensures.failures, named, c.new.ensures.files) at (c.run-status.ensures.done quiet t) in
     let seen : FilesView = record { held = apart (without mid.files.notes.journal (bytes mid.files.files)) (g.L.Files.bytes_at mid.lockfiles); trace = []; failed = mid.failures } in
-    let last = files_seen (string_bytes c.args.place.journal) (bytes c.into_inner.result) (g.L.Files.bytes_at mid.lockfiles) c.end_journal-failed.result in
+    let last = files_seen (string_bytes c.args.place.journal) (bytes c.into_inner-below.result.0) (g.L.Files.bytes_at mid.lockfiles) c.end_journal-failed.result in
     call_moved true (g.F.Files.tells × g.L.Files.tells) (names_of c.args.words.now) c.args.host.now.env.now (world_seen (string_bytes c.args.place.journal) (bytes c.args.files) (g.L.Files.bytes_at c.args.lockfiles) 0 (host_view g.C.Caller g.O.Write c.args.host.now))
     (record { files = seen; host = host_view g.C.Caller g.O.Write c.run-status.new.host }) last c.run-status.new.host.term.now
-    (λ d told. keeps_same seen.held last.held (seen_same (string_bytes c.args.place.journal) mid.files.notes.journal (length mid.files.notes.entries + 1) (bytes mid.files.files) (bytes c.end_journal-failed.new.files.files) (bytes c.into_inner.result) (g.L.Files.bytes_at mid.lockfiles) same (c.end_journal-failed.ensures.others told.0) (rw c.into_inner.ensures refl)))
+    (λ d told. keeps_same seen.held last.held (seen_same (string_bytes c.args.place.journal) mid.files.notes.journal (length mid.files.notes.entries + 1) (bytes mid.files.files) (bytes c.end_journal-failed.new.files.files) (bytes c.into_inner-below.result.0) (g.L.Files.bytes_at mid.lockfiles) same (c.end_journal-failed.ensures.others told.0) (rw c.into_inner-below.ensures.files refl)))
     (λ d. refl) did
 
 pub returns-clause-made : goal.returns-clause-made
@@ -35,7 +35,7 @@ returns-clause-made g c = λ t.
     let did = rw (c.new-files.ensures.files, c.new-files.ensures.lockfiles, c.new-files.ensures.failures, named, c.new.ensures.files) at (c.run-status.ensures.made t) in
     let seen : FilesView = record { held = apart (without mid.files.notes.journal (bytes mid.files.files)) (g.L.Files.bytes_at mid.lockfiles); trace = []; failed = mid.failures } in
     call_moved false (g.F.Files.tells × g.L.Files.tells) (names_of c.args.words.now) c.args.host.now.env.now (world_seen (string_bytes c.args.place.journal) (bytes c.args.files) (g.L.Files.bytes_at c.args.lockfiles) 0 (host_view g.C.Caller g.O.Write c.args.host.now))
-    (record { files = seen; host = host_view g.C.Caller g.O.Write c.run-status.new.host }) (files_seen (string_bytes c.args.place.journal) (bytes c.into_inner.result) (g.L.Files.bytes_at mid.lockfiles) c.end_journal-failed.result)
+    (record { files = seen; host = host_view g.C.Caller g.O.Write c.run-status.new.host }) (files_seen (string_bytes c.args.place.journal) (bytes c.into_inner-below.result.0) (g.L.Files.bytes_at mid.lockfiles) c.end_journal-failed.result)
     c.run-status.new.host.term.now (λ e. unended e) (λ e. unended e) did
 
 pub returns-clause-clean : goal.returns-clause-clean
@@ -47,7 +47,7 @@ returns-clause-clean g c = λ quiet back files lockfiles.
     let same : string_bytes c.args.place.journal ≡ mid.files.notes.journal = sym named ∙ ap (λ (s : Spot). s.journal) ran.0.0 in
     let kept = rw (c.new-files.ensures.files, c.new-files.ensures.lockfiles, named, c.new.ensures.files) at ((c.run-status.ensures.clean quiet).1 back (files, lockfiles)) in
     subst (λ (last : Contents). KeepsAll (contents_seen (string_bytes c.args.place.journal) (bytes c.args.files) (g.L.Files.bytes_at c.args.lockfiles)) last)
-    (seen_same (string_bytes c.args.place.journal) mid.files.notes.journal (length mid.files.notes.entries + 1) (bytes mid.files.files) (bytes c.end_journal-failed.new.files.files) (bytes c.into_inner.result) (g.L.Files.bytes_at mid.lockfiles) same (c.end_journal-failed.ensures.others files) (rw c.into_inner.ensures refl)) kept
+    (seen_same (string_bytes c.args.place.journal) mid.files.notes.journal (length mid.files.notes.entries + 1) (bytes mid.files.files) (bytes c.end_journal-failed.new.files.files) (bytes c.into_inner-below.result.0) (g.L.Files.bytes_at mid.lockfiles) same (c.end_journal-failed.ensures.others files) (rw c.into_inner-below.ensures.files refl)) kept
 
 -- src/journaled.rt:19:1
 pub returns-clause-safe : goal.returns-clause-safe
@@ -63,7 +63,7 @@ returns-clause-safe g c = λ tells whole absent.
     ran.0.0 (ran.0.1 tells whole) (c.end_journal-failed.ensures.stays tells whole) (bytes c.args.files) (c.new.ensures.begun absent) in
     let placed = rw c.new.ensures.place at both.0 in
     let from = rw c.new.ensures.files at placed in
-    rw c.into_inner.ensures from
+    rw c.into_inner-below.ensures.files from
 
 pub returns-clause-back : goal.returns-clause-back
 returns-clause-back g c = λ back files lockfiles.
@@ -74,7 +74,7 @@ returns-clause-back g c = λ back files lockfiles.
     let same : string_bytes c.args.place.journal ≡ mid.files.notes.journal = sym named ∙ ap (λ (s : Spot). s.journal) ran.0.0 in
     let left = rw (c.new-files.ensures.files, c.new-files.ensures.lockfiles, c.new-files.ensures.failures, named, c.new.ensures.files, sym c.failures-known.ensures) at (c.run-status.ensures.back back (files, lockfiles)) in
     leaves_end (contents_seen (string_bytes c.args.place.journal) (bytes c.args.files) (g.L.Files.bytes_at c.args.lockfiles)) _ _ c.failures-known.result c.end_journal-failed.result
-    (seen_same (string_bytes c.args.place.journal) mid.files.notes.journal (length mid.files.notes.entries + 1) (bytes mid.files.files) (bytes c.end_journal-failed.new.files.files) (bytes c.into_inner.result) (g.L.Files.bytes_at mid.lockfiles) same (c.end_journal-failed.ensures.others files) (rw c.into_inner.ensures refl))
+    (seen_same (string_bytes c.args.place.journal) mid.files.notes.journal (length mid.files.notes.entries + 1) (bytes mid.files.files) (bytes c.end_journal-failed.new.files.files) (bytes c.into_inner-below.result.0) (g.L.Files.bytes_at mid.lockfiles) same (c.end_journal-failed.ensures.others files) (rw c.into_inner-below.ensures.files refl))
     c.end_journal-failed.ensures.failed left
 
 pub returns-clause-few : goal.returns-clause-few
@@ -99,9 +99,28 @@ returns-clause-gone g c = λ back tells whole lockfiles none absent.
     let all = leaves_nothing _ _ c.failures-known.result (none_before c.failures-known.result c.end_journal-failed.result none c.end_journal-failed.ensures.failed) left in
     let is_back = entries_back j (bytes c.args.files) (bytes mid.files.files) (g.L.Files.bytes_at c.args.lockfiles) (g.L.Files.bytes_at mid.lockfiles) mid.files.notes.entries kept.more
     (rw begun at kept.keeps) (rw named at all) (rw (c.new.ensures.files, begun, named) at (ran.2 tells)) in
-    rw (c.into_inner.ensures, sym named) (c.end_journal-failed.ensures.gone none tells is_back)
+    rw (c.into_inner-below.ensures.files, sym named) (c.end_journal-failed.ensures.gone none tells is_back)
 
 pub returns-clause-stays : goal.returns-clause-stays
 returns-clause-stays g c =
     let ran = rw (c.new-files.ensures.files, c.new-files.ensures.lockfiles, c.new.ensures.files) at c.run-status.ensures.stays in
-    (rw c.into_inner.ensures (g.F.Files.stays_more _ _ _ ran.0.2 c.end_journal-failed.ensures.handed), ran.1)
+    (rw c.into_inner-below.ensures.files (g.F.Files.stays_more _ _ _ ran.0.2 c.end_journal-failed.ensures.handed), ran.1)
+
+pub returns-clause-spoilt : goal.returns-clause-spoilt
+returns-clause-spoilt g c = λ back.
+    let named : c.new.result.notes.journal ≡ string_bytes c.args.place.journal = ap (λ (s : Spot). s.journal) c.new.ensures.place in
+    let mid = c.run-status.new.files in
+    let bytes = g.F.Files.bytes_at in
+    let ran = rw c.new-files.ensures.files at c.run-status.ensures.stays in
+    let same : string_bytes c.args.place.journal ≡ mid.files.notes.journal = sym named ∙ ap (λ (s : Spot). s.journal) ran.0.0 in
+    let kept = rw (c.new-files.ensures.files, c.new-files.ensures.lockfiles, c.new-files.ensures.failures, named, c.new.ensures.files, sym c.failures-known.ensures) at (c.run-status.ensures.spoilt back) in
+    spoilt_end _ _ _ (contents_seen (string_bytes c.args.place.journal) (bytes c.args.files) (g.L.Files.bytes_at c.args.lockfiles)) _ _ c.failures-known.result c.end_journal-failed.result
+    (λ p. refused_once _ g.F.Files g.U.Unkept g.L.Files p (λ x y ps r. r.each))
+    (λ tells. seen_same (string_bytes c.args.place.journal) mid.files.notes.journal (length mid.files.notes.entries + 1) (bytes mid.files.files) (bytes c.end_journal-failed.new.files.files) (bytes c.into_inner-below.result.0) (g.L.Files.bytes_at mid.lockfiles) same (c.end_journal-failed.ensures.others tells.0) (rw c.into_inner-below.ensures.files refl))
+    c.end_journal-failed.ensures.failed kept
+
+pub returns-clause-number : goal.returns-clause-number
+returns-clause-number g c =
+    let ran = rw (c.new-files.ensures.files, c.new-files.ensures.lockfiles, c.new-files.ensures.failures, c.new.ensures.files, c.new.ensures.unkept, c.new.ensures.failures) at c.run-status.ensures.stays in
+    rw (c.into_inner-below.ensures.files, c.into_inner-below.ensures.unkept, c.end_journal-failed.ensures.unkept)
+    (accounted _ _ _ _ _ _ _ _ _ _ ran.0.3 ran.3 (rw c.failures-known.ensures at c.end_journal-failed.ensures.counted))

@@ -1,13 +1,16 @@
-use Rattle.std.proofs.Common.{◌≡◌, OnOk, ap, false, map, refl, subst, sym}
+use Rattle.std.proofs.Common.{◌≡◌, ◌∙◌, OnOk, ap, false, map, refl, subst, sym}
 use Rattle.hack_base.specs.Notes.{note_of}
 use Rattle.hack_files.specs.Files.{KeepsAllBut}
 use Rattle.hack_files.proofs.RefusalLemmas.{but_none}
 use Rattle.hack_term.specs.declared.term.Term.{Term}
 use Rattle.hack_words.specs.declared.cli.parse.Parsed.{Parsed}
+use Rattle.hack_words.specs.declared.cli.parse.Parsed.TheVariants as parsed
 use Rattle.hack_run.specs.TemporaryEdits.{ComesBack, IsClean}
 use Rattle.hack_run.specs.CallTrace.{warned_by}
 use Rattle.hack_run.specs.Worlds.{files_view, world_of}
+use Rattle.hack_load.proofs.LeaveLemmas.{makes_none}
 use Rattle.hack_run.proofs.BackLemmas.{clean_rest}
+use Rattle.hack_run.proofs.ChangeLemmas.{obeys_changes, obeys_unloaded}
 use Rattle.hack_run.proofs.TraceLemmas.{dressed, lists, lists_made, obeys, obeys_done, prints, prints_made}
 use Rattle.hack_run.proofs.run.obey.Goals as goal
 
@@ -73,3 +76,24 @@ returns-in-Print-clause-spoilt g c = λ back. but_none (g.F.Files.refuses c.args
 
 pub returns-in-List-clause-spoilt : goal.returns-in-List-clause-spoilt
 returns-in-List-clause-spoilt g c = λ back. but_none (g.F.Files.refuses c.args.files.now c.args.files.now) _ _ (g.F.Files.refuses_none _)
+
+pub returns-in-Args-clause-traced : goal.returns-in-Args-clause-traced
+returns-in-Args-clause-traced g c =
+    let notes = map note_of c.args.notices.now in
+    obeys_changes g.C.Caller.tells g.F.Files.tells g.F.Files.whole (c.perform.new.host.term.now.error ≡ false) c.perform.result c.in-Args.args c.args.parsed c.args.host.now.env.now (warned_by c.args.parsed notes c.args.host.now.term.now.warn)
+    (world_of g.F.Files g.C.Caller g.O.Write c.args.files.now c.args.host.now) (world_of g.F.Files g.C.Caller g.O.Write c.perform.new.files c.perform.new.host) c.tell_all.new.term c.in-Args.is
+    (dressed c.args.host.now.term.now c.dress.new.term c.tell_all.new.term c.args.parsed c.in-Args.args notes c.in-Args.is c.dress.ensures.warn c.tell_all.ensures) c.perform.ensures.traced
+
+pub returns-in-Print-clause-traced : goal.returns-in-Print-clause-traced
+returns-in-Print-clause-traced g c =
+    let first = world_of g.F.Files g.C.Caller g.O.Write c.args.files.now c.args.host.now in
+    obeys_unloaded g.C.Caller.tells g.F.Files.tells g.F.Files.whole (c.args.host.now.term.now.error ≡ false) c.print.result c.args.parsed c.args.host.now.env.now (warned_by c.args.parsed (map note_of c.args.notices.now) c.args.host.now.term.now.warn)
+    first (record first { host = record first.host { out = g.O.Write.contents c.print.new.out } }) (λ args is. let e : parsed.Print c.in-Print.text ≡ parsed.Args args = sym c.in-Print.is ∙ is in cc)
+    (makes_none (g.F.Files.trace c.args.files.now) (g.F.Files.bytes_at c.args.files.now))
+
+pub returns-in-List-clause-traced : goal.returns-in-List-clause-traced
+returns-in-List-clause-traced g c =
+    let first = world_of g.F.Files g.C.Caller g.O.Write c.args.files.now c.args.host.now in
+    obeys_unloaded g.C.Caller.tells g.F.Files.tells g.F.Files.whole (c.tell_all-in-List.new.term.error ≡ false) c.list_commands.result c.args.parsed c.args.host.now.env.now (warned_by c.args.parsed (map note_of c.args.notices.now) c.args.host.now.term.now.warn)
+    first (record first { host = record first.host { calls = g.C.Caller.calls c.list_commands.new.caller; term = c.tell_all-in-List.new.term } }) (λ args is. let e : parsed.List ≡ parsed.Args args = sym c.in-List.is ∙ is in cc)
+    (makes_none (g.F.Files.trace c.args.files.now) (g.F.Files.bytes_at c.args.files.now))

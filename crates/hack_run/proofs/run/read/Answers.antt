@@ -7,6 +7,7 @@ use Rattle.hack_words.specs.ParseAnswers.{around_of}
 use Rattle.hack_run.specs.TemporaryEdits.{ComesBack, RestoresEdits}
 use Rattle.hack_run.specs.Worlds.{files_view, world_of}
 use Rattle.hack_run.proofs.BackLemmas.{clean_by}
+use Rattle.hack_run.proofs.ChangeLemmas.{traces}
 use Rattle.hack_run.proofs.TraceLemmas.{done}
 use Rattle.hack_run.proofs.run.read.Goals as goal
 
@@ -22,6 +23,13 @@ returns-in-Accepted-clause-done g c =
     done g.C.Caller.tells g.F.Files.tells (c.obey.new.host.term.now.error ≡ false) c.obey.result (names_of c.args.words.now) c.args.host.now.env.now
     (world_of g.F.Files g.C.Caller g.O.Write c.args.files.now c.args.host.now) (world_of g.F.Files g.C.Caller g.O.Write c.obey.new.files c.obey.new.host) (g.C.Caller.calls c.reading_of.new.caller)
     after.rustup c.in-Accepted.parsed (map note_of c.in-Accepted.notices.items) c.reading_of.ensures.may (λ off. ap g.C.Caller.calls (c.reading_of.ensures.unneeded off)) after.read after.asked (rw c.as_slice.ensures.value at c.obey.ensures.done)
+
+pub returns-in-Accepted-clause-traced : goal.returns-in-Accepted-clause-traced
+returns-in-Accepted-clause-traced g c =
+    let after = rw c.in-Accepted.is at c.in_ok-parsed.ensures.read in
+    traces g.C.Caller.tells g.F.Files.tells g.F.Files.whole (c.obey.new.host.term.now.error ≡ false) c.obey.result (names_of c.args.words.now) c.args.host.now.env.now
+    (world_of g.F.Files g.C.Caller g.O.Write c.args.files.now c.args.host.now) (world_of g.F.Files g.C.Caller g.O.Write c.obey.new.files c.obey.new.host) (g.C.Caller.calls c.reading_of.new.caller)
+    after.rustup c.in-Accepted.parsed (map note_of c.in-Accepted.notices.items) after.read after.asked (rw c.as_slice.ensures.value at c.obey.ensures.traced)
 
 pub returns-in-Accepted-clause-clean : goal.returns-in-Accepted-clause-clean
 returns-in-Accepted-clause-clean g c =

@@ -1,6 +1,7 @@
 use Rattle.std.proofs.Common.{true, false}
 use Rattle.hack_base.specs.Names.{names_of}
 use Rattle.hack_run.specs.TemporaryEdits.{IsClean, RestoresEdits}
+use Rattle.hack_run.specs.CallChanges.{IsChangeTrace}
 use Rattle.hack_run.specs.CallTrace.{IsCallTrace}
 use Rattle.hack_run.specs.Worlds.{files_view, host_view, world_of}
 use Rattle.hack_term.specs.declared.term.Term.{Term}
@@ -15,6 +16,12 @@ returns-clause-done g c =
     comes (λ (k : Term). g.C.Caller.tells → IsCallTrace true g.F.Files.tells (names_of c.args.words.now) c.args.host.now.env.now (world_of g.F.Files g.C.Caller g.O.Write c.args.files.now c.args.host.now)
     (record { files = files_view g.F.Files c.read-came.new.files; host = record (host_view g.C.Caller g.O.Write c.read-came.new.host) { term = k } }))
     c.read-came.result c.read-came.new.host.term.now c.tell_end.new.term c.read-came.ensures.done c.tell_end.ensures.ok c.tell_end.ensures.err
+
+pub returns-clause-traced : goal.returns-clause-traced
+returns-clause-traced g c =
+    comes (λ (k : Term). g.C.Caller.tells → g.F.Files.whole → IsChangeTrace g.F.Files.tells (names_of c.args.words.now) c.args.host.now.env.now (world_of g.F.Files g.C.Caller g.O.Write c.args.files.now c.args.host.now)
+    (record { files = files_view g.F.Files c.read-came.new.files; host = record (host_view g.C.Caller g.O.Write c.read-came.new.host) { term = k } }))
+    c.read-came.result c.read-came.new.host.term.now c.tell_end.new.term c.read-came.ensures.traced c.tell_end.ensures.ok c.tell_end.ensures.err
 
 pub returns-clause-made : goal.returns-clause-made
 returns-clause-made g c = λ t.

@@ -1,4 +1,5 @@
 use Rattle.std.specs.Prelude.{◌||◌, Bool}
+use Rattle.std.specs.Result.{is_err}
 use Rattle.std.proofs.Common.{◌≡◌, ◌∙◌, ap, false, IfOk, inl, inr, refl, string_bytes, subst, sym}
 use Rattle.hack_load.specs.Answers.{IsLoaded}
 use Rattle.hack_load.specs.ContextView.{context_view}
@@ -7,7 +8,8 @@ use Rattle.hack_words.specs.declared.cli.args.Args.{Args}
 use Rattle.hack_run.specs.Questions.{NeedsAnswer}
 use Rattle.hack_run.proofs.BackLemmas.{counted_ok}
 use Rattle.hack_run.proofs.LoadingLemmas.{warns_unknown}
-use Rattle.hack_run.proofs.TraceLemmas.{follows, goes_on, shows_nothing, unended}
+use Rattle.hack_run.proofs.TraceLemmas.{follows, goes_on, plan_follows, shows_nothing, unended}
+use Rattle.hack_run.proofs.ChangeLemmas.{follows_changes}
 use Rattle.hack_load.specs.ContextOf.{warnings_of}
 use Rattle.hack_load.specs.CargoQuestions.{told_version}
 use Rattle.hack_run.specs.Worlds.{world_of}
@@ -19,14 +21,32 @@ returns-clause-done g c =
     let held = g.F.Files.bytes_at c.args.files.now in
     let env = c.args.host.now.env.now in
     let cx = context_view c.in_ok-cx.cx in
+    let first = world_of g.F.Files g.C.Caller g.O.Write c.args.files.now c.args.host.now in
+    let last = world_of g.F.Files g.C.Caller g.O.Write c.edit.new.files c.run_plan.new.host in
     let version = c.args.answers.cargo_version in
+    let warned = is_err version || c.args.host.now.term.now.warn in
     follows g.C.Caller.tells (g.F.Files.tells × IfOk c.args.answers.loaded (IsLoaded g.F.Files.tells held env)) (c.run_plan.new.host.term.now.error ≡ false) c.run_plan.result c.args.args
-    c.args.answers (string_bytes env.rustup) (world_of g.F.Files g.C.Caller g.O.Write c.args.files.now c.args.host.now) (world_of g.F.Files g.C.Caller g.O.Write c.edit.new.files c.run_plan.new.host)
-    (g.C.Caller.calls c.stable_for.new.caller) c.edit.new.term cx c.in_ok-stable.stable
+    c.args.answers (string_bytes env.rustup) c.args.host.now.term.now.warn first last cx
+    (λ u. c.in_ok-edit.ensures.prepared u.0 (loaded-holds g.F.Files.tells held env c.args.args c.args.answers cx u.0 u.1 c.in_ok-cx.ensures.ok)) c.in_ok-cx.ensures.ok
+    (plan_follows g.C.Caller.tells (c.run_plan.new.host.term.now.error ≡ false) c.run_plan.result cx (string_bytes env.rustup) warned first.host last.host (g.C.Caller.calls c.stable_for.new.caller) c.edit.new.term c.in_ok-stable.stable
     (warned_first c.args.host.now.term.now c.context.new.term c.edit.new.term (warnings_of (told_version version)) cx c.in_ok-cx.ensures.told c.in_ok-edit.ensures.told
     ∙ ap (λ (b : Bool). b || c.args.host.now.term.now.warn) (warns_unknown version))
-    (λ u. c.in_ok-edit.ensures.prepared u.0 (loaded-holds g.F.Files.tells held env c.args.args c.args.answers cx u.0 u.1 c.in_ok-cx.ensures.ok))
-    c.in_ok-cx.ensures.ok (λ off. c.in_ok-stable.ensures.unasked (subst (λ (a : Args). ¬ NeedsAnswer a) (sym c.args-2.ensures) off)) c.in_ok-stable.ensures.asked c.run_plan.ensures.done
+    (λ off. c.in_ok-stable.ensures.unasked (subst (λ (a : Args). ¬ NeedsAnswer a) (sym c.args-2.ensures) off)) c.in_ok-stable.ensures.asked c.run_plan.ensures.done)
+
+pub returns-clause-traced : goal.returns-clause-traced
+returns-clause-traced g c =
+    let env = c.args.host.now.env.now in
+    let cx = context_view c.in_ok-cx.cx in
+    let first = world_of g.F.Files g.C.Caller g.O.Write c.args.files.now c.args.host.now in
+    let last = world_of g.F.Files g.C.Caller g.O.Write c.edit.new.files c.run_plan.new.host in
+    let version = c.args.answers.cargo_version in
+    let warned = is_err version || c.args.host.now.term.now.warn in
+    follows_changes g.C.Caller.tells g.F.Files.tells g.F.Files.whole (c.run_plan.new.host.term.now.error ≡ false) c.run_plan.result c.args.args c.args.answers (string_bytes env.rustup) c.args.manager.now c.edit.new.manager first last cx
+    c.in_ok-cx.ensures.ok c.in_ok-edit.ensures.traced c.in_ok-edit.ensures.kept c.in_ok-edit.ensures.lockfile
+    (plan_follows g.C.Caller.tells (c.run_plan.new.host.term.now.error ≡ false) c.run_plan.result cx (string_bytes env.rustup) warned first.host last.host (g.C.Caller.calls c.stable_for.new.caller) c.edit.new.term c.in_ok-stable.stable
+    (warned_first c.args.host.now.term.now c.context.new.term c.edit.new.term (warnings_of (told_version version)) cx c.in_ok-cx.ensures.told c.in_ok-edit.ensures.told
+    ∙ ap (λ (b : Bool). b || c.args.host.now.term.now.warn) (warns_unknown version))
+    (λ off. c.in_ok-stable.ensures.unasked (subst (λ (a : Args). ¬ NeedsAnswer a) (sym c.args-2.ensures) off)) c.in_ok-stable.ensures.asked c.run_plan.ensures.done)
 
 pub returns-in_err-edit-clause-safe : goal.returns-in_err-edit-clause-safe
 returns-in_err-edit-clause-safe g c = λ t read.

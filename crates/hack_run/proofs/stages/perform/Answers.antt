@@ -6,6 +6,7 @@ use Rattle.hack_files.proofs.RefusalLemmas.{but_restored, but_then}
 use Rattle.hack_run.proofs.BackLemmas.{brings_none, cleans, kept_none, leaves, safe_new, whole_keeps}
 use Rattle.hack_run.specs.Worlds.{files_view, host_view}
 use Rattle.hack_term.specs.declared.term.Term.{Term}
+use Rattle.hack_run.proofs.ChangeLemmas.{changes}
 use Rattle.hack_run.proofs.LoadingLemmas.{loaded}
 use Rattle.hack_run.proofs.TraceLemmas.{made, performs}
 use Rattle.hack_run.proofs.stages.perform.Goals as goal
@@ -19,7 +20,7 @@ returns-clause-done g c =
     performs g.C.Caller.tells g.F.Files.tells (g.F.Files.tells × IfOk c.ask-answers.result.loaded (IsLoaded g.F.Files.tells asked.held c.args.host.now.env.now)) (0 < c.finish.result) c.follow-came.result c.args.args c.args.host.now.env.now
     first asked prepared last (host_view g.C.Caller g.O.Write c.args.host.now) (host_view g.C.Caller g.O.Write c.follow-came.new.host) (g.C.Caller.calls c.ask-answers.new.caller) c.finish.new.term
     c.ask-answers.result (ap (λ (k : Term). k.warn) c.finish.ensures.term)
-    (λ t. loaded g.F.Files.tells c.args.args c.args.host.now.env.now first.held first.failed asked.failed (g.C.Caller.calls c.args.host.now.caller.now) (g.C.Caller.calls c.ask-answers.new.caller) c.ask-answers.result (c.ask-answers.ensures.asked t))
+    (λ t. loaded g.F.Files.tells _ c.args.args c.args.host.now.env.now first.held first.failed asked.failed (g.C.Caller.calls c.args.host.now.caller.now) (g.C.Caller.calls c.ask-answers.new.caller) c.ask-answers.result (c.ask-answers.ensures.asked t))
     c.finish.ensures.noted.1 (λ t. (t, c.ask-answers.ensures.read)) (whole_keeps g.F.Files.tells first.held asked.held first.failed asked.failed c.ask-answers.result.loaded c.ask-answers.ensures.whole)
     (λ t stay. brings_none (registered_files c.follow-came.new.manager) prepared.held last.held c.finish.result
     (kept_none c.new-manager.result c.ask-answers.new.manager c.follow-came.new.manager c.new-manager.ensures.nothing c.ask-answers.ensures.kept
@@ -27,13 +28,27 @@ returns-clause-done g c =
     (c.finish.ensures.restored t))
     c.follow-came.ensures.done
 
+pub returns-clause-traced : goal.returns-clause-traced
+returns-clause-traced g c =
+    let asked = files_view g.F.Files c.ask-answers.new.files in
+    changes g.C.Caller.tells g.F.Files.tells g.F.Files.whole c.follow-came.result c.args.args c.args.host.now.env.now
+    (files_view g.F.Files c.args.files.now) asked (files_view g.F.Files c.follow-came.new.files) (files_view g.F.Files c.finish.new.files) (host_view g.C.Caller g.O.Write c.args.host.now) (host_view g.C.Caller g.O.Write c.follow-came.new.host)
+    (g.C.Caller.calls c.ask-answers.new.caller) c.finish.new.term c.ask-answers.result c.ask-answers.new.manager c.follow-came.new.manager c.finish.result
+    (ap (λ (k : Term). k.warn) c.finish.ensures.term) c.ask-answers.ensures.asked c.finish.ensures.noted.1
+    (whole_keeps g.F.Files.tells (g.F.Files.bytes_at c.args.files.now) asked.held (g.F.Files.failed c.args.files.now) asked.failed c.ask-answers.result.loaded c.ask-answers.ensures.whole)
+    (c.ask-answers.ensures.kept ∙ c.new-manager.ensures.nothing) (c.ask-answers.ensures.needs ∙ c.new-manager.ensures.needs)
+    (λ stay. kept_none c.new-manager.result c.ask-answers.new.manager c.follow-came.new.manager c.new-manager.ensures.nothing c.ask-answers.ensures.kept
+    (c.follow-came.ensures.unkept (c.ask-answers.ensures.needs ∙ c.new-manager.ensures.needs ∙ ap not stay)))
+    (λ t read back. c.follow-came.ensures.safe t read (c.ask-answers.ensures.needs ∙ c.new-manager.ensures.needs ∙ ap not back) (safe_new c.new-manager.result c.ask-answers.new.manager asked.held c.new-manager.ensures.nothing c.ask-answers.ensures.kept))
+    c.ask-answers.ensures.read c.finish.ensures.tried c.follow-came.ensures.traced
+
 pub returns-clause-made : goal.returns-clause-made
 returns-clause-made g c = λ t.
     let first = files_view g.F.Files c.args.files.now in
     let asked = files_view g.F.Files c.ask-answers.new.files in
     made g.F.Files.tells c.args.args c.args.host.now.env.now first asked (files_view g.F.Files c.follow-came.new.files) (files_view g.F.Files c.finish.new.files)
     (host_view g.C.Caller g.O.Write c.args.host.now) (host_view g.C.Caller g.O.Write c.follow-came.new.host) (g.C.Caller.calls c.ask-answers.new.caller) c.finish.new.term c.ask-answers.result
-    (loaded g.F.Files.tells c.args.args c.args.host.now.env.now first.held first.failed asked.failed (g.C.Caller.calls c.args.host.now.caller.now) (g.C.Caller.calls c.ask-answers.new.caller) c.ask-answers.result (c.ask-answers.ensures.asked t))
+    (loaded g.F.Files.tells _ c.args.args c.args.host.now.env.now first.held first.failed asked.failed (g.C.Caller.calls c.args.host.now.caller.now) (g.C.Caller.calls c.ask-answers.new.caller) c.ask-answers.result (c.ask-answers.ensures.asked t))
     (c.follow-came.ensures.made t)
 
 pub returns-clause-back : goal.returns-clause-back

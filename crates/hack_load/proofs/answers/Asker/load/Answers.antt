@@ -2,7 +2,7 @@ use Rattle.std.proofs.Common.{refl, Ok, Err}
 use Rattle.std.specs.Prelude.{option_copied}
 use Rattle.hack_metadata.specs.QuestionCalls.{WroteWhereKnown}
 use Rattle.hack_metadata.specs.Requests.{question}
-use Rattle.hack_load.proofs.AnswerLemmas.{ends-known, follows-earlier, loaded-later}
+use Rattle.hack_load.proofs.AnswerLemmas.{ends-map, follows-earlier, loaded-later, wrote-still}
 use Rattle.hack_files.proofs.RefusalLemmas.{but_same, but_then}
 use Rattle.hack_load.proofs.LeaveLemmas.{few-left, few-reads, reads-grow}
 use Rattle.hack_load.proofs.answers.Asker.load.Goals as goal
@@ -22,11 +22,15 @@ returns-in-Ok-clause-asked g c =
     let q = question c.args.self.now.args.now c.args.self.now.env.now c.args.self.now.minor (option_copied c.args.self.now.host) in
     let held = g.F.Files.bytes_at c.args.files.now in
     let later = g.F.Files.bytes_at c.new.new.files in
+    let last = g.F.Files.bytes_at c.load_behind.new.files in
+    let trace = g.F.Files.trace in
     let mid = g.C.Caller.calls c.new.new.caller in
     λ called. record {
       asked = Ok c.in-Ok.metadata;
       mid = mid;
-      ends = ends-known g.F.Files.tells q held (g.C.Caller.calls c.args.caller.now) mid (WroteWhereKnown g.F.Files.whole g.F.Files.tells (g.F.Files.trace c.args.files.now) (g.F.Files.trace c.new.new.files) held later) (Ok c.in-Ok.metadata) (c.in-Ok.ensures.ends called);
+      ends = ends-map g.F.Files.tells q held (g.C.Caller.calls c.args.caller.now) mid
+          (WroteWhereKnown g.F.Files.whole g.F.Files.tells (trace c.args.files.now) (trace c.new.new.files) held later) (WroteWhereKnown g.F.Files.whole g.F.Files.tells (trace c.args.files.now) (trace c.load_behind.new.files) held last)
+          (wrote-still g.F.Files.whole g.F.Files.tells (trace c.args.files.now) (trace c.new.new.files) (trace c.load_behind.new.files) held later last c.load_behind.ensures.untraced) (Ok c.in-Ok.metadata) (c.in-Ok.ensures.ends called);
       follows = follows-earlier g.F.Files.tells c.args.self.now.args.now c.args.self.now.env.now held later (g.F.Files.failed c.args.files.now) (g.F.Files.failed c.new.new.files) (g.F.Files.failed c.load_behind.new.files) c.in-Ok.metadata mid (g.C.Caller.calls c.load_behind.new.caller) c.load_behind.result
           c.in-Ok.ensures.left.1 (c.load_behind.ensures.asked called);
     }
@@ -37,12 +41,10 @@ returns-in-Err-clause-left g c =
 
 pub returns-in-Err-clause-asked : goal.returns-in-Err-clause-asked
 returns-in-Err-clause-asked g c =
-    let q = question c.args.self.now.args.now c.args.self.now.env.now c.args.self.now.minor (option_copied c.args.self.now.host) in
-    let held = g.F.Files.bytes_at c.args.files.now in
     λ called. record {
       asked = Err c.in-Err.fault;
       mid = g.C.Caller.calls c.new.new.caller;
-      ends = ends-known g.F.Files.tells q held (g.C.Caller.calls c.args.caller.now) (g.C.Caller.calls c.new.new.caller) (WroteWhereKnown g.F.Files.whole g.F.Files.tells (g.F.Files.trace c.args.files.now) (g.F.Files.trace c.new.new.files) held (g.F.Files.bytes_at c.new.new.files)) (Err c.in-Err.fault) (c.in-Err.ensures.ends called);
+      ends = c.in-Err.ensures.ends called;
       follows = (refl, c.of_question.result, c.of_question.ensures, refl);
     }
 
