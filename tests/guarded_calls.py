@@ -9,8 +9,9 @@ terminal, and by a terminal that is closed: then its guard restores manifests an
 before. Where the guard is killed too, the next call of any kind restores the manifests, or `--restore`, and a warning counts
 as an error meanwhile. A second call is made at once after a killed one, N times (200).
 
-Workspaces are at the top of a repository, in folders of it, in a worktree, behind a symbolic link, in no repository, and
-have a member outside; it is looked at where the journal lies, and that a call leaves no process and no file.
+Workspaces are at the top of a repository, in folders of it, in a worktree, behind a symbolic link, in no repository, or in one
+that can't be looked at, and have a member outside; it is looked at where the journal lies, and that a call leaves no process
+and no file.
 
 Prints a line for each. The last line is `N passed, M failed, K skipped`; the status is 1 where one failed.
 """
@@ -416,6 +417,28 @@ def places_of(program, folder):
     return {name: Place(program, f"{folder}/{name}", *row) for name, row in rows.items()}
 
 
+def unseen(place):
+    """`.git` can't be looked at, since `HEAD` is a link to itself: a call that edits or restores is refused, any other warns.
+    A folder `.git` without `HEAD` is no repository."""
+    place.lay_out()
+    git_folder = f"{place.workspace}/.git"
+    os.makedirs(git_folder)
+    os.symlink("HEAD", f"{git_folder}/HEAD")
+    place.remember()
+    for words in (EDITS, RESTORE):
+        place.refuses(words, f"error: failed to read file `{git_folder}/HEAD`\n")
+    status, told = place.call(PLAIN)
+    must(status == 0 and f"warning: failed to read file `{git_folder}/HEAD`: edits of an interrupted" in told, f"{status}: {told}")
+    place.as_before()
+    os.remove(f"{git_folder}/HEAD")
+    place.remember()
+    status, told = place.call(PLAIN)
+    must(status == 0 and "warning" not in told, f"status {status}: {told}")
+    place.interrupt(MORE + ENDS_IT)
+    place.had_journal()
+    place.as_before()
+
+
 # ---- All of them.
 
 
@@ -444,6 +467,7 @@ def all_tries(place, places, count):
         "--restore and the lockfile": restore_of_lockfile,
         "--restore beside others": restore_beside,
         "two calls at once": two_at_once,
+        "looks that fail": unseen,
     }
     tries |= {name: lambda look=look: look(place) for name, look in looks.items()}
     for name, at in places.items():

@@ -7,13 +7,13 @@ use Rattle.hack_process.specs.Calls.{Call}
 use Rattle.hack_run.specs.Worlds.{FilesView}
 use Rattle.hack_term.specs.declared.term.Term.{Term}
 use Rattle.hack_words.specs.declared.cli.env.Env.{Env}
-use Rattle.hack_recovery.specs.AskedEdits.{is_restore}
-use Rattle.hack_recovery.specs.CallCourses.{DecidesHowToGoOn, IsCallCourse, PerformsUnjournaled}
-use Rattle.hack_recovery.specs.CallCourses.IsCallCourse.{unrestored, without_journal}
+use Rattle.hack_recovery.specs.AskedEdits.{is_change, is_restore}
+use Rattle.hack_recovery.specs.CallCourses.{CannotSee, DecidesHowToGoOn, IsCallCourse, PerformsUnjournaled}
+use Rattle.hack_recovery.specs.CallCourses.IsCallCourse.{blind, unrestored, warned, without_journal}
 use Rattle.hack_recovery.specs.CallPlaces.{PlacesAt}
 use Rattle.hack_recovery.specs.GuardEvents.{GuardsView}
 use Rattle.hack_recovery.specs.LockEvents.{LocksView}
-use Rattle.hack_recovery.specs.Scenes.{Scene}
+use Rattle.hack_recovery.specs.Scenes.{IsFailed, Scene}
 use Rattle.hack_recovery.specs.declared.admit.Way.TheVariants.{Plain}
 use Rattle.hack_recovery.specs.declared.asked.Edits.{Edits}
 
@@ -46,3 +46,12 @@ pub plain_course : (tells whole locked talks records watched : Type 0) (real : N
 plain_course tells whole locked talks records watched real words env does places old at new true is decided term same ran =
     unrestored does places (subst (λ (x : Scene). DecidesHowToGoOn tells whole records real words env does places old x (Ok Plain)) (sym (same is)) decided) is (ap (λ (x : Scene). x.host.term) (same is) ∙ term)
 plain_course tells whole locked talks records watched real words env does places old at new false is decided term same ran = without_journal does places at decided is term (ran is)
+
+-- a call in which a look failed: one that would change manifests ends, and any other is performed
+-- after a warning
+pub unseen_course : (tells whole locked talks records watched : Type 0) (real : Name → Name) (words : List Name) (env : Env) (does : Edits) (old ended at new : Scene) (changes : Bool) → is_change does ≡ changes
+    → CannotSee tells whole words env does old ended → IsFailed ended → CannotSee tells whole words env does old at → at.host.term ≡ record old.host.term { warn = true }
+    → (is_change does ≡ true → new ≡ ended) → (is_change does ≡ false → PerformsUnjournaled tells talks words env at new) → IsCallCourse tells whole locked talks records watched real words env old new
+unseen_course tells whole locked talks records watched real words env does old ended at new true is unseen failed looked term same ran =
+    blind does (subst (λ (x : Scene). CannotSee tells whole words env does old x) (sym (same is)) unseen) is (subst (λ (x : Scene). IsFailed x) (sym (same is)) failed)
+unseen_course tells whole locked talks records watched real words env does old ended at new false is unseen failed looked term same ran = warned does at looked is term (ran is)

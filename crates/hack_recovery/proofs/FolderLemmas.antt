@@ -8,8 +8,7 @@ use Rattle.std.specs.Option.{option_or}
 use Rattle.hack_base.specs.Names.{Name}
 use Rattle.hack_base.specs.PathTexts.{join_of, normal_of, parent_of}
 use Rattle.hack_files.specs.Files.{Contents, KeepsAll}
-use Rattle.hack_recovery.specs.FileLooks.{Finds}
-use Rattle.hack_recovery.proofs.LookLemmas.{all_same, finds_both}
+use Rattle.hack_recovery.proofs.LookLemmas.{all_same}
 use Rattle.hack_recovery.specs.Folders.{Saying, Here, At, Nothing, above, first_some, folder_said, manifest_in, said_in, text_in_bytes, text_says, with_manifest}
 
 -- the workspace's folder, given the nearest folder with a manifest so far, and how many folders are
@@ -93,12 +92,11 @@ text_lost m bytes is unlike = sym (text_no bytes unlike) ∙ ap text_in_bytes (s
 -- ---- one folder looked at
 
 -- what was looked for is as follows from what the folder's manifest says and from what is left
-pub step_finds : (T R : Type 0) (held mid : Contents) (wanted start folder : Name) (near : Option Name) (n m : ℕ) (said : Option Saying) (x y z : ℕ) → m ≡ suc n
-    → Finds T x y (wanted ≡ rest_of held start near m folder) → (T → KeepsAll held mid) → Finds T y z (said ≡ option_map text_says (manifest_in mid folder))
-    → (option_map text_says (manifest_in held folder) ≡ said → wanted ≡ rest_of held start near (suc n) folder → R) → Finds T x z R
-step_finds T R held mid wanted start folder near n m said x y z is f same g h =
-    finds_both T (wanted ≡ rest_of held start near m folder) (said ≡ option_map text_says (manifest_in mid folder)) R x y z f g
-    (λ t p q. h (sym (subst (λ (c : Contents). said ≡ option_map text_says (manifest_in c folder)) (all_same held mid (same t)) q)) (subst (λ (k : ℕ). wanted ≡ rest_of held start near k folder) is p))
+pub step_is : (R : Type 0) (held mid : Contents) (wanted start folder : Name) (near : Option Name) (n m : ℕ) (said : Option Saying) → m ≡ suc n
+    → wanted ≡ rest_of held start near m folder → KeepsAll held mid → said ≡ option_map text_says (manifest_in mid folder)
+    → (option_map text_says (manifest_in held folder) ≡ said → wanted ≡ rest_of held start near (suc n) folder → R) → R
+step_is R held mid wanted start folder near n m said is left same looked h =
+    h (sym (subst (λ (c : Contents). said ≡ option_map text_says (manifest_in c folder)) (all_same held mid same) looked)) (subst (λ (k : ℕ). wanted ≡ rest_of held start near k folder) is left)
 
 -- what is left after a manifest that says nothing
 pub after_unsaid : (held : Contents) (wanted start folder parent : Name) (near later : Option Name) (n : ℕ) → later ≡ option_or near (Some folder) → parent ≡ parent_of folder

@@ -1,5 +1,6 @@
 -- The ways that a call can go.
 use Rattle.std.specs.Prelude.{◌≡◌, ◌≢◌, ◌⊎◌, ◌≤◌, ℕ, Bool, true, false, IsSome, List, None, Ok, Err, Option, Result, is_some, string_bytes}
+use Rattle.hack_base.specs.Counters.{GrowsBy}
 use Rattle.hack_base.specs.Names.{Name}
 use Rattle.hack_files.specs.Files.{Contents, KeepsAll, KeepsOthers, MakesOrNot, removes}
 use Rattle.hack_journal.specs.Rows.{Spot}
@@ -17,10 +18,9 @@ use Rattle.hack_recovery.specs.declared.admit.Way.TheVariants.{Plain, Guarded}
 use Rattle.hack_recovery.specs.declared.asked.Edits.{Edits}
 use Rattle.hack_recovery.specs.declared.asked.Edits.TheVariants as edits
 use Rattle.hack_recovery.specs.declared.fault.CallFault.{CallFault}
-use Rattle.hack_recovery.specs.AskedEdits.{AsksForEdits, is_restore}
+use Rattle.hack_recovery.specs.AskedEdits.{AsksForEdits, is_change, is_restore}
 use Rattle.hack_recovery.specs.Admission.{IsAdmitted}
 use Rattle.hack_recovery.specs.CallPlaces.{ArePlacesOf, PlacesAt, is_left}
-use Rattle.hack_recovery.specs.FileLooks.{Finds}
 use Rattle.hack_recovery.specs.Folders.{start_at, workspace_from}
 use Rattle.hack_recovery.specs.GuardEvents.{GuardsView, after_leave, after_start}
 use Rattle.hack_recovery.specs.LockEvents.{LocksView, after_release}
@@ -29,25 +29,39 @@ use Rattle.hack_recovery.specs.Scenes.{IsFailed, IsQuiet, Scene, Untouched, scen
 
 -- ---- the beginning
 
+-- the places of a call that names this manifest, or none, in this folder, and whether an interrupted
+-- call left anything there; the workspace's folder is known by its path without symbolic links
+pub record ArePlacesFound (tells records : Type 0) (real : Name → Name) (held : Contents) (path : Option Name) (dir : Name) (places : PlacesAt) (left : Bool) : Type 0 where
+  pub folder : Name
+  pub found : tells → folder ≡ workspace_from held (start_at path dir)
+  pub is_real : records → places.folder ≡ real folder
+  pub are : ArePlacesOf tells held places.folder places
+  pub seen : tells → left ≡ is_left held places
+
 -- what the call does to manifests, its places, and whether an interrupted call left anything there;
--- where edits are to come back, the call asks for none that stay. The workspace's folder is known by
--- its path without symbolic links
-pub record Begins (tells records : Type 0) (real : Name → Name) (words : List Name) (env : Env) (does : Edits) (places : PlacesAt) (left : Bool) (old new : FilesView) : Type 0 where
+-- where edits are to come back, the call asks for none that stay
+pub record Begins (tells records : Type 0) (real : Name → Name) (words : List Name) (env : Env) (does : Edits) (places : PlacesAt) (left : Bool) (old : FilesView) : Type 0 where
   pub path : Option Name
   pub asked : AsksForEdits env words does path
-  pub folder : Name
-  pub found : Finds tells old.failed new.failed (folder ≡ workspace_from old.held (start_at path (string_bytes env.current_dir)))
-  pub is_real : records → places.folder ≡ real folder
   pub back : does ≡ edits.Back → RestoresEdits env words
-  pub are : ArePlacesOf tells old.failed new.failed old.held places.folder places
-  pub seen : Finds tells old.failed new.failed (left ≡ is_left old.held places)
+  pub found : ArePlacesFound tells records real old.held path (string_bytes env.current_dir) places left
 
 -- with only looks at files, the call came to this answer on how it may go on
 pub record DecidesHowToGoOn (tells whole records : Type 0) (real : Name → Name) (words : List Name) (env : Env) (does : Edits) (places : PlacesAt) (old new : Scene) (came : Result Way CallFault) : Type 0 where
   pub left : Bool
-  pub begins : Begins tells records real words env does places left old.files new.files
+  pub begins : Begins tells records real words env does places left old.files
   pub admitted : IsAdmitted records does places.folder left old.locks new.locks came
   pub untouched : Untouched tells whole old new
+  pub counted : GrowsBy 0 old.files.failed new.files.failed
+
+-- it is known what the call does to manifests, but not where its journal is, or whether an
+-- interrupted call left one: a look at a file failed, and there was no other call of files
+pub record CannotSee (tells whole : Type 0) (words : List Name) (env : Env) (does : Edits) (old new : Scene) : Type 0 where
+  pub path : Option Name
+  pub asked : AsksForEdits env words does path
+  pub failed : GrowsBy 1 old.files.failed new.files.failed
+  pub untouched : Untouched tells whole old new
+  pub locks : new.locks ≡ old.locks
 
 -- ---- the call itself
 
@@ -80,12 +94,13 @@ pub record Journals (tells whole locked talks : Type 0) (words : List Name) (env
   pub locks : new.locks ≡ old.locks
   pub guards : new.guards ≡ old.guards
 
--- after it no file is at the journal's path, and the lockfile's copy is gone; or one of them stays,
--- which is reported as a warning
+-- after it no file is at the journal's path, and the lockfile's copy is gone; or one of them stays, or
+-- a look at the journal failed, which is reported as a warning
 pub data IsJournalClosed (tells : Type 0) (places : PlacesAt) (old new : FilesView) (was now : Term) : Type 0 where
-  gone : now ≡ was → Finds tells old.failed new.failed (is_some (old.held places.journal) ≡ false) → (tells → new.held places.copy ≡ None) → IsJournalClosed tells places old new was now
-  stays : now ≡ record was { warn = true } → (tells → IsSome (old.held places.journal)) → IsJournalClosed tells places old new was now
-  copy_stays : (looked : ℕ) → now ≡ record was { warn = true } → Finds tells old.failed looked (is_some (old.held places.journal) ≡ false) → IsJournalClosed tells places old new was now
+  gone : now ≡ was → GrowsBy 0 old.failed new.failed → (tells → old.held places.journal ≡ None) → (tells → new.held places.copy ≡ None) → IsJournalClosed tells places old new was now
+  stays : now ≡ record was { warn = true } → GrowsBy 0 old.failed new.failed → (tells → IsSome (old.held places.journal)) → IsJournalClosed tells places old new was now
+  unseen : now ≡ record was { warn = true } → GrowsBy 1 old.failed new.failed → (tells → KeepsAll old.held new.held) → IsJournalClosed tells places old new was now
+  copy_stays : now ≡ record was { warn = true } → GrowsBy 1 old.failed new.failed → (tells → old.held places.journal ≡ None) → IsJournalClosed tells places old new was now
 
 -- after it no other file than the lockfile's copy is changed, and what stays was reported; or memory
 -- was refused for that, which is an error
@@ -152,6 +167,12 @@ pub data IsLockedCourse (tells whole locked talks records watched : Type 0) (wor
 pub data IsCallCourse (tells whole locked talks records watched : Type 0) (real : Name → Name) (words : List Name) (env : Env) (old new : Scene) : Type 0 where
   -- memory was refused before it began: nothing was changed or called
   starved : Untouched tells whole old new → new.locks ≡ old.locks → IsFailed new → IsCallCourse tells whole locked talks records watched real words env old new
+  -- it isn't known whether an interrupted call left anything: a call that would change manifests ends
+  -- with an error, and nothing was changed or called
+  blind : (does : Edits) → CannotSee tells whole words env does old new → is_change does ≡ true → IsFailed new → IsCallCourse tells whole locked talks records watched real words env old new
+  -- any other is performed without a journal, after a warning
+  warned : (does : Edits) (at : Scene) → CannotSee tells whole words env does old at → is_change does ≡ false → at.host.term ≡ record old.host.term { warn = true }
+      → PerformsUnjournaled tells talks words env at new → IsCallCourse tells whole locked talks records watched real words env old new
   -- another call has the lock, there is none, or memory was refused: nothing was changed or called
   turned_away : (does : Edits) (places : PlacesAt) (fault : CallFault) → DecidesHowToGoOn tells whole records real words env does places old new (Err fault) → IsFailed new
       → IsCallCourse tells whole locked talks records watched real words env old new

@@ -1,9 +1,8 @@
 -- Where a call's workspace is, its journal, and what else is kept.
-use Rattle.std.specs.Prelude.{◌≡◌, ◌||◌, ℕ, Bool, codes, is_some}
+use Rattle.std.specs.Prelude.{◌≡◌, ◌||◌, Bool, codes, is_some}
 use Rattle.hack_base.specs.Names.{Name}
 use Rattle.hack_base.specs.PathTexts.{join_of}
 use Rattle.hack_files.specs.Files.{Contents}
-use Rattle.hack_recovery.specs.FileLooks.{Finds}
 use Rattle.hack_recovery.specs.JournalPlaces.{journal_beside, journal_of, lockfile_copy}
 
 -- the workspace's folder; the journal, and where an older version had it, with its folder; the
@@ -17,9 +16,9 @@ pub record PlacesAt : Type 0 where
   pub copy : Name
 
 -- the places of a workspace's folder; the journal's was looked for
-pub record ArePlacesOf (tells : Type 0) (before now : ℕ) (held : Contents) (folder : Name) (places : PlacesAt) : Type 0 where
+pub record ArePlacesOf (tells : Type 0) (held : Contents) (folder : Name) (places : PlacesAt) : Type 0 where
   pub folder_is : places.folder ≡ folder
-  pub journal_is : Finds tells before now (places.journal ≡ journal_of held folder)
+  pub journal_is : tells → places.journal ≡ journal_of held folder
   pub older_folder_is : places.older_folder ≡ folder
   pub older_is : places.older ≡ journal_beside folder
   pub lockfile_is : places.lockfile ≡ join_of folder (codes "Cargo.lock")

@@ -18,3 +18,4 @@ pub mod Telling
 pub mod CallCourses
 pub mod ProgramCalls
 pub mod Internal
+pub mod InternalHalts

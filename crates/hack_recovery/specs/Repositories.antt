@@ -16,6 +16,10 @@ pub record RepositoryAt : Type 0 where
 abbrev pub has_head : Contents → Name → Bool
 has_head held folder = is_some (held (join_of folder (codes "HEAD")))
 
+-- a path is a folder's, which has itself as `.`
+abbrev pub is_folder : Contents → Name → Bool
+is_folder held path = is_some (held (join_of path (codes ".")))
+
 -- this folder, if it is a repository's own one
 abbrev pub if_own : Contents → Name → Option Name
 if_own held folder = if has_head held folder then Some folder else None
@@ -35,9 +39,13 @@ linked_at held folder path = if_own held (normal_of (join_of folder path))
 abbrev pub linked_by : Contents → Name → List ℕ → Option Name
 linked_by held folder bytes = option_and_then (linked_at held folder) (link_in bytes)
 
+-- the folder that a file `.git` names, if there is that file and no folder
+abbrev pub named_at : Contents → Name → Name → Option Name
+named_at held folder git = if is_folder held git then None else option_and_then (linked_by held folder) (held git)
+
 -- the own folder of a repository, where this is its `.git`: that itself, or what the file names
 abbrev pub own_at : Contents → Name → Name → Option Name
-own_at held folder git = if has_head held git then Some git else option_and_then (linked_by held folder) (held git)
+own_at held folder git = if has_head held git then Some git else named_at held folder git
 
 -- the own folder of the repository whose topmost folder this is
 abbrev pub own_folder_in : Contents → Name → Option Name

@@ -48,7 +48,7 @@ pub data Restores (tells whole : Type 0) (spot : Spot) (old new : FilesView) (wa
       → Restores tells whole spot old new was now came
   strange : (path : Name) → Unchanged tells whole old new → (tells → NamesStranger spot old.held path) → came ≢ Ok true → Tells was now came
       → Restores tells whole spot old new was now came
-  trusted : (at : FilesView) → Unchanged tells whole old at → (tells → NamesNone spot old.held) → IsBroughtBack tells whole spot at new came → Tells was now came
+  trusted : (at : FilesView) → Unchanged tells whole old at → GrowsBy 0 old.failed at.failed → (tells → NamesNone spot old.held) → IsBroughtBack tells whole spot at new came → Tells was now came
       → Restores tells whole spot old new was now came
 
 -- ---- the copy of the lockfile
@@ -58,6 +58,7 @@ pub data Restores (tells whole : Type 0) (spot : Spot) (old new : FilesView) (wa
 pub record KeepsCopy (tells whole locked : Type 0) (done : Bool) (places : PlacesAt) (old new : Scene) : Type 0 where
   pub copied : done ≡ true → tells → locked → new.files.held places.copy ≡ option_or (old.lockfiles places.lockfile) (old.files.held places.copy)
   pub others : tells → KeepsOthers places.copy old.files.held new.files.held
+  pub counted : done ≡ true → GrowsBy 0 old.files.failed new.files.failed
   pub made : whole → (bytes : Name) × MakesOrNot (puts places.copy bytes) old.files.trace new.files.trace old.files.held new.files.held
   pub same : locked → KeepsAll old.lockfiles new.lockfiles
   pub host : new.host ≡ old.host
@@ -67,6 +68,7 @@ pub record KeepsCopy (tells whole locked : Type 0) (done : Bool) (places : Place
 -- nobody else changes it
 pub record Settles (tells whole locked : Type 0) (by_guard : Bool) (places : PlacesAt) (old new : Scene) (came : Result Bool CallFault) : Type 0 where
   pub gone : came ≡ Ok true → tells → new.files.held places.copy ≡ None
+  pub counted : came ≡ Ok true → GrowsBy 0 old.files.failed new.files.failed
   pub others : tells → KeepsOthers places.copy old.files.held new.files.held
   pub made : whole → MakesOrNot (removes places.copy) old.files.trace new.files.trace old.files.held new.files.held
   pub given : came ≡ Ok true → by_guard ≡ true → tells → locked → (bytes : Name) → old.files.held places.copy ≡ Some bytes → new.lockfiles places.lockfile ≡ Some bytes

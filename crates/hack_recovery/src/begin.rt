@@ -1,17 +1,21 @@
 //! The beginning of a call: what it asks for, where its journal lies, and whether an interrupted call
 //! left anything.
 
-ghost use Rattle.std.specs.Prelude.{◌≡◌, [], IfOk, IfSome};
-ghost use Rattle.hack_base.specs.Names.{names_of};
+ghost use Rattle.std.specs.Prelude.{◌≡◌, [], IfErr, IfOk, IfSome, OnOk, string_bytes};
+ghost use Rattle.hack_base.specs.Counters.{GrowsBy};
+ghost use Rattle.hack_base.specs.Names.{names_of, optional_text};
 ghost use Rattle.hack_files.specs.Files.{KeepsAll, Makes};
 ghost use Rattle.hack_journal.specs.Rows.{spot_of};
-ghost use Rattle.hack_recovery.specs.CallCourses.{Begins};
+ghost use Rattle.hack_recovery.specs.CallCourses.{ArePlacesFound, Begins};
+ghost use Rattle.hack_recovery.specs.FileLooks.{AreLooksCounted};
+ghost use Rattle.hack_recovery.specs.InternalHalts.{IsHalt};
 ghost use Rattle.hack_recovery.specs.PlacesView.{places_view};
 ghost use Rattle.hack_run.specs.Readings.{IsEarlyReading};
 ghost use Rattle.hack_run.specs.Worlds.{files_view};
 
 use crate::asked::{Asked, Edits};
 use crate::locks::Locks;
+use crate::look::LookFault;
 use crate::places::{Places, place_at};
 use crate::workspace::workspace;
 use hack_base::copies::text_in;
@@ -35,6 +39,31 @@ pub(crate) struct Begun {
     pub reading: Option<Reading>,
 }
 
+/// Why a call doesn't begin.
+#[derive(Drop)]
+pub(crate) enum Halt {
+    Memory,
+    /// This path can't be looked at, so it isn't known whether an interrupted call left anything.
+    Unseen { asked: Asked, path: String },
+}
+
+impl From<AllocError> for Halt {
+    ghost use Rattle.hack_recovery.specs.declared.begin.Halt.TheVariants.{Memory};
+
+    ghost from_gives = { λ _ e. e ≡ Memory };
+
+    fn from(_: AllocError) -> Halt {
+        Halt::Memory
+    }
+}
+
+/// Where a call's journal lies, and whether an interrupted call left anything there.
+#[derive(Drop)]
+struct Found {
+    places: Places,
+    is_left: bool,
+}
+
 /// Reads what the call asks for, and looks where its journal is. Nothing is changed.
 pub(crate) fn begin<F: Files, K: Locks>(
     alloc: Global,
@@ -42,36 +71,60 @@ pub(crate) fn begin<F: Files, K: Locks>(
     env: &Env,
     files: &mut F,
     locks: &K,
-) -> Result<Begun, AllocError>
+) -> Result<Begun, Halt>
     ensures begun { IfOk result (λ begun. Begins F.tells K.tells (K.real locks.now)
         (names_of words.now) env.now begun.edits (places_view begun.places) begun.is_left
-        (files_view F.Files files.old) (files_view F.Files files.new)) }
+        (files_view F.Files files.old)) }
     ensures place { IfOk result (λ begun. spot_of begun.place ≡ spot_of begun.places.place) }
     ensures reading { IfOk result (λ begun. IfSome begun.reading
         (IsEarlyReading env.now (names_of words.now))) }
+    ensures counted { OnOk result (GrowsBy 0 (F.failed files.old) (F.failed files.new)) }
+    ensures halted { IfErr result (IsHalt env.now (names_of words.now)
+        (F.failed files.old) (F.failed files.new)) }
     ensures same { F.tells → KeepsAll (F.bytes_at files.old) (F.bytes_at files.new) }
     ensures untraced { F.whole → Makes [] (F.trace files.old) (F.trace files.new)
         (F.bytes_at files.old) (F.bytes_at files.new) }
 {
-    let Asked {
-        edits,
-        verbose,
-        manifest_path,
-        reading,
-    } = Asked::of(alloc, words, env)?;
-    let named = text_in(&manifest_path);
-    let found = workspace(alloc, named, env.current_dir.as_str(), files)?;
-    let folder = locks.real(alloc, found.as_str())?;
-    let places = Places::of(alloc, folder.as_str(), files)?;
-    let is_left = places.is_left(files)?;
+    let asked = Asked::of(alloc, words, env)?;
+    let Found { places, is_left } = match find(alloc, &asked, env, files, locks) {
+        Ok(found) => found,
+        Err(LookFault::Memory) => return Err(Halt::Memory),
+        Err(LookFault::Device(path)) => return Err(Halt::Unseen { asked, path }),
+    };
+    let folder = places.place.folder.as_str();
     let journal = String::from_str(alloc, places.place.journal.as_str())?;
-    let place = place_at(alloc, folder.as_str(), journal)?;
+    let place = place_at(alloc, folder, journal)?;
     Ok(Begun {
-        edits,
-        verbose,
+        edits: asked.edits,
+        verbose: asked.verbose,
         places,
         place,
         is_left,
-        reading,
+        reading: asked.reading,
     })
+}
+
+/// Looks where the journal is of a call that asks for this.
+#[tactic(auto, using(crate::proofs::CountLemmas::grows_then))]
+fn find<F: Files, K: Locks>(
+    alloc: Global,
+    asked: &Asked,
+    env: &Env,
+    files: &mut F,
+    locks: &K,
+) -> Result<Found, LookFault>
+    ensures found { IfOk result (λ found. ArePlacesFound F.tells K.tells (K.real locks.now)
+        (F.bytes_at files.old) (optional_text asked.now.manifest_path)
+        (string_bytes env.now.current_dir) (places_view found.places) found.is_left) }
+    ensures counted { AreLooksCounted (F.failed files.old) (F.failed files.new) result }
+    ensures same { F.tells → KeepsAll (F.bytes_at files.old) (F.bytes_at files.new) }
+    ensures untraced { F.whole → Makes [] (F.trace files.old) (F.trace files.new)
+        (F.bytes_at files.old) (F.bytes_at files.new) }
+{
+    let named = text_in(&asked.manifest_path);
+    let found = workspace(alloc, named, env.current_dir.as_str(), files)?;
+    let folder = locks.real(alloc, found.as_str())?;
+    let places = Places::of(alloc, folder.as_str(), files)?;
+    let is_left = places.is_left(alloc, files)?;
+    Ok(Found { places, is_left })
 }

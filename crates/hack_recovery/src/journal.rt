@@ -5,12 +5,13 @@ ghost use Rattle.std.specs.Prelude.{◌≡◌, [], IfOk, map, string_bytes};
 ghost use Rattle.std.specs.List.{list_all};
 ghost use Rattle.hack_base.specs.Names.{optional_text};
 ghost use Rattle.hack_files.specs.Files.{KeepsAll, Makes};
-ghost use Rattle.hack_recovery.specs.FileLooks.{Finds};
+ghost use Rattle.hack_recovery.specs.FileLooks.{AreLooksCounted};
 ghost use Rattle.hack_recovery.specs.JournalPlaces.{is_plain_byte, journal_beside, journal_name};
 ghost use Rattle.hack_recovery.specs.JournalPlaces.{journal_of, journal_within, lockfile_copy};
 ghost use Rattle.hack_recovery.specs.JournalPlaces.{percent_for_slash, workspace_name};
 ghost use Rattle.hack_recovery.specs.RepositoryView.{repository_of};
 
+use crate::look::LookFault;
 use crate::repository::{Repository, nearest_repository};
 use crate::workspace::text_of;
 use hack_base::paths::{join, under};
@@ -18,20 +19,17 @@ use hack_files::fs::Files;
 use std::alloc::{AllocError, Global};
 
 /// The path of the journal of a workspace's folder.
-pub fn journal_of<F: Files>(
-    alloc: Global,
-    folder: &str,
-    files: &mut F,
-) -> Result<String, AllocError>
-    ensures found { IfOk result (λ path. Finds F.tells (F.failed files.old) (F.failed files.new)
-        (string_bytes path ≡ journal_of (F.bytes_at files.old) folder.now)) }
+pub fn journal_of<F: Files>(alloc: Global, folder: &str, files: &mut F) -> Result<String, LookFault>
+    ensures found { IfOk result (λ path. F.tells
+        → string_bytes path ≡ journal_of (F.bytes_at files.old) folder.now) }
+    ensures counted { AreLooksCounted (F.failed files.old) (F.failed files.new) result }
     ensures same { F.tells → KeepsAll (F.bytes_at files.old) (F.bytes_at files.new) }
     ensures untraced { F.whole → Makes [] (F.trace files.old) (F.trace files.new)
         (F.bytes_at files.old) (F.bytes_at files.new) }
 {
     match nearest_repository(alloc, folder.len(), folder, files)? {
-        Some(found) => journal_within(alloc, folder, &found),
-        None => journal_beside(alloc, folder),
+        Some(found) => Ok(journal_within(alloc, folder, &found)?),
+        None => Ok(journal_beside(alloc, folder)?),
     }
 }
 

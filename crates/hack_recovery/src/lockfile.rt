@@ -6,6 +6,7 @@
 
 ghost use Rattle.std.specs.Prelude.{◌≡◌, ◌≢◌, None, Ok, OnOk, Some, false, string_bytes, true};
 ghost use Rattle.std.specs.Option.{option_or};
+ghost use Rattle.hack_base.specs.Counters.{GrowsBy};
 ghost use Rattle.hack_base.specs.Names.{Name};
 ghost use Rattle.hack_files.specs.Files.{KeepsAll, KeepsOthers, MakesOrNot, puts, removes};
 ghost use Rattle.hack_recovery.specs.Telling.{Tells};
@@ -35,6 +36,7 @@ pub(crate) fn keep_copy<F: Files, L: Files>(
         → F.bytes_at files.new (string_bytes places.now.copy)
         ≡ option_or (L.bytes_at lockfiles.old (string_bytes places.now.lockfile))
         (F.bytes_at files.old (string_bytes places.now.copy))) }
+    ensures counted { OnOk result (GrowsBy 0 (F.failed files.old) (F.failed files.new)) }
     ensures others { F.tells → KeepsOthers (string_bytes places.now.copy)
         (F.bytes_at files.old) (F.bytes_at files.new) }
     ensures made { F.whole → (bytes : Name)
@@ -61,6 +63,7 @@ fn copy_fault(fault: FileFault) -> CallFault {
 
 /// Gives the lockfile back what its copy has, where the guard calls, and removes the copy. Returns
 /// whether that is done; if not, an error was reported.
+#[tactic(auto, using(crate::proofs::CountLemmas::grows_then))]
 pub(crate) fn settle<F: Files, L: Files, C: Caller, O: Write, E: Write>(
     places: &Places,
     files: &mut F,
@@ -75,6 +78,7 @@ pub(crate) fn settle<F: Files, L: Files, C: Caller, O: Write, E: Write>(
     // The copy is gone, no other file is changed, and the guard gives the lockfile what it has.
     ensures gone { result ≡ Ok true → F.tells
         → F.bytes_at files.new (string_bytes places.now.copy) ≡ None }
+    ensures counted { result ≡ Ok true → GrowsBy 0 (F.failed files.old) (F.failed files.new) }
     ensures others { F.tells → KeepsOthers (string_bytes places.now.copy)
         (F.bytes_at files.old) (F.bytes_at files.new) }
     ensures made { F.whole → MakesOrNot (removes (string_bytes places.now.copy))
@@ -198,6 +202,7 @@ fn drop_copy<F: Files, E: Write>(
     ensures told { Tells term.old term.new result }
     ensures gone { result ≡ Ok true → F.tells
         → F.bytes_at files.new (string_bytes places.now.copy) ≡ None }
+    ensures counted { result ≡ Ok true → GrowsBy 0 (F.failed files.old) (F.failed files.new) }
     ensures others { F.tells → KeepsOthers (string_bytes places.now.copy)
         (F.bytes_at files.old) (F.bytes_at files.new) }
     ensures made { F.whole → MakesOrNot (removes (string_bytes places.now.copy))

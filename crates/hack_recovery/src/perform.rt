@@ -20,15 +20,16 @@ ghost use Rattle.hack_term.specs.Lines.{IsExitStatus};
 
 use crate::admit::{Way, admit};
 use crate::asked::Edits;
-use crate::begin::{Begun, begin};
+use crate::begin::{Begun, Halt, begin};
 use crate::fault::CallFault;
 use crate::guards::Guards;
 use crate::keepers::Keepers;
 use crate::lockfile::{keep_copy, settle};
 use crate::locks::Locks;
-use crate::look::is_there;
+use crate::look::{LookFault, is_there};
 use crate::places::Places;
 use crate::restore::restore;
+use crate::unseen::blindly;
 use hack_files::fs::Files;
 use hack_process::process::Caller;
 use hack_run::host::Host;
@@ -64,12 +65,13 @@ pub fn perform<F: Files, L: Files, K: Locks, G: Guards, C: Caller, O: Write, E: 
     let mut files = files;
     let begun = match begin(host.alloc, words, host.env, &mut files, &keepers.locks) {
         Ok(begun) => begun,
-        Err(fault) => {
-            return (
-                report(CallFault::from(fault), host.term, host.err),
-                files,
-                lockfiles,
-            );
+        Err(Halt::Memory) => {
+            let status = report(CallFault::Memory, host.term, host.err);
+            return (status, files, lockfiles);
+        }
+        Err(Halt::Unseen { asked, path }) => {
+            let status = blindly(words, asked, path.as_str(), &mut files, host);
+            return (status, files, lockfiles);
         }
     };
     match admit(
@@ -89,7 +91,7 @@ pub fn perform<F: Files, L: Files, K: Locks, G: Guards, C: Caller, O: Write, E: 
 }
 
 /// Reports why the call isn't performed, and returns its exit status.
-fn report<E: Write>(fault: CallFault, term: &mut Term, err: &mut E) -> u8
+pub(crate) fn report<E: Write>(fault: CallFault, term: &mut Term, err: &mut E) -> u8
     ensures term { term.new ≡ record term.old { error = true } }
     ensures status { result ≡ 1 }
 {
@@ -351,7 +353,9 @@ fn over_journal<F: Files, L: Files, C: Caller, O: Write, E: Write>(
         reading,
         ..
     } = begun;
-    let (_, files, lockfiles, _) = run_journaled(words, reading, files, lockfiles, place, host);
+    let (_, files, lockfiles, _, _) = run_journaled(
+        words, reading, files, lockfiles, place, 0u64, host,
+    );
     let mut files = files;
     match close(host.alloc, &places, &mut files, host.term, host.err) {
         Ok(()) => (host.term.status(env.deny_warnings), files, lockfiles),
@@ -380,15 +384,31 @@ fn close<F: Files, E: Write>(
         (F.trace files.old) (F.trace files.new) (F.bytes_at files.old) (F.bytes_at files.new) }
 {
     let journal = places.place.journal.as_str();
-    if is_there(journal, files)? {
-        let text = format!(in alloc; "`{journal}` stays: the next call brings back what it tells")?;
-        let _ = term.warn(&text, err);
-        return Ok(());
+    match is_there(alloc, journal, files) {
+        Ok(false) => {}
+        Ok(true) => return tell_journal(alloc, journal, "stays", term, err),
+        Err(LookFault::Device(_)) => return tell_journal(alloc, journal, "may stay", term, err),
+        Err(LookFault::Memory) => return Err(AllocError),
     }
     let copy = places.copy.as_str();
     if files.remove(copy).is_err() {
         let text = format!(in alloc; "`{copy}` stays: the next call removes it")?;
         let _ = term.warn(&text, err);
     }
+    Ok(())
+}
+
+/// Warns of a journal that stays, or may.
+fn tell_journal<E: Write>(
+    alloc: Global,
+    journal: &str,
+    stays: &str,
+    term: &mut Term,
+    err: &mut E,
+) -> Result<(), AllocError>
+    ensures { OnOk result (term.new ≡ record term.old { warn = true }) }
+{
+    let text = format!(in alloc; "`{journal}` {stays}: the next call brings back what it tells")?;
+    let _ = term.warn(&text, err);
     Ok(())
 }

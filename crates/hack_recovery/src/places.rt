@@ -2,12 +2,12 @@
 
 ghost use Rattle.std.specs.Prelude.{◌≡◌, ◌||◌, [], IfOk, string_bytes};
 ghost use Rattle.hack_files.specs.Files.{KeepsAll, Makes};
-ghost use Rattle.hack_recovery.specs.FileLooks.{Finds};
+ghost use Rattle.hack_recovery.specs.FileLooks.{AreLooksCounted};
 ghost use Rattle.hack_recovery.specs.CallPlaces.{ArePlacesOf, is_left};
 ghost use Rattle.hack_recovery.specs.PlacesView.{places_view};
 
 use crate::journal::{journal_beside, journal_of, lockfile_copy};
-use crate::look::is_there;
+use crate::look::{LookFault, is_there};
 use hack_base::paths::join;
 use hack_files::fs::Files;
 use hack_journal::place::Place;
@@ -27,10 +27,10 @@ pub struct Places {
 
 impl Places {
     /// The places of a workspace's folder.
-    pub fn of<F: Files>(alloc: Global, folder: &str, files: &mut F) -> Result<Places, AllocError>
-        ensures found { IfOk result (λ places. ArePlacesOf F.tells
-            (F.failed files.old) (F.failed files.new) (F.bytes_at files.old)
+    pub fn of<F: Files>(alloc: Global, folder: &str, files: &mut F) -> Result<Places, LookFault>
+        ensures found { IfOk result (λ places. ArePlacesOf F.tells (F.bytes_at files.old)
             folder.now (places_view places)) }
+        ensures counted { AreLooksCounted (F.failed files.old) (F.failed files.new) result }
         ensures same { F.tells → KeepsAll (F.bytes_at files.old) (F.bytes_at files.new) }
         ensures untraced { F.whole → Makes [] (F.trace files.old) (F.trace files.new)
             (F.bytes_at files.old) (F.bytes_at files.new) }
@@ -48,17 +48,18 @@ impl Places {
     }
 
     /// Whether an interrupted call left anything there.
-    pub fn is_left<F: Files>(&self, files: &mut F) -> Result<bool, AllocError>
-        ensures found { IfOk result (λ left. Finds F.tells
-            (F.failed files.old) (F.failed files.new)
-            (left ≡ is_left (F.bytes_at files.old) (places_view self.now))) }
+    #[tactic(auto, using(crate::proofs::CountLemmas::grows_then))]
+    pub fn is_left<F: Files>(&self, alloc: Global, files: &mut F) -> Result<bool, LookFault>
+        ensures found { IfOk result (λ left. F.tells
+            → left ≡ is_left (F.bytes_at files.old) (places_view self.now)) }
+        ensures counted { AreLooksCounted (F.failed files.old) (F.failed files.new) result }
         ensures same { F.tells → KeepsAll (F.bytes_at files.old) (F.bytes_at files.new) }
         ensures untraced { F.whole → Makes [] (F.trace files.old) (F.trace files.new)
             (F.bytes_at files.old) (F.bytes_at files.new) }
     {
-        let journal = is_there(self.place.journal.as_str(), files)?;
-        let older = is_there(self.older.journal.as_str(), files)?;
-        let copy = is_there(self.copy.as_str(), files)?;
+        let journal = is_there(alloc, self.place.journal.as_str(), files)?;
+        let older = is_there(alloc, self.older.journal.as_str(), files)?;
+        let copy = is_there(alloc, self.copy.as_str(), files)?;
         Ok(any_of(journal, older, copy))
     }
 }

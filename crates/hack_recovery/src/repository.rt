@@ -3,12 +3,12 @@
 ghost use Rattle.std.specs.Prelude.{◌≡◌, [], IfOk, option_map};
 ghost use Rattle.hack_base.specs.Names.{optional_text};
 ghost use Rattle.hack_files.specs.Files.{KeepsAll, Makes};
-ghost use Rattle.hack_recovery.specs.FileLooks.{Finds};
-ghost use Rattle.hack_recovery.specs.Repositories.{has_head, link_in, linked_by, own_folder_in};
-ghost use Rattle.hack_recovery.specs.Repositories.{repository_above, repository_in};
+ghost use Rattle.hack_recovery.specs.FileLooks.{AreLooksCounted};
+ghost use Rattle.hack_recovery.specs.Repositories.{has_head, is_folder, link_in, linked_by};
+ghost use Rattle.hack_recovery.specs.Repositories.{own_folder_in, repository_above, repository_in};
 ghost use Rattle.hack_recovery.specs.RepositoryView.{repository_of};
 
-use crate::look::{held, is_there};
+use crate::look::{LookFault, held, is_there};
 use crate::workspace::{text_of, within};
 use hack_base::paths::{join, parent};
 use hack_files::fs::Files;
@@ -24,15 +24,17 @@ pub struct Repository {
 }
 
 /// The nearest repository among a folder and so many folders above it.
+#[tactic(auto, using(crate::proofs::CountLemmas::grows_then))]
 pub fn nearest_repository<F: Files>(
     alloc: Global,
     steps: usize,
     folder: &str,
     files: &mut F,
-) -> Result<Option<Repository>, AllocError>
-    ensures found { IfOk result (λ found. Finds F.tells (F.failed files.old) (F.failed files.new)
-        (option_map repository_of found ≡
-        repository_above (F.bytes_at files.old) steps folder.now)) }
+) -> Result<Option<Repository>, LookFault>
+    ensures found { IfOk result (λ found. F.tells
+        → option_map repository_of found ≡
+        repository_above (F.bytes_at files.old) steps folder.now) }
+    ensures counted { AreLooksCounted (F.failed files.old) (F.failed files.new) result }
     ensures same { F.tells → KeepsAll (F.bytes_at files.old) (F.bytes_at files.new) }
     ensures untraced { F.whole → Makes [] (F.trace files.old) (F.trace files.new)
         (F.bytes_at files.old) (F.bytes_at files.new) }
@@ -51,9 +53,10 @@ fn repository_in<F: Files>(
     alloc: Global,
     folder: &str,
     files: &mut F,
-) -> Result<Option<Repository>, AllocError>
-    ensures found { IfOk result (λ found. Finds F.tells (F.failed files.old) (F.failed files.new)
-        (option_map repository_of found ≡ repository_in (F.bytes_at files.old) folder.now)) }
+) -> Result<Option<Repository>, LookFault>
+    ensures found { IfOk result (λ found. F.tells
+        → option_map repository_of found ≡ repository_in (F.bytes_at files.old) folder.now) }
+    ensures counted { AreLooksCounted (F.failed files.old) (F.failed files.new) result }
     ensures same { F.tells → KeepsAll (F.bytes_at files.old) (F.bytes_at files.new) }
     ensures untraced { F.whole → Makes [] (F.trace files.old) (F.trace files.new)
         (F.bytes_at files.old) (F.bytes_at files.new) }
@@ -68,13 +71,15 @@ fn repository_in<F: Files>(
 }
 
 /// The own folder of the repository whose topmost folder this is.
+#[tactic(auto, using(crate::proofs::CountLemmas::grows_then))]
 fn own_folder<F: Files>(
     alloc: Global,
     folder: &str,
     files: &mut F,
-) -> Result<Option<String>, AllocError>
-    ensures found { IfOk result (λ found. Finds F.tells (F.failed files.old) (F.failed files.new)
-        (optional_text found ≡ own_folder_in (F.bytes_at files.old) folder.now)) }
+) -> Result<Option<String>, LookFault>
+    ensures found { IfOk result (λ found. F.tells
+        → optional_text found ≡ own_folder_in (F.bytes_at files.old) folder.now) }
+    ensures counted { AreLooksCounted (F.failed files.old) (F.failed files.new) result }
     ensures same { F.tells → KeepsAll (F.bytes_at files.old) (F.bytes_at files.new) }
     ensures untraced { F.whole → Makes [] (F.trace files.old) (F.trace files.new)
         (F.bytes_at files.old) (F.bytes_at files.new) }
@@ -82,6 +87,9 @@ fn own_folder<F: Files>(
     let git = join(alloc, folder, ".git")?;
     if has_head(alloc, git.as_str(), files)? {
         return Ok(Some(git));
+    }
+    if is_folder(alloc, git.as_str(), files)? {
+        return Ok(None);
     }
     match held(alloc, git.as_str(), files)? {
         Some(bytes) => linked(alloc, folder, &bytes, files),
@@ -95,9 +103,10 @@ fn linked<F: Files>(
     folder: &str,
     bytes: &[u8],
     files: &mut F,
-) -> Result<Option<String>, AllocError>
-    ensures found { IfOk result (λ found. Finds F.tells (F.failed files.old) (F.failed files.new)
-        (optional_text found ≡ linked_by (F.bytes_at files.old) folder.now bytes.now)) }
+) -> Result<Option<String>, LookFault>
+    ensures found { IfOk result (λ found. F.tells
+        → optional_text found ≡ linked_by (F.bytes_at files.old) folder.now bytes.now) }
+    ensures counted { AreLooksCounted (F.failed files.old) (F.failed files.new) result }
     ensures same { F.tells → KeepsAll (F.bytes_at files.old) (F.bytes_at files.new) }
     ensures untraced { F.whole → Makes [] (F.trace files.old) (F.trace files.new)
         (F.bytes_at files.old) (F.bytes_at files.new) }
@@ -127,13 +136,27 @@ fn link_in(alloc: Global, bytes: &[u8]) -> Result<Option<String>, AllocError>
 }
 
 /// Whether a folder has a file `HEAD`, as the own folder of each repository has.
-fn has_head<F: Files>(alloc: Global, folder: &str, files: &mut F) -> Result<bool, AllocError>
-    ensures found { IfOk result (λ found. Finds F.tells (F.failed files.old) (F.failed files.new)
-        (found ≡ has_head (F.bytes_at files.old) folder.now)) }
+fn has_head<F: Files>(alloc: Global, folder: &str, files: &mut F) -> Result<bool, LookFault>
+    ensures found { IfOk result (λ found. F.tells
+        → found ≡ has_head (F.bytes_at files.old) folder.now) }
+    ensures counted { AreLooksCounted (F.failed files.old) (F.failed files.new) result }
     ensures same { F.tells → KeepsAll (F.bytes_at files.old) (F.bytes_at files.new) }
     ensures untraced { F.whole → Makes [] (F.trace files.old) (F.trace files.new)
         (F.bytes_at files.old) (F.bytes_at files.new) }
 {
     let head = join(alloc, folder, "HEAD")?;
-    is_there(head.as_str(), files)
+    is_there(alloc, head.as_str(), files)
+}
+
+/// Whether a path is a folder's, which has itself as `.`.
+fn is_folder<F: Files>(alloc: Global, path: &str, files: &mut F) -> Result<bool, LookFault>
+    ensures found { IfOk result (λ found. F.tells
+        → found ≡ is_folder (F.bytes_at files.old) path.now) }
+    ensures counted { AreLooksCounted (F.failed files.old) (F.failed files.new) result }
+    ensures same { F.tells → KeepsAll (F.bytes_at files.old) (F.bytes_at files.new) }
+    ensures untraced { F.whole → Makes [] (F.trace files.old) (F.trace files.new)
+        (F.bytes_at files.old) (F.bytes_at files.new) }
+{
+    let own = join(alloc, path, ".")?;
+    is_there(alloc, own.as_str(), files)
 }

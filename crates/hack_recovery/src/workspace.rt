@@ -9,9 +9,9 @@ ghost use Rattle.toml.specs.View.{table_view};
 ghost use Rattle.hack_recovery.specs.Folders.{field_says, manifest_in, start_at};
 ghost use Rattle.hack_recovery.specs.Internal.{saying_in};
 ghost use Rattle.hack_recovery.specs.Folders.{text_in_bytes, text_says, tree_says, workspace_from};
-ghost use Rattle.hack_recovery.specs.FileLooks.{Finds};
+ghost use Rattle.hack_recovery.specs.FileLooks.{AreLooksCounted};
 
-use crate::look::held;
+use crate::look::{LookFault, held};
 use hack_base::paths::{join, normal, parent};
 use hack_files::fs::Files;
 use hack_manifest::lookup::{find_table, value_at};
@@ -26,12 +26,13 @@ pub fn workspace<F: Files>(
     manifest_path: Option<&str>,
     dir: &str,
     files: &mut F,
-) -> Result<String, AllocError>
-    // Where the files show what they hold, and no call of them fails, it is that folder.
-    ensures found { IfOk result (λ folder. Finds F.tells (F.failed files.old) (F.failed files.new)
-        (string_bytes folder ≡ workspace_from (F.bytes_at files.old)
-        (start_at (option_map (λ path. path.now) manifest_path.entry) dir.now))) }
+) -> Result<String, LookFault>
+    // Where the files show what they hold, it is that folder.
+    ensures found { IfOk result (λ folder. F.tells
+        → string_bytes folder ≡ workspace_from (F.bytes_at files.old)
+        (start_at (option_map (λ path. path.now) manifest_path.entry) dir.now)) }
     // Nothing is changed.
+    ensures counted { AreLooksCounted (F.failed files.old) (F.failed files.new) result }
     ensures same { F.tells → KeepsAll (F.bytes_at files.old) (F.bytes_at files.new) }
     ensures untraced { F.whole → Makes [] (F.trace files.old) (F.trace files.new)
         (F.bytes_at files.old) (F.bytes_at files.new) }
@@ -63,9 +64,11 @@ pub(crate) fn within(alloc: Global, folder: &str, path: &str) -> Result<String, 
 }
 
 /// The workspace's folder, at or above this one.
-fn nearest<F: Files>(alloc: Global, start: &str, files: &mut F) -> Result<String, AllocError>
-    ensures found { IfOk result (λ folder. Finds F.tells (F.failed files.old) (F.failed files.new)
-        (string_bytes folder ≡ workspace_from (F.bytes_at files.old) start.now)) }
+#[tactic(auto, using(crate::proofs::CountLemmas::grows_then))]
+fn nearest<F: Files>(alloc: Global, start: &str, files: &mut F) -> Result<String, LookFault>
+    ensures found { IfOk result (λ folder. F.tells
+        → string_bytes folder ≡ workspace_from (F.bytes_at files.old) start.now) }
+    ensures counted { AreLooksCounted (F.failed files.old) (F.failed files.new) result }
     ensures same { F.tells → KeepsAll (F.bytes_at files.old) (F.bytes_at files.new) }
     ensures untraced { F.whole → Makes [] (F.trace files.old) (F.trace files.new)
         (F.bytes_at files.old) (F.bytes_at files.new) }
@@ -75,14 +78,14 @@ fn nearest<F: Files>(alloc: Global, start: &str, files: &mut F) -> Result<String
     // Each folder's path is shorter than that of one inside it.
     for _step in 0..start.len() {
         match said_at(alloc, folder, files)? {
-            Said::Here => return String::from_str(alloc, folder),
-            Said::At(path) => return within(alloc, folder, path.as_str()),
+            Said::Here => return Ok(String::from_str(alloc, folder)?),
+            Said::At(path) => return Ok(within(alloc, folder, path.as_str())?),
             Said::Unsaid => nearest = nearest.or(Some(folder)),
             Said::Absent => {}
         }
         folder = parent(folder);
     }
-    String::from_str(alloc, nearest.unwrap_or(start))
+    Ok(String::from_str(alloc, nearest.unwrap_or(start))?)
 }
 
 /// What the manifest in a folder says of its workspace.
@@ -99,15 +102,16 @@ pub enum Said {
 }
 
 /// What is said in a folder.
-fn said_at<F: Files>(alloc: Global, folder: &str, files: &mut F) -> Result<Said, AllocError>
-    ensures found { IfOk result (λ said. Finds F.tells (F.failed files.old) (F.failed files.new)
-        (saying_in said ≡ option_map text_says (manifest_in (F.bytes_at files.old) folder.now))) }
+fn said_at<F: Files>(alloc: Global, folder: &str, files: &mut F) -> Result<Said, LookFault>
+    ensures found { IfOk result (λ said. F.tells
+        → saying_in said ≡ option_map text_says (manifest_in (F.bytes_at files.old) folder.now)) }
+    ensures counted { AreLooksCounted (F.failed files.old) (F.failed files.new) result }
     ensures same { F.tells → KeepsAll (F.bytes_at files.old) (F.bytes_at files.new) }
     ensures untraced { F.whole → Makes [] (F.trace files.old) (F.trace files.new)
         (F.bytes_at files.old) (F.bytes_at files.new) }
 {
     match manifest(alloc, folder, files)? {
-        Some(text) => said_by(alloc, text.as_str()),
+        Some(text) => Ok(said_by(alloc, text.as_str())?),
         None => Ok(Said::Absent),
     }
 }
@@ -153,9 +157,10 @@ fn manifest<F: Files>(
     alloc: Global,
     folder: &str,
     files: &mut F,
-) -> Result<Option<String>, AllocError>
-    ensures found { IfOk result (λ found. Finds F.tells (F.failed files.old) (F.failed files.new)
-        (optional_text found ≡ manifest_in (F.bytes_at files.old) folder.now)) }
+) -> Result<Option<String>, LookFault>
+    ensures found { IfOk result (λ found. F.tells
+        → optional_text found ≡ manifest_in (F.bytes_at files.old) folder.now) }
+    ensures counted { AreLooksCounted (F.failed files.old) (F.failed files.new) result }
     ensures same { F.tells → KeepsAll (F.bytes_at files.old) (F.bytes_at files.new) }
     ensures untraced { F.whole → Makes [] (F.trace files.old) (F.trace files.new)
         (F.bytes_at files.old) (F.bytes_at files.new) }

@@ -1,38 +1,13 @@
-use Rattle.std.proofs.Common.{◌≡◌, ◌∙◌, refl, string_bytes, subst, sym}
-use Rattle.hack_base.specs.Names.{Name, optional_text}
-use Rattle.hack_files.specs.Files.{Contents}
-use Rattle.hack_recovery.specs.CallPlaces.{ArePlacesOf, PlacesAt, is_left}
-use Rattle.hack_recovery.specs.JournalPlaces.{journal_of}
-use Rattle.hack_recovery.specs.PlacesView.{places_view}
-use Rattle.hack_recovery.proofs.LookLemmas.{found_first, seen_first}
+use Rattle.hack_base.specs.Names.{optional_text}
 use Rattle.hack_recovery.proofs.begin.begin.Goals as goal
 
 pub returns-clause-begun : goal.returns-clause-begun
-returns-clause-begun g c =
-    let T = g.F.Files.tells in
-    let first : Contents = g.F.Files.bytes_at c.args.files.now in
-    let mid : Contents = g.F.Files.bytes_at c.workspace.new.files in
-    let late : Contents = g.F.Files.bytes_at c.of-2.new.files in
-    let places : PlacesAt = places_view c.in_ok-places.places in
-    let left = c.in_ok-is_left.is_left in
-    let found = rw (c.text_in-named.ensures, c.as_str.ensures.value) at c.in_ok-found.ensures.found in
-    let are = c.in_ok-places.ensures.found in
-    let seen = c.in_ok-is_left.ensures.found in
-    let on : places.folder ≡ string_bytes c.in_ok-folder.folder = are.folder_is ∙ c.as_str-3.ensures.value in
-    record {
-      path = optional_text c.in_ok-edits.field-0.manifest_path;
-      asked = c.in_ok-edits.ensures.asks;
-      folder = string_bytes c.in_ok-found.found;
-      found = found_first T _ _ _ _ _ (found_first T _ _ _ _ _ found are.journal_is) seen;
-      is_real = λ t. on ∙ (rw c.as_str-2.ensures.value at c.in_ok-folder.ensures) t;
-      back = c.in_ok-edits.ensures.back;
-      are = subst (λ (f : Name). ArePlacesOf T (g.F.Files.failed c.args.files.now) (g.F.Files.failed c.is_left.new.files) first f places) (sym are.folder_is) (record {
-        folder_is = are.folder_is;
-        journal_is = found_first T _ _ _ _ _ (seen_first T _ (λ (m : Contents). places.journal ≡ journal_of m c.as_str-3.result.now) first mid _ _ _ found c.in_ok-found.ensures.same are.journal_is) seen;
-        older_folder_is = are.older_folder_is;
-        older_is = are.older_is;
-        lockfile_is = are.lockfile_is;
-        copy_is = are.copy_is;
-      });
-      seen = seen_first T _ (λ (m : Contents). left ≡ is_left m places) first late _ _ _ (found_first T _ _ _ _ _ found are.journal_is) (λ t q. c.in_ok-places.ensures.same t q ∙ c.in_ok-found.ensures.same t q) seen;
-    }
+returns-clause-begun g c = record {
+  path = optional_text c.in_ok-asked.asked.manifest_path;
+  asked = c.in_ok-asked.ensures.asks;
+  back = c.in_ok-asked.ensures.back;
+  found = c.in-Ok.ensures.found;
+}
+
+pub returns-in-Err-Device-clause-halted : goal.returns-in-Err-Device-clause-halted
+returns-in-Err-Device-clause-halted g c = (rw c.in-Err-Device.field-0-is at c.in-Err-Device.ensures.counted, c.in_ok-asked.ensures.asks, c.in_ok-asked.ensures.reading)

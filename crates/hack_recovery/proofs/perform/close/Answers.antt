@@ -1,9 +1,11 @@
 use Rattle.std.proofs.Common.{◌∙◌, sym}
 use Rattle.hack_recovery.specs.CallCourses.IsJournalClosed.{copy_stays}
-use Rattle.hack_recovery.proofs.LookLemmas.{finds_then}
+use Rattle.hack_recovery.proofs.CountLemmas.{failed_call, grows_then}
+use Rattle.hack_recovery.proofs.LookLemmas.{none_there}
 use Rattle.hack_recovery.proofs.perform.close.Goals as goal
 
-pub returns-in_ok-text-2-clause-told : goal.returns-in_ok-text-2-clause-told
-returns-in_ok-text-2-clause-told g c =
-    copy_stays (g.F.Files.failed c.is_there.new.files) c.warn-then-is_err.ensures.noted
-    (finds_then g.F.Files.tells _ _ _ _ (rw c.as_str-journal.ensures.value at c.in_ok-is_there.ensures.found) (λ t e. sym e ∙ c.if-branch.false))
+pub returns-in_ok-text-clause-told : goal.returns-in_ok-text-clause-told
+returns-in_ok-text-clause-told g c =
+    let found = rw c.as_str-journal.ensures.value at c.in-Ok-false.ensures.found in
+    copy_stays c.warn.ensures.noted (grows_then 1 _ _ _ c.in-Ok-false.ensures.counted (failed_call _ _ c.remove.result (sym c.is_err.ensures.value ∙ c.if-is_err.true) c.remove.ensures.counted))
+    (λ t. none_there _ c.in-Ok-false.field-0 c.in-Ok-false.field-0-test (found t))

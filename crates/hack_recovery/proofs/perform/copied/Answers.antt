@@ -8,12 +8,12 @@ pub returns-in-Ok-clause-goes : goal.returns-in-Ok-clause-goes
 returns-in-Ok-clause-goes g c = λ locks guards.
     let at : Scene = scene_of g.F.Files g.L.Files g.C.Caller g.O.Write c.keep_copy.new.files c.keep_copy.new.lockfiles locks guards c.args.host.now in
     copied at
-    (record { copied = λ done. c.in-Ok.ensures.copied; others = c.in-Ok.ensures.others; made = c.in-Ok.ensures.made; same = c.in-Ok.ensures.same; host = refl; quiet = record { calls = refl; out = refl; locks = refl; guards = refl } })
+    (record { copied = λ done. c.in-Ok.ensures.copied; counted = λ done. c.in-Ok.ensures.counted; others = c.in-Ok.ensures.others; made = c.in-Ok.ensures.made; same = c.in-Ok.ensures.same; host = refl; quiet = record { calls = refl; out = refl; locks = refl; guards = refl } })
     (c.over_journal.ensures.goes locks guards)
 
 pub returns-in-Err-clause-goes : goal.returns-in-Err-clause-goes
 returns-in-Err-clause-goes g c = λ locks guards.
     let at : Scene = scene_of g.F.Files g.L.Files g.C.Caller g.O.Write c.keep_copy.new.files c.keep_copy.new.lockfiles locks guards c.args.host.now in
     uncopied at
-    (record { copied = λ done. cc; others = c.in-Err.ensures.others; made = c.in-Err.ensures.made; same = c.in-Err.ensures.same; host = refl; quiet = record { calls = refl; out = refl; locks = refl; guards = refl } })
+    (record { copied = λ done. cc; counted = λ done. cc; others = c.in-Err.ensures.others; made = c.in-Err.ensures.made; same = c.in-Err.ensures.same; host = refl; quiet = record { calls = refl; out = refl; locks = refl; guards = refl } })
     refl (ap (λ (k : Term). k.error) c.report.ensures.term)

@@ -1,11 +1,13 @@
-use Rattle.std.proofs.Common.{◌∙◌, ap, refl, string_bytes}
+use Rattle.std.proofs.Common.{◌∙◌, true, ap, refl, string_bytes}
+use Rattle.hack_base.specs.Names.{names_of, optional_text}
 use Rattle.hack_term.specs.declared.term.Term.{Term}
 use Rattle.hack_run.specs.Worlds.{FilesView, HostView, files_view, host_view}
-use Rattle.hack_recovery.specs.AskedEdits.{is_restore}
+use Rattle.hack_recovery.specs.AskedEdits.{is_change, is_restore}
 use Rattle.hack_recovery.specs.PlacesView.{places_view}
-use Rattle.hack_recovery.specs.Scenes.{Scene, scene_by, scene_of}
+use Rattle.hack_recovery.specs.Scenes.{Scene, scene_by, scene_of, scene_with}
+use Rattle.hack_recovery.specs.CallCourses.{CannotSee}
 use Rattle.hack_recovery.specs.CallCourses.IsCallCourse.{turned_away, under_its_lock}
-use Rattle.hack_recovery.proofs.CallLemmas.{plain_course}
+use Rattle.hack_recovery.proofs.CallLemmas.{plain_course, unseen_course}
 use Rattle.hack_recovery.proofs.perform.perform.Goals as goal
 
 pub returns-in-Ok-Plain-clause-goes : goal.returns-in-Ok-Plain-clause-goes
@@ -20,7 +22,8 @@ returns-in-Ok-Plain-clause-goes g c =
     (record {
       left = begun.is_left;
       begins = c.in-Ok.ensures.begun;
-      admitted = rw (c.in-Ok-Plain.field-0-is, c.as_str.ensures.value) at c.in-Ok-Plain.ensures;
+      admitted = rw (c.in-Ok-Plain.field-0-is, c.as_str-2.ensures.value) at c.in-Ok-Plain.ensures;
+      counted = c.in-Ok.ensures.counted;
       untouched = record { files = record { same = c.in-Ok.ensures.same; untraced = c.in-Ok.ensures.untraced }; lockfiles = refl; guards = refl; calls = refl; out = refl };
     })
     refl
@@ -36,19 +39,45 @@ returns-in-Ok-Guarded-clause-goes g c =
     (record {
       left = begun.is_left;
       begins = c.in-Ok.ensures.begun;
-      admitted = rw (c.in-Ok-Guarded.field-0-is, c.as_str.ensures.value) at c.in-Ok-Guarded.ensures;
+      admitted = rw (c.in-Ok-Guarded.field-0-is, c.as_str-2.ensures.value) at c.in-Ok-Guarded.ensures;
+      counted = c.in-Ok.ensures.counted;
       untouched = record { files = record { same = c.in-Ok.ensures.same; untraced = c.in-Ok.ensures.untraced }; lockfiles = refl; guards = refl; calls = refl; out = refl };
     })
     refl c.guarded.ensures.goes
 
-pub returns-in-Err-admit-clause-goes : goal.returns-in-Err-admit-clause-goes
-returns-in-Err-admit-clause-goes g c =
+pub returns-in-Err-clause-goes : goal.returns-in-Err-clause-goes
+returns-in-Err-clause-goes g c =
     let begun = c.in-Ok.begun in
-    turned_away begun.edits (places_view begun.places) c.in-Err-admit.fault
+    turned_away begun.edits (places_view begun.places) c.in-Err.fault
     (record {
       left = begun.is_left;
       begins = c.in-Ok.ensures.begun;
-      admitted = rw c.as_str.ensures.value at c.in-Err-admit.ensures;
+      admitted = rw c.as_str-2.ensures.value at c.in-Err.ensures;
+      counted = c.in-Ok.ensures.counted;
       untouched = record { files = record { same = c.in-Ok.ensures.same; untraced = c.in-Ok.ensures.untraced }; lockfiles = refl; guards = refl; calls = refl; out = refl };
     })
-    (ap (λ (k : Term). k.error) c.report-in-Err-admit.ensures.term)
+    (ap (λ (k : Term). k.error) c.report.ensures.term)
+
+pub returns-in-Err-Unseen-clause-goes : goal.returns-in-Err-Unseen-clause-goes
+returns-in-Err-Unseen-clause-goes g c =
+    let asked = c.in-Err-Unseen.asked in
+    let halted = rw c.in-Err-Unseen.field-0-is at c.in-Err-Unseen.ensures.halted in
+    let came = c.blindly-status.ensures in
+    let term = c.args.host.now.term.now in
+    let seen : FilesView = files_view g.F.Files c.begin.new.files in
+    let lockfiles = g.L.Files.bytes_at c.args.lockfiles in
+    let locks = g.K.Locks.shown c.args.keepers.now.locks in
+    let guards = g.G.Guards.shown c.args.keepers.now.guards in
+    let old : Scene = scene_of g.F.Files g.L.Files g.C.Caller g.O.Write c.args.files c.args.lockfiles locks guards c.args.host.now in
+    let unseen : (now : Term) → CannotSee g.F.Files.tells g.F.Files.whole (names_of c.args.words.now) c.args.host.now.env.now asked.edits old (scene_with seen now old) = λ now. record {
+      path = optional_text asked.manifest_path;
+      asked = halted.1;
+      failed = halted.0;
+      untouched = record { files = record { same = c.in-Err-Unseen.ensures.same; untraced = c.in-Err-Unseen.ensures.untraced }; lockfiles = refl; guards = refl; calls = refl; out = refl };
+      locks = refl;
+    } in
+    unseen_course _ _ _ _ _ _ _ _ _ asked.edits old (scene_with seen (record term { error = true }) old) (scene_with seen (record term { warn = true }) old) _ (is_change asked.edits) refl
+    (unseen (record term { error = true })) refl (unseen (record term { warn = true })) refl
+    (λ on. ap (λ files. scene_by (files_view g.F.Files files) lockfiles locks guards (host_view g.C.Caller g.O.Write c.blindly-status.new.host)) (came.refused on).0
+    ∙ ap (λ (host : HostView). scene_by seen lockfiles locks guards host) (came.refused on).1)
+    (λ off. came.runs off lockfiles locks guards)

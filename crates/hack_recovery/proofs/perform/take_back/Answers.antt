@@ -20,6 +20,7 @@ returns-clause-goes g c = λ locks guards.
     (rw (done_true _ _ c.is_done-2.ensures c.if-not-is_done-2.false) at c.restore-older.ensures)
     (record {
       gone = settled-by.gone;
+      counted = settled-by.counted;
       others = settled-by.others;
       made = settled-by.made;
       given = settled-by.given;

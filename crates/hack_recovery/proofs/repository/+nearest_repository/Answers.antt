@@ -2,19 +2,18 @@ use Rattle.std.proofs.Common.{◌≡◌, ◌-◌, suc, arith}
 use Rattle.std.specs.Prelude.{option_map}
 use Rattle.std.proofs.lemmas.Result.{IfOk-weaker}
 use Rattle.hack_recovery.specs.RepositoryView.{repository_of}
-use Rattle.hack_recovery.proofs.LookLemmas.{finds_then}
-use Rattle.hack_recovery.proofs.RepositoryLemmas.{above_here, further_finds}
+use Rattle.hack_recovery.proofs.RepositoryLemmas.{above_here, further_is}
 use Rattle.hack_recovery.proofs.repository.+nearest_repository.Goals as goal
 
 pub returns-in-Some-clause-found : goal.returns-in-Some-clause-found
-returns-in-Some-clause-found g n c =
-    finds_then g.F.Files.tells _ _ _ _ (rw c.in-Some.is at c.in_ok-found.ensures.found)
-    (λ t e. above_here (g.F.Files.bytes_at c.args.files.now) c.args.steps c.args.folder.now (repository_of c.in-Some.found) c.if-steps-eq0.false e)
+returns-in-Some-clause-found g n c = λ tells.
+    let found = rw c.in-Some.is at c.in_ok-found.ensures.found in
+    above_here (g.F.Files.bytes_at c.args.files.now) c.args.steps c.args.folder.now (repository_of c.in-Some.found) c.if-steps-eq0.false (found tells)
 
 pub returns-in-None-clause-found : goal.returns-in-None-clause-found
 returns-in-None-clause-found g n c =
     let more : c.args.steps ≡ suc (c.args.steps - 1) = omega (arith, c.if-steps-eq0.false) in
     IfOk-weaker c.nearest_repository.result _ _
-    (λ found h. further_finds g.F.Files.tells _ _ c.args.steps (c.args.steps - 1) c.args.folder.now c.parent.result.now (option_map repository_of found) _ _ _
+    (λ found h. further_is g.F.Files.tells _ _ c.args.steps (c.args.steps - 1) c.args.folder.now c.parent.result.now (option_map repository_of found)
     more c.parent.ensures (rw c.in-None.is at c.in_ok-found.ensures.found) c.in_ok-found.ensures.same h)
     c.nearest_repository.ensures.found

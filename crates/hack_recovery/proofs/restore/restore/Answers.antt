@@ -17,7 +17,7 @@ returns-in-Some g c =
 pub returns-in-Ok : goal.returns-in-Ok
 returns-in-Ok g c =
     let at : FilesView = files_view g.F.Files c.row_at.new.files in
-    trusted at (record { same = c.in-Ok.ensures.same; untraced = c.in-Ok.ensures.untraced })
+    trusted at (record { same = c.in-Ok.ensures.same; untraced = c.in-Ok.ensures.untraced }) c.in-Ok.ensures.failures
     (none_named g.F.Files.tells (spot_of c.args.place.now) (g.F.Files.bytes_at c.args.files.now) c.in-Ok.row c.in-Ok.ensures.none c.in-Ok.ensures.some
     (sym c.stranger_in.ensures ∙ ap (option_map (λ entry. edit_of entry.now)) c.in-None.is))
     c.bring_back.ensures.came c.bring_back.ensures.told

@@ -1,10 +1,9 @@
 use Rattle.std.proofs.Common.{◌≡◌, ◌∙◌, ◌-◌, ◌+◌, suc, [], length, Some, None, ap, arith, refl, string_bytes, sym}
 use Rattle.std.specs.Option.{option_map}
-use Rattle.std.proofs.lemmas.Result.{IfOk-weaker}
 use Rattle.hack_journal.specs.SafeLaws.{makes_append, makes_none}
 use Rattle.hack_recovery.specs.Folders.{At, Here, Nothing, workspace_from}
-use Rattle.hack_recovery.proofs.LookLemmas.{finds_still, finds_then}
-use Rattle.hack_recovery.proofs.FolderLemmas.{after_absent, after_unsaid, or_now, rest_here, rest_none, rest_of, rest_there, step_finds, unwrap_now}
+use Rattle.hack_recovery.proofs.CountLemmas.{grows_then}
+use Rattle.hack_recovery.proofs.FolderLemmas.{after_absent, after_unsaid, or_now, rest_here, rest_none, rest_of, rest_there, step_is, unwrap_now}
 use Rattle.hack_recovery.proofs.workspace.nearest.Goals as goal
 use Rattle.hack_recovery.proofs.workspace.nearest.Goals.{in-Unsaid, in-Absent}
 
@@ -15,7 +14,8 @@ loop-step-init g c =
     let none : length start - 0 ≡ length start = omega arith in
     record {
       utf8 = c.utf8.start;
-      found = finds_still g.F.Files.tells _ (g.F.Files.failed c.args.files.now) (λ t. sym (ap (λ k. rest_of held start None k start) none));
+      found = λ t. sym (ap (λ k. rest_of held start None k start) none);
+      counted = λ low. omega (arith, low);
       same = λ t q. refl;
       untraced = λ w. makes_none _ _;
     }
@@ -31,52 +31,46 @@ loop-step-preserved g c =
     record {
       utf8 = c.parent-folder.utf8;
       found = elim c.match-branch-2.branch [
-        | in-Unsaid w ↦ step_finds g.F.Files.tells (workspace_from held start ≡ rest_of held start later n c.parent-folder.result.now) held (g.F.Files.bytes_at c.loop-step.files) (workspace_from held start) start c.loop-step.folder.now near n _ (Some Nothing) _ _ _
-            more c.loop-step.invariant.found c.loop-step.invariant.same (rw w.in-Unsaid.is at c.in_ok-said_at.ensures.found)
+        | in-Unsaid w ↦ λ t. step_is (workspace_from held start ≡ rest_of held start later n c.parent-folder.result.now) held (g.F.Files.bytes_at c.loop-step.files) (workspace_from held start) start c.loop-step.folder.now near n _ (Some Nothing)
+            more (c.loop-step.invariant.found t) (c.loop-step.invariant.same t) ((rw w.in-Unsaid.is at c.in_ok-said_at.ensures.found) t)
             (after_unsaid held (workspace_from held start) start c.loop-step.folder.now c.parent-folder.result.now near later n
             (ap (option_map (λ k. k.now)) (w.nearest-is ∙ w.or-nearest.ensures) ∙ or_now c.loop-step.nearest c.loop-step.folder) c.parent-folder.ensures)
-        | in-Absent w ↦ step_finds g.F.Files.tells (workspace_from held start ≡ rest_of held start later n c.parent-folder.result.now) held (g.F.Files.bytes_at c.loop-step.files) (workspace_from held start) start c.loop-step.folder.now near n _ None _ _ _
-            more c.loop-step.invariant.found c.loop-step.invariant.same (rw w.in-Absent.is at c.in_ok-said_at.ensures.found)
+        | in-Absent w ↦ λ t. step_is (workspace_from held start ≡ rest_of held start later n c.parent-folder.result.now) held (g.F.Files.bytes_at c.loop-step.files) (workspace_from held start) start c.loop-step.folder.now near n _ None
+            more (c.loop-step.invariant.found t) (c.loop-step.invariant.same t) ((rw w.in-Absent.is at c.in_ok-said_at.ensures.found) t)
             (after_absent held (workspace_from held start) start c.loop-step.folder.now c.parent-folder.result.now near later n (ap (option_map (λ k. k.now)) w.nearest-is) c.parent-folder.ensures)
       ];
+      counted = grows_then 0 _ _ _ c.loop-step.invariant.counted c.in_ok-said_at.ensures.counted;
       same = λ t q. c.in_ok-said_at.ensures.same t q ∙ c.loop-step.invariant.same t q;
       untraced = λ w. makes_append [] [] _ _ _ _ _ _ (c.loop-step.invariant.untraced w) (c.in_ok-said_at.ensures.untraced w);
     }
 
 pub returns-in-Here-clause-found : goal.returns-in-Here-clause-found
-returns-in-Here-clause-found g c =
+returns-in-Here-clause-found g c = λ t.
     let held = g.F.Files.bytes_at c.args.files.now in
     let start = c.args.start.now in
     let near = option_map (λ k. k.now) c.loop-step.nearest in
     let n = length start - (c.loop-step._step + 1) in
     let more : length start - c.loop-step._step ≡ suc n = omega (arith, c.loop-step-test.true) in
-    IfOk-weaker c.from_str.result _ _
-    (λ text is. step_finds g.F.Files.tells (string_bytes text ≡ workspace_from held start) held (g.F.Files.bytes_at c.loop-step.files) (workspace_from held start) start c.loop-step.folder.now near n _ (Some Here) _ _ _
-    more c.loop-step.invariant.found c.loop-step.invariant.same (rw c.in-Here.is at c.in_ok-said_at.ensures.found)
-    (λ said w. is ∙ sym (w ∙ rest_here held start near n c.loop-step.folder.now said)))
-    c.from_str.ensures.ok
+    step_is _ held (g.F.Files.bytes_at c.loop-step.files) (workspace_from held start) start c.loop-step.folder.now near n _ (Some Here)
+    more (c.loop-step.invariant.found t) (c.loop-step.invariant.same t) ((rw c.in-Here.is at c.in_ok-said_at.ensures.found) t)
+    (λ said w. c.in_ok-from_str-in-Here.ensures.ok ∙ sym (w ∙ rest_here held start near n c.loop-step.folder.now said))
 
 pub returns-in-At-clause-found : goal.returns-in-At-clause-found
-returns-in-At-clause-found g c =
+returns-in-At-clause-found g c = λ t.
     let held = g.F.Files.bytes_at c.args.files.now in
     let start = c.args.start.now in
     let near = option_map (λ k. k.now) c.loop-step.nearest in
     let n = length start - (c.loop-step._step + 1) in
     let more : length start - c.loop-step._step ≡ suc n = omega (arith, c.loop-step-test.true) in
-    IfOk-weaker c.within.result _ _
-    (λ text is. step_finds g.F.Files.tells (string_bytes text ≡ workspace_from held start) held (g.F.Files.bytes_at c.loop-step.files) (workspace_from held start) start c.loop-step.folder.now near n _ (Some (At (string_bytes c.in-At.path))) _ _ _
-    more c.loop-step.invariant.found c.loop-step.invariant.same (rw c.in-At.is at c.in_ok-said_at.ensures.found)
-    (λ said w. is ∙ sym (w ∙ rest_there held start near n c.loop-step.folder.now (string_bytes c.in-At.path) said)))
-    (rw c.as_str.ensures.value at c.within.ensures)
+    step_is _ held (g.F.Files.bytes_at c.loop-step.files) (workspace_from held start) start c.loop-step.folder.now near n _ (Some (At (string_bytes c.in-At.path)))
+    more (c.loop-step.invariant.found t) (c.loop-step.invariant.same t) ((rw c.in-At.is at c.in_ok-said_at.ensures.found) t)
+    (λ said w. (rw c.as_str.ensures.value at c.in_ok-within-in-At.ensures) ∙ sym (w ∙ rest_there held start near n c.loop-step.folder.now (string_bytes c.in-At.path) said))
 
 pub returns-clause-found : goal.returns-clause-found
-returns-clause-found g c =
+returns-clause-found g c = λ t.
     let held = g.F.Files.bytes_at c.args.files.now in
     let start = c.args.start.now in
     let near = option_map (λ k. k.now) c.loop-step.nearest in
     let none : length start - c.loop-step._step ≡ 0 = omega (arith, c.loop-step-test.false) in
-    IfOk-weaker c.from_str-2.result _ _
-    (λ text is. finds_then g.F.Files.tells _ (string_bytes text ≡ workspace_from held start) _ _ c.loop-step.invariant.found
-    (λ t w. is ∙ ap (λ k. k.now) c.unwrap_or.ensures ∙ unwrap_now c.loop-step.nearest c.args.start
-    ∙ sym (w ∙ ap (λ k. rest_of held start near k c.loop-step.folder.now) none ∙ rest_none held start near c.loop-step.folder.now)))
-    c.from_str-2.ensures.ok
+    c.in_ok-from_str.ensures.ok ∙ ap (λ k. k.now) c.unwrap_or.ensures ∙ unwrap_now c.loop-step.nearest c.args.start
+    ∙ sym (c.loop-step.invariant.found t ∙ ap (λ k. rest_of held start near k c.loop-step.folder.now) none ∙ rest_none held start near c.loop-step.folder.now)

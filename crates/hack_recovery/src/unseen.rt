@@ -1,0 +1,86 @@
+//! A call of which it isn't known whether an interrupted one left anything, since a look at a file
+//! failed.
+
+ghost use Rattle.std.specs.Prelude.{◌≡◌, IfSome, false, true};
+ghost use Rattle.hack_base.specs.Names.{names_of};
+ghost use Rattle.hack_files.specs.Files.{Contents};
+ghost use Rattle.hack_recovery.specs.AskedEdits.{is_change};
+ghost use Rattle.hack_recovery.specs.CallCourses.{PerformsUnjournaled};
+ghost use Rattle.hack_recovery.specs.GuardEvents.{GuardsView};
+ghost use Rattle.hack_recovery.specs.LockEvents.{LocksView};
+ghost use Rattle.hack_recovery.specs.Scenes.{scene_by, scene_with};
+ghost use Rattle.hack_run.specs.Readings.{IsEarlyReading};
+ghost use Rattle.hack_run.specs.Worlds.{IsSameHost, files_view, host_view};
+ghost use Rattle.hack_term.specs.Lines.{IsExitStatus};
+
+use crate::asked::Asked;
+use hack_files::fs::Files;
+use hack_process::process::Caller;
+use hack_run::host::Host;
+use hack_run::run::run;
+use hack_term::term::Term;
+use std::alloc::Global;
+use std::io::Write;
+
+/// Refuses a call that would change manifests, and performs any other, after a warning. `path` is
+/// what can't be looked at.
+#[tactic(auto, using(hack_run::proofs::ReadingLemmas::some_or_refusal))]
+pub(crate) fn blindly<F: Files, C: Caller, O: Write, E: Write>(
+    words: &[String],
+    asked: Asked,
+    path: &str,
+    files: &mut F,
+    host: &mut Host<'_, C, O, E>,
+) -> u8
+    requires { IfSome asked.reading (IsEarlyReading host.old.env.now (names_of words.now)) }
+    ensures host { IsSameHost host.old host.new }
+    ensures status { IsExitStatus host.old.env.now.deny_warnings host.new.term.now result }
+    ensures refused { is_change asked.edits ≡ true → (files.new ≡ files.old)
+        × (host_view C.Caller O.Write host.new ≡ record (host_view C.Caller O.Write host.old)
+        { term = record host.old.term.now { error = true } }) }
+    ensures runs { is_change asked.edits ≡ false → (lockfiles : Contents) (locks : LocksView)
+        (guards : GuardsView) → PerformsUnjournaled F.tells C.tells
+        (names_of words.now) host.old.env.now
+        (scene_with (files_view F.Files files.old) (record host.old.term.now { warn = true })
+        (scene_by (files_view F.Files files.old) lockfiles locks guards
+        (host_view C.Caller O.Write host.old)))
+        (scene_by (files_view F.Files files.new) lockfiles locks guards
+        (host_view C.Caller O.Write host.new)) }
+{
+    if asked.edits.is_change() {
+        refuse(host.alloc, path, host.term, host.err);
+        return 1;
+    }
+    warn(host.alloc, path, host.term, host.err);
+    run(words, asked.reading, files, host)
+}
+
+/// Reports that this path can't be looked at, as an error.
+fn refuse<E: Write>(alloc: Global, path: &str, term: &mut Term, err: &mut E)
+    ensures { term.new ≡ record term.old { error = true } }
+{
+    match format!(in alloc; "failed to read file `{path}`") {
+        Ok(text) => {
+            let _ = term.error(&text, err);
+        }
+        Err(_) => {
+            let _ = term.error("out of memory", err);
+        }
+    }
+}
+
+/// Warns that this path can't be looked at.
+fn warn<E: Write>(alloc: Global, path: &str, term: &mut Term, err: &mut E)
+    ensures { term.new ≡ record term.old { warn = true } }
+{
+    match format!(in alloc;
+        "failed to read file `{path}`: edits of an interrupted call may stand"
+    ) {
+        Ok(text) => {
+            let _ = term.warn(&text, err);
+        }
+        Err(_) => {
+            let _ = term.warn("edits of an interrupted call may stand", err);
+        }
+    }
+}
