@@ -467,7 +467,6 @@ def all_tries(place, places, count):
         "--restore and the lockfile": restore_of_lockfile,
         "--restore beside others": restore_beside,
         "two calls at once": two_at_once,
-        "looks that fail": unseen,
     }
     tries |= {name: lambda look=look: look(place) for name, look in looks.items()}
     for name, at in places.items():
@@ -487,7 +486,8 @@ def main():
     with tempfile.TemporaryDirectory() as folder:
         folder = os.path.realpath(folder)
         beside = Place(program, f"{folder}/no repository")
-        tries, skipped = {"in no repository": lambda: in_a_place(beside), "a member outside": lambda: outside(beside)}, 0
+        tries = {"in no repository": in_a_place, "a member outside": outside, "looks that fail": unseen}
+        tries, skipped = {name: lambda look=look: look(beside) for name, look in tries.items()}, 0
         if shutil.which("git") is not None:
             places = places_of(program, folder)
             at_top, within = list(places.values())[:2]
