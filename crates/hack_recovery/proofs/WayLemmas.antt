@@ -1,8 +1,9 @@
 -- The ways of a call, step by step.
 use Rattle.std.proofs.Common.{◌≡◌, ◌∙◌, refl, sym, true, false, Bool, IsTrue}
-use Rattle.std.specs.Prelude.{◌≢◌, ◌↔◌, IfOk, Ok, Err, Result}
+use Rattle.std.specs.Prelude.{◌≢◌, ◌↔◌, IfErr, IfOk, Ok, Err, Result}
 use Rattle.hack_term.specs.declared.term.Term.{Term}
 use Rattle.hack_recovery.specs.declared.fault.CallFault.{CallFault}
+use Rattle.hack_recovery.specs.declared.fault.CallFault.TheVariants.{Memory}
 use Rattle.hack_recovery.specs.Telling.{Tells}
 
 -- an answer that is true, if there is one
@@ -10,10 +11,10 @@ pub never_false : (r : Result Bool CallFault) → IfOk r (λ b. b ≡ true) → 
 never_false (Ok b) is = λ e. cc
 never_false (Err f) is = λ e. cc
 
-pub tells_same : (t : Term) (r : Result Bool CallFault) → IfOk r (λ b. b ≡ true) → Tells t t r
-tells_same t (Ok true) is = refl
-tells_same t (Ok false) is = cc
-tells_same t (Err f) is = tt
+pub tells_same : (t : Term) (r : Result Bool CallFault) → IfOk r (λ b. b ≡ true) → IfErr r (λ f. f ≡ Memory) → Tells t t r
+tells_same t (Ok true) is no_other = refl
+tells_same t (Ok false) is no_other = cc
+tells_same t (Err f) is no_other = no_other
 
 -- where it isn't done, an error was reported
 pub told_false : (was now : Term) (r : Result Bool CallFault) → r ≡ Ok false → Tells was now r → now.error ≡ true

@@ -94,22 +94,25 @@ pub record Journals (tells whole locked talks : Type 0) (words : List Name) (env
   pub locks : new.locks ≡ old.locks
   pub guards : new.guards ≡ old.guards
 
+-- a warning was recorded, and an error besides where memory was refused for its text
+abbrev pub Warns : Term → Term → Type 0
+Warns was now = (now ≡ record was { warn = true }) ⊎ (now ≡ record was { warn = true; error = true })
+
 -- after it no file is at the journal's path, and the lockfile's copy is gone; or one of them stays, or
 -- a look at the journal failed, which is reported as a warning
 pub data IsJournalClosed (tells : Type 0) (places : PlacesAt) (old new : FilesView) (was now : Term) : Type 0 where
   gone : now ≡ was → GrowsBy 0 old.failed new.failed → (tells → old.held places.journal ≡ None) → (tells → new.held places.copy ≡ None) → IsJournalClosed tells places old new was now
-  stays : now ≡ record was { warn = true } → GrowsBy 0 old.failed new.failed → (tells → IsSome (old.held places.journal)) → IsJournalClosed tells places old new was now
-  unseen : now ≡ record was { warn = true } → GrowsBy 1 old.failed new.failed → (tells → KeepsAll old.held new.held) → IsJournalClosed tells places old new was now
-  copy_stays : now ≡ record was { warn = true } → GrowsBy 1 old.failed new.failed → (tells → old.held places.journal ≡ None) → IsJournalClosed tells places old new was now
+  stays : Warns was now → GrowsBy 0 old.failed new.failed → (tells → IsSome (old.held places.journal)) → IsJournalClosed tells places old new was now
+  unseen : Warns was now → GrowsBy 0 old.failed new.failed ⊎ GrowsBy 1 old.failed new.failed → (tells → KeepsAll old.held new.held) → IsJournalClosed tells places old new was now
+  copy_stays : Warns was now → GrowsBy 1 old.failed new.failed → (tells → old.held places.journal ≡ None) → IsJournalClosed tells places old new was now
 
--- after it no other file than the lockfile's copy is changed, and what stays was reported; or memory
--- was refused for that, which is an error
+-- after it no other file than the lockfile's copy is changed, and what stays was reported
 pub record Closes (tells whole : Type 0) (places : PlacesAt) (old new : Scene) : Type 0 where
   pub others : tells → KeepsOthers places.copy old.files.held new.files.held
   pub made : whole → MakesOrNot (removes places.copy) old.files.trace new.files.trace old.files.held new.files.held
   pub lockfiles : new.lockfiles ≡ old.lockfiles
   pub quiet : IsQuiet old new
-  pub told : IsJournalClosed tells places old.files new.files old.host.term new.host.term ⊎ IsFailed new
+  pub told : IsJournalClosed tells places old.files new.files old.host.term new.host.term
 
 -- ---- the ways
 

@@ -1,5 +1,5 @@
 -- What becomes of what an interrupted call left.
-use Rattle.std.specs.Prelude.{◌≡◌, ◌≢◌, Bool, true, false, List, Option, Some, None, Ok, Err, Result}
+use Rattle.std.specs.Prelude.{◌≡◌, ◌≢◌, ◌⊎◌, [], Bool, true, false, List, Option, Some, None, Ok, Err, Result}
 use Rattle.std.specs.Option.{option_or}
 use Rattle.hack_base.specs.Counters.{GrowsBy}
 use Rattle.hack_base.specs.Names.{Name}
@@ -54,24 +54,26 @@ pub data Restores (tells whole : Type 0) (spot : Spot) (old new : FilesView) (wa
 -- ---- the copy of the lockfile
 
 -- the lockfile was copied, if there is one, and no other file is changed; where it isn't done, at
--- most the copy is changed
+-- most the copy is changed, and then it has what the lockfile holds
 pub record KeepsCopy (tells whole locked : Type 0) (done : Bool) (places : PlacesAt) (old new : Scene) : Type 0 where
   pub copied : done ≡ true → tells → locked → new.files.held places.copy ≡ option_or (old.lockfiles places.lockfile) (old.files.held places.copy)
   pub others : tells → KeepsOthers places.copy old.files.held new.files.held
   pub counted : done ≡ true → GrowsBy 0 old.files.failed new.files.failed
-  pub made : whole → (bytes : Name) × MakesOrNot (puts places.copy bytes) old.files.trace new.files.trace old.files.held new.files.held
+  pub made : whole → Makes [] old.files.trace new.files.trace old.files.held new.files.held
+      ⊎ ((bytes : Name) × (locked → old.lockfiles places.lockfile ≡ Some bytes) × MakesOrNot (puts places.copy bytes) old.files.trace new.files.trace old.files.held new.files.held)
   pub same : locked → KeepsAll old.lockfiles new.lockfiles
   pub host : new.host ≡ old.host
   pub quiet : IsQuiet old new
 
 -- the copy is gone, and no other file is changed; the guard gives the lockfile what the copy has, and
--- nobody else changes it
+-- nobody else changes it. Whatever comes of it, the copy still has that or the lockfile has it
 pub record Settles (tells whole locked : Type 0) (by_guard : Bool) (places : PlacesAt) (old new : Scene) (came : Result Bool CallFault) : Type 0 where
   pub gone : came ≡ Ok true → tells → new.files.held places.copy ≡ None
   pub counted : came ≡ Ok true → GrowsBy 0 old.files.failed new.files.failed
   pub others : tells → KeepsOthers places.copy old.files.held new.files.held
   pub made : whole → MakesOrNot (removes places.copy) old.files.trace new.files.trace old.files.held new.files.held
   pub given : came ≡ Ok true → by_guard ≡ true → tells → locked → (bytes : Name) → old.files.held places.copy ≡ Some bytes → new.lockfiles places.lockfile ≡ Some bytes
+  pub kept : by_guard ≡ true → tells → locked → (bytes : Name) → old.files.held places.copy ≡ Some bytes → (new.files.held places.copy ≡ Some bytes) ⊎ (new.lockfiles places.lockfile ≡ Some bytes)
   pub left : by_guard ≡ false → locked → KeepsAll old.lockfiles new.lockfiles
   pub none : tells → old.files.held places.copy ≡ None → locked → KeepsAll old.lockfiles new.lockfiles
   pub apart : locked → KeepsOthers places.lockfile old.lockfiles new.lockfiles

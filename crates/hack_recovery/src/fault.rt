@@ -1,5 +1,8 @@
 //! Why a call isn't performed.
 
+ghost use Rattle.std.specs.Prelude.{◌≡◌};
+ghost use Rattle.hack_recovery.specs.Telling.{text_of_fault};
+
 use std::alloc::AllocError;
 
 /// Why a call isn't performed.
@@ -16,7 +19,9 @@ pub enum CallFault {
 
 impl CallFault {
     /// The error message.
-    pub fn text(self) -> &'static str {
+    pub fn text(self) -> &'static str
+        ensures { result.now ≡ text_of_fault self }
+    {
         match self {
             CallFault::Memory => "out of memory",
             CallFault::Busy => "another call is editing the manifests of this workspace",

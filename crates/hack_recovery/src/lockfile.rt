@@ -4,11 +4,12 @@
 //! A guard acts at once, so it gives the lockfile back what the copy has. Any later call can't tell
 //! cargo's change from a person's, so it leaves the lockfile as it is.
 
-ghost use Rattle.std.specs.Prelude.{◌≡◌, ◌≢◌, None, Ok, OnOk, Some, false, string_bytes, true};
+ghost use Rattle.std.specs.Prelude.{◌≡◌, ◌≢◌, ◌⊎◌, [], None, Ok, OnOk, Some, false, string_bytes, true};
 ghost use Rattle.std.specs.Option.{option_or};
 ghost use Rattle.hack_base.specs.Counters.{GrowsBy};
 ghost use Rattle.hack_base.specs.Names.{Name};
-ghost use Rattle.hack_files.specs.Files.{KeepsAll, KeepsOthers, MakesOrNot, puts, removes};
+ghost use Rattle.hack_files.specs.Files.{KeepsAll, KeepsOthers, Makes, MakesOrNot};
+ghost use Rattle.hack_files.specs.Files.{puts, removes};
 ghost use Rattle.hack_recovery.specs.Telling.{Tells};
 ghost use Rattle.hack_run.specs.Worlds.{IsSameHost, host_view};
 
@@ -39,9 +40,12 @@ pub(crate) fn keep_copy<F: Files, L: Files>(
     ensures counted { OnOk result (GrowsBy 0 (F.failed files.old) (F.failed files.new)) }
     ensures others { F.tells → KeepsOthers (string_bytes places.now.copy)
         (F.bytes_at files.old) (F.bytes_at files.new) }
-    ensures made { F.whole → (bytes : Name)
+    ensures made { F.whole → Makes [] (F.trace files.old) (F.trace files.new)
+        (F.bytes_at files.old) (F.bytes_at files.new)
+        ⊎ ((bytes : Name) × (L.tells → L.bytes_at lockfiles.old
+        (string_bytes places.now.lockfile) ≡ Some bytes)
         × MakesOrNot (puts (string_bytes places.now.copy) bytes)
-        (F.trace files.old) (F.trace files.new) (F.bytes_at files.old) (F.bytes_at files.new) }
+        (F.trace files.old) (F.trace files.new) (F.bytes_at files.old) (F.bytes_at files.new)) }
     ensures same { L.tells → KeepsAll (L.bytes_at lockfiles.old) (L.bytes_at lockfiles.new) }
 {
     match look(alloc, lockfiles, places.lockfile.as_str()) {
@@ -86,6 +90,12 @@ pub(crate) fn settle<F: Files, L: Files, C: Caller, O: Write, E: Write>(
     ensures given { result ≡ Ok true → host.old.env.now.by_guard ≡ true → F.tells → L.tells
         → (bytes : Name) → F.bytes_at files.old (string_bytes places.now.copy) ≡ Some bytes
         → L.bytes_at lockfiles.new (string_bytes places.now.lockfile) ≡ Some bytes }
+
+    // Whatever comes of it, the guard leaves the copy, or the lockfile has what it had.
+    ensures kept { host.old.env.now.by_guard ≡ true → F.tells → L.tells
+        → (bytes : Name) → F.bytes_at files.old (string_bytes places.now.copy) ≡ Some bytes
+        → (F.bytes_at files.new (string_bytes places.now.copy) ≡ Some bytes)
+        ⊎ (L.bytes_at lockfiles.new (string_bytes places.now.lockfile) ≡ Some bytes) }
 
     // Nobody else changes it, and nobody where there is no copy.
     ensures left { host.old.env.now.by_guard ≡ false → L.tells

@@ -8,7 +8,7 @@ ghost use Rattle.hack_journal.specs.Rows.{spot_of};
 ghost use Rattle.hack_recovery.specs.AskedEdits.{is_restore};
 ghost use Rattle.hack_recovery.specs.CallCourses.{Continues, IsCallCourse, IsJournalClosed};
 ghost use Rattle.hack_recovery.specs.CallCourses.{CopiesAndRuns, IsJournaledCall, IsLockedCourse};
-ghost use Rattle.hack_recovery.specs.CallCourses.{PerformsUnjournaled, RunsOverJournal};
+ghost use Rattle.hack_recovery.specs.CallCourses.{PerformsUnjournaled, RunsOverJournal, Warns};
 ghost use Rattle.hack_recovery.specs.GuardEvents.{GuardsView};
 ghost use Rattle.hack_recovery.specs.LockEvents.{LocksView};
 ghost use Rattle.hack_recovery.specs.PlacesView.{places_view};
@@ -37,7 +37,7 @@ use hack_run::journaled::run_journaled;
 use hack_run::reading::Reading;
 use hack_run::run::run;
 use hack_term::term::Term;
-use std::alloc::{AllocError, Global};
+use std::alloc::Global;
 use std::io::Write;
 
 /// Performs a call as `run` does, and returns its exit status, the files and the lockfiles. Before
@@ -357,27 +357,21 @@ fn over_journal<F: Files, L: Files, C: Caller, O: Write, E: Write>(
         words, reading, files, lockfiles, place, 0u64, host,
     );
     let mut files = files;
-    match close(host.alloc, &places, &mut files, host.term, host.err) {
-        Ok(()) => (host.term.status(env.deny_warnings), files, lockfiles),
-        Err(fault) => (
-            report(CallFault::from(fault), host.term, host.err),
-            files,
-            lockfiles,
-        ),
-    }
+    close(host.alloc, &places, &mut files, host.term, host.err);
+    (host.term.status(env.deny_warnings), files, lockfiles)
 }
 
-/// Warns where a journal stays; where none does, the lockfile's copy is removed, and one that stays
-/// is warned of.
+/// Warns where a journal stays, or may; where none does, the lockfile's copy is removed, and one that
+/// stays is warned of.
 fn close<F: Files, E: Write>(
     alloc: Global,
     places: &Places,
     files: &mut F,
     term: &mut Term,
     err: &mut E,
-) -> Result<(), AllocError>
-    ensures told { OnOk result (IsJournalClosed F.tells (places_view places.now)
-        (files_view F.Files files.old) (files_view F.Files files.new) term.old term.new) }
+)
+    ensures told { IsJournalClosed F.tells (places_view places.now)
+        (files_view F.Files files.old) (files_view F.Files files.new) term.old term.new }
     ensures others { F.tells → KeepsOthers (string_bytes places.now.copy)
         (F.bytes_at files.old) (F.bytes_at files.new) }
     ensures made { F.whole → MakesOrNot (removes (string_bytes places.now.copy))
@@ -386,29 +380,41 @@ fn close<F: Files, E: Write>(
     let journal = places.place.journal.as_str();
     match is_there(alloc, journal, files) {
         Ok(false) => {}
-        Ok(true) => return tell_journal(alloc, journal, "stays", term, err),
-        Err(LookFault::Device(_)) => return tell_journal(alloc, journal, "may stay", term, err),
-        Err(LookFault::Memory) => return Err(AllocError),
+        Ok(true) => {
+            let how = "stays: the next call brings back what it tells";
+            return tell_stay(alloc, journal, how, term, err);
+        }
+        Err(LookFault::Device(_)) => {
+            let how = "may stay: then the next call brings back what it tells";
+            return tell_stay(alloc, journal, how, term, err);
+        }
+        Err(LookFault::Memory) => return tell_memory(term, err),
     }
     let copy = places.copy.as_str();
     if files.remove(copy).is_err() {
-        let text = format!(in alloc; "`{copy}` stays: the next call removes it")?;
-        let _ = term.warn(&text, err);
+        return tell_stay(alloc, copy, "stays: the next call removes it", term, err);
     }
-    Ok(())
 }
 
-/// Warns of a journal that stays, or may.
-fn tell_journal<E: Write>(
-    alloc: Global,
-    journal: &str,
-    stays: &str,
-    term: &mut Term,
-    err: &mut E,
-) -> Result<(), AllocError>
-    ensures { OnOk result (term.new ≡ record term.old { warn = true }) }
+/// Warns of a file that stays, or may. Where memory is refused for that, it is an error besides.
+fn tell_stay<E: Write>(alloc: Global, path: &str, how: &str, term: &mut Term, err: &mut E)
+    ensures { Warns term.old term.new }
 {
-    let text = format!(in alloc; "`{journal}` {stays}: the next call brings back what it tells")?;
-    let _ = term.warn(&text, err);
-    Ok(())
+    match format!(in alloc; "`{path}` {how}") {
+        Ok(text) => {
+            let _ = term.warn(&text, err);
+        }
+        Err(_) => tell_memory(term, err),
+    }
+}
+
+/// Reports that memory was refused, and warns of what may stay.
+fn tell_memory<E: Write>(term: &mut Term, err: &mut E)
+    ensures { term.new ≡ record term.old { warn = true; error = true } }
+{
+    let _ = term.warn(
+        "what a journal keeps may stay: the next call looks after it",
+        err,
+    );
+    let _ = term.error("out of memory", err);
 }

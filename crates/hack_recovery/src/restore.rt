@@ -1,6 +1,6 @@
 //! Restores what an interrupted call left edited, and reports it.
 
-ghost use Rattle.std.specs.Prelude.{◌≡◌, ◌≢◌, IfOk, Ok, option_and_then, option_map, true};
+ghost use Rattle.std.specs.Prelude.{◌≡◌, ◌≢◌, IfErr, IfOk, Ok, option_and_then, option_map, true};
 ghost use Rattle.hack_journal.specs.Journal.{edit_of, edits_of};
 ghost use Rattle.hack_journal.specs.Rows.{spot_of};
 ghost use Rattle.hack_recovery.specs.Restoring.{IsBroughtBack, Restores};
@@ -108,7 +108,8 @@ fn tell_all<E: Write>(
     term: &Term,
     err: &mut E,
 ) -> Result<bool, CallFault>
-    ensures { IfOk result (λ goes_on. goes_on ≡ true) }
+    ensures done { IfOk result (λ goes_on. goes_on ≡ true) }
+    ensures fault { IfErr result (λ fault. fault ≡ CallFault.Memory) }
 {
     for path in paths {
         tell_restored(alloc, dir, path.as_str(), term, err)?;
@@ -124,7 +125,8 @@ pub(crate) fn tell_restored<E: Write>(
     term: &Term,
     err: &mut E,
 ) -> Result<bool, CallFault>
-    ensures { IfOk result (λ goes_on. goes_on ≡ true) }
+    ensures done { IfOk result (λ goes_on. goes_on ≡ true) }
+    ensures fault { IfErr result (λ fault. fault ≡ CallFault.Memory) }
 {
     let path = under(path, dir);
     let text = format!(in alloc; "restored `{path}` after an interrupted call")?;

@@ -4,8 +4,8 @@ use Rattle.hack_recovery.proofs.CountLemmas.{failed_call, grows_then}
 use Rattle.hack_recovery.proofs.LookLemmas.{none_there}
 use Rattle.hack_recovery.proofs.perform.close.Goals as goal
 
-pub returns-in_ok-text-clause-told : goal.returns-in_ok-text-clause-told
-returns-in_ok-text-clause-told g c =
+pub returns-then-is_err-clause-told : goal.returns-then-is_err-clause-told
+returns-then-is_err-clause-told g c =
     let found = rw c.as_str-journal.ensures.value at c.in-Ok-false.ensures.found in
-    copy_stays c.warn.ensures.noted (grows_then 1 _ _ _ c.in-Ok-false.ensures.counted (failed_call _ _ c.remove.result (sym c.is_err.ensures.value ∙ c.if-is_err.true) c.remove.ensures.counted))
+    copy_stays c.tell_stay-then-is_err.ensures (grows_then 1 _ _ _ c.in-Ok-false.ensures.counted (failed_call _ _ c.remove.result (sym c.is_err.ensures.value ∙ c.if-is_err.true) c.remove.ensures.counted))
     (λ t. none_there _ c.in-Ok-false.field-0 c.in-Ok-false.field-0-test (found t))

@@ -1,29 +1,9 @@
-use Rattle.std.proofs.Common.{ap, inl, inr, refl, subst}
+use Rattle.std.proofs.Common.{refl, subst}
 use Rattle.hack_base.specs.Names.{names_of}
 use Rattle.hack_journal.specs.Rows.{Spot, spot_of}
 use Rattle.hack_recovery.specs.CallCourses.{Journals}
 use Rattle.hack_recovery.specs.Scenes.{Scene, scene_of}
-use Rattle.hack_term.specs.declared.term.Term.{Term}
 use Rattle.hack_recovery.proofs.perform.over_journal.Goals as goal
-
-pub returns-in-Ok-clause-goes : goal.returns-in-Ok-clause-goes
-returns-in-Ok-clause-goes g c = λ locks guards.
-    let old : Scene = scene_of g.F.Files g.L.Files g.C.Caller g.O.Write c.args.files c.args.lockfiles locks guards c.args.host.now in
-    let last : Scene = scene_of g.F.Files g.L.Files g.C.Caller g.O.Write c.run_journaled-files.result.1 c.run_journaled-files.result.2 locks guards c.run_journaled-files.new.host in
-    let ran = c.run_journaled-files.ensures in
-    record {
-      failed = c.run_journaled-files.result.3;
-      last = last;
-      journals = subst (λ (s : Spot). Journals g.F.Files.tells g.F.Files.whole g.L.Files.tells g.C.Caller.tells (names_of c.args.words.now) c.args.host.now.env.now s c.run_journaled-files.result.3 old last) c.requires.place
-          (record { refused = ran.refused; done = ran.done; made = ran.made; clean = ran.clean; back = ran.back; few = ran.few; gone = ran.gone; safe = ran.safe; locks = refl; guards = refl });
-      closes = record {
-        others = c.in-Ok.ensures.others;
-        made = c.in-Ok.ensures.made;
-        lockfiles = refl;
-        quiet = record { calls = refl; out = refl; locks = refl; guards = refl };
-        told = inl c.in-Ok.ensures.told;
-      };
-    }
 
 pub returns-clause-goes : goal.returns-clause-goes
 returns-clause-goes g c = λ locks guards.
@@ -36,10 +16,10 @@ returns-clause-goes g c = λ locks guards.
       journals = subst (λ (s : Spot). Journals g.F.Files.tells g.F.Files.whole g.L.Files.tells g.C.Caller.tells (names_of c.args.words.now) c.args.host.now.env.now s c.run_journaled-files.result.3 old last) c.requires.place
           (record { refused = ran.refused; done = ran.done; made = ran.made; clean = ran.clean; back = ran.back; few = ran.few; gone = ran.gone; safe = ran.safe; locks = refl; guards = refl });
       closes = record {
-        others = c.in-Err.ensures.others;
-        made = c.in-Err.ensures.made;
+        others = c.close.ensures.others;
+        made = c.close.ensures.made;
         lockfiles = refl;
         quiet = record { calls = refl; out = refl; locks = refl; guards = refl };
-        told = inr (ap (λ (k : Term). k.error) c.report.ensures.term);
+        told = c.close.ensures.told;
       };
     }

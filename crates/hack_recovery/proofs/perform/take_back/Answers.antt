@@ -24,6 +24,7 @@ returns-clause-goes g c = λ locks guards.
       others = settled-by.others;
       made = settled-by.made;
       given = settled-by.given;
+      kept = settled-by.kept;
       left = settled-by.left;
       none = settled-by.none;
       apart = settled-by.apart;

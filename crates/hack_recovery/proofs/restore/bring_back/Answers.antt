@@ -7,10 +7,10 @@ pub returns-in-Ok-clause-came : goal.returns-in-Ok-clause-came
 returns-in-Ok-clause-came g c =
     let came = c.in-Ok.ensures in
     brought (names_of c.in-Ok.paths.items) (record { failures = came.failures; restored = came.restored; comes_back = came.comes_back; safe = came.safe })
-    (never_false c.tell_all.result c.tell_all.ensures)
+    (never_false c.tell_all.result c.tell_all.ensures.done)
 
 pub returns-in-Ok-clause-told : goal.returns-in-Ok-clause-told
-returns-in-Ok-clause-told g c = tells_same c.args.term.now c.tell_all.result c.tell_all.ensures
+returns-in-Ok-clause-told g c = tells_same c.args.term.now c.tell_all.result c.tell_all.ensures.done c.tell_all.ensures.fault
 
 pub returns-in-Err-clause-came : goal.returns-in-Err-clause-came
 returns-in-Err-clause-came g c =
