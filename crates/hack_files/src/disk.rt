@@ -158,6 +158,22 @@ fn write_file<R: rt::Files + AllocGlobal>(rt: &R, path: &str, bytes: &[u8]) -> i
     }
 }
 
+// Writes the bytes over those of the file at the path, which keeps its place on the disk. Where no
+// file is there, or it can't be written so, the file is written as a whole.
+fn overwrite_file<R: rt::Files + AllocGlobal>(rt: &R, path: &str, bytes: &[u8]) -> io::Result<()> {
+    match write_over(rt, path, bytes) {
+        Ok(()) => Ok(()),
+        Err(_) => write_file(rt, path, bytes),
+    }
+}
+
+fn write_over<R: rt::Files>(rt: &R, path: &str, bytes: &[u8]) -> io::Result<()> {
+    let mut options = OpenOptions::new();
+    let mut file = options.write(true).open(rt, path)?;
+    file.write_all(bytes)?;
+    file.set_len(bytes.len() as u64)
+}
+
 fn read_file<R: rt::Files>(rt: &R, alloc: Global, path: &str) -> io::Result<Vec<u8>> {
     let mut bytes = Vec::new(alloc);
     fs::open(rt, path)?.read_to_end(&mut bytes)?;
@@ -241,6 +257,10 @@ impl<R: rt::Files + AllocGlobal + Drop> Files for Disk<R> {
 
     fn write(&mut self, path: &str, bytes: &[u8]) -> Result<(), FileFault> {
         count_outcome(write_file(&self.rt, path, bytes), &mut self.failures)
+    }
+
+    fn overwrite(&mut self, path: &str, bytes: &[u8]) -> Result<(), FileFault> {
+        count_outcome(overwrite_file(&self.rt, path, bytes), &mut self.failures)
     }
 
     fn exists(&mut self, path: &str) -> Result<bool, FileFault> {

@@ -74,6 +74,22 @@ pub trait Files {
         ensures refused { OnErr result (whole → MakesOrNot (puts path.now bytes.now)
             (trace self.old) (trace self.new) (bytes_at self.old) (bytes_at self.new)) };
 
+    /// Does the same, for a caller that keeps what is there: on the disk a write that is interrupted
+    /// may leave the first of these bytes, before the rest of those that were there.
+    fn overwrite(&mut self, path: &str, bytes: &[u8]) -> Result<(), FileFault>
+        ensures stays { stays self.old self.new }
+        ensures counted { CountsFailedCall (failed self.old) (failed self.new) result }
+        ensures refused_path { refuses self.old self.new (refused_path result path.now) }
+        ensures written { OnOk result (tells → bytes_at self.new path.now ≡ Some bytes.now) }
+        ensures others { tells → KeepsOthers path.now (bytes_at self.old) (bytes_at self.new) }
+        ensures traced { OnOk result (whole → Makes (puts path.now bytes.now ∷ [])
+            (trace self.old) (trace self.new) (bytes_at self.old) (bytes_at self.new)) }
+        ensures refused { OnErr result (whole → MakesOrNot (puts path.now bytes.now)
+            (trace self.old) (trace self.new) (bytes_at self.old) (bytes_at self.new)) }
+    {
+        self.write(path, bytes)
+    }
+
     /// Returns whether a file, or a folder, is at a path.
     fn exists(&mut self, path: &str) -> Result<bool, FileFault>
         ensures stays { stays self.old self.new }

@@ -86,6 +86,7 @@ entry_of opt.AllFeatures = many (codes "all-features") Flag []
 entry_of opt.IncludeDepsFeatures = flag (codes "include-deps-features")
 entry_of opt.Strength = once (codes "strength") Value (codes "<NUM>")
 entry_of opt.Restore = flag (codes "restore")
+entry_of opt.PackageRules = flag (codes "package-rules")
 
 -- the option that an alias means
 abbrev pub meaning_of : Opt → Opt

@@ -64,6 +64,7 @@ pub enum Opt {
     IncludeDepsFeatures,
     Strength,
     Restore,
+    PackageRules,
 }
 
 /// The option as messages name it. `--workspace-behavior` is shown with `cargo`, the only value

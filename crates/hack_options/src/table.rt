@@ -56,7 +56,7 @@ pub enum Kind {
 }
 
 /// All options, in the order of the help; those that the help doesn't show come last.
-pub const ALL: [Opt; 47] = [
+pub const ALL: [Opt; 48] = [
     Opt::Package,
     Opt::All,
     Opt::Workspace,
@@ -104,6 +104,7 @@ pub const ALL: [Opt; 47] = [
     Opt::IncludeDepsFeatures,
     Opt::Strength,
     Opt::Restore,
+    Opt::PackageRules,
 ];
 
 impl Row {
@@ -196,6 +197,7 @@ fn syntax(option: Opt) -> Row
         Opt::IncludeDepsFeatures => flag("include-deps-features"),
         Opt::Strength => once("strength", Kind::Value, "<NUM>"),
         Opt::Restore => flag("restore"),
+        Opt::PackageRules => flag("package-rules"),
     }
 }
 
@@ -366,7 +368,7 @@ fn help_text(option: Opt) -> Option<HelpText>
         Opt::Help => brief("Prints help information"),
         Opt::Version => brief("Prints version information"),
         Opt::NoDefaultFeatures | Opt::AllFeatures => None,
-        Opt::IncludeDepsFeatures | Opt::Strength | Opt::Restore => None,
+        Opt::IncludeDepsFeatures | Opt::Strength | Opt::Restore | Opt::PackageRules => None,
     }
 }
 

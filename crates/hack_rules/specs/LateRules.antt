@@ -58,7 +58,7 @@ restore_rule behavior trailing us =
 
 -- the rules that are checked after the one on a missing subcommand, given the exclusive groups, who
 -- handles workspaces, and the arguments after --: on ranges, the log group, pieces, lifted groups,
--- the strength of a sample, and --restore
+-- the strength of a sample, --restore, and the rules of packages
 abbrev pub rules_after : Option ℕ → List (List (List ℕ)) → WorkspaceBehavior → List (List ℕ) → List Use → List (Option Fault)
 rules_after rustup exclusive behavior trailing us =
     first_of (range_rules rustup us)
@@ -71,4 +71,5 @@ rules_after rustup exclusive behavior trailing us =
     ∷ needs opt.Strength beside.Powerset us
     ∷ from_value opt.Strength (unless_counted opt.Strength 64) us
     ∷ restore_rule behavior trailing us
+    ∷ needs opt.PackageRules beside.EachOrPowerset us
     ∷ []

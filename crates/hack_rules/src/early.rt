@@ -92,7 +92,8 @@ fn beside_lists(lists: &Lists, uses: &[Use]) -> Result<(), CliFault>
     needs(given(option, uses), option, Beside::FeatureLists, there)
 }
 
-fn is_each(uses: &[Use]) -> bool
+/// Whether `--each-feature` or `--feature-powerset` is given.
+pub(crate) fn is_each(uses: &[Use]) -> bool
     ensures { result ≡ has_beside Beside.EachOrPowerset (views uses.now) }
 {
     given(Opt::EachFeature, uses) || given(Opt::FeaturePowerset, uses)

@@ -1,5 +1,6 @@
 //! The rules that are checked after the one on a missing subcommand: on ranges of versions, log
-//! groups, pieces of a plan, lifted groups, the strength of a sample and `--restore`.
+//! groups, pieces of a plan, lifted groups, the strength of a sample, `--restore` and
+//! `--package-rules`.
 
 ghost use Rattle.std.specs.Prelude.{◌≡◌, ◌&&◌, [], ◌∷◌, false, IfOk, IfSome};
 ghost use Rattle.std.specs.Prelude.{option_map, option_and_then, nat_lt};
@@ -25,6 +26,7 @@ ghost use Rattle.hack_rules.specs.LateRules.{unless_counted, range_rules, rules_
 ghost use Rattle.hack_rules.specs.LateRules.{is_beside_restore as beside_restore, restore_rule};
 
 use crate::checks::{clash, needs};
+use crate::early::is_each;
 use crate::fault::{Beside, CliFault};
 use crate::uses::{OwnedFlag, Use, WorkspaceBehavior, given, value};
 use crate::{named, values};
@@ -296,6 +298,13 @@ pub fn check(
     needs(given(option, uses), option, Beside::Powerset, there)?;
     let strength = strength(alloc, uses)?;
     restore_alone(behavior, trailing, uses)?;
+    let option = Opt::PackageRules;
+    needs(
+        given(option, uses),
+        option,
+        Beside::EachOrPowerset,
+        is_each(uses),
+    )?;
     Ok(Late {
         versions,
         log_group,

@@ -31,6 +31,7 @@ pub record HasFlags (us : List Use) (args : Args) : Type 0 where
   pub no_dev_deps : args.no_dev_deps ≡ is_given opt.NoDevDeps us
   pub remove_dev_deps : args.remove_dev_deps ≡ is_given opt.RemoveDevDeps us
   pub restore : args.restore ≡ is_given opt.Restore us
+  pub package_rules : args.package_rules ≡ is_given opt.PackageRules us
   pub no_private : args.no_private ≡ is_given opt.NoPrivate us
   pub ignore_private : args.ignore_private ≡ (is_given opt.IgnorePrivate us || is_given opt.NoPrivate us)
   pub ignore_unknown_features : args.ignore_unknown_features ≡ is_given opt.IgnoreUnknownFeatures us

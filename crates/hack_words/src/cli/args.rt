@@ -55,6 +55,8 @@ pub struct Args {
     pub remove_dev_deps: bool,
     /// What an interrupted call left edited is brought back, and nothing else is done.
     pub restore: bool,
+    /// Each package's rules are these and those of its manifest.
+    pub package_rules: bool,
     pub no_private: bool,
     /// Private packages are skipped; `--no-private` implies it.
     pub ignore_private: bool,
@@ -252,6 +254,7 @@ impl Args {
             no_dev_deps: given(Opt::NoDevDeps, uses),
             remove_dev_deps: given(Opt::RemoveDevDeps, uses),
             restore: given(Opt::Restore, uses),
+            package_rules: given(Opt::PackageRules, uses),
             no_private: given(Opt::NoPrivate, uses),
             ignore_private: ignores_private(uses),
             ignore_unknown_features: given(Opt::IgnoreUnknownFeatures, uses),
