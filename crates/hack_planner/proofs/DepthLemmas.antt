@@ -8,10 +8,10 @@ use Rattle.std.specs.Bool.{MatchBool}
 use Rattle.hack_features.specs.Feature.{groups_of}
 use Rattle.hack_load.specs.declared.features.Features.{Features}
 use Rattle.hack_metadata.specs.Records.{PackageRecord}
-use Rattle.hack_words.specs.declared.cli.args.Args.{Args}
+use Rattle.hack_planner.specs.PackageRules.{PackageRulesRecord}
 use Rattle.hack_base.specs.Names.{Name}
 use Rattle.hack_features.specs.Sets.{IsSelection, IsBefore, IsListing, IsWithin, Pairwise, singles}
-use Rattle.hack_features.specs.Rules.{Choice, IsListed, IsRedundant, NotBothReach, Serves, names_at, names_in, unlifted_groups}
+use Rattle.hack_features.specs.Rules.{Choice, IsListed, IsRedundant, NotBothReach, Serves, names_at, names_in}
 use Rattle.hack_features.specs.FeatureMap.{EnablesOneOf}
 use Rattle.hack_base.proofs.Members.{Contains-cons_cases}
 use Rattle.hack_features.proofs.Listing.{selection_none, selection_push, selection_up}
@@ -19,7 +19,7 @@ use Rattle.hack_features.proofs.CoverLemmas.{before_trans}
 use Rattle.std.specs.Option.{is_none, option_map_or}
 use Rattle.hack_plan.specs.Runs.{PackageRun, Plain, AllFeatures, NoDefaultFeatures, Set, is_plain, keeps_all, run_if, in_turn}
 use Rattle.hack_plan.specs.RunsView.{with_last_first}
-use Rattle.hack_planner.specs.Candidates.{candidates, lifted_for}
+use Rattle.hack_planner.specs.Candidates.{candidates}
 use Rattle.hack_planner.specs.Kinds.{ArePowersets, AreSetRuns, AreRuns, AreSets, IsDepthOne, as_each, package_choice, options_of}
 
 in-none : {X : Type 0} (x : X) → Contains [] x → ⊥
@@ -159,15 +159,14 @@ same-keeps ex all pw opt norm d is depth some =
     ∙ sym (ap (λ b. b || nat_lt 1 norm) some))
 
 -- sets of one candidate have the runs of each feature, if the package has optional dependencies
-pub depth-one : (w : Args) (p : PackageRecord) (f : Features) (runs : List PackageRun) → IsDepthOne w → 0 < length f.optional_deps.items → AreRuns w p f runs → AreRuns (as_each w) p f runs
+pub depth-one : (w : PackageRulesRecord) (p : PackageRecord) (f : Features) (runs : List PackageRun) → IsDepthOne w → 0 < length f.optional_deps.items → AreRuns w p f runs → AreRuns (as_each w) p f runs
 depth-one w p f runs h some are =
     let asked : (w.each_feature || w.feature_powerset) ≡ true = ap (λ b. w.each_feature || b) h.powerset ∙ or-true w.each_feature in
     let r : AreSetRuns w p f runs = subst (λ b. MatchBool b (AreSetRuns w p f runs) (runs ≡ Plain ∷ [])) asked are in
     let n = length (candidates w f) in
     let picked : AreSets true w p f r.sets = subst (λ b. AreSets b w p f r.sets) h.powerset r.are_sets in
     let listing : ArePowersets None (package_choice w p f) n r.sets = subst (λ o. ArePowersets o (package_choice w p f) n r.sets) h.all picked in
-    let none : unlifted_groups (groups_of w.mutually_exclusive_features.items) (lifted_for w p.name) ≡ [] = ap (λ l. unlifted_groups l (lifted_for w p.name)) h.exclusive in
-    let same : r.sets ≡ singles n = all-single n (package_choice w p f) r.sets h.depth none h.at_least_one_of listing in
+    let same : r.sets ≡ singles n = all-single n (package_choice w p f) r.sets h.depth h.exclusive h.at_least_one_of listing in
     let o = options_of w f in
     let e = options_of (as_each w) f in
     let keeps : keeps_all o ≡ keeps_all e = same-keeps w.exclude_all_features o.all_optional_deps w.feature_powerset (length f.optional_deps.items) (length f.normal.items) w.depth h.powerset h.depth (lt-ltb 0 (length f.optional_deps.items) some) in

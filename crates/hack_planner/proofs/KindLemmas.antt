@@ -7,7 +7,7 @@ use Rattle.std.proofs.lemmas.List.Elements.{Contains-append_left, Contains-appen
 use Rattle.std.specs.Bool.{MatchBool}
 use Rattle.hack_load.specs.declared.features.Features.{Features}
 use Rattle.hack_metadata.specs.Records.{PackageRecord}
-use Rattle.hack_words.specs.declared.cli.args.Args.{Args}
+use Rattle.hack_planner.specs.PackageRules.{PackageRulesRecord}
 use Rattle.hack_features.specs.declared.feature.Feature.{Feature}
 use Rattle.hack_features.specs.Feature.{group_of, groups_of, candidates_of}
 use Rattle.hack_features.specs.Rules.{Choice, AreCovers}
@@ -65,14 +65,14 @@ plain-none : (o : RunOptions) (sets : List (List ℕ)) (t : List ℕ) → is_pla
 plain-none o sets t plain c = nothing-in 0 sets t (first-true (length sets == 0) ((o.normal == 0) && (o.optional == 0) || o.included) plain) c
 
 -- if sets cover, their runs cover too
-pub covering-runs : (w : Args) (p : PackageRecord) (f : Features) (sets : List (List ℕ)) (runs : List PackageRun) → is_plain (options_of w f) sets ≡ false → AreCovers (package_choice w p f) (length (candidates w f)) sets
+pub covering-runs : (w : PackageRulesRecord) (p : PackageRecord) (f : Features) (sets : List (List ℕ)) (runs : List PackageRun) → is_plain (options_of w f) sets ≡ false → AreCovers (package_choice w p f) (length (candidates w f)) sets
     → runs ≡ runs_from (options_of w f) sets → AreCovering w p f runs
 covering-runs w p f sets runs some covers made s sel wanted =
     let t = covers s sel wanted in
     (t.0, t.1, subst (λ l. Contains l (Set t.0)) (sym made) (runs-has (options_of w f) sets t.0 some t.2))
 
 -- so does a single plain run, since then no set has to be covered
-pub covering-plain : (w : Args) (p : PackageRecord) (f : Features) (sets : List (List ℕ)) (runs : List PackageRun) → is_plain (options_of w f) sets ≡ true → AreCovers (package_choice w p f) (length (candidates w f)) sets → AreCovering w p f runs
+pub covering-plain : (w : PackageRulesRecord) (p : PackageRecord) (f : Features) (sets : List (List ℕ)) (runs : List PackageRun) → is_plain (options_of w f) sets ≡ true → AreCovers (package_choice w p f) (length (candidates w f)) sets → AreCovering w p f runs
 covering-plain w p f sets runs plain covers s sel wanted =
     let t = covers s sel wanted in
     absurd (plain-none (options_of w f) sets t.0 plain t.2)
@@ -81,7 +81,7 @@ pub or-true : (a : Bool) → (a || true) ≡ true
 or-true true = refl
 or-true false = refl
 
-plain-by : (w : Args) (p : PackageRecord) (f : Features) (b : Bool) → (w.each_feature || w.feature_powerset) ≡ b → HasPlainRun w p f → MatchBool b (AreSetRuns w p f (Plain ∷ [])) ((Plain ∷ []) ≡ Plain ∷ [])
+plain-by : (w : PackageRulesRecord) (p : PackageRecord) (f : Features) (b : Bool) → (w.each_feature || w.feature_powerset) ≡ b → HasPlainRun w p f → MatchBool b (AreSetRuns w p f (Plain ∷ [])) ((Plain ∷ []) ≡ Plain ∷ [])
 plain-by w p f false is h = refl
 plain-by w p f true is h = record {
   sets = h.sets;
@@ -89,17 +89,17 @@ plain-by w p f true is h = record {
   made = ap (λ (b : Bool). if b then Plain ∷ [] else (run_if (keeps_all (options_of w f)) AllFeatures ++ run_if (not w.exclude_no_default_features) NoDefaultFeatures) ++ map Set (in_turn (options_of w f) h.sets)) (sym (h.plain is));
 }
 
-set-runs : (w : Args) (p : PackageRecord) (f : Features) (runs : List PackageRun) → HasSetRuns w p f runs → AreSetRuns w p f runs
+set-runs : (w : PackageRulesRecord) (p : PackageRecord) (f : Features) (runs : List PackageRun) → HasSetRuns w p f runs → AreSetRuns w p f runs
 set-runs w p f runs h = record { sets = h.sets; are_sets = h.are_sets; made = h.made }
 
 -- the runs of a kind are the package's
-pub runs-of_kind : (w : Args) (p : PackageRecord) (f : Features) (kind : Kind) → IsKind w p f kind → AreRuns w p f (runs_of kind)
+pub runs-of_kind : (w : PackageRulesRecord) (p : PackageRecord) (f : Features) (kind : Kind) → IsKind w p f kind → AreRuns w p f (runs_of kind)
 runs-of_kind w p f Normal h = plain-by w p f (w.each_feature || w.feature_powerset) refl h
 runs-of_kind w p f (Each list runs) h = subst (λ b. MatchBool b (AreSetRuns w p f (runs_of (Each list runs))) ((runs_of (Each list runs)) ≡ Plain ∷ [])) (sym (ap (λ b. b || w.feature_powerset) h.0)) (set-runs w p f (runs_of (Each list runs)) h.3)
 runs-of_kind w p f (Powerset list runs) h = subst (λ b. MatchBool b (AreSetRuns w p f (runs_of (Powerset list runs))) ((runs_of (Powerset list runs)) ≡ Plain ∷ [])) (sym (ap (λ b. w.each_feature || b) h.0 ∙ or-true w.each_feature)) (set-runs w p f (runs_of (Powerset list runs)) h.2)
 
 -- what comes of each candidate alone
-pub alone-made : (w : Args) (f : Features) (c : Choice) (n : ℕ) (sets : List (List ℕ)) (runs : List PackageRun) (plain : Bool) (rows : List (List Bool)) → w.feature_powerset ≡ false → w.strength ≡ None → sets ≡ singles n → IsMadeOf w f sets runs plain → rows ≡ []
+pub alone-made : (w : PackageRulesRecord) (f : Features) (c : Choice) (n : ℕ) (sets : List (List ℕ)) (runs : List PackageRun) (plain : Bool) (rows : List (List Bool)) → w.feature_powerset ≡ false → w.strength ≡ None → sets ≡ singles n → IsMadeOf w f sets runs plain → rows ≡ []
     → AreMade w f c n runs plain rows
 alone-made w f c n sets runs plain rows each all is made none = record {
   sets = sets;
@@ -110,32 +110,32 @@ alone-made w f c n sets runs plain rows each all is made none = record {
 }
 
 -- what comes of rules comes of what they were made for
-pub made-for : (w : Args) (f : Features) (c d : Choice) (m n : ℕ) (runs : List PackageRun) (plain : Bool) (rows : List (List Bool)) → c ≡ d → m ≡ n → AreMade w f c m runs plain rows → AreMade w f d n runs plain rows
+pub made-for : (w : PackageRulesRecord) (f : Features) (c d : Choice) (m n : ℕ) (runs : List PackageRun) (plain : Bool) (rows : List (List Bool)) → c ≡ d → m ≡ n → AreMade w f c m runs plain rows → AreMade w f d n runs plain rows
 made-for w f c d m n runs plain rows same size h = subst (λ q. AreMade w f q n runs plain rows) same (subst (λ k. AreMade w f c k runs plain rows) size h)
 
 or-first : (a b : Bool) → (a || b) ≡ true → b ≡ false → a ≡ true
 or-first true b some none = refl
 or-first false b some none = absurd (cc)
 
-kind-by : (w : Args) (p : PackageRecord) (f : Features) (powerset plain : Bool) (list : Vec Feature Global) (runs : Runs) (rows : List (List Bool)) → w.feature_powerset ≡ powerset → groups_of list.items ≡ candidates w f
+kind-by : (w : PackageRulesRecord) (p : PackageRecord) (f : Features) (powerset plain : Bool) (list : Vec Feature Global) (runs : Runs) (rows : List (List Bool)) → w.feature_powerset ≡ powerset → groups_of list.items ≡ candidates w f
     → AreMade w f (package_choice w p f) (length (candidates w f)) (runs_in runs) plain rows → IsKind w p f (kind_from powerset plain list runs)
 kind-by w p f powerset true list runs rows is names h = record { sets = h.sets; are_sets = λ _. h.are_sets; plain = h.made.1 }
 kind-by w p f true false list runs rows is names h = (is, names, record { sets = h.sets; are_sets = h.are_sets; made = h.made.2; some = h.made.1 })
 kind-by w p f false false list runs rows is names h = (or-first w.each_feature w.feature_powerset h.made.0 is, is, names, record { sets = h.sets; are_sets = h.are_sets; made = h.made.2; some = h.made.1 })
 
 -- what comes of a package's candidates gives its kind
-pub made-kind : (w : Args) (p : PackageRecord) (f : Features) (plain : Bool) (list : Vec Feature Global) (runs : Runs) (rows : List (List Bool)) → groups_of list.items ≡ candidates w f
+pub made-kind : (w : PackageRulesRecord) (p : PackageRecord) (f : Features) (plain : Bool) (list : Vec Feature Global) (runs : Runs) (rows : List (List Bool)) → groups_of list.items ≡ candidates w f
     → AreMade w f (package_choice w p f) (length (candidates w f)) (runs_in runs) plain rows → IsKind w p f (kind_from w.feature_powerset plain list runs)
 made-kind w p f plain list runs rows names h = kind-by w p f w.feature_powerset plain list runs rows refl names h
 
 -- whose runs are those
-pub made-runs : (w : Args) (f : Features) (sets : List (List ℕ)) (powerset plain : Bool) (list : Vec Feature Global) (runs : Runs) → IsMadeOf w f sets (runs_in runs) plain → runs_of (kind_from powerset plain list runs) ≡ runs_in runs
+pub made-runs : (w : PackageRulesRecord) (f : Features) (sets : List (List ℕ)) (powerset plain : Bool) (list : Vec Feature Global) (runs : Runs) → IsMadeOf w f sets (runs_in runs) plain → runs_of (kind_from powerset plain list runs) ≡ runs_in runs
 made-runs w f sets powerset true list runs h = sym h.0
 made-runs w f sets true false list runs h = refl
 made-runs w f sets false false list runs h = refl
 
 -- and which cover its sets under a powerset of all of them
-pub made-covering : (w : Args) (p : PackageRecord) (f : Features) (plain : Bool) (runs : List PackageRun) (rows : List (List Bool)) → AreMade w f (package_choice w p f) (length (candidates w f)) runs plain rows → w.feature_powerset ≡ true → w.strength ≡ None
+pub made-covering : (w : PackageRulesRecord) (p : PackageRecord) (f : Features) (plain : Bool) (runs : List PackageRun) (rows : List (List Bool)) → AreMade w f (package_choice w p f) (length (candidates w f)) runs plain rows → w.feature_powerset ≡ true → w.strength ≡ None
     → AreCovering w p f runs
 made-covering w p f true runs rows h powerset all = covering-plain w p f h.sets runs (h.made.1 (ap (λ b. w.each_feature || b) powerset ∙ or-true w.each_feature)) (h.covers powerset all)
 made-covering w p f false runs rows h powerset all = covering-runs w p f h.sets runs h.made.1 (h.covers powerset all) h.made.2

@@ -5,7 +5,7 @@ use Rattle.std.proofs.lemmas.List.{take-append-drop, length-map}
 use Rattle.std.specs.Bool.{MatchBool}
 use Rattle.hack_load.specs.declared.features.Features.{Features}
 use Rattle.hack_metadata.specs.Records.{PackageRecord}
-use Rattle.hack_words.specs.declared.cli.args.Args.{Args}
+use Rattle.hack_planner.specs.PackageRules.{PackageRulesRecord}
 use Rattle.hack_plan.specs.declared.runs.RunOptions.{RunOptions}
 use Rattle.std.specs.Option.{option_map_or}
 use Rattle.hack_plan.specs.Runs.{Plain, AllFeatures, NoDefaultFeatures, Set, in_turn, is_plain, keeps_all, run_if, runs_from}
@@ -48,7 +48,7 @@ many-by o sets n least false is enough most none =
     )
 
 -- under a powerset of all sets, a package whose listed sets give so many runs
-pub runs-at_least : (w : Args) (p : PackageRecord) (f : Features) (least : ℕ) → w.feature_powerset ≡ true → w.strength ≡ None → GivesAtLeast w (package_choice w p f) (length (candidates w f)) least → HasRunsAtLeast w p f least
+pub runs-at_least : (w : PackageRulesRecord) (p : PackageRecord) (f : Features) (least : ℕ) → w.feature_powerset ≡ true → w.strength ≡ None → GivesAtLeast w (package_choice w p f) (length (candidates w f)) least → HasRunsAtLeast w p f least
 runs-at_least w p f least powerset strength h =
     let o = options_of w f in
     let sets = h.lists.sets in

@@ -16,7 +16,7 @@ use Rattle.hack_plan.specs.declared.places.PlanEntry.{PlanEntry}
 use Rattle.hack_plan.specs.declared.versions.PlanInput.{PlanInput}
 use Rattle.hack_plan.specs.View.{PackageView}
 use Rattle.hack_versions.specs.declared.version.Version.{Version}
-use Rattle.hack_planner.specs.Calls.{IsInputOf, given_path}
+use Rattle.hack_planner.specs.Calls.{IsInputOf, given_path, rules_at}
 use Rattle.hack_planner.specs.InternalUses.{IsPlannedAs, IsRight, id_of}
 use Rattle.hack_planner.specs.declared.uses.Chosen.{Chosen}
 use Rattle.hack_planner.specs.InternalLeastPlaces.{AreOver, HasAtLeast, HasRunsAtLeast}
@@ -29,13 +29,13 @@ use Rattle.hack_planner.proofs.UseLemmas.{packages-of}
 
 -- a package of at least so many runs, as it may stand in a plan
 pub planned-at_least : (cx : ContextRecord) (one : Chosen) (least : ℕ) (pkg : PackageRecord) (features : Features) → package_at cx (id_of one) ≡ Some pkg → features_at cx (id_of one) ≡ Some features
-    → IsTrue one.is_used → HasRunsAtLeast cx.args pkg features least → HasAtLeast cx one least
+    → IsTrue one.is_used → HasRunsAtLeast (rules_at cx pkg features) pkg features least → HasAtLeast cx one least
 planned-at_least cx one least pkg features known loaded used h = record {
   planned_as = record {
     name = pkg.name;
     manifest_path = given_path cx.args.no_manifest_path cx.current_dir (Some pkg);
     features = passed_for cx (Some (id_of one));
-    candidates = candidates cx.args features;
+    candidates = candidates (rules_at cx pkg features) features;
     runs = h.runs;
     settings = [];
   };

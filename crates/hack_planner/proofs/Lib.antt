@@ -1,5 +1,6 @@
 pub mod Growth
 pub mod CandidateLemmas
+mod PackageRuleLemmas
 pub mod KindLemmas
 pub mod PackageLemmas
 pub mod DepthLemmas

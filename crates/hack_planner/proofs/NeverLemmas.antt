@@ -32,9 +32,6 @@ pub record IsSound (cx : ContextRecord) (latest : Option Version) : Type 0 where
   pub in_range : (e : RangeFault) → ¬ IsVersionsFault input.range input latest e
   pub fits : ¬ HasTooMany input (run_counts packages) latest
 
-no-strength : {X : Type 0} {x : X} (o : Option X) → o ≡ None → o ≡ Some x → ⊥
-no-strength o e f = cc
-
 -- then no sure cause holds
 pub no-cause : (cx : ContextRecord) (latest : Option Version) → IsSound cx latest → (e : PlanFault) → ¬ IsSureCause cx latest e
 no-cause cx latest h fault.Memory bad = bad
@@ -45,7 +42,7 @@ no-cause cx latest h (fault.Range e) bad =
     let ids = chosen-once cx bad.ids h.ids bad.chosen h.chosen in
     let agree = inputs-agree cx h.ids bad.input h.input (subst (λ l. IsInputOf cx l bad.input) ids bad.of_call) h.of_call in
     h.in_range e (fault-same bad.input h.input agree latest e bad.bad)
-no-cause cx latest h (fault.TooManyQuestions name tally) both = no-strength cx.args.strength both.0 both.1.wide.3.wide.given
+no-cause cx latest h (fault.TooManyQuestions name tally) bad = bad
 no-cause cx latest h fault.TooManyRuns both =
     let bad = both.1 in
     let ids = chosen-once cx bad.ids h.ids bad.chosen h.chosen in

@@ -26,8 +26,9 @@ use Rattle.hack_plan.specs.View.{PackageView}
 use Rattle.hack_versions.specs.declared.group.PackageVersion.{PackageVersion}
 use Rattle.hack_versions.specs.declared.version.Version.{Version}
 use Rattle.hack_plan.specs.Inputs.{IsStepList}
-use Rattle.hack_planner.specs.Calls.{IsMember, IsInputOf, IsPackageOf, IsUsed, UsesSome}
-use Rattle.hack_planner.specs.CallPlan.{run_counts}
+use Rattle.hack_planner.specs.Calls.{IsMember, IsInputOf, IsPackageOf, IsUsed, UsesSome, rules_at}
+use Rattle.hack_planner.specs.CallPlan.{HaveNoStrength, run_counts}
+use Rattle.hack_planner.specs.PackageRules.{PackageRulesRecord}
 use Rattle.hack_planner.proofs.InputLemmas.{AgreeInputs, AreAlike, map-alike, steps-same, zip-alike}
 use Rattle.hack_planner.proofs.PlanLemmas.{zip-weaker}
 use Rattle.hack_planner.proofs.UseLemmas.{own-once, package-moved}
@@ -115,14 +116,14 @@ ordered-once (x ∷ xs) (y ∷ ys) ox oy f g =
 listing-once : (n : ℕ) (P : List ℕ → Type 0) (xs ys : List (List ℕ)) → IsListing n P xs → IsListing n P ys → xs ≡ ys
 listing-once n P xs ys h k = ordered-once xs ys h.ordered k.ordered (λ s c. (k.exact s).1 ((h.exact s).0 c)) (λ s c. (h.exact s).1 ((k.exact s).0 c))
 
-sets-once : (b : Bool) (w : Args) (p : PackageRecord) (f : Features) (xs ys : List (List ℕ)) → w.strength ≡ None → AreSets b w p f xs → AreSets b w p f ys → xs ≡ ys
+sets-once : (b : Bool) (w : PackageRulesRecord) (p : PackageRecord) (f : Features) (xs ys : List (List ℕ)) → w.strength ≡ None → AreSets b w p f xs → AreSets b w p f ys → xs ≡ ys
 sets-once true w p f xs ys all h k =
     let c = package_choice w p f in
     let n = length (candidates w f) in
     listing-once n (IsListed c) xs ys (subst (λ o. ArePowersets o c n xs) all h) (subst (λ o. ArePowersets o c n ys) all k)
 sets-once false w p f xs ys all h k = h ∙ sym k
 
-runs-once : (b : Bool) (w : Args) (p : PackageRecord) (f : Features) (xs ys : List PackageRun) → w.strength ≡ None → MatchBool b (AreSetRuns w p f xs) (xs ≡ Plain ∷ []) → MatchBool b (AreSetRuns w p f ys) (ys ≡ Plain ∷ []) → xs ≡ ys
+runs-once : (b : Bool) (w : PackageRulesRecord) (p : PackageRecord) (f : Features) (xs ys : List PackageRun) → w.strength ≡ None → MatchBool b (AreSetRuns w p f xs) (xs ≡ Plain ∷ []) → MatchBool b (AreSetRuns w p f ys) (ys ≡ Plain ∷ []) → xs ≡ ys
 runs-once true w p f xs ys all h k = h.made ∙ ap (runs_from (options_of w f)) (sets-once w.feature_powerset w p f h.sets k.sets all h.are_sets k.are_sets) ∙ sym k.made
 runs-once false w p f xs ys all h k = h ∙ sym k
 
@@ -135,19 +136,20 @@ not-apart m n h =
     ]
 
 -- a package has one number of runs
-package-once : (cx : ContextRecord) → cx.args.strength ≡ None → (s : PlanInput) (latest : Option Version) (id : ℕ) (k l : PackageView) → IsPackageOf cx s latest id k → IsPackageOf cx s latest id l → length k.runs ≡ length l.runs
+package-once : (cx : ContextRecord) → HaveNoStrength cx → (s : PlanInput) (latest : Option Version) (id : ℕ) (k l : PackageView) → IsPackageOf cx s latest id k → IsPackageOf cx s latest id l → length k.runs ≡ length l.runs
 package-once cx all s latest id k l a b =
     let pkg = same_Some a.pkg b.pkg (sym a.known ∙ b.known) in
     let features = same_Some a.features b.features (sym a.loaded ∙ b.loaded) in
     let many = λ (rs : List PackageRun). length rs in
     let used : IsUsed cx s latest id → length k.runs ≡ length l.runs = λ u.
-    let runs = subst (λ q. AreRuns cx.args q b.features k.runs) pkg (subst (λ f. AreRuns cx.args a.pkg f k.runs) features (a.runs u)) in
-    ap many (runs-once (cx.args.each_feature || cx.args.feature_powerset) cx.args b.pkg b.features k.runs l.runs all runs (b.runs u)) in
+    let w = rules_at cx b.pkg b.features in
+    let runs = subst (λ q. AreRuns (rules_at cx q b.features) q b.features k.runs) pkg (subst (λ f. AreRuns (rules_at cx a.pkg f) a.pkg f k.runs) features (a.runs u)) in
+    ap many (runs-once (w.each_feature || w.feature_powerset) w b.pkg b.features k.runs l.runs (all id b.pkg b.features b.known b.loaded) runs (b.runs u)) in
     let unused : ¬ IsUsed cx s latest id → length k.runs ≡ length l.runs = λ none. ap many ((a.unused none).1 ∙ sym (b.unused none).1) in
     not-apart (length k.runs) (length l.runs) (λ apart. apart (unused (λ u. apart (used u))))
 
 -- the number of runs of each chosen package is determined, where there are no samples
-pub counts-once : (cx : ContextRecord) → cx.args.strength ≡ None → (s : PlanInput) (latest : Option Version) (ids : List ℕ) (packages others : List PackageView) → AllZip (IsPackageOf cx s latest) ids packages → AllZip (IsPackageOf cx s latest) ids others
+pub counts-once : (cx : ContextRecord) → HaveNoStrength cx → (s : PlanInput) (latest : Option Version) (ids : List ℕ) (packages others : List PackageView) → AllZip (IsPackageOf cx s latest) ids packages → AllZip (IsPackageOf cx s latest) ids others
     → run_counts packages ≡ run_counts others
 counts-once cx all s latest ids packages others h k =
     map-alike (λ (p q : PackageView). length p.runs ≡ length q.runs) (λ p. length p.runs) (λ p q e. e) packages others

@@ -4,7 +4,7 @@ use Rattle.std.specs.Prelude.{IsSomeAnd, IsTrue, ◌↔◌, slice_get}
 use Rattle.std.specs.List.{AllZip}
 use Rattle.std.proofs.lemmas.Option.{slice_get-map, slice_get_read, get_or_from_slice_get}
 use Rattle.hack_planner.specs.Kinds.{package_choice}
-use Rattle.hack_words.specs.declared.cli.args.Args.{Args}
+use Rattle.hack_planner.specs.PackageRules.{PackageRulesRecord}
 use Rattle.hack_features.specs.Rules.{IsWanted}
 use Rattle.hack_features.specs.Sets.{IsSelection}
 use Rattle.hack_load.specs.Contexts.{ContextRecord}
@@ -24,13 +24,14 @@ use Rattle.hack_plan.specs.View.{PackageView, PlanView}
 use Rattle.hack_versions.specs.declared.version.Version.{Version}
 use Rattle.hack_base.specs.Notes.{Note}
 use Rattle.hack_rules.specs.declared.uses.behavior.WorkspaceBehavior.TheVariants.{Cargo}
-use Rattle.hack_planner.specs.Calls.{IsCoveredIn}
+use Rattle.hack_planner.specs.Calls.{IsCoveredIn, rules_at}
 use Rattle.hack_planner.specs.CallPlan.{HasJustRuns, IsPlan, run_counts}
 use Rattle.hack_planner.specs.CoveredSets.{AreCovered, HoldsCover}
+use Rattle.hack_planner.proofs.PackageRuleLemmas.{at-place}
 use Rattle.hack_planner.proofs.UseLemmas.{used-at, zip-at}
 
 -- the candidates of a kind are those of its package, or none where the package has a plain run alone
-pub of-kind : (w : Args) (p : PackageRecord) (f : Features) (kind : Kind) (groups : List (List Name)) (runs : List PackageRun) → groups ≡ candidates_in kind → runs ≡ runs_of kind → IsKind w p f kind → (groups ≡ candidates w f) ⊎ ((groups ≡ []) × (runs ≡ Plain ∷ []))
+pub of-kind : (w : PackageRulesRecord) (p : PackageRecord) (f : Features) (kind : Kind) (groups : List (List Name)) (runs : List PackageRun) → groups ≡ candidates_in kind → runs ≡ runs_of kind → IsKind w p f kind → (groups ≡ candidates w f) ⊎ ((groups ≡ []) × (runs ≡ Plain ∷ []))
 of-kind w p f Normal groups runs g r h = inr (g, r)
 of-kind w p f (Each list sets) groups runs g r h = inl (g ∙ h.2)
 of-kind w p f (Powerset list sets) groups runs g r h = inl (g ∙ h.1)
@@ -59,8 +60,8 @@ below-count packages place rank k at lt =
 -- where a package's runs cover its sets, the plan does
 cover-at : (cx : ContextRecord) (latest : Option Version) (plan : PlanView) (h : HasJustRuns cx latest plan) → h.input.as_cargo ≡ false
     → (place id : ℕ) (p : PackageRecord) (features : Features) (version : Option Version) (slot : ℕ) (s : List ℕ) → UsesVersion h.input.range h.input h.places.0 version place → slot < slots_of h.input version
-    → (k : PackageView) → slice_get plan.packages place ≡ Some k → AreCovering cx.args p features k.runs
-    → IsSelection (length (candidates cx.args features)) s → IsWanted (package_choice cx.args p features) s → HoldsCover plan version slot place (package_choice cx.args p features) s
+    → (k : PackageView) → slice_get plan.packages place ≡ Some k → AreCovering (rules_at cx p features) p features k.runs
+    → IsSelection (length (candidates (rules_at cx p features) features)) s → IsWanted (package_choice (rules_at cx p features) p features) s → HoldsCover plan version slot place (package_choice (rules_at cx p features) p features) s
 cover-at cx latest plan h each place id p features version slot s uses within k at covering selection wanted =
     let cover = covering s selection wanted in
     let rank = cover.2.0 in
@@ -75,8 +76,8 @@ cover-at cx latest plan h each place id p features version slot s uses within k 
     }
 
 -- under a powerset a plan covers the sets of its packages
-pub covers : (cx : ContextRecord) (rustup : List ℕ) (latest : Option Version) (plan : PlanView) (notes : List Note) → IsPlan cx rustup latest plan notes → cx.args.feature_powerset ≡ true → cx.args.strength ≡ None → ¬ (cx.args.workspace_behavior ≡ Cargo) → AreCovered cx latest plan
-covers cx rustup latest plan notes h powerset all each =
+pub covers : (cx : ContextRecord) (rustup : List ℕ) (latest : Option Version) (plan : PlanView) (notes : List Note) → IsPlan cx rustup latest plan notes → cx.args.feature_powerset ≡ true → ¬ (cx.args.workspace_behavior ≡ Cargo) → AreCovered cx latest plan
+covers cx rustup latest plan notes h powerset each =
     let base = h.performed.base in
     record {
       ids = base.ids;
@@ -85,11 +86,9 @@ covers cx rustup latest plan notes h powerset all each =
       chosen = base.chosen;
       of_call = base.of_call;
       on_steps = base.places.1;
-      covered = λ place id p features version slot s at known loaded uses within selection wanted.
+      covered = λ place id p features version slot s at known loaded uses within all selection wanted.
           let m = zip-at (IsCoveredIn cx base.input latest) base.ids plan.packages place id h.covered at in
           let used = used-at cx base.ids base.input latest base.places.0 version place id base.of_call at base.places.1 uses in
-          let same_p = same_some m.2.pkg p (sym m.2.known ∙ known) in
-          let same_f = same_some m.2.features features (sym m.2.loaded ∙ loaded) in
-          let covering = subst (λ q. AreCovering cx.args q features m.0.runs) same_p (subst (λ f. AreCovering cx.args m.2.pkg f m.0.runs) same_f (m.2.covered used powerset all)) in
+          let covering = at-place cx id (λ q f. (rules_at cx q f).strength ≡ None → AreCovering (rules_at cx q f) q f m.0.runs) m.2.pkg p m.2.features features m.2.known m.2.loaded known loaded (m.2.covered used powerset) all in
           cover-at cx latest plan base (not-all base.input.as_cargo _ base.of_call.as_cargo each) place id p features version slot s uses within m.0 m.1 covering selection wanted;
     }

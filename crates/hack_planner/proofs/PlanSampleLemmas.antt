@@ -1,11 +1,11 @@
 -- The samples of a plan's packages.
-use Rattle.std.proofs.Common.{◌≡◌, ◌≢◌, refl, sym, ap, subst, ◌∙◌, ℕ, ◌<◌, List, [], ◌∷◌, ◌⊎◌, inl, inr, length, get_or, map, true, false, Option, Some, All, Contains, IsTrue}
+use Rattle.std.proofs.Common.{◌≡◌, ◌≢◌, refl, sym, ap, subst, ◌∙◌, ℕ, ◌<◌, List, [], ◌∷◌, ◌⊎◌, inl, inr, length, get_or, map, true, false, Option, None, Some, All, Contains, IsTrue}
 use Rattle.std.specs.Prelude.{IsSomeAnd, slice_get, ◌||◌}
 use Rattle.std.proofs.lemmas.List.{get_or_default}
 use Rattle.std.proofs.lemmas.List.Elements.{All-contains, Contains-get_or}
 use Rattle.std.proofs.lemmas.Option.{slice_get_read}
 use Rattle.std.specs.Bool.{MatchBool}
-use Rattle.hack_words.specs.declared.cli.args.Args.{Args}
+use Rattle.hack_planner.specs.PackageRules.{PackageRulesRecord}
 use Rattle.hack_base.proofs.Members.{Contains-cons_cases, Contains-head, Contains-tail, Contains-nil, Contains-map}
 use Rattle.hack_features.specs.Rules.{IsListed}
 use Rattle.hack_features.specs.Samples.{IsNeeded, SetShows}
@@ -29,21 +29,22 @@ use Rattle.hack_plan.specs.declared.versions.PlanInput.{PlanInput}
 use Rattle.hack_plan.specs.View.{PackageView, PlanView}
 use Rattle.hack_versions.specs.declared.version.Version.{Version}
 use Rattle.hack_rules.specs.declared.uses.behavior.WorkspaceBehavior.TheVariants.{Cargo}
-use Rattle.hack_planner.specs.Calls.{IsInputOf, IsPackageOf, IsUsed}
+use Rattle.hack_planner.specs.Calls.{IsInputOf, IsPackageOf, IsUsed, rules_at}
 use Rattle.hack_planner.specs.InternalUses.{IsRight, id_of}
 use Rattle.hack_planner.specs.declared.uses.Chosen.{Chosen}
 use Rattle.hack_planner.specs.Internal.{SaysNoSample, HasRunsFault}
 use Rattle.hack_planner.specs.CallPlan.{HasJustRuns, IsCause, run_counts}
 use Rattle.hack_planner.specs.Powersets.{run_sets_of}
-use Rattle.hack_planner.specs.Samples.{IsSampleOf, HaveSamples, HoldsPattern, ArePatternsHeld}
+use Rattle.hack_planner.specs.Samples.{IsSampleOf, HasSample, HaveSamples, HoldsPattern, ArePatternsHeld}
 use Rattle.hack_planner.specs.declared.fault.PlanFault.{PlanFault}
 use Rattle.hack_planner.specs.declared.fault.PlanFault.TheVariants as fault
-use Rattle.hack_planner.proofs.PlanLemmas.{below-count, not-all, same_some, zip-weaker}
+use Rattle.hack_planner.proofs.PackageRuleLemmas.{powerset-asked, runs-at as package-runs}
+use Rattle.hack_planner.proofs.PlanLemmas.{below-count, not-all, zip-weaker}
 use Rattle.hack_planner.proofs.UseLemmas.{used-at, zip-at}
 use Rattle.hack_planner.proofs.PowersetLemmas.{apart, apart-turned, from-turned, in-turned, or-true, sets_of-runs}
 
 -- a package whose runs have too many questions has no sample
-pub no-sample : (w : Args) (p : PackageRecord) (f : Features) (used : Type 0) (tally : Tally) (e : RunsFault) → e ≡ questions.TooManyQuestions tally → (e ≡ questions.Memory) ⊎ (used × IsNotSampled w p f e) → used × IsUnsampled w p f tally
+pub no-sample : (w : PackageRulesRecord) (p : PackageRecord) (f : Features) (used : Type 0) (tally : Tally) (e : RunsFault) → e ≡ questions.TooManyQuestions tally → (e ≡ questions.Memory) ⊎ (used × IsNotSampled w p f e) → used × IsUnsampled w p f tally
 no-sample w p f used tally e is (inl m) = absurd (cc)
 no-sample w p f used tally e is (inr h) = (h.0, subst (IsNotSampled w p f) is h.1)
 
@@ -75,7 +76,7 @@ sample-cause cx s latest chosen fault.TooManyRuns are of_call right (inl e) = ab
 sample-cause cx s latest chosen fault.TooManyRuns are of_call right (inr bad) = absurd bad.3
 
 -- the sets of a package's runs under a strength
-sample : (w : Args) (p : PackageRecord) (f : Features) (strength : ℕ) (runs : List PackageRun) → w.feature_powerset ≡ true → w.strength ≡ Some strength → AreRuns w p f runs → IsSampleOf (package_choice w p f) strength runs
+sample : (w : PackageRulesRecord) (p : PackageRecord) (f : Features) (strength : ℕ) (runs : List PackageRun) → w.feature_powerset ≡ true → w.strength ≡ Some strength → AreRuns w p f runs → IsSampleOf (package_choice w p f) strength runs
 sample w p f strength runs is given made =
     let c = package_choice w p f in
     let n = length (candidates w f) in
@@ -100,20 +101,21 @@ sample w p f strength runs is given made =
           record { pattern = need.pattern; few = need.few; shows = need.shows; alone = λ u there shows. need.alone u (back u there) shows };
     }
 
--- with a strength each chosen package of a plan has a sample
-pub samples : (cx : ContextRecord) (latest : Option Version) (plan : PlanView) (strength : ℕ) → HasJustRuns cx latest plan
-    → cx.args.feature_powerset ≡ true → cx.args.strength ≡ Some strength → HaveSamples cx strength latest plan
-samples cx latest plan strength h is given = record {
+sample-by : (w : PackageRulesRecord) (p : PackageRecord) (f : Features) (runs : List PackageRun) (strength : Option ℕ) → w.strength ≡ strength → w.feature_powerset ≡ true → AreRuns w p f runs → HasSample strength (package_choice w p f) runs
+sample-by w p f runs None given is made = tt
+sample-by w p f runs (Some strength) given is made = sample w p f strength runs is given made
+
+-- each chosen package of a plan with a strength has a sample
+pub samples : (cx : ContextRecord) (latest : Option Version) (plan : PlanView) → HasJustRuns cx latest plan → cx.args.feature_powerset ≡ true → HaveSamples cx latest plan
+samples cx latest plan h is = record {
   ids = h.ids;
   input = h.input;
   chosen = h.chosen;
   of_call = h.of_call;
-  each = zip-weaker (IsPackageOf cx h.input latest) (λ (id : ℕ) (k : PackageView). IsUsed cx h.input latest id → (p : PackageRecord) (f : Features) → package_at cx id ≡ Some p → features_at cx id ≡ Some f → IsSampleOf (package_choice cx.args p f) strength k.runs)
+  each = zip-weaker (IsPackageOf cx h.input latest) (λ (id : ℕ) (k : PackageView). IsUsed cx h.input latest id → (p : PackageRecord) (f : Features) → package_at cx id ≡ Some p → features_at cx id ≡ Some f → HasSample (rules_at cx p f).strength (package_choice (rules_at cx p f) p f) k.runs)
       (λ id k m used p f known loaded.
-      let same_p = same_some m.pkg p (sym m.known ∙ known) in
-      let same_f = same_some m.features f (sym m.loaded ∙ loaded) in
-      let runs = subst (λ q. AreRuns cx.args q f k.runs) same_p (subst (λ g. AreRuns cx.args m.pkg g k.runs) same_f (m.runs used)) in
-      sample cx.args p f strength k.runs is given runs)
+      let w = rules_at cx p f in
+      sample-by w p f k.runs w.strength refl (powerset-asked cx p f ∙ is) (package-runs cx (IsUsed cx h.input latest id) id k p f known loaded m used))
       h.ids plan.packages h.packages;
 }
 
@@ -132,8 +134,8 @@ in-runs (Set t ∷ runs) s c =
 -- where a package's sample shows a pattern, the plan does
 pattern-at : (cx : ContextRecord) (latest : Option Version) (plan : PlanView) (h : HasJustRuns cx latest plan) → h.input.as_cargo ≡ false
     → (place : ℕ) (p : PackageRecord) (features : Features) (version : Option Version) (slot : ℕ) (pattern : List Setting) → UsesVersion h.input.range h.input h.places.0 version place → slot < slots_of h.input version
-    → (k : PackageView) → slice_get plan.packages place ≡ Some k → (s : List ℕ) → Contains (run_sets_of k.runs) s → SetShows (package_choice cx.args p features) pattern s
-    → HoldsPattern plan version slot place (package_choice cx.args p features) pattern
+    → (k : PackageView) → slice_get plan.packages place ≡ Some k → (s : List ℕ) → Contains (run_sets_of k.runs) s → SetShows (package_choice (rules_at cx p features) p features) pattern s
+    → HoldsPattern plan version slot place (package_choice (rules_at cx p features) p features) pattern
 pattern-at cx latest plan h each place p features version slot pattern uses within k at s there shows =
     let run = in-runs k.runs s there in
     let rank = run.0 in
@@ -147,22 +149,20 @@ pattern-at cx latest plan h each place p features version slot pattern uses with
       shows = shows;
     }
 
--- with a strength a plan holds a place for each pattern
-pub patterns : (cx : ContextRecord) (latest : Option Version) (plan : PlanView) (strength : ℕ) → HasJustRuns cx latest plan
-    → cx.args.feature_powerset ≡ true → cx.args.strength ≡ Some strength → ¬ (cx.args.workspace_behavior ≡ Cargo) → ArePatternsHeld cx strength latest plan
-patterns cx latest plan strength h is given each = record {
+-- a plan holds a place for each pattern of a package with a strength
+pub patterns : (cx : ContextRecord) (latest : Option Version) (plan : PlanView) → HasJustRuns cx latest plan
+    → cx.args.feature_powerset ≡ true → ¬ (cx.args.workspace_behavior ≡ Cargo) → ArePatternsHeld cx latest plan
+patterns cx latest plan h is each = record {
   ids = h.ids;
   input = h.input;
   steps = h.places.0;
   chosen = h.chosen;
   of_call = h.of_call;
   on_steps = h.places.1;
-  held = λ place id p features version slot pattern s at known loaded uses within few selection listed shows.
+  held = λ strength place id p features version slot pattern s at known loaded uses within given few selection listed shows.
       let m = zip-at (IsPackageOf cx h.input latest) h.ids plan.packages place id h.packages at in
       let used = used-at cx h.ids h.input latest h.places.0 version place id h.of_call at h.places.1 uses in
-      let same_p = same_some m.2.pkg p (sym m.2.known ∙ known) in
-      let same_f = same_some m.2.features features (sym m.2.loaded ∙ loaded) in
-      let runs = subst (λ q. AreRuns cx.args q features m.0.runs) same_p (subst (λ f. AreRuns cx.args m.2.pkg f m.0.runs) same_f (m.2.runs used)) in
-      let by = (sample cx.args p features strength m.0.runs is given runs).covers pattern few s selection listed shows in
+      let runs = package-runs cx (IsUsed cx h.input latest id) id m.0 p features known loaded m.2 used in
+      let by = (sample (rules_at cx p features) p features strength m.0.runs (powerset-asked cx p features ∙ is) given runs).covers pattern few s selection listed shows in
       pattern-at cx latest plan h (not-all h.input.as_cargo _ h.of_call.as_cargo each) place p features version slot pattern uses within m.0 m.1 by.0 by.1 by.2;
 }

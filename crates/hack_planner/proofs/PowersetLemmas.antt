@@ -5,7 +5,7 @@ use Rattle.std.proofs.lemmas.Bool.{eqb-true}
 use Rattle.std.proofs.lemmas.List.{take-append-drop, get_or_append_left, get_or-append-add, length-append}
 use Rattle.std.proofs.lemmas.List.Elements.{All-append, All-cons, All-head, All-tail, Contains-append_left, Contains-append_right, Contains-append_cases, filter_map-append}
 use Rattle.std.specs.Bool.{MatchBool}
-use Rattle.hack_words.specs.declared.cli.args.Args.{Args}
+use Rattle.hack_planner.specs.PackageRules.{PackageRulesRecord}
 use Rattle.hack_features.specs.Sets.{IsBefore, Pairwise}
 use Rattle.hack_load.specs.Contexts.{ContextRecord, package_at, features_at}
 use Rattle.hack_load.specs.declared.features.Features.{Features}
@@ -18,10 +18,11 @@ use Rattle.hack_plan.specs.RunsView.{with_last_first}
 use Rattle.hack_plan.specs.declared.runs.RunOptions.{RunOptions}
 use Rattle.hack_plan.specs.View.{PackageView, PlanView}
 use Rattle.hack_versions.specs.declared.version.Version.{Version}
-use Rattle.hack_planner.specs.Calls.{IsPackageOf, IsUsed}
+use Rattle.hack_planner.specs.Calls.{IsPackageOf, IsUsed, rules_at}
 use Rattle.hack_planner.specs.CallPlan.{HasJustRuns}
-use Rattle.hack_planner.specs.Powersets.{HavePowersets, IsPowerset, set_of, run_sets_of}
-use Rattle.hack_planner.proofs.PlanLemmas.{same_some, zip-weaker}
+use Rattle.hack_planner.specs.Powersets.{HavePowersets, HasPowerset, IsPowerset, set_of, run_sets_of}
+use Rattle.hack_planner.proofs.PackageRuleLemmas.{powerset-asked, runs-at}
+use Rattle.hack_planner.proofs.PlanLemmas.{zip-weaker}
 
 all-front : {X : Type 0} (P : X → Type 0) (xs ys : List X) → All P (xs ++ ys) → All P xs
 all-front P xs ys h = λ k d l. subst P (get_or_append_left xs ys d k l) (h k d (omega (arith, l, length-append xs ys)))
@@ -118,7 +119,7 @@ or-true true = refl
 or-true false = refl
 
 -- the runs of a package under a powerset
-powerset : (w : Args) (p : PackageRecord) (f : Features) (runs : List PackageRun) → w.feature_powerset ≡ true → w.strength ≡ None → AreRuns w p f runs → IsPowerset (package_choice w p f) runs
+powerset : (w : PackageRulesRecord) (p : PackageRecord) (f : Features) (runs : List PackageRun) → w.feature_powerset ≡ true → w.strength ≡ None → AreRuns w p f runs → IsPowerset (package_choice w p f) runs
 powerset w p f runs is all made =
     let asked = ap (λ b. w.each_feature || b) is ∙ or-true w.each_feature in
     let h : AreSetRuns w p f runs = subst (λ b. MatchBool b (AreSetRuns w p f runs) (runs ≡ Plain ∷ [])) asked made in
@@ -134,18 +135,20 @@ powerset w p f runs is all made =
       once = subst (Pairwise (λ s t. s ≢ t)) (sym same) (apart-turned sets.0 h.sets (apart h.sets listing.ordered));
     }
 
--- under a powerset each chosen package of a plan has its powerset
-pub powersets : (cx : ContextRecord) (latest : Option Version) (plan : PlanView) → HasJustRuns cx latest plan → cx.args.feature_powerset ≡ true → cx.args.strength ≡ None → HavePowersets cx latest plan
-powersets cx latest plan h is all = record {
+powerset-by : (w : PackageRulesRecord) (p : PackageRecord) (f : Features) (runs : List PackageRun) (strength : Option ℕ) → w.strength ≡ strength → w.feature_powerset ≡ true → AreRuns w p f runs → HasPowerset strength (package_choice w p f) runs
+powerset-by w p f runs None all is made = powerset w p f runs is all made
+powerset-by w p f runs (Some strength) all is made = tt
+
+-- under a powerset each chosen package of a plan without a strength has its powerset
+pub powersets : (cx : ContextRecord) (latest : Option Version) (plan : PlanView) → HasJustRuns cx latest plan → cx.args.feature_powerset ≡ true → HavePowersets cx latest plan
+powersets cx latest plan h is = record {
   ids = h.ids;
   input = h.input;
   chosen = h.chosen;
   of_call = h.of_call;
-  each = zip-weaker (IsPackageOf cx h.input latest) (λ (id : ℕ) (k : PackageView). IsUsed cx h.input latest id → (p : PackageRecord) (f : Features) → package_at cx id ≡ Some p → features_at cx id ≡ Some f → IsPowerset (package_choice cx.args p f) k.runs)
+  each = zip-weaker (IsPackageOf cx h.input latest) (λ (id : ℕ) (k : PackageView). IsUsed cx h.input latest id → (p : PackageRecord) (f : Features) → package_at cx id ≡ Some p → features_at cx id ≡ Some f → HasPowerset (rules_at cx p f).strength (package_choice (rules_at cx p f) p f) k.runs)
       (λ id k m used p f known loaded.
-      let same_p = same_some m.pkg p (sym m.known ∙ known) in
-      let same_f = same_some m.features f (sym m.loaded ∙ loaded) in
-      let runs = subst (λ q. AreRuns cx.args q f k.runs) same_p (subst (λ g. AreRuns cx.args m.pkg g k.runs) same_f (m.runs used)) in
-      powerset cx.args p f k.runs is all runs)
+      let w = rules_at cx p f in
+      powerset-by w p f k.runs w.strength refl (powerset-asked cx p f ∙ is) (runs-at cx (IsUsed cx h.input latest id) id k p f known loaded m used))
       h.ids plan.packages h.packages;
 }

@@ -4,7 +4,7 @@ use Rattle.std.specs.List.{AllZip}
 use Rattle.hack_planner.specs.Kinds.{package_choice}
 use Rattle.hack_load.specs.declared.features.Features.{Features}
 use Rattle.hack_metadata.specs.Records.{PackageRecord}
-use Rattle.hack_words.specs.declared.cli.args.Args.{Args}
+use Rattle.hack_planner.specs.PackageRules.{PackageRulesRecord}
 use Rattle.hack_features.specs.Rules.{Choice}
 use Rattle.hack_plan.specs.Runs.{PackageRun}
 use Rattle.hack_planner.specs.declared.fault.RunsFault.{RunsFault}
@@ -20,7 +20,7 @@ is-given None some = absurd (cc)
 is-given (Some strength) some = (strength, refl)
 
 -- an error of rules of the package, which were asked as many questions as they may, is one of the package
-pub tired : (w : Args) (p : PackageRecord) (f : Features) (asked : Rules) (e : RunsFault) → choice_of asked ≡ kinds.package_choice w p f → (e ≡ fault.Memory) ⊎ IsRefused w (questions_asked asked) e → (e ≡ fault.Memory) ⊎ IsRunsFault w p f e
+pub tired : (w : PackageRulesRecord) (p : PackageRecord) (f : Features) (asked : Rules) (e : RunsFault) → choice_of asked ≡ kinds.package_choice w p f → (e ≡ fault.Memory) ⊎ IsRefused w (questions_asked asked) e → (e ≡ fault.Memory) ⊎ IsRunsFault w p f e
 tired w p f asked fault.Memory made_for h = inl refl
 tired w p f asked (fault.TooManyQuestions tally) made_for (inl e) = absurd (cc)
 tired w p f asked (fault.TooManyQuestions tally) made_for (inr up) =
@@ -28,7 +28,7 @@ tired w p f asked (fault.TooManyQuestions tally) made_for (inr up) =
     inr (record { strength = given.0; powerset = up.0; given = given.1; asked = asked; made_for = made_for; told = up.2; spent = up.2 ∙ up.3 })
 
 -- a sample that is given up is refused where it was asked for
-pub refused : (w : Args) (asked : ℕ) (e : RunsFault) → w.feature_powerset ≡ true → IsSome w.strength → IsGivenUp asked e → (e ≡ fault.Memory) ⊎ IsRefused w asked e
+pub refused : (w : PackageRulesRecord) (asked : ℕ) (e : RunsFault) → w.feature_powerset ≡ true → IsSome w.strength → IsGivenUp asked e → (e ≡ fault.Memory) ⊎ IsRefused w asked e
 refused w asked fault.Memory powerset given up = inl refl
 refused w asked (fault.TooManyQuestions tally) powerset given up = inr (powerset, given, up.0, up.1)
 

@@ -5,7 +5,9 @@ use Rattle.std.specs.declared.alloc.Global.{Global}
 use Rattle.std.specs.List.{AllZip, flat_map}
 use Rattle.hack_base.specs.Names.{Name}
 use Rattle.hack_features.specs.declared.tally.Tally.{Tally}
-use Rattle.hack_load.specs.Contexts.{ContextRecord}
+use Rattle.hack_load.specs.Contexts.{ContextRecord, package_at, features_at}
+use Rattle.hack_load.specs.declared.features.Features.{Features}
+use Rattle.hack_metadata.specs.Records.{PackageRecord}
 use Rattle.hack_planner.specs.ContextMembers.{AreChosen, AreChoiceNotes, IsChoiceFault}
 use Rattle.hack_versions.specs.declared.version.Version.{Version}
 use Rattle.hack_versions.specs.declared.version.VersionFault.{VersionFault}
@@ -16,7 +18,7 @@ use Rattle.hack_plan.specs.Inputs.{AreVersions, AreNotices, IsVersionsFault}
 use Rattle.hack_plan.specs.Spans.{AreSpans, AreTiled, versions_of}
 use Rattle.hack_plan.specs.declared.versions.PlanInput.{PlanInput}
 use Rattle.hack_versions.specs.declared.group.VersionGroup.{VersionGroup}
-use Rattle.hack_planner.specs.Calls.{IsInputOf, IsPackageOf, IsCoveredIn, IsUsed, HasBadOwn, HasNoSample, call_of, candidate_notes_at, left_out_notes}
+use Rattle.hack_planner.specs.Calls.{IsInputOf, IsPackageOf, IsCoveredIn, IsUsed, HasBadOwn, HasNoSample, call_of, candidate_notes_at, left_out_notes, rules_at}
 use Rattle.hack_plan.specs.Prepared.{ArePrepared, span_of}
 use Rattle.hack_plan.specs.View.{PackageView, PlanView}
 use Rattle.hack_planner.specs.declared.fault.PlanFault.{PlanFault}
@@ -134,6 +136,11 @@ IsCause cx latest (fault.Range e) = IsBadRange cx latest e
 IsCause cx latest (fault.TooManyQuestions name tally) = IsTooWide cx latest (string_bytes name) tally
 IsCause cx latest fault.TooManyRuns = AreTooManyRuns cx latest
 
+-- no package has a strength
+abbrev pub HaveNoStrength : ContextRecord → Type 0
+HaveNoStrength cx = (id : ℕ) (p : PackageRecord) (f : Features)
+    → package_at cx id ≡ Some p → features_at cx id ≡ Some f → (rules_at cx p f).strength ≡ None
+
 -- the causes that leave no plan, whatever samples are found: with a strength another sample could have too many runs, or need
 -- too many questions
 abbrev pub IsSureCause : ContextRecord → Option Version → PlanFault → Type 0
@@ -142,8 +149,8 @@ IsSureCause cx latest (fault.Stable text) = ⊥
 IsSureCause cx latest (fault.Packages e) = IsChoiceFault cx e
 IsSureCause cx latest (fault.Version e) = IsBadVersion cx e
 IsSureCause cx latest (fault.Range e) = IsBadRange cx latest e
-IsSureCause cx latest (fault.TooManyQuestions name tally) = (cx.args.strength ≡ None) × IsTooWide cx latest (string_bytes name) tally
-IsSureCause cx latest fault.TooManyRuns = (cx.args.strength ≡ None) × AreTooManyRuns cx latest
+IsSureCause cx latest (fault.TooManyQuestions name tally) = ⊥
+IsSureCause cx latest fault.TooManyRuns = HaveNoStrength cx × AreTooManyRuns cx latest
 
 -- the causes, given the answer for `stable`: its error, or one of the causes above
 abbrev pub IsCauseBy : Result (Option Version) (String Global) → ContextRecord → PlanFault → Type 0

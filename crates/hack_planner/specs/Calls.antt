@@ -21,10 +21,15 @@ use Rattle.hack_versions.specs.VersionUses.{UsesBy}
 use Rattle.hack_rules.specs.declared.uses.behavior.WorkspaceBehavior.TheVariants.{Cargo}
 use Rattle.hack_planner.specs.Candidates.{candidates, candidate_notes}
 use Rattle.hack_planner.specs.Kinds.{AreRuns, AreCovering, AreRunSettings, IsUnsampled, package_choice}
+use Rattle.hack_planner.specs.PackageRules.{PackageRulesRecord, call_rules}
 use Rattle.hack_plan.specs.Runs.{Plain}
 use Rattle.hack_plan.specs.Inputs.{IsStepList, slots_of}
 use Rattle.hack_plan.specs.declared.versions.PlanInput.{PlanInput}
 use Rattle.hack_plan.specs.View.{CallView, PackageView}
+
+-- the rules of a package of the call
+abbrev pub rules_at : ContextRecord → PackageRecord → Features → PackageRulesRecord
+rules_at cx p f = call_rules cx.args p.name
 
 -- the path of a package's manifest as a command is given it; none where commands get none
 abbrev pub given_path : Bool → Name → Option PackageRecord → Option Name
@@ -93,7 +98,7 @@ pub record HasNoSampleAt (cx : ContextRecord) (id : ℕ) (name : Name) (tally : 
   pub known : package_at cx id ≡ Some pkg
   pub loaded : features_at cx id ≡ Some features
   pub called : name ≡ pkg.name
-  pub wide : IsUnsampled cx.args pkg features tally
+  pub wide : IsUnsampled (rules_at cx pkg features) pkg features tally
 
 -- one of the packages that are used, of this name, has no sample
 abbrev pub HasNoSample : ContextRecord → (ℕ → Type 0) → List ℕ → Name → Tally → Type 0
@@ -109,9 +114,9 @@ pub record IsChosenPackage (cx : ContextRecord) (used : Type 0) (id : ℕ) (k : 
   pub name : k.name ≡ pkg.name
   pub path : k.manifest_path ≡ given_path cx.args.no_manifest_path cx.current_dir (Some pkg)
   pub given : k.features ≡ passed_for cx (Some id)
-  pub candidates : (k.candidates ≡ candidates cx.args features)
+  pub candidates : (k.candidates ≡ candidates (rules_at cx pkg features) features)
       ⊎ ((k.candidates ≡ []) × (k.runs ≡ Plain ∷ []))
-  pub runs : used → AreRuns cx.args pkg features k.runs
+  pub runs : used → AreRuns (rules_at cx pkg features) pkg features k.runs
   pub unused : ¬ used → (k.candidates ≡ []) × (k.runs ≡ Plain ∷ [])
 
 -- under a powerset without a strength the runs of a chosen package that is used cover each set that
@@ -121,10 +126,11 @@ pub record HasCoverage (cx : ContextRecord) (used : Type 0) (id : ℕ) (k : Pack
   pub features : Features
   pub known : package_at cx id ≡ Some pkg
   pub loaded : features_at cx id ≡ Some features
-  pub covered : used → cx.args.feature_powerset ≡ true → cx.args.strength ≡ None
-      → AreCovering cx.args pkg features k.runs
-  pub settings : used
-      → AreRunSettings cx.args.strength (package_choice cx.args pkg features) k.runs k.settings
+  pub covered : used → cx.args.feature_powerset ≡ true
+      → (rules_at cx pkg features).strength ≡ None
+      → AreCovering (rules_at cx pkg features) pkg features k.runs
+  pub settings : used → AreRunSettings (rules_at cx pkg features).strength
+      (package_choice (rules_at cx pkg features) pkg features) k.runs k.settings
   pub unused : ¬ used → k.settings ≡ []
 
 -- the same, where a package is used if it uses a version of this input
@@ -137,7 +143,7 @@ IsCoveredIn cx s latest id k = HasCoverage cx (IsUsed cx s latest id) id k
 -- the notices on the features of a package
 abbrev pub candidate_notes_at : ContextRecord → Bool → ℕ → List Note
 candidate_notes_at cx single id = option_map_or
-    (λ p. option_map_or (candidate_notes single cx.args p.name) (features_at cx id) [])
+    (λ p. option_map_or (candidate_notes single (call_rules cx.args p.name) p.name) (features_at cx id) [])
     (package_at cx id) []
 
 -- the notices on features that a version's packages don't get, for each slot

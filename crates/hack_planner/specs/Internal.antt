@@ -12,7 +12,7 @@ use Rattle.hack_planner.specs.declared.fault.RunsFault.{RunsFault}
 use Rattle.hack_planner.specs.declared.fault.RunsFault.TheVariants as runs
 use Rattle.hack_planner.specs.Kinds.{most_questions}
 use Rattle.hack_planner.specs.declared.uses.Chosen.{Chosen}
-use Rattle.hack_words.specs.declared.cli.args.Args.{Args}
+use Rattle.hack_planner.specs.PackageRules.{PackageRulesRecord}
 use Rattle.hack_features.specs.View.{asked_in}
 use Rattle.hack_features.specs.Sets.{IsListing}
 use Rattle.hack_features.specs.Rules.{Choice, IsListed}
@@ -73,7 +73,7 @@ IsGivenUp asked runs.Memory = Unit {0}
 IsGivenUp asked (runs.TooManyQuestions tally) = (asked_in tally ≡ asked) × (asked ≡ most_questions)
 
 -- the error says that a sample was asked for and given up after just as many questions as were asked of these rules
-abbrev pub IsRefused : Args → ℕ → RunsFault → Type 0
-IsRefused args asked runs.Memory = ⊥
-IsRefused args asked (runs.TooManyQuestions tally) = (args.feature_powerset ≡ true) × IsSome args.strength
+abbrev pub IsRefused : PackageRulesRecord → ℕ → RunsFault → Type 0
+IsRefused r asked runs.Memory = ⊥
+IsRefused r asked (runs.TooManyQuestions tally) = (r.feature_powerset ≡ true) × IsSome r.strength
     × (asked_in tally ≡ asked) × (asked ≡ most_questions)

@@ -10,7 +10,7 @@ use Rattle.hack_plan.specs.Runs.{PackageRun}
 use Rattle.hack_plan.specs.View.{PackageView}
 use Rattle.hack_plan.specs.declared.versions.PlanInput.{PlanInput}
 use Rattle.hack_versions.specs.declared.version.Version.{Version}
-use Rattle.hack_words.specs.declared.cli.args.Args.{Args}
+use Rattle.hack_planner.specs.PackageRules.{PackageRulesRecord}
 use Rattle.hack_planner.specs.Internal.{ListsAtLeast}
 use Rattle.hack_planner.specs.InternalUses.{IsPlannedAs}
 use Rattle.hack_planner.specs.Kinds.{AreRuns}
@@ -18,16 +18,16 @@ use Rattle.hack_planner.specs.declared.least_places.Limit.{Limit}
 use Rattle.hack_planner.specs.declared.uses.Chosen.{Chosen}
 
 -- the listed sets of a choice of n candidates give at least so many runs
-pub record GivesAtLeast (args : Args) (c : Choice) (n least : ℕ) : Type 0 where
+pub record GivesAtLeast (r : PackageRulesRecord) (c : Choice) (n least : ℕ) : Type 0 where
   pub sets : ℕ
   pub lists : ListsAtLeast c n sets
-  pub most : least ≤ sets + cond args.exclude_no_default_features 0 1
+  pub most : least ≤ sets + cond r.exclude_no_default_features 0 1
   pub none : sets ≡ 0 → least ≡ 0
 
 -- the runs of the package are at least so many
-pub record HasRunsAtLeast (args : Args) (p : PackageRecord) (f : Features) (least : ℕ) : Type 0 where
+pub record HasRunsAtLeast (r : PackageRulesRecord) (p : PackageRecord) (f : Features) (least : ℕ) : Type 0 where
   pub runs : List PackageRun
-  pub are_runs : AreRuns args p f runs
+  pub are_runs : AreRuns r p f runs
   pub enough : least ≤ length runs
 
 -- the chosen package has at least so many runs in a plan

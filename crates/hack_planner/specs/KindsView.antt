@@ -8,8 +8,8 @@ use Rattle.hack_planner.specs.declared.kind.Kind.TheVariants.{Normal, Each, Powe
 use Rattle.hack_base.specs.Names.{Name}
 use Rattle.hack_load.specs.declared.features.Features.{Features}
 use Rattle.hack_metadata.specs.Records.{PackageRecord}
-use Rattle.hack_words.specs.declared.cli.args.Args.{Args}
 use Rattle.hack_planner.specs.Candidates.{candidates}
+use Rattle.hack_planner.specs.PackageRules.{PackageRulesRecord}
 use Rattle.hack_planner.specs.Kinds.{HasPlainRun, HasSetRuns, IsUnsampled}
 use Rattle.hack_planner.specs.declared.fault.RunsFault.{RunsFault}
 use Rattle.hack_planner.specs.declared.fault.RunsFault.TheVariants.{Memory, TooManyQuestions}
@@ -27,14 +27,14 @@ candidates_in (Each list runs) = groups_of list.items
 candidates_in (Powerset list runs) = groups_of list.items
 
 -- the kind of a package: its plain run alone, each candidate, or sets of them
-abbrev pub IsKind : Args → PackageRecord → Features → Kind → Type 0
-IsKind args p f Normal = HasPlainRun args p f
-IsKind args p f (Each list runs) = (args.each_feature ≡ true) × (args.feature_powerset ≡ false)
-    × (groups_of list.items ≡ candidates args f) × HasSetRuns args p f (runs_in runs)
-IsKind args p f (Powerset list runs) = (args.feature_powerset ≡ true)
-    × (groups_of list.items ≡ candidates args f) × HasSetRuns args p f (runs_in runs)
+abbrev pub IsKind : PackageRulesRecord → PackageRecord → Features → Kind → Type 0
+IsKind r p f Normal = HasPlainRun r p f
+IsKind r p f (Each list runs) = (r.each_feature ≡ true) × (r.feature_powerset ≡ false)
+    × (groups_of list.items ≡ candidates r f) × HasSetRuns r p f (runs_in runs)
+IsKind r p f (Powerset list runs) = (r.feature_powerset ≡ true)
+    × (groups_of list.items ≡ candidates r f) × HasSetRuns r p f (runs_in runs)
 
 -- why a package has no runs, if memory isn't refused: its sample needs too many questions
-abbrev pub IsRunsFault : Args → PackageRecord → Features → RunsFault → Type 0
-IsRunsFault args p f Memory = ⊥
-IsRunsFault args p f (TooManyQuestions tally) = IsUnsampled args p f tally
+abbrev pub IsRunsFault : PackageRulesRecord → PackageRecord → Features → RunsFault → Type 0
+IsRunsFault r p f Memory = ⊥
+IsRunsFault r p f (TooManyQuestions tally) = IsUnsampled r p f tally

@@ -4,9 +4,11 @@ pub mod MemberNotes
 pub mod MembersView
 pub mod InternalListingView
 pub mod PackagesView
+pub mod PackageRules
 pub mod Candidates
 pub mod Kinds
 pub mod KindsView
+pub mod PackageRunsView
 pub mod InternalKinds
 pub mod ContextMembers
 pub mod Calls

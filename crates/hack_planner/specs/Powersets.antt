@@ -6,7 +6,7 @@ use Rattle.hack_features.specs.Sets.{IsSelection, Pairwise}
 use Rattle.hack_load.specs.Contexts.{ContextRecord, package_at, features_at}
 use Rattle.hack_load.specs.declared.features.Features.{Features}
 use Rattle.hack_metadata.specs.Records.{PackageRecord}
-use Rattle.hack_planner.specs.Calls.{IsInputOf, IsUsed}
+use Rattle.hack_planner.specs.Calls.{IsInputOf, IsUsed, rules_at}
 use Rattle.hack_planner.specs.ContextMembers.{AreChosen}
 use Rattle.hack_plan.specs.Runs.{PackageRun, Set}
 use Rattle.hack_plan.specs.View.{PlanView}
@@ -28,16 +28,24 @@ pub record IsPowerset (choice : Choice) (runs : List PackageRun) : Type 0 where
   pub exact : (s : List ℕ) → Contains (run_sets_of runs) s ↔ (IsSelection (length choice.candidates) s × IsListed choice s)
   pub once : Pairwise (λ s t. s ≢ t) (run_sets_of runs)
 
--- the plan has exactly the chosen packages, and P holds of what each one's sets are chosen from and of its runs, where it uses a
--- version
-pub record HoldsOfEach (cx : ContextRecord) (latest : Option Version) (plan : PlanView) (P : Choice → List PackageRun → Type 0) : Type 0 where
+-- the plan has exactly the chosen packages, and P holds of each one's strength, of what its sets are
+-- chosen from and of its runs, where it uses a version
+pub record HoldsOfEach (cx : ContextRecord) (latest : Option Version) (plan : PlanView)
+    (P : Option ℕ → Choice → List PackageRun → Type 0) : Type 0 where
   pub ids : List ℕ
   pub input : PlanInput
   pub chosen : AreChosen cx ids
   pub of_call : IsInputOf cx ids input
-  pub each : AllZip (λ id k. IsUsed cx input latest id → (p : PackageRecord) (f : Features) → package_at cx id ≡ Some p
-      → features_at cx id ≡ Some f → P (package_choice cx.args p f) k.runs) ids plan.packages
+  pub each : AllZip (λ id k. IsUsed cx input latest id → (p : PackageRecord) (f : Features)
+      → package_at cx id ≡ Some p → features_at cx id ≡ Some f
+      → P (rules_at cx p f).strength (package_choice (rules_at cx p f) p f) k.runs) ids plan.packages
 
--- the plan has exactly the chosen packages, and the runs of each that uses a version have its powerset
+-- without a strength the runs have the powerset
+abbrev pub HasPowerset : Option ℕ → Choice → List PackageRun → Type 0
+HasPowerset None choice runs = IsPowerset choice runs
+HasPowerset (Some strength) choice runs = Unit {0}
+
+-- the plan has exactly the chosen packages, and the runs of each that uses a version and has no
+-- strength have its powerset
 abbrev pub HavePowersets : ContextRecord → Option Version → PlanView → Type 0
-HavePowersets cx latest plan = HoldsOfEach cx latest plan IsPowerset
+HavePowersets cx latest plan = HoldsOfEach cx latest plan HasPowerset

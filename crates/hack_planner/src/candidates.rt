@@ -20,8 +20,10 @@ ghost use Rattle.hack_planner.specs.Candidates.{candidates as candidates_of, can
 ghost use Rattle.hack_planner.specs.Candidates.{feature_notes as notes_on_features};
 ghost use Rattle.hack_planner.specs.Candidates.{dependency_notes as notes_on_dependencies};
 ghost use Rattle.hack_planner.specs.Candidates.{group_notes as notes_on_groups};
+ghost use Rattle.hack_planner.specs.PackageRules.{call_rules, rules_in};
 
 use crate::notes::{dependency_text, feature_text, group_text};
+use crate::package_rules::PackageRules;
 use hack_base::copies::copies;
 use hack_base::notice::{Notice, NoticeKind, tell};
 use hack_features::Feature;
@@ -67,18 +69,18 @@ fn shares_name(others: &[String], names: &[String]) -> bool
 }
 
 /// Whether the name is excluded or in a group, so that it is no candidate by itself.
-fn is_taken(args: &Args, name: &str) -> bool
-    ensures { result ≡ taken_by args.now name.now }
+fn is_taken(asked: &PackageRules, name: &str) -> bool
+    ensures { result ≡ taken_by (rules_in asked.now) name.now }
 {
-    has_name(&args.exclude_features, name) || one_has(&args.group_features, name)
+    has_name(&asked.exclude_features, name) || one_has(&asked.group_features, name)
 }
 
 /// Whether the feature stays a candidate by itself.
-fn stays(args: &Args, feature: &Feature) -> bool
-    ensures { result ≡ stays_for args.now (group_of feature.now) }
+fn stays(asked: &PackageRules, feature: &Feature) -> bool
+    ensures { result ≡ stays_for (rules_in asked.now) (group_of feature.now) }
 {
     for name in feature.as_group() {
-        if is_taken(args, name.as_str()) {
+        if is_taken(asked, name.as_str()) {
             return false;
         }
     }
@@ -86,12 +88,12 @@ fn stays(args: &Args, feature: &Feature) -> bool
 }
 
 /// Whether `--optional-deps` asks for the optional dependency: it has its name, or no names at all.
-fn is_asked(args: &Args, feature: &Feature) -> bool
-    ensures { result ≡ asked_by args.now (group_of feature.now) }
+fn is_asked(asked: &PackageRules, feature: &Feature) -> bool
+    ensures { result ≡ asked_by (rules_in asked.now) (group_of feature.now) }
 {
-    match &args.optional_deps {
+    match &asked.optional_deps {
         None => false,
-        Some(asked) => asked.is_empty() || shares_name(asked, feature.as_group()),
+        Some(names) => names.is_empty() || shares_name(names, feature.as_group()),
     }
 }
 
@@ -117,16 +119,15 @@ fn are_known(features: &Features, names: &[String]) -> bool
 
 /// Whether the group is applied to the package. It isn't if it has an unknown name and
 /// `--ignore-unknown-features` is given.
-fn applies(args: &Args, features: &Features, group: &Feature) -> bool
-    ensures { result ≡ applied_to args.now features.now
-        (group_of
-        group.now) }
+fn applies(ignores_unknown: bool, features: &Features, group: &Feature) -> bool
+    ensures { result ≡ (not ignores_unknown || list_all (known_to features.now)
+        (group_of group.now)) }
 {
-    !args.ignore_unknown_features || are_known(features, group.as_group())
+    !ignores_unknown || are_known(features, group.as_group())
 }
 
 /// A copy of the feature.
-fn copy_feature(alloc: Global, feature: &Feature) -> Result<Feature, AllocError>
+pub(crate) fn copy_feature(alloc: Global, feature: &Feature) -> Result<Feature, AllocError>
     ensures { IfOk result (λ copy. group_of copy ≡ group_of feature.now) }
 {
     match feature {
@@ -145,7 +146,7 @@ fn copy_feature(alloc: Global, feature: &Feature) -> Result<Feature, AllocError>
 }
 
 /// Adds a copy of the feature to the others, if `taken` is true.
-fn add_if(
+pub(crate) fn add_if(
     alloc: Global,
     found: &mut Vec<Feature>,
     feature: &Feature,
@@ -161,33 +162,33 @@ fn add_if(
 }
 
 /// Whether the feature is wanted and stays a candidate by itself.
-fn stays_if(args: &Args, feature: &Feature, wanted: bool) -> bool
-    ensures { result ≡ (wanted && stays_for args.now (group_of feature.now)) }
+fn stays_if(asked: &PackageRules, feature: &Feature, wanted: bool) -> bool
+    ensures { result ≡ (wanted && stays_for (rules_in asked.now) (group_of feature.now)) }
 {
-    wanted && stays(args, feature)
+    wanted && stays(asked, feature)
 }
 
 /// Whether the optional dependency is asked for, and stays a candidate by itself.
-fn is_offered(args: &Args, feature: &Feature) -> bool
-    ensures { result ≡ (asked_by args.now (group_of feature.now)
-        && stays_for args.now (group_of feature.now)) }
+fn is_offered(asked: &PackageRules, feature: &Feature) -> bool
+    ensures { result ≡ (asked_by (rules_in asked.now) (group_of feature.now)
+        && stays_for (rules_in asked.now) (group_of feature.now)) }
 {
-    is_asked(args, feature) && stays(args, feature)
+    is_asked(asked, feature) && stays(asked, feature)
 }
 
 /// The features that stay candidates by themselves; none if `wanted` is false.
 fn staying_features(
     alloc: Global,
-    args: &Args,
+    asked: &PackageRules,
     features: &[Feature],
     wanted: bool,
 ) -> Result<Vec<Feature>, AllocError>
     ensures { IfOk result (λ found. groups_of found.items
-        ≡ filter (λ names. wanted && stays_for args.now names) (groups_of features.now)) }
+        ≡ filter (λ names. wanted && stays_for (rules_in asked.now) names) (groups_of features.now)) }
 {
     let mut found = Vec::new(alloc);
     for feature in features {
-        let taken = stays_if(args, feature, wanted);
+        let taken = stays_if(asked, feature, wanted);
         add_if(alloc, &mut found, feature, taken)?;
     }
     Ok(found)
@@ -196,16 +197,16 @@ fn staying_features(
 /// The optional dependencies that are asked for and stay candidates by themselves.
 fn asked_dependencies(
     alloc: Global,
-    args: &Args,
+    asked: &PackageRules,
     features: &[Feature],
 ) -> Result<Vec<Feature>, AllocError>
     ensures { IfOk result (λ found. groups_of found.items
-        ≡ filter (λ names. asked_by args.now names
-        && stays_for args.now names) (groups_of features.now)) }
+        ≡ filter (λ names. asked_by (rules_in asked.now) names
+        && stays_for (rules_in asked.now) names) (groups_of features.now)) }
 {
     let mut found = Vec::new(alloc);
     for feature in features {
-        let taken = is_offered(args, feature);
+        let taken = is_offered(asked, feature);
         add_if(alloc, &mut found, feature, taken)?;
     }
     Ok(found)
@@ -214,16 +215,16 @@ fn asked_dependencies(
 /// The groups that are applied to the package.
 fn applied_groups(
     alloc: Global,
-    args: &Args,
+    asked: &PackageRules,
     features: &Features,
 ) -> Result<Vec<Feature>, AllocError>
     ensures { IfOk result (λ found. groups_of found.items
-        ≡ filter (applied_to args.now features.now)
-        (groups_of args.now.group_features.items)) }
+        ≡ filter (applied_to (rules_in asked.now) features.now)
+        (groups_of asked.now.group_features.items)) }
 {
     let mut found = Vec::new(alloc);
-    for group in &args.group_features {
-        let taken = applies(args, features, group);
+    for group in &asked.group_features {
+        let taken = applies(asked.ignore_unknown_features, features, group);
         add_if(alloc, &mut found, group, taken)?;
     }
     Ok(found)
@@ -239,20 +240,20 @@ pub(crate) fn is_bare(features: &[Feature]) -> bool
 /// The candidates of a package: what its sets are made of.
 pub(crate) fn candidates(
     alloc: Global,
-    args: &Args,
+    asked: &PackageRules,
     features: &Features,
 ) -> Result<Vec<Feature>, AllocError>
     ensures { IfOk result (λ found. groups_of found.items
-        ≡ candidates_of args.now features.now) }
+        ≡ candidates_of (rules_in asked.now) features.now) }
 {
-    if !is_bare(&args.include_features) {
-        return staying_features(alloc, args, &args.include_features, true);
+    if !is_bare(&asked.include_features) {
+        return staying_features(alloc, asked, &asked.include_features, true);
     }
-    let mut found = staying_features(alloc, args, features.normal(), true)?;
-    let mut optional = asked_dependencies(alloc, args, features.optional_deps())?;
-    let wanted = args.include_deps_features;
-    let mut of_deps = staying_features(alloc, args, features.deps_features(), wanted)?;
-    let mut groups = applied_groups(alloc, args, features)?;
+    let mut found = staying_features(alloc, asked, features.normal(), true)?;
+    let mut optional = asked_dependencies(alloc, asked, features.optional_deps())?;
+    let wanted = asked.include_deps_features;
+    let mut of_deps = staying_features(alloc, asked, features.deps_features(), wanted)?;
+    let mut groups = applied_groups(alloc, asked, features)?;
     found.append(&mut optional)?;
     found.append(&mut of_deps)?;
     found.append(&mut groups)?;
@@ -299,7 +300,7 @@ impl About<'_> {
     /// A warning for each excluded name that the package doesn't have.
     fn feature_notes(&self, alloc: Global) -> Result<Vec<Notice>, AllocError>
         ensures { IfOk result (λ notices. map note_of notices.items ≡ notes_on_features
-            self.now.args.now (string_bytes self.now.pkg.now.name) self.now.features.now) }
+            (call_rules self.now.args.now (string_bytes self.now.pkg.now.name)) (string_bytes self.now.pkg.now.name) self.now.features.now) }
     {
         let mut notices = Vec::new(alloc);
         for name in &self.args.exclude_features {
@@ -310,10 +311,10 @@ impl About<'_> {
         Ok(notices)
     }
 
-    /// A warning for each optional dependency that is asked for and that the package doesn't have.
+    /// A warning for each optional dependency that is args for and that the package doesn't have.
     fn dependency_notes(&self, alloc: Global) -> Result<Vec<Notice>, AllocError>
         ensures { IfOk result (λ notices. map note_of notices.items ≡ notes_on_dependencies
-            self.now.args.now (string_bytes self.now.pkg.now.name) self.now.features.now) }
+            (call_rules self.now.args.now (string_bytes self.now.pkg.now.name)) (string_bytes self.now.pkg.now.name) self.now.features.now) }
     {
         let mut notices = Vec::new(alloc);
         for name in names_asked(self.args) {
@@ -327,12 +328,12 @@ impl About<'_> {
     /// A notice for each group that isn't applied to the package.
     fn group_notes(&self, alloc: Global) -> Result<Vec<Notice>, AllocError>
         ensures { IfOk result (λ notices. map note_of notices.items ≡ notes_on_groups
-            self.now.args.now (string_bytes self.now.pkg.now.name) self.now.features.now) }
+            (call_rules self.now.args.now (string_bytes self.now.pkg.now.name)) (string_bytes self.now.pkg.now.name) self.now.features.now) }
     {
         let mut notices = Vec::new(alloc);
         for group in &self.args.group_features {
             let text = group_text(alloc, group.as_group(), self.pkg.name.as_str())?;
-            let told = !applies(self.args, self.features, group);
+            let told = !applies(self.args.ignore_unknown_features, self.features, group);
             tell(&mut notices, told, NoticeKind::Info, text)?;
         }
         Ok(notices)
@@ -349,7 +350,8 @@ pub(crate) fn notes_on(
     single: bool,
 ) -> Result<Vec<Notice>, AllocError>
     ensures { IfOk result (λ notices. map note_of notices.items
-        ≡ candidate_notes single args.now (string_bytes pkg.now.name) features.now) }
+        ≡ candidate_notes single (call_rules args.now (string_bytes pkg.now.name))
+        (string_bytes pkg.now.name) features.now) }
 {
     if !args.each_feature && !args.feature_powerset {
         return Ok(Vec::new(alloc));

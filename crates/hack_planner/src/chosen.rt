@@ -18,11 +18,13 @@ ghost use Rattle.hack_planner.specs.InternalLeastPlaces.{IsOver};
 ghost use Rattle.hack_planner.specs.InternalUses.{IsCoveredAs, IsPlannedAs, id_of};
 ghost use Rattle.hack_planner.specs.Kinds.{AreCovering, AreRunSettings, package_choice};
 ghost use Rattle.hack_planner.specs.KindsView.{IsKind, IsRunsFault, candidates_in, runs_of};
+ghost use Rattle.hack_planner.specs.PackageRules.{rules_in};
 
 use crate::candidates::notes_on;
 use crate::fault::{PlanFault, RunsFault};
 use crate::kind::{Kind, kind_of};
 use crate::least_places::Limit;
+use crate::package_rules::{PackageRules, rules_of};
 use crate::uses::Chosen;
 use crate::words::given_path;
 use hack_base::copies::copies;
@@ -35,7 +37,6 @@ use hack_metadata::metadata::Package;
 use hack_plan::parts::PlanPackage;
 use hack_plan::runs::Runs;
 use hack_plan::versions::{PlanInput, Versions};
-use hack_words::cli::Args;
 use std::alloc::{AllocError, Global};
 
 /// The candidates and the runs of a kind.
@@ -54,7 +55,7 @@ fn parts_of(alloc: Global, kind: Kind) -> Result<(Vec<Feature>, Runs), AllocErro
 /// plain run, for which the plan has no place.
 fn kind_for(
     alloc: Global,
-    args: &Args,
+    asked: &PackageRules,
     one: Chosen,
     pkg: &Package,
     features: &Features,
@@ -62,24 +63,24 @@ fn kind_for(
 ) -> Result<Result<(Kind, Vec<Vec<bool>>), usize>, RunsFault>
     requires { AreVersionsOf limit.input.now limit.versions.now }
     ensures kind { IsTrue one.is_used → IfOk result (λ listed. IfOk listed (λ made.
-        IsKind args.now (package_view pkg.now) features.now made.0)) }
+        IsKind (rules_in asked.now) (package_view pkg.now) features.now made.0)) }
     ensures covered { IsTrue one.is_used → IfOk result (λ listed. IfOk listed (λ made.
-        args.now.feature_powerset ≡ true → args.now.strength ≡ None
-        → AreCovering args.now (package_view pkg.now) features.now (runs_of made.0))) }
+        asked.now.feature_powerset ≡ true → asked.now.strength ≡ None
+        → AreCovering (rules_in asked.now) (package_view pkg.now) features.now (runs_of made.0))) }
     ensures settings { IsTrue one.is_used → IfOk result (λ listed. IfOk listed (λ made.
-        AreRunSettings args.now.strength
-        (package_choice args.now (package_view pkg.now) features.now)
+        AreRunSettings asked.now.strength
+        (package_choice (rules_in asked.now) (package_view pkg.now) features.now)
         (runs_of made.0) (rows_of made.1.items))) }
     ensures unused { one.is_used ≡ false → IfOk result (λ listed. IfOk listed (λ made.
         (made.0 ≡ Kind.Normal) × (rows_of made.1.items ≡ []))) }
     ensures over { IfOk result (λ listed. IfErr listed (λ least. IsTrue one.is_used
-        × HasRunsAtLeast args.now (package_view pkg.now) features.now least
+        × HasRunsAtLeast (rules_in asked.now) (package_view pkg.now) features.now least
         × IsOver (Some limit.entry) least)) }
     ensures err { IfErr result (λ e. (e ≡ RunsFault.Memory) ⊎ (IsTrue one.is_used
-        × IsRunsFault args.now (package_view pkg.now) features.now e)) }
+        × IsRunsFault (rules_in asked.now) (package_view pkg.now) features.now e)) }
 {
     if one.is_used {
-        return kind_of(alloc, args, pkg, features, Some(limit));
+        return kind_of(alloc, asked, pkg, features, Some(limit));
     }
     Ok(Ok((Kind::Normal, Vec::new(alloc))))
 }
@@ -111,7 +112,8 @@ fn chosen_package(
     let features = cx.pkg_features(one.id);
     let pkg = cx.packages(one.id);
     let args = cx.args();
-    let (kind, settings) = match kind_for(alloc, args, one, pkg, features, limit) {
+    let asked = rules_of(alloc, cx, pkg, features)?;
+    let (kind, settings) = match kind_for(alloc, &asked, one, pkg, features, limit) {
         Ok(Ok(made)) => made,
         Ok(Err(least)) => return Ok(Err(least)),
         Err(RunsFault::Memory) => return Err(PlanFault::Memory),

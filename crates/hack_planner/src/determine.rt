@@ -9,17 +9,19 @@ ghost use Rattle.hack_metadata.specs.Records.{PackageRecord};
 ghost use Rattle.hack_base.specs.Notes.{note_of};
 ghost use Rattle.hack_planner.specs.MembersView.{member_view};
 ghost use Rattle.hack_planner.specs.Candidates.{candidate_notes};
-ghost use Rattle.hack_planner.specs.Kinds.{AreRuns, AreCovering, IsDepthOne, as_each};
-ghost use Rattle.hack_planner.specs.Kinds.{AreRunSettings, package_choice};
-ghost use Rattle.hack_samples.specs.Sets.{rows_of};
-ghost use Rattle.hack_planner.specs.KindsView.{IsKind, IsRunsFault, runs_of};
+ghost use Rattle.hack_planner.specs.Calls.{rules_at};
+ghost use Rattle.hack_planner.specs.PackageRules.{call_rules};
+ghost use Rattle.hack_planner.specs.KindsView.{IsRunsFault};
+ghost use Rattle.hack_planner.specs.PackageRunsView.{AreRunsBy};
 ghost use Rattle.hack_planner.specs.ContextMembers.{member_at, members_in};
 ghost use Rattle.hack_planner.specs.ContextMembers.{current_name as current_called};
 ghost use Rattle.hack_planner.specs.ContextMembers.{AreChosen, AreChoiceNotes, IsChoiceFault};
 
+use crate::candidates::notes_on;
 use crate::fault::{PackagesFault, RunsFault};
-use crate::kind::{PackageRuns, determine_runs};
+use crate::kind::{PackageRuns, runs_by};
 use crate::member::Member;
+use crate::package_rules::rules_of;
 use crate::packages::{PackageList, choose_packages};
 use hack_base::notice::Notice;
 use hack_load::context::Context;
@@ -105,59 +107,32 @@ pub fn determine_kind(
 ) -> Result<(PackageRuns, Vec<Notice>), RunsFault>
     requires { Contains (context_view context.now).metadata.workspace_members id.index }
     ensures id { IfOk result (λ answer. answer.0.id ≡ id) }
-    ensures kind { (p : PackageRecord) (features : Loaded)
+    ensures made { (p : PackageRecord) (features : Loaded)
         → package_at (context_view context.now) id.index ≡ Some p
         → features_at (context_view context.now) id.index ≡ Some features
         → IfOk result (λ answer.
-        IsKind (context_view context.now).args p features answer.0.kind) }
-    ensures runs { (p : PackageRecord) (features : Loaded)
-        → package_at (context_view context.now) id.index ≡ Some p
-        → features_at (context_view context.now) id.index ≡ Some features
-        → IfOk result (λ answer. AreRuns (context_view context.now).args
-        p features (runs_of answer.0.kind)) }
-
-    // Under a powerset of all sets, each set of candidates that has to be covered has a run that
-    // covers it.
-    ensures covered { (p : PackageRecord) (features : Loaded)
-        → package_at (context_view context.now) id.index ≡ Some p
-        → features_at (context_view context.now) id.index ≡ Some features
-        → (context_view context.now).args.feature_powerset ≡ true
-        → (context_view context.now).args.strength ≡ None
-        → IfOk result (λ answer. AreCovering (context_view context.now).args
-        p features (runs_of answer.0.kind)) }
-
-    // For a package with optional dependencies, a powerset of depth 1 without strength, exclusion
-    // groups and at-least-one groups has the runs of `--each-feature`.
-    ensures depth_one { (p : PackageRecord) (features : Loaded)
-        → package_at (context_view context.now) id.index ≡ Some p
-        → features_at (context_view context.now) id.index ≡ Some features
-        → IfOk result (λ answer. IsDepthOne (context_view context.now).args
-        → 0 < length features.optional_deps.items
-        → AreRuns (as_each (context_view context.now).args) p features
-        (runs_of answer.0.kind)) }
+        AreRunsBy (rules_at (context_view context.now) p features) p features answer.0) }
     ensures notices { (p : PackageRecord) (features : Loaded)
         → package_at (context_view context.now) id.index ≡ Some p
         → features_at (context_view context.now) id.index ≡ Some features
-        → IfOk result (λ answer. map note_of answer.1.items
-        ≡ candidate_notes single (context_view context.now).args p.name features) }
-
-    ensures settings { (p : PackageRecord) (features : Loaded)
-        → package_at (context_view context.now) id.index ≡ Some p
-        → features_at (context_view context.now) id.index ≡ Some features
-        → IfOk result (λ answer. AreRunSettings (context_view context.now).args.strength
-        (package_choice (context_view context.now).args p features)
-        (runs_of answer.0.kind) (rows_of answer.0.settings.items)) }
+        → IfOk result (λ answer. map note_of answer.1.items ≡ candidate_notes single
+        (call_rules (context_view context.now).args p.name) p.name features) }
 
     // The only error besides out of memory is a sample that needs too many questions.
     ensures err { (p : PackageRecord) (features : Loaded)
         → package_at (context_view context.now) id.index ≡ Some p
         → features_at (context_view context.now) id.index ≡ Some features
         → IfErr result (λ e. (e ≡ RunsFault.Memory)
-        ⊎ IsRunsFault (context_view context.now).args p features e) }
+        ⊎ IsRunsFault (rules_at (context_view context.now) p features) p features e) }
 {
     // This call promises that what was loaded fits together.
     let _ = context.workspace_members();
     let pkg = context.packages(id);
     let features = context.pkg_features(id);
-    determine_runs(alloc, context.args(), id, pkg, features, single)
+    let asked = rules_of(alloc, context, pkg, features)?;
+    let notices = notes_on(alloc, context.args(), pkg, features, single)?;
+    match runs_by(alloc, &asked, id, pkg, features) {
+        Ok(made) => Ok((made, notices)),
+        Err(fault) => Err(fault),
+    }
 }

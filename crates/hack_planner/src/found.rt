@@ -2,7 +2,7 @@
 //! run. The rules that choose among the sets are made once, and everything is asked of these.
 
 ghost use Rattle.std.specs.Prelude.{◌≡◌, ◌⊎◌, ◌==◌, [], IfErr, IfOk, None, false, true};
-ghost use Rattle.std.specs.Prelude.{IfSome, IsSome, length, string_bytes};
+ghost use Rattle.std.specs.Prelude.{IfSome, IsSome, length};
 ghost use Rattle.std.specs.List.{AllZip};
 ghost use Rattle.std.specs.Option.{option_map_or};
 ghost use Rattle.hack_features.specs.Feature.{groups_of, candidates_of};
@@ -16,24 +16,24 @@ ghost use Rattle.hack_plan.specs.Inputs.{AreVersionsOf};
 ghost use Rattle.hack_plan.specs.Runs.{run_of};
 ghost use Rattle.hack_plan.specs.RunsView.{runs_in};
 ghost use Rattle.hack_samples.specs.Sets.{rows_of};
-ghost use Rattle.hack_planner.specs.Candidates.{candidates as are_candidates, lifted_for};
+ghost use Rattle.hack_planner.specs.Candidates.{candidates as are_candidates};
 ghost use Rattle.hack_planner.specs.Internal.{IsGivenUp, IsRefused};
 ghost use Rattle.hack_planner.specs.InternalKinds.{AreMade, IsMadeOf};
 ghost use Rattle.hack_planner.specs.InternalLeastPlaces.{HasRunsAtLeast, IsOver};
 ghost use Rattle.hack_planner.specs.Kinds.{AreRunSettings, AreSetsBy, IsRowOf, options_of};
 ghost use Rattle.hack_planner.specs.Kinds.{package_choice};
 ghost use Rattle.hack_planner.specs.KindsView.{IsRunsFault};
+ghost use Rattle.hack_planner.specs.PackageRules.{rules_in};
 
 use crate::candidates::is_bare;
 use crate::fault::RunsFault;
 use crate::least_places::{Limit, too_many};
-use crate::lifts::lifted_groups;
+use crate::package_rules::PackageRules;
 use hack_features::{Feature, FeatureSets, Rules, SampleFault};
 use hack_load::features::Features;
 use hack_metadata::metadata::Package;
 use hack_plan::runs::{Run, RunOptions, Runs};
 use hack_samples::Allowed;
-use hack_words::cli::Args;
 use std::alloc::{AllocError, Global};
 
 /// What comes of a package's candidates: its runs, before the candidates are put to them.
@@ -50,33 +50,32 @@ pub(crate) struct Found {
 /// and they pass it. Then no set is listed.
 pub(crate) fn found_among(
     alloc: Global,
-    args: &Args,
+    asked: &PackageRules,
     pkg: &Package,
     features: &Features,
     candidates: &[Feature],
     limit: Option<Limit<'_>>,
 ) -> Result<Result<Found, usize>, RunsFault>
-    requires candidates { groups_of candidates.now ≡ are_candidates args.now features.now }
+    requires candidates { groups_of candidates.now ≡ are_candidates (rules_in asked.now) features.now }
     requires versions { IfSome limit (λ l. AreVersionsOf l.input.now l.versions.now) }
-    ensures made { IfOk result (λ listed. IfOk listed (λ found. AreMade args.now features.now
-        (package_choice args.now (package_view pkg.now) features.now)
-        (length (are_candidates args.now features.now)) (runs_in found.runs) found.is_plain
+    ensures made { IfOk result (λ listed. IfOk listed (λ found. AreMade (rules_in asked.now) features.now
+        (package_choice (rules_in asked.now) (package_view pkg.now) features.now)
+        (length (are_candidates (rules_in asked.now) features.now)) (runs_in found.runs) found.is_plain
         (rows_of found.settings.items))) }
     ensures over { IfOk result (λ listed. IfErr listed (λ least.
-        HasRunsAtLeast args.now (package_view pkg.now) features.now least
+        HasRunsAtLeast (rules_in asked.now) (package_view pkg.now) features.now least
         × IsOver limit.entry least)) }
     ensures err { IfErr result (λ e. (e ≡ RunsFault.Memory)
-        ⊎ IsRunsFault args.now (package_view pkg.now) features.now e) }
+        ⊎ IsRunsFault (rules_in asked.now) (package_view pkg.now) features.now e) }
 {
-    if !args.feature_powerset && args.strength.is_none() {
-        return Ok(Ok(each_alone(alloc, args, features, candidates.len())?));
+    if !asked.feature_powerset && asked.strength.is_none() {
+        return Ok(Ok(each_alone(alloc, asked, features, candidates.len())?));
     }
-    let lifted = lifted_groups(alloc, args, pkg.name.as_str())?;
     let all = all_of(alloc, candidates)?;
-    let mut rules = rules_of(alloc, args, pkg, all.as_slice(), lifted.as_slice())?;
-    match too_many(alloc, args, &mut rules, limit)? {
+    let mut rules = rules_of(alloc, asked, pkg, all.as_slice())?;
+    match too_many(alloc, asked, &mut rules, limit)? {
         Some(least) => Ok(Err(least)),
-        None => Ok(Ok(by_rules(alloc, args, features, &mut rules)?)),
+        None => Ok(Ok(by_rules(alloc, asked, features, &mut rules)?)),
     }
 }
 
@@ -94,27 +93,25 @@ fn all_of<'a>(alloc: Global, features: &'a [Feature]) -> Result<Vec<&'a Feature>
 /// The rules of the package; `all` has references to all its candidates.
 fn rules_of<'a>(
     alloc: Global,
-    args: &'a Args,
+    asked: &'a PackageRules,
     pkg: &'a Package,
     all: &'a [&'a Feature],
-    lifted: &'a [bool],
 ) -> Result<Rules<'a>, AllocError>
     ensures choice { (features : Loaded)
-        → candidates_of all.now ≡ are_candidates args.now features
-        → lifted.now ≡ lifted_for args.now (string_bytes pkg.now.name)
+        → candidates_of all.now ≡ are_candidates (rules_in asked.now) features
         → IfOk result (λ rules. rules_choice rules
-        ≡ package_choice args.now (package_view pkg.now) features) }
+        ≡ package_choice (rules_in asked.now) (package_view pkg.now) features) }
     ensures size { IfOk result (λ rules. size_of rules ≡ length all.now) }
     ensures fresh { IfOk result (λ rules. questions_asked rules ≡ 0) }
 {
     Rules::new(
         alloc,
         all,
-        args.depth,
-        args.at_least_one_of.as_slice(),
-        args.mutually_exclusive_features.as_slice(),
+        asked.depth,
+        asked.at_least_one_of.as_slice(),
+        asked.exclusive.as_slice(),
         &pkg.features,
-        lifted,
+        &[],
     )
 }
 
@@ -143,21 +140,21 @@ fn sample_of(alloc: Global, rules: &mut Rules, strength: usize) -> Result<Featur
 
 /// The sets that a package's rules, which nobody asked before, give it: those of a powerset, all
 /// that are listed or with a strength a sample of them; else each candidate alone.
-fn sets_of(alloc: Global, args: &Args, rules: &mut Rules) -> Result<FeatureSets, RunsFault>
-    requires { IsSome args.now.strength → questions_asked rules.old ≡ 0 }
-    ensures sets { IfOk result (λ sets. AreSetsBy args.now.feature_powerset args.now.strength
+fn sets_of(alloc: Global, asked: &PackageRules, rules: &mut Rules) -> Result<FeatureSets, RunsFault>
+    requires { IsSome asked.now.strength → questions_asked rules.old ≡ 0 }
+    ensures sets { IfOk result (λ sets. AreSetsBy asked.now.feature_powerset asked.now.strength
         (rules_choice rules.old) (size_of rules.old) (sets_in sets)) }
-    ensures covers { args.now.feature_powerset ≡ true → args.now.strength ≡ None
+    ensures covers { asked.now.feature_powerset ≡ true → asked.now.strength ≡ None
         → IfOk result (λ sets. AreCovers (rules_choice rules.old) (size_of rules.old)
         (sets_in sets)) }
     ensures err { IfErr result (λ e. (e ≡ RunsFault.Memory)
-        ⊎ IsRefused args.now (questions_asked rules.new) e) }
+        ⊎ IsRefused (rules_in asked.now) (questions_asked rules.new) e) }
     ensures same_choice { rules_choice rules.new ≡ rules_choice rules.old }
 {
-    if !args.feature_powerset {
+    if !asked.feature_powerset {
         return Ok(FeatureSets::singles(alloc, rules.positions())?);
     }
-    match args.strength {
+    match asked.strength {
         Some(strength) => sample_of(alloc, rules, strength),
         None => {
             let found = rules.listed(alloc)?;
@@ -167,46 +164,46 @@ fn sets_of(alloc: Global, args: &Args, rules: &mut Rules) -> Result<FeatureSets,
 }
 
 /// Whether `--optional-deps` is given without names.
-fn takes_all(args: &Args) -> bool
+fn takes_all(asked: &PackageRules) -> bool
     ensures { result
-        ≡ option_map_or (λ asked. length asked.items == 0) args.now.optional_deps false }
+        ≡ option_map_or (λ names. length names.items == 0) asked.now.optional_deps false }
 {
-    match &args.optional_deps {
+    match &asked.optional_deps {
         None => false,
-        Some(asked) => asked.is_empty(),
+        Some(names) => names.is_empty(),
     }
 }
 
 /// The options that decide, together with its sets, which runs a package has.
-fn options(args: &Args, features: &Features) -> RunOptions
-    ensures { result ≡ options_of args.now features.now }
+fn options(asked: &PackageRules, features: &Features) -> RunOptions
+    ensures { result ≡ options_of (rules_in asked.now) features.now }
 {
     RunOptions {
-        powerset: args.feature_powerset,
-        depth: args.depth,
+        powerset: asked.feature_powerset,
+        depth: asked.depth,
         normal: features.normal().len(),
         optional: features.optional_deps().len(),
-        all_optional_deps: takes_all(args),
-        included: !is_bare(&args.include_features),
-        exclude_all_features: args.exclude_all_features,
-        exclude_no_default_features: args.exclude_no_default_features,
+        all_optional_deps: takes_all(asked),
+        included: !is_bare(&asked.include_features),
+        exclude_all_features: asked.exclude_all_features,
+        exclude_no_default_features: asked.exclude_no_default_features,
     }
 }
 
 /// The runs of these sets, and whether they are a single plain one.
 fn runs_of_sets(
     alloc: Global,
-    args: &Args,
+    asked: &PackageRules,
     features: &Features,
     sets: FeatureSets,
 ) -> Result<(Runs, bool), AllocError>
     ensures { IfOk result (λ made.
-        IsMadeOf args.now features.now (sets_in sets) (runs_in made.0) made.1) }
+        IsMadeOf (rules_in asked.now) features.now (sets_in sets) (runs_in made.0) made.1) }
 {
-    if !args.each_feature && !args.feature_powerset {
+    if !asked.each_feature && !asked.feature_powerset {
         return Ok((Runs::plain(alloc)?, true));
     }
-    let options = options(args, features);
+    let options = options(asked, features);
     if options.is_plain(sets.len()) {
         return Ok((Runs::plain(alloc)?, true));
     }
@@ -251,14 +248,14 @@ fn rows_of_runs(alloc: Global, rules: &Rules, runs: &Runs) -> Result<Vec<Vec<boo
 /// nothing.
 fn run_settings(
     alloc: Global,
-    args: &Args,
+    asked: &PackageRules,
     rules: &Rules,
     runs: &Runs,
 ) -> Result<Vec<Vec<bool>>, AllocError>
-    ensures { IfOk result (λ rows. AreRunSettings args.now.strength (rules_choice rules.now)
+    ensures { IfOk result (λ rows. AreRunSettings asked.now.strength (rules_choice rules.now)
         (runs_in runs.now) (rows_of rows.items)) }
 {
-    if args.strength.is_none() {
+    if asked.strength.is_none() {
         return Ok(Vec::new(alloc));
     }
     rows_of_runs(alloc, rules, runs)
@@ -267,17 +264,17 @@ fn run_settings(
 /// The runs of each of so many candidates alone, among which no rule chooses.
 fn each_alone(
     alloc: Global,
-    args: &Args,
+    asked: &PackageRules,
     features: &Features,
     candidates: usize,
 ) -> Result<Found, AllocError>
-    requires each { args.now.feature_powerset ≡ false }
-    requires all { args.now.strength ≡ None }
-    ensures { (choice : Choice) → IfOk result (λ found. AreMade args.now features.now choice
+    requires each { asked.now.feature_powerset ≡ false }
+    requires all { asked.now.strength ≡ None }
+    ensures { (choice : Choice) → IfOk result (λ found. AreMade (rules_in asked.now) features.now choice
         candidates (runs_in found.runs) found.is_plain (rows_of found.settings.items)) }
 {
     let sets = FeatureSets::singles(alloc, candidates)?;
-    let (runs, is_plain) = runs_of_sets(alloc, args, features, sets)?;
+    let (runs, is_plain) = runs_of_sets(alloc, asked, features, sets)?;
     Ok(Found {
         runs,
         is_plain,
@@ -289,20 +286,20 @@ fn each_alone(
 /// their rows are both theirs. If a sample needs too many questions, the error says how many these rules were asked.
 fn by_rules(
     alloc: Global,
-    args: &Args,
+    asked: &PackageRules,
     features: &Features,
     rules: &mut Rules,
 ) -> Result<Found, RunsFault>
-    requires { IsSome args.now.strength → questions_asked rules.old ≡ 0 }
-    ensures made { IfOk result (λ found. AreMade args.now features.now (rules_choice rules.old)
+    requires { IsSome asked.now.strength → questions_asked rules.old ≡ 0 }
+    ensures made { IfOk result (λ found. AreMade (rules_in asked.now) features.now (rules_choice rules.old)
         (size_of rules.old) (runs_in found.runs) found.is_plain (rows_of found.settings.items)) }
     ensures err { IfErr result (λ e. (e ≡ RunsFault.Memory)
-        ⊎ IsRefused args.now (questions_asked rules.new) e) }
+        ⊎ IsRefused (rules_in asked.now) (questions_asked rules.new) e) }
     ensures same_choice { rules_choice rules.new ≡ rules_choice rules.old }
 {
-    let sets = sets_of(alloc, args, rules)?;
-    let (runs, is_plain) = runs_of_sets(alloc, args, features, sets)?;
-    let settings = run_settings(alloc, args, rules, &runs)?;
+    let sets = sets_of(alloc, asked, rules)?;
+    let (runs, is_plain) = runs_of_sets(alloc, asked, features, sets)?;
+    let settings = run_settings(alloc, asked, rules, &runs)?;
     Ok(Found {
         runs,
         is_plain,

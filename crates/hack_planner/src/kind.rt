@@ -9,19 +9,22 @@ ghost use Rattle.hack_plan.specs.Runs.{run_of};
 ghost use Rattle.hack_base.specs.Notes.{note_of};
 ghost use Rattle.hack_planner.specs.Candidates.{candidate_notes};
 ghost use Rattle.hack_metadata.specs.RecordViews.{package_view};
-ghost use Rattle.hack_planner.specs.Kinds.{AreRuns, AreRunSettings};
+ghost use Rattle.hack_planner.specs.Kinds.{AreRunSettings};
 ghost use Rattle.hack_plan.specs.Commands.{candidate_names_at};
-ghost use Rattle.hack_planner.specs.Kinds.{AreCovering, package_choice, IsDepthOne, as_each};
+ghost use Rattle.hack_planner.specs.Kinds.{AreCovering, package_choice};
+ghost use Rattle.hack_planner.specs.PackageRunsView.{AreRunsBy};
 ghost use Rattle.hack_samples.specs.Sets.{rows_of};
 ghost use Rattle.hack_planner.specs.InternalKinds.{kind_from as kind_made};
 ghost use Rattle.hack_planner.specs.InternalLeastPlaces.{HasRunsAtLeast, IsOver};
 ghost use Rattle.hack_planner.specs.KindsView.{IsKind, IsRunsFault, runs_of, candidates_in};
 ghost use Rattle.hack_plan.specs.Inputs.{AreVersionsOf};
+ghost use Rattle.hack_planner.specs.PackageRules.{call_rules, rules_in};
 
 use crate::candidates::{candidates, notes_on};
 use crate::fault::RunsFault;
 use crate::found::found_among;
 use crate::least_places::Limit;
+use crate::package_rules::PackageRules;
 use hack_base::notice::Notice;
 use hack_features::Feature;
 use hack_load::features::Features;
@@ -152,13 +155,13 @@ impl PackageRuns {
 }
 
 /// The kind with these candidates and runs.
-fn kind_from(args: &Args, candidates: Vec<Feature>, runs: Runs, is_plain: bool) -> Kind
-    ensures { result ≡ kind_made args.now.feature_powerset is_plain candidates runs }
+fn kind_from(asked: &PackageRules, candidates: Vec<Feature>, runs: Runs, is_plain: bool) -> Kind
+    ensures { result ≡ kind_made asked.now.feature_powerset is_plain candidates runs }
 {
     if is_plain {
         return Kind::Normal;
     }
-    if args.feature_powerset {
+    if asked.feature_powerset {
         Kind::Powerset { candidates, runs }
     } else {
         Kind::Each { candidates, runs }
@@ -169,35 +172,60 @@ fn kind_from(args: &Args, candidates: Vec<Feature>, runs: Runs, is_plain: bool) 
 /// there is a limit and they pass it.
 pub(crate) fn kind_of(
     alloc: Global,
-    args: &Args,
+    asked: &PackageRules,
     pkg: &Package,
     features: &Features,
     limit: Option<Limit<'_>>,
 ) -> Result<Result<(Kind, Vec<Vec<bool>>), usize>, RunsFault>
     requires { IfSome limit (λ l. AreVersionsOf l.input.now l.versions.now) }
     ensures kind { IfOk result (λ listed. IfOk listed (λ made.
-        IsKind args.now (package_view pkg.now) features.now made.0)) }
+        IsKind (rules_in asked.now) (package_view pkg.now) features.now made.0)) }
     ensures covered { IfOk result (λ listed. IfOk listed (λ made.
-        args.now.feature_powerset ≡ true → args.now.strength ≡ None
-        → AreCovering args.now (package_view pkg.now) features.now (runs_of made.0))) }
+        asked.now.feature_powerset ≡ true → asked.now.strength ≡ None
+        → AreCovering (rules_in asked.now) (package_view pkg.now) features.now (runs_of made.0))) }
     ensures settings { IfOk result (λ listed. IfOk listed (λ made.
-        AreRunSettings args.now.strength
-        (package_choice args.now (package_view pkg.now) features.now)
+        AreRunSettings asked.now.strength
+        (package_choice (rules_in asked.now) (package_view pkg.now) features.now)
         (runs_of made.0) (rows_of made.1.items))) }
     ensures over { IfOk result (λ listed. IfErr listed (λ least.
-        HasRunsAtLeast args.now (package_view pkg.now) features.now least
+        HasRunsAtLeast (rules_in asked.now) (package_view pkg.now) features.now least
         × IsOver limit.entry least)) }
     ensures err { IfErr result (λ e. (e ≡ RunsFault.Memory)
-        ⊎ IsRunsFault args.now (package_view pkg.now) features.now e) }
+        ⊎ IsRunsFault (rules_in asked.now) (package_view pkg.now) features.now e) }
 {
-    let candidates = candidates(alloc, args, features)?;
-    match found_among(alloc, args, pkg, features, &candidates, limit)? {
+    let candidates = candidates(alloc, asked, features)?;
+    match found_among(alloc, asked, pkg, features, &candidates, limit)? {
         Ok(found) => {
-            let kind = kind_from(args, candidates, found.runs, found.is_plain);
+            let kind = kind_from(asked, candidates, found.runs, found.is_plain);
             Ok(Ok((kind, found.settings)))
         }
         Err(least) => Ok(Err(least)),
     }
+}
+
+/// The runs that these rules give a package.
+pub(crate) fn runs_by(
+    alloc: Global,
+    asked: &PackageRules,
+    id: PackageId,
+    pkg: &Package,
+    features: &Features,
+) -> Result<PackageRuns, RunsFault>
+    ensures id { IfOk result (λ made. made.id ≡ id) }
+    ensures made { IfOk result (AreRunsBy (rules_in asked.now) (package_view pkg.now) features.now) }
+    ensures err { IfErr result (λ e. (e ≡ RunsFault.Memory)
+        ⊎ IsRunsFault (rules_in asked.now) (package_view pkg.now) features.now e) }
+{
+    let Ok((kind, settings)) = kind_of(alloc, asked, pkg, features, None)? else {
+        unreachable!()
+    };
+    let feature_count = kind.count();
+    Ok(PackageRuns {
+        id,
+        kind,
+        feature_count,
+        settings,
+    })
 }
 
 /// Returns the runs of a package, and the notices about its features. `single` says whether it is
@@ -211,46 +239,22 @@ pub fn determine_runs(
     single: bool,
 ) -> Result<(PackageRuns, Vec<Notice>), RunsFault>
     ensures id { IfOk result (λ answer. answer.0.id ≡ id) }
-    ensures kind { IfOk result (λ answer.
-        IsKind args.now (package_view pkg.now) features.now answer.0.kind) }
-    ensures runs { IfOk result (λ answer.
-        AreRuns args.now (package_view pkg.now) features.now (runs_of answer.0.kind)) }
-
-    // Under a powerset of all sets, each set of candidates that has to be covered has a run that
-    // covers it.
-    ensures covered { IfOk result (λ answer. args.now.feature_powerset ≡ true
-        → args.now.strength ≡ None
-        → AreCovering args.now (package_view pkg.now) features.now
-        (runs_of answer.0.kind)) }
-
-    // For a package with optional dependencies, a powerset of depth 1 without strength, exclusion
-    // groups and at-least-one groups has the runs of `--each-feature`.
-    ensures depth_one { IfOk result (λ answer. IsDepthOne args.now
-        → 0 < length features.now.optional_deps.items
-        → AreRuns (as_each args.now) (package_view pkg.now) features.now (runs_of
-        answer.0.kind)) }
+    ensures made { IfOk result (λ answer.
+        AreRunsBy (call_rules args.now (package_view pkg.now).name)
+        (package_view pkg.now) features.now answer.0) }
     ensures notices { IfOk result (λ answer. map note_of answer.1.items
-        ≡ candidate_notes single args.now (string_bytes pkg.now.name)
-        features.now) }
-
-    ensures settings { IfOk result (λ answer. AreRunSettings args.now.strength
-        (package_choice args.now (package_view pkg.now) features.now)
-        (runs_of answer.0.kind) (rows_of answer.0.settings.items)) }
+        ≡ candidate_notes single (call_rules args.now (package_view pkg.now).name)
+        (package_view pkg.now).name features.now) }
 
     // The only error besides out of memory is a sample that needs too many questions.
     ensures err { IfErr result (λ e. (e ≡ RunsFault.Memory)
-        ⊎ IsRunsFault args.now (package_view pkg.now) features.now e) }
+        ⊎ IsRunsFault (call_rules args.now (package_view pkg.now).name)
+        (package_view pkg.now) features.now e) }
 {
+    let asked = PackageRules::of_call(alloc, args, pkg)?;
     let notices = notes_on(alloc, args, pkg, features, single)?;
-    let Ok((kind, settings)) = kind_of(alloc, args, pkg, features, None)? else {
-        unreachable!()
-    };
-    let feature_count = kind.count();
-    let runs = PackageRuns {
-        id,
-        kind,
-        feature_count,
-        settings,
-    };
-    Ok((runs, notices))
+    match runs_by(alloc, &asked, id, pkg, features) {
+        Ok(made) => Ok((made, notices)),
+        Err(fault) => Err(fault),
+    }
 }

@@ -8,12 +8,13 @@ ghost use Rattle.hack_features.specs.Samples.{IsSame};
 ghost use Rattle.hack_features.specs.View.{choice_of, questions_asked, size_of};
 ghost use Rattle.hack_plan.specs.Inputs.{AreVersionsOf};
 ghost use Rattle.hack_planner.specs.InternalLeastPlaces.{GivesAtLeast, IsOver};
+ghost use Rattle.hack_planner.specs.PackageRules.{rules_in};
 
 use crate::least_sets::least_listed;
+use crate::package_rules::PackageRules;
 use hack_features::Rules;
 use hack_plan::places::{Places, PlacesFault};
 use hack_plan::versions::{PlanInput, Versions};
-use hack_words::cli::Args;
 use std::alloc::{AllocError, Global};
 
 /// What is known of a call when the next of its packages is looked at.
@@ -78,18 +79,18 @@ fn runs_of(sets: usize, without_features_excluded: bool) -> usize
 /// How many runs the listed sets of these rules give at least, if that is too many.
 fn least_over(
     alloc: Global,
-    args: &Args,
+    asked: &PackageRules,
     rules: &mut Rules,
     limit: Limit<'_>,
 ) -> Result<Option<usize>, AllocError>
     requires { AreVersionsOf limit.input.now limit.versions.now }
     ensures over { IfOk result (λ over. IfSome over (λ least.
-        GivesAtLeast args.now (choice_of rules.old) (size_of rules.old) least
+        GivesAtLeast (rules_in asked.now) (choice_of rules.old) (size_of rules.old) least
         × IsOver (Some limit.entry) least)) }
     ensures same { IsSame rules.old rules.new }
 {
     let sets = least_listed(alloc, rules)?;
-    let least = runs_of(sets, args.exclude_no_default_features);
+    let least = runs_of(sets, asked.exclude_no_default_features);
     if is_passed(alloc, limit, least)? {
         return Ok(Some(least));
     }
@@ -100,23 +101,23 @@ fn least_over(
 /// many. With a strength they aren't listed.
 pub(crate) fn too_many(
     alloc: Global,
-    args: &Args,
+    asked: &PackageRules,
     rules: &mut Rules,
     limit: Option<Limit<'_>>,
 ) -> Result<Option<usize>, AllocError>
     requires { IfSome limit (λ l. AreVersionsOf l.input.now l.versions.now) }
-    ensures over { IfOk result (λ over. IfSome over (λ least. (args.now.strength ≡ None)
-        × GivesAtLeast args.now (choice_of rules.old) (size_of rules.old) least
+    ensures over { IfOk result (λ over. IfSome over (λ least. (asked.now.strength ≡ None)
+        × GivesAtLeast (rules_in asked.now) (choice_of rules.old) (size_of rules.old) least
         × IsOver limit.entry least)) }
     ensures same { IsSame rules.old rules.new }
-    ensures fresh { IsSome args.now.strength
+    ensures fresh { IsSome asked.now.strength
         → questions_asked rules.new ≡ questions_asked rules.old }
 {
-    if args.strength.is_some() {
+    if asked.strength.is_some() {
         return Ok(None);
     }
     match limit {
-        Some(limit) => least_over(alloc, args, rules, limit),
+        Some(limit) => least_over(alloc, asked, rules, limit),
         None => Ok(None),
     }
 }

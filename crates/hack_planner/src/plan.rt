@@ -55,33 +55,29 @@ pub fn plan_of(
     ensures covered { (latest : Option Version) → stable ≡ Ok latest
         → IsSome (context_view cx.now).args.subcommand
         → (context_view cx.now).args.feature_powerset ≡ true
-        → (context_view cx.now).args.strength ≡ None
         → ¬ ((context_view cx.now).args.workspace_behavior ≡ Cargo)
         → IfOk result (λ answer. AreCovered (context_view cx.now) latest answer.0) }
 
-    // Under a powerset the sets of the runs of each chosen package that uses a version are exactly
-    // the listed ones, each once.
+    // Under a powerset the sets of the runs of each chosen package that uses a version and has no
+    // strength are exactly the listed ones, each once.
     ensures powersets { (latest : Option Version) → stable ≡ Ok latest
         → IsSome (context_view cx.now).args.subcommand
         → (context_view cx.now).args.feature_powerset ≡ true
-        → (context_view cx.now).args.strength ≡ None
         → IfOk result (λ answer. HavePowersets (context_view cx.now) latest answer.0) }
 
     // With a strength they are a sample of these: each of its sets is listed, and none is there
     // twice; and each pattern of at most so many candidates that some listed set shows is shown.
-    ensures samples { (strength : ℕ) (latest : Option Version) → stable ≡ Ok latest
+    ensures samples { (latest : Option Version) → stable ≡ Ok latest
         → IsSome (context_view cx.now).args.subcommand
         → (context_view cx.now).args.feature_powerset ≡ true
-        → (context_view cx.now).args.strength ≡ Some strength
-        → IfOk result (λ answer. HaveSamples (context_view cx.now) strength latest answer.0) }
+        → IfOk result (λ answer. HaveSamples (context_view cx.now) latest answer.0) }
 
     // Each such pattern has a place, for each package, each version that it uses and each slot.
-    ensures patterns { (strength : ℕ) (latest : Option Version) → stable ≡ Ok latest
+    ensures patterns { (latest : Option Version) → stable ≡ Ok latest
         → IsSome (context_view cx.now).args.subcommand
         → (context_view cx.now).args.feature_powerset ≡ true
-        → (context_view cx.now).args.strength ≡ Some strength
         → ¬ ((context_view cx.now).args.workspace_behavior ≡ Cargo)
-        → IfOk result (λ answer. ArePatternsHeld (context_view cx.now) strength latest answer.0) }
+        → IfOk result (λ answer. ArePatternsHeld (context_view cx.now) latest answer.0) }
 
     // Where a plan is returned no cause holds: the call is refused exactly where one does. (With a
     // strength the number of runs is that of the sample that was found.)
@@ -114,7 +110,6 @@ fn plan_by(
         (map note_of answer.1.items)) }
     ensures covered { (rustup : List ℕ) → call_view words ≡ call_of (context_view cx.now) rustup
         → (context_view cx.now).args.feature_powerset ≡ true
-        → (context_view cx.now).args.strength ≡ None
         → ¬ ((context_view cx.now).args.workspace_behavior ≡ Cargo)
         → IfOk result (λ answer. AreCovered (context_view cx.now) latest answer.0) }
     ensures never { IfOk result (λ _. (e : PlanFault)

@@ -4,12 +4,13 @@ use Rattle.std.specs.Prelude.{filter, ◌&&◌, ◌==◌}
 use Rattle.hack_features.specs.Feature.{group_of, groups_of}
 use Rattle.hack_base.specs.Names.{Name}
 use Rattle.hack_planner.specs.Candidates.{stays, is_asked}
+use Rattle.hack_planner.specs.PackageRules.{rules_in}
 use Rattle.hack_planner.proofs.CandidateLemmas.{four-lists}
 use Rattle.hack_planner.proofs.candidates.candidates.Goals as goal
 
 pub returns : goal.returns
 returns c =
-    let w = c.args.args.now in
+    let w = (rules_in c.args.asked.now) in
     let found = c.in_ok-found.found.items in
     let optional = c.in_ok-optional.optional.items in
     let of_deps = c.in_ok-of_deps.of_deps.items in

@@ -12,11 +12,13 @@ use Rattle.hack_planner.specs.KindsView.{IsKind, IsRunsFault, candidates_in, run
 use Rattle.hack_samples.specs.Sets.{rows_of}
 use Rattle.hack_plan.specs.RunsView.{runs_in}
 use Rattle.hack_words.specs.declared.cli.args.Args.{Args}
-use Rattle.hack_planner.specs.Calls.{given_path}
+use Rattle.hack_planner.specs.Calls.{given_path, rules_at}
+use Rattle.hack_planner.specs.PackageRules.{PackageRulesRecord, call_rules}
 use Rattle.hack_planner.specs.declared.fault.RunsFault.TheVariants.{Memory}
 use Rattle.hack_planner.proofs.KindLemmas.{runs-of_kind}
 use Rattle.hack_planner.proofs.LeastPlaceLemmas.{planned-at_least}
 use Rattle.hack_planner.proofs.NoteLemmas.{notes-at}
+use Rattle.hack_planner.proofs.PackageRuleLemmas.{powerset-asked}
 use Rattle.hack_planner.proofs.PlanLemmas.{of-kind}
 use Rattle.hack_planner.proofs.PlanSampleLemmas.{no-sample}
 use Rattle.hack_planner.proofs.UseLemmas.{not-true}
@@ -29,8 +31,8 @@ returns-clause-ok c =
     let features = c.pkg_features-features.result.now in
     let kind = c.in-Ok-Ok.made.0 in
     let parts = c.in_ok-candidates.ensures in
-    let found : IsTrue c.args.one.is_used → IsKind cx.args pkg features kind =
-    λ used. subst (λ (w : Args). IsKind w pkg features kind) c.args-args.ensures ((rw c.in-Ok-Ok.field-0-is at c.in-Ok-Ok.ensures.kind) used) in
+    let found : IsTrue c.args.one.is_used → IsKind (rules_at cx pkg features) pkg features kind =
+    λ used. subst (λ (w : PackageRulesRecord). IsKind w pkg features kind) c.in_ok-asked.ensures ((rw c.in-Ok-Ok.field-0-is at c.in-Ok-Ok.ensures.kind) used) in
     let plain : c.args.one.is_used ≡ false → (groups_of c.in_ok-candidates.candidates.items ≡ []) × (runs_in c.in_ok-candidates.runs ≡ Plain ∷ []) =
     λ unused. let e = (rw c.in-Ok-Ok.field-0-is at c.in-Ok-Ok.ensures.unused) unused in (parts.candidates ∙ ap candidates_in e.0, parts.runs ∙ ap runs_of e.0) in
     record {
@@ -44,10 +46,10 @@ returns-clause-ok c =
           ∙ ap (λ dir. given_path cx.args.no_manifest_path dir (Some pkg)) c.current_dir.ensures;
       given = c.in_ok-features.ensures ∙ ap names_behind c.as_slice.ensures.value ∙ c.in_ok-given.ensures.names;
       candidates = elim (cases_Bool c.args.one.is_used) [
-        | inl used ↦ of-kind cx.args pkg features kind (groups_of c.in_ok-candidates.candidates.items) (runs_in c.in_ok-candidates.runs) parts.candidates parts.runs (found used)
+        | inl used ↦ of-kind (rules_at cx pkg features) pkg features kind (groups_of c.in_ok-candidates.candidates.items) (runs_in c.in_ok-candidates.runs) parts.candidates parts.runs (found used)
         | inr unused ↦ inr (plain unused)
       ];
-      runs = λ used. subst (AreRuns cx.args pkg features) (sym parts.runs) (runs-of_kind cx.args pkg features kind (found used));
+      runs = λ used. subst (AreRuns (rules_at cx pkg features) pkg features) (sym parts.runs) (runs-of_kind (rules_at cx pkg features) pkg features kind (found used));
       unused = λ none. plain (not-true c.args.one.is_used none);
     }
 
@@ -57,18 +59,18 @@ returns-clause-coverage c =
     let pkg = package_view c.packages-pkg.result.now in
     let features = c.pkg_features-features.result.now in
     let made = c.in-Ok-Ok.made in
-    let same = c.args-args.ensures in
+    let same = c.in_ok-asked.ensures in
     let parts = c.in_ok-candidates.ensures in
     record {
       pkg = pkg;
       features = features;
       known = c.packages-pkg.ensures;
       loaded = c.pkg_features-features.ensures;
-      covered = λ used powerset all. subst (AreCovering cx.args pkg features) (sym parts.runs)
-          (subst (λ (w : Args). AreCovering w pkg features (runs_of made.0)) same
-          ((rw c.in-Ok-Ok.field-0-is at c.in-Ok-Ok.ensures.covered) used (ap (λ (w : Args). w.feature_powerset) same ∙ powerset) (ap (λ (w : Args). w.strength) same ∙ all)));
-      settings = λ used. subst (λ (rs : List PackageRun). AreRunSettings cx.args.strength (package_choice cx.args pkg features) rs (rows_of made.1.items)) (sym parts.runs)
-          (subst (λ (w : Args). AreRunSettings w.strength (package_choice w pkg features) (runs_of made.0) (rows_of made.1.items)) same
+      covered = λ used powerset all. subst (AreCovering (rules_at cx pkg features) pkg features) (sym parts.runs)
+          (subst (λ (w : PackageRulesRecord). AreCovering w pkg features (runs_of made.0)) same
+          ((rw c.in-Ok-Ok.field-0-is at c.in-Ok-Ok.ensures.covered) used (ap (λ (w : PackageRulesRecord). w.feature_powerset) same ∙ powerset-asked cx pkg features ∙ powerset) (ap (λ (w : PackageRulesRecord). w.strength) same ∙ all)));
+      settings = λ used. subst (λ (rs : List PackageRun). AreRunSettings (rules_at cx pkg features).strength (package_choice (rules_at cx pkg features) pkg features) rs (rows_of made.1.items)) (sym parts.runs)
+          (subst (λ (w : PackageRulesRecord). AreRunSettings w.strength (package_choice w pkg features) (runs_of made.0) (rows_of made.1.items)) same
           ((rw c.in-Ok-Ok.field-0-is at c.in-Ok-Ok.ensures.settings) used));
       unused = λ none. ((rw c.in-Ok-Ok.field-0-is at c.in-Ok-Ok.ensures.unused) (not-true c.args.one.is_used none)).1;
     }
@@ -78,7 +80,7 @@ returns-clause-notes c =
     let pkg = package_view c.packages-pkg.result.now in
     let features = c.pkg_features-features.result.now in
     c.in_ok-notices.ensures
-    ∙ ap (λ (w : Args). candidate_notes c.args.single w pkg.name features) c.args-args.ensures
+    ∙ ap (λ (a : Args). candidate_notes c.args.single (call_rules a pkg.name) pkg.name features) c.args-args.ensures
     ∙ sym (notes-at (context_view c.args.cx.now) c.args.single c.args.one.id.index pkg features c.packages-pkg.ensures c.pkg_features-features.ensures)
 
 pub returns-in-Ok-Err-clause-over : goal.returns-in-Ok-Err-clause-over
@@ -88,7 +90,7 @@ returns-in-Ok-Err-clause-over c =
     let features = c.pkg_features-features.result.now in
     let h = rw c.in-Ok-Err.field-0-is at c.in-Ok-Err.ensures.over in (
       planned-at_least cx c.args.one c.in-Ok-Err.least pkg features c.packages-pkg.ensures c.pkg_features-features.ensures h.0
-          (subst (λ (w : Args). HasRunsAtLeast w pkg features c.in-Ok-Err.least) c.args-args.ensures h.1),
+          (subst (λ (w : PackageRulesRecord). HasRunsAtLeast w pkg features c.in-Ok-Err.least) c.in_ok-asked.ensures h.1),
       h.2,
     )
 
@@ -98,8 +100,8 @@ returns-in-Err-TooManyQuestions-clause-err c =
     let pkg = package_view c.packages-pkg.result.now in
     let features = c.pkg_features-features.result.now in
     let fault = c.in-Err-TooManyQuestions.field-0 in
-    let wide = no-sample cx.args pkg features (IsTrue c.args.one.is_used) c.in-Err-TooManyQuestions.tally fault c.in-Err-TooManyQuestions.field-0-is
-    (subst (λ (w : Args). (fault ≡ Memory) ⊎ (IsTrue c.args.one.is_used × IsRunsFault w pkg features fault)) c.args-args.ensures c.in-Err-TooManyQuestions.ensures.err) in
+    let wide = no-sample (rules_at cx pkg features) pkg features (IsTrue c.args.one.is_used) c.in-Err-TooManyQuestions.tally fault c.in-Err-TooManyQuestions.field-0-is
+    (subst (λ (w : PackageRulesRecord). (fault ≡ Memory) ⊎ (IsTrue c.args.one.is_used × IsRunsFault w pkg features fault)) c.in_ok-asked.ensures c.in-Err-TooManyQuestions.ensures.err) in
     inr (
       wide.0,
       record {

@@ -1,6 +1,6 @@
 use Rattle.std.proofs.Common.{◌∙◌, List, sym, ap, subst}
 use Rattle.hack_metadata.specs.RecordViews.{package_view}
-use Rattle.hack_words.specs.declared.cli.args.Args.{Args}
+use Rattle.hack_planner.specs.PackageRules.{PackageRulesRecord, rules_in}
 use Rattle.hack_features.specs.Feature.{groups_of}
 use Rattle.hack_plan.specs.Runs.{PackageRun}
 use Rattle.hack_plan.specs.RunsView.{runs_in}
@@ -15,7 +15,7 @@ found_among-requires-clause-candidates c = ap groups_of c.deref.ensures.value �
 
 pub returns-in-Ok-clause-kind : goal.returns-in-Ok-clause-kind
 returns-in-Ok-clause-kind c =
-    let w : Args = c.args.args.now in
+    let w : PackageRulesRecord = (rules_in c.args.asked.now) in
     let p = package_view c.args.pkg.now in
     let f = c.args.features.now in
     let found = c.in-Ok.found in
@@ -23,7 +23,7 @@ returns-in-Ok-clause-kind c =
 
 pub returns-in-Ok-clause-covered : goal.returns-in-Ok-clause-covered
 returns-in-Ok-clause-covered c = λ powerset all.
-    let w : Args = c.args.args.now in
+    let w : PackageRulesRecord = (rules_in c.args.asked.now) in
     let p = package_view c.args.pkg.now in
     let f = c.args.features.now in
     let found = c.in-Ok.found in
@@ -33,7 +33,7 @@ returns-in-Ok-clause-covered c = λ powerset all.
 
 pub returns-in-Ok-clause-settings : goal.returns-in-Ok-clause-settings
 returns-in-Ok-clause-settings c =
-    let w : Args = c.args.args.now in
+    let w : PackageRulesRecord = (rules_in c.args.asked.now) in
     let p = package_view c.args.pkg.now in
     let f = c.args.features.now in
     let found = c.in-Ok.found in

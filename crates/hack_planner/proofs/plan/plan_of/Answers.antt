@@ -24,36 +24,36 @@ returns-in-Ok-clause-ok c =
     (c.plan_by.ensures.ok c.args.rustup.now c.in_ok-words.ensures)
 
 pub returns-in-Ok-clause-covered : goal.returns-in-Ok-clause-covered
-returns-in-Ok-clause-covered c = λ latest is _ powerset all each.
+returns-in-Ok-clause-covered c = λ latest is _ powerset each.
     let cx = context_view c.args.cx.now in
     let same = same-latest c.args.stable c.in-Ok.latest latest c.in-Ok.is is in
-    subst (λ v. IfOk c.plan_by.result (λ answer. AreCovered cx v answer.0)) same (c.plan_by.ensures.covered c.args.rustup.now c.in_ok-words.ensures powerset all each)
+    subst (λ v. IfOk c.plan_by.result (λ answer. AreCovered cx v answer.0)) same (c.plan_by.ensures.covered c.args.rustup.now c.in_ok-words.ensures powerset each)
 
 pub returns-in-Ok-clause-powersets : goal.returns-in-Ok-clause-powersets
-returns-in-Ok-clause-powersets c = λ latest is _ powerset all.
+returns-in-Ok-clause-powersets c = λ latest is _ powerset.
     let cx = context_view c.args.cx.now in
     let same = same-latest c.args.stable c.in-Ok.latest latest c.in-Ok.is is in
     subst (λ v. IfOk c.plan_by.result (λ answer. HavePowersets cx v answer.0)) same
     (IfOk-weaker c.plan_by.result (λ answer. IsPlan cx c.args.rustup.now c.in-Ok.latest answer.0 (map note_of answer.1.items)) (λ answer. HavePowersets cx c.in-Ok.latest answer.0)
-    (λ answer h. powersets cx c.in-Ok.latest answer.0 h.performed.base powerset all)
+    (λ answer h. powersets cx c.in-Ok.latest answer.0 h.performed.base powerset)
     (c.plan_by.ensures.ok c.args.rustup.now c.in_ok-words.ensures))
 
 pub returns-in-Ok-clause-samples : goal.returns-in-Ok-clause-samples
-returns-in-Ok-clause-samples c = λ strength latest is _ powerset given.
+returns-in-Ok-clause-samples c = λ latest is _ powerset.
     let cx = context_view c.args.cx.now in
     let same = same-latest c.args.stable c.in-Ok.latest latest c.in-Ok.is is in
-    subst (λ v. IfOk c.plan_by.result (λ answer. HaveSamples cx strength v answer.0)) same
-    (IfOk-weaker c.plan_by.result (λ answer. IsPlan cx c.args.rustup.now c.in-Ok.latest answer.0 (map note_of answer.1.items)) (λ answer. HaveSamples cx strength c.in-Ok.latest answer.0)
-    (λ answer h. samples cx c.in-Ok.latest answer.0 strength h.performed.base powerset given)
+    subst (λ v. IfOk c.plan_by.result (λ answer. HaveSamples cx v answer.0)) same
+    (IfOk-weaker c.plan_by.result (λ answer. IsPlan cx c.args.rustup.now c.in-Ok.latest answer.0 (map note_of answer.1.items)) (λ answer. HaveSamples cx c.in-Ok.latest answer.0)
+    (λ answer h. samples cx c.in-Ok.latest answer.0 h.performed.base powerset)
     (c.plan_by.ensures.ok c.args.rustup.now c.in_ok-words.ensures))
 
 pub returns-in-Ok-clause-patterns : goal.returns-in-Ok-clause-patterns
-returns-in-Ok-clause-patterns c = λ strength latest is _ powerset given each.
+returns-in-Ok-clause-patterns c = λ latest is _ powerset each.
     let cx = context_view c.args.cx.now in
     let same = same-latest c.args.stable c.in-Ok.latest latest c.in-Ok.is is in
-    subst (λ v. IfOk c.plan_by.result (λ answer. ArePatternsHeld cx strength v answer.0)) same
-    (IfOk-weaker c.plan_by.result (λ answer. IsPlan cx c.args.rustup.now c.in-Ok.latest answer.0 (map note_of answer.1.items)) (λ answer. ArePatternsHeld cx strength c.in-Ok.latest answer.0)
-    (λ answer h. patterns cx c.in-Ok.latest answer.0 strength h.performed.base powerset given each)
+    subst (λ v. IfOk c.plan_by.result (λ answer. ArePatternsHeld cx v answer.0)) same
+    (IfOk-weaker c.plan_by.result (λ answer. IsPlan cx c.args.rustup.now c.in-Ok.latest answer.0 (map note_of answer.1.items)) (λ answer. ArePatternsHeld cx c.in-Ok.latest answer.0)
+    (λ answer h. patterns cx c.in-Ok.latest answer.0 h.performed.base powerset each)
     (c.plan_by.ensures.ok c.args.rustup.now c.in_ok-words.ensures))
 
 pub returns-in-Ok-clause-never : goal.returns-in-Ok-clause-never

@@ -3,7 +3,7 @@ use Rattle.hack_rules.specs.CliLists.{same_names}
 use Rattle.hack_base.specs.Names.{names_of}
 use Rattle.hack_features.specs.Feature.{group_of}
 use Rattle.hack_rules.proofs.GroupLemmas.{same-names}
-use Rattle.hack_planner.proofs.lifts.have_same_names.Goals as goal
+use Rattle.hack_planner.proofs.package_rules.have_same_names.Goals as goal
 
 pub returns : goal.returns
 returns c =

@@ -7,7 +7,7 @@ use Rattle.std.specs.declared.alloc.Global.{Global}
 use Rattle.hack_features.specs.declared.feature.Feature.{Feature}
 use Rattle.hack_features.specs.Feature.{group_of}
 use Rattle.hack_rules.specs.CliLists.{same_names}
-use Rattle.hack_planner.proofs.lifts.is_lifted.Given as goal
+use Rattle.hack_planner.proofs.package_rules.is_lifted.Given as goal
 
 -- no lift so far is one of this group for the package
 abbrev pub invariant-loop-lift : goal.invariant-loop-lift

@@ -1,0 +1,24 @@
+-- What the rules of a call's packages have in common, and that a chosen package's runs are theirs.
+use Rattle.std.proofs.Common.{◌≡◌, ◌∙◌, refl, sym, subst, ℕ, Some}
+use Rattle.hack_load.specs.Contexts.{ContextRecord, package_at, features_at}
+use Rattle.hack_load.specs.declared.features.Features.{Features}
+use Rattle.hack_metadata.specs.Records.{PackageRecord}
+use Rattle.hack_plan.specs.View.{PackageView}
+use Rattle.hack_planner.specs.Calls.{IsChosenPackage, rules_at}
+use Rattle.hack_planner.specs.Kinds.{AreRuns}
+
+same_some : {X : Type 0} (a b : X) → Some a ≡ Some b → a ≡ b
+same_some a b e = cc
+
+-- each package's sets are those of a powerset where the call asks for it
+pub powerset-asked : (cx : ContextRecord) (p : PackageRecord) (f : Features) → (rules_at cx p f).feature_powerset ≡ cx.args.feature_powerset
+powerset-asked cx p f = refl
+
+-- what is said of the package and the features at a place holds of those that are known there
+pub at-place : (cx : ContextRecord) (id : ℕ) (R : PackageRecord → Features → Type 0) (a p : PackageRecord) (b f : Features) → package_at cx id ≡ Some a → features_at cx id ≡ Some b → package_at cx id ≡ Some p → features_at cx id ≡ Some f → R a b → R p f
+at-place cx id R a p b f known loaded also beside h =
+    subst (λ q. R q f) (same_some a p (sym known ∙ also)) (subst (R a) (same_some b f (sym loaded ∙ beside)) h)
+
+-- the runs of a chosen package that is used
+pub runs-at : (cx : ContextRecord) (used : Type 0) (id : ℕ) (k : PackageView) (p : PackageRecord) (f : Features) → package_at cx id ≡ Some p → features_at cx id ≡ Some f → IsChosenPackage cx used id k → used → AreRuns (rules_at cx p f) p f k.runs
+runs-at cx used id k p f known loaded m is = at-place cx id (λ q g. AreRuns (rules_at cx q g) q g k.runs) m.pkg p m.features f m.known m.loaded known loaded (m.runs is)
