@@ -45,8 +45,8 @@ pub struct RulesTable {
 }
 
 impl RulesTable {
-    /// The rules of a manifest without a table.
-    fn new(alloc: Global) -> RulesTable
+    /// Returns the rules of a manifest without a table.
+    pub fn new(alloc: Global) -> RulesTable
         ensures { rules_view result ≡ no_rules }
     {
         RulesTable {
