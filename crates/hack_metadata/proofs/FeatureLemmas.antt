@@ -13,7 +13,8 @@ use Rattle.serde_json.specs.View.{view, items_view, members_view}
 use Rattle.serde_json.specs.declared.value.Value.{Value}
 use Rattle.hack_base.specs.Names.{names_of}
 use Rattle.hack_features.specs.FeatureMap.{FeatureMap, feature_map}
-use Rattle.hack_metadata.specs.MetadataReading.{has_items, texts_of_items, features_of}
+use Rattle.hack_metadata.specs.Fields.{texts_of_items}
+use Rattle.hack_metadata.specs.MetadataReading.{has_items, features_of}
 
 -- an array has items where its list isn't empty
 pub has_items-view : (vs : List Value) → has_items (items_view vs) ≡ not (length vs == 0)

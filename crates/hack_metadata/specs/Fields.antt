@@ -1,5 +1,5 @@
 -- What a field of a JSON object holds, or its name, where it is missing or has the wrong type.
-use Rattle.std.specs.Prelude.{Bool, List, [], ◌∷◌, Option, Ok, option_map, option_and_then}
+use Rattle.std.specs.Prelude.{Bool, List, [], ◌∷◌, Option, Some, Ok, option_map, option_and_then}
 use Rattle.std.specs.Bool.{then_some}
 use Rattle.std.specs.Option.{is_none, ok_or, option_transpose}
 use Rattle.serde_json.specs.Data.{Data, Items, no_items, item, Members}
@@ -38,6 +38,11 @@ optional_text_in key ms =
 abbrev pub read_all : {A : Type 0} → (Data → FieldReading A) → Items → FieldReading (List A)
 read_all f no_items = Ok []
 read_all f (item d ds) = f d >>= λ x. read_all f ds >>= λ xs. Ok (x ∷ xs)
+
+-- the texts of items, none where one of them is no text
+abbrev pub texts_of_items : Items → Option (List Name)
+texts_of_items no_items = Some []
+texts_of_items (item d ds) = option_and_then (λ text. option_map (λ texts. text ∷ texts) (texts_of_items ds)) (as_str d)
 
 -- the JSON object that a text is
 abbrev pub object_in_text : Name → Option Members

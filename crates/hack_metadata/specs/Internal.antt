@@ -1,5 +1,6 @@
 -- What only private functions of the crate promise each other.
-use Rattle.std.specs.Prelude.{◌≡◌, ◌⊎◌, ◌++◌, ◌∷◌, [], ℕ, List, Some, Result, Ok, Err, true, Option, nat_lt, map, MatchOption, option_map, option_copied}
+use Rattle.std.specs.Prelude.{◌≡◌, ◌⊎◌, ◌++◌, ◌∷◌, [], ℕ, List, Some, Result, Ok, Err, true, Option, nat_lt, map, MatchOption, option_map, option_copied, string_bytes}
+use Rattle.hack_base.specs.FieldReadings.{FieldReading}
 use Rattle.hack_base.specs.Names.{Name}
 use Rattle.hack_files.specs.Files.{Change, Contents, KeepsOthers, puts}
 use Rattle.hack_base.specs.Counters.{GrowsBy}
@@ -14,6 +15,8 @@ use Rattle.std.specs.Borrow.{Bor}
 use Rattle.hack_metadata.specs.RecordViews.{dependency_view, place_at}
 use Rattle.hack_metadata.specs.declared.metadata.package.Dependency.{Dependency}
 use Rattle.hack_metadata.specs.Optional.{optional_in}
+use Rattle.hack_metadata.specs.declared.metadata.rules.RulesFault.{RulesFault}
+use Rattle.hack_metadata.specs.declared.metadata.rules.RulesFault.TheVariants as rule
 use Rattle.std.specs.BTreeMap.{BTreeMap, get_by_text}
 use Rattle.std.specs.declared.string.String.{String}
 use Rattle.std.specs.declared.alloc.Global.{Global}
@@ -21,6 +24,16 @@ use Rattle.hack_metadata.specs.declared.metadata.resolve.PackageId.{PackageId}
 use Rattle.hack_metadata.specs.PackageSpecs.{Url}
 use Rattle.hack_metadata.specs.declared.cargo.VersionParts.{VersionParts}
 use Rattle.hack_metadata.specs.declared.cargo.UrlParts.{UrlParts}
+
+-- the error names the key that a table is wrong at, unless memory was refused
+abbrev pub FailsAtKey : {Y : Type 0} → RulesFault → FieldReading Y → Type 0
+FailsAtKey rule.Memory read = Unit {0}
+FailsAtKey (rule.Key key) read = read ≡ Err (string_bytes key)
+
+-- the result, as view shows it, is what was to be read; or the error names the key that is wrong
+abbrev pub ReturnsKey : {X Y : Type 0} → (X → Y) → Result X RulesFault → FieldReading Y → Type 0
+ReturnsKey view (Ok x) read = read ≡ Ok (view x)
+ReturnsKey view (Err e) read = FailsAtKey e read
 
 -- memory was refused, or the files failed by an error of which P holds
 abbrev pub IsFileFault : (FsFault → Type 0) → AskFault → Type 0

@@ -7,6 +7,7 @@ pub mod OptionalLeft
 pub mod PackageSpecs
 pub mod MetadataReading
 pub mod Records
+pub mod RuleTables
 pub mod InternalSpecAnswers
 pub mod SpecViews
 pub mod RecordViews

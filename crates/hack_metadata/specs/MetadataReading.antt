@@ -11,8 +11,9 @@ use Rattle.serde_json.specs.Data.{Data, Items, no_items, item, Members, no_membe
 use Rattle.serde_json.specs.Find.{as_str, as_array, as_object}
 use Rattle.hack_base.specs.Names.{Name}
 use Rattle.hack_features.specs.FeatureMap.{FeatureMap}
-use Rattle.hack_metadata.specs.Fields.{string_in, bool_in, array_in, object_in, nullable_in, optional_text_in, read_all}
+use Rattle.hack_metadata.specs.Fields.{string_in, bool_in, array_in, object_in, nullable_in, optional_text_in, read_all, texts_of_items}
 use Rattle.hack_base.specs.FieldReadings.{◌>>=◌, FieldReading}
+use Rattle.hack_metadata.specs.RuleTables.{rules_in}
 use Rattle.hack_metadata.specs.Records.{DependencyRecord, PackageRecord, KindRecord, NodeDepRecord, Nodes, MetadataRecord}
 
 -- what is read from this minor version of cargo on, and a value before it
@@ -29,11 +30,6 @@ read_dependency d =
     bool_in (codes "optional") ms >>= λ optional.
     optional_text_in (codes "rename") ms >>= λ rename.
     Ok (record { name = name; optional = optional; rename = rename })
-
--- the texts of items, none where one of them is no text
-abbrev pub texts_of_items : Items → Option (List Name)
-texts_of_items no_items = Some []
-texts_of_items (item d ds) = option_and_then (λ text. option_map (λ texts. text ∷ texts) (texts_of_items ds)) (as_str d)
 
 -- the features of an object: each name with its texts; none where a name has anything else
 abbrev pub features_of : Members → Option FeatureMap
@@ -62,7 +58,7 @@ read_package minor d =
     string_in (codes "manifest_path") ms >>= λ manifest_path.
     read_from 39 minor true (nullable_in (codes "publish") ms >>= may_publish) >>= λ publish.
     read_from 58 minor None (optional_text_in (codes "rust_version") ms) >>= λ rust_version.
-    Ok (record { id = id; name = name; version = version; dependencies = dependencies; features = features; manifest_path = manifest_path; publish = publish; rust_version = rust_version })
+    Ok (record { id = id; name = name; version = version; dependencies = dependencies; features = features; manifest_path = manifest_path; publish = publish; rust_version = rust_version; rules = rules_in ms })
 
 -- ---- package ids
 
@@ -137,7 +133,7 @@ read_behind minor packages place ms =
     workspace_members_in place ms >>= λ members.
     (nullable_in (codes "resolve") ms >>= read_resolve place minor) >>= λ nodes.
     string_in (codes "workspace_root") ms >>= λ root.
-    Ok (record { cargo_version = minor; packages = packages; workspace_members = members; resolve = nodes; workspace_root = root })
+    Ok (record { cargo_version = minor; packages = packages; workspace_members = members; resolve = nodes; workspace_root = root; rules = rules_in ms })
 
 -- all that the object of `cargo metadata` says: an id means the last package that has it
 abbrev pub read_metadata : ℕ → Members → FieldReading MetadataRecord

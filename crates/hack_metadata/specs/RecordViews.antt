@@ -1,11 +1,14 @@
 -- The records of the code as plain data.
-use Rattle.std.specs.Prelude.{List, ℕ, map, string_bytes}
+use Rattle.std.specs.Prelude.{List, ℕ, Result, Ok, Err, String, map, option_map, string_bytes}
 use Rattle.std.specs.BTreeMap.{BTreeMap}
 use Rattle.std.specs.Hash.{HashWrites, usize}
-use Rattle.hack_base.specs.Names.{optional_text}
+use Rattle.hack_base.specs.FieldReadings.{FieldReading}
+use Rattle.hack_base.specs.Names.{names_of, optional_text}
+use Rattle.hack_features.specs.Feature.{groups_of}
 use Rattle.hack_features.specs.FeatureMap.{feature_map}
-use Rattle.hack_metadata.specs.Records.{DependencyRecord, PackageRecord, KindRecord, NodeDepRecord, Nodes}
+use Rattle.hack_metadata.specs.Records.{DependencyRecord, RulesRecord, PackageRecord, KindRecord, NodeDepRecord, Nodes}
 use Rattle.hack_metadata.specs.declared.metadata.package.Dependency.{Dependency}
+use Rattle.hack_metadata.specs.declared.metadata.rules.RulesTable.{RulesTable}
 use Rattle.hack_metadata.specs.declared.metadata.package.Package.{Package}
 use Rattle.hack_metadata.specs.declared.metadata.resolve.PackageId.{PackageId}
 use Rattle.hack_metadata.specs.declared.metadata.resolve.DepKindInfo.{DepKindInfo}
@@ -16,9 +19,18 @@ use Rattle.hack_metadata.specs.declared.metadata.resolve.Node.{Node}
 abbrev pub dependency_view : Dependency → DependencyRecord
 dependency_view d = record { name = string_bytes d.name; optional = d.optional; rename = optional_text d.rename }
 
+-- a package's rules
+abbrev pub rules_view : RulesTable → RulesRecord
+rules_view t = record { exclude_features = names_of t.exclude_features.items; mutually_exclusive_features = groups_of t.mutually_exclusive_features.items; at_least_one_of = groups_of t.at_least_one_of.items; group_features = groups_of t.group_features.items; optional_deps = option_map (λ names. names_of names.items) t.optional_deps; exclude_no_default_features = t.exclude_no_default_features; exclude_all_features = t.exclude_all_features; depth = t.depth; strength = t.strength }
+
+-- the same, or the name of their first fault
+abbrev pub rules_reading : {Y : Type 0} → Result RulesTable (String Y) → FieldReading RulesRecord
+rules_reading (Ok t) = Ok (rules_view t)
+rules_reading (Err key) = Err (string_bytes key)
+
 -- a package
 abbrev pub package_view : Package → PackageRecord
-package_view p = record { id = string_bytes p.id; name = string_bytes p.name; version = string_bytes p.version; dependencies = map dependency_view p.dependencies.items; features = feature_map p.features; manifest_path = string_bytes p.manifest_path; publish = p.publish; rust_version = optional_text p.rust_version }
+package_view p = record { id = string_bytes p.id; name = string_bytes p.name; version = string_bytes p.version; dependencies = map dependency_view p.dependencies.items; features = feature_map p.features; manifest_path = string_bytes p.manifest_path; publish = p.publish; rust_version = optional_text p.rust_version; rules = rules_reading p.rules }
 
 -- the place of a package that an id means
 abbrev pub place_at : PackageId → ℕ

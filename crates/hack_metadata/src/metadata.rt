@@ -22,6 +22,7 @@ pub(crate) mod fault;
 pub(crate) mod object;
 pub(crate) mod package;
 pub(crate) mod resolve;
+pub(crate) mod rules;
 
 pub use crate::ask::fault::AskFault;
 pub use crate::metadata::fault::MetadataFault;
@@ -29,6 +30,8 @@ pub use crate::metadata::object::{Object, ObjectExt, object_of};
 pub use crate::metadata::package::{Dependency, OptionalDeps, Package};
 use crate::metadata::resolve::known_package;
 pub use crate::metadata::resolve::{DepKindInfo, Node, NodeDep, PackageId, Resolve};
+pub use crate::metadata::rules::RulesTable;
+use crate::metadata::rules::remove_rules;
 use serde_json::Value;
 use std::alloc::{AllocError, Global};
 use std::collections::{BTreeMap, BTreeSet};
@@ -46,6 +49,8 @@ pub struct Metadata {
     pub resolve: Resolve,
     /// The absolute path of the folder of the workspace.
     pub workspace_root: String,
+    /// The rules of the workspace, or the key of its table that is wrong.
+    pub rules: Result<RulesTable, String>,
     // Each id is that of a package.
     ghost known: { are_known (length packages.items) (map place_at workspace_members.items)
         (nodes_view resolve.nodes) ≡ true },
@@ -86,12 +91,14 @@ impl Metadata {
         let workspace_members = remove_members(alloc, &mut object, ids)?;
         let resolve = remove_resolve(alloc, &mut object, ids, cargo_version)?;
         let workspace_root = object.remove_string("workspace_root")?;
+        let rules = remove_rules(alloc, &mut object)?;
         Ok(Metadata {
             cargo_version,
             packages,
             workspace_members,
             resolve,
             workspace_root,
+            rules,
         })
     }
 

@@ -1,7 +1,7 @@
 //! The kinds of rows, and the call that answers each.
 
 use crate::table::Group;
-use crate::{commands, lists, packages, paths, stored, uses, versions, words};
+use crate::{commands, lists, own_rules, packages, paths, stored, uses, versions, words};
 use std::alloc::{AllocError, Global};
 
 /// The answer to the arguments of a row; none where the kind is unknown to who is asked.
@@ -19,7 +19,9 @@ macro_rules! first_of {
 }
 
 pub(crate) fn answer(alloc: Global, group: &Group, words: &[String]) -> Found {
-    first_of!(alloc, group, words: words, uses, lists, versions, paths, packages, stored, commands);
+    first_of!(
+        alloc, group, words: words, uses, lists, versions, paths, packages, stored, own_rules, commands
+    );
     Ok(None)
 }
 

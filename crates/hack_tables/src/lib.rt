@@ -6,6 +6,7 @@
 mod answers;
 mod commands;
 mod lists;
+mod own_rules;
 mod packages;
 mod paths;
 mod shown;

@@ -3,7 +3,7 @@
 use crate::answers::{Found, word, yes};
 use crate::table::Group;
 use hack_metadata::cargo::match_pkg_spec;
-use hack_metadata::metadata::Package;
+use hack_metadata::metadata::{Package, RulesTable};
 use std::alloc::{AllocError, Global};
 use std::collections::BTreeMap;
 
@@ -30,5 +30,6 @@ fn package_of(alloc: Global, group: &Group) -> Result<Package, AllocError> {
         manifest_path: String::new(alloc),
         publish: true,
         rust_version: None,
+        rules: Ok(RulesTable::new(alloc)),
     })
 }

@@ -142,7 +142,7 @@ pub(crate) fn remove_text(
 }
 
 /// Takes out what a field holds.
-fn take(object: &mut Object, key: &str) -> Option<Value>
+pub(crate) fn take(object: &mut Object, key: &str) -> Option<Value>
     ensures value { option_map view result ≡ get_member key.now (members_view object.old.entries) }
     ensures others { KeepsOtherFields key.now (members_view object.old.entries)
         (members_view object.new.entries) }
@@ -150,7 +150,8 @@ fn take(object: &mut Object, key: &str) -> Option<Value>
     object.remove(key)
 }
 
-fn into_object(value: Value) -> Option<Object>
+/// Returns what a value is as an object. None where it is none.
+pub(crate) fn into_object(value: Value) -> Option<Object>
     ensures { option_map (λ m. members_view m.entries) result ≡ as_object (view value) }
 {
     match value {

@@ -8,11 +8,11 @@ ghost use Rattle.serde_json.specs.View.{view, items_view, members_view};
 ghost use Rattle.hack_base.specs.Names.{names_of, optional_text};
 ghost use Rattle.hack_features.specs.FeatureMap.{feature_map};
 ghost use Rattle.hack_metadata.specs.Fields.{read_all, object_in, nullable_in};
-ghost use Rattle.hack_metadata.specs.Fields.{optional_text_in};
+ghost use Rattle.hack_metadata.specs.Fields.{optional_text_in, texts_of_items};
 ghost use Rattle.hack_base.specs.FieldReadings.{◌>>=◌ as ◌≫=◌};
 ghost use Rattle.hack_metadata.specs.FieldResults.{KeepsOtherFields, ReturnsField};
 ghost use Rattle.hack_metadata.specs.MetadataReading.{read_dependency, read_package, read_from};
-ghost use Rattle.hack_metadata.specs.MetadataReading.{texts_of_items, features_of};
+ghost use Rattle.hack_metadata.specs.MetadataReading.{features_of};
 ghost use Rattle.hack_metadata.specs.MetadataReading.{has_items, may_publish};
 ghost use Rattle.hack_metadata.specs.RecordViews.{dependency_view, package_view};
 ghost use Rattle.hack_metadata.specs.Optional.{feature_of, optional_in};
@@ -22,6 +22,7 @@ ghost use Rattle.std.specs.Iterator.{YieldsFirstRef, item_count};
 
 use crate::metadata::fault::MetadataFault;
 use crate::metadata::object::{Object, ObjectExt, element, remove_bool, remove_text};
+use crate::metadata::rules::{RulesTable, remove_rules};
 use serde_json::Value;
 use std::alloc::{AllocError, Global};
 use std::collections::BTreeMap;
@@ -94,6 +95,8 @@ pub struct Package {
     pub publish: bool,
     /// The least Rust version that the package works with. None below cargo 1.58.
     pub rust_version: Option<String>,
+    /// The rules of the package, or the key of its table that is wrong.
+    pub rules: Result<RulesTable, String>,
 }
 
 impl Package {
@@ -109,6 +112,7 @@ impl Package {
         let manifest_path = map.remove_string("manifest_path")?;
         let publish = remove_publish(&mut map, cargo_version)?;
         let rust_version = remove_rust_version(&mut map, cargo_version)?;
+        let rules = remove_rules(alloc, &mut map)?;
         Ok(Package {
             id,
             name,
@@ -118,6 +122,7 @@ impl Package {
             manifest_path,
             publish,
             rust_version,
+            rules,
         })
     }
 
@@ -215,7 +220,7 @@ fn features_from(
 }
 
 /// Returns the texts of an array. None where the value is anything else, or an element is no text.
-fn texts_in(alloc: Global, value: Value) -> Result<Option<Vec<String>>, AllocError>
+pub(crate) fn texts_in(alloc: Global, value: Value) -> Result<Option<Vec<String>>, AllocError>
     ensures { IfOk result (λ found. option_map (λ texts. names_of texts.items) found
         ≡ option_and_then texts_of_items (as_array (view value))) }
 {

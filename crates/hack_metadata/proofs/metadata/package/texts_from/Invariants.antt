@@ -1,7 +1,7 @@
 use Rattle.std.proofs.Common.{◌≡◌, ◌++◌, option_map}
 use Rattle.serde_json.specs.View.{items_view}
 use Rattle.hack_base.specs.Names.{names_of}
-use Rattle.hack_metadata.specs.MetadataReading.{texts_of_items}
+use Rattle.hack_metadata.specs.Fields.{texts_of_items}
 use Rattle.hack_metadata.proofs.metadata.package.texts_from.Given as goal
 
 -- the texts so far, and then those of the items left, are those of the whole list
