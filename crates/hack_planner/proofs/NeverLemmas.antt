@@ -12,7 +12,8 @@ use Rattle.hack_plan.specs.View.{PackageView}
 use Rattle.hack_versions.specs.declared.rustup.RangeFault.{RangeFault}
 use Rattle.hack_versions.specs.declared.version.Version.{Version}
 use Rattle.hack_versions.specs.declared.version.VersionFault.{VersionFault}
-use Rattle.hack_planner.specs.Calls.{HasBadOwn, IsInputOf, IsPackageOf}
+use Rattle.hack_planner.specs.Calls.{HasBadOwn, IsInputOf, IsPackageOf, table_fault}
+use Rattle.hack_planner.specs.RulesFor.{TableFault}
 use Rattle.hack_planner.specs.CallPlan.{IsSureCause, IsSureCauseBy, IsSureCauseOf, run_counts}
 use Rattle.hack_planner.specs.declared.fault.PlanFault.{PlanFault}
 use Rattle.hack_planner.specs.declared.fault.PlanFault.TheVariants as fault
@@ -28,15 +29,23 @@ pub record IsSound (cx : ContextRecord) (latest : Option Version) : Type 0 where
   pub of_call : IsInputOf cx ids input
   pub each : AllZip (IsPackageOf cx input latest) ids packages
   pub known : (e : PackagesFault) → ¬ IsChoiceFault cx e
+  pub tables : table_fault cx ids ≡ None
   pub readable : (e : VersionFault) → ¬ HasBadOwn cx ids e
   pub in_range : (e : RangeFault) → ¬ IsVersionsFault input.range input latest e
   pub fits : ¬ HasTooMany input (run_counts packages) latest
+
+no-fault : (cx : ContextRecord) (fault : TableFault) (ids others : List ℕ) → AreChosen cx ids → AreChosen cx others → table_fault cx ids ≡ Some fault → table_fault cx others ≡ None → ⊥
+no-fault cx fault ids others chosen also bad fine =
+    let e : table_fault cx ids ≡ None = subst (λ l. table_fault cx l ≡ None) (chosen-once cx others ids also chosen) fine in
+    absurd (cc)
 
 -- then no sure cause holds
 pub no-cause : (cx : ContextRecord) (latest : Option Version) → IsSound cx latest → (e : PlanFault) → ¬ IsSureCause cx latest e
 no-cause cx latest h fault.Memory bad = bad
 no-cause cx latest h (fault.Stable text) bad = bad
 no-cause cx latest h (fault.Packages e) bad = h.known e bad
+no-cause cx latest h (fault.PackageRules field name) bad = no-fault cx _ bad.0 h.ids bad.1 h.chosen bad.2 h.tables
+no-cause cx latest h (fault.WorkspaceRules field) bad = no-fault cx _ bad.0 h.ids bad.1 h.chosen bad.2 h.tables
 no-cause cx latest h (fault.Version e) bad = h.readable e (subst (λ ids. HasBadOwn cx ids e) (chosen-once cx bad.ids h.ids bad.chosen h.chosen) bad.bad)
 no-cause cx latest h (fault.Range e) bad =
     let ids = chosen-once cx bad.ids h.ids bad.chosen h.chosen in

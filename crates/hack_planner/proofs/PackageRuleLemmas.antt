@@ -1,18 +1,33 @@
 -- What the rules of a call's packages have in common, and that a chosen package's runs are theirs.
-use Rattle.std.proofs.Common.{◌≡◌, ◌∙◌, refl, sym, subst, ℕ, Some}
+use Rattle.std.proofs.Common.{◌≡◌, ◌∙◌, refl, sym, subst, ℕ, Some, Bool, true, false, Ok, Err, if◌then◌else◌}
 use Rattle.hack_load.specs.Contexts.{ContextRecord, package_at, features_at}
 use Rattle.hack_load.specs.declared.features.Features.{Features}
-use Rattle.hack_metadata.specs.Records.{PackageRecord}
+use Rattle.hack_base.specs.FieldReadings.{FieldReading}
+use Rattle.hack_metadata.specs.Records.{PackageRecord, RulesRecord}
 use Rattle.hack_plan.specs.View.{PackageView}
 use Rattle.hack_planner.specs.Calls.{IsChosenPackage, rules_at}
 use Rattle.hack_planner.specs.Kinds.{AreRuns}
+use Rattle.hack_planner.specs.PackageRules.{PackageRulesRecord, call_rules}
+use Rattle.hack_planner.specs.RulesFor.{and_own, and_workspace}
 
 same_some : {X : Type 0} (a b : X) → Some a ≡ Some b → a ≡ b
 same_some a b e = cc
 
 -- each package's sets are those of a powerset where the call asks for it
 pub powerset-asked : (cx : ContextRecord) (p : PackageRecord) (f : Features) → (rules_at cx p f).feature_powerset ≡ cx.args.feature_powerset
-powerset-asked cx p f = refl
+powerset-asked cx p f = kept-by cx.args.package_rules
+  where
+    own-keeps : (t : FieldReading RulesRecord) (r : PackageRulesRecord) → (and_own t r).feature_powerset ≡ r.feature_powerset
+    own-keeps (Ok t) r = refl
+    own-keeps (Err field) r = refl
+
+    workspace-keeps : (t : FieldReading RulesRecord) (r : PackageRulesRecord) → (and_workspace f t r).feature_powerset ≡ r.feature_powerset
+    workspace-keeps (Ok t) r = refl
+    workspace-keeps (Err field) r = refl
+
+    kept-by : (b : Bool) → (if b then and_workspace f cx.metadata.rules (and_own p.rules (call_rules cx.args p.name)) else call_rules cx.args p.name).feature_powerset ≡ cx.args.feature_powerset
+    kept-by true = workspace-keeps cx.metadata.rules (and_own p.rules (call_rules cx.args p.name)) ∙ own-keeps p.rules (call_rules cx.args p.name)
+    kept-by false = refl
 
 -- what is said of the package and the features at a place holds of those that are known there
 pub at-place : (cx : ContextRecord) (id : ℕ) (R : PackageRecord → Features → Type 0) (a p : PackageRecord) (b f : Features) → package_at cx id ≡ Some a → features_at cx id ≡ Some b → package_at cx id ≡ Some p → features_at cx id ≡ Some f → R a b → R p f

@@ -18,7 +18,7 @@ use Rattle.hack_plan.specs.Inputs.{AreVersions, AreNotices, IsVersionsFault}
 use Rattle.hack_plan.specs.Spans.{AreSpans, AreTiled, versions_of}
 use Rattle.hack_plan.specs.declared.versions.PlanInput.{PlanInput}
 use Rattle.hack_versions.specs.declared.group.VersionGroup.{VersionGroup}
-use Rattle.hack_planner.specs.Calls.{IsInputOf, IsPackageOf, IsCoveredIn, IsUsed, HasBadOwn, HasNoSample, call_of, candidate_notes_at, left_out_notes, rules_at}
+use Rattle.hack_planner.specs.Calls.{IsInputOf, IsPackageOf, IsCoveredIn, IsUsed, HasBadOwn, HasNoSample, call_of, candidate_notes_at, left_out_notes, rules_at, HasTableFault}
 use Rattle.hack_plan.specs.Prepared.{ArePrepared, span_of}
 use Rattle.hack_plan.specs.View.{PackageView, PlanView}
 use Rattle.hack_planner.specs.declared.fault.PlanFault.{PlanFault}
@@ -131,6 +131,8 @@ abbrev pub IsCause : ContextRecord → Option Version → PlanFault → Type 0
 IsCause cx latest fault.Memory = ⊥
 IsCause cx latest (fault.Stable text) = ⊥
 IsCause cx latest (fault.Packages e) = IsChoiceFault cx e
+IsCause cx latest (fault.PackageRules field name) = HasTableFault cx (Some (string_bytes name), string_bytes field)
+IsCause cx latest (fault.WorkspaceRules field) = HasTableFault cx (None, string_bytes field)
 IsCause cx latest (fault.Version e) = IsBadVersion cx e
 IsCause cx latest (fault.Range e) = IsBadRange cx latest e
 IsCause cx latest (fault.TooManyQuestions name tally) = IsTooWide cx latest (string_bytes name) tally
@@ -147,6 +149,8 @@ abbrev pub IsSureCause : ContextRecord → Option Version → PlanFault → Type
 IsSureCause cx latest fault.Memory = ⊥
 IsSureCause cx latest (fault.Stable text) = ⊥
 IsSureCause cx latest (fault.Packages e) = IsChoiceFault cx e
+IsSureCause cx latest (fault.PackageRules field name) = HasTableFault cx (Some (string_bytes name), string_bytes field)
+IsSureCause cx latest (fault.WorkspaceRules field) = HasTableFault cx (None, string_bytes field)
 IsSureCause cx latest (fault.Version e) = IsBadVersion cx e
 IsSureCause cx latest (fault.Range e) = IsBadRange cx latest e
 IsSureCause cx latest (fault.TooManyQuestions name tally) = ⊥

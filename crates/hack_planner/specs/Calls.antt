@@ -1,5 +1,5 @@
 -- The input of a plan, from what was loaded.
-use Rattle.std.specs.Prelude.{ℕ, ◌≡◌, ◌↔◌, ◌⊎◌, List, [], ◌∷◌, Bool, true, Option, Some, None, length, Contains, IsSomeAnd, IsTrue, MatchOption, option_and_then, option_map, slice_get, string_bytes, if◌then◌else◌}
+use Rattle.std.specs.Prelude.{ℕ, ◌≡◌, ◌↔◌, ◌⊎◌, ◌++◌, List, [], ◌∷◌, Bool, true, Option, Some, None, length, Contains, IsSomeAnd, IsTrue, MatchOption, map, option_and_then, option_map, slice_get, string_bytes, if◌then◌else◌}
 use Rattle.std.specs.List.{AllZip, flat_map, range_with_len}
 use Rattle.std.specs.Option.{option_map_or}
 use Rattle.hack_base.specs.Names.{Name, names_of}
@@ -7,6 +7,7 @@ use Rattle.hack_base.specs.PathTexts.{under_of}
 use Rattle.hack_metadata.specs.Records.{PackageRecord}
 use Rattle.hack_features.specs.declared.tally.Tally.{Tally}
 use Rattle.hack_load.specs.Contexts.{ContextRecord, package_at, features_at, rust_version_at}
+use Rattle.hack_words.specs.declared.cli.args.Args.{Args}
 use Rattle.hack_load.specs.GivenFeatures.{passed_for, left_out_for}
 use Rattle.hack_load.specs.declared.features.Features.{Features}
 use Rattle.hack_versions.specs.declared.version.Version.{Version}
@@ -19,9 +20,11 @@ use Rattle.hack_versions.specs.VersionOrder.{strip_patch}
 use Rattle.hack_versions.specs.VersionTexts.{IsVersionText, IsVersionFault}
 use Rattle.hack_versions.specs.VersionUses.{UsesBy}
 use Rattle.hack_rules.specs.declared.uses.behavior.WorkspaceBehavior.TheVariants.{Cargo}
+use Rattle.hack_planner.specs.ContextMembers.{AreChosen}
 use Rattle.hack_planner.specs.Candidates.{candidates, candidate_notes}
 use Rattle.hack_planner.specs.Kinds.{AreRuns, AreCovering, AreRunSettings, IsUnsampled, package_choice}
 use Rattle.hack_planner.specs.PackageRules.{PackageRulesRecord, call_rules}
+use Rattle.hack_planner.specs.RulesFor.{TableFault, first_there, own_fault, rules_for, table_notes, workspace_fault}
 use Rattle.hack_plan.specs.Runs.{Plain}
 use Rattle.hack_plan.specs.Inputs.{IsStepList, slots_of}
 use Rattle.hack_plan.specs.declared.versions.PlanInput.{PlanInput}
@@ -29,7 +32,22 @@ use Rattle.hack_plan.specs.View.{CallView, PackageView}
 
 -- the rules of a package of the call
 abbrev pub rules_at : ContextRecord → PackageRecord → Features → PackageRulesRecord
-rules_at cx p f = call_rules cx.args p.name
+rules_at cx p f = rules_for cx.args cx.metadata.rules p f
+
+-- the fault of a package's own table
+abbrev pub own_fault_at : ContextRecord → ℕ → Option TableFault
+own_fault_at cx id = option_and_then own_fault (package_at cx id)
+
+-- what is wrong with the tables of a call under `--package-rules`: with the workspace's, else with
+-- the first of these packages' own
+abbrev pub table_fault : ContextRecord → List ℕ → Option TableFault
+table_fault cx ids = if cx.args.package_rules
+    then first_there (workspace_fault cx.metadata.rules ∷ map (own_fault_at cx) ids)
+    else None
+
+-- this is wrong with the tables of the call
+abbrev pub HasTableFault : ContextRecord → TableFault → Type 0
+HasTableFault cx fault = (ids : List ℕ) × AreChosen cx ids × (table_fault cx ids ≡ Some fault)
 
 -- the path of a package's manifest as a command is given it; none where commands get none
 abbrev pub given_path : Bool → Name → Option PackageRecord → Option Name
@@ -140,10 +158,14 @@ IsPackageOf cx s latest id k = IsChosenPackage cx (IsUsed cx s latest id) id k
 abbrev pub IsCoveredIn : ContextRecord → PlanInput → Option Version → ℕ → PackageView → Type 0
 IsCoveredIn cx s latest id k = HasCoverage cx (IsUsed cx s latest id) id k
 
--- the notices on the features of a package
+-- the notices on the features of a package, and on those that its table has
+abbrev pub package_notes : Args → Bool → PackageRecord → Features → List Note
+package_notes args single p f =
+    candidate_notes single (call_rules args p.name) p.name f ++ table_notes args p f
+
 abbrev pub candidate_notes_at : ContextRecord → Bool → ℕ → List Note
-candidate_notes_at cx single id = option_map_or
-    (λ p. option_map_or (candidate_notes single (call_rules cx.args p.name) p.name) (features_at cx id) [])
+candidate_notes_at cx single id =
+    option_map_or (λ p. option_map_or (package_notes cx.args single p) (features_at cx id) [])
     (package_at cx id) []
 
 -- the notices on features that a version's packages don't get, for each slot

@@ -1,5 +1,5 @@
 -- What only private functions of the crate promise each other.
-use Rattle.std.specs.Prelude.{Option, ℕ, List, true, Contains, IsTrue, IsSome, string_bytes, ◌≡◌, ◌≤◌, length}
+use Rattle.std.specs.Prelude.{Option, None, Some, ℕ, List, true, Contains, IsTrue, IsSome, string_bytes, ◌≡◌, ◌≤◌, length}
 use Rattle.hack_load.specs.Contexts.{ContextRecord}
 use Rattle.hack_planner.specs.ContextMembers.{IsChoiceFault}
 use Rattle.hack_versions.specs.declared.version.Version.{Version}
@@ -7,7 +7,8 @@ use Rattle.hack_plan.specs.Inputs.{IsVersionsFault}
 use Rattle.hack_plan.specs.declared.versions.PlanInput.{PlanInput}
 use Rattle.hack_planner.specs.declared.fault.PlanFault.{PlanFault}
 use Rattle.hack_planner.specs.declared.fault.PlanFault.TheVariants as fault
-use Rattle.hack_planner.specs.Calls.{HasBadOwn, HasNoSampleAt}
+use Rattle.hack_planner.specs.Calls.{HasBadOwn, HasNoSampleAt, HasTableFault}
+use Rattle.hack_planner.specs.RulesFor.{TableFault}
 use Rattle.hack_planner.specs.declared.fault.RunsFault.{RunsFault}
 use Rattle.hack_planner.specs.declared.fault.RunsFault.TheVariants as runs
 use Rattle.hack_planner.specs.Kinds.{most_questions}
@@ -17,11 +18,13 @@ use Rattle.hack_features.specs.View.{asked_in}
 use Rattle.hack_features.specs.Sets.{IsListing}
 use Rattle.hack_features.specs.Rules.{Choice, IsListed}
 
--- the error says that the packages aren't known
+-- the error says that the packages aren't known, or what is wrong with their tables
 abbrev pub SaysPackagesUnknown : ContextRecord → PlanFault → Type 0
 SaysPackagesUnknown cx fault.Memory = ⊥
 SaysPackagesUnknown cx (fault.Stable text) = ⊥
 SaysPackagesUnknown cx (fault.Packages e) = IsChoiceFault cx e
+SaysPackagesUnknown cx (fault.PackageRules field name) = HasTableFault cx (Some (string_bytes name), string_bytes field)
+SaysPackagesUnknown cx (fault.WorkspaceRules field) = HasTableFault cx (None, string_bytes field)
 SaysPackagesUnknown cx (fault.Version e) = ⊥
 SaysPackagesUnknown cx (fault.Range e) = ⊥
 SaysPackagesUnknown cx (fault.TooManyQuestions name tally) = ⊥
@@ -32,16 +35,32 @@ abbrev pub SaysRangeRefused : PlanInput → Option Version → PlanFault → Typ
 SaysRangeRefused s latest fault.Memory = ⊥
 SaysRangeRefused s latest (fault.Stable text) = ⊥
 SaysRangeRefused s latest (fault.Packages e) = ⊥
+SaysRangeRefused s latest (fault.PackageRules field name) = ⊥
+SaysRangeRefused s latest (fault.WorkspaceRules field) = ⊥
 SaysRangeRefused s latest (fault.Version e) = ⊥
 SaysRangeRefused s latest (fault.Range e) = IsVersionsFault s.range s latest e
 SaysRangeRefused s latest (fault.TooManyQuestions name tally) = ⊥
 SaysRangeRefused s latest fault.TooManyRuns = ⊥
+
+-- the error says that this is wrong with a table
+abbrev pub SaysFault : Option TableFault → PlanFault → Type 0
+SaysFault found fault.Memory = ⊥
+SaysFault found (fault.Stable text) = ⊥
+SaysFault found (fault.Packages e) = ⊥
+SaysFault found (fault.PackageRules field name) = found ≡ Some (Some (string_bytes name), string_bytes field)
+SaysFault found (fault.WorkspaceRules field) = found ≡ Some (None, string_bytes field)
+SaysFault found (fault.Version e) = ⊥
+SaysFault found (fault.Range e) = ⊥
+SaysFault found (fault.TooManyQuestions name tally) = ⊥
+SaysFault found fault.TooManyRuns = ⊥
 
 -- the error says that the own version of one of these packages can't be read
 abbrev pub IsOwnFault : ContextRecord → List ℕ → PlanFault → Type 0
 IsOwnFault cx ids fault.Memory = ⊥
 IsOwnFault cx ids (fault.Stable text) = ⊥
 IsOwnFault cx ids (fault.Packages e) = ⊥
+IsOwnFault cx ids (fault.PackageRules field name) = ⊥
+IsOwnFault cx ids (fault.WorkspaceRules field) = ⊥
 IsOwnFault cx ids (fault.Version e) = HasBadOwn cx ids e
 IsOwnFault cx ids (fault.Range e) = ⊥
 IsOwnFault cx ids (fault.TooManyQuestions name tally) = ⊥
@@ -52,6 +71,8 @@ abbrev pub SaysNoSample : ContextRecord → ℕ → PlanFault → Type 0
 SaysNoSample cx id fault.Memory = ⊥
 SaysNoSample cx id (fault.Stable text) = ⊥
 SaysNoSample cx id (fault.Packages e) = ⊥
+SaysNoSample cx id (fault.PackageRules field name) = ⊥
+SaysNoSample cx id (fault.WorkspaceRules field) = ⊥
 SaysNoSample cx id (fault.Version e) = ⊥
 SaysNoSample cx id (fault.Range e) = ⊥
 SaysNoSample cx id (fault.TooManyQuestions name tally) = HasNoSampleAt cx id (string_bytes name) tally

@@ -6,6 +6,7 @@ pub mod InternalListingView
 pub mod PackagesView
 pub mod PackageRules
 pub mod Candidates
+pub mod RulesFor
 pub mod Kinds
 pub mod KindsView
 pub mod PackageRunsView

@@ -21,6 +21,10 @@ feature_text pkg name = codes "specified feature `" ++ (name ++ (codes "` not fo
 abbrev pub dependency_text : Name → Name → List ℕ
 dependency_text pkg name = codes "specified optional dependency `" ++ (name ++ (codes "` not found in package `" ++ (pkg ++ codes "`")))
 
+-- about a name of a package's own table that the package doesn't have
+abbrev pub table_text : Name → Name → List ℕ
+table_text pkg name = codes "feature `" ++ (name ++ (codes "` of [package.metadata.cargo-hack] not found in package `" ++ (pkg ++ codes "`")))
+
 -- about a group that isn't applied to the package
 abbrev pub group_text : Name → List Name → List ℕ
 group_text pkg names = codes "skipped applying group `" ++ (join_with_byte 44 names ++ (codes "` to " ++ pkg))

@@ -105,7 +105,7 @@ fn is_known(features: &Features, name: &str) -> bool
 }
 
 /// Whether a feature or an optional dependency of the package has each of the names.
-fn are_known(features: &Features, names: &[String]) -> bool
+pub(crate) fn are_known(features: &Features, names: &[String]) -> bool
     ensures { result ≡ list_all (known_to features.now)
         (names_of names.now) }
 {
@@ -261,7 +261,7 @@ pub(crate) fn candidates(
 }
 
 /// Whether the package has the name in one of its lists of features.
-fn is_found(features: &Features, name: &str) -> bool
+pub(crate) fn is_found(features: &Features, name: &str) -> bool
     ensures { result ≡ found_in features.now name.now }
 {
     is_known(features, name) || one_has(features.deps_features(), name)

@@ -20,11 +20,11 @@ ghost use Rattle.hack_planner.specs.Kinds.{AreCovering, AreRunSettings, package_
 ghost use Rattle.hack_planner.specs.KindsView.{IsKind, IsRunsFault, candidates_in, runs_of};
 ghost use Rattle.hack_planner.specs.PackageRules.{rules_in};
 
-use crate::candidates::notes_on;
 use crate::fault::{PlanFault, RunsFault};
 use crate::kind::{Kind, kind_of};
 use crate::least_places::Limit;
-use crate::package_rules::{PackageRules, rules_of};
+use crate::package_rules::PackageRules;
+use crate::tables::notes_of;
 use crate::uses::Chosen;
 use crate::words::given_path;
 use hack_base::copies::copies;
@@ -112,7 +112,7 @@ fn chosen_package(
     let features = cx.pkg_features(one.id);
     let pkg = cx.packages(one.id);
     let args = cx.args();
-    let asked = rules_of(alloc, cx, pkg, features)?;
+    let asked = PackageRules::of(alloc, cx, pkg, features)?;
     let (kind, settings) = match kind_for(alloc, &asked, one, pkg, features, limit) {
         Ok(Ok(made)) => made,
         Ok(Err(least)) => return Ok(Err(least)),
@@ -122,7 +122,7 @@ fn chosen_package(
             return Err(PlanFault::TooManyQuestions(name, tally));
         }
     };
-    let notices = notes_on(alloc, args, pkg, features, single)?;
+    let notices = notes_of(alloc, args, pkg, features, single)?;
     let (candidates, runs) = parts_of(alloc, kind)?;
     let (given, _) = features_for(alloc, cx, one.id)?;
     let features = copies(alloc, given.as_slice())?;

@@ -8,21 +8,19 @@ ghost use Rattle.hack_load.specs.declared.features.Features.{Features as Loaded}
 ghost use Rattle.hack_metadata.specs.Records.{PackageRecord};
 ghost use Rattle.hack_base.specs.Notes.{note_of};
 ghost use Rattle.hack_planner.specs.MembersView.{member_view};
-ghost use Rattle.hack_planner.specs.Candidates.{candidate_notes};
-ghost use Rattle.hack_planner.specs.Calls.{rules_at};
-ghost use Rattle.hack_planner.specs.PackageRules.{call_rules};
+ghost use Rattle.hack_planner.specs.Calls.{package_notes, rules_at};
 ghost use Rattle.hack_planner.specs.KindsView.{IsRunsFault};
 ghost use Rattle.hack_planner.specs.PackageRunsView.{AreRunsBy};
 ghost use Rattle.hack_planner.specs.ContextMembers.{member_at, members_in};
 ghost use Rattle.hack_planner.specs.ContextMembers.{current_name as current_called};
 ghost use Rattle.hack_planner.specs.ContextMembers.{AreChosen, AreChoiceNotes, IsChoiceFault};
 
-use crate::candidates::notes_on;
 use crate::fault::{PackagesFault, RunsFault};
 use crate::kind::{PackageRuns, runs_by};
 use crate::member::Member;
-use crate::package_rules::rules_of;
+use crate::package_rules::PackageRules;
 use crate::packages::{PackageList, choose_packages};
+use crate::tables::notes_of;
 use hack_base::notice::Notice;
 use hack_load::context::Context;
 use hack_metadata::metadata::PackageId;
@@ -115,8 +113,8 @@ pub fn determine_kind(
     ensures notices { (p : PackageRecord) (features : Loaded)
         → package_at (context_view context.now) id.index ≡ Some p
         → features_at (context_view context.now) id.index ≡ Some features
-        → IfOk result (λ answer. map note_of answer.1.items ≡ candidate_notes single
-        (call_rules (context_view context.now).args p.name) p.name features) }
+        → IfOk result (λ answer. map note_of answer.1.items
+        ≡ package_notes (context_view context.now).args single p features) }
 
     // The only error besides out of memory is a sample that needs too many questions.
     ensures err { (p : PackageRecord) (features : Loaded)
@@ -129,8 +127,8 @@ pub fn determine_kind(
     let _ = context.workspace_members();
     let pkg = context.packages(id);
     let features = context.pkg_features(id);
-    let asked = rules_of(alloc, context, pkg, features)?;
-    let notices = notes_on(alloc, context.args(), pkg, features, single)?;
+    let asked = PackageRules::of(alloc, context, pkg, features)?;
+    let notices = notes_of(alloc, context.args(), pkg, features, single)?;
     match runs_by(alloc, &asked, id, pkg, features) {
         Ok(made) => Ok((made, notices)),
         Err(fault) => Err(fault),

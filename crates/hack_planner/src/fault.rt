@@ -22,6 +22,13 @@ pub enum PlanFault {
     /// The packages aren't known.
     #[error("{0}")]
     Packages(PackagesFault),
+    /// A field of a chosen package's table of rules is at fault: it is unknown, or its value has
+    /// another form.
+    #[error("failed to parse `{field}` field from [package.metadata.cargo-hack] of package `{name}`")]
+    PackageRules { field: String, name: String },
+    /// The same of the workspace's table.
+    #[error("failed to parse `{0}` field from [workspace.metadata.cargo-hack]")]
+    WorkspaceRules(String),
     /// The `rust-version` of a chosen package isn't a version.
     #[error("{0}")]
     Version(VersionFault),

@@ -18,5 +18,6 @@ pub mod package_rules;
 pub mod packages;
 pub mod plan;
 mod plan_notes;
+mod tables;
 mod uses;
 mod words;

@@ -4,7 +4,7 @@ ghost use Rattle.std.specs.Prelude.{◌≡◌, ◌++◌, IfOk, codes, string_byt
 ghost use Rattle.std.specs.List.{join_with_byte};
 ghost use Rattle.hack_base.specs.Names.{names_of};
 ghost use Rattle.hack_planner.specs.Texts.{exclusion_text, lift_text};
-ghost use Rattle.hack_planner.specs.Texts.{feature_text, dependency_text};
+ghost use Rattle.hack_planner.specs.Texts.{feature_text, dependency_text, table_text};
 ghost use Rattle.hack_planner.specs.Texts.{group_text, private_text, name_verbose};
 ghost use Rattle.hack_metadata.specs.RecordViews.{package_view};
 
@@ -38,6 +38,15 @@ pub(crate) fn dependency_text(alloc: Global, name: &str, pkg: &str) -> Result<St
     ensures { IfOk result (λ text. string_bytes text ≡ dependency_text pkg.now name.now) }
 {
     format!(in alloc; "specified optional dependency `{name}` not found in package `{pkg}`")
+}
+
+/// The text about a name of a package's own table that the package doesn't have.
+pub(crate) fn table_text(alloc: Global, name: &str, pkg: &str) -> Result<String, AllocError>
+    ensures { IfOk result (λ text. string_bytes text ≡ table_text pkg.now name.now) }
+{
+    format!(in alloc;
+        "feature `{name}` of [package.metadata.cargo-hack] not found in package `{pkg}`"
+    )
 }
 
 /// The names, joined by commas.

@@ -1,22 +1,28 @@
-//! The rules of a package: what the call asks of its runs.
+//! The rules of a package: what the call asks of its runs, and under `--package-rules` the tables
+//! `[package.metadata.cargo-hack]` and `[workspace.metadata.cargo-hack]` too.
 
-ghost use Rattle.std.specs.Prelude.{◌≡◌, ◌&&◌, IfOk, OnOk, filter, not, option_map, string_bytes};
-ghost use Rattle.std.specs.List.{list_any};
+ghost use Rattle.std.specs.Prelude.{◌≡◌, ◌&&◌, ◌++◌, IfOk, OnOk, Some, false, filter, not};
+ghost use Rattle.std.specs.Prelude.{option_map, string_bytes};
+ghost use Rattle.std.specs.List.{list_all, list_any};
 ghost use Rattle.std.specs.Str.{bytes_eq};
 ghost use Rattle.hack_base.specs.Names.{names_of};
 ghost use Rattle.hack_features.specs.Feature.{group_of, groups_of};
 ghost use Rattle.hack_load.specs.ContextView.{context_view};
-ghost use Rattle.hack_metadata.specs.RecordViews.{package_view};
+ghost use Rattle.hack_metadata.specs.MetadataView.{metadata_view};
+ghost use Rattle.hack_metadata.specs.RecordViews.{package_view, rules_view};
 ghost use Rattle.hack_rules.specs.CliLists.{same_names};
 ghost use Rattle.hack_planner.specs.Calls.{rules_at};
+ghost use Rattle.hack_planner.specs.Candidates.{is_known};
 ghost use Rattle.hack_planner.specs.PackageRules.{call_rules, is_lifted as lifted_for, rules_in};
+ghost use Rattle.hack_planner.specs.RulesFor.{and_own, and_workspace, asked_by_either, counted};
+ghost use Rattle.hack_planner.specs.RulesFor.{with_table};
 
-use crate::candidates::{add_if, copy_feature};
-use hack_base::copies::copies;
+use crate::candidates::{add_if, are_known, copy_feature};
+use hack_base::copies::{copies, push_copies};
 use hack_features::Feature;
 use hack_load::context::Context;
 use hack_load::features::Features;
-use hack_metadata::metadata::Package;
+use hack_metadata::metadata::{Metadata, Package, RulesTable};
 use hack_words::cli::Args;
 use std::alloc::{AllocError, Global};
 
@@ -63,20 +69,160 @@ impl PackageRules {
             strength: args.strength,
         })
     }
+
+    /// The rules of a package of the call: under `--package-rules` also those of its own table and of
+    /// the workspace's. A table with a fault says nothing; the plan is refused for it.
+    pub fn of(
+        alloc: Global,
+        cx: &Context,
+        pkg: &Package,
+        features: &Features,
+    ) -> Result<PackageRules, AllocError>
+        ensures rules { IfOk result (λ rules. rules_in rules
+            ≡ rules_at (context_view cx.now) (package_view pkg.now) features.now) }
+
+        // Without the option they are the call's.
+        ensures plain { (context_view cx.now).args.package_rules ≡ false → IfOk result (λ rules.
+            rules_in rules ≡ call_rules (context_view cx.now).args (package_view pkg.now).name) }
+    {
+        let args = cx.args();
+        let mut rules = PackageRules::of_call(alloc, args, pkg)?;
+        if args.package_rules {
+            rules.add_own(alloc, pkg)?;
+            rules.add_workspace(alloc, cx.metadata(), features)?;
+        }
+        Ok(rules)
+    }
+
+    /// Adds the rules of the package's own table.
+    fn add_own(&mut self, alloc: Global, pkg: &Package) -> Result<(), AllocError>
+        ensures { OnOk result (rules_in self.new
+            ≡ and_own (package_view pkg.now).rules (rules_in self.old)) }
+    {
+        match &pkg.rules {
+            Ok(table) => self.add(alloc, table, &table.group_features),
+            Err(_) => Ok(()),
+        }
+    }
+
+    /// Adds the rules of the workspace's table, of whose groups those that the package knows.
+    fn add_workspace(
+        &mut self,
+        alloc: Global,
+        metadata: &Metadata,
+        features: &Features,
+    ) -> Result<(), AllocError>
+        ensures { OnOk result (rules_in self.new ≡ and_workspace features.now
+            (metadata_view metadata.now).rules (rules_in self.old)) }
+    {
+        match &metadata.rules {
+            Ok(table) => {
+                let groups = known_groups(alloc, features, &table.group_features)?;
+                self.add(alloc, table, &groups)
+            }
+            Err(_) => Ok(()),
+        }
+    }
+
+    /// Adds what counts of a table, of which these are the groups of features.
+    fn add(
+        &mut self,
+        alloc: Global,
+        table: &RulesTable,
+        groups: &[Feature],
+    ) -> Result<(), AllocError>
+        ensures { OnOk result (rules_in self.new ≡ with_table (counted self.old.feature_powerset
+            (record (rules_view table.now) { group_features = groups_of groups.now }))
+            (rules_in self.old)) }
+    {
+        push_copies(&mut self.exclude_features, &table.exclude_features)?;
+        let optional = self.optional_deps.take();
+        self.optional_deps = either_asked(alloc, optional, table.optional_deps.as_deref())?;
+        self.exclude_no_default_features |= table.exclude_no_default_features;
+        self.exclude_all_features |= table.exclude_all_features
+            || !table.exclude_features.is_empty();
+        if !self.feature_powerset {
+            return Ok(());
+        }
+        push_features(alloc, &mut self.group_features, groups)?;
+        push_features(
+            alloc,
+            &mut self.exclusive,
+            &table.mutually_exclusive_features,
+        )?;
+        push_features(alloc, &mut self.at_least_one_of, &table.at_least_one_of)?;
+        self.exclude_no_default_features |= !table.at_least_one_of.is_empty();
+        self.exclude_all_features |= !table.mutually_exclusive_features.is_empty();
+        self.depth = self.depth.or(table.depth);
+        self.strength = self.strength.or(table.strength);
+        Ok(())
+    }
 }
 
-/// The rules of a package of the call.
-pub(crate) fn rules_of(
+/// Adds copies of features.
+fn push_features(
     alloc: Global,
-    cx: &Context,
-    pkg: &Package,
-    features: &Features,
-) -> Result<PackageRules, AllocError>
-    ensures { IfOk result (λ rules. rules_in rules
-        ≡ rules_at (context_view cx.now) (package_view pkg.now) features.now) }
+    features: &mut Vec<Feature>,
+    more: &[Feature],
+) -> Result<(), AllocError>
+    ensures { OnOk result (groups_of features.new.items
+        ≡ groups_of features.old.items ++ groups_of more.now) }
 {
-    let rules = PackageRules::of_call(alloc, cx.args(), pkg)?;
-    Ok(rules)
+    let mut copies = feature_copies(alloc, more)?;
+    features.append(&mut copies)?;
+    Ok(())
+}
+
+/// The optional dependencies that one or the other asks for; an empty list asks for all.
+fn either_asked(
+    alloc: Global,
+    names: Option<Vec<String>>,
+    more: Option<&[String]>,
+) -> Result<Option<Vec<String>>, AllocError>
+    ensures { IfOk result (λ made. option_map (λ names. names_of names.items) made
+        ≡ asked_by_either (option_map (λ names. names_of names.items) names)
+        (option_map (λ names. names_of names.now) more.entry)) }
+{
+    match (names, more) {
+        (None, None) => Ok(None),
+        (Some(names), None) => Ok(Some(names)),
+        (None, Some(more)) => Ok(Some(copies(alloc, more)?)),
+        (Some(names), Some(more)) => Ok(Some(both_asked(alloc, names, more)?)),
+    }
+}
+
+/// The names of both lists; none, which asks for all, where one of them has none.
+fn both_asked(alloc: Global, names: Vec<String>, more: &[String]) -> Result<Vec<String>, AllocError>
+    ensures { IfOk result (λ made. Some (names_of made.items)
+        ≡ asked_by_either (Some (names_of names.items)) (Some (names_of more.now))) }
+{
+    if names.is_empty() || more.is_empty() {
+        return Ok(Vec::new(alloc));
+    }
+    let mut both = names;
+    push_copies(&mut both, more)?;
+    Ok(both)
+}
+
+/// The groups of which the package has each name.
+fn known_groups(
+    alloc: Global,
+    features: &Features,
+    groups: &[Feature],
+) -> Result<Vec<Feature>, AllocError>
+    ensures { IfOk result (λ known. groups_of known.items
+        ≡ filter (list_all (is_known features.now)) (groups_of groups.now)) }
+{
+    let mut known = Vec::new(alloc);
+    for group in groups {
+        add_if(
+            alloc,
+            &mut known,
+            group,
+            are_known(features, group.as_group()),
+        )?;
+    }
+    Ok(known)
 }
 
 fn feature_copies(alloc: Global, features: &[Feature]) -> Result<Vec<Feature>, AllocError>

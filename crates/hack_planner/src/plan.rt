@@ -10,7 +10,7 @@ ghost use Rattle.hack_versions.specs.RangeSteps.{NeedsStable};
 ghost use Rattle.hack_rules.specs.declared.uses.behavior.WorkspaceBehavior.TheVariants.{Cargo};
 ghost use Rattle.hack_plan.specs.Inputs.{AreVersionsOf, AreNotices, IsVersionsFault};
 ghost use Rattle.hack_plan.specs.View.{call_view};
-ghost use Rattle.hack_planner.specs.Calls.{IsInputOf, HasBadOwn, call_of};
+ghost use Rattle.hack_planner.specs.Calls.{IsInputOf, HasBadOwn, call_of, table_fault};
 ghost use Rattle.hack_planner.specs.CoveredSets.{AreCovered};
 ghost use Rattle.hack_planner.specs.CallPlan.{IsPlan, IsCause, IsPlanOf, IsCauseOf};
 ghost use Rattle.hack_planner.specs.Internal.{SaysPackagesUnknown};
@@ -25,6 +25,7 @@ use crate::fault::{PackagesFault, PlanFault, of_packages, of_places, of_range};
 use crate::input::input;
 use crate::packages::PackageList;
 use crate::plan_notes::left_out;
+use crate::tables::check_tables;
 use crate::uses::with_uses;
 use crate::words::call_words;
 use hack_base::notice::Notice;
@@ -141,7 +142,7 @@ fn plan_by(
     Ok((plan, notices))
 }
 
-/// The chosen packages.
+/// The chosen packages, of whose tables of rules none has a fault.
 fn chosen_list(alloc: Global, cx: &Context) -> Result<(PackageList, Vec<Notice>), PlanFault>
     ensures ok { IfOk result (λ answer. AreChosen (context_view cx.now)
         (map place_at answer.0.ids.items)) }
@@ -150,13 +151,18 @@ fn chosen_list(alloc: Global, cx: &Context) -> Result<(PackageList, Vec<Notice>)
     ensures members { IfOk result (λ answer.
         All (λ id. Contains (context_view cx.now).metadata.workspace_members id.index)
         answer.0.ids.items) }
+    ensures tables { IfOk result (λ answer. table_fault (context_view cx.now)
+        (map place_at answer.0.ids.items) ≡ None) }
     ensures never { IfOk result (λ _. (e : PackagesFault)
         → ¬ IsChoiceFault (context_view cx.now) e) }
     ensures err { IfErr result (λ e. (e ≡ PlanFault.Memory)
         ⊎ SaysPackagesUnknown (context_view cx.now) e) }
 {
     match determine_package_list(alloc, cx) {
-        Ok(answer) => Ok(answer),
+        Ok(answer) => match check_tables(alloc, cx, answer.0.ids.as_slice()) {
+            Ok(()) => Ok(answer),
+            Err(fault) => Err(fault),
+        },
         Err(fault) => Err(of_packages(fault)),
     }
 }

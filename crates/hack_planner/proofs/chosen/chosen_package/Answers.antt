@@ -4,7 +4,6 @@ use Rattle.hack_features.specs.Feature.{groups_of}
 use Rattle.hack_base.specs.Names.{names_behind}
 use Rattle.hack_load.specs.ContextView.{context_view}
 use Rattle.hack_metadata.specs.RecordViews.{package_view}
-use Rattle.hack_planner.specs.Candidates.{candidate_notes}
 use Rattle.hack_planner.specs.InternalLeastPlaces.{HasRunsAtLeast}
 use Rattle.hack_planner.specs.Kinds.{AreRuns, AreCovering, AreRunSettings, package_choice}
 use Rattle.hack_plan.specs.Runs.{PackageRun, Plain}
@@ -12,8 +11,8 @@ use Rattle.hack_planner.specs.KindsView.{IsKind, IsRunsFault, candidates_in, run
 use Rattle.hack_samples.specs.Sets.{rows_of}
 use Rattle.hack_plan.specs.RunsView.{runs_in}
 use Rattle.hack_words.specs.declared.cli.args.Args.{Args}
-use Rattle.hack_planner.specs.Calls.{given_path, rules_at}
-use Rattle.hack_planner.specs.PackageRules.{PackageRulesRecord, call_rules}
+use Rattle.hack_planner.specs.Calls.{given_path, package_notes, rules_at}
+use Rattle.hack_planner.specs.PackageRules.{PackageRulesRecord}
 use Rattle.hack_planner.specs.declared.fault.RunsFault.TheVariants.{Memory}
 use Rattle.hack_planner.proofs.KindLemmas.{runs-of_kind}
 use Rattle.hack_planner.proofs.LeastPlaceLemmas.{planned-at_least}
@@ -32,7 +31,7 @@ returns-clause-ok c =
     let kind = c.in-Ok-Ok.made.0 in
     let parts = c.in_ok-candidates.ensures in
     let found : IsTrue c.args.one.is_used → IsKind (rules_at cx pkg features) pkg features kind =
-    λ used. subst (λ (w : PackageRulesRecord). IsKind w pkg features kind) c.in_ok-asked.ensures ((rw c.in-Ok-Ok.field-0-is at c.in-Ok-Ok.ensures.kind) used) in
+    λ used. subst (λ (w : PackageRulesRecord). IsKind w pkg features kind) c.in_ok-asked.ensures.rules ((rw c.in-Ok-Ok.field-0-is at c.in-Ok-Ok.ensures.kind) used) in
     let plain : c.args.one.is_used ≡ false → (groups_of c.in_ok-candidates.candidates.items ≡ []) × (runs_in c.in_ok-candidates.runs ≡ Plain ∷ []) =
     λ unused. let e = (rw c.in-Ok-Ok.field-0-is at c.in-Ok-Ok.ensures.unused) unused in (parts.candidates ∙ ap candidates_in e.0, parts.runs ∙ ap runs_of e.0) in
     record {
@@ -59,7 +58,7 @@ returns-clause-coverage c =
     let pkg = package_view c.packages-pkg.result.now in
     let features = c.pkg_features-features.result.now in
     let made = c.in-Ok-Ok.made in
-    let same = c.in_ok-asked.ensures in
+    let same = c.in_ok-asked.ensures.rules in
     let parts = c.in_ok-candidates.ensures in
     record {
       pkg = pkg;
@@ -80,7 +79,7 @@ returns-clause-notes c =
     let pkg = package_view c.packages-pkg.result.now in
     let features = c.pkg_features-features.result.now in
     c.in_ok-notices.ensures
-    ∙ ap (λ (a : Args). candidate_notes c.args.single (call_rules a pkg.name) pkg.name features) c.args-args.ensures
+    ∙ ap (λ (a : Args). package_notes a c.args.single pkg features) c.args-args.ensures
     ∙ sym (notes-at (context_view c.args.cx.now) c.args.single c.args.one.id.index pkg features c.packages-pkg.ensures c.pkg_features-features.ensures)
 
 pub returns-in-Ok-Err-clause-over : goal.returns-in-Ok-Err-clause-over
@@ -90,7 +89,7 @@ returns-in-Ok-Err-clause-over c =
     let features = c.pkg_features-features.result.now in
     let h = rw c.in-Ok-Err.field-0-is at c.in-Ok-Err.ensures.over in (
       planned-at_least cx c.args.one c.in-Ok-Err.least pkg features c.packages-pkg.ensures c.pkg_features-features.ensures h.0
-          (subst (λ (w : PackageRulesRecord). HasRunsAtLeast w pkg features c.in-Ok-Err.least) c.in_ok-asked.ensures h.1),
+          (subst (λ (w : PackageRulesRecord). HasRunsAtLeast w pkg features c.in-Ok-Err.least) c.in_ok-asked.ensures.rules h.1),
       h.2,
     )
 
@@ -101,7 +100,7 @@ returns-in-Err-TooManyQuestions-clause-err c =
     let features = c.pkg_features-features.result.now in
     let fault = c.in-Err-TooManyQuestions.field-0 in
     let wide = no-sample (rules_at cx pkg features) pkg features (IsTrue c.args.one.is_used) c.in-Err-TooManyQuestions.tally fault c.in-Err-TooManyQuestions.field-0-is
-    (subst (λ (w : PackageRulesRecord). (fault ≡ Memory) ⊎ (IsTrue c.args.one.is_used × IsRunsFault w pkg features fault)) c.in_ok-asked.ensures c.in-Err-TooManyQuestions.ensures.err) in
+    (subst (λ (w : PackageRulesRecord). (fault ≡ Memory) ⊎ (IsTrue c.args.one.is_used × IsRunsFault w pkg features fault)) c.in_ok-asked.ensures.rules c.in-Err-TooManyQuestions.ensures.err) in
     inr (
       wide.0,
       record {

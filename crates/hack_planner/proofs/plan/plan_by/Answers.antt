@@ -144,8 +144,8 @@ returns-clause-ok c = λ rustup call.
     }
 
 pub returns-clause-covered : goal.returns-clause-covered
-returns-clause-covered c = λ rustup call powerset all each.
-    covers (context_view c.args.cx.now) rustup c.args.latest c.in-Ok-of_input.plan _ (returns-clause-ok c rustup call) powerset all each
+returns-clause-covered c = λ rustup call powerset each.
+    covers (context_view c.args.cx.now) rustup c.args.latest c.in-Ok-of_input.plan _ (returns-clause-ok c rustup call) powerset each
 
 pub returns-clause-never : goal.returns-clause-never
 returns-clause-never c =
@@ -168,6 +168,7 @@ returns-clause-never c =
       of_call = of_call;
       each = each;
       known = c.in_ok-list.ensures.never;
+      tables = c.in_ok-list.ensures.tables;
       readable = subst (λ (l : List PackageId). (e : VersionFault) → ¬ HasBadOwn cx (map place_at l) e) c.as_slice.ensures.value c.in_ok-input.ensures.never;
       in_range = c.in_ok-versions.ensures.never;
       fits = λ many. c.in-Ok-of_input.ensures.never (subst (λ v. HasTooMany input (counts_in c.in-Ok.answer.0.items) v) (sym c.in_ok-versions.ensures.stable) (subst (λ ns. HasTooMany input ns c.args.latest) (counts-same c.in-Ok.answer.0.items) many));

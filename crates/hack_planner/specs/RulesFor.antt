@@ -1,0 +1,122 @@
+-- What a package's rules are under `--package-rules`: the call's, those of the package's own table
+-- and those of the workspace's.
+use Rattle.std.specs.Prelude.{◌≡◌, ◌==◌, ◌++◌, ◌||◌, ◌×◌, [], ◌∷◌, ℕ, List, Bool, true, false, not, Option, None, Some, Result, Ok, Err, filter, flat_map, fold, length, map, option_and_then, option_map, unwrap_or, if◌then◌else◌}
+use Rattle.std.specs.List.{list_all}
+use Rattle.std.specs.Option.{option_or}
+use Rattle.std.specs.Result.{result_err}
+use Rattle.hack_base.specs.FieldReadings.{FieldReading}
+use Rattle.hack_base.specs.Names.{Name}
+use Rattle.hack_base.specs.Notes.{Note}
+use Rattle.hack_load.specs.declared.features.Features.{Features}
+use Rattle.hack_metadata.specs.Records.{PackageRecord, RulesRecord}
+use Rattle.hack_words.specs.declared.cli.args.Args.{Args}
+use Rattle.hack_planner.specs.Candidates.{contains_name, is_found, is_known}
+use Rattle.hack_planner.specs.MemberNotes.{warning_note}
+use Rattle.hack_planner.specs.PackageRules.{PackageRulesRecord, call_rules}
+use Rattle.hack_planner.specs.Texts.{table_text}
+
+-- there is an element
+abbrev pub has_some : {X : Type 0} → List X → Bool
+has_some xs = not (length xs == 0)
+
+-- the optional dependencies that one or the other asks for; an empty list asks for all
+abbrev pub asked_by_either : Option (List Name) → Option (List Name) → Option (List Name)
+asked_by_either None more = more
+asked_by_either (Some names) None = Some names
+asked_by_either (Some []) (Some more) = Some []
+asked_by_either (Some (x ∷ xs)) (Some []) = Some []
+asked_by_either (Some (x ∷ xs)) (Some (y ∷ ys)) = Some (x ∷ xs ++ y ∷ ys)
+
+-- these rules and those of a table: its names and groups are added, and leave out the runs that the
+-- options of these names leave out; its depth and strength count where there are none
+abbrev pub with_table : RulesRecord → PackageRulesRecord → PackageRulesRecord
+with_table t r = record r {
+  exclude_features = r.exclude_features ++ t.exclude_features;
+  group_features = r.group_features ++ t.group_features;
+  optional_deps = asked_by_either r.optional_deps t.optional_deps;
+  exclusive = r.exclusive ++ t.mutually_exclusive_features;
+  at_least_one_of = r.at_least_one_of ++ t.at_least_one_of;
+  exclude_no_default_features = r.exclude_no_default_features
+      || t.exclude_no_default_features || has_some t.at_least_one_of;
+  exclude_all_features = r.exclude_all_features || t.exclude_all_features
+      || has_some t.exclude_features || has_some t.mutually_exclusive_features;
+  depth = option_or r.depth t.depth;
+  strength = option_or r.strength t.strength;
+}
+
+-- what counts of a table: without a powerset neither its groups nor its depth and its strength
+abbrev pub counted : Bool → RulesRecord → RulesRecord
+counted true t = t
+counted false t = record t {
+  mutually_exclusive_features = [];
+  at_least_one_of = [];
+  group_features = [];
+  depth = None;
+  strength = None;
+}
+
+-- a table whose groups are only those of which the package has each name
+abbrev pub with_known_groups : Features → RulesRecord → RulesRecord
+with_known_groups f t = record t { group_features = filter (list_all (is_known f)) t.group_features }
+
+-- these rules and those of the package's own table; where it has a fault, the call is refused
+abbrev pub and_own : FieldReading RulesRecord → PackageRulesRecord → PackageRulesRecord
+and_own (Ok t) r = with_table (counted r.feature_powerset t) r
+and_own (Err field) r = r
+
+-- these rules and those of the workspace's table, whose names a member needn't have
+abbrev pub and_workspace : Features → FieldReading RulesRecord → PackageRulesRecord → PackageRulesRecord
+and_workspace f (Ok t) r = with_table (counted r.feature_powerset (with_known_groups f t)) r
+and_workspace f (Err field) r = r
+
+-- the rules of a package: the call's, and under `--package-rules` also those of its table and of the
+-- workspace's
+abbrev pub rules_for : Args → FieldReading RulesRecord → PackageRecord → Features → PackageRulesRecord
+rules_for args workspace p f = if args.package_rules
+    then and_workspace f workspace (and_own p.rules (call_rules args p.name))
+    else call_rules args p.name
+
+-- ---- names that a table has
+
+-- the names that a table has, in the order of its keys
+abbrev pub names_of_table : RulesRecord → List Name
+names_of_table t = t.exclude_features ++ (flat_map (λ group. group) t.mutually_exclusive_features
+    ++ (flat_map (λ group. group) t.at_least_one_of
+    ++ (flat_map (λ group. group) t.group_features ++ unwrap_or t.optional_deps [])))
+
+-- these names and one more, unless it is among them
+abbrev pub kept_once : List Name → Name → List Name
+kept_once kept x = if contains_name kept x then kept else kept ++ x ∷ []
+
+-- the names, each once, at its first place
+abbrev pub each_once : List Name → List Name
+each_once names = fold kept_once [] names
+
+-- a warning for each name of the package's own table that the package doesn't have
+abbrev pub own_table_notes : FieldReading RulesRecord → Name → Features → List Note
+own_table_notes (Ok t) pkg f = map (λ x. warning_note (table_text pkg x))
+    (filter (λ x. not (is_found f x)) (each_once (names_of_table t)))
+own_table_notes (Err field) pkg f = []
+
+-- the same, under `--package-rules`
+abbrev pub table_notes : Args → PackageRecord → Features → List Note
+table_notes args p f = if args.package_rules then own_table_notes p.rules p.name f else []
+
+-- ---- faults
+
+-- the first of these that there is
+abbrev pub first_there : {X : Type 0} → List (Option X) → Option X
+first_there [] = None
+first_there (x ∷ xs) = option_or x (first_there xs)
+
+-- a field at fault, of a package's own table or, without a package, of the workspace's
+abbrev pub TableFault : Type 0
+TableFault = Option Name × Name
+
+-- the fault of the workspace's table
+abbrev pub workspace_fault : FieldReading RulesRecord → Option TableFault
+workspace_fault rules = option_map (λ field. (None, field)) (result_err rules)
+
+-- the fault of a package's own table
+abbrev pub own_fault : PackageRecord → Option TableFault
+own_fault p = option_map (λ field. (Some p.name, field)) (result_err p.rules)

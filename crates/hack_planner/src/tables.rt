@@ -1,0 +1,187 @@
+//! The tables of rules in manifests: the notices on the names that they have, and their faults.
+
+ghost use Rattle.std.specs.Prelude.{◌≡◌, ◌⊎◌, IfErr, IfOk, None, OnOk};
+ghost use Rattle.std.specs.Prelude.{filter, flat_map, fold, map, not, option_and_then, option_map};
+ghost use Rattle.hack_base.specs.Names.{names_behind, names_of};
+ghost use Rattle.hack_base.specs.Notes.{note_of};
+ghost use Rattle.hack_features.specs.Feature.{groups_of};
+ghost use Rattle.hack_load.specs.ContextView.{context_view};
+ghost use Rattle.hack_metadata.specs.RecordViews.{package_view, place_at, rules_view};
+ghost use Rattle.hack_planner.specs.Calls.{own_fault_at, package_notes, table_fault};
+ghost use Rattle.hack_planner.specs.Candidates.{contains_name, is_found as found_in};
+ghost use Rattle.hack_planner.specs.Internal.{SaysFault};
+ghost use Rattle.hack_planner.specs.MemberNotes.{warning_note};
+ghost use Rattle.hack_planner.specs.RulesFor.{each_once, first_there, kept_once, names_of_table};
+ghost use Rattle.hack_planner.specs.RulesFor.{own_fault, table_notes as notes_on_table};
+ghost use Rattle.hack_planner.specs.Texts.{table_text as unknown_name};
+
+use crate::candidates::{is_found, notes_on};
+use crate::fault::PlanFault;
+use crate::notes::table_text;
+use hack_base::notice::{Notice, NoticeKind, tell};
+use hack_features::Feature;
+use hack_load::context::Context;
+use hack_load::features::Features;
+use hack_metadata::metadata::{Package, PackageId, RulesTable};
+use hack_words::cli::Args;
+use std::alloc::{AllocError, Global};
+
+/// The notices on the features of a package, and on those that its own table has.
+pub(crate) fn notes_of(
+    alloc: Global,
+    args: &Args,
+    pkg: &Package,
+    features: &Features,
+    single: bool,
+) -> Result<Vec<Notice>, AllocError>
+    ensures { IfOk result (λ notices. map note_of notices.items
+        ≡ package_notes args.now single (package_view pkg.now) features.now) }
+{
+    let mut notices = notes_on(alloc, args, pkg, features, single)?;
+    let mut on_table = table_notes(alloc, args, pkg, features)?;
+    notices.append(&mut on_table)?;
+    Ok(notices)
+}
+
+/// Under `--package-rules` a warning for each name of the package's own table that it doesn't have.
+fn table_notes(
+    alloc: Global,
+    args: &Args,
+    pkg: &Package,
+    features: &Features,
+) -> Result<Vec<Notice>, AllocError>
+    ensures { IfOk result (λ notices. map note_of notices.items
+        ≡ notes_on_table args.now (package_view pkg.now) features.now) }
+{
+    match &pkg.rules {
+        Ok(table) if args.package_rules => {
+            let names = table_names(alloc, table)?;
+            unknown_notes(alloc, &names, pkg.name.as_str(), features)
+        }
+        _ => Ok(Vec::new(alloc)),
+    }
+}
+
+/// A warning for each of these names that the package doesn't have.
+fn unknown_notes(
+    alloc: Global,
+    names: &[&str],
+    pkg: &str,
+    features: &Features,
+) -> Result<Vec<Notice>, AllocError>
+    ensures { IfOk result (λ notices. map note_of notices.items
+        ≡ map (λ x. warning_note (unknown_name pkg.now x))
+        (filter (λ x. not (found_in features.now x)) (names_behind names.now))) }
+{
+    let mut notices = Vec::new(alloc);
+    for name in names {
+        let text = table_text(alloc, *name, pkg)?;
+        let told = !is_found(features, *name);
+        tell(&mut notices, told, NoticeKind::Warn, text)?;
+    }
+    Ok(notices)
+}
+
+/// The names that a table has, in the order of its keys, each once.
+fn table_names<'a>(alloc: Global, table: &'a RulesTable) -> Result<Vec<&'a str>, AllocError>
+    ensures { IfOk result (λ names. names_behind names.items
+        ≡ each_once (names_of_table (rules_view table.now))) }
+{
+    let mut names = Vec::new(alloc);
+    add_names(&mut names, &table.exclude_features)?;
+    add_groups(&mut names, &table.mutually_exclusive_features)?;
+    add_groups(&mut names, &table.at_least_one_of)?;
+    add_groups(&mut names, &table.group_features)?;
+    if let Some(asked) = &table.optional_deps {
+        add_names(&mut names, asked)?;
+    }
+    Ok(names)
+}
+
+/// Adds those of the names of groups that aren't there yet.
+fn add_groups<'a>(names: &mut Vec<&'a str>, groups: &'a [Feature]) -> Result<(), AllocError>
+    ensures { OnOk result (names_behind names.new.items ≡ fold kept_once
+        (names_behind names.old.items) (flat_map (λ group. group) (groups_of groups.now))) }
+{
+    match groups {
+        [] => Ok(()),
+        [group, rest @ ..] => {
+            add_names(names, group.as_group())?;
+            add_groups(names, rest)
+        }
+    }
+}
+
+/// Adds those of the names that aren't there yet.
+fn add_names<'a>(names: &mut Vec<&'a str>, more: &'a [String]) -> Result<(), AllocError>
+    ensures { OnOk result (names_behind names.new.items
+        ≡ fold kept_once (names_behind names.old.items) (names_of more.now)) }
+{
+    match more {
+        [] => Ok(()),
+        [name, rest @ ..] => {
+            if !has_text(names, name.as_str()) {
+                names.push(name.as_str())?;
+            }
+            add_names(names, rest)
+        }
+    }
+}
+
+fn has_text(names: &[&str], name: &str) -> bool
+    ensures { result ≡ contains_name (names_behind names.now) name.now }
+{
+    match names {
+        [] => false,
+        [first, rest @ ..] => name == *first || has_text(rest, name),
+    }
+}
+
+/// Refuses the call where a table has a fault: under `--package-rules` the workspace's, or that of
+/// one of these packages.
+pub(crate) fn check_tables(alloc: Global, cx: &Context, ids: &[PackageId]) -> Result<(), PlanFault>
+    ensures ok { OnOk result (table_fault (context_view cx.now) (map place_at ids.now) ≡ None) }
+    ensures err { IfErr result (λ e. (e ≡ PlanFault.Memory)
+        ⊎ SaysFault (table_fault (context_view cx.now) (map place_at ids.now)) e) }
+{
+    if !cx.args().package_rules {
+        return Ok(());
+    }
+    if let Err(field) = &cx.metadata().rules {
+        return Err(PlanFault::WorkspaceRules(field.clone()?));
+    }
+    check_packages(alloc, cx, ids)
+}
+
+/// Refuses the first of these packages whose own table has a fault.
+fn check_packages(alloc: Global, cx: &Context, ids: &[PackageId]) -> Result<(), PlanFault>
+    ensures ok { OnOk result (first_there
+        (map (own_fault_at (context_view cx.now)) (map place_at ids.now)) ≡ None) }
+    ensures err { IfErr result (λ e. (e ≡ PlanFault.Memory) ⊎ SaysFault (first_there
+        (map (own_fault_at (context_view cx.now)) (map place_at ids.now))) e) }
+{
+    match ids {
+        [] => Ok(()),
+        [id, rest @ ..] => {
+            check_own(alloc, cx.metadata().find(*id))?;
+            check_packages(alloc, cx, rest)
+        }
+    }
+}
+
+/// Refuses a package whose own table has a fault.
+fn check_own(alloc: Global, pkg: Option<&Package>) -> Result<(), PlanFault>
+    ensures ok { OnOk result (option_and_then own_fault
+        (option_map (λ p. package_view p.now) pkg.entry) ≡ None) }
+    ensures err { IfErr result (λ e. (e ≡ PlanFault.Memory) ⊎ SaysFault (option_and_then own_fault
+        (option_map (λ p. package_view p.now) pkg.entry)) e) }
+{
+    let Some(pkg) = pkg else { return Ok(()) };
+    match &pkg.rules {
+        Ok(_) => Ok(()),
+        Err(field) => Err(PlanFault::PackageRules {
+            field: field.clone()?,
+            name: String::from_str(alloc, pkg.name.as_str())?,
+        }),
+    }
+}
