@@ -1,6 +1,7 @@
 pub mod Growth
 pub mod CandidateLemmas
 mod PackageRuleLemmas
+mod TableLemmas
 pub mod KindLemmas
 pub mod PackageLemmas
 pub mod DepthLemmas

@@ -31,9 +31,9 @@ runs-of (Some name) (Err text) cx rustup plan notes h = h
 
 -- the session of a context's plan and the chosen piece, driven to its end
 pub handed_out : (cx : ContextRecord) (stable : Result (Option Version) (String Global)) (rustup : Name) (t : Course) (plan : PlanView) (notes : List Note) (given : Args) → given ≡ cx.args
-    → IsPlanOf cx.args.subcommand stable cx rustup plan notes → ((latest : Option Version) → stable ≡ Ok latest → IsSome cx.args.subcommand → cx.args.feature_powerset ≡ true → cx.args.strength ≡ None → HavePowersets cx latest plan)
-    → ((strength : ℕ) (latest : Option Version) → stable ≡ Ok latest → IsSome cx.args.subcommand → cx.args.feature_powerset ≡ true → cx.args.strength ≡ Some strength → HaveSamples cx strength latest plan)
-    → ((strength : ℕ) (latest : Option Version) → stable ≡ Ok latest → IsSome cx.args.subcommand → cx.args.feature_powerset ≡ true → cx.args.strength ≡ Some strength → ¬ (cx.args.workspace_behavior ≡ Cargo) → ArePatternsHeld cx strength latest plan)
+    → IsPlanOf cx.args.subcommand stable cx rustup plan notes → ((latest : Option Version) → stable ≡ Ok latest → IsSome cx.args.subcommand → cx.args.feature_powerset ≡ true → HavePowersets cx latest plan)
+    → ((latest : Option Version) → stable ≡ Ok latest → IsSome cx.args.subcommand → cx.args.feature_powerset ≡ true → HaveSamples cx latest plan)
+    → ((latest : Option Version) → stable ≡ Ok latest → IsSome cx.args.subcommand → cx.args.feature_powerset ≡ true → ¬ (cx.args.workspace_behavior ≡ Cargo) → ArePatternsHeld cx latest plan)
     → t.plan ≡ plan → t.keep_going ≡ cx.args.keep_going → IsSchedule given.partition plan t.schedule → next_of t ≡ None → IsHistory t → HandsOut given.partition (length plan.entries) t
     → IsHandedOut cx stable t
 handed_out cx stable rustup t plan notes given args planned powersets samples patterns same goes_on schedule complete history runs = record {
@@ -46,7 +46,7 @@ handed_out cx stable rustup t plan notes given args planned powersets samples pa
   };
   runs = subst (λ (p : PlanView). HandsOut cx.args.partition (length p.entries) t) (sym same) (subst (λ (a : Args). HandsOut a.partition (length plan.entries) t) args runs);
   pieces = shared t.plan.entries;
-  powersets = λ latest is some powerset all. subst (λ (p : PlanView). HavePowersets cx latest p) (sym same) (powersets latest is some powerset all);
-  samples = λ strength latest is some powerset sampled. subst (λ (p : PlanView). HaveSamples cx strength latest p) (sym same) (samples strength latest is some powerset sampled);
-  patterns = λ strength latest is some powerset sampled each. subst (λ (p : PlanView). ArePatternsHeld cx strength latest p) (sym same) (patterns strength latest is some powerset sampled each);
+  powersets = λ latest is some powerset. subst (λ (p : PlanView). HavePowersets cx latest p) (sym same) (powersets latest is some powerset);
+  samples = λ latest is some powerset. subst (λ (p : PlanView). HaveSamples cx latest p) (sym same) (samples latest is some powerset);
+  patterns = λ latest is some powerset each. subst (λ (p : PlanView). ArePatternsHeld cx latest p) (sym same) (patterns latest is some powerset each);
 }
