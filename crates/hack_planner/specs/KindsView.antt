@@ -1,5 +1,5 @@
 -- What `Kind` shows as plain data.
-use Rattle.std.specs.Prelude.{◌≡◌, List, [], ◌∷◌, true, false}
+use Rattle.std.specs.Prelude.{◌≡◌, ◌<◌, List, [], ◌∷◌, Bool, true, false, None, length}
 use Rattle.hack_features.specs.Feature.{groups_of}
 use Rattle.hack_plan.specs.Runs.{PackageRun, Plain}
 use Rattle.hack_plan.specs.RunsView.{runs_in}
@@ -10,7 +10,7 @@ use Rattle.hack_load.specs.declared.features.Features.{Features}
 use Rattle.hack_metadata.specs.Records.{PackageRecord}
 use Rattle.hack_planner.specs.Candidates.{candidates}
 use Rattle.hack_planner.specs.PackageRules.{PackageRulesRecord}
-use Rattle.hack_planner.specs.Kinds.{HasPlainRun, HasSetRuns, IsUnsampled}
+use Rattle.hack_planner.specs.Kinds.{AreCovering, AreRuns, AreRunSettings, HasPlainRun, HasSetRuns, IsDepthOne, IsUnsampled, as_each, package_choice}
 use Rattle.hack_planner.specs.declared.fault.RunsFault.{RunsFault}
 use Rattle.hack_planner.specs.declared.fault.RunsFault.TheVariants.{Memory, TooManyQuestions}
 
@@ -38,3 +38,16 @@ IsKind r p f (Powerset list runs) = (r.feature_powerset ≡ true)
 abbrev pub IsRunsFault : PackageRulesRecord → PackageRecord → Features → RunsFault → Type 0
 IsRunsFault r p f Memory = ⊥
 IsRunsFault r p f (TooManyQuestions tally) = IsUnsampled r p f tally
+
+-- the runs that these rules give a package, and their rows: under a powerset of all sets each set of
+-- candidates that has to be covered has a run that covers it; and for a package with optional
+-- dependencies a powerset of depth 1 without strength, exclusion groups and at-least-one groups has
+-- the runs of `--each-feature`
+pub record AreRunsBy (r : PackageRulesRecord) (p : PackageRecord) (f : Features) (kind : Kind)
+    (rows : List (List Bool)) : Type 0 where
+  pub is_kind : IsKind r p f kind
+  pub runs : AreRuns r p f (runs_of kind)
+  pub covered : r.feature_powerset ≡ true → r.strength ≡ None → AreCovering r p f (runs_of kind)
+  pub depth_one : IsDepthOne r → 0 < length f.optional_deps.items
+      → AreRuns (as_each r) p f (runs_of kind)
+  pub settings : AreRunSettings r.strength (package_choice r p f) (runs_of kind) rows

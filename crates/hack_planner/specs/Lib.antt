@@ -9,7 +9,6 @@ pub mod Candidates
 pub mod RulesFor
 pub mod Kinds
 pub mod KindsView
-pub mod PackageRunsView
 pub mod InternalKinds
 pub mod ContextMembers
 pub mod Calls

@@ -1,6 +1,6 @@
 -- What a package's rules are under `--package-rules`: the call's, those of the package's own table
 -- and those of the workspace's.
-use Rattle.std.specs.Prelude.{◌≡◌, ◌==◌, ◌++◌, ◌||◌, ◌×◌, [], ◌∷◌, ℕ, List, Bool, true, false, not, Option, None, Some, Result, Ok, Err, filter, flat_map, fold, length, map, option_and_then, option_map, unwrap_or, if◌then◌else◌}
+use Rattle.std.specs.Prelude.{◌≡◌, ◌==◌, ◌++◌, ◌||◌, [], ◌∷◌, ℕ, List, Bool, true, false, not, Option, None, Some, Result, Ok, Err, filter, flat_map, fold, length, map, option_and_then, option_map, unwrap_or, if◌then◌else◌}
 use Rattle.std.specs.List.{list_all}
 use Rattle.std.specs.Option.{option_or}
 use Rattle.std.specs.Result.{result_err}
@@ -27,33 +27,34 @@ asked_by_either (Some []) (Some more) = Some []
 asked_by_either (Some (x ∷ xs)) (Some []) = Some []
 asked_by_either (Some (x ∷ xs)) (Some (y ∷ ys)) = Some (x ∷ xs ++ y ∷ ys)
 
--- these rules and those of a table: its names and groups are added, and leave out the runs that the
--- options of these names leave out; its depth and strength count where there are none
-abbrev pub with_table : RulesRecord → PackageRulesRecord → PackageRulesRecord
-with_table t r = record r {
+-- these rules and what counts of a table in any case: its names are added, excluded ones leave out
+-- the run with all features, and so do its own words on runs
+abbrev pub with_names : RulesRecord → PackageRulesRecord → PackageRulesRecord
+with_names t r = record r {
   exclude_features = r.exclude_features ++ t.exclude_features;
-  group_features = r.group_features ++ t.group_features;
   optional_deps = asked_by_either r.optional_deps t.optional_deps;
+  exclude_no_default_features = r.exclude_no_default_features || t.exclude_no_default_features;
+  exclude_all_features =
+      r.exclude_all_features || t.exclude_all_features || has_some t.exclude_features;
+}
+
+-- these rules and what counts of a table under a powerset: its groups are added, and leave out the
+-- runs that the options of these names leave out; its depth and strength count where there are none
+abbrev pub with_groups : RulesRecord → PackageRulesRecord → PackageRulesRecord
+with_groups t r = record r {
+  group_features = r.group_features ++ t.group_features;
   exclusive = r.exclusive ++ t.mutually_exclusive_features;
   at_least_one_of = r.at_least_one_of ++ t.at_least_one_of;
-  exclude_no_default_features = r.exclude_no_default_features
-      || t.exclude_no_default_features || has_some t.at_least_one_of;
-  exclude_all_features = r.exclude_all_features || t.exclude_all_features
-      || has_some t.exclude_features || has_some t.mutually_exclusive_features;
+  exclude_no_default_features = r.exclude_no_default_features || has_some t.at_least_one_of;
+  exclude_all_features = r.exclude_all_features || has_some t.mutually_exclusive_features;
   depth = option_or r.depth t.depth;
   strength = option_or r.strength t.strength;
 }
 
--- what counts of a table: without a powerset neither its groups nor its depth and its strength
-abbrev pub counted : Bool → RulesRecord → RulesRecord
-counted true t = t
-counted false t = record t {
-  mutually_exclusive_features = [];
-  at_least_one_of = [];
-  group_features = [];
-  depth = None;
-  strength = None;
-}
+-- these rules and those of a table
+abbrev pub with_table : RulesRecord → PackageRulesRecord → PackageRulesRecord
+with_table t r =
+    if r.feature_powerset then with_groups t (with_names t r) else with_names t r
 
 -- a table whose groups are only those of which the package has each name
 abbrev pub with_known_groups : Features → RulesRecord → RulesRecord
@@ -61,12 +62,12 @@ with_known_groups f t = record t { group_features = filter (list_all (is_known f
 
 -- these rules and those of the package's own table; where it has a fault, the call is refused
 abbrev pub and_own : FieldReading RulesRecord → PackageRulesRecord → PackageRulesRecord
-and_own (Ok t) r = with_table (counted r.feature_powerset t) r
+and_own (Ok t) r = with_table t r
 and_own (Err field) r = r
 
 -- these rules and those of the workspace's table, whose names a member needn't have
 abbrev pub and_workspace : Features → FieldReading RulesRecord → PackageRulesRecord → PackageRulesRecord
-and_workspace f (Ok t) r = with_table (counted r.feature_powerset (with_known_groups f t)) r
+and_workspace f (Ok t) r = with_table (with_known_groups f t) r
 and_workspace f (Err field) r = r
 
 -- the rules of a package: the call's, and under `--package-rules` also those of its table and of the

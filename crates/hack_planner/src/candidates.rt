@@ -232,7 +232,7 @@ fn applied_groups(
 
 /// Whether there is no feature.
 pub(crate) fn is_bare(features: &[Feature]) -> bool
-    ensures { result ≡ (length features.now == 0) }
+    ensures { result ≡ (length (groups_of features.now) == 0) }
 {
     features.is_empty()
 }

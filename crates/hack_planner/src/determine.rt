@@ -9,8 +9,8 @@ ghost use Rattle.hack_metadata.specs.Records.{PackageRecord};
 ghost use Rattle.hack_base.specs.Notes.{note_of};
 ghost use Rattle.hack_planner.specs.MembersView.{member_view};
 ghost use Rattle.hack_planner.specs.Calls.{package_notes, rules_at};
-ghost use Rattle.hack_planner.specs.KindsView.{IsRunsFault};
-ghost use Rattle.hack_planner.specs.PackageRunsView.{AreRunsBy};
+ghost use Rattle.hack_planner.specs.KindsView.{AreRunsBy, IsRunsFault};
+ghost use Rattle.hack_samples.specs.Sets.{rows_of};
 ghost use Rattle.hack_planner.specs.ContextMembers.{member_at, members_in};
 ghost use Rattle.hack_planner.specs.ContextMembers.{current_name as current_called};
 ghost use Rattle.hack_planner.specs.ContextMembers.{AreChosen, AreChoiceNotes, IsChoiceFault};
@@ -109,7 +109,8 @@ pub fn determine_kind(
         → package_at (context_view context.now) id.index ≡ Some p
         → features_at (context_view context.now) id.index ≡ Some features
         → IfOk result (λ answer.
-        AreRunsBy (rules_at (context_view context.now) p features) p features answer.0) }
+        AreRunsBy (rules_at (context_view context.now) p features) p features answer.0.kind
+        (rows_of answer.0.settings.items)) }
     ensures notices { (p : PackageRecord) (features : Loaded)
         → package_at (context_view context.now) id.index ≡ Some p
         → features_at (context_view context.now) id.index ≡ Some features

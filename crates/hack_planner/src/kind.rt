@@ -12,11 +12,10 @@ ghost use Rattle.hack_metadata.specs.RecordViews.{package_view};
 ghost use Rattle.hack_planner.specs.Kinds.{AreRunSettings};
 ghost use Rattle.hack_plan.specs.Commands.{candidate_names_at};
 ghost use Rattle.hack_planner.specs.Kinds.{AreCovering, package_choice};
-ghost use Rattle.hack_planner.specs.PackageRunsView.{AreRunsBy};
 ghost use Rattle.hack_samples.specs.Sets.{rows_of};
 ghost use Rattle.hack_planner.specs.InternalKinds.{kind_from as kind_made};
 ghost use Rattle.hack_planner.specs.InternalLeastPlaces.{HasRunsAtLeast, IsOver};
-ghost use Rattle.hack_planner.specs.KindsView.{IsKind, IsRunsFault, runs_of, candidates_in};
+ghost use Rattle.hack_planner.specs.KindsView.{AreRunsBy, IsKind, IsRunsFault, runs_of, candidates_in};
 ghost use Rattle.hack_plan.specs.Inputs.{AreVersionsOf};
 ghost use Rattle.hack_planner.specs.PackageRules.{call_rules, rules_in};
 
@@ -212,7 +211,8 @@ pub(crate) fn runs_by(
     features: &Features,
 ) -> Result<PackageRuns, RunsFault>
     ensures id { IfOk result (λ made. made.id ≡ id) }
-    ensures made { IfOk result (AreRunsBy (rules_in asked.now) (package_view pkg.now) features.now) }
+    ensures made { IfOk result (λ made. AreRunsBy (rules_in asked.now)
+        (package_view pkg.now) features.now made.kind (rows_of made.settings.items)) }
     ensures err { IfErr result (λ e. (e ≡ RunsFault.Memory)
         ⊎ IsRunsFault (rules_in asked.now) (package_view pkg.now) features.now e) }
 {
@@ -240,8 +240,8 @@ pub fn determine_runs(
 ) -> Result<(PackageRuns, Vec<Notice>), RunsFault>
     ensures id { IfOk result (λ answer. answer.0.id ≡ id) }
     ensures made { IfOk result (λ answer.
-        AreRunsBy (call_rules args.now (package_view pkg.now).name)
-        (package_view pkg.now) features.now answer.0) }
+        AreRunsBy (call_rules args.now (package_view pkg.now).name) (package_view pkg.now)
+        features.now answer.0.kind (rows_of answer.0.settings.items)) }
     ensures notices { IfOk result (λ answer. map note_of answer.1.items
         ≡ candidate_notes single (call_rules args.now (package_view pkg.now).name)
         (package_view pkg.now).name features.now) }

@@ -1,7 +1,7 @@
 //! The rules of a package: what the call asks of its runs, and under `--package-rules` the tables
 //! `[package.metadata.cargo-hack]` and `[workspace.metadata.cargo-hack]` too.
 
-ghost use Rattle.std.specs.Prelude.{◌≡◌, ◌&&◌, ◌++◌, IfOk, OnOk, Some, false, filter, not};
+ghost use Rattle.std.specs.Prelude.{◌≡◌, ◌&&◌, ◌||◌, ◌++◌, IfOk, OnOk, Some, false, filter, not};
 ghost use Rattle.std.specs.Prelude.{option_map, string_bytes};
 ghost use Rattle.std.specs.List.{list_all, list_any};
 ghost use Rattle.std.specs.Str.{bytes_eq};
@@ -14,10 +14,10 @@ ghost use Rattle.hack_rules.specs.CliLists.{same_names};
 ghost use Rattle.hack_planner.specs.Calls.{rules_at};
 ghost use Rattle.hack_planner.specs.Candidates.{is_known};
 ghost use Rattle.hack_planner.specs.PackageRules.{call_rules, is_lifted as lifted_for, rules_in};
-ghost use Rattle.hack_planner.specs.RulesFor.{and_own, and_workspace, asked_by_either, counted};
-ghost use Rattle.hack_planner.specs.RulesFor.{with_table};
+ghost use Rattle.hack_planner.specs.RulesFor.{and_own, and_workspace, asked_by_either, has_some};
+ghost use Rattle.hack_planner.specs.RulesFor.{with_groups, with_names, with_table};
 
-use crate::candidates::{add_if, are_known, copy_feature};
+use crate::candidates::{add_if, are_known, copy_feature, is_bare};
 use hack_base::copies::{copies, push_copies};
 use hack_features::Feature;
 use hack_load::context::Context;
@@ -124,26 +124,48 @@ impl PackageRules {
         }
     }
 
-    /// Adds what counts of a table, of which these are the groups of features.
+    /// Adds the rules of a table, of whose groups of features just these.
     fn add(
         &mut self,
         alloc: Global,
         table: &RulesTable,
         groups: &[Feature],
     ) -> Result<(), AllocError>
-        ensures { OnOk result (rules_in self.new ≡ with_table (counted self.old.feature_powerset
-            (record (rules_view table.now) { group_features = groups_of groups.now }))
+        ensures { OnOk result (rules_in self.new ≡ with_table
+            (record (rules_view table.now) { group_features = groups_of groups.now })
             (rules_in self.old)) }
+    {
+        self.add_names(alloc, table)?;
+        if self.feature_powerset {
+            self.add_groups(alloc, table, groups)?;
+        }
+        Ok(())
+    }
+
+    /// Adds what counts of a table in any case.
+    fn add_names(&mut self, alloc: Global, table: &RulesTable) -> Result<(), AllocError>
+        ensures { OnOk result (rules_in self.new
+            ≡ with_names (rules_view table.now) (rules_in self.old)) }
     {
         push_copies(&mut self.exclude_features, &table.exclude_features)?;
         let optional = self.optional_deps.take();
         self.optional_deps = either_asked(alloc, optional, table.optional_deps.as_deref())?;
         self.exclude_no_default_features |= table.exclude_no_default_features;
-        self.exclude_all_features |= table.exclude_all_features
-            || !table.exclude_features.is_empty();
-        if !self.feature_powerset {
-            return Ok(());
-        }
+        self.exclude_all_features |= leaves_all(table);
+        Ok(())
+    }
+
+    /// Adds what counts of a table under a powerset.
+    fn add_groups(
+        &mut self,
+        alloc: Global,
+        table: &RulesTable,
+        groups: &[Feature],
+    ) -> Result<(), AllocError>
+        ensures { OnOk result (rules_in self.new ≡ with_groups
+            (record (rules_view table.now) { group_features = groups_of groups.now })
+            (rules_in self.old)) }
+    {
         push_features(alloc, &mut self.group_features, groups)?;
         push_features(
             alloc,
@@ -151,12 +173,26 @@ impl PackageRules {
             &table.mutually_exclusive_features,
         )?;
         push_features(alloc, &mut self.at_least_one_of, &table.at_least_one_of)?;
-        self.exclude_no_default_features |= !table.at_least_one_of.is_empty();
-        self.exclude_all_features |= !table.mutually_exclusive_features.is_empty();
+        self.exclude_no_default_features |= !is_bare(&table.at_least_one_of);
+        self.exclude_all_features |= !is_bare(&table.mutually_exclusive_features);
         self.depth = self.depth.or(table.depth);
         self.strength = self.strength.or(table.strength);
         Ok(())
     }
+}
+
+/// Whether what counts of a table in any case leaves out the run with all features.
+fn leaves_all(table: &RulesTable) -> bool
+    ensures { result ≡ ((rules_view table.now).exclude_all_features
+        || has_some (rules_view table.now).exclude_features) }
+{
+    table.exclude_all_features || has_names(&table.exclude_features)
+}
+
+fn has_names(names: &[String]) -> bool
+    ensures { result ≡ has_some (names_of names.now) }
+{
+    !names.is_empty()
 }
 
 /// Adds copies of features.
@@ -240,7 +276,7 @@ fn optional_copies(
     names: Option<&[String]>,
 ) -> Result<Option<Vec<String>>, AllocError>
     ensures { IfOk result (λ made. option_map (λ names. names_of names.items) made
-        ≡ option_map (λ names. names_of names.now) names.entry) }
+        ≡ option_map names_of (option_map (λ names. names.now) names.entry)) }
 {
     match names {
         Some(names) => Ok(Some(copies(alloc, names)?)),

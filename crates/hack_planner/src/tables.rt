@@ -2,20 +2,20 @@
 
 ghost use Rattle.std.specs.Prelude.{◌≡◌, ◌⊎◌, IfErr, IfOk, None, OnOk};
 ghost use Rattle.std.specs.Prelude.{filter, flat_map, fold, map, not, option_and_then, option_map};
-ghost use Rattle.hack_base.specs.Names.{names_behind, names_of};
+ghost use Rattle.hack_base.specs.Names.{names_of};
 ghost use Rattle.hack_base.specs.Notes.{note_of};
 ghost use Rattle.hack_features.specs.Feature.{groups_of};
 ghost use Rattle.hack_load.specs.ContextView.{context_view};
 ghost use Rattle.hack_metadata.specs.RecordViews.{package_view, place_at, rules_view};
 ghost use Rattle.hack_planner.specs.Calls.{own_fault_at, package_notes, table_fault};
-ghost use Rattle.hack_planner.specs.Candidates.{contains_name, is_found as found_in};
+ghost use Rattle.hack_planner.specs.Candidates.{is_found as found_in};
 ghost use Rattle.hack_planner.specs.Internal.{SaysFault};
 ghost use Rattle.hack_planner.specs.MemberNotes.{warning_note};
 ghost use Rattle.hack_planner.specs.RulesFor.{each_once, first_there, kept_once, names_of_table};
 ghost use Rattle.hack_planner.specs.RulesFor.{own_fault, table_notes as notes_on_table};
 ghost use Rattle.hack_planner.specs.Texts.{table_text as unknown_name};
 
-use crate::candidates::{is_found, notes_on};
+use crate::candidates::{has_name, is_found, notes_on};
 use crate::fault::PlanFault;
 use crate::notes::table_text;
 use hack_base::notice::{Notice, NoticeKind, tell};
@@ -65,26 +65,26 @@ fn table_notes(
 /// A warning for each of these names that the package doesn't have.
 fn unknown_notes(
     alloc: Global,
-    names: &[&str],
+    names: &[String],
     pkg: &str,
     features: &Features,
 ) -> Result<Vec<Notice>, AllocError>
     ensures { IfOk result (λ notices. map note_of notices.items
         ≡ map (λ x. warning_note (unknown_name pkg.now x))
-        (filter (λ x. not (found_in features.now x)) (names_behind names.now))) }
+        (filter (λ x. not (found_in features.now x)) (names_of names.now))) }
 {
     let mut notices = Vec::new(alloc);
     for name in names {
-        let text = table_text(alloc, *name, pkg)?;
-        let told = !is_found(features, *name);
+        let text = table_text(alloc, name.as_str(), pkg)?;
+        let told = !is_found(features, name.as_str());
         tell(&mut notices, told, NoticeKind::Warn, text)?;
     }
     Ok(notices)
 }
 
 /// The names that a table has, in the order of its keys, each once.
-fn table_names<'a>(alloc: Global, table: &'a RulesTable) -> Result<Vec<&'a str>, AllocError>
-    ensures { IfOk result (λ names. names_behind names.items
+fn table_names(alloc: Global, table: &RulesTable) -> Result<Vec<String>, AllocError>
+    ensures { IfOk result (λ names. names_of names.items
         ≡ each_once (names_of_table (rules_view table.now))) }
 {
     let mut names = Vec::new(alloc);
@@ -99,9 +99,9 @@ fn table_names<'a>(alloc: Global, table: &'a RulesTable) -> Result<Vec<&'a str>,
 }
 
 /// Adds those of the names of groups that aren't there yet.
-fn add_groups<'a>(names: &mut Vec<&'a str>, groups: &'a [Feature]) -> Result<(), AllocError>
-    ensures { OnOk result (names_behind names.new.items ≡ fold kept_once
-        (names_behind names.old.items) (flat_map (λ group. group) (groups_of groups.now))) }
+fn add_groups(names: &mut Vec<String>, groups: &[Feature]) -> Result<(), AllocError>
+    ensures { OnOk result (names_of names.new.items ≡ fold kept_once
+        (names_of names.old.items) (flat_map (λ group. group) (groups_of groups.now))) }
 {
     match groups {
         [] => Ok(()),
@@ -113,27 +113,18 @@ fn add_groups<'a>(names: &mut Vec<&'a str>, groups: &'a [Feature]) -> Result<(),
 }
 
 /// Adds those of the names that aren't there yet.
-fn add_names<'a>(names: &mut Vec<&'a str>, more: &'a [String]) -> Result<(), AllocError>
-    ensures { OnOk result (names_behind names.new.items
-        ≡ fold kept_once (names_behind names.old.items) (names_of more.now)) }
+fn add_names(names: &mut Vec<String>, more: &[String]) -> Result<(), AllocError>
+    ensures { OnOk result (names_of names.new.items
+        ≡ fold kept_once (names_of names.old.items) (names_of more.now)) }
 {
     match more {
         [] => Ok(()),
         [name, rest @ ..] => {
-            if !has_text(names, name.as_str()) {
-                names.push(name.as_str())?;
+            if !has_name(names, name.as_str()) {
+                names.push(name.clone()?)?;
             }
             add_names(names, rest)
         }
-    }
-}
-
-fn has_text(names: &[&str], name: &str) -> bool
-    ensures { result ≡ contains_name (names_behind names.now) name.now }
-{
-    match names {
-        [] => false,
-        [first, rest @ ..] => name == *first || has_text(rest, name),
     }
 }
 

@@ -4,11 +4,11 @@ use Rattle.hack_load.specs.declared.features.Features.{Features}
 use Rattle.hack_metadata.specs.Records.{PackageRecord}
 use Rattle.hack_metadata.specs.RecordViews.{package_view}
 use Rattle.hack_base.specs.Notes.{note_of}
+use Rattle.hack_samples.specs.Sets.{rows_of}
 use Rattle.hack_words.specs.declared.cli.args.Args.{Args}
 use Rattle.hack_planner.specs.Calls.{package_notes, rules_at}
-use Rattle.hack_planner.specs.KindsView.{IsRunsFault}
+use Rattle.hack_planner.specs.KindsView.{AreRunsBy, IsRunsFault}
 use Rattle.hack_planner.specs.PackageRules.{PackageRulesRecord}
-use Rattle.hack_planner.specs.PackageRunsView.{AreRunsBy}
 use Rattle.hack_planner.specs.declared.fault.RunsFault.TheVariants as fault
 use Rattle.hack_planner.proofs.PackageRuleLemmas.{at-place}
 use Rattle.hack_planner.proofs.determine.determine_kind.Goals as goal
@@ -19,17 +19,11 @@ packages-pkg-requires c = c.workspace_members.ensures.whole.packages c.args.id.i
 pub returns-in-Ok-clause-made : goal.returns-in-Ok-clause-made
 returns-in-Ok-clause-made c = λ (p : PackageRecord) (f : Features) known loaded.
     let cx = context_view c.args.context.now in
-    at-place cx c.args.id.index (λ q g. AreRunsBy (rules_at cx q g) q g c.in-Ok.made) (package_view c.packages-pkg.result.now) p c.pkg_features-features.result.now f c.packages-pkg.ensures c.pkg_features-features.ensures known loaded
-    (subst (λ (w : PackageRulesRecord). AreRunsBy w (package_view c.packages-pkg.result.now) c.pkg_features-features.result.now c.in-Ok.made) c.in_ok-asked.ensures.rules c.in-Ok.ensures.made)
+    at-place cx c.args.id.index (λ q g. AreRunsBy (rules_at cx q g) q g c.in-Ok.made.kind (rows_of c.in-Ok.made.settings.items)) (package_view c.packages-pkg.result.now) p c.pkg_features-features.result.now f c.packages-pkg.ensures c.pkg_features-features.ensures known loaded
+    (subst (λ (w : PackageRulesRecord). AreRunsBy w (package_view c.packages-pkg.result.now) c.pkg_features-features.result.now c.in-Ok.made.kind (rows_of c.in-Ok.made.settings.items)) c.in_ok-asked.ensures.rules c.in-Ok.ensures.made)
 
 pub returns-in-Ok-clause-notices : goal.returns-in-Ok-clause-notices
 returns-in-Ok-clause-notices c = λ (p : PackageRecord) (f : Features) known loaded.
     let cx = context_view c.args.context.now in
     at-place cx c.args.id.index (λ q g. map note_of c.in_ok-notices.notices.items ≡ package_notes cx.args c.args.single q g) (package_view c.packages-pkg.result.now) p c.pkg_features-features.result.now f c.packages-pkg.ensures c.pkg_features-features.ensures known loaded
     (c.in_ok-notices.ensures ∙ ap (λ (a : Args). package_notes a c.args.single (package_view c.packages-pkg.result.now) c.pkg_features-features.result.now) c.args-2.ensures)
-
-pub returns-in-Err-clause-err : goal.returns-in-Err-clause-err
-returns-in-Err-clause-err c = λ (p : PackageRecord) (f : Features) known loaded.
-    let cx = context_view c.args.context.now in
-    at-place cx c.args.id.index (λ q g. (c.in-Err.fault ≡ fault.Memory) ⊎ IsRunsFault (rules_at cx q g) q g c.in-Err.fault) (package_view c.packages-pkg.result.now) p c.pkg_features-features.result.now f c.packages-pkg.ensures c.pkg_features-features.ensures known loaded
-    (subst (λ (w : PackageRulesRecord). (c.in-Err.fault ≡ fault.Memory) ⊎ IsRunsFault w (package_view c.packages-pkg.result.now) c.pkg_features-features.result.now c.in-Err.fault) c.in_ok-asked.ensures.rules c.in-Err.ensures.err)

@@ -12,7 +12,7 @@ returns-clause-made c =
     let kind = rw c.in-Ok.is at c.in_ok-kind.ensures.kind in
     let runs = runs-of_kind w p f _ kind in
     record {
-      kind = kind;
+      is_kind = kind;
       runs = runs;
       covered = rw c.in-Ok.is at c.in_ok-kind.ensures.covered;
       depth_one = λ one some. depth-one w p f _ one some runs;
