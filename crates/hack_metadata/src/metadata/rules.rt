@@ -88,29 +88,29 @@ impl RulesTable {
         }
     }
 
-    /// Reads the known keys of a table. Flags and numbers are read before the lists are taken out,
-    /// but their faults come after those of the lists.
+    /// Reads the known keys of a table.
     fn from_known(alloc: Global, mut object: Object) -> Result<RulesTable, RulesFault>
         ensures { ReturnsKey rules_view result (read_known (members_view object.entries)) }
     {
-        let limits = Limits::from_object(alloc, &object);
         let excluded = remove_names(alloc, &mut object, "exclude-features")?;
         let exclusive = remove_groups(alloc, &mut object, "mutually-exclusive-features")?;
         let needed = remove_groups(alloc, &mut object, "at-least-one-of")?;
         let grouped = remove_groups(alloc, &mut object, "group-features")?;
         let optional = remove_optional(alloc, &mut object, "optional-deps")?;
-        let limits = limits?;
-        Ok(RulesTable {
-            exclude_features: excluded,
-            mutually_exclusive_features: exclusive,
-            at_least_one_of: needed,
-            group_features: grouped,
-            optional_deps: optional,
-            exclude_no_default_features: limits.no_default,
-            exclude_all_features: limits.all_features,
-            depth: limits.depth,
-            strength: limits.strength,
-        })
+        match Limits::from_object(alloc, &object) {
+            Ok(limits) => Ok(RulesTable {
+                exclude_features: excluded,
+                mutually_exclusive_features: exclusive,
+                at_least_one_of: needed,
+                group_features: grouped,
+                optional_deps: optional,
+                exclude_no_default_features: limits.no_default,
+                exclude_all_features: limits.all_features,
+                depth: limits.depth,
+                strength: limits.strength,
+            }),
+            Err(fault) => Err(fault),
+        }
     }
 }
 
