@@ -1,5 +1,5 @@
 -- What a write that was cut left.
-use Rattle.std.proofs.Common.{◌≡◌, ◌⊎◌, ◌≤◌, ◌+◌, ◌↔◌, inl, inr, ℕ, zero, suc, List, [], ◌∷◌, ◌++◌, Option, Some, None, refl, sym, ◌∙◌, ap, subst, take, drop, length, cond, true, false, arith}
+use Rattle.std.proofs.Common.{◌≡◌, ◌≤◌, ◌+◌, inl, inr, ℕ, zero, suc, List, [], ◌∷◌, ◌++◌, Option, Some, None, refl, sym, ◌∙◌, ap, subst, take, drop, length, cond, true, false, arith}
 use Rattle.std.specs.Prelude.{nat_eq, IsTrue, Bool}
 use Rattle.std.specs.List.{common_prefix_len}
 use Rattle.std.proofs.Math.Seq.{drop-nil}
@@ -12,7 +12,7 @@ use Rattle.std.specs.Cmp.Lexicographic.{pointwise}
 use Rattle.hack_journal.specs.Journal.{Edit}
 use Rattle.hack_journal.specs.SafeFiles.{SomeEntryHasBytes}
 use Rattle.hack_journal.specs.Recovery.{IsCut, IsCutText, IsOwn}
-use Rattle.hack_journal.specs.Internal.{EntryHas, IsCutOf, IsOver, SomeEntryHas}
+use Rattle.hack_journal.specs.Internal.{IsCutOf, IsOver, SomeEntryHas}
 
 -- one more byte is shared
 one_more : (x y : ℕ) (xs ys : List ℕ) → nat_eq x y ≡ true → common_prefix_len nat_eq (x ∷ xs) (y ∷ ys) ≡ suc (common_prefix_len nat_eq xs ys)

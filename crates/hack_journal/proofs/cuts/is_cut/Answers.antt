@@ -1,4 +1,3 @@
-use Rattle.std.proofs.Common.{◌≡◌, ◌∙◌, ap, sym}
 use Rattle.hack_journal.proofs.CutLemmas.{cut_by}
 use Rattle.hack_journal.proofs.cuts.is_cut.Goals as goal
 

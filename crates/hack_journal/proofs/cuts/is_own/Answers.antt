@@ -1,4 +1,4 @@
-use Rattle.std.proofs.Common.{List, ℕ, ap}
+use Rattle.std.proofs.Common.{ap}
 use Rattle.std.specs.Option.{option_map}
 use Rattle.hack_journal.specs.Journal.{edits_of}
 use Rattle.hack_journal.proofs.CutLemmas.{own_by}
