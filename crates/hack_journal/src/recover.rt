@@ -294,8 +294,8 @@ fn take_back<F: Files>(
 ///
 /// Nothing is written before all paths are read: where one holds what no call left there, or the
 /// journal isn't one that a call writes, nothing is changed. It may itself be interrupted at any
-/// moment, and called again: it writes each file as a whole, since over a cut text the front of
-/// another could not be told from what somebody wrote.
+/// moment, and called again. So it writes each file as a whole: what a cut write leaves over a text
+/// that was cut before, the next call wouldn't know.
 #[tactic(auto, using(crate::proofs::CountLemmas::grows_then))]
 pub fn recover<F: Files>(
     alloc: Global,
