@@ -52,6 +52,7 @@ fn is_over_one(entry: &Entry, path: &str, new: Option<&[u8]>, now: &[u8]) -> boo
         && (is_cut(new, entry.held.as_deref(), now) || is_cut(new, entry.wrote.as_deref(), now))
 }
 
+// The same of one of these entries.
 #[tactic(auto, unfolding(crate::specs::Internal::IsOver))]
 fn is_over(entries: &[Entry], path: &str, new: Option<&[u8]>, now: &[u8]) -> bool
     ensures { IsTrue result ↔ IsOver (edits_of entries.now) path.now now.now
@@ -73,6 +74,7 @@ fn is_of_one(all: &[Entry], entry: &Entry, path: &str, now: &[u8]) -> bool
             || is_over(all, path, entry.wrote.as_deref(), now))
 }
 
+// The same of one of these entries.
 fn is_of(all: &[Entry], entries: &[Entry], path: &str, now: &[u8]) -> bool
     ensures { IsTrue result ↔ SomeEntryHas (IsOver (edits_of all.now) path.now now.now)
         (edits_of entries.now) path.now }
