@@ -4,9 +4,10 @@
 usage: tests/kill_points.py [--every K] CARGO_HACK
 
 A small library, built by the machine's C compiler and loaded before the program, kills it before its n-th call that
-opens a file for writing, flushes, renames or removes one, for n from 1 (with K: 1, K + 1, ..) until a run ends by itself.
-Within a second, and without a further call, its guard has to restore every manifest and the lockfile, byte for byte; then
-no process of it is left, and no file but one that was to become the first of the journal: git tells what it told before.
+opens a file for writing, writes a manifest, flushes, cuts off, renames or removes a file, for n from 1 (with K: 1, K + 1,
+..) until a run ends by itself. Within a second, and without a further call, its guard has to restore every manifest and the
+lockfile, byte for byte; then no process of it is left, and no file but one that was to become the first of the journal: git
+tells what it told before. The same holds where it is killed in a write of a manifest, before the last byte is written.
 
 Where no guard can act, since the PATH has no shell, a call without edits follows, which is itself killed at each of its
 changes and followed by a third; and where the guard is killed at each of its changes, one call follows.
@@ -33,7 +34,7 @@ from killed_calls import (  # noqa: E402
 from small_workspace import FILES, library, write  # noqa: E402
 
 # Kills programs of this name before the call of that number, or stops them, and says so by a file: the program itself, or the
-# one that its guard calls.
+# one that its guard calls. With KILL_CUTS only writes of manifests are counted, and that one is made but for its last byte.
 LIBRARY = r"""
 #define _GNU_SOURCE
 #include <dlfcn.h>
@@ -41,24 +42,67 @@ LIBRARY = r"""
 #include <fcntl.h>
 #include <signal.h>
 #include <stdarg.h>
+#include <stdio.h>
 #include <stdlib.h>
 #include <string.h>
+#include <sys/types.h>
 #include <unistd.h>
 
 static long calls, at;
+static int cuts;
 static int (*open_below)(const char *, int, ...);
 
 __attribute__((constructor)) static void start(void) {
     const char *name = getenv("KILL_IN"), *number = getenv("KILL_AT");
     open_below = dlsym(RTLD_NEXT, "open");
+    cuts = getenv("KILL_CUTS") != NULL;
     if (!getenv("KILL_GUARD") != !getenv("CARGO_HACK_GUARD")) return;
     if (name && number && !strcmp(program_invocation_short_name, name)) at = atol(number);
 }
 
-static void count(void) {
-    if (!at || ++calls != at) return;
+static int is_now(void) {
+    return at && ++calls == at;
+}
+
+static void end(void) {
     close(open_below(getenv("KILL_MARK"), O_WRONLY | O_CREAT, 0600));
     raise(getenv("KILL_STOPS") ? SIGSTOP : SIGKILL);
+}
+
+static void count(void) {
+    if (!cuts && is_now()) end();
+}
+
+static int is_manifest(int fd) {
+    static const char name[] = "/Cargo.toml";
+    char link[40], path[4096];
+    snprintf(link, sizeof link, "/proc/self/fd/%d", fd);
+    ssize_t most = readlink(link, path, sizeof path), length = sizeof name - 1;
+    return most >= length && !memcmp(path + most - length, name, length);
+}
+
+ssize_t write(int fd, const void *bytes, size_t length) {
+    static ssize_t (*below)(int, const void *, size_t);
+    if (!below) below = dlsym(RTLD_NEXT, "write");
+    if (at && length && is_manifest(fd) && is_now()) {
+        if (cuts) below(fd, bytes, length - 1);
+        end();
+    }
+    return below(fd, bytes, length);
+}
+
+int ftruncate(int fd, off_t length) {
+    static int (*below)(int, off_t);
+    if (!below) below = dlsym(RTLD_NEXT, "ftruncate");
+    count();
+    return below(fd, length);
+}
+
+int ftruncate64(int fd, off64_t length) {
+    static int (*below)(int, off64_t);
+    if (!below) below = dlsym(RTLD_NEXT, "ftruncate64");
+    count();
+    return below(fd, length);
 }
 
 int open(const char *path, int flags, ...) {
@@ -156,6 +200,33 @@ def unguarded(killer, words, every):
             was_killed, told = killer.call(PLAIN, again, shell=False)
         in_front_of(at, lambda: tells_of(told, edited))
         in_front_of(at, lambda: place.as_before(own=True))
+
+
+def cut(killer, words):
+    """Kills a call in each of its writes of a manifest: the guard restores all, and where there is none the next call. Texts
+    are seen there that are neither the first nor the edited ones."""
+    place, seen = killer.place, set()
+    place.lay_out()
+    before = texts(place)
+    place.interrupt(words=words)
+    whole = before | texts(place)
+    place.restores(PLAIN, place.edited())
+    for at in itertools.count(1):
+        was_killed, _ = killer.call(words, at, KILL_CUTS="1")
+        in_front_of(at, place.as_before)
+        if not was_killed:
+            must(seen, "no text was cut")
+            return f"{counted(at - 1)}; {len(seen)} texts were cut"
+        was_killed, _ = killer.call(words, at, shell=False, KILL_CUTS="1")
+        must(was_killed, f"without a guard, write {at} isn't made")
+        seen |= texts(place) - whole
+        in_front_of(at, lambda: place.restores(PLAIN, place.edited()))
+        in_front_of(at, place.as_before)
+
+
+def texts(place):
+    """What the manifests hold, each after its path."""
+    return {(name, read(f"{place.workspace}/{name}")) for name in FILES if name != "Cargo.lock"}
 
 
 def killed_guard(killer, every):
@@ -400,6 +471,8 @@ def kills(places, preload, every):
         "killed at each change, private members": lambda: guarded(beside, LEAVES_OUT, every // 2 + 1),
         "killed without a guard, development dependencies": lambda: unguarded(within, EDITS, every),
         "killed without a guard, private members": lambda: unguarded(beside, LEAVES_OUT, every),
+        "killed in each write of a manifest, development dependencies": lambda: cut(within, EDITS),
+        "killed in each write of a manifest, private members": lambda: cut(beside, LEAVES_OUT),
         "killed with its guard": lambda: killed_guard(within, every),
         "while its guard is at work": lambda: guard_at_work(within),
     }

@@ -22,6 +22,10 @@ use std::{fs, io, rt};
 /// the target of a broken link, a file with several hard links, a device, and a file in a folder
 /// where no new file can be made. The new file beside `a` is named `a.cargo-hack-0`; one that is
 /// there already is removed, since a program left it that was killed.
+///
+/// `overwrite` writes over the bytes that are there: on many file systems a rename over a file, or
+/// its truncation, has all its data written to the disk at once, which over a thousand files takes
+/// seconds. The end of the program may leave the first of the new bytes, before the rest of the old.
 #[derive(Drop)]
 pub struct Disk<R: rt::Files + AllocGlobal + Drop> {
     rt: R,

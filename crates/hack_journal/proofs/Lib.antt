@@ -6,4 +6,5 @@ pub mod SafeLemmas
 mod FinishLemmas
 pub mod RecoverLemmas
 mod CountLemmas
+mod CutLemmas
 pub mod RefusingLemmas

@@ -12,7 +12,7 @@ use Rattle.hack_files.specs.declared.fs.FsFault.TheVariants as fs
 use Rattle.hack_journal.specs.Journal.{Edit, journal_text, HaveTextPaths}
 use Rattle.hack_journal.specs.Rows.{Spot, AreFirst, AreRead, IsFresh, IsRowOf, IsRowRead, KeepsBeside, file_at, is_of_journal, placed}
 use Rattle.hack_journal.specs.SafeFiles.{gives, SomeEntryHasBytes, KeepFirst, IsSafe, IsSafeBy, StaysSafe, AreBack, first_entry_of}
-use Rattle.hack_journal.specs.Recovery.{HasEntry, AgreesOnHeld, AreOfCall, AreTold, AreChanged, Restored, IsNoJournal, IsReached, IsWhy, IsWhyUnread, IsJournalRefusal, NamesPath, IsJournalOrItsEntry}
+use Rattle.hack_journal.specs.Recovery.{HasEntry, AgreesOnHeld, AreOfCall, AreTold, AreChanged, Restored, IsNoJournal, IsReached, IsWhy, IsWhyUnread, IsJournalRefusal, IsOwn, NamesPath, IsJournalOrItsEntry}
 use Rattle.hack_journal.specs.Internal.{AddsChanged, AddsIfOther, HoldsNoText, IsBackBut, IsRead, IsReadMore, IsWhyNotTold, IsWhyTorn, NamesNoJournal, FailsAt, backs}
 use Rattle.hack_journal.specs.declared.recover.RecoverFault.{RecoverFault}
 use Rattle.hack_journal.specs.declared.recover.RecoverFault.TheVariants.{Memory, NotJournal, Changed, Files}
@@ -272,18 +272,18 @@ why_unread s tells m (NotJournal p) why = why
 why_unread s tells m (Changed p q) why = absurd why
 why_unread s tells m (Files f) why = names_wider (IsReached s tells m) (IsJournalOrItsEntry s tells m) (λ p is. inl is) f why
 
--- a path that holds bytes that no entry of it has was changed
+-- a path that holds what no call left there was changed
 pub why_not_told : (s : Spot) (tells : Type 0) (es : List Edit) (m n : Contents) (fault : RecoverFault) → (tells → IsRowOf s m es) → (tells → KeepsAll m n) → IsWhyNotTold s.journal tells es es n fault → IsWhy s tells m fault
 why_not_told s tells es m n Memory row same why = tt
 why_not_told s tells es m n (NotJournal p) row same why = absurd why
-why_not_told s tells es m n (Changed p q) row same why = (why.0, λ t. (es, row t, why.1, subst (λ (x : Option (List ℕ)). ¬ SomeEntryHasBytes es (string_bytes p) x) (same t (string_bytes p)) (why.2 t)))
+why_not_told s tells es m n (Changed p q) row same why = (why.0, λ t. (es, row t, why.1, subst (λ (x : Option (List ℕ)). ¬ IsOwn es (string_bytes p) x) (same t (string_bytes p)) (why.2 t)))
 why_not_told s tells es m n (Files f) row same why = names_wider (HasEntry es) (IsJournalOrItsEntry s tells m) (λ p has. inr (λ t. (es, row t, has))) f why
 
 -- where files are safe, nothing is refused
 pub never_not_told : (j : List ℕ) (tells : Type 0) (es : List Edit) (m n : Contents) (fault : RecoverFault) → tells → KeepsAll m n → AreTold es es m → IsWhyNotTold j tells es es n fault → IsJournalRefusal fault → ⊥
 never_not_told j tells es m n Memory t same told why refusal = refusal
 never_not_told j tells es m n (NotJournal p) t same told why refusal = why
-never_not_told j tells es m n (Changed p q) t same told why refusal = why.2 t (subst (SomeEntryHasBytes es (string_bytes p)) (sym (same (string_bytes p))) (told (string_bytes p) why.1))
+never_not_told j tells es m n (Changed p q) t same told why refusal = why.2 t (subst (IsOwn es (string_bytes p)) (sym (same (string_bytes p))) (told (string_bytes p) why.1))
 never_not_told j tells es m n (Files f) t same told why refusal = refusal
 
 -- where files are safe, the row is that of a call
@@ -296,11 +296,12 @@ never_no_journal s tells o m (NotJournal p) t why h refusal = safe_journal s o m
 never_no_journal s tells o m (Changed p q) t why h refusal = why
 never_no_journal s tells o m (Files f) t why h refusal = refusal
 
--- where files are safe, the path of each entry holds bytes that an entry of it has
+-- where files are safe, the path of each entry holds what a call left there
 pub safe_told : (s : Spot) (o : Contents) (es : List Edit) (m : Contents) → IsSafeBy s o es m → AreTold es es m
+unfolding IsOwn
 safe_told s o es m h q has =
     let first = tells_first s.journal o es q h.keeps has in
-    elim (h.holds q first.0) [ inl same ↦ subst (SomeEntryHasBytes es q) (sym same) first.1 | inr told ↦ told ]
+    inl (elim (h.holds q first.0) [ inl same ↦ subst (SomeEntryHasBytes es q) (sym same) first.1 | inr told ↦ told ])
 
 -- ---- the paths that held something else
 

@@ -4,15 +4,36 @@ use Rattle.hack_base.specs.Counters.{GrowsBy}
 use Rattle.hack_files.specs.Files.{Change, Contents, Makes}
 use Rattle.hack_journal.specs.Journal.{Edit}
 use Rattle.hack_journal.specs.Rows.{Spot, AreFirst, IsFresh, IsTextOf, file_at, is_of_journal}
-use Rattle.hack_journal.specs.SafeFiles.{KeepFirst, SomeEntryHasBytes, StaysSafe, gives, changes_besides, IsJournaled, first_entry_of}
+use Rattle.hack_journal.specs.SafeFiles.{KeepFirst, StaysSafe, gives, changes_besides, IsJournaled, first_entry_of}
 use Rattle.hack_journal.specs.declared.recover.RecoverFault.{RecoverFault}
 use Rattle.hack_journal.specs.declared.recover.RecoverFault.TheVariants.{Memory, NotJournal, Changed, Files}
-use Rattle.hack_journal.specs.Recovery.{AreChanged, CountsRecoverFault, HasEntry, IsJournalRefusal, NamesPath}
+use Rattle.hack_journal.specs.Recovery.{AreChanged, CountsRecoverFault, HasEntry, IsCut, IsJournalRefusal, IsOwn, NamesPath}
 
 -- the text does not begin with a space
 abbrev pub BeginsWithoutSpace : List ℕ → Type 0
 BeginsWithoutSpace [] = Unit {0}
 BeginsWithoutSpace (b ∷ bs) = b ≢ 32
+
+-- ---- texts of entries
+
+-- the entry is the path's, and P holds of what the path held or of what was written
+abbrev pub EntryHas : (Option (List ℕ) → Type 0) → Edit → List ℕ → Type 0
+EntryHas P e path = (e.path ≡ path) × (P e.held ⊎ P e.wrote)
+
+-- so it is with one of these entries
+abbrev pub SomeEntryHas : (Option (List ℕ) → Type 0) → List Edit → List ℕ → Type 0
+SomeEntryHas P [] path = ⊥
+SomeEntryHas P (e ∷ es) path = EntryHas P e path ⊎ SomeEntryHas P es path
+
+-- a write that was cut left these bytes, where both are texts
+abbrev pub IsCutOf : Option (List ℕ) → Option (List ℕ) → List ℕ → Type 0
+IsCutOf None old now = ⊥
+IsCutOf (Some new) None now = ⊥
+IsCutOf (Some new) (Some old) now = IsCut new old now
+
+-- so did one of these new bytes, over bytes that an entry of the path has
+unfoldable pub IsOver : List Edit → List ℕ → List ℕ → Option (List ℕ) → Type 0
+IsOver es path now new = SomeEntryHas (λ old. IsCutOf new old now) es path
 
 -- ---- errors
 
@@ -60,7 +81,7 @@ abbrev pub IsWhyNotTold : List ℕ → Type 0 → List Edit → List Edit → Co
 IsWhyNotTold journal tells all es old Memory = Unit {0}
 IsWhyNotTold journal tells all es old (NotJournal j) = ⊥
 IsWhyNotTold journal tells all es old (Changed p j) =
-    (string_bytes j ≡ journal) × HasEntry es (string_bytes p) × (tells → ¬ SomeEntryHasBytes all (string_bytes p) (old (string_bytes p)))
+    (string_bytes j ≡ journal) × HasEntry es (string_bytes p) × (tells → ¬ IsOwn all (string_bytes p) (old (string_bytes p)))
 IsWhyNotTold journal tells all es old (Files f) = NamesPath (HasEntry es) f
 
 -- ---- reading

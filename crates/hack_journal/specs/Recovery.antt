@@ -1,5 +1,5 @@
 -- What an interrupted call had edited is put back.
-use Rattle.std.specs.Prelude.{◌≡◌, ◌≢◌, ◌⊎◌, ◌<◌, [], ◌∷◌, ℕ, List, Option, Some, None, IsSome, false, Result, Ok, Err, string_bytes}
+use Rattle.std.specs.Prelude.{◌≡◌, ◌≢◌, ◌⊎◌, ◌<◌, ◌≤◌, ◌++◌, [], ◌∷◌, ℕ, List, Option, Some, None, IsSome, false, Result, Ok, Err, length, take, drop, string_bytes}
 use Rattle.std.specs.Str.{IsUtf8}
 use Rattle.hack_files.specs.Files.{Contents, KeepsAll, after_change}
 use Rattle.hack_base.specs.Counters.{GrowsBy}
@@ -31,9 +31,23 @@ abbrev pub AreOfCall : List ℕ → List Edit → List Edit → Type 0
 AreOfCall journal all [] = Unit {0}
 AreOfCall journal all (e ∷ es) = IsOfCall journal all e × AreOfCall journal all es
 
--- the path of each entry holds what it held at first, or what was written there
+-- a write of new bytes over old ones was cut, and left these: the first k of the new ones, before the
+-- old ones from there on
+abbrev pub IsCut : List ℕ → List ℕ → List ℕ → Type 0
+IsCut new old now = (k : ℕ) × (k ≤ length new) × (now ≡ take k new ++ drop k old)
+
+-- a write was cut, of a text that an entry of the path has over another such text, and left these
+abbrev pub IsCutText : List Edit → List ℕ → Option (List ℕ) → Type 0
+IsCutText es path bytes =
+    (new old now : List ℕ) × SomeEntryHasBytes es path (Some new) × SomeEntryHasBytes es path (Some old) × (bytes ≡ Some now) × IsCut new old now
+
+-- a call itself left these bytes at the path: an entry of the path has them, or a write was cut
+unfoldable pub IsOwn : List Edit → List ℕ → Option (List ℕ) → Type 0
+IsOwn es path bytes = SomeEntryHasBytes es path bytes ⊎ IsCutText es path bytes
+
+-- the path of each entry holds what a call left there
 abbrev pub AreTold : List Edit → List Edit → Contents → Type 0
-AreTold all es now = (path : List ℕ) → HasEntry es path → SomeEntryHasBytes all path (now path)
+AreTold all es now = (path : List ℕ) → HasEntry es path → IsOwn all path (now path)
 
 -- those paths of these entries that hold something else than before, in order: each stands where its
 -- first entry does, and counts from there on as one that holds the same
@@ -64,10 +78,10 @@ abbrev pub IsNoJournal : Spot → Contents → Type 0
 IsNoJournal spot old =
     (text : List ℕ) × (old spot.journal ≡ Some text) × ((edits : List Edit) → AreOfCall spot.journal edits edits → ¬ IsRowOf spot old edits)
 
--- the journal has an entry of the path, which holds neither what it held nor what was written there
+-- the journal has an entry of the path, which doesn't hold what a call left there
 abbrev pub HasChanged : Spot → List ℕ → Contents → Type 0
 HasChanged spot path old =
-    (edits : List Edit) × IsRowOf spot old edits × HasEntry edits path × (¬ SomeEntryHasBytes edits path (old path))
+    (edits : List Edit) × IsRowOf spot old edits × HasEntry edits path × (¬ IsOwn edits path (old path))
 
 -- the error names a path of which P holds
 abbrev pub NamesPath : (List ℕ → Type 0) → FsFault → Type 0

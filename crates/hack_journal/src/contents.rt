@@ -34,8 +34,22 @@ pub fn look<F: Files>(
     }
 }
 
+/// How bytes are put at a path.
+#[derive(Clone, Copy)]
+pub enum Writing {
+    /// As a whole: where the write is interrupted, the path holds what it held.
+    Whole,
+    /// Over what is there, which is kept elsewhere: see [`Files::overwrite`].
+    Over,
+}
+
 /// Puts these bytes at a path, or removes what is there.
-pub fn put<F: Files>(files: &mut F, path: &str, bytes: Option<&[u8]>) -> Result<(), FileFault>
+pub fn put<F: Files>(
+    files: &mut F,
+    path: &str,
+    bytes: Option<&[u8]>,
+    writing: Writing,
+) -> Result<(), FileFault>
     ensures stays { F.stays files.old files.new }
     ensures failures { CountsFailedCall (F.failed files.old) (F.failed files.new) result }
     ensures refused_path { F.refuses files.old files.new (refused_path result path.now) }
@@ -49,9 +63,10 @@ pub fn put<F: Files>(files: &mut F, path: &str, bytes: Option<&[u8]>) -> Result<
         MakesOrNot (gives path.now (option_map (λ bytes. bytes.now) bytes.entry))
         (F.trace files.old) (F.trace files.new) (F.bytes_at files.old) (F.bytes_at files.new)) }
 {
-    match bytes {
-        Some(bytes) => files.write(path, bytes),
-        None => files.remove(path),
+    match (bytes, writing) {
+        (Some(bytes), Writing::Whole) => files.write(path, bytes),
+        (Some(bytes), Writing::Over) => files.overwrite(path, bytes),
+        (None, _) => files.remove(path),
     }
 }
 

@@ -20,7 +20,7 @@ ghost use Rattle.hack_journal.specs.SafeFiles.{IsJournaled, Stays, changes_besid
 ghost use Rattle.hack_journal.specs.Internal.{Hidden, IsHeld, IsNotable, ShortensRow};
 ghost use Rattle.hack_journal.specs.Refusing.{IsCounted, IsRefusedOrUnkept, TellsItsOwn};
 
-use crate::contents::{are_back, look, put};
+use crate::contents::{Writing, are_back, look, put};
 use crate::entries::{copy, first, tells};
 use crate::journal::{Entry, spell_at};
 use crate::notes::Notes;
@@ -224,7 +224,8 @@ impl<F: Files, U: Unkept> Journaled<F, U> {
     }
 
     // Keeps what the path holds, and then gives it these bytes, or removes what is there. What an
-    // entry has already needs no keeping.
+    // entry has already needs no keeping. The bytes may be written over those that are there: where
+    // that is cut, `recover` knows what it left by the entries of the path.
     fn change(&mut self, path: &str, bytes: Option<&[u8]>) -> Result<(), FileFault>
         ensures handed { F.stays self.old.files self.new.files }
         ensures journal { self.new.notes.journal ≡ self.old.notes.journal }
@@ -266,7 +267,7 @@ impl<F: Files, U: Unkept> Journaled<F, U> {
             return Err(FileFault::Device);
         }
         match self.keep(path, bytes) {
-            Ok(()) => put(&mut self.files, path, bytes),
+            Ok(()) => put(&mut self.files, path, bytes, Writing::Over),
             Err(fault) => {
                 self.unkept.note(path);
                 Err(fault)

@@ -3,6 +3,7 @@
 
 pub mod apart;
 pub mod contents;
+pub mod cuts;
 pub mod entries;
 pub mod journal;
 pub mod journaled;

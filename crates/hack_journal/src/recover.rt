@@ -8,15 +8,16 @@ ghost use Rattle.hack_files.specs.Files.{after, after_change};
 ghost use Rattle.hack_journal.specs.Journal.{Edit, edit_of, edits_of};
 ghost use Rattle.hack_journal.specs.Rows.{Spot, spot_of, file_at, KeepsBeside};
 ghost use Rattle.hack_journal.specs.SafeFiles.{IsSafe, IsSafeBy, StaysSafe, KeepFirst};
-ghost use Rattle.hack_journal.specs.SafeFiles.{SomeEntryHasBytes, gives};
+ghost use Rattle.hack_journal.specs.SafeFiles.{gives};
 ghost use Rattle.hack_journal.specs.Recovery.{AreTold, AreChanged, IsRestored, IsWhy, HasEntry};
-ghost use Rattle.hack_journal.specs.Recovery.{IsJournalRefusal, IsFailureCounted};
+ghost use Rattle.hack_journal.specs.Recovery.{IsJournalRefusal, IsFailureCounted, IsOwn};
 ghost use Rattle.hack_journal.specs.Internal.{AddsChanged, AddsIfOther, backs, FailsAt};
 ghost use Rattle.hack_journal.specs.Internal.{FaultsAtPath, IsBackBut, IsMemoryRefused};
 ghost use Rattle.hack_journal.specs.Internal.{IsWhyNotTold};
 
-use crate::contents::{look, put};
-use crate::entries::{same, tells};
+use crate::contents::{Writing, look, put};
+use crate::cuts::is_own;
+use crate::entries::same;
 use crate::journal::Entry;
 use crate::place::{Place, file_of};
 use crate::rows::{Row, read_fault, row_at};
@@ -34,7 +35,7 @@ pub enum RecoverFault {
     #[error("`{0}` is not a whole journal of edited files; put back by hand what it tells, and \
         remove it")]
     NotJournal(String),
-    /// A path holds neither what it held at first nor what was written there. Nothing was changed.
+    /// A path holds neither what it held at first nor what a call left there. Nothing was changed.
     #[error("`{path}` was changed after an interrupted call had edited it; put back by hand what \
         `{journal}` tells, and remove `{journal}`")]
     Changed { path: String, journal: String },
@@ -89,7 +90,7 @@ fn add_path(alloc: Global, paths: &mut Vec<String>, path: &str) -> Result<(), Re
     Ok(())
 }
 
-// Refuses an entry whose path holds bytes that no entry of the path has.
+// Refuses an entry whose path holds what no call left there.
 #[tactic(auto, using(crate::proofs::CountLemmas::grows_then))]
 fn check<F: Files>(
     alloc: Global,
@@ -99,8 +100,7 @@ fn check<F: Files>(
     entry: &Entry,
 ) -> Result<(), RecoverFault>
     ensures failures { IsFailureCounted (F.failed files.old) (F.failed files.new) result }
-    ensures told { OnOk result (F.tells → SomeEntryHasBytes (edits_of all.now)
-        (edit_of entry.now).path
+    ensures told { OnOk result (F.tells → IsOwn (edits_of all.now) (edit_of entry.now).path
         (F.bytes_at files.old (edit_of entry.now).path)) }
     ensures why { IfErr result (IsWhyNotTold journal.now F.tells (edits_of all.now)
         (edit_of entry.now ∷ []) (F.bytes_at files.old)) }
@@ -112,7 +112,7 @@ fn check<F: Files>(
         Ok(now) => now,
         Err(fault) => return Err(read_fault(alloc, &entry.path, fault)),
     };
-    if tells(all, &entry.path, now.as_deref()) {
+    if is_own(all, &entry.path, now.as_deref()) {
         return Ok(());
     }
     Err(RecoverFault::Changed {
@@ -180,7 +180,7 @@ fn put_back<F: Files>(
     if is_back && !is_last {
         return Ok(());
     }
-    match put(files, &entry.path, entry.held.as_deref()) {
+    match put(files, &entry.path, entry.held.as_deref(), Writing::Whole) {
         Ok(()) if is_back => Ok(()),
         Ok(()) => add_path(alloc, paths, &entry.path),
         Err(fault) => Err(write_fault(alloc, &entry.path, fault)),
@@ -292,9 +292,10 @@ fn take_back<F: Files>(
 /// Puts back what a journal keeps of its paths, removes the journal, and returns the paths that
 /// held something else, in order. Where there is no journal, it does nothing and returns none.
 ///
-/// Nothing is written before all paths are read: where one holds neither what it held at first nor
-/// what was written there, or the journal isn't one that a call writes, nothing is changed. It may
-/// itself be interrupted at any moment, and called again.
+/// Nothing is written before all paths are read: where one holds what no call left there, or the
+/// journal isn't one that a call writes, nothing is changed. It may itself be interrupted at any
+/// moment, and called again. So it writes each file as a whole: what a cut write leaves over a text
+/// that was cut before, the next call wouldn't know.
 #[tactic(auto, using(crate::proofs::CountLemmas::grows_then))]
 pub fn recover<F: Files>(
     alloc: Global,

@@ -1,9 +1,10 @@
 //! Files by questions, which are the same for all kinds of files.
 //!
-//! `read PATH`, `write PATH TEXT`, `exists PATH`, `remove PATH` and `failures` are the methods of
-//! `Files`. `bytes PATH`, `text PATH` and `put PATH TEXT` read and write with errors that have the
-//! path, and `fault PATH` asks whether such an error of reading is the one of this path. `held PATH
-//! ..` shows the contents at the paths, each after its name, and `-` where nothing can be read.
+//! `read PATH`, `write PATH TEXT`, `overwrite PATH TEXT`, `exists PATH`, `remove PATH` and `failures`
+//! are the methods of `Files`. `bytes PATH`, `text PATH` and `put PATH TEXT` read and write with
+//! errors that have the path, and `fault PATH` asks whether such an error of reading is the one of
+//! this path. `held PATH ..` shows the contents at the paths, each after its name, and `-` where
+//! nothing can be read.
 
 mod disk;
 mod failing;
@@ -56,6 +57,7 @@ pub fn answer<F: Files>(
     match kind {
         "read" => read(alloc, files, path),
         "write" => write(alloc, files, path, text),
+        "overwrite" => overwrite(alloc, files, path, text),
         "exists" => truth(alloc, files.exists(path)),
         "remove" => done(alloc, files.remove(path)),
         "failures" => number(alloc, files.failures()),
@@ -83,6 +85,16 @@ fn write<F: Files>(
 ) -> Result<String, AllocError> {
     let text = plain(alloc, shown)?;
     done(alloc, files.write(path, text.as_bytes()))
+}
+
+fn overwrite<F: Files>(
+    alloc: Global,
+    files: &mut F,
+    path: &str,
+    shown: &str,
+) -> Result<String, AllocError> {
+    let text = plain(alloc, shown)?;
+    done(alloc, files.overwrite(path, text.as_bytes()))
 }
 
 fn name_of(fault: FileFault) -> &'static str {
@@ -159,6 +171,14 @@ static CALLS: &str = r"
     | ok
     > read a
     | 'longer than before'
+    > overwrite a shorter
+    | ok
+    > read a
+    | 'shorter'
+    > overwrite a longer than that
+    | ok
+    > read a
+    | 'longer than that'
     > remove a
     | ok
     > read a
@@ -167,6 +187,10 @@ static CALLS: &str = r"
     | false
     > remove a
     | ok
+    > overwrite e new
+    | ok
+    > read e
+    | 'new'
     > write c\nd x
     | ok
     > read c\nd

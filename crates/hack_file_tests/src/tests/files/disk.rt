@@ -315,6 +315,34 @@ fn a_file_of_two_names_keeps_both(rt: HostRuntime) -> Result<(), Wrong> {
     )
 }
 
+// No file is made beside it, which would have removed the one that lies there.
+#[test]
+fn an_overwritten_file_keeps_its_place(rt: HostRuntime) -> Result<(), Wrong> {
+    on_disk(
+        &rt,
+        "
+            > write a old and longer
+            | ok
+            > mode 600: a
+            | ok
+            > second name: b
+            | ok
+            > write a.cargo-hack-0 left
+            | ok
+            > overwrite a new
+            | ok
+            > content: b
+            | 'new'
+            > mode: a
+            | 600
+            > content: a.cargo-hack-0
+            | 'left'
+            > names
+            | 3
+        ",
+    )
+}
+
 #[test]
 fn a_file_that_a_killed_program_left_is_removed(rt: HostRuntime) -> Result<(), Wrong> {
     on_disk(

@@ -118,6 +118,90 @@ fn a_file_that_somebody_changed_is_refused(rt: HostRuntime) -> Result<(), Wrong>
     )
 }
 
+// `a` held `one\n\ntwo\n`, then `one\n`, and then `uno`. A write of one of these over another was
+// cut, behind its first byte or later.
+#[test]
+fn a_cut_write_comes_back(rt: HostRuntime) -> Result<(), Wrong> {
+    on(
+        rt.alloc(),
+        &[
+            EDITED,
+            r"
+                > cut 8
+                | ok
+                > front: write a une\n
+                | ok
+                > front: recover
+                | a b
+                > front: held a b j j~1
+                | a 'one\n\ntwo\n' b '' j - j~1 -
+
+                # All of its bytes were written, before the file was made shorter.
+                > cut 8
+                | ok
+                > front: write a uno\n
+                | ok
+                > front: recover
+                | a b
+                > front: held a b j j~1
+                | a 'one\n\ntwo\n' b '' j - j~1 -
+
+                # One that puts back.
+                > cut 8
+                | ok
+                > front: write a one\n\nt
+                | ok
+                > front: write b \n
+                | ok
+                > front: recover
+                | a b
+                > front: held a b j j~1
+                | a 'one\n\ntwo\n' b '' j - j~1 -
+            ",
+        ],
+    )
+}
+
+// What no cut write leaves: other bytes at the front or behind it, a cut text of another path, or the
+// front of a text where no file was.
+#[test]
+fn a_text_that_no_cut_leaves_is_refused(rt: HostRuntime) -> Result<(), Wrong> {
+    on(
+        rt.alloc(),
+        &[
+            EDITED,
+            r"
+                > cut 8
+                | ok
+                > front: write a xne\n
+                | ok
+                > front: recover
+                | `a` was changed after an interrupted call had edited it; put back by hand what `j` tells, and remove `j`
+                > front: write a unx
+                | ok
+                > front: recover
+                | `a` was changed after an interrupted call had edited it; put back by hand what `j` tells, and remove `j`
+                > front: write a uno
+                | ok
+                > front: write b une\n
+                | ok
+                > front: recover
+                | `b` was changed after an interrupted call had edited it; put back by hand what `j` tells, and remove `j`
+                > front: changes
+                | 12
+                > cut 10
+                | ok
+                > front: write c ne
+                | ok
+                > front: recover
+                | `c` was changed after an interrupted call had edited it; put back by hand what `j` tells, and remove `j`
+                > front: changes
+                | 11
+            ",
+        ],
+    )
+}
+
 #[test]
 fn nothing_written_no_journal(rt: HostRuntime) -> Result<(), Wrong> {
     on(
