@@ -45,9 +45,9 @@ pub fn drive_context<R: Teller>(
     // The runs handed out are the chosen piece of the plan, in order, each place once, until a
     // preparation fails, a run fails and runs don't go on, or the piece ends. The plan is exactly
     // the admissible runs, in order; each of its places is in exactly one of the pieces, and the
-    // blocks joined are the plan. A package's powerset is exactly the listed sets, each once. With
-    // a strength it is a sample of them; then each pattern of at most that many candidates that
-    // some listed set shows has a place in the plan, for each package, version and slot.
+    // blocks joined are the plan. A package's powerset is exactly the sets that its rules list, each
+    // once. With a strength it is a sample of them; then each pattern of at most that many candidates
+    // that some listed set shows has a place in the plan, for each package, version and slot.
     ensures headline { IfOk result
         (IsHandedOut (context_view cx.now) stable) }
 

@@ -7,13 +7,13 @@ ghost use Rattle.hack_run.specs.Questions.{IsAnswered};
 ghost use Rattle.hack_run.specs.Worlds.{IsSameHost};
 
 use crate::drive::drive_context;
+use crate::explain::explain;
 use crate::fault::RunFault;
 use crate::host::Host;
 use hack_load::context::Context;
 use hack_planner::fault::PlanFault;
 use hack_process::process::{Caller, ProcessFault};
 use hack_session::session::{Handed, History, Outcome, Session, Starter, Step};
-use hack_session::suspect_notes::suspect_notes;
 use hack_term::term::{LogGroup, Term};
 use hack_versions::version::Version;
 use hack_words::cli::Args;
@@ -38,7 +38,7 @@ pub(crate) fn execute<C: Caller, O: Write, E: Write>(
         Ok(session) => session,
         Err(fault) => return Err(RunFault::Plan(fault)),
     };
-    let reported = report_all(host.alloc, cx.args(), &session, host.term, host.err);
+    let reported = report_all(host.alloc, cx, &session, host.term, host.err);
     // Why the session stopped counts for more than a report that memory cut short.
     match fault {
         Some(fault) => Err(RunFault::Process(fault)),
@@ -85,7 +85,7 @@ fn manner(args: &Args) -> (LogGroup, bool)
 /// Reports the runs that failed, and what only these have.
 fn report_all<E: Write>(
     alloc: Global,
-    args: &Args,
+    cx: &Context,
     session: &Session,
     term: &mut Term,
     err: &mut E,
@@ -94,7 +94,10 @@ fn report_all<E: Write>(
     ensures warn { term.new.warn ≡ term.old.warn }
 {
     report(alloc, session, term, err)?;
-    explain(alloc, args, session, term, err)
+    if !cx.args().keep_going || is_unprepared(session.handed()) {
+        return Ok(());
+    }
+    explain(alloc, cx, session, term, err)
 }
 
 /// Reports the runs that failed, where runs go on after a failed one and each preparation passed.
@@ -117,29 +120,6 @@ fn report<E: Write>(
     let text = format!(in alloc; "{report}")?;
     let _ = err.write_all(b"\n");
     let _ = term.error(&text, err);
-    Ok(())
-}
-
-/// Reports which small patterns of candidates only failed runs show, where a sample of sets was run
-/// to its end.
-fn explain<E: Write>(
-    alloc: Global,
-    args: &Args,
-    session: &Session,
-    term: &Term,
-    err: &mut E,
-) -> Result<(), AllocError> {
-    let Some(strength) = args.strength else {
-        return Ok(());
-    };
-    if !args.keep_going || is_unprepared(session.handed()) {
-        return Ok(());
-    }
-    let explained = session.suspects(alloc, strength)?;
-    let notices = suspect_notes(alloc, session.plan(), explained.as_slice())?;
-    for notice in notices.as_slice() {
-        let _ = term.info(notice.text.as_str(), err);
-    }
     Ok(())
 }
 

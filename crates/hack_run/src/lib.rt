@@ -4,6 +4,7 @@
 mod ask;
 pub mod drive;
 mod execute;
+mod explain;
 mod fault;
 mod gathered;
 pub mod host;

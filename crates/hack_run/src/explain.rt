@@ -1,0 +1,86 @@
+//! What only failed runs have in common, where samples of sets were run to their end.
+
+use hack_load::context::Context;
+use hack_metadata::metadata::{PackageId, RulesTable};
+use hack_planner::determine::determine_package_list;
+use hack_session::session::Session;
+use hack_session::suspect_notes::suspect_notes;
+use hack_term::term::Term;
+use std::alloc::{AllocError, Global};
+use std::io::Write;
+
+/// Reports which small patterns of candidates only failed runs show: those of the packages of each
+/// strength, one strength after another.
+pub(crate) fn explain<E: Write>(
+    alloc: Global,
+    cx: &Context,
+    session: &Session,
+    term: &Term,
+    err: &mut E,
+) -> Result<(), AllocError> {
+    let strengths = strengths_of(alloc, cx)?;
+    let mut told = Vec::new(alloc);
+    for strength in &strengths {
+        if let Some(strength) = *strength {
+            if !told.contains(&strength) {
+                told.push(strength)?;
+                explain_at(alloc, session, &strengths, strength, term, err)?;
+            }
+        }
+    }
+    Ok(())
+}
+
+/// Does so for the packages of this strength.
+fn explain_at<E: Write>(
+    alloc: Global,
+    session: &Session,
+    strengths: &[Option<usize>],
+    strength: usize,
+    term: &Term,
+    err: &mut E,
+) -> Result<(), AllocError> {
+    let mut explained = Vec::new(alloc);
+    for one in session.suspects(alloc, strength)? {
+        if strengths.get(one.part.package) == Some(&Some(strength)) {
+            explained.push(one)?;
+        }
+    }
+    for notice in &suspect_notes(alloc, session.plan(), &explained)? {
+        let _ = term.info(notice.text.as_str(), err);
+    }
+    Ok(())
+}
+
+/// The strength of each package of the plan, in order.
+fn strengths_of(alloc: Global, cx: &Context) -> Result<Vec<Option<usize>>, AllocError> {
+    let mut strengths = Vec::new(alloc);
+    // There is a plan, so the packages are known.
+    if let Ok((list, _)) = determine_package_list(alloc, cx) {
+        for id in &list.ids {
+            strengths.push(strength_at(cx, *id))?;
+        }
+    }
+    Ok(strengths)
+}
+
+/// The call's strength; under `--package-rules`, where it gives none, that of the package's table,
+/// else of the workspace's. It counts under a powerset alone.
+fn strength_at(cx: &Context, id: PackageId) -> Option<usize> {
+    let args = cx.args();
+    if !args.package_rules || !args.feature_powerset {
+        return args.strength;
+    }
+    let own = match cx.metadata().find(id) {
+        Some(pkg) => strength_in(&pkg.rules),
+        None => None,
+    };
+    args.strength.or(own).or(strength_in(&cx.metadata().rules))
+}
+
+fn strength_in(rules: &Result<RulesTable, String>) -> Option<usize> {
+    match rules {
+        Ok(table) => table.strength,
+        Err(_) => None,
+    }
+}
