@@ -4,6 +4,7 @@ mod FeatureLemmas
 mod IdLemmas
 pub mod KnownLemmas
 mod NodeLemmas
+mod RuleLemmas
 mod TextLemmas
 mod MatchCases
 mod MatchLemmas

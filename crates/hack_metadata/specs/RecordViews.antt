@@ -8,6 +8,8 @@ use Rattle.hack_features.specs.Feature.{groups_of}
 use Rattle.hack_features.specs.FeatureMap.{feature_map}
 use Rattle.hack_metadata.specs.Records.{DependencyRecord, RulesRecord, PackageRecord, KindRecord, NodeDepRecord, Nodes}
 use Rattle.hack_metadata.specs.declared.metadata.package.Dependency.{Dependency}
+use Rattle.hack_metadata.specs.RuleTables.{LimitsRecord}
+use Rattle.hack_metadata.specs.declared.metadata.rules.Limits.{Limits}
 use Rattle.hack_metadata.specs.declared.metadata.rules.RulesTable.{RulesTable}
 use Rattle.hack_metadata.specs.declared.metadata.package.Package.{Package}
 use Rattle.hack_metadata.specs.declared.metadata.resolve.PackageId.{PackageId}
@@ -23,7 +25,11 @@ dependency_view d = record { name = string_bytes d.name; optional = d.optional; 
 abbrev pub rules_view : RulesTable → RulesRecord
 rules_view t = record { exclude_features = names_of t.exclude_features.items; mutually_exclusive_features = groups_of t.mutually_exclusive_features.items; at_least_one_of = groups_of t.at_least_one_of.items; group_features = groups_of t.group_features.items; optional_deps = option_map (λ names. names_of names.items) t.optional_deps; exclude_no_default_features = t.exclude_no_default_features; exclude_all_features = t.exclude_all_features; depth = t.depth; strength = t.strength }
 
--- the same, or the name of their first fault
+-- what a table says beside its lists
+abbrev pub limits_view : Limits → LimitsRecord
+limits_view l = record { no_default = l.no_default; all_features = l.all_features; depth = l.depth; strength = l.strength }
+
+-- a package's rules, or the name of their first fault
 abbrev pub rules_reading : {Y : Type 0} → Result RulesTable (String Y) → FieldReading RulesRecord
 rules_reading (Ok t) = Ok (rules_view t)
 rules_reading (Err key) = Err (string_bytes key)

@@ -56,7 +56,23 @@ number_from least d = option_and_then (λ n. then_some (nat_le least n) (Some n)
 abbrev pub key_in : {A : Type 0} → (Data → Option A) → A → Name → Members → FieldReading A
 key_in form absent key ms = ok_or (option_map_or form (get_member key ms) (Some absent)) key
 
--- what the known keys say
+-- what the keys say that are no lists
+pub record LimitsRecord : Type 0 where
+  pub no_default : Bool
+  pub all_features : Bool
+  pub depth : Option ℕ
+  pub strength : Option ℕ
+
+-- these keys
+abbrev pub read_limits : Members → FieldReading LimitsRecord
+read_limits ms =
+    key_in as_bool false (codes "exclude-no-default-features") ms >>= λ no_default.
+    key_in as_bool false (codes "exclude-all-features") ms >>= λ all_features.
+    key_in (number_from 0) None (codes "depth") ms >>= λ depth.
+    key_in (number_from 1) None (codes "strength") ms >>= λ strength.
+    Ok (record { no_default = no_default; all_features = all_features; depth = depth; strength = strength })
+
+-- what all known keys say
 abbrev pub read_known : Members → FieldReading RulesRecord
 read_known ms =
     key_in names_from [] (codes "exclude-features") ms >>= λ excluded.
@@ -64,11 +80,8 @@ read_known ms =
     key_in groups_from [] (codes "at-least-one-of") ms >>= λ needed.
     key_in groups_from [] (codes "group-features") ms >>= λ grouped.
     key_in optional_from None (codes "optional-deps") ms >>= λ optional.
-    key_in as_bool false (codes "exclude-no-default-features") ms >>= λ no_default.
-    key_in as_bool false (codes "exclude-all-features") ms >>= λ all_features.
-    key_in (number_from 0) None (codes "depth") ms >>= λ depth.
-    key_in (number_from 1) None (codes "strength") ms >>= λ strength.
-    Ok (record { exclude_features = excluded; mutually_exclusive_features = exclusive; at_least_one_of = needed; group_features = grouped; optional_deps = optional; exclude_no_default_features = no_default; exclude_all_features = all_features; depth = depth; strength = strength })
+    read_limits ms >>= λ limits.
+    Ok (record { exclude_features = excluded; mutually_exclusive_features = exclusive; at_least_one_of = needed; group_features = grouped; optional_deps = optional; exclude_no_default_features = limits.no_default; exclude_all_features = limits.all_features; depth = limits.depth; strength = limits.strength })
 
 -- the known keys
 abbrev pub rule_keys : List Name

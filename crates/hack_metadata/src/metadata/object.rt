@@ -150,6 +150,14 @@ pub(crate) fn take(object: &mut Object, key: &str) -> Option<Value>
     object.remove(key)
 }
 
+/// Returns what a field holds.
+pub(crate) fn find<'a>(object: &'a Object, key: &str) -> Option<&'a Value>
+    ensures { option_map (λ v. view v.now) result
+        ≡ get_member key.now (members_view object.now.entries) }
+{
+    object.get(key)
+}
+
 /// Returns what a value is as an object. None where it is none.
 pub(crate) fn into_object(value: Value) -> Option<Object>
     ensures { option_map (λ m. members_view m.entries) result ≡ as_object (view value) }

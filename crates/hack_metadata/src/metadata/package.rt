@@ -231,7 +231,7 @@ pub(crate) fn texts_in(alloc: Global, value: Value) -> Result<Option<Vec<String>
 }
 
 /// Returns the texts of a list. None where an element is no text.
-fn texts_from(alloc: Global, list: Vec<Value>) -> Result<Option<Vec<String>>, AllocError>
+pub(crate) fn texts_from(alloc: Global, list: Vec<Value>) -> Result<Option<Vec<String>>, AllocError>
     ensures { IfOk result (λ found. option_map (λ texts. names_of texts.items) found
         ≡ texts_of_items (items_view list.items)) }
 {

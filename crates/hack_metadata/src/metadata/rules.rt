@@ -1,22 +1,26 @@
 //! The rules that a package's own manifest has: the table `cargo-hack` in its `metadata`. Others
 //! keep their settings beside it, so where there is no such table there are no rules.
 
-ghost use Rattle.std.specs.Prelude.{◌≡◌, IfOk, false, map, None, option_map, option_and_then};
-ghost use Rattle.std.specs.Prelude.{[], codes};
-ghost use Rattle.serde_json.specs.Find.{as_array, as_bool};
+ghost use Rattle.std.specs.Prelude.{◌≡◌, IfOk, [], None, codes, false, length, nat_le};
+ghost use Rattle.std.specs.Prelude.{option_map};
+ghost use Rattle.std.specs.Bool.{then_some};
+ghost use Rattle.serde_json.specs.Find.{as_bool};
 ghost use Rattle.serde_json.specs.View.{view, items_view, members_view};
 ghost use Rattle.hack_base.specs.Names.{names_of, optional_text};
 ghost use Rattle.hack_features.specs.Feature.{group_of, groups_of};
 ghost use Rattle.hack_metadata.specs.FieldResults.{KeepsOtherFields};
 ghost use Rattle.hack_metadata.specs.Internal.{ReturnsKey};
-ghost use Rattle.hack_metadata.specs.RecordViews.{rules_view, rules_reading};
-ghost use Rattle.hack_metadata.specs.RuleTables.{group_from, groups_from, groups_of_items};
+ghost use Rattle.hack_metadata.specs.RecordViews.{limits_view, rules_view, rules_reading};
+ghost use Rattle.hack_metadata.specs.Records.{no_rules};
+ghost use Rattle.hack_metadata.specs.RuleTables.{filled_names, group_from, groups_from};
+ghost use Rattle.hack_metadata.specs.RuleTables.{groups_of_items};
 ghost use Rattle.hack_metadata.specs.RuleTables.{is_rule_key, key_in, names_from, number_from};
 ghost use Rattle.hack_metadata.specs.RuleTables.{optional_from, other_key, read_known};
-ghost use Rattle.hack_metadata.specs.RuleTables.{read_rules, read_table, rules_in, table_in};
+ghost use Rattle.hack_metadata.specs.RuleTables.{read_limits, read_rules, read_table, rules_in};
+ghost use Rattle.hack_metadata.specs.RuleTables.{table_in};
 
-use crate::metadata::object::{Object, into_object, take};
-use crate::metadata::package::texts_in;
+use crate::metadata::object::{Object, find, into_object, take};
+use crate::metadata::package::{texts_from, texts_in};
 use hack_features::Feature;
 use serde_json::Value;
 use std::alloc::{AllocError, AllocFailed, Global};
@@ -93,18 +97,44 @@ impl RulesTable {
         let needed = remove_groups(alloc, &mut object, "at-least-one-of")?;
         let grouped = remove_groups(alloc, &mut object, "group-features")?;
         let optional = remove_optional(alloc, &mut object, "optional-deps")?;
-        let no_default = remove_flag(alloc, &mut object, "exclude-no-default-features")?;
-        let all_features = remove_flag(alloc, &mut object, "exclude-all-features")?;
-        let depth = remove_number(alloc, &mut object, "depth", 0)?;
-        let strength = remove_number(alloc, &mut object, "strength", 1)?;
-        Ok(RulesTable {
-            exclude_features: excluded,
-            mutually_exclusive_features: exclusive,
-            at_least_one_of: needed,
-            group_features: grouped,
-            optional_deps: optional,
-            exclude_no_default_features: no_default,
-            exclude_all_features: all_features,
+        match Limits::from_object(alloc, &object) {
+            Ok(limits) => Ok(RulesTable {
+                exclude_features: excluded,
+                mutually_exclusive_features: exclusive,
+                at_least_one_of: needed,
+                group_features: grouped,
+                optional_deps: optional,
+                exclude_no_default_features: limits.no_default,
+                exclude_all_features: limits.all_features,
+                depth: limits.depth,
+                strength: limits.strength,
+            }),
+            Err(fault) => Err(fault),
+        }
+    }
+}
+
+/// What a table says beside its lists.
+#[derive(Clone, Copy)]
+pub(crate) struct Limits {
+    no_default: bool,
+    all_features: bool,
+    depth: Option<usize>,
+    strength: Option<usize>,
+}
+
+impl Limits {
+    /// Reads the keys that are no lists.
+    fn from_object(alloc: Global, object: &Object) -> Result<Limits, RulesFault>
+        ensures { ReturnsKey limits_view result (read_limits (members_view object.now.entries)) }
+    {
+        let no_default = flag_in(alloc, object, "exclude-no-default-features")?;
+        let all_features = flag_in(alloc, object, "exclude-all-features")?;
+        let depth = number_in(alloc, object, "depth", 0)?;
+        let strength = number_in(alloc, object, "strength", 1)?;
+        Ok(Limits {
+            no_default,
+            all_features,
             depth,
             strength,
         })
@@ -330,33 +360,31 @@ fn filled(names: Vec<String>) -> Option<Vec<String>>
     Some(names)
 }
 
-/// Takes out a boolean. False where the key isn't there.
-fn remove_flag(alloc: Global, object: &mut Object, key: &str) -> Result<bool, RulesFault>
-    ensures value { ReturnsKey (λ flag. flag) result
-        (key_in as_bool false key.now (members_view object.old.entries)) }
-    ensures others { KeepsOtherFields key.now (members_view object.old.entries)
-        (members_view object.new.entries) }
+/// Returns a boolean. False where the key isn't there.
+fn flag_in(alloc: Global, object: &Object, key: &str) -> Result<bool, RulesFault>
+    ensures { ReturnsKey (λ flag. flag) result
+        (key_in as_bool false key.now (members_view object.now.entries)) }
 {
-    match take(object, key) {
-        None => Ok(false),
-        Some(Value::Bool(flag)) => Ok(flag),
-        Some(_) => Err(RulesFault::Key(String::from_str(alloc, key)?)),
+    let Some(value) = find(object, key) else {
+        return Ok(false);
+    };
+    match value.as_bool() {
+        Some(flag) => Ok(flag),
+        None => Err(RulesFault::Key(String::from_str(alloc, key)?)),
     }
 }
 
-/// Takes out a number that isn't below the least one. None where the key isn't there.
-fn remove_number(
+/// Returns a number that isn't below the least one. None where the key isn't there.
+fn number_in(
     alloc: Global,
-    object: &mut Object,
+    object: &Object,
     key: &str,
     least: usize,
 ) -> Result<Option<usize>, RulesFault>
-    ensures value { ReturnsKey (λ number. number) result
-        (key_in (number_from least) None key.now (members_view object.old.entries)) }
-    ensures others { KeepsOtherFields key.now (members_view object.old.entries)
-        (members_view object.new.entries) }
+    ensures { ReturnsKey (λ number. number) result
+        (key_in (number_from least) None key.now (members_view object.now.entries)) }
 {
-    let Some(value) = take(object, key) else {
+    let Some(value) = find(object, key) else {
         return Ok(None);
     };
     match value.as_u64() {
