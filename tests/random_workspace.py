@@ -59,22 +59,22 @@ def random_table(rng, names):
         return [group() for _ in range(rng.choice([0, 1, 1, 1, 1, 2]))]
 
     forms = {
-        "depth": (0.15, lambda: rng.choice([0, 1, 2, 2, 3])),
-        "strength": (0.15, lambda: rng.choice([1, 2, 2, 3])),
+        "depth": (0.3, lambda: rng.choice([0, 1, 2, 2, 3])),
+        "strength": (0.2, lambda: rng.choice([1, 2, 2, 3])),
         "exclude-features": (0.3, lambda: some(0, 2)),
         "mutually-exclusive-features": (0.3, groups),
         "at-least-one-of": (0.2, groups),
-        "group-features": (0.2, lambda: [group()]),
-        "optional-deps": (0.3, lambda: rng.choice([True, True, False, some(0, 2), some(1, 1) + some(1, 2)])),
-        "exclude-no-default-features": (0.15, lambda: rng.random() < 0.8),
-        "exclude-all-features": (0.15, lambda: rng.random() < 0.8),
+        "group-features": (0.25, lambda: [group()]),
+        "optional-deps": (0.35, lambda: rng.choice([True, True, False, some(0, 2), some(1, 1) + some(1, 2)])),
+        "exclude-no-default-features": (0.2, lambda: rng.random() < 0.8),
+        "exclude-all-features": (0.25, lambda: rng.random() < 0.8),
     }
     return {key: make() for key, (likelihood, make) in forms.items() if rng.random() < likelihood}
 
 
 def random_metadata(rng, names):
     """What `metadata` in a manifest holds: often a table of rules, seldom one with a fault; or nothing at all."""
-    if rng.random() < 0.4 or not names:
+    if rng.random() < 0.3 or not names:
         return rng.choice([None, None, None, {}, {"docs.rs": {"all-features": True}}, "text", ["cargo-hack"]])
     table = random_table(rng, names)
     if rng.random() < 0.05:
@@ -151,7 +151,8 @@ def random_workspace(rng, root, most=5):
     located = rng.choice(own + [f"{root}/Cargo.toml"] * 2)
     folder = rng.choice([root, root, os.path.dirname(rng.choice(own))])
     minor = rng.choice([90, 90, 90, 70, 64, 63, 57, 40, 38, None])
-    names = sorted({name for it in packages if it["id"] in members for name in names_of(it)} | {*rng.sample(FEATURES, 2)})
+    own = [names_of(it) for it in packages if it["id"] in members]
+    names = sorted({*(sum(own, []) if rng.random() < 0.4 else rng.choice(own)), *rng.sample(FEATURES, rng.randint(0, 2))})
     return {"root": root, "packages": packages, "members": members, "nodes": nodes, "located": located,
             "folder": folder, "minor": minor, "stable": rng.choice([None, None, 63, 95]),
             "metadata": random_metadata(rng, names)}
