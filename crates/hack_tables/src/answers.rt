@@ -20,7 +20,8 @@ macro_rules! first_of {
 
 pub(crate) fn answer(alloc: Global, group: &Group, words: &[String]) -> Found {
     first_of!(
-        alloc, group, words: words, uses, lists, versions, paths, packages, stored, own_rules, commands
+        alloc, group, words:
+        words, uses, lists, versions, paths, packages, stored, own_rules, commands
     );
     Ok(None)
 }

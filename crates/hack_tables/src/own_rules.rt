@@ -31,9 +31,17 @@ fn read(alloc: Global, place: &str, value: &str) -> Result<Metadata, MetadataFau
     }
     let mut text = String::from_str(alloc, r#"{"packages":[{"id":"a","name":"p","#)?;
     text.push_str(r#""version":"1.0.0","dependencies":[],"features":{},"manifest_path":"m""#)?;
-    text.push_str(if place == "package" { field.as_str() } else { OTHER })?;
+    text.push_str(if place == "package" {
+        field.as_str()
+    } else {
+        OTHER
+    })?;
     text.push_str(r#"}],"workspace_members":["a"],"resolve":null,"workspace_root":"/w""#)?;
-    text.push_str(if place == "package" { OTHER } else { field.as_str() })?;
+    text.push_str(if place == "package" {
+        OTHER
+    } else {
+        field.as_str()
+    })?;
     text.push_str("}")?;
     let object = object_of(alloc, text.as_str())?;
     Metadata::from_obj(alloc, object, 38)
@@ -53,9 +61,24 @@ fn told(alloc: Global, metadata: &Metadata, place: &str) -> Result<String, Alloc
 /// The parts of a table that aren't empty.
 fn shown(alloc: Global, table: &RulesTable) -> Result<String, AllocError> {
     let mut parts = Vec::new(alloc);
-    push_names(alloc, &mut parts, "without", table.exclude_features.as_slice())?;
-    push_groups(alloc, &mut parts, "exclusive", table.mutually_exclusive_features.as_slice())?;
-    push_groups(alloc, &mut parts, "one of", table.at_least_one_of.as_slice())?;
+    push_names(
+        alloc,
+        &mut parts,
+        "without",
+        table.exclude_features.as_slice(),
+    )?;
+    push_groups(
+        alloc,
+        &mut parts,
+        "exclusive",
+        table.mutually_exclusive_features.as_slice(),
+    )?;
+    push_groups(
+        alloc,
+        &mut parts,
+        "one of",
+        table.at_least_one_of.as_slice(),
+    )?;
     push_groups(alloc, &mut parts, "group", table.group_features.as_slice())?;
     if let Some(names) = &table.optional_deps {
         push_optional(alloc, &mut parts, names.as_slice())?;
