@@ -1,8 +1,6 @@
-use Rattle.std.proofs.Common.{ap, sym, ◌∙◌, None}
-use Rattle.std.specs.Map.Iter.{deref}
-use Rattle.std.proofs.lemmas.Map.Iter.{rest_more}
+use Rattle.std.proofs.Common.{ap, sym, ◌∙◌}
 use Rattle.hack_base.specs.Names.{names_of}
-use Rattle.hack_metadata.proofs.RuleLemmas.{first_other, other-keys, other-turn}
+use Rattle.hack_metadata.proofs.RuleLemmas.{first_other, other-keys}
 use Rattle.hack_metadata.proofs.metadata.rules.other_key.Goals as goal
 
 pub loop-key-init : goal.loop-key-init

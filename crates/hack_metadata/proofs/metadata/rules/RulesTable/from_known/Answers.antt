@@ -1,4 +1,4 @@
-use Rattle.std.proofs.Common.{◌≡◌, List, Ok, ap, sym, subst, ◌∙◌, option_map}
+use Rattle.std.proofs.Common.{Ok, ap, sym, subst, ◌∙◌, option_map}
 use Rattle.serde_json.specs.View.{members_view}
 use Rattle.hack_base.specs.FieldReadings.{◌>>=◌}
 use Rattle.hack_base.specs.Names.{names_of}
