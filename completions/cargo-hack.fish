@@ -50,6 +50,7 @@ complete -c cargo -n '__fish_seen_subcommand_from hack' -l 'all-features' -d 'Ru
 complete -c cargo -n '__fish_seen_subcommand_from hack' -l 'include-deps-features' -d 'Use the features of dependencies as features of the package'
 complete -c cargo -n '__fish_seen_subcommand_from hack' -l 'strength' -r -d 'Run a sample of the powerset, a few sets that show each pattern of at most NUM features'
 complete -c cargo -n '__fish_seen_subcommand_from hack' -l 'restore' -d 'Bring back what an interrupted call left edited, and run nothing'
+complete -c cargo -n '__fish_seen_subcommand_from hack' -l 'package-rules' -d 'Run each package also by the rules that its manifest and the workspace\'s have'
 complete -c cargo-hack -f -a build -d 'Compile the current package'
 complete -c cargo-hack -f -a check -d 'Analyze the current package and report errors'
 complete -c cargo-hack -f -a run -d 'Run a binary or example of the local package'
@@ -101,3 +102,4 @@ complete -c cargo-hack -l 'all-features' -d 'Run with all features. This is Carg
 complete -c cargo-hack -l 'include-deps-features' -d 'Use the features of dependencies as features of the package'
 complete -c cargo-hack -l 'strength' -r -d 'Run a sample of the powerset, a few sets that show each pattern of at most NUM features'
 complete -c cargo-hack -l 'restore' -d 'Bring back what an interrupted call left edited, and run nothing'
+complete -c cargo-hack -l 'package-rules' -d 'Run each package also by the rules that its manifest and the workspace\'s have'

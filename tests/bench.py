@@ -2,7 +2,7 @@
 """Prints the wall time, the peak memory and the number of lines of powerset-list on growing feature maps, the times of
 packages grouped by version, of a large answer of cargo read, and of whole calls over a cargo and files in memory, the
 sizes of covering samples beside the least possible ones and the powersets', the times of the lists of the built cargo-hack,
-also where it edits many manifests meanwhile, and what its guard adds to a call.
+also by rules in manifests and where it edits many manifests meanwhile, and what its guard adds to a call.
 
 usage: tests/bench.py PROGRAM [ROWS [CALLS [HACK CARGO [OTHER]]]]
 
@@ -67,8 +67,9 @@ CASES += [
 ]
 
 
-def told_by_cargo(packages, features, dependencies=()):
-    """What `cargo metadata` prints of a workspace of so many packages with these features and optional dependencies."""
+def told_by_cargo(packages, features, dependencies=(), rules=None):
+    """What `cargo metadata` prints of a workspace of so many packages with these features and optional dependencies, and
+    each with this table of rules."""
     ids = [f"path+file:///w/p{i}#1.0.0" for i in range(packages)]
     told = {"workspace_members": ids, "resolve": None, "workspace_root": "/w"}
     told["packages"] = [
@@ -81,6 +82,7 @@ def told_by_cargo(packages, features, dependencies=()):
             "manifest_path": f"/w/p{i}/Cargo.toml",
             "publish": None,
             "rust_version": None,
+            "metadata": {"cargo-hack": rules} if rules else None,
         }
         for i, it in enumerate(ids)
     ]
@@ -245,9 +247,9 @@ LISTS = [
 LISTS += [(f"{members:,} members are edited", members, 1, ["--no-dev-deps"]) for members in (100, 400, 1600)]
 
 
-def lay_out(folder, cargo, members, features, dev=False):
+def lay_out(folder, cargo, members, features, dev=False, rules=None):
     """A workspace, and the answers of the stand-in for cargo at this path; how a program is called there."""
-    told = told_by_cargo(members, features).replace('"/w', f'"{folder}/w')
+    told = told_by_cargo(members, features, rules=rules).replace('"/w', f'"{folder}/w')
     files = {"answers/version": "cargo 1.90.0\nrelease: 1.90.0\nhost: h\n", "answers/metadata.json": told}
     files |= {"answers/locate.json": json.dumps({"root": f"{folder}/w/p0/Cargo.toml"}), "w/Cargo.toml": "[workspace]\n"}
     manifest = with_features(features) + ('\n[dev-dependencies]\ne1 = "1"\ne2 = "1"\n' if dev else "")
@@ -273,6 +275,23 @@ def print_lists(powerset_list, hack, cargo, other, folder, path):
             others = seconds_of([other, *words], path, **where)
             line += f"{others:9.3f}{memory_of([other, *words], path, **where):>7}{seconds / others:7.2f}"
         print(line, flush=True)
+
+
+# The rules of members, in their tables and by options.
+RULES = {"exclude-features": ["f04"], "mutually-exclusive-features": [["f00", "f01"]], "depth": 3}
+AS_OPTIONS = ["--exclude-features", "f04", "--mutually-exclusive-features", "f00,f01", "--depth", "3"]
+
+
+def print_tables(hack, cargo, folder, path):
+    """Prints the time of a list over 100 members by options, and of the same list by tables of rules in their manifests, which
+    is to take at most 1.2 times as long."""
+    print(f"{'list over 100 members with 5 features':40}{'seconds':>9}{'of options':>18}")
+    by_options = None
+    for title, rules, options in (("by options", None, AS_OPTIONS), ("by tables", RULES, ["--package-rules"])):
+        where = lay_out(f"{folder}/{title[3:]}", cargo, 100, without_edges(5), rules=rules)
+        seconds = seconds_of([hack, *LIST, "--feature-powerset", *options], path, **where)
+        by_options = by_options or seconds
+        print(f"{title:40}{seconds:9.3f}{seconds / by_options:18.2f}", flush=True)
 
 
 def print_guard(hack, cargo, folder, path):
@@ -356,6 +375,7 @@ def main():
         if len(sys.argv) > 4:
             hack, cargo, *other = map(os.path.abspath, sys.argv[4:])
             print_lists(program, hack, cargo, other[0] if other else None, folder, path)
+            print_tables(hack, cargo, folder, path)
             print_guard(hack, cargo, folder, path)
 
 

@@ -10,6 +10,9 @@ numbers n from 1 to 7 (all): each is compared with the piece of the definitions,
 Where the definitions have no plan, status 1, no list and one of the errors that hold are wanted. Cargo and rustup are
 shell scripts with stored answers. Where a case fails, its arguments, its workspace and both lists are printed.
 
+Packages and workspaces have tables of rules, which count under `--package-rules`; so have packages that aren't chosen. The
+warnings on names that a table has and its package lacks are compared too. Each other call has its tables too, and ignores them.
+
 With `--strength` the definitions leave open which sets a sample has. So the sets of a package are those listed ones whose
 commands are in the whole list; they have to show each pattern that a listed set shows, each of them one that no other shows,
 and all else is compared as above.
@@ -224,6 +227,128 @@ class Asked:
         return words + (["-" + "v" * (count - 1)] if count > 1 else [])
 
 
+# ---- Tables of rules in manifests.
+
+
+def is_names(value):
+    return isinstance(value, list) and all(isinstance(it, str) for it in value)
+
+
+def is_groups(value):
+    return isinstance(value, list) and all(is_names(it) and len(it) > 1 for it in value)
+
+
+def is_flag(value):
+    return isinstance(value, bool)
+
+
+def is_number(value):
+    return isinstance(value, int) and not is_flag(value) and value >= 0
+
+
+# The keys of a table, and what each may hold.
+FORMS = {
+    "exclude-features": is_names,
+    "mutually-exclusive-features": is_groups,
+    "at-least-one-of": is_groups,
+    "group-features": is_groups,
+    "optional-deps": lambda value: is_flag(value) or is_names(value),
+    "exclude-no-default-features": is_flag,
+    "exclude-all-features": is_flag,
+    "depth": is_number,
+    "strength": lambda value: is_number(value) and value > 0,
+}
+
+
+def table_of(held):
+    """The table of rules of a package or the workspace; empty where it has none."""
+    settings = held["metadata"]
+    return settings.get("cargo-hack", {}) if isinstance(settings, dict) else {}
+
+
+def wrong_field(table):
+    """The first field at fault of what should be a table of rules: known keys before unknown ones."""
+    if not isinstance(table, dict):
+        return "cargo-hack"
+    wrong = [key for key, fits in FORMS.items() if key in table and not fits(table[key])]
+    return next(iter(wrong + [key for key in table if key not in FORMS]), None)
+
+
+def cause_of_tables(workspace, packages):
+    """Why these tables of rules leave no plan, if they do: the workspace's first."""
+    places = [("[workspace.metadata.cargo-hack]", workspace)]
+    places += [(f"[package.metadata.cargo-hack] of package `{it['name']}`", it) for it in packages]
+    wrong = [(wrong_field(table_of(held)), place) for place, held in places]
+    return [f"failed to parse `{field}` field from {place}" for field, place in wrong if field is not None][:1]
+
+
+def names_in(table):
+    """The names that a table has, each once, in the order of the keys."""
+    names = list(table.get("exclude-features", []))
+    for key in ("mutually-exclusive-features", "at-least-one-of", "group-features"):
+        names += [name for group in table.get(key, []) for name in group]
+    optional = table.get("optional-deps", False)
+    return list(dict.fromkeys(names + ([] if is_flag(optional) else optional)))
+
+
+class Rules:
+    """What is asked of a package's sets and runs: by the call, and under `--package-rules` by its own table and then by the
+    workspace's."""
+
+    def __init__(self, workspace, asked, package):
+        self.is_powerset = asked.has("--feature-powerset")
+        self.excluded, self.groups, self.required = list(asked.excluded), list(asked.groups), list(asked.required)
+        lifted = [names for name, names in asked.lifted if name == package["name"]]
+        self.exclusive = [group for group in asked.exclusive if group not in lifted]
+        self.drops_none, self.drops_all = asked.drops_none, asked.drops_all
+        self.depth, self.strength = asked.depth, asked.strength
+        # Which optional dependencies are asked for, where some are; no names are all of them.
+        self.optional = [asked.optional] if asked.has("--optional-deps") else []
+        if asked.has("--package-rules"):
+            normal, optional, _ = pool(workspace, package)
+            self.add(table_of(package))
+            self.add(dict(table_of(workspace), **{"group-features": [
+                group for group in table_of(workspace).get("group-features", []) if set(group) <= {*normal, *optional}]}))
+
+    def asks_for(self, name):
+        """An optional dependency is asked for."""
+        return any(not names or name in names for names in self.optional)
+
+    def asks_for_all(self):
+        """All optional dependencies are, without their names."""
+        return [] in self.optional
+
+    def add(self, table):
+        """What counts of a table too."""
+        self.excluded += table.get("exclude-features", [])
+        self.drops_none |= table.get("exclude-no-default-features", False)
+        self.drops_all |= table.get("exclude-all-features", False) or table.get("exclude-features", []) != []
+        optional = table.get("optional-deps", False)
+        if optional is True:
+            self.optional.append([])
+        elif optional:
+            self.optional.append(optional)
+        if self.is_powerset:
+            exclusive, required = table.get("mutually-exclusive-features", []), table.get("at-least-one-of", [])
+            self.groups += table.get("group-features", [])
+            self.exclusive, self.required = self.exclusive + exclusive, self.required + required
+            self.drops_all |= exclusive != []
+            self.drops_none |= required != []
+            self.depth = table.get("depth") if self.depth is None else self.depth
+            self.strength = table.get("strength") if self.strength is None else self.strength
+
+
+def table_notes(workspace, asked, packages):
+    """The warnings on names of packages' own tables that the packages don't have."""
+    told = []
+    for it in packages if asked.has("--package-rules") else []:
+        normal, optional, deps = pool(workspace, it)
+        known = normal + optional + (deps if asked.has("--include-deps-features") else [])
+        place = f"of [package.metadata.cargo-hack] not found in package `{it['name']}`"
+        told += [f"warning: feature `{name}` {place}" for name in names_in(table_of(it)) if name not in known]
+    return told
+
+
 # ---- Packages.
 
 
@@ -301,18 +426,18 @@ def runs_of(workspace, asked, package, sample):
     """The runs of a package: `plain`, `all`, `none`, or a set. `sample` picks of the listed sets those of the package's
     sample."""
     normal, optional, deps = pool(workspace, package)
+    rules = Rules(workspace, asked, package)
     singles = asked.include
     if not singles:
-        singles = normal + [it for it in optional if asked.has("--optional-deps") and (
-            not asked.optional or it in asked.optional)]
+        singles = normal + [it for it in optional if rules.asks_for(it)]
         singles += deps if asked.has("--include-deps-features") else []
-    gone = asked.excluded + [name for group in asked.groups for name in group]
+    gone = rules.excluded + [name for group in rules.groups for name in group]
     candidates = [(name, [name]) for name in singles if name not in gone]
     if not asked.include:
         known = normal + optional
         candidates += [
             (",".join(group), group)
-            for group in asked.groups
+            for group in rules.groups
             if not asked.has("--ignore-unknown-features") or all(name in known for name in group)
         ]
 
@@ -320,15 +445,12 @@ def runs_of(workspace, asked, package, sample):
         return [Set(it, [candidates[place][0] for place in it]) for it in sets]
 
     if asked.has("--feature-powerset"):
-        lifted = [names for name, names in asked.lifted if name == package["name"]]
-        exclusive = [group for group in asked.exclusive if group not in lifted]
         names = [names for _, names in candidates]
-        choice = Choice(package["record"], names, asked.depth, asked.required, exclusive)
+        choice = Choice(package["record"], names, rules.depth, rules.required, rules.exclusive)
         sets = with_texts(choice.listed())
-        if asked.strength is not None:
-            sets = sample(choice, sets)
-        keeps_all = bool(optional) and not (
-            asked.has("--optional-deps") and not asked.optional and asked.depth is None)
+        if rules.strength is not None:
+            sets = sample(choice, sets, rules.strength)
+        keeps_all = bool(optional) and not (rules.asks_for_all() and rules.depth is None)
     elif asked.has("--each-feature"):
         sets = with_texts((place,) for place in range(len(candidates)))
         keeps_all = bool(optional) or len(normal) > 1
@@ -336,10 +458,10 @@ def runs_of(workspace, asked, package, sample):
         return ["plain"]
     if not sets and (asked.include or not normal + optional):
         return ["plain"]
-    keeps_all = keeps_all and not asked.drops_all
-    if asked.has("--feature-powerset") and not keeps_all and len(sets) > 1 and (asked.depth is None or asked.depth > 1):
+    keeps_all = keeps_all and not rules.drops_all
+    if asked.has("--feature-powerset") and not keeps_all and len(sets) > 1 and (rules.depth is None or rules.depth > 1):
         sets = sets[-1:] + sets[:-1]
-    front = ["all"] * keeps_all + ["none"] * (not asked.drops_none)
+    front = ["all"] * keeps_all + ["none"] * (not rules.drops_none)
     return front + sets
 
 
@@ -461,10 +583,15 @@ class Plan:
         # What the sets of a package are chosen from, by its name.
         self.choices = {}
         chosen = chosen_packages(workspace, asked, self.causes)
+        # The warnings on names in tables of rules.
+        self.notes = []
+        if asked.has("--package-rules"):
+            self.causes += cause_of_tables(workspace, [it for _, it in chosen])
         used = uses_of(workspace, asked, chosen, self.causes)
         self.versions, self.places, self.texts = sorted(used), [], []
         if self.causes:
             return
+        self.notes = table_notes(workspace, asked, [it for _, it in chosen])
         self.packages = packages = dict(chosen)
         self.runs = runs = {}
         for place, it in chosen:
@@ -484,11 +611,11 @@ class Plan:
 
     def runs_in_list(self, package, version):
         """The runs of a package; where two sets of its sample have one command, with that which the list's order means."""
-        kept = len(self.faults)
+        kept, is_sampled = len(self.faults), Rules(self.workspace, self.asked, package).strength is not None
         for last_first in (False, True, False):
             del self.faults[kept:]
             runs = runs_of(self.workspace, self.asked, package, functools.partial(self.sample, package, version, last_first))
-            if version is None or self.asked.strength is None or self.asked.own_handling:
+            if version is None or not is_sampled or self.asked.own_handling:
                 break
             place = (version, self.slots(version)[0], 0)
             lines = iter(self.whole.splitlines(keepends=True))
@@ -499,7 +626,7 @@ class Plan:
                 break
         return runs
 
-    def sample(self, package, version, last_first, choice, sets):
+    def sample(self, package, version, last_first, choice, sets, strength):
         """Those of the listed sets whose commands the whole list has, and a fault where they miss a pattern, or where one of
         them shows none that no other does. With `last_first` the list begins with the last of them."""
         self.choices[package["name"]] = choice
@@ -514,12 +641,12 @@ class Plan:
                 found.append(it)
         if len(set(texts)) < len(texts):
             found = self.in_order(sets, texts, found, last_first)
-        own = [patterns(choice.settings_of(it), self.asked.strength) for it in found]
+        own = [patterns(choice.settings_of(it), strength) for it in found]
         shown = set().union(*own)
         for place, it in enumerate(found):
             if own[place] <= set().union(*own[:place], *own[place + 1 :]):
                 self.faults.append(f"in {package['name']} other runs show each pattern that {it} shows")
-        missed = [(it, patterns(choice.settings_of(it), self.asked.strength) - shown) for it in sets]
+        missed = [(it, patterns(choice.settings_of(it), strength) - shown) for it in sets]
         self.faults += [f"in {package['name']} no run shows {min(them)}, which {it} shows" for it, them in missed if them]
         return found
 
@@ -661,11 +788,12 @@ def fault_of_suspects(program, plan, words, rng):
 # ---- Comparing.
 
 
-def difference(wanted, ran):
-    """What is wrong with a run that should print this list."""
-    if ran.returncode == 0 and ran.stdout == wanted:
+def difference(wanted, ran, notes):
+    """What is wrong with a run that should print this list, and these warnings on names in tables of rules."""
+    told = [it for it in ran.stderr.splitlines() if "metadata.cargo-hack]" in it]
+    if (ran.returncode, ran.stdout, told) == (0, wanted, notes):
         return None
-    return f"status {ran.returncode}, {ran.stderr}\nwanted:\n{wanted}\ntold:\n{ran.stdout}"
+    return f"status {ran.returncode}, {ran.stderr}\nwanted:\n{wanted}{notes}\ntold:\n{ran.stdout}{told}"
 
 
 def refusal(causes, ran):
@@ -697,14 +825,14 @@ def try_case(program, workspace, uses, trailing, counts, rng):
     if plan.causes:
         return refusal(plan.causes, ran), (0, 0, 1, 0)
     wanted = plan.piece("block", 1, 1)
-    fault, pieces = difference(wanted, ran) or next(iter(plan.faults), None), 0
+    fault, pieces = difference(wanted, ran, plan.notes) or next(iter(plan.faults), None), 0
     for count, kind in itertools.product(counts, ("block", "turn")):
         told_pieces = []
         for number in range(1, count + 1):
             more = ["--partition", f"{number}/{count}"]
             more += [f"--partition-kind={kind}"] if kind == "turn" or number % 2 else []
             ran = call(program, workspace, more + words)
-            wrong = difference(plan.piece(kind, number, count), ran)
+            wrong = difference(plan.piece(kind, number, count), ran, plan.notes)
             fault = fault or wrong and f"piece {number}/{count} by {kind}: {wrong}"
             told_pieces.append(ran.stdout)
             pieces += 1

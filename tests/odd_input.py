@@ -10,7 +10,7 @@ FLAGS = [
     "--ignore-private", "--ignore-unknown-features", "--rust-version", "--clean-per-run", "--clean-per-version",
     "--keep-going", "--no-manifest-path", "--locked", "-v", "--verbose", "--all-features", "--no-default-features",
     "--print-command-list", "--workspace-behavior=cargo", "--workspace-behavior", "--tests", "--test=x",
-    "--all-targets",
+    "--all-targets", "--package-rules",
     "-vvv", "-nq", "-n=3", "-j4", "-ab=c", "-vh", "-qF", "-p", "-F", "-h", "--help", "-V", "--version", "--list",
     "--each-features", "--no-dev-dep", "--include-dep-features", "--skip-no-default-features",
     "--ignore-non-exist-features",

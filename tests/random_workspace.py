@@ -1,5 +1,5 @@
-"""Random small workspaces, arguments for `cargo-hack` that break no rule, and stand-ins for cargo and rustup: for the
-scripts lists_by_definition.py and odd_calls.py.
+"""Random small workspaces, some with tables of rules in their manifests, arguments for `cargo-hack` that break no rule,
+and stand-ins for cargo and rustup: for the scripts lists_by_definition.py and odd_calls.py.
 """
 import json
 import os
@@ -23,6 +23,15 @@ VERSIONS = ["1.60", "1.61", "1.61.2", "1.62", "1.63.0"]
 TARGETS = ["x86_64-unknown-linux-gnu", "aarch64-apple-darwin", "wasm32-unknown-unknown"]
 
 
+# Values that the keys of a table of rules may not have, an unknown key, and fields that are no table.
+FAULTS = [("exclude-features", "a"), ("exclude-features", ["a", 1]), ("mutually-exclusive-features", ["a", "b"]),
+          ("mutually-exclusive-features", [["a", "b"], ["c"]]), ("at-least-one-of", [[]]), ("group-features", [["a", True]]),
+          ("group-features", {}), ("optional-deps", "d"), ("optional-deps", [["d"]]), ("exclude-no-default-features", 1),
+          ("exclude-all-features", "true"), ("depth", -1), ("depth", "2"), ("depth", 1.5), ("strength", 0),
+          ("strength", [2]), ("exclude_features", [])]
+NO_TABLES = [True, "depth = 2", [], [{"depth": 2}]]
+
+
 def random_map(rng, names):
     """A feature map: a chain, a cycle, or values at random."""
     style = rng.choice(["none", "chain", "cycle", "random", "random", "random"])
@@ -35,6 +44,50 @@ def random_map(rng, names):
         if rng.random() < 0.5:
             features[name] += rng.sample(VALUES, rng.choice([1, 1, 2]))
     return features
+
+
+def random_table(rng, names):
+    """What a table of rules in a manifest holds: some of its keys, each with a value of one of its forms."""
+
+    def some(low, high):
+        return rng.sample(names, min(len(names), rng.randint(low, high)))
+
+    def group():
+        return (some(2, 3) + ["nope", "no/pe"])[:rng.choice([2, 2, 3])]
+
+    def groups():
+        return [group() for _ in range(rng.choice([0, 1, 1, 1, 1, 2]))]
+
+    forms = {
+        "depth": (0.3, lambda: rng.choice([0, 1, 2, 2, 3])),
+        "strength": (0.2, lambda: rng.choice([1, 2, 2, 3])),
+        "exclude-features": (0.3, lambda: some(0, 2)),
+        "mutually-exclusive-features": (0.3, groups),
+        "at-least-one-of": (0.2, groups),
+        "group-features": (0.25, lambda: [group()]),
+        "optional-deps": (0.35, lambda: rng.choice([True, True, False, some(0, 2), some(1, 1) + some(1, 2)])),
+        "exclude-no-default-features": (0.2, lambda: rng.random() < 0.8),
+        "exclude-all-features": (0.25, lambda: rng.random() < 0.8),
+    }
+    return {key: make() for key, (likelihood, make) in forms.items() if rng.random() < likelihood}
+
+
+def random_metadata(rng, names):
+    """What `metadata` in a manifest holds: often a table of rules, seldom one with a fault; or nothing at all."""
+    if rng.random() < 0.3 or not names:
+        return rng.choice([None, None, None, {}, {"docs.rs": {"all-features": True}}, "text", ["cargo-hack"]])
+    table = random_table(rng, names)
+    if rng.random() < 0.05:
+        table.update(rng.sample(FAULTS, rng.choice([1, 1, 2])))
+    if rng.random() < 0.01:
+        table = rng.choice(NO_TABLES)
+    return {"cargo-hack": table, "other": {"depth": 0}} if rng.random() < 0.1 else {"cargo-hack": table}
+
+
+def names_of(package):
+    """Names that the rules of a package may have: its features and dependencies, and one that it lacks."""
+    own = sorted({*package["manifest"], *(it["rename"] or it["name"] for it in package["dependencies"])})
+    return own + [f"{it['name']}/x" for it in package["dependencies"][:1]]
 
 
 def random_package(rng, name, folder, most):
@@ -55,12 +108,14 @@ def random_package(rng, name, folder, most):
                 record.setdefault(own, ["dep:" + own])
     private = rng.random() < 0.25
     style = rng.choice(["#{v}", "#{n}@{v}", ""])
-    return {
+    package = {
         "id": f"path+file://{folder}" + style.format(n=name, v=version), "name": name, "version": version,
         "dependencies": dependencies, "manifest": manifest, "record": record, "private": private,
         "publish": [] if private else rng.choice([None, None, ["elsewhere"]]),
         "manifest_path": f"{folder}/Cargo.toml", "rust_version": None if rng.random() < 0.15 else rng.choice(VERSIONS),
     }
+    names = names_of(package) + rng.sample(FEATURES, 1)
+    return {**package, "metadata": random_metadata(rng, names + ["nope"] * (rng.random() < 0.2))}
 
 
 def random_workspace(rng, root, most=5):
@@ -87,7 +142,8 @@ def random_workspace(rng, root, most=5):
                 packages.append({
                     "id": it["name"] + "#1", "name": it["name"], "version": "1.0.0", "dependencies": [], "manifest": {},
                     "record": {f: [] for f in rng.sample(["x", "full", "rt"], rng.randint(0, 2))}, "private": False,
-                    "publish": None, "manifest_path": f"/cargo/{it['name']}/Cargo.toml", "rust_version": None})
+                    "publish": None, "manifest_path": f"/cargo/{it['name']}/Cargo.toml", "rust_version": None,
+                    "metadata": rng.choice([None, None, {"cargo-hack": {"depth": -1}}])})
             kinds = rng.choice([[(None, None)], [(None, None)], [("dev", None)], [(None, "cfg(unix)"), (None, None)]])
             nodes[package["id"]].append((it["name"] + "#1", kinds))
     rng.shuffle(packages)
@@ -95,8 +151,11 @@ def random_workspace(rng, root, most=5):
     located = rng.choice(own + [f"{root}/Cargo.toml"] * 2)
     folder = rng.choice([root, root, os.path.dirname(rng.choice(own))])
     minor = rng.choice([90, 90, 90, 70, 64, 63, 57, 40, 38, None])
+    own = [names_of(it) for it in packages if it["id"] in members]
+    names = sorted({*(sum(own, []) if rng.random() < 0.4 else rng.choice(own)), *rng.sample(FEATURES, rng.randint(0, 2))})
     return {"root": root, "packages": packages, "members": members, "nodes": nodes, "located": located,
-            "folder": folder, "minor": minor, "stable": rng.choice([None, None, 63, 95])}
+            "folder": folder, "minor": minor, "stable": rng.choice([None, None, 63, 95]),
+            "metadata": random_metadata(rng, names)}
 
 
 def names_near(rng, workspace):
@@ -264,7 +323,8 @@ class Words:
         for option, likelihood in (("--clean-per-run", 0.15), ("--no-manifest-path", 0.2), ("--locked", 0.1),
                                    ("--keep-going", 0.05), ("--no-dev-deps", 0.05)):
             # (without paths a line doesn't show of which package's sample it is)
-            is_sampled = option == "--no-manifest-path" and any(it.name == "--strength" for it in self.uses)
+            samples = ("--strength", "--package-rules")
+            is_sampled = option == "--no-manifest-path" and any(it.name in samples for it in self.uses)
             if self.chance(likelihood) and not is_sampled:
                 self.add(option)
         for _ in range(self.rng.choice([0, 0, 0, 1, 2, 3])):
@@ -298,6 +358,8 @@ def random_words(rng, workspace):
         words.groups()
     if mode != "plain":
         words.candidates()
+        if words.chance(0.5):
+            words.add("--package-rules")
     if words.has_lists and words.chance(0.5):
         words.add("--ignore-unknown-features")
     words.packages()
@@ -342,7 +404,7 @@ def metadata(workspace):
     packages = []
     for it in workspace["packages"]:
         record = {key: it[key] for key in ("id", "name", "version", "dependencies", "manifest_path")}
-        record["features"] = it["record"]
+        record["features"], record["metadata"] = it["record"], it["metadata"]
         if newest >= 39:
             record["publish"] = it["publish"]
         if newest >= 58:
@@ -355,7 +417,7 @@ def metadata(workspace):
         for it, deps in workspace["nodes"].items()
     ]
     return {"packages": packages, "workspace_members": workspace["members"], "resolve": {"nodes": nodes},
-            "workspace_root": workspace["root"]}
+            "workspace_root": workspace["root"], "metadata": workspace["metadata"]}
 
 
 def manifest(package):

@@ -73,6 +73,29 @@ CALLS = {
     ),
 }
 
+# The sets of the library by its own table of rules: none has `default`, both formats or three features.
+RULED = ["", "json,trace", "binary", "compact", "binary,compact", "json", "compact,json", "trace", "binary,trace",
+         "compact,trace"]
+CALLS["rules of its own, to the end"] = (
+    ["check", "--package", "codec", "--feature-powerset", "--package-rules", "--keep-going"],
+    1,
+    lines(10, [(it, "codec") for it in RULED])
+    + ["error: process didn't exit successfully: `cargo check --manifest-path codec/Cargo.toml --no-default-features"
+       " --features compact,trace` (exit status: 101)", "error: failed to run 1 commands"],
+)
+
+# Rules for both packages beside these, and what is listed then. With a wrong table nothing is.
+TABLE = '\n[workspace.metadata.cargo-hack]\nexclude-features = ["quiet", "trace"]\noptional-deps = true\n'
+BY_RULES = ["check", "--feature-powerset", "--package-rules", "--print-command-list"]
+BY_BOTH_TABLES = [("codec", it) for it in ("", "compact,json", "binary", "compact", "binary,compact", "json")]
+BY_BOTH_TABLES += [("tool", it) for it in ("", "color,codec", "color", "codec")]
+WRONG = {
+    "codec/Cargo.toml": ("depth = 2", 'depth = "2"',
+                         "error: failed to parse `depth` field from [package.metadata.cargo-hack] of package `codec`"),
+    "Cargo.toml": ("optional-deps = true", "optional = true",
+                   "error: failed to parse `optional` field from [workspace.metadata.cargo-hack]"),
+}
+
 # The failed runs of the third call.
 FAILED = ["compact,json,trace", "compact,trace", "binary,compact,trace"]
 
@@ -176,6 +199,28 @@ def edit_fault(program, folder, words, status, wanted):
         return f"status {done.returncode}"
     told = [it for it in done.stderr.splitlines() if it.startswith("info: ") and not it.startswith("info: running")]
     return changes(before, held(folder)) or difference([it.replace("{}", os.path.realpath(folder)) for it in wanted], told)
+
+
+def rules_fault(program, folder):
+    """What is wrong with a list by the tables of a member and of the workspace, if something is, or with a refused table."""
+    shutil.copytree(WORKSPACE, folder)
+    with open(f"{folder}/Cargo.toml", "a", encoding="utf-8") as it:
+        it.write(TABLE)
+    done = call(program, folder, BY_RULES)
+    wanted = [
+        f"cargo check --manifest-path {package}/Cargo.toml --no-default-features" + (f" --features {it}" if it else "")
+        for package, it in BY_BOTH_TABLES
+    ]
+    fault = difference(wanted, done.stdout.splitlines())
+    for name, (text, wrong, error) in WRONG.items():
+        with open(f"{folder}/{name}", encoding="utf-8") as it:
+            held = it.read()
+        write(f"{folder}/{name}", held.replace(text, wrong))
+        done = call(program, folder, BY_RULES)
+        if done.returncode != 1 or done.stdout:
+            fault = fault or f"{name}: status {done.returncode}, {done.stdout}"
+        fault = fault or difference([error], done.stderr.splitlines()[-1:])
+    return fault
 
 
 # ---- In repositories.
@@ -301,7 +346,7 @@ def main():
         "a package at the top of a repository": lambda folder: package_fault(program, folder, True),
         "a call that is interrupted": lambda folder: interrupted_fault(program, folder),
     }
-    checks, skipped = len(CALLS) + len(EDITS) + len(in_repositories) + 3, 0
+    checks, skipped = len(CALLS) + len(EDITS) + len(in_repositories) + 4, 0
     heed_signals()
     if not has_cargo():
         print(f"no cargo and rustc that answer here: {checks} calls skipped")
@@ -331,6 +376,7 @@ def main():
         tell("a sample", difference(SUSPECTS, sampled.stderr.splitlines()[-len(SUSPECTS):]))
         listed = call(program, folder, SETS + ["--print-command-list"])
         tell("a list of commands", difference(LIST, listed.stdout.splitlines()))
+        tell("rules of both tables", rules_fault(program, os.path.join(temporary, "tables")))
         if shutil.which("git") is None:
             skipped = len(in_repositories)
             print(f"no git: {skipped} calls skipped")

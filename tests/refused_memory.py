@@ -11,6 +11,7 @@ search memory was refused, is the very same or none.
 
 Prints a line for each call. The last line is `N passed, M failed, K skipped`; the status is 1 where one failed.
 """
+import json
 import os
 import shutil
 import subprocess
@@ -83,8 +84,15 @@ CALLS = {
     "private members left out": ["check", "--workspace", "--no-private"],
 }
 
-# Calls that are told of eight features, some of which enable others: their samples take some search.
+# Tables of rules in the manifests, the first with names that no package has.
+TABLE = {"exclude-features": ["h", "x"], "mutually-exclusive-features": [["a", "b"]], "group-features": [["c", "e"]],
+         "optional-deps": ["y"], "depth": 2}
+SHARED_TABLE = {"exclude-features": ["g"], "at-least-one-of": [["a", "c"]], "group-features": [["d", "f"], ["d", "z"]]}
+
+# Calls that are told of eight features, some of which enable others, so that their samples take some search, and of tables of
+# rules.
 WIDE = {
+    "rules of tables": ["check", "--feature-powerset", "--package-rules", "--print-command-list", "--workspace"],
     "a sample of eight features": ["check", "--feature-powerset", "--strength", "3", "--print-command-list", "-p", "p"],
     "a sample with groups": ["check", "--feature-powerset", "--strength", "2", "--print-command-list", "-p", "p"]
     + ["--mutually-exclusive-features", "a,b", "--at-least-one-of", "c,e"],
@@ -100,7 +108,7 @@ MAPS = {
 
 def lay_out(folder):
     """The workspace, and two stand-ins beside it. The first tells of three features: so many have more than one sample of
-    pairs. The second tells of eight."""
+    pairs. The second tells of eight, and of tables of rules."""
     workspace, tools = f"{folder}/w", [f"{folder}/tools/cargo", f"{folder}/wide/cargo"]
     write_files(workspace)
     for cargo, more in zip(tools, ('"c":[]', '"c":[],"d":["a"],"e":[],"f":["b","e"],"g":[],"h":["d"]')):
@@ -108,6 +116,11 @@ def lay_out(folder):
         with open(f"{cargo}.metadata", encoding="utf-8") as it:
             told = it.read()
         write(f"{cargo}.metadata", told.replace('"b":[]', f'"b":[],{more}'))
+    with open(f"{tools[1]}.metadata", encoding="utf-8") as it:
+        told = json.load(it)
+    for held, table in ((told, SHARED_TABLE), (told["packages"][0], TABLE)):
+        held["metadata"] = {"cargo-hack": table}
+    write(f"{tools[1]}.metadata", json.dumps(told))
     return workspace, *tools
 
 

@@ -37,6 +37,16 @@ HIDDEN = [
             "Of other options only --verbose and --color may stand beside it.",
         ],
     ),
+    (
+        "--package-rules",
+        [
+            "Run each package also by the rules that its manifest and the workspace's have.",
+            "They are the tables [package.metadata.cargo-hack] and [workspace.metadata.cargo-hack], with the keys exclude-features,"
+            " mutually-exclusive-features, at-least-one-of, group-features, optional-deps, exclude-no-default-features,"
+            " exclude-all-features, depth and strength, and are added to the rules of the call.",
+            "This flag can only be used together with --each-feature or --feature-powerset flag.",
+        ],
+    ),
 ]
 
 # The values that an option takes, where they are few.

@@ -11,6 +11,7 @@ mod loading;
 mod located;
 mod metadata;
 mod package_lists;
+mod package_rules;
 mod package_runs;
 mod packages;
 mod plan_faults;

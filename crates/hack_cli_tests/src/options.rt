@@ -88,7 +88,7 @@ fn options_by_name(rt: HostRuntime) -> Result<(), Wrong> {
         rt.alloc(),
         "
             > all by name
-            | 47
+            | 48
             > long:
             | none
             > long: al
@@ -169,6 +169,8 @@ fn rows(rt: HostRuntime) -> Result<(), Wrong> {
             | Strength strength Value once
             > row: restore
             | Restore restore Flag once
+            > row: package-rules
+            | PackageRules package-rules Flag once
             > row: workspace-behavior
             | WorkspaceBehavior workspace-behavior Refused often
             > row: help
@@ -200,8 +202,10 @@ fn options_in_messages(rt: HostRuntime) -> Result<(), Wrong> {
 | --strength|--strength|no
 > restore
 | --restore|--restore|no
+> package-rules
+| --package-rules|--package-rules|no
 ",
-        "0 of 8 are wrong",
+        "0 of 9 are wrong",
     )
 }
 

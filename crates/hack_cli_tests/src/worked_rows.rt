@@ -323,6 +323,13 @@ const LATE: &str = r"[words] There is a subcommand, or a list is asked for.
 |
 | For more information try --help
 |
+[words] The rules of manifests stand beside sets of features.
+> hack check --package-rules
+| --package-rules can only be used together with either --each-feature or --feature-powerset
+> hack --restore --package-rules
+| --restore may not be used together with other arguments
+> hack check --each-feature --package-rules
+| args
 [words] Notices.
 > hack check --each-feature --ignore-unknown-features --include-features a
 | args
@@ -334,5 +341,5 @@ const LATE: &str = r"[words] There is a subcommand, or a list is asked for.
 
 #[test]
 fn rules_behind_the_subcommand(rt: HostRuntime) -> Result<(), Wrong> {
-    checked(rt.alloc(), LATE, "0 of 33 are wrong")
+    checked(rt.alloc(), LATE, "0 of 36 are wrong")
 }

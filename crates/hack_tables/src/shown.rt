@@ -174,6 +174,7 @@ fn show_flags(fields: &mut Fields, args: &Args) -> Result<(), AllocError> {
         (args.no_dev_deps, "no_dev_deps"),
         (args.remove_dev_deps, "remove_dev_deps"),
         (args.restore, "restore"),
+        (args.package_rules, "package_rules"),
         (args.no_private, "no_private"),
         (args.ignore_private, "ignore_private"),
         (args.ignore_unknown_features, "ignore_unknown_features"),

@@ -17,7 +17,7 @@ use std::{env, io};
 const CALLS: [&str; 3] = [
     "hack check --feature-powerset --print-command-list --ignore-private --depth 2",
     "hack check --each-feature --exclude-all-features --partition 2/2",
-    "hack test --feature-powerset --ignore-private --exclude-features default,binary,json --keep-going",
+    "hack test --feature-powerset --package-rules --keep-going",
 ];
 
 /// A command that cargo fails: these two features don't build together.

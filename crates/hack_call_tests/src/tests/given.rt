@@ -1,6 +1,6 @@
 //! Calls from short texts: the arguments after `hack`, and a context in a workspace.
 
-use crate::tests::workspace::{manifest_text, metadata_text};
+use crate::tests::workspace::{manifest_text, members_and_table, metadata_text, no_graph};
 use hack_holds::Wrong;
 use hack_load::context::{Answers, Context, Loaded, Located};
 use hack_manifest::manifest::Manifest;
@@ -81,9 +81,11 @@ pub fn located(alloc: Global, text: String) -> Result<Located, AllocError> {
     Ok(Located { command, text })
 }
 
-fn loaded(alloc: Global, members: &str, current: &str) -> Result<Loaded, Wrong> {
+fn loaded(alloc: Global, whole: &str, current: &str) -> Result<Loaded, Wrong> {
+    let (members, table) = members_and_table(whole);
     let root = format!(in alloc; "{{\"root\":\"/w/{current}/Cargo.toml\"}}")?;
-    let text = metadata_text(alloc, members, "", "null")?;
+    let graph = no_graph(alloc, table)?;
+    let text = metadata_text(alloc, members, "", graph.as_str())?;
     let Ok(metadata) = read(alloc, text.as_str(), 90) else {
         return Err(no_call(alloc, "no metadata"));
     };

@@ -3,11 +3,12 @@
 //! A workspace is a text: its members, separated by `;`. A member is its name (followed by `!`
 //! where it is private), its own version or `-`, and its features, each with what it enables after
 //! a colon; after a `/` come its dependencies, each with its new name after a colon if it has one.
-//! They are optional, except those after a `-`.
+//! They are optional, except those after a `-`. After a `#` comes its table of rules, as JSON, and
+//! after `##`, at the end of the whole, the workspace's.
 
 use std::alloc::{AllocError, Global};
 
-/// A member: its name, whether it is private, its own version, features and dependencies.
+/// A member: its name, whether it is private, its own version, features, dependencies and table.
 #[derive(Clone, Copy)]
 struct Member<'a> {
     name: &'a str,
@@ -15,9 +16,11 @@ struct Member<'a> {
     own: &'a str,
     features: &'a str,
     dependencies: &'a str,
+    table: &'a str,
 }
 
 fn member_of(text: &str) -> Member<'_> {
+    let (text, table) = text.split_once(" # ").unwrap_or((text, ""));
     let (head, dependencies) = text.split_once(" / ").unwrap_or((text, ""));
     let (name, rest) = head.trim().split_once(' ').unwrap_or((head.trim(), "-"));
     let (own, features) = rest.split_once(' ').unwrap_or((rest, ""));
@@ -27,6 +30,7 @@ fn member_of(text: &str) -> Member<'_> {
         own,
         features,
         dependencies,
+        table,
     }
 }
 
@@ -107,6 +111,14 @@ fn push_or_null(text: &mut String, value: &str) -> Result<(), AllocError> {
     }
 }
 
+/// Appends what a manifest with this table of rules has as metadata to the text, as a field.
+fn push_table(text: &mut String, table: &str) -> Result<(), AllocError> {
+    if table.is_empty() {
+        return Ok(());
+    }
+    push_all(text, &[",\"metadata\":{\"cargo-hack\":", table, "}"])
+}
+
 /// Appends a member to the text, as JSON.
 fn push_package(text: &mut String, member: Member<'_>) -> Result<(), AllocError> {
     let publish = if member.private { "[]" } else { "null" };
@@ -122,6 +134,7 @@ fn push_package(text: &mut String, member: Member<'_>) -> Result<(), AllocError>
     push_all(text, &["/Cargo.toml\",\"publish\":", publish])?;
     text.push_str(",\"rust_version\":")?;
     push_or_null(text, member.own)?;
+    push_table(text, member.table)?;
     text.push_str("}")
 }
 
@@ -180,6 +193,18 @@ pub fn metadata_text(
     let packages = list_of_packages(alloc, members, others)?;
     let ids = list_of_ids(alloc, members)?;
     whole_text(alloc, packages.as_str(), ids.as_str(), resolve)
+}
+
+/// The members of a whole, and the workspace's table of rules.
+pub fn members_and_table(whole: &str) -> (&str, &str) {
+    whole.split_once(" ## ").unwrap_or((whole, ""))
+}
+
+/// No graph of dependencies, and behind it the workspace's table of rules, if it has one.
+pub fn no_graph(alloc: Global, table: &str) -> Result<String, AllocError> {
+    let mut text = String::from_str(alloc, "null")?;
+    push_table(&mut text, table)?;
+    Ok(text)
 }
 
 /// The text of a member's manifest.
