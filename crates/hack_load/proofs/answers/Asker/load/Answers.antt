@@ -53,3 +53,6 @@ returns-in-Ok-clause-spoilt g c =
     let looked = reads-grow g.F.Files.tells (g.F.Files.bytes_at c.new.new.files) (g.F.Files.bytes_at c.load_behind.new.files) (g.F.Files.failed c.new.new.files) (g.F.Files.failed c.load_behind.new.files) c.load_behind.result c.load_behind.ensures.left in
     but_then (g.F.Files.refuses c.args.files.now c.new.new.files) (g.F.Files.refuses c.new.new.files c.load_behind.new.files) (g.F.Files.refuses c.args.files.now c.load_behind.new.files) _ _ _ _ (λ ps qs one other. g.F.Files.refuses_more _ _ _ ps qs one other)
     c.in-Ok.ensures.spoilt (but_same _ _ _ _ (g.F.Files.refuses_some _ _ looked.0) looked.1)
+
+pub returns-in-Ok-clause-stays : goal.returns-in-Ok-clause-stays
+returns-in-Ok-clause-stays g c = g.F.Files.stays_more c.args.files.now c.new.new.files c.load_behind.new.files c.in-Ok.ensures.stays c.load_behind.ensures.stays
