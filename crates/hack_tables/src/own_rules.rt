@@ -22,29 +22,30 @@ pub(crate) fn answer(alloc: Global, group: &Group, words: &[String]) -> Found {
 
 static OTHER: &str = r#","metadata":{"cargo-hack":{"exclude-features":["other"]}}"#;
 
-/// The metadata of a workspace with one package.
 fn read(alloc: Global, place: &str, value: &str) -> Result<Metadata, MetadataFault> {
     let mut field = String::new(alloc);
     if !value.is_empty() {
         field.push_str(",\"metadata\":")?;
         field.push_str(value)?;
     }
-    let mut text = String::from_str(alloc, r#"{"packages":[{"id":"a","name":"p","#)?;
-    text.push_str(r#""version":"1.0.0","dependencies":[],"features":{},"manifest_path":"m""#)?;
-    text.push_str(if place == "package" {
-        field.as_str()
+    let text = if place == "package" {
+        whole(alloc, field.as_str(), OTHER)?
     } else {
-        OTHER
-    })?;
-    text.push_str(r#"}],"workspace_members":["a"],"resolve":null,"workspace_root":"/w""#)?;
-    text.push_str(if place == "package" {
-        OTHER
-    } else {
-        field.as_str()
-    })?;
-    text.push_str("}")?;
+        whole(alloc, OTHER, field.as_str())?
+    };
     let object = object_of(alloc, text.as_str())?;
     Metadata::from_obj(alloc, object, 38)
+}
+
+/// The metadata of a workspace with one package: more fields of the package, and of the workspace.
+fn whole(alloc: Global, own: &str, more: &str) -> Result<String, AllocError> {
+    let mut text = String::from_str(alloc, r#"{"packages":[{"id":"a","name":"p","#)?;
+    text.push_str(r#""version":"1.0.0","dependencies":[],"features":{},"manifest_path":"m""#)?;
+    text.push_str(own)?;
+    text.push_str(r#"}],"workspace_members":["a"],"resolve":null,"workspace_root":"/w""#)?;
+    text.push_str(more)?;
+    text.push_str("}")?;
+    Ok(text)
 }
 
 fn told(alloc: Global, metadata: &Metadata, place: &str) -> Result<String, AllocError> {
