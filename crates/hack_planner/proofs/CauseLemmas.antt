@@ -1,5 +1,5 @@
 -- Errors of the parts of a plan are causes to refuse it, and the notices on all parts.
-use Rattle.std.proofs.Common.{◌≡◌, ◌<◌, ◌^◌, length, refl, sym, ap, subst, ◌∙◌, ◌⊎◌, inl, inr, ℕ, List, [], ◌∷◌, ◌++◌, map, Option, append_assoc}
+use Rattle.std.proofs.Common.{◌≡◌, ◌<◌, ◌^◌, length, refl, sym, ap, subst, ◌∙◌, ◌⊎◌, inl, inr, ℕ, List, [], ◌∷◌, ◌++◌, map, Option, append_assoc, None}
 use Rattle.std.specs.List.{AllZip}
 use Rattle.std.proofs.lemmas.Bool.{cases_lt}
 use Rattle.std.proofs.lemmas.List.{map-append}
@@ -24,25 +24,25 @@ use Rattle.hack_planner.specs.declared.fault.PlanFault.{PlanFault}
 use Rattle.hack_planner.specs.declared.fault.PlanFault.TheVariants as fault
 
 -- the error of the range is a cause
-pub range-cause : (cx : ContextRecord) (ids : List ℕ) (s : PlanInput) (latest : Option Version) (e : PlanFault) → AreChosen cx ids → IsInputOf cx ids s
+pub range-cause : (cx : ContextRecord) (ids : List ℕ) (s : PlanInput) (latest : Option Version) (e : PlanFault) → AreChosen cx ids → table_fault cx ids ≡ None → IsInputOf cx ids s
     → (e ≡ fault.Memory) ⊎ SaysRangeRefused s latest e → (e ≡ fault.Memory) ⊎ IsCause cx latest e
-range-cause cx ids s latest fault.Memory chosen of_call h = inl refl
-range-cause cx ids s latest (fault.Stable text) chosen of_call (inl e) = absurd (cc)
-range-cause cx ids s latest (fault.Stable text) chosen of_call (inr bad) = absurd bad
-range-cause cx ids s latest (fault.Packages e) chosen of_call (inl m) = absurd (cc)
-range-cause cx ids s latest (fault.Packages e) chosen of_call (inr bad) = absurd bad
-range-cause cx ids s latest (fault.PackageRules field name) chosen of_call (inl m) = absurd (cc)
-range-cause cx ids s latest (fault.PackageRules field name) chosen of_call (inr bad) = absurd bad
-range-cause cx ids s latest (fault.WorkspaceRules field) chosen of_call (inl m) = absurd (cc)
-range-cause cx ids s latest (fault.WorkspaceRules field) chosen of_call (inr bad) = absurd bad
-range-cause cx ids s latest (fault.Version e) chosen of_call (inl m) = absurd (cc)
-range-cause cx ids s latest (fault.Version e) chosen of_call (inr bad) = absurd bad
-range-cause cx ids s latest (fault.Range e) chosen of_call (inl m) = absurd (cc)
-range-cause cx ids s latest (fault.Range e) chosen of_call (inr bad) = inr (record { ids = ids; input = s; chosen = chosen; of_call = of_call; bad = bad })
-range-cause cx ids s latest (fault.TooManyQuestions name tally) chosen of_call (inl e) = absurd (cc)
-range-cause cx ids s latest (fault.TooManyQuestions name tally) chosen of_call (inr bad) = absurd bad
-range-cause cx ids s latest fault.TooManyRuns chosen of_call (inl e) = absurd (cc)
-range-cause cx ids s latest fault.TooManyRuns chosen of_call (inr bad) = absurd bad
+range-cause cx ids s latest fault.Memory chosen fine of_call h = inl refl
+range-cause cx ids s latest (fault.Stable text) chosen fine of_call (inl e) = absurd (cc)
+range-cause cx ids s latest (fault.Stable text) chosen fine of_call (inr bad) = absurd bad
+range-cause cx ids s latest (fault.Packages e) chosen fine of_call (inl m) = absurd (cc)
+range-cause cx ids s latest (fault.Packages e) chosen fine of_call (inr bad) = absurd bad
+range-cause cx ids s latest (fault.PackageRules field name) chosen fine of_call (inl m) = absurd (cc)
+range-cause cx ids s latest (fault.PackageRules field name) chosen fine of_call (inr bad) = absurd bad
+range-cause cx ids s latest (fault.WorkspaceRules field) chosen fine of_call (inl m) = absurd (cc)
+range-cause cx ids s latest (fault.WorkspaceRules field) chosen fine of_call (inr bad) = absurd bad
+range-cause cx ids s latest (fault.Version e) chosen fine of_call (inl m) = absurd (cc)
+range-cause cx ids s latest (fault.Version e) chosen fine of_call (inr bad) = absurd bad
+range-cause cx ids s latest (fault.Range e) chosen fine of_call (inl m) = absurd (cc)
+range-cause cx ids s latest (fault.Range e) chosen fine of_call (inr bad) = inr (record { ids = ids; input = s; chosen = chosen; tables = fine; of_call = of_call; bad = bad })
+range-cause cx ids s latest (fault.TooManyQuestions name tally) chosen fine of_call (inl e) = absurd (cc)
+range-cause cx ids s latest (fault.TooManyQuestions name tally) chosen fine of_call (inr bad) = absurd bad
+range-cause cx ids s latest fault.TooManyRuns chosen fine of_call (inl e) = absurd (cc)
+range-cause cx ids s latest fault.TooManyRuns chosen fine of_call (inr bad) = absurd bad
 
 -- the numbers of runs of packages and of their views
 pub counts-same : (packages : List PlanPackage) → run_counts (map plan_package_view packages) ≡ counts_in packages
@@ -50,15 +50,16 @@ counts-same [] = refl
 counts-same (k ∷ ks) = ap (λ l. count_in k ∷ l) (counts-same ks)
 
 -- too many runs are a cause to refuse the plan
-pub places-cause : (cx : ContextRecord) (ids : List ℕ) (s : PlanInput) (stable latest : Option Version) (packages : List PlanPackage) (e : PlacesFault) → AreChosen cx ids → IsInputOf cx ids s
+pub places-cause : (cx : ContextRecord) (ids : List ℕ) (s : PlanInput) (stable latest : Option Version) (packages : List PlanPackage) (e : PlacesFault) → AreChosen cx ids → table_fault cx ids ≡ None → IsInputOf cx ids s
     → AllZip (IsPackageOf cx s latest) ids (map plan_package_view packages) → stable ≡ latest → (e ≡ places.Memory) ⊎ ((e ≡ places.TooManyRuns) × HasTooMany s (counts_in packages) stable) → (of_places e ≡ fault.Memory) ⊎ IsCause cx latest (of_places e)
-places-cause cx ids s stable latest packages places.Memory chosen of_call each newest h = inl refl
-places-cause cx ids s stable latest packages places.TooManyRuns chosen of_call each newest (inl e) = absurd (cc)
-places-cause cx ids s stable latest packages places.TooManyRuns chosen of_call each newest (inr h) = inr (record {
+places-cause cx ids s stable latest packages places.Memory chosen fine of_call each newest h = inl refl
+places-cause cx ids s stable latest packages places.TooManyRuns chosen fine of_call each newest (inl e) = absurd (cc)
+places-cause cx ids s stable latest packages places.TooManyRuns chosen fine of_call each newest (inr h) = inr (record {
   ids = ids;
   input = s;
   packages = map plan_package_view packages;
   chosen = chosen;
+  tables = fine;
   of_call = of_call;
   each = each;
   many = subst (λ counts. HasTooMany s counts latest) (sym (counts-same packages)) (subst (HasTooMany s (counts_in packages)) newest h.1);

@@ -1,5 +1,5 @@
 -- Too many runs show in numbers of which the packages have at least as many.
-use Rattle.std.proofs.Common.{◌≡◌, ◌⊎◌, ◌≤◌, ℕ, List, [], ◌∷◌, ◌++◌, length, get_or, map, Bool, true, false, Option, Some, inl, inr, refl, sym, subst, arith, All, IsTrue}
+use Rattle.std.proofs.Common.{◌≡◌, ◌⊎◌, ◌≤◌, ℕ, List, [], ◌∷◌, ◌++◌, length, get_or, map, Bool, true, false, Option, Some, inl, inr, refl, sym, subst, arith, All, IsTrue, None}
 use Rattle.std.specs.List.{AllZip}
 use Rattle.std.proofs.Math.Seq.{get_or-append_seam}
 use Rattle.std.proofs.lemmas.Bool.{cases_lt}
@@ -16,7 +16,7 @@ use Rattle.hack_plan.specs.declared.places.PlanEntry.{PlanEntry}
 use Rattle.hack_plan.specs.declared.versions.PlanInput.{PlanInput}
 use Rattle.hack_plan.specs.View.{PackageView}
 use Rattle.hack_versions.specs.declared.version.Version.{Version}
-use Rattle.hack_planner.specs.Calls.{IsInputOf, given_path, rules_at}
+use Rattle.hack_planner.specs.Calls.{IsInputOf, given_path, rules_at, table_fault}
 use Rattle.hack_planner.specs.InternalUses.{IsPlannedAs, IsRight, id_of}
 use Rattle.hack_planner.specs.declared.uses.Chosen.{Chosen}
 use Rattle.hack_planner.specs.InternalLeastPlaces.{AreOver, HasAtLeast, HasRunsAtLeast}
@@ -122,23 +122,24 @@ in-plan cx (x ∷ xs) (n ∷ ns) h =
     (h.0.planned_as ∷ rest.0, (h.0.has, rest.1), (h.0.enough, rest.2))
 
 -- they are a cause to refuse the plan
-over-cause : (cx : ContextRecord) (s : PlanInput) (latest : Option Version) (chosen : List Chosen) → AreChosen cx (map id_of chosen) → IsInputOf cx (map id_of chosen) s → All (IsRight cx s latest) chosen
+over-cause : (cx : ContextRecord) (s : PlanInput) (latest : Option Version) (chosen : List Chosen) → AreChosen cx (map id_of chosen) → table_fault cx (map id_of chosen) ≡ None → IsInputOf cx (map id_of chosen) s → All (IsRight cx s latest) chosen
     → AreOver cx chosen s latest → AreTooManyRuns cx latest
-over-cause cx s latest chosen are of_call right over =
+over-cause cx s latest chosen are fine of_call right over =
     let packages = in-plan cx chosen over.counts over.each in
     record {
       ids = map id_of chosen;
       input = s;
       packages = packages.0;
       chosen = are;
+      tables = fine;
       of_call = of_call;
       each = packages-of cx s latest chosen packages.0 right packages.1;
       many = many-more s over.counts (run_counts packages.0) latest (λ p. fewer-at over.counts (run_counts packages.0) p packages.2) over.many;
     }
 
 -- what chosen packages are refused for is a cause
-pub chosen-cause : (cx : ContextRecord) (s : PlanInput) (latest : Option Version) (chosen : List Chosen) (e : PlanFault) → AreChosen cx (map id_of chosen) → IsInputOf cx (map id_of chosen) s → All (IsRight cx s latest) chosen
+pub chosen-cause : (cx : ContextRecord) (s : PlanInput) (latest : Option Version) (chosen : List Chosen) (e : PlanFault) → AreChosen cx (map id_of chosen) → table_fault cx (map id_of chosen) ≡ None → IsInputOf cx (map id_of chosen) s → All (IsRight cx s latest) chosen
     → (e ≡ fault.Memory) ⊎ (HasRunsFault cx chosen e ⊎ ((e ≡ fault.TooManyRuns) × AreOver cx chosen s latest)) → (e ≡ fault.Memory) ⊎ IsCause cx latest e
-chosen-cause cx s latest chosen e are of_call right (inl m) = inl m
-chosen-cause cx s latest chosen e are of_call right (inr (inl bad)) = sample-cause cx s latest chosen e are of_call right (inr bad)
-chosen-cause cx s latest chosen e are of_call right (inr (inr over)) = inr (subst (IsCause cx latest) (sym over.0) (over-cause cx s latest chosen are of_call right over.1))
+chosen-cause cx s latest chosen e are fine of_call right (inl m) = inl m
+chosen-cause cx s latest chosen e are fine of_call right (inr (inl bad)) = sample-cause cx s latest chosen e are fine of_call right (inr bad)
+chosen-cause cx s latest chosen e are fine of_call right (inr (inr over)) = inr (subst (IsCause cx latest) (sym over.0) (over-cause cx s latest chosen are fine of_call right over.1))

@@ -10,7 +10,7 @@ use Rattle.hack_metadata.specs.declared.metadata.resolve.PackageId.{PackageId}
 use Rattle.hack_load.specs.Contexts.{ContextRecord, package_at, features_at}
 use Rattle.hack_load.specs.declared.features.Features.{Features}
 use Rattle.hack_metadata.specs.Records.{PackageRecord}
-use Rattle.hack_planner.specs.Calls.{candidate_notes_at, package_notes}
+use Rattle.hack_planner.specs.Calls.{candidate_notes_at, package_notes, rules_at}
 use Rattle.hack_load.specs.GivenFeatures.{left_out_for}
 use Rattle.hack_base.specs.Notes.{Note}
 
@@ -46,7 +46,7 @@ none-told cx ids p old past =
 
 -- the notices on the features of a package that is known
 pub notes-at : (cx : ContextRecord) (single : Bool) (id : ℕ) (pkg : PackageRecord) (features : Features) → package_at cx id ≡ Some pkg → features_at cx id ≡ Some features
-    → candidate_notes_at cx single id ≡ package_notes cx.args single pkg features
+    → candidate_notes_at cx single id ≡ package_notes cx.args single (rules_at cx pkg features) pkg features
 notes-at cx single id pkg features known loaded =
-    ap (λ o. option_map_or (λ p. option_map_or (λ f. package_notes cx.args single p f) (features_at cx id) []) o []) known
-    ∙ ap (λ o. option_map_or (λ f. package_notes cx.args single pkg f) o []) loaded
+    ap (λ o. option_map_or (λ p. option_map_or (λ f. package_notes cx.args single (rules_at cx p f) p f) (features_at cx id) []) o []) known
+    ∙ ap (λ o. option_map_or (λ f. package_notes cx.args single (rules_at cx pkg f) pkg f) o []) loaded

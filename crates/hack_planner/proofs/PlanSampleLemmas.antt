@@ -29,7 +29,7 @@ use Rattle.hack_plan.specs.declared.versions.PlanInput.{PlanInput}
 use Rattle.hack_plan.specs.View.{PackageView, PlanView}
 use Rattle.hack_versions.specs.declared.version.Version.{Version}
 use Rattle.hack_rules.specs.declared.uses.behavior.WorkspaceBehavior.TheVariants.{Cargo}
-use Rattle.hack_planner.specs.Calls.{IsInputOf, IsPackageOf, IsUsed, rules_at}
+use Rattle.hack_planner.specs.Calls.{IsInputOf, IsPackageOf, IsUsed, rules_at, table_fault}
 use Rattle.hack_planner.specs.InternalUses.{IsRight, id_of}
 use Rattle.hack_planner.specs.declared.uses.Chosen.{Chosen}
 use Rattle.hack_planner.specs.Internal.{SaysNoSample, HasRunsFault}
@@ -53,31 +53,32 @@ pub runs-at : (cx : ContextRecord) (chosen : List Chosen) (i : ℕ) (d : Chosen)
 runs-at cx chosen i d lt e bad = (get_or chosen i d, (i, lt, get_or_default chosen i (get_or chosen i d) d lt), bad.0, bad.1)
 
 -- that there is no sample is a cause to refuse the plan
-pub sample-cause : (cx : ContextRecord) (s : PlanInput) (latest : Option Version) (chosen : List Chosen) (e : PlanFault) → AreChosen cx (map id_of chosen) → IsInputOf cx (map id_of chosen) s → All (IsRight cx s latest) chosen
+pub sample-cause : (cx : ContextRecord) (s : PlanInput) (latest : Option Version) (chosen : List Chosen) (e : PlanFault) → AreChosen cx (map id_of chosen) → table_fault cx (map id_of chosen) ≡ None → IsInputOf cx (map id_of chosen) s → All (IsRight cx s latest) chosen
     → (e ≡ fault.Memory) ⊎ HasRunsFault cx chosen e → (e ≡ fault.Memory) ⊎ IsCause cx latest e
-sample-cause cx s latest chosen fault.Memory are of_call right h = inl refl
-sample-cause cx s latest chosen (fault.Stable text) are of_call right (inl e) = absurd (cc)
-sample-cause cx s latest chosen (fault.Stable text) are of_call right (inr bad) = absurd bad.3
-sample-cause cx s latest chosen (fault.Packages e) are of_call right (inl m) = absurd (cc)
-sample-cause cx s latest chosen (fault.Packages e) are of_call right (inr bad) = absurd bad.3
-sample-cause cx s latest chosen (fault.PackageRules field name) are of_call right (inl m) = absurd (cc)
-sample-cause cx s latest chosen (fault.PackageRules field name) are of_call right (inr bad) = absurd bad.3
-sample-cause cx s latest chosen (fault.WorkspaceRules field) are of_call right (inl m) = absurd (cc)
-sample-cause cx s latest chosen (fault.WorkspaceRules field) are of_call right (inr bad) = absurd bad.3
-sample-cause cx s latest chosen (fault.Version e) are of_call right (inl m) = absurd (cc)
-sample-cause cx s latest chosen (fault.Version e) are of_call right (inr bad) = absurd bad.3
-sample-cause cx s latest chosen (fault.Range e) are of_call right (inl m) = absurd (cc)
-sample-cause cx s latest chosen (fault.Range e) are of_call right (inr bad) = absurd bad.3
-sample-cause cx s latest chosen (fault.TooManyQuestions name tally) are of_call right (inl e) = absurd (cc)
-sample-cause cx s latest chosen (fault.TooManyQuestions name tally) are of_call right (inr bad) = inr (record {
+sample-cause cx s latest chosen fault.Memory are fine of_call right h = inl refl
+sample-cause cx s latest chosen (fault.Stable text) are fine of_call right (inl e) = absurd (cc)
+sample-cause cx s latest chosen (fault.Stable text) are fine of_call right (inr bad) = absurd bad.3
+sample-cause cx s latest chosen (fault.Packages e) are fine of_call right (inl m) = absurd (cc)
+sample-cause cx s latest chosen (fault.Packages e) are fine of_call right (inr bad) = absurd bad.3
+sample-cause cx s latest chosen (fault.PackageRules field name) are fine of_call right (inl m) = absurd (cc)
+sample-cause cx s latest chosen (fault.PackageRules field name) are fine of_call right (inr bad) = absurd bad.3
+sample-cause cx s latest chosen (fault.WorkspaceRules field) are fine of_call right (inl m) = absurd (cc)
+sample-cause cx s latest chosen (fault.WorkspaceRules field) are fine of_call right (inr bad) = absurd bad.3
+sample-cause cx s latest chosen (fault.Version e) are fine of_call right (inl m) = absurd (cc)
+sample-cause cx s latest chosen (fault.Version e) are fine of_call right (inr bad) = absurd bad.3
+sample-cause cx s latest chosen (fault.Range e) are fine of_call right (inl m) = absurd (cc)
+sample-cause cx s latest chosen (fault.Range e) are fine of_call right (inr bad) = absurd bad.3
+sample-cause cx s latest chosen (fault.TooManyQuestions name tally) are fine of_call right (inl e) = absurd (cc)
+sample-cause cx s latest chosen (fault.TooManyQuestions name tally) are fine of_call right (inr bad) = inr (record {
   ids = map id_of chosen;
   input = s;
   chosen = are;
+  tables = fine;
   of_call = of_call;
   wide = (id_of bad.0, Contains-map id_of chosen bad.0 bad.1, (All-contains (IsRight cx s latest) chosen bad.0 right bad.1).0 bad.2, bad.3);
 })
-sample-cause cx s latest chosen fault.TooManyRuns are of_call right (inl e) = absurd (cc)
-sample-cause cx s latest chosen fault.TooManyRuns are of_call right (inr bad) = absurd bad.3
+sample-cause cx s latest chosen fault.TooManyRuns are fine of_call right (inl e) = absurd (cc)
+sample-cause cx s latest chosen fault.TooManyRuns are fine of_call right (inr bad) = absurd bad.3
 
 -- the sets of a package's runs under a strength
 sample : (w : PackageRulesRecord) (p : PackageRecord) (f : Features) (strength : ℕ) (runs : List PackageRun) → w.feature_powerset ≡ true → w.strength ≡ Some strength → AreRuns w p f runs → IsSampleOf (package_choice w p f) strength runs

@@ -18,7 +18,7 @@ use Rattle.hack_plan.specs.Inputs.{AreVersions, AreNotices, IsVersionsFault}
 use Rattle.hack_plan.specs.Spans.{AreSpans, AreTiled, versions_of}
 use Rattle.hack_plan.specs.declared.versions.PlanInput.{PlanInput}
 use Rattle.hack_versions.specs.declared.group.VersionGroup.{VersionGroup}
-use Rattle.hack_planner.specs.Calls.{IsInputOf, IsPackageOf, IsCoveredIn, IsUsed, HasBadOwn, HasNoSample, call_of, candidate_notes_at, left_out_notes, rules_at, HasTableFault}
+use Rattle.hack_planner.specs.Calls.{IsInputOf, IsPackageOf, IsCoveredIn, IsUsed, HasBadOwn, HasNoSample, call_of, candidate_notes_at, left_out_notes, rules_at, table_fault, HasTableFault}
 use Rattle.hack_plan.specs.Prepared.{ArePrepared, span_of}
 use Rattle.hack_plan.specs.View.{PackageView, PlanView}
 use Rattle.hack_planner.specs.declared.fault.PlanFault.{PlanFault}
@@ -40,8 +40,8 @@ pub record HasJustRuns (cx : ContextRecord) (latest : Option Version) (plan : Pl
 
 -- what the calls and the notices of a call with a subcommand depend on, where `stable` is this
 -- version: its places are just the admissible runs, at most 4294967295; each version has its places
--- and its preparations; what its commands are made from; its notices, in order; and the range isn't
--- refused
+-- and its preparations; what its commands are made from; its notices, in order; and neither a table
+-- nor the range is refused
 pub record IsPerformable (cx : ContextRecord) (rustup : Name) (latest : Option Version)
     (plan : PlanView) (notes : List Note) : Type 0 where
   pub base : HasJustRuns cx latest plan
@@ -57,6 +57,7 @@ pub record IsPerformable (cx : ContextRecord) (rustup : Name) (latest : Option V
   pub prepared : ArePrepared cx.args.locked cx.args.clean_per_version plan.versions
   pub told : notes ≡ on_packages ++ (flat_map (candidate_notes_at cx single) base.ids
       ++ (on_range ++ left_out_notes cx base.ids base.input groups))
+  pub tables : table_fault cx base.ids ≡ None
   pub in_range : (e : RangeFault) → ¬ IsVersionsFault base.input.range base.input latest e
   pub fits : length plan.entries < 2 ^ 32
 
@@ -98,6 +99,7 @@ HasRunsOf (Some subcommand) (Err text) cx plan = ⊥
 pub record IsBadVersion (cx : ContextRecord) (e : VersionFault) : Type 0 where
   pub ids : List ℕ
   pub chosen : AreChosen cx ids
+  pub tables : table_fault cx ids ≡ None
   pub bad : HasBadOwn cx ids e
 
 -- the range is refused for the chosen packages
@@ -105,6 +107,7 @@ pub record IsBadRange (cx : ContextRecord) (latest : Option Version) (e : RangeF
   pub ids : List ℕ
   pub input : PlanInput
   pub chosen : AreChosen cx ids
+  pub tables : table_fault cx ids ≡ None
   pub of_call : IsInputOf cx ids input
   pub bad : IsVersionsFault input.range input latest e
 
@@ -114,6 +117,7 @@ pub record AreTooManyRuns (cx : ContextRecord) (latest : Option Version) : Type 
   pub input : PlanInput
   pub packages : List PackageView
   pub chosen : AreChosen cx ids
+  pub tables : table_fault cx ids ≡ None
   pub of_call : IsInputOf cx ids input
   pub each : AllZip (IsPackageOf cx input latest) ids packages
   pub many : HasTooMany input (run_counts packages) latest
@@ -123,6 +127,7 @@ pub record IsTooWide (cx : ContextRecord) (latest : Option Version) (name : Name
   pub ids : List ℕ
   pub input : PlanInput
   pub chosen : AreChosen cx ids
+  pub tables : table_fault cx ids ≡ None
   pub of_call : IsInputOf cx ids input
   pub wide : HasNoSample cx (IsUsed cx input latest) ids name tally
 

@@ -158,14 +158,14 @@ IsPackageOf cx s latest id k = IsChosenPackage cx (IsUsed cx s latest id) id k
 abbrev pub IsCoveredIn : ContextRecord → PlanInput → Option Version → ℕ → PackageView → Type 0
 IsCoveredIn cx s latest id k = HasCoverage cx (IsUsed cx s latest id) id k
 
--- the notices on the features of a package, and on those that its table has
-abbrev pub package_notes : Args → Bool → PackageRecord → Features → List Note
-package_notes args single p f =
-    candidate_notes single (call_rules args p.name) p.name f ++ table_notes args p f
+-- the notices on the features of a package with these rules, and on those that its table has
+abbrev pub package_notes : Args → Bool → PackageRulesRecord → PackageRecord → Features → List Note
+package_notes args single r p f =
+    candidate_notes single (call_rules args p.name) r p.name f ++ table_notes args p f
 
 abbrev pub candidate_notes_at : ContextRecord → Bool → ℕ → List Note
-candidate_notes_at cx single id =
-    option_map_or (λ p. option_map_or (package_notes cx.args single p) (features_at cx id) [])
+candidate_notes_at cx single id = option_map_or
+    (λ p. option_map_or (λ f. package_notes cx.args single (rules_at cx p f) p f) (features_at cx id) [])
     (package_at cx id) []
 
 -- the notices on features that a version's packages don't get, for each slot

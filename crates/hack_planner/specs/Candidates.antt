@@ -78,10 +78,10 @@ group_notes r pkg f = map (λ names. info_note (group_text pkg names))
     (filter (λ names. not (applies r f names)) r.group_features)
 
 -- the notices about the features of a package of this name, if combinations of features are asked
--- for and none to include are named: names that a single package doesn't have, and groups that
--- aren't applied
-abbrev pub candidate_notes : Bool → PackageRulesRecord → Name → Features → List Note
-candidate_notes single r pkg f =
-    if (r.each_feature || r.feature_powerset) && (length r.include_features == 0)
-    then (if single then feature_notes r pkg f ++ dependency_notes r pkg f else [])
+-- for and none to include are named: names of the call's that a single package doesn't have, and
+-- groups of the package's rules that aren't applied
+abbrev pub candidate_notes : Bool → PackageRulesRecord → PackageRulesRecord → Name → Features → List Note
+candidate_notes single call r pkg f =
+    if (call.each_feature || call.feature_powerset) && (length call.include_features == 0)
+    then (if single then feature_notes call pkg f ++ dependency_notes call pkg f else [])
     ++ group_notes r pkg f else []

@@ -1,7 +1,7 @@
 -- What a package's rules are under `--package-rules`: the call's, those of the package's own table
 -- and those of the workspace's.
-use Rattle.std.specs.Prelude.{◌≡◌, ◌==◌, ◌++◌, ◌||◌, [], ◌∷◌, ℕ, List, Bool, true, false, not, Option, None, Some, Result, Ok, Err, filter, flat_map, fold, length, map, option_and_then, option_map, unwrap_or, if◌then◌else◌}
-use Rattle.std.specs.List.{list_all}
+use Rattle.std.specs.Prelude.{◌≡◌, ◌==◌, ◌++◌, ◌&&◌, ◌||◌, [], ◌∷◌, ℕ, List, Bool, true, false, not, Option, None, Some, Result, Ok, Err, filter, flat_map, fold, length, map, option_and_then, option_map, unwrap_or, if◌then◌else◌}
+use Rattle.std.specs.List.{list_all, list_any}
 use Rattle.std.specs.Option.{option_or}
 use Rattle.std.specs.Result.{result_err}
 use Rattle.hack_base.specs.FieldReadings.{FieldReading}
@@ -10,7 +10,7 @@ use Rattle.hack_base.specs.Notes.{Note}
 use Rattle.hack_load.specs.declared.features.Features.{Features}
 use Rattle.hack_metadata.specs.Records.{PackageRecord, RulesRecord}
 use Rattle.hack_words.specs.declared.cli.args.Args.{Args}
-use Rattle.hack_planner.specs.Candidates.{contains_name, is_found, is_known}
+use Rattle.hack_planner.specs.Candidates.{contains_name, is_found}
 use Rattle.hack_planner.specs.MemberNotes.{warning_note}
 use Rattle.hack_planner.specs.PackageRules.{PackageRulesRecord, call_rules}
 use Rattle.hack_planner.specs.Texts.{table_text}
@@ -58,7 +58,7 @@ with_table t r =
 
 -- a table whose groups are only those of which the package has each name
 abbrev pub with_known_groups : Features → RulesRecord → RulesRecord
-with_known_groups f t = record t { group_features = filter (list_all (is_known f)) t.group_features }
+with_known_groups f t = record t { group_features = filter (list_all (is_found f)) t.group_features }
 
 -- these rules and those of the package's own table; where it has a fault, the call is refused
 abbrev pub and_own : FieldReading RulesRecord → PackageRulesRecord → PackageRulesRecord
@@ -77,6 +77,11 @@ rules_for args workspace p f = if args.package_rules
     then and_workspace f workspace (and_own p.rules (call_rules args p.name))
     else call_rules args p.name
 
+-- the strength that a table has
+abbrev pub strength_of : FieldReading RulesRecord → Option ℕ
+strength_of (Ok t) = t.strength
+strength_of (Err field) = None
+
 -- ---- names that a table has
 
 -- the names that a table has, in the order of its keys
@@ -93,15 +98,22 @@ kept_once kept x = if contains_name kept x then kept else kept ++ x ∷ []
 abbrev pub each_once : List Name → List Name
 each_once names = fold kept_once [] names
 
--- a warning for each name of the package's own table that the package doesn't have
-abbrev pub own_table_notes : FieldReading RulesRecord → Name → Features → List Note
-own_table_notes (Ok t) pkg f = map (λ x. warning_note (table_text pkg x))
-    (filter (λ x. not (is_found f x)) (each_once (names_of_table t)))
-own_table_notes (Err field) pkg f = []
+-- the package may have the name: it is found, or that of a dependency's feature, and these aren't
+-- loaded
+abbrev pub may_have : Bool → Features → Name → Bool
+may_have loaded f x = is_found f x || (not loaded && list_any (λ c. c == 47) x)
+
+-- a warning for each name of the package's own table that the package doesn't have; `loaded` says
+-- whether the features of its dependencies are known
+abbrev pub own_table_notes : Bool → FieldReading RulesRecord → Name → Features → List Note
+own_table_notes loaded (Ok t) pkg f = map (λ x. warning_note (table_text pkg x))
+    (filter (λ x. not (may_have loaded f x)) (each_once (names_of_table t)))
+own_table_notes loaded (Err field) pkg f = []
 
 -- the same, under `--package-rules`
 abbrev pub table_notes : Args → PackageRecord → Features → List Note
-table_notes args p f = if args.package_rules then own_table_notes p.rules p.name f else []
+table_notes args p f = if args.package_rules
+    then own_table_notes args.include_deps_features p.rules p.name f else []
 
 -- ---- faults
 

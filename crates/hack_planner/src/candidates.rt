@@ -105,7 +105,7 @@ fn is_known(features: &Features, name: &str) -> bool
 }
 
 /// Whether a feature or an optional dependency of the package has each of the names.
-pub(crate) fn are_known(features: &Features, names: &[String]) -> bool
+fn are_known(features: &Features, names: &[String]) -> bool
     ensures { result ≡ list_all (known_to features.now)
         (names_of names.now) }
 {
@@ -267,6 +267,16 @@ pub(crate) fn is_found(features: &Features, name: &str) -> bool
     is_known(features, name) || one_has(features.deps_features(), name)
 }
 
+/// Whether the package has each of the names.
+pub(crate) fn are_found(features: &Features, names: &[String]) -> bool
+    ensures { result ≡ list_all (found_in features.now) (names_of names.now) }
+{
+    match names {
+        [] => true,
+        [name, rest @ ..] => is_found(features, name.as_str()) && are_found(features, rest),
+    }
+}
+
 /// The names of `--optional-deps`; none if its list is one empty name.
 fn names_asked(args: &Args) -> &[String]
     ensures { names_of result.now ≡ asked_names
@@ -292,6 +302,8 @@ fn without_empty(names: &[String]) -> &[String]
 #[derive(Clone, Copy)]
 struct About<'a> {
     args: &'a Args,
+    /// Its rules.
+    asked: &'a PackageRules,
     pkg: &'a Package,
     features: &'a Features,
 }
@@ -328,30 +340,31 @@ impl About<'_> {
     /// A notice for each group that isn't applied to the package.
     fn group_notes(&self, alloc: Global) -> Result<Vec<Notice>, AllocError>
         ensures { IfOk result (λ notices. map note_of notices.items ≡ notes_on_groups
-            (call_rules self.now.args.now (string_bytes self.now.pkg.now.name)) (string_bytes self.now.pkg.now.name) self.now.features.now) }
+            (rules_in self.now.asked.now) (string_bytes self.now.pkg.now.name) self.now.features.now) }
     {
         let mut notices = Vec::new(alloc);
-        for group in &self.args.group_features {
+        for group in &self.asked.group_features {
             let text = group_text(alloc, group.as_group(), self.pkg.name.as_str())?;
-            let told = !applies(self.args.ignore_unknown_features, self.features, group);
+            let told = !applies(self.asked.ignore_unknown_features, self.features, group);
             tell(&mut notices, told, NoticeKind::Info, text)?;
         }
         Ok(notices)
     }
 }
 
-/// The notices about the features of a package. `single` says whether no other package is left:
+/// The notices about the features of a package with these rules. `single` says whether no other package is left:
 /// only then are names reported that the package doesn't have.
 pub(crate) fn notes_on(
     alloc: Global,
     args: &Args,
+    asked: &PackageRules,
     pkg: &Package,
     features: &Features,
     single: bool,
 ) -> Result<Vec<Notice>, AllocError>
     ensures { IfOk result (λ notices. map note_of notices.items
         ≡ candidate_notes single (call_rules args.now (string_bytes pkg.now.name))
-        (string_bytes pkg.now.name) features.now) }
+        (rules_in asked.now) (string_bytes pkg.now.name) features.now) }
 {
     if !args.each_feature && !args.feature_powerset {
         return Ok(Vec::new(alloc));
@@ -361,6 +374,7 @@ pub(crate) fn notes_on(
     }
     let about = About {
         args,
+        asked,
         pkg,
         features,
     };

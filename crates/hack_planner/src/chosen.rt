@@ -122,7 +122,7 @@ fn chosen_package(
             return Err(PlanFault::TooManyQuestions(name, tally));
         }
     };
-    let notices = notes_of(alloc, args, pkg, features, single)?;
+    let notices = notes_of(alloc, args, &asked, pkg, features, single)?;
     let (candidates, runs) = parts_of(alloc, kind)?;
     let (given, _) = features_for(alloc, cx, one.id)?;
     let features = copies(alloc, given.as_slice())?;

@@ -95,7 +95,8 @@ pub fn determine_package_list(
     choose_packages(alloc, context.args(), members.as_slice(), current, root)
 }
 
-/// Returns the runs of a member of the workspace, and the notices about its features. `single` says
+/// Returns the runs of a member of the workspace, and the notices about its features. A table of rules
+/// with a fault says nothing here; `plan_of` refuses it. `single` says
 /// whether it is the only package that is left after exclusions.
 pub fn determine_kind(
     alloc: Global,
@@ -115,7 +116,8 @@ pub fn determine_kind(
         → package_at (context_view context.now) id.index ≡ Some p
         → features_at (context_view context.now) id.index ≡ Some features
         → IfOk result (λ answer. map note_of answer.1.items
-        ≡ package_notes (context_view context.now).args single p features) }
+        ≡ package_notes (context_view context.now).args single
+        (rules_at (context_view context.now) p features) p features) }
 
     // The only error besides out of memory is a sample that needs too many questions.
     ensures err { (p : PackageRecord) (features : Loaded)
@@ -129,7 +131,7 @@ pub fn determine_kind(
     let pkg = context.packages(id);
     let features = context.pkg_features(id);
     let asked = PackageRules::of(alloc, context, pkg, features)?;
-    let notices = notes_of(alloc, context.args(), pkg, features, single)?;
+    let notices = notes_of(alloc, context.args(), &asked, pkg, features, single)?;
     match runs_by(alloc, &asked, id, pkg, features) {
         Ok(made) => Ok((made, notices)),
         Err(fault) => Err(fault),

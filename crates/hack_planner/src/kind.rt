@@ -228,7 +228,8 @@ pub(crate) fn runs_by(
     })
 }
 
-/// Returns the runs of a package, and the notices about its features. `single` says whether it is
+/// Returns the runs of a package by the call alone, without the tables of manifests, and the notices
+/// about its features. `single` says whether it is
 /// the only package that is left after exclusions.
 pub fn determine_runs(
     alloc: Global,
@@ -244,6 +245,7 @@ pub fn determine_runs(
         features.now answer.0.kind (rows_of answer.0.settings.items)) }
     ensures notices { IfOk result (λ answer. map note_of answer.1.items
         ≡ candidate_notes single (call_rules args.now (package_view pkg.now).name)
+        (call_rules args.now (package_view pkg.now).name)
         (package_view pkg.now).name features.now) }
 
     // The only error besides out of memory is a sample that needs too many questions.
@@ -252,7 +254,7 @@ pub fn determine_runs(
         (package_view pkg.now) features.now e) }
 {
     let asked = PackageRules::of_call(alloc, args, pkg)?;
-    let notices = notes_on(alloc, args, pkg, features, single)?;
+    let notices = notes_on(alloc, args, &asked, pkg, features, single)?;
     match runs_by(alloc, &asked, id, pkg, features) {
         Ok(made) => Ok((made, notices)),
         Err(fault) => Err(fault),

@@ -8,16 +8,17 @@ ghost use Rattle.std.specs.Str.{bytes_eq};
 ghost use Rattle.hack_base.specs.Names.{names_of};
 ghost use Rattle.hack_features.specs.Feature.{group_of, groups_of};
 ghost use Rattle.hack_load.specs.ContextView.{context_view};
+ghost use Rattle.hack_load.specs.declared.features.Features.{Features as Loaded};
 ghost use Rattle.hack_metadata.specs.MetadataView.{metadata_view};
-ghost use Rattle.hack_metadata.specs.RecordViews.{package_view, rules_view};
+ghost use Rattle.hack_metadata.specs.RecordViews.{package_view, rules_reading, rules_view};
 ghost use Rattle.hack_rules.specs.CliLists.{same_names};
 ghost use Rattle.hack_planner.specs.Calls.{rules_at};
-ghost use Rattle.hack_planner.specs.Candidates.{is_known};
+ghost use Rattle.hack_planner.specs.Candidates.{is_found};
 ghost use Rattle.hack_planner.specs.PackageRules.{call_rules, is_lifted as lifted_for, rules_in};
 ghost use Rattle.hack_planner.specs.RulesFor.{and_own, and_workspace, asked_by_either, has_some};
-ghost use Rattle.hack_planner.specs.RulesFor.{with_groups, with_names, with_table};
+ghost use Rattle.hack_planner.specs.RulesFor.{strength_of, with_groups, with_names, with_table};
 
-use crate::candidates::{add_if, are_known, copy_feature, is_bare};
+use crate::candidates::{add_if, are_found, copy_feature, is_bare};
 use hack_base::copies::{copies, push_copies};
 use hack_features::Feature;
 use hack_load::context::Context;
@@ -92,6 +93,19 @@ impl PackageRules {
             rules.add_workspace(alloc, cx.metadata(), features)?;
         }
         Ok(rules)
+    }
+
+    /// The strength that the rules of a package of the call have.
+    pub fn strength_at(cx: &Context, pkg: &Package) -> Option<usize>
+        ensures { (features : Loaded) → result ≡ (rules_at (context_view cx.now)
+            (package_view pkg.now) features).strength }
+    {
+        let args = cx.args();
+        if !args.package_rules || !args.feature_powerset {
+            return args.strength;
+        }
+        let own = args.strength.or(strength_in(&pkg.rules));
+        own.or(strength_in(&cx.metadata().rules))
     }
 
     /// Adds the rules of the package's own table.
@@ -195,6 +209,16 @@ fn has_names(names: &[String]) -> bool
     !names.is_empty()
 }
 
+/// The strength of a table; none where it has a fault.
+fn strength_in(rules: &Result<RulesTable, String>) -> Option<usize>
+    ensures { result ≡ strength_of (rules_reading rules.now) }
+{
+    match rules {
+        Ok(table) => table.strength,
+        Err(_) => None,
+    }
+}
+
 /// Adds copies of features.
 fn push_features(
     alloc: Global,
@@ -247,7 +271,7 @@ fn known_groups(
     groups: &[Feature],
 ) -> Result<Vec<Feature>, AllocError>
     ensures { IfOk result (λ known. groups_of known.items
-        ≡ filter (list_all (is_known features.now)) (groups_of groups.now)) }
+        ≡ filter (list_all (is_found features.now)) (groups_of groups.now)) }
 {
     let mut known = Vec::new(alloc);
     for group in groups {
@@ -255,7 +279,7 @@ fn known_groups(
             alloc,
             &mut known,
             group,
-            are_known(features, group.as_group()),
+            are_found(features, group.as_group()),
         )?;
     }
     Ok(known)

@@ -1,23 +1,25 @@
 //! The tables of rules in manifests: the notices on the names that they have, and their faults.
 
-ghost use Rattle.std.specs.Prelude.{◌≡◌, ◌⊎◌, IfErr, IfOk, None, OnOk};
+ghost use Rattle.std.specs.Prelude.{◌≡◌, ◌⊎◌, ◌==◌, IfErr, IfOk, None, OnOk};
 ghost use Rattle.std.specs.Prelude.{filter, flat_map, fold, map, not, option_and_then, option_map};
+ghost use Rattle.std.specs.List.{list_any};
 ghost use Rattle.hack_base.specs.Names.{names_of};
 ghost use Rattle.hack_base.specs.Notes.{note_of};
 ghost use Rattle.hack_features.specs.Feature.{groups_of};
 ghost use Rattle.hack_load.specs.ContextView.{context_view};
 ghost use Rattle.hack_metadata.specs.RecordViews.{package_view, place_at, rules_view};
 ghost use Rattle.hack_planner.specs.Calls.{own_fault_at, package_notes, table_fault};
-ghost use Rattle.hack_planner.specs.Candidates.{is_found as found_in};
 ghost use Rattle.hack_planner.specs.Internal.{SaysFault};
 ghost use Rattle.hack_planner.specs.MemberNotes.{warning_note};
+ghost use Rattle.hack_planner.specs.PackageRules.{rules_in};
 ghost use Rattle.hack_planner.specs.RulesFor.{each_once, first_there, kept_once, names_of_table};
-ghost use Rattle.hack_planner.specs.RulesFor.{own_fault, table_notes as notes_on_table};
+ghost use Rattle.hack_planner.specs.RulesFor.{may_have, own_fault, table_notes as notes_on_table};
 ghost use Rattle.hack_planner.specs.Texts.{table_text as unknown_name};
 
 use crate::candidates::{has_name, is_found, notes_on};
 use crate::fault::PlanFault;
 use crate::notes::table_text;
+use crate::package_rules::PackageRules;
 use hack_base::notice::{Notice, NoticeKind, tell};
 use hack_features::Feature;
 use hack_load::context::Context;
@@ -26,18 +28,19 @@ use hack_metadata::metadata::{Package, PackageId, RulesTable};
 use hack_words::cli::Args;
 use std::alloc::{AllocError, Global};
 
-/// The notices on the features of a package, and on those that its own table has.
+/// The notices on the features of a package with these rules, and on those that its own table has.
 pub(crate) fn notes_of(
     alloc: Global,
     args: &Args,
+    asked: &PackageRules,
     pkg: &Package,
     features: &Features,
     single: bool,
 ) -> Result<Vec<Notice>, AllocError>
-    ensures { IfOk result (λ notices. map note_of notices.items
-        ≡ package_notes args.now single (package_view pkg.now) features.now) }
+    ensures { IfOk result (λ notices. map note_of notices.items ≡ package_notes args.now single
+        (rules_in asked.now) (package_view pkg.now) features.now) }
 {
-    let mut notices = notes_on(alloc, args, pkg, features, single)?;
+    let mut notices = notes_on(alloc, args, asked, pkg, features, single)?;
     let mut on_table = table_notes(alloc, args, pkg, features)?;
     notices.append(&mut on_table)?;
     Ok(notices)
@@ -56,30 +59,50 @@ fn table_notes(
     match &pkg.rules {
         Ok(table) if args.package_rules => {
             let names = table_names(alloc, table)?;
-            unknown_notes(alloc, &names, pkg.name.as_str(), features)
+            let loaded = args.include_deps_features;
+            unknown_notes(alloc, &names, pkg.name.as_str(), features, loaded)
         }
         _ => Ok(Vec::new(alloc)),
     }
 }
 
-/// A warning for each of these names that the package doesn't have.
+/// A warning for each of these names that the package doesn't have. `loaded` says whether the features
+/// of its dependencies are known.
 fn unknown_notes(
     alloc: Global,
     names: &[String],
     pkg: &str,
     features: &Features,
+    loaded: bool,
 ) -> Result<Vec<Notice>, AllocError>
     ensures { IfOk result (λ notices. map note_of notices.items
         ≡ map (λ x. warning_note (unknown_name pkg.now x))
-        (filter (λ x. not (found_in features.now x)) (names_of names.now))) }
+        (filter (λ x. not (may_have loaded features.now x)) (names_of names.now))) }
 {
     let mut notices = Vec::new(alloc);
     for name in names {
         let text = table_text(alloc, name.as_str(), pkg)?;
-        let told = !is_found(features, name.as_str());
+        let told = !is_had(features, name.as_str(), loaded);
         tell(&mut notices, told, NoticeKind::Warn, text)?;
     }
     Ok(notices)
+}
+
+/// Whether the package may have the name: it is found, or that of a dependency's feature, and these
+/// aren't loaded.
+fn is_had(features: &Features, name: &str, loaded: bool) -> bool
+    ensures { result ≡ may_have loaded features.now name.now }
+{
+    is_found(features, name) || (!loaded && has_slash(name.as_bytes()))
+}
+
+fn has_slash(bytes: &[u8]) -> bool
+    ensures { result ≡ list_any (λ c. c == 47) bytes.now }
+{
+    match bytes {
+        [] => false,
+        [first, rest @ ..] => *first == b'/' || has_slash(rest),
+    }
 }
 
 /// The names that a table has, in the order of its keys, each once.

@@ -1,8 +1,8 @@
 //! What only failed runs have in common, where samples of sets were run to their end.
 
 use hack_load::context::Context;
-use hack_metadata::metadata::{PackageId, RulesTable};
 use hack_planner::determine::determine_package_list;
+use hack_planner::package_rules::PackageRules;
 use hack_session::session::Session;
 use hack_session::suspect_notes::suspect_notes;
 use hack_term::term::Term;
@@ -58,29 +58,12 @@ fn strengths_of(alloc: Global, cx: &Context) -> Result<Vec<Option<usize>>, Alloc
     // There is a plan, so the packages are known.
     if let Ok((list, _)) = determine_package_list(alloc, cx) {
         for id in &list.ids {
-            strengths.push(strength_at(cx, *id))?;
+            let strength = match cx.metadata().find(*id) {
+                Some(pkg) => PackageRules::strength_at(cx, pkg),
+                None => None,
+            };
+            strengths.push(strength)?;
         }
     }
     Ok(strengths)
-}
-
-/// The call's strength; under `--package-rules`, where it gives none, that of the package's table,
-/// else of the workspace's. It counts under a powerset alone.
-fn strength_at(cx: &Context, id: PackageId) -> Option<usize> {
-    let args = cx.args();
-    if !args.package_rules || !args.feature_powerset {
-        return args.strength;
-    }
-    let own = match cx.metadata().find(id) {
-        Some(pkg) => strength_in(&pkg.rules),
-        None => None,
-    };
-    args.strength.or(own).or(strength_in(&cx.metadata().rules))
-}
-
-fn strength_in(rules: &Result<RulesTable, String>) -> Option<usize> {
-    match rules {
-        Ok(table) => table.strength,
-        Err(_) => None,
-    }
 }

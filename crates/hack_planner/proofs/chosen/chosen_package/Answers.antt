@@ -12,7 +12,7 @@ use Rattle.hack_samples.specs.Sets.{rows_of}
 use Rattle.hack_plan.specs.RunsView.{runs_in}
 use Rattle.hack_words.specs.declared.cli.args.Args.{Args}
 use Rattle.hack_planner.specs.Calls.{given_path, package_notes, rules_at}
-use Rattle.hack_planner.specs.PackageRules.{PackageRulesRecord}
+use Rattle.hack_planner.specs.PackageRules.{PackageRulesRecord, rules_in}
 use Rattle.hack_planner.specs.declared.fault.RunsFault.TheVariants.{Memory}
 use Rattle.hack_planner.proofs.KindLemmas.{runs-of_kind}
 use Rattle.hack_planner.proofs.LeastPlaceLemmas.{planned-at_least}
@@ -79,7 +79,8 @@ returns-clause-notes c =
     let pkg = package_view c.packages-pkg.result.now in
     let features = c.pkg_features-features.result.now in
     c.in_ok-notices.ensures
-    ∙ ap (λ (a : Args). package_notes a c.args.single pkg features) c.args-args.ensures
+    ∙ ap (λ (a : Args). package_notes a c.args.single (rules_in c.in_ok-asked.asked) pkg features) c.args-args.ensures
+    ∙ ap (λ (r : PackageRulesRecord). package_notes (context_view c.args.cx.now).args c.args.single r pkg features) c.in_ok-asked.ensures.rules
     ∙ sym (notes-at (context_view c.args.cx.now) c.args.single c.args.one.id.index pkg features c.packages-pkg.ensures c.pkg_features-features.ensures)
 
 pub returns-in-Ok-Err-clause-over : goal.returns-in-Ok-Err-clause-over

@@ -8,7 +8,7 @@ use Rattle.hack_samples.specs.Sets.{rows_of}
 use Rattle.hack_words.specs.declared.cli.args.Args.{Args}
 use Rattle.hack_planner.specs.Calls.{package_notes, rules_at}
 use Rattle.hack_planner.specs.KindsView.{AreRunsBy, IsRunsFault}
-use Rattle.hack_planner.specs.PackageRules.{PackageRulesRecord}
+use Rattle.hack_planner.specs.PackageRules.{PackageRulesRecord, rules_in}
 use Rattle.hack_planner.specs.declared.fault.RunsFault.TheVariants as fault
 use Rattle.hack_planner.proofs.PackageRuleLemmas.{at-place}
 use Rattle.hack_planner.proofs.determine.determine_kind.Goals as goal
@@ -25,5 +25,6 @@ returns-in-Ok-clause-made c = λ (p : PackageRecord) (f : Features) known loaded
 pub returns-in-Ok-clause-notices : goal.returns-in-Ok-clause-notices
 returns-in-Ok-clause-notices c = λ (p : PackageRecord) (f : Features) known loaded.
     let cx = context_view c.args.context.now in
-    at-place cx c.args.id.index (λ q g. map note_of c.in_ok-notices.notices.items ≡ package_notes cx.args c.args.single q g) (package_view c.packages-pkg.result.now) p c.pkg_features-features.result.now f c.packages-pkg.ensures c.pkg_features-features.ensures known loaded
-    (c.in_ok-notices.ensures ∙ ap (λ (a : Args). package_notes a c.args.single (package_view c.packages-pkg.result.now) c.pkg_features-features.result.now) c.args-2.ensures)
+    at-place cx c.args.id.index (λ q g. map note_of c.in_ok-notices.notices.items ≡ package_notes cx.args c.args.single (rules_at cx q g) q g) (package_view c.packages-pkg.result.now) p c.pkg_features-features.result.now f c.packages-pkg.ensures c.pkg_features-features.ensures known loaded
+    (c.in_ok-notices.ensures ∙ ap (λ (a : Args). package_notes a c.args.single (rules_in c.in_ok-asked.asked) (package_view c.packages-pkg.result.now) c.pkg_features-features.result.now) c.args-2.ensures
+    ∙ ap (λ (r : PackageRulesRecord). package_notes cx.args c.args.single r (package_view c.packages-pkg.result.now) c.pkg_features-features.result.now) c.in_ok-asked.ensures.rules)

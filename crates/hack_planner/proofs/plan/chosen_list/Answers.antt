@@ -14,4 +14,3 @@ returns-in-Ok-check_tables-clause-members c = ids-in (context_view c.args.cx.now
 
 pub returns-in-Ok-check_tables-clause-tables : goal.returns-in-Ok-check_tables-clause-tables
 returns-in-Ok-check_tables-clause-tables c = subst (λ (ids : List PackageId). table_fault (context_view c.args.cx.now) (map place_at ids) ≡ None) c.as_slice.ensures.value c.in-Ok-check_tables.ensures.ok
-

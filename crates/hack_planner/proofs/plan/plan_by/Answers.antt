@@ -1,4 +1,4 @@
-use Rattle.std.proofs.Common.{◌≡◌, ◌⊎◌, ◌∙◌, sym, ap, subst, ℕ, List, length, map, All, Contains}
+use Rattle.std.proofs.Common.{◌≡◌, ◌⊎◌, ◌∙◌, None, sym, ap, subst, ℕ, List, length, map, All, Contains}
 use Rattle.std.specs.List.{AllZip, flat_map}
 use Rattle.std.proofs.lemmas.List.{length-map}
 use Rattle.std.proofs.lemmas.Slice.Zip.{AllZip-long}
@@ -14,7 +14,7 @@ use Rattle.hack_plan.specs.Prepared.{ArePrepared}
 use Rattle.hack_plan.specs.View.{CallView, plan_package_view}
 use Rattle.hack_base.specs.Notes.{note_of}
 use Rattle.hack_versions.specs.declared.version.VersionFault.{VersionFault}
-use Rattle.hack_planner.specs.Calls.{IsInputOf, IsMember, IsPackageOf, IsCoveredIn, HasBadOwn, candidate_notes_at, left_out_notes}
+use Rattle.hack_planner.specs.Calls.{IsInputOf, IsMember, IsPackageOf, IsCoveredIn, HasBadOwn, candidate_notes_at, left_out_notes, table_fault}
 use Rattle.hack_planner.specs.InternalUses.{IsPlannedAs, IsRight, id_of}
 use Rattle.hack_planner.specs.CallPlan.{IsCause, run_counts}
 use Rattle.hack_planner.proofs.CauseLemmas.{range-cause, places-cause, counts-same, few-places, all-told}
@@ -31,7 +31,7 @@ returns-in_err-versions-clause-err c =
     let ids = c.in_ok-list.list.ids.items in
     let p = err_from_is_err_and c.from_residual-in_err-versions.result c.from_residual-in_err-versions.ensures.1 in
     let of_call = subst (λ l. IsInputOf cx (map place_at l) c.in_ok-input.input) c.as_slice.ensures.value c.in_ok-input.ensures.ok in
-    rw (p.1, p.2) (range-cause cx (map place_at ids) c.in_ok-input.input c.args.latest _ c.in_ok-list.ensures.ok of_call c.in_err-versions.ensures.err)
+    rw (p.1, p.2) (range-cause cx (map place_at ids) c.in_ok-input.input c.args.latest _ c.in_ok-list.ensures.ok c.in_ok-list.ensures.tables of_call c.in_err-versions.ensures.err)
 
 pub left_out-requires : goal.left_out-requires
 left_out-requires c =
@@ -71,7 +71,7 @@ returns-in-Err-clause-err c =
     let right : All (IsRight cx input c.in_ok-versions.versions.stable) chosen =
     subst (All (IsRight cx input c.in_ok-versions.versions.stable)) (sym c.as_slice-chosen.ensures.value) (c.in_ok-uses.ensures.right cx (subst (λ l. IsInputOf cx (map place_at l) input) (sym c.as_slice-ids.ensures.value) of_call)) in
     subst (λ v. (c.in-Err.fault ≡ fault.Memory) ⊎ IsCause cx v c.in-Err.fault) c.in_ok-versions.ensures.stable
-    (chosen-cause cx input c.in_ok-versions.versions.stable chosen c.in-Err.fault (subst (AreChosen cx) (sym same) c.in_ok-list.ensures.ok) (subst (λ l. IsInputOf cx l input) (sym same) of_call) right c.in-Err.ensures.err)
+    (chosen-cause cx input c.in_ok-versions.versions.stable chosen c.in-Err.fault (subst (AreChosen cx) (sym same) c.in_ok-list.ensures.ok) (subst (λ (l : List ℕ). table_fault cx l ≡ None) (sym same) c.in_ok-list.ensures.tables) (subst (λ l. IsInputOf cx l input) (sym same) of_call) right c.in-Err.ensures.err)
 
 pub returns-in-Err-of_input-clause-err : goal.returns-in-Err-of_input-clause-err
 returns-in-Err-of_input-clause-err c =
@@ -86,7 +86,7 @@ returns-in-Err-of_input-clause-err c =
     let right_now = subst (λ v. All (IsRight cx input v) chosen) c.in_ok-versions.ensures.stable right in
     let packages = map plan_package_view c.in-Ok.answer.0.items in
     let each = subst (λ l. AllZip (IsPackageOf cx input c.args.latest) l packages) same (packages-of cx input c.args.latest chosen packages right_now c.in-Ok.ensures.ok) in
-    rw c.of_places.ensures (places-cause cx (map place_at ids) input c.in_ok-versions.versions.stable c.args.latest c.in-Ok.answer.0.items c.in-Err-of_input.fault c.in_ok-list.ensures.ok of_call each c.in_ok-versions.ensures.stable c.in-Err-of_input.ensures.err)
+    rw c.of_places.ensures (places-cause cx (map place_at ids) input c.in_ok-versions.versions.stable c.args.latest c.in-Ok.answer.0.items c.in-Err-of_input.fault c.in_ok-list.ensures.ok c.in_ok-list.ensures.tables of_call each c.in_ok-versions.ensures.stable c.in-Err-of_input.ensures.err)
 
 pub returns-clause-ok : goal.returns-clause-ok
 returns-clause-ok c = λ rustup call.
@@ -134,6 +134,7 @@ returns-clause-ok c = λ rustup call.
             c.in_ok-append.ensures.items c.in_ok-append-2.ensures.items c.in_ok-append-3.ensures.items
             (c.in-Ok.ensures.notes ∙ ap (flat_map (candidate_notes_at cx single)) same)
             (c.in_ok-on_left_out.ensures ∙ ap (λ (l : List PackageId). left_out_notes cx (map place_at l) input c.in_ok-versions.versions.groups.items) c.as_slice-ids.ensures.value);
+        tables = c.in_ok-list.ensures.tables;
         in_range = c.in_ok-versions.ensures.never;
         fits = few-places input (run_counts plan.packages) c.args.latest plan.entries places within;
       };

@@ -1,6 +1,6 @@
 use Rattle.std.proofs.Common.{◌∙◌, ap, not, string_bytes}
 use Rattle.hack_base.specs.declared.notice.NoticeKind.TheVariants.{Warn}
-use Rattle.hack_planner.specs.Candidates.{is_found}
+use Rattle.hack_planner.specs.RulesFor.{may_have}
 use Rattle.hack_planner.specs.Texts.{table_text}
 use Rattle.hack_planner.proofs.Growth.{notes-next}
 use Rattle.hack_planner.proofs.tables.unknown_notes.Goals as goal
@@ -8,8 +8,8 @@ use Rattle.hack_planner.proofs.tables.unknown_notes.Goals as goal
 pub loop-name-preserved : goal.loop-name-preserved
 loop-name-preserved c =
     let f = c.args.features.now in
-    notes-next (λ x. not (is_found f x)) Warn (table_text c.args.pkg.now) string_bytes c.args.names.now c.loop-name.name-index c.name-item.result _ _ _ _
+    notes-next (λ x. not (may_have c.args.loaded f x)) Warn (table_text c.args.pkg.now) string_bytes c.args.names.now c.loop-name.name-index c.name-item.result _ _ _ _
     c.loop-name-test.true c.name-item.is
-    (ap not (c.is_found-told.ensures ∙ ap (is_found f) c.as_str-in-loop-name.ensures.value))
+    (ap not (c.is_had-told.ensures ∙ ap (may_have c.args.loaded f) c.as_str-in-loop-name.ensures.value))
     (c.in_ok-text.ensures ∙ ap (table_text c.args.pkg.now) c.as_str.ensures.value)
     c.in_ok-tell.ensures c.loop-name.invariant

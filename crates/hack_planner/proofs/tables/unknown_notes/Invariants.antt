@@ -2,11 +2,11 @@ use Rattle.std.proofs.Common.{◌≡◌, map, take, not}
 use Rattle.std.specs.Prelude.{filter}
 use Rattle.hack_base.specs.Names.{names_of}
 use Rattle.hack_base.specs.Notes.{note_of}
-use Rattle.hack_planner.specs.Candidates.{is_found}
+use Rattle.hack_planner.specs.RulesFor.{may_have}
 use Rattle.hack_planner.specs.MemberNotes.{warning_note}
 use Rattle.hack_planner.specs.Texts.{table_text}
 use Rattle.hack_planner.proofs.tables.unknown_notes.Given as goal
 
 -- the notices are those on the names so far
 abbrev pub invariant-loop-name : goal.invariant-loop-name
-invariant-loop-name l = map note_of l.notices.items ≡ map (λ x. warning_note (table_text l.pkg x)) (filter (λ x. not (is_found l.features x)) (take l.name-index (names_of l.names)))
+invariant-loop-name l = map note_of l.notices.items ≡ map (λ x. warning_note (table_text l.pkg x)) (filter (λ x. not (may_have l.loaded l.features x)) (take l.name-index (names_of l.names)))

@@ -4,13 +4,13 @@ use Rattle.hack_features.specs.Feature.{group_of}
 use Rattle.hack_base.specs.Names.{names_of}
 use Rattle.hack_planner.specs.Texts.{group_text}
 use Rattle.hack_planner.specs.Candidates.{applies}
-use Rattle.hack_planner.specs.PackageRules.{call_rules}
+use Rattle.hack_planner.specs.PackageRules.{rules_in}
 use Rattle.hack_planner.proofs.Growth.{notes-next}
 use Rattle.hack_planner.proofs.candidates.About.group_notes.Goals as goal
 
 pub loop-group-preserved : goal.loop-group-preserved
 loop-group-preserved c =
-    let w = call_rules c.args.self.now.args.now (string_bytes c.args.self.now.pkg.now.name) in
+    let w = rules_in c.args.self.now.asked.now in
     let f = c.args.self.now.features.now in
     notes-next (λ names. not (applies w f names)) Info (group_text (string_bytes c.args.self.now.pkg.now.name)) group_of c.deref-group-items.result.now c.loop-group.group-index c.group-item.result _ _ _ _
     c.loop-group-test.true c.group-item.is

@@ -5,9 +5,9 @@ use Rattle.hack_features.specs.Feature.{groups_of}
 use Rattle.hack_planner.specs.Texts.{group_text}
 use Rattle.hack_planner.specs.MemberNotes.{info_note}
 use Rattle.hack_planner.specs.Candidates.{applies}
-use Rattle.hack_planner.specs.PackageRules.{call_rules}
+use Rattle.hack_planner.specs.PackageRules.{rules_in}
 use Rattle.hack_planner.proofs.candidates.About.group_notes.Given as goal
 
 -- the notices are those on the groups so far
 abbrev pub invariant-loop-group : goal.invariant-loop-group
-invariant-loop-group l = map note_of l.notices.items ≡ map (λ names. info_note (group_text (string_bytes l.self.pkg.now.name) names)) (filter (λ names. not (applies (call_rules l.self.args.now (string_bytes l.self.pkg.now.name)) l.self.features.now names)) (take l.group-index (groups_of l.group-items)))
+invariant-loop-group l = map note_of l.notices.items ≡ map (λ names. info_note (group_text (string_bytes l.self.pkg.now.name) names)) (filter (λ names. not (applies (rules_in l.self.asked.now) l.self.features.now names)) (take l.group-index (groups_of l.group-items)))
