@@ -305,10 +305,11 @@ class Rules:
         # Which optional dependencies are asked for, where some are; no names are all of them.
         self.optional = [asked.optional] if asked.has("--optional-deps") else []
         if asked.has("--package-rules"):
-            normal, optional, _ = pool(workspace, package)
+            normal, optional, deps = pool(workspace, package)
+            had = {*normal, *optional, *(deps if asked.has("--include-deps-features") else [])}
             self.add(table_of(package))
             self.add(dict(table_of(workspace), **{"group-features": [
-                group for group in table_of(workspace).get("group-features", []) if set(group) <= {*normal, *optional}]}))
+                group for group in table_of(workspace).get("group-features", []) if set(group) <= had]}))
 
     def asks_for(self, name):
         """An optional dependency is asked for."""
@@ -343,9 +344,14 @@ def table_notes(workspace, asked, packages):
     told = []
     for it in packages if asked.has("--package-rules") else []:
         normal, optional, deps = pool(workspace, it)
-        known = normal + optional + (deps if asked.has("--include-deps-features") else [])
+        loaded = asked.has("--include-deps-features")
+        known = normal + optional + (deps if loaded else [])
         place = f"of [package.metadata.cargo-hack] not found in package `{it['name']}`"
-        told += [f"warning: feature `{name}` {place}" for name in names_in(table_of(it)) if name not in known]
+        told += [
+            f"warning: feature `{name}` {place}"
+            for name in names_in(table_of(it))
+            if name not in known and (loaded or "/" not in name)
+        ]
     return told
 
 
