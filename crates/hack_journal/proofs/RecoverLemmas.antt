@@ -1,5 +1,5 @@
 -- What a journal keeps is put back.
-use Rattle.std.proofs.Common.{◌≡◌, ◌≢◌, ◌⊎◌, ◌<◌, ◌+◌, ◌-◌, ◌^◌, inl, inr, ℕ, suc, List, [], ◌∷◌, ◌++◌, Option, Some, None, refl, sym, ◌∙◌, subst, ap, append-nil, append_assoc, add-one, true, Result, Ok, Err, OnOk, IfOk, false, cond, arith}
+use Rattle.std.proofs.Common.{◌≡◌, ◌≢◌, ◌⊎◌, ◌<◌, ◌+◌, ◌-◌, ◌^◌, inl, inr, ℕ, suc, List, [], ◌∷◌, ◌++◌, Option, Some, None, refl, sym, ◌∙◌, subst, ap, append-nil, append_assoc, add-one, true, Result, Ok, Err, OnOk, IfOk, IfErr, false, cond, arith}
 use Rattle.std.specs.Prelude.{IsSome, string_bytes}
 use Rattle.std.specs.Str.{bytes_eq}
 use Rattle.std.proofs.Math.Path.{fun_ext}
@@ -469,6 +469,10 @@ on_ok_always (Ok k) p = p
 on_ok_always (Err e) p = tt
 
 -- where files are safe and no journal is there, each path holds what it held at first
+pub on_err_always : {R E : Type 0} {P : Type 0} (r : Result R E) → P → IfErr r (λ _. P)
+on_err_always (Ok x) p = tt
+on_err_always (Err e) p = p
+
 pub safe_none : (s : Spot) (o m n : Contents) → IsSafe s o m → m s.journal ≡ None → KeepsAll m n → KeepsAll o n
 safe_none s o m n h none same =
     let row = h.by.row in

@@ -73,6 +73,17 @@ abbrev pub IsRestored : Spot → List (List ℕ) → Contents → Contents → T
 IsRestored spot paths old new =
     ((old spot.journal ≡ None) × (paths ≡ []) × KeepsAll old new) ⊎ ((edits : List Edit) × Restored spot edits paths old new)
 
+-- each path of which there is no entry holds what it held
+abbrev pub KeepsNoEntry : List Edit → Contents → Contents → Type 0
+KeepsNoEntry es old new = (path : List ℕ) → ¬ HasEntry es path → new path ≡ old path
+
+-- nothing was changed; or the path of each entry held the call's own bytes, and no other path was
+-- changed but those of the row
+abbrev pub SparesOthers : Spot → Contents → Contents → Type 0
+SparesOthers spot old new = KeepsAll old new ⊎ ((edits : List Edit) × (row : IsRowOf spot old edits)
+    × AreTold edits edits old × ((path : List ℕ) → IsBeside spot.journal row.count path
+    → ¬ HasEntry edits path → new path ≡ old path))
+
 -- a file is at the journal's path, and its row holds no entries as a call writes them
 abbrev pub IsNoJournal : Spot → Contents → Type 0
 IsNoJournal spot old =

@@ -3,10 +3,10 @@
 ghost use Rattle.std.specs.Prelude.{◌≡◌, ◌⊎◌, ◌<◌, ◌++◌, [], ◌∷◌, List, ℕ};
 ghost use Rattle.std.specs.Prelude.{IfOk, IfErr, OnOk, string_bytes};
 ghost use Rattle.hack_base.specs.Names.{names_of};
-ghost use Rattle.hack_files.specs.Files.{Contents, KeepsAll, Makes, MakesOrNot};
+ghost use Rattle.hack_files.specs.Files.{Contents, KeepsAll, KeepsOthers, Makes, MakesOrNot};
 ghost use Rattle.hack_files.specs.Files.{after, after_change};
 ghost use Rattle.hack_journal.specs.Journal.{Edit, edit_of, edits_of};
-ghost use Rattle.hack_journal.specs.Rows.{Spot, spot_of, file_at, KeepsBeside};
+ghost use Rattle.hack_journal.specs.Rows.{Spot, spot_of, file_at, IsBeside, KeepsBeside};
 ghost use Rattle.hack_journal.specs.SafeFiles.{IsSafe, IsSafeBy, StaysSafe, KeepFirst};
 ghost use Rattle.hack_journal.specs.SafeFiles.{gives};
 ghost use Rattle.hack_journal.specs.Recovery.{AreTold, AreChanged, IsRestored, IsWhy, HasEntry};
@@ -14,6 +14,7 @@ ghost use Rattle.hack_journal.specs.Recovery.{IsJournalRefusal, IsFailureCounted
 ghost use Rattle.hack_journal.specs.Internal.{AddsChanged, AddsIfOther, backs, FailsAt};
 ghost use Rattle.hack_journal.specs.Internal.{FaultsAtPath, IsBackBut, IsMemoryRefused};
 ghost use Rattle.hack_journal.specs.Internal.{IsWhyNotTold};
+ghost use Rattle.hack_journal.specs.Recovery.{KeepsNoEntry, SparesOthers};
 
 use crate::contents::{Writing, look, put};
 use crate::cuts::is_own;
@@ -169,6 +170,8 @@ fn put_back<F: Files>(
     ensures made { F.whole → MakesOrNot
         (gives (edit_of entry.now).path (edit_of entry.now).held) (F.trace files.old)
         (F.trace files.new) (F.bytes_at files.old) (F.bytes_at files.new) }
+    ensures others { F.tells → KeepsOthers (edit_of entry.now).path
+        (F.bytes_at files.old) (F.bytes_at files.new) }
     ensures fault { IfErr result (λ fault. ¬ IsJournalRefusal fault) }
     ensures named { IfErr result (FailsAt (λ p. p ≡ (edit_of entry.now).path)) }
 {
@@ -210,6 +213,8 @@ fn put_all_back<F: Files>(
         StaysSafe spot first (F.trace files.old) (F.trace files.new)
         (F.bytes_at files.old) (F.bytes_at files.new) ×
         IsSafeBy spot first edits (F.bytes_at files.new) }
+    ensures others { F.tells → KeepsNoEntry (edits_of entries.now)
+        (F.bytes_at files.old) (F.bytes_at files.new) }
     ensures fault { IfErr result (λ fault. ¬ IsJournalRefusal fault) }
     ensures named { IfErr result (FailsAt (HasEntry (edits_of entries.now))) }
 {
@@ -278,6 +283,10 @@ fn take_back<F: Files>(
         (F.bytes_at files.old)) → by.row.count ≡ row.now.count →
         StaysSafe (spot_of place.now) first (F.trace files.old) (F.trace files.new)
         (F.bytes_at files.old) (F.bytes_at files.new) }
+    ensures others { F.tells → (path : List ℕ)
+        → IsBeside (string_bytes place.now.journal) row.now.count path
+        → ¬ HasEntry (edits_of row.now.entries.items) path
+        → F.bytes_at files.new path ≡ F.bytes_at files.old path }
     ensures fault { IfErr result (λ fault. ¬ IsJournalRefusal fault) }
     ensures named { IfErr result (FailsAt (λ p. ((i : ℕ) × (i < row.now.count) ×
         (p ≡ file_at (string_bytes place.now.journal) i)) ⊎
@@ -314,6 +323,10 @@ pub fn recover<F: Files>(
         KeepsAll first (F.bytes_at files.new)) }
     // An error says why not, and names the paths.
     ensures why { IfErr result (IsWhy (spot_of place.now) F.tells (F.bytes_at files.old)) }
+    // Whatever the error is, no path is changed but the row's and those of its entries, and these
+    // only where each holds what a call left there.
+    ensures spared { IfErr result (λ _. F.tells → SparesOthers (spot_of place.now)
+        (F.bytes_at files.old) (F.bytes_at files.new)) }
     // A refusal changes nothing.
     ensures refused { IfErr result (λ fault. IsJournalRefusal fault → F.tells →
         KeepsAll (F.bytes_at files.old) (F.bytes_at files.new)) }

@@ -8,7 +8,7 @@ use Rattle.hack_journal.specs.SafeFiles.{IsSafeBy}
 use Rattle.hack_journal.specs.SafeLaws.{stay_append, stay_none, makes_append}
 use Rattle.hack_journal.proofs.FinishLemmas.{all_same}
 use Rattle.hack_journal.proofs.RowLemmas.{row_of}
-use Rattle.hack_journal.proofs.RecoverLemmas.{safe_at, safe_told, why_unread, why_failed, why_not_told, never_no_journal, never_not_told, told_at, restored_of, comes_back_of, on_three, on_two, safe_none}
+use Rattle.hack_journal.proofs.RecoverLemmas.{safe_at, safe_told, why_unread, why_failed, why_not_told, never_no_journal, never_not_told, told_at, restored_of, comes_back_of, on_err_always, on_three, on_two, safe_none}
 use Rattle.hack_journal.proofs.recover.recover.Goals as goal
 
 pub returns-in_err-row-clause-why : goal.returns-in_err-row-clause-why
@@ -91,3 +91,25 @@ returns-clause-why g c =
     IfErr-weaker c.take_back.result _ _
     (λ e h. why_failed s g.F.Files.tells row.count (edits_of row.entries.items) (g.F.Files.bytes_at c.args.files.now) e (λ tells. c.in_ok-row.ensures.some row c.in-Some.is tells) h)
     c.take_back.ensures.named
+
+pub returns-clause-spared : goal.returns-clause-spared
+returns-clause-spared g c =
+    let s = spot_of c.args.place.now in
+    let row = c.in-Some.row in
+    let es = edits_of row.entries.items in
+    let bytes = g.F.Files.bytes_at in
+    on_err_always c.take_back.result (λ tells.
+    let one = all_same (bytes c.args.files.now) (bytes c.row_at.new.files) (c.in_ok-row.ensures.same tells) in
+    let read = c.in_ok-row.ensures.some row c.in-Some.is tells in
+    inr (
+      es,
+      record { count = row.count; files = read.files.files; ends = read.ends },
+      told_at (edits_of c.deref-2.result.now) (edits_of c.deref-3.result.now) es (bytes c.args.files.now) (bytes c.row_at.new.files) (ap edits_of c.deref-2.ensures.value) (ap edits_of c.deref-3.ensures.value) one (c.in_ok-check_all.ensures.told tells),
+      λ q beside none. c.take_back.ensures.others tells q beside none ∙ (c.in_ok-check_all.ensures.same tells q ∙ c.in_ok-row.ensures.same tells q),
+    ))
+
+pub returns-clause-refused : goal.returns-clause-refused
+returns-clause-refused g c = IfErr-weaker c.take_back.result _ _ (λ fault not refusal. absurd (not refusal)) c.take_back.ensures.fault
+
+pub returns-clause-never : goal.returns-clause-never
+returns-clause-never g c = IfErr-weaker c.take_back.result _ _ (λ fault not refusal. absurd (not refusal)) c.take_back.ensures.fault
