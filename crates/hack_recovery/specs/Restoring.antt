@@ -4,7 +4,7 @@ use Rattle.std.specs.Option.{option_or}
 use Rattle.hack_base.specs.Counters.{GrowsBy}
 use Rattle.hack_base.specs.Names.{Name}
 use Rattle.hack_files.specs.Files.{Contents, KeepsAll, KeepsOthers, Makes, MakesOrNot, puts, removes}
-use Rattle.hack_journal.specs.Recovery.{CountsRecoverFault, IsJournalRefusal, IsRestored, IsWhy, IsWhyUnread}
+use Rattle.hack_journal.specs.Recovery.{CountsRecoverFault, IsJournalRefusal, IsRestored, IsWhy, IsWhyUnread, SparesOthers}
 use Rattle.hack_journal.specs.Rows.{Spot}
 use Rattle.hack_journal.specs.SafeFiles.{IsSafe, StaysSafe}
 use Rattle.hack_journal.specs.declared.recover.RecoverFault.{RecoverFault}
@@ -26,11 +26,13 @@ pub record Recovers (tells whole : Type 0) (spot : Spot) (paths : List Name) (ol
   pub comes_back : tells → (first : Contents) → IsSafe spot first old.held → KeepsAll first new.held
   pub safe : tells → whole → (first : Contents) → IsSafe spot first old.held → StaysSafe spot first old.trace new.trace old.held new.held
 
--- it could not be brought back, or not all of it: the error says why, and what isn't back is still
--- in the journal
+-- it could not be brought back, or not all of it: the error says why, what isn't back is still in the
+-- journal, and no path was changed but the row's and those of its entries, where each held what a call
+-- left there
 pub record FailsToRestore (tells whole : Type 0) (spot : Spot) (fault : RecoverFault) (old new : FilesView) : Type 0 where
   pub failures : CountsRecoverFault old.failed new.failed fault
   pub why : IsWhy spot tells old.held fault
+  pub spared : tells → SparesOthers spot old.held new.held
   pub refused : IsJournalRefusal fault → tells → KeepsAll old.held new.held
   pub never : IsJournalRefusal fault → tells → (first : Contents) → ¬ IsSafe spot first old.held
   pub safe : tells → whole → (first : Contents) → IsSafe spot first old.held → StaysSafe spot first old.trace new.trace old.held new.held
