@@ -711,9 +711,19 @@ class Plan:
 TOLD = re.compile(r"info: (in |    |\d+ failed run)")
 
 
+def strengths_of(plan):
+    """The strength of each package's sample, none where it has no sample."""
+    if not plan.asked.has("--feature-powerset"):
+        return {}
+    return {place: Rules(plan.workspace, plan.asked, it).strength for place, it in plan.packages.items()}
+
+
 def commands_to_fail(rng, plan):
     """Some commands of the plan: those of which a run shows one of a few patterns, and one more."""
-    failing, places = set(), [it for it in plan.places if it[2] is not None]
+    sampled = [place for place, it in strengths_of(plan).items() if it is not None]
+    failing, places = set(), [it for it in plan.places if it[2] in sampled]
+    if not places:
+        return failing
     for _ in range(rng.choice([1, 1, 2, 3])):
         place = rng.choice(places)
         settings = plan.settings(place)
@@ -747,14 +757,15 @@ def who(showing, failed):
 
 def told_of_suspects(plan, ranks, failing):
     """What is told after these places were run, where these commands fail: of each version, slot and package in turn,
-    since the runs of each are one after the other."""
-    outcomes, told = {}, []
-    for rank in ranks:
+    since the runs of each are one after the other; and of one strength after the other, where packages have their own."""
+    outcomes, told, strengths = {}, [], strengths_of(plan)
+    for rank in (it for it in ranks if strengths[plan.places[it][2]] is not None):
         outcome = plan.settings(plan.places[rank]), plan.own_line(rank) in failing
         outcomes.setdefault(plan.places[rank][:3], []).append(outcome)
-    for (version, slot, package), those in outcomes.items():
+    for strength, ((version, slot, package), those) in itertools.product(dict.fromkeys(strengths.values()), outcomes.items()):
+        if strengths[package] != strength:
+            continue
         own = plan.packages[package]["name"]
-        strength = plan.asked.strength
         found = suspects(those, strength)
         lines = [
             ", ".join(f"{','.join(plan.choices[own].candidates[place])} {'on' if is_on else 'off'}" for place, is_on in it)
@@ -844,7 +855,7 @@ def try_case(program, workspace, uses, trailing, counts, rng):
             pieces += 1
         fault = fault or joined_fault(plan, kind, told_pieces)
     # (each run starts a shell)
-    has_suspects = plan.asked.strength is not None and not plan.asked.own_handling and 0 < len(plan.places) < 200
+    has_suspects = any(strengths_of(plan).values()) and not plan.asked.own_handling and 0 < len(plan.places) < 200
     if has_suspects:
         fault = fault or fault_of_suspects(program, plan, words, rng)
     return fault, (wanted.count("\n"), pieces, 0, int(has_suspects))
