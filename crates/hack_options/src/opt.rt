@@ -65,6 +65,7 @@ pub enum Opt {
     Strength,
     Restore,
     PackageRules,
+    Parallel,
 }
 
 /// The option as messages name it. `--workspace-behavior` is shown with `cargo`, the only value

@@ -22,8 +22,8 @@ pub struct Row {
     /// What the help shows after the name, such as `<PATH>`; empty where the option takes no value,
     /// or has it in its name, as in `--workspace-behavior=cargo`.
     pub value: &'static str,
-    /// The texts of the help. Two options of Cargo, `--include-deps-features`, `--strength` and
-    /// `--restore` have no row there.
+    /// The texts of the help. Two options of Cargo, and those of ours that came later, have no row
+    /// there.
     pub(crate) told: Option<HelpText>,
 }
 
@@ -56,7 +56,7 @@ pub enum Kind {
 }
 
 /// All options, in the order of the help; those that the help doesn't show come last.
-pub const ALL: [Opt; 48] = [
+pub const ALL: [Opt; 49] = [
     Opt::Package,
     Opt::All,
     Opt::Workspace,
@@ -105,6 +105,7 @@ pub const ALL: [Opt; 48] = [
     Opt::Strength,
     Opt::Restore,
     Opt::PackageRules,
+    Opt::Parallel,
 ];
 
 impl Row {
@@ -198,6 +199,7 @@ fn syntax(option: Opt) -> Row
         Opt::Strength => once("strength", Kind::Value, "<NUM>"),
         Opt::Restore => flag("restore"),
         Opt::PackageRules => flag("package-rules"),
+        Opt::Parallel => once("parallel", Kind::Value, "<NUM>"),
     }
 }
 
@@ -368,7 +370,11 @@ fn help_text(option: Opt) -> Option<HelpText>
         Opt::Help => brief("Prints help information"),
         Opt::Version => brief("Prints version information"),
         Opt::NoDefaultFeatures | Opt::AllFeatures => None,
-        Opt::IncludeDepsFeatures | Opt::Strength | Opt::Restore | Opt::PackageRules => None,
+        Opt::IncludeDepsFeatures
+        | Opt::Strength
+        | Opt::Restore
+        | Opt::PackageRules
+        | Opt::Parallel => None,
     }
 }
 

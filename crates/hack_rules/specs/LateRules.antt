@@ -1,5 +1,5 @@
 -- The rules that are checked after the one on a missing subcommand.
-use Rattle.std.specs.Prelude.{ℕ, ◌==◌, ◌&&◌, not, List, [], ◌∷◌, map, Bool, Option, Some, length, nat_lt, option_and_then, option_map}
+use Rattle.std.specs.Prelude.{ℕ, ◌==◌, ◌&&◌, not, List, [], ◌∷◌, map, Bool, Option, None, Some, length, nat_lt, option_and_then, option_map, if◌then◌else◌}
 use Rattle.std.specs.List.{find, list_all, list_any}
 use Rattle.std.specs.Option.{is_none, option_map_or, option_or}
 use Rattle.std.specs.Result.{result_err}
@@ -22,6 +22,16 @@ use Rattle.hack_rules.specs.Rules.{fault_if, first_of, needs, clash}
 abbrev pub unless_counted : Opt → ℕ → List ℕ → Option Fault
 unless_counted option bits text =
     option_map_or (λ n. fault_if (n == 0) (Zero option)) (number_of bits text) (Some (Number text))
+
+-- the number that a text is, where it isn't greater than another
+abbrev pub number_within : ℕ → List ℕ → Option ℕ
+number_within most text =
+    option_and_then (λ n. if nat_lt most n then None else Some n) (number_of 64 text)
+
+-- the error of a text that the option takes as a number from 1 to another
+abbrev pub unless_within : Opt → ℕ → List ℕ → Option Fault
+unless_within option most text =
+    option_map_or (λ n. fault_if (n == 0) (Zero option)) (number_within most text) (Some (Number text))
 
 -- the rules on ranges; where rustup's minor version is known, it must be new enough
 abbrev pub range_rules : Option ℕ → List Use → List (Option Fault)
@@ -56,9 +66,18 @@ abbrev pub restore_rule : WorkspaceBehavior → List (List ℕ) → List Use →
 restore_rule behavior trailing us =
     fault_if (is_given opt.Restore us && not (is_restore_alone behavior trailing us)) RestoreAlone
 
+-- the rules on runs side by side: a number, and neither a list of commands nor a cleaning for each
+-- run
+abbrev pub parallel_rules : List Use → List (Option Fault)
+parallel_rules us =
+    from_value opt.Parallel (unless_within opt.Parallel 256) us
+    ∷ clash opt.Parallel opt.PrintCommandList us
+    ∷ clash opt.Parallel opt.CleanPerRun us
+    ∷ []
+
 -- the rules that are checked after the one on a missing subcommand, given the exclusive groups, who
 -- handles workspaces, and the arguments after --: on ranges, the log group, pieces, lifted groups,
--- the strength of a sample, --restore, and the rules of packages
+-- the strength of a sample, --restore, the rules of packages, and runs side by side
 abbrev pub rules_after : Option ℕ → List (List (List ℕ)) → WorkspaceBehavior → List (List ℕ) → List Use → List (Option Fault)
 rules_after rustup exclusive behavior trailing us =
     first_of (range_rules rustup us)
@@ -72,4 +91,5 @@ rules_after rustup exclusive behavior trailing us =
     ∷ from_value opt.Strength (unless_counted opt.Strength 64) us
     ∷ restore_rule behavior trailing us
     ∷ needs opt.PackageRules beside.EachOrPowerset us
+    ∷ first_of (parallel_rules us)
     ∷ []

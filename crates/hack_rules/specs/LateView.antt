@@ -8,12 +8,14 @@ use Rattle.hack_options.specs.declared.opt.Opt.TheVariants as opt
 use Rattle.hack_rules.specs.Uses.{Use}
 use Rattle.hack_rules.specs.AskedFields.{range_asked, is_old_asked, log_group_asked}
 use Rattle.hack_rules.specs.Values.{from_value, values_given}
+use Rattle.hack_rules.specs.LateRules.{number_within}
 use Rattle.hack_rules.specs.CliGroups.{AreLifts}
 use Rattle.hack_rules.specs.CliLists.{lift_of}
 use Rattle.std.specs.List.{filter_map}
 use Rattle.hack_rules.specs.declared.late.Late.{Late}
 
--- what uses of options ask for about versions, log groups, pieces, lifted groups and samples
+-- what uses of options ask for about versions, log groups, pieces, lifted groups, samples and runs side
+-- by side
 pub record IsLate (github_actions : Bool) (us : List Use) (late : Late) : Type 0 where
   pub range : late.versions.range ≡ range_asked us
   pub old : late.versions.is_old ≡ is_old_asked us
@@ -25,3 +27,4 @@ pub record IsLate (github_actions : Bool) (us : List Use) (late : Late) : Type 0
       p.kind ≡ unwrap_or (from_value opt.PartitionKind kind_of us) Block)
   pub lifts : AreLifts (filter_map lift_of (values_given opt.AllowTogether us)) late.lifts.items
   pub strength : late.strength ≡ from_value opt.Strength (number_of 64) us
+  pub parallel : late.parallel ≡ from_value opt.Parallel (number_within 256) us

@@ -1,6 +1,6 @@
 //! The rules that are checked after the one on a missing subcommand: on ranges of versions, log
-//! groups, pieces of a plan, lifted groups, the strength of a sample, `--restore` and
-//! `--package-rules`.
+//! groups, pieces of a plan, lifted groups, the strength of a sample, `--restore`,
+//! `--package-rules` and runs side by side.
 
 ghost use Rattle.std.specs.Prelude.{◌≡◌, ◌&&◌, [], ◌∷◌, false, IfOk, IfSome};
 ghost use Rattle.std.specs.Prelude.{option_map, option_and_then, nat_lt};
@@ -22,7 +22,8 @@ ghost use Rattle.hack_rules.specs.CliFaults.{Checks, LogGroup as WrongLogGroup, 
 ghost use Rattle.hack_rules.specs.CliFaults.{Partition as WrongPiece, PartitionKind as WrongKind};
 ghost use Rattle.hack_rules.specs.LateView.{IsLate};
 ghost use Rattle.hack_rules.specs.Rules.{fault_if, first_of, has_beside, needs as needs_rule};
-ghost use Rattle.hack_rules.specs.LateRules.{unless_counted, range_rules, rules_after};
+ghost use Rattle.hack_rules.specs.LateRules.{number_within, unless_counted, unless_within};
+ghost use Rattle.hack_rules.specs.LateRules.{parallel_rules, range_rules, rules_after};
 ghost use Rattle.hack_rules.specs.LateRules.{is_beside_restore as beside_restore, restore_rule};
 
 use crate::checks::{clash, needs};
@@ -254,6 +255,31 @@ fn restore_alone(
     Ok(())
 }
 
+/// How many runs go side by side, where it is said.
+fn width(alloc: Global, uses: &[Use]) -> Result<Option<usize>, CliFault>
+    ensures rule { Checks result (from_value Opt.Parallel
+        (unless_within Opt.Parallel 256) (views uses.now)) }
+    ensures value { IfOk result (λ width.
+        width ≡ from_value Opt.Parallel (number_within 256) (views uses.now)) }
+{
+    match value(Opt::Parallel, uses) {
+        Some(text) => Ok(Some(values::parallel(alloc, text.as_str())?)),
+        None => Ok(None),
+    }
+}
+
+/// The rules on runs side by side.
+fn parallel(alloc: Global, uses: &[Use]) -> Result<Option<usize>, CliFault>
+    ensures rules { Checks result (first_of (parallel_rules (views uses.now))) }
+    ensures value { IfOk result (λ width.
+        width ≡ from_value Opt.Parallel (number_within 256) (views uses.now)) }
+{
+    let width = width(alloc, uses)?;
+    clash(Opt::Parallel, Opt::PrintCommandList, uses)?;
+    clash(Opt::Parallel, Opt::CleanPerRun, uses)?;
+    Ok(width)
+}
+
 /// What these rules read while they check.
 #[derive(Drop)]
 pub struct Late {
@@ -263,6 +289,8 @@ pub struct Late {
     /// Packages, and for each an exclusion group that is lifted for it.
     pub lifts: Vec<(String, Feature)>,
     pub strength: Option<usize>,
+    /// From 1 to 256.
+    pub parallel: Option<usize>,
 }
 
 /// Checks the rules after the one on a missing subcommand, and returns what they read. `rustup` is
@@ -305,11 +333,13 @@ pub fn check(
         Beside::EachOrPowerset,
         is_each(uses),
     )?;
+    let parallel = parallel(alloc, uses)?;
     Ok(Late {
         versions,
         log_group,
         partition,
         lifts,
         strength,
+        parallel,
     })
 }

@@ -3,13 +3,16 @@
 ghost use Rattle.std.specs.Prelude.{◌≡◌, IfOk, Some};
 ghost use Rattle.std.specs.Option.{is_none};
 ghost use Rattle.hack_rules.specs.CliFaults.{Checks, Number};
-ghost use Rattle.hack_rules.specs.LateRules.{unless_counted};
+ghost use Rattle.hack_rules.specs.LateRules.{number_within, unless_counted, unless_within};
 ghost use Rattle.hack_rules.specs.Rules.{fault_if};
 ghost use Rattle.hack_base.specs.Numbers.{number_of};
 
 use crate::fault::CliFault;
 use hack_options::Opt;
 use std::alloc::Global;
+
+/// How many runs go side by side at most.
+const MOST_PARALLEL: usize = 256;
 
 fn whole(text: &str) -> Option<usize>
     ensures { result ≡ number_of 64 text.now }
@@ -21,6 +24,15 @@ fn short(text: &str) -> Option<u16>
     ensures { result ≡ number_of 16 text.now }
 {
     text.parse::<u16>().ok()
+}
+
+fn few(text: &str) -> Option<usize>
+    ensures { result ≡ number_within 256 text.now }
+{
+    match whole(text) {
+        Some(number) if number <= MOST_PARALLEL => Some(number),
+        _ => None,
+    }
 }
 
 /// A depth.
@@ -63,6 +75,22 @@ pub fn strength(alloc: Global, text: &str) -> Result<usize, CliFault>
         Some(_) => Err(CliFault::Zero {
             option: Opt::Strength,
         }),
+        None => Err(CliFault::Number {
+            found: String::from_str(alloc, text)?,
+        }),
+    }
+}
+
+/// How many runs go side by side.
+pub fn parallel(alloc: Global, text: &str) -> Result<usize, CliFault>
+    ensures value { IfOk result (λ n. number_within 256 text.now ≡ Some n) }
+    ensures checks { Checks result (unless_within Opt.Parallel 256 text.now) }
+{
+    match few(text) {
+        Some(0) => Err(CliFault::Zero {
+            option: Opt::Parallel,
+        }),
+        Some(number) => Ok(number),
         None => Err(CliFault::Number {
             found: String::from_str(alloc, text)?,
         }),

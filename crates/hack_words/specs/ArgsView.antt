@@ -10,6 +10,7 @@ use Rattle.hack_features.specs.Feature.{IsNormal}
 use Rattle.hack_options.specs.declared.opt.Opt.TheVariants as opt
 use Rattle.hack_rules.specs.declared.uses.behavior.WorkspaceBehavior.{WorkspaceBehavior}
 use Rattle.hack_rules.specs.Uses.{Use, is_given, is_use_of, subcommand_of}
+use Rattle.hack_rules.specs.LateRules.{number_within}
 use Rattle.hack_rules.specs.Values.{from_value, value_given, values_given}
 use Rattle.hack_words.specs.declared.cli.args.Args.{Args}
 use Rattle.hack_rules.specs.AskedFields.{coloring_asked, range_asked, log_group_asked, verbose_words}
@@ -87,3 +88,4 @@ pub record IsAsked (term_color : Option (List ℕ)) (github_actions : Bool) (beh
   pub allow_together : AreLifts (filter_map lift_of (values_given opt.AllowTogether us))
       args.allow_together.items
   pub strength : args.strength ≡ from_value opt.Strength (number_of 64) us
+  pub parallel : args.parallel ≡ from_value opt.Parallel (number_within 256) us

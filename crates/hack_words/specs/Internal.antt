@@ -46,6 +46,7 @@ pub record Carries (read : Read) (args : Args) : Type 0 where
   pub partition : args.partition ≡ read.late.partition
   pub allow_together : args.allow_together ≡ read.late.lifts
   pub strength : args.strength ≡ read.late.strength
+  pub parallel : args.parallel ≡ read.late.parallel
 
 -- the same, from the code's record
 abbrev pub around_in : Surroundings → Around

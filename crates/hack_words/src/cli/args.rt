@@ -89,6 +89,8 @@ pub struct Args {
     /// How many candidates a pattern has at most that the sample of a powerset shows: in place of
     /// all listed sets a few that show each such pattern. `None`: all listed sets.
     pub strength: Option<usize>,
+    /// How many runs go side by side: from 1 to 256, `None` as 1.
+    pub parallel: Option<usize>,
     pub group_features: Vec<Feature>,
     pub mutually_exclusive_features: Vec<Feature>,
     /// Packages, each with a group of mutually exclusive features that doesn't apply to it.
@@ -276,6 +278,7 @@ impl Args {
             exclude_all_features,
             depth,
             strength: late.strength,
+            parallel: late.parallel,
             group_features,
             mutually_exclusive_features,
             allow_together: late.lifts,
