@@ -15,7 +15,7 @@ use Rattle.hack_metadata.specs.declared.metadata.Metadata.{Metadata}
 module _ (minor : ℕ) (old new : Members) where
   -- the fields after the packages are read in the same way once the packages are taken out
   behind-others : (ps : List PackageRecord) (place : Name → Option ℕ) → KeepsOtherFields (codes "packages") old new → read_behind minor ps place new ≡ read_behind minor ps place old
-  behind-others ps place h = rw (h.others (codes "workspace_members") refl, h.others (codes "resolve") refl, h.others (codes "workspace_root") refl, h.others (codes "metadata") refl) refl
+  behind-others ps place h = rw (h.others (codes "workspace_members") refl, h.others (codes "resolve") refl, h.others (codes "workspace_root") refl, h.others (codes "target_directory") refl, h.others (codes "metadata") refl) refl
 
   -- what is read after the packages is what is read of the whole
   pub whole-behind : (list : Items) (ps : List PackageRecord) (place : Name → Option ℕ) (r : Result Metadata MetadataFault)

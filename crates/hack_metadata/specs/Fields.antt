@@ -12,6 +12,10 @@ use Rattle.hack_base.specs.Names.{Name}
 abbrev pub string_in : Name → Members → FieldReading Name
 string_in key ms = ok_or (option_and_then as_str (get_member key ms)) key
 
+-- what a field holds, where it is a text
+abbrev pub text_at : Name → Members → Option Name
+text_at key ms = option_and_then as_str (get_member key ms)
+
 -- a field that is a boolean
 abbrev pub bool_in : Name → Members → FieldReading Bool
 bool_in key ms = ok_or (option_and_then as_bool (get_member key ms)) key

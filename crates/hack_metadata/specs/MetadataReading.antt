@@ -133,7 +133,7 @@ read_behind minor packages place ms =
     workspace_members_in place ms >>= λ members.
     (nullable_in (codes "resolve") ms >>= read_resolve place minor) >>= λ nodes.
     string_in (codes "workspace_root") ms >>= λ root.
-    Ok (record { cargo_version = minor; packages = packages; workspace_members = members; resolve = nodes; workspace_root = root; rules = rules_in ms })
+    Ok (record { cargo_version = minor; packages = packages; workspace_members = members; resolve = nodes; workspace_root = root; target_directory = text_at (codes "target_directory") ms; rules = rules_in ms })
 
 -- all that the object of `cargo metadata` says: an id means the last package that has it
 abbrev pub read_metadata : ℕ → Members → FieldReading MetadataRecord

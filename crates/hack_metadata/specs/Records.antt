@@ -65,4 +65,5 @@ pub record MetadataRecord : Type 0 where
   pub workspace_members : List ℕ
   pub resolve : Nodes
   pub workspace_root : Name
+  pub target_directory : Option Name
   pub rules : FieldReading RulesRecord

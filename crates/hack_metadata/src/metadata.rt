@@ -26,6 +26,7 @@ pub(crate) mod rules;
 
 pub use crate::ask::fault::AskFault;
 pub use crate::metadata::fault::MetadataFault;
+use crate::metadata::object::take_text;
 pub use crate::metadata::object::{Object, ObjectExt, object_of};
 pub use crate::metadata::package::{Dependency, OptionalDeps, Package};
 use crate::metadata::resolve::known_package;
@@ -49,6 +50,8 @@ pub struct Metadata {
     pub resolve: Resolve,
     /// The absolute path of the folder of the workspace.
     pub workspace_root: String,
+    /// The absolute path of the folder that cargo builds into, where cargo says it.
+    pub target_directory: Option<String>,
     /// The rules of the workspace, or the key of its table that is wrong.
     pub rules: Result<RulesTable, String>,
     // Each id is that of a package.
@@ -91,6 +94,7 @@ impl Metadata {
         let workspace_members = remove_members(alloc, &mut object, ids)?;
         let resolve = remove_resolve(alloc, &mut object, ids, cargo_version)?;
         let workspace_root = object.remove_string("workspace_root")?;
+        let target_directory = take_text(&mut object, "target_directory");
         let rules = remove_rules(alloc, &mut object)?;
         Ok(Metadata {
             cargo_version,
@@ -98,6 +102,7 @@ impl Metadata {
             workspace_members,
             resolve,
             workspace_root,
+            target_directory,
             rules,
         })
     }

@@ -8,7 +8,7 @@ ghost use Rattle.serde_json.specs.Find.{get_member, as_object};
 ghost use Rattle.serde_json.specs.View.{view, items_view, members_view};
 ghost use Rattle.hack_base.specs.Names.{optional_text};
 ghost use Rattle.hack_metadata.specs.Fields.{string_in, bool_in, array_in, object_in};
-ghost use Rattle.hack_metadata.specs.Fields.{nullable_in, optional_text_in};
+ghost use Rattle.hack_metadata.specs.Fields.{nullable_in, optional_text_in, text_at};
 ghost use Rattle.std.specs.Option.{ok_or};
 ghost use Rattle.hack_metadata.specs.Fields.{object_in_text};
 ghost use Rattle.hack_metadata.specs.FieldResults.{KeepsOtherFields, ReturnsField};
@@ -138,6 +138,18 @@ pub(crate) fn remove_text(
         None => Ok(None),
         Some(Value::String(text)) => Ok(Some(text)),
         Some(_) => Err(MetadataFault::Field(key)),
+    }
+}
+
+/// Takes out what a field holds, where it is a text.
+pub(crate) fn take_text(object: &mut Object, key: &str) -> Option<String>
+    ensures value { optional_text result ≡ text_at key.now (members_view object.old.entries) }
+    ensures others { KeepsOtherFields key.now (members_view object.old.entries)
+        (members_view object.new.entries) }
+{
+    match take(object, key) {
+        Some(Value::String(text)) => Some(text),
+        _ => None,
     }
 }
 
