@@ -73,6 +73,16 @@ pub trait Caller {
     /// holds.
     ghost calls: { Self → List Call };
 
+    /// A relation of the caller before and after any calls, such as rules that it keeps in how it
+    /// runs programs.
+    ghost course: { Self → Self → Type 0 };
+
+    /// Without a call the relation holds of each caller and itself.
+    ghost course_none: { (a : Self) → course a a };
+
+    /// The relations of some calls and of more calls after them give that of all.
+    ghost course_more: { (a b c : Self) → course a b → course b c → course a c };
+
     /// Runs a program with these arguments to its end, and returns how it ended. With `capture` its
     /// input is empty, and what it writes is in the answer. Without, it uses the input and output
     /// of this process, and the answer has no output. Where memory is refused, the program may
@@ -90,5 +100,6 @@ pub trait Caller {
         ensures refused { OnErr result (tells → MayAdd (asked_call program.now words.now capture)
             (calls self.old) (calls self.new)) }
         ensures silent { capture ≡ false →
-            IfOk result (λ called. WroteNothing (answer_of called)) };
+            IfOk result (λ called. WroteNothing (answer_of called)) }
+        ensures course { course self.old self.new };
 }

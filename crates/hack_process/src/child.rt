@@ -52,6 +52,12 @@ impl<R: Processes + Drop> Caller for Child<R> {
 
     ghost calls = { λ _. [] };
 
+    ghost course = { λ _ _. Unit {0} };
+
+    ghost course_none = { λ _. tt };
+
+    ghost course_more = { λ _ _ _ _ _. tt };
+
     fn call(
         &mut self,
         alloc: Global,

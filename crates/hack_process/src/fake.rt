@@ -178,6 +178,12 @@ impl Caller for FakeCaller {
 
     ghost calls = { λ caller. made_by caller };
 
+    ghost course = { λ _ _. Unit {0} };
+
+    ghost course_none = { λ _. tt };
+
+    ghost course_more = { λ _ _ _ _ _. tt };
+
     fn call(
         &mut self,
         alloc: Global,
@@ -190,6 +196,7 @@ impl Caller for FakeCaller {
         ensures refused { OnErr result (MayAdd (asked_call program.now words.now capture)
             (made_by self.old) (made_by self.new)) }
         ensures silent { capture ≡ false → IfOk result (λ called. WroteNothing (answer_of called)) }
+        ensures course { Unit {0} }
         ensures answered { IfOk result (λ called. answer_of called ≡ seen_answer capture
             (answer_to (spaced_line_of program.now (map string_bytes words.now)) self.old)) }
         ensures same { otherwise_of self.new ≡ otherwise_of self.old }

@@ -198,6 +198,7 @@ impl<'a> ProcessBuilder<'a> {
             (text_of true dir.now (command_of self.now))
             (C.calls caller.old) (C.calls caller.new)) }
         ensures bare { IfErr result ShowsNothing }
+        ensures course { C.course caller.old caller.new }
     {
         let _called = self.call_once(alloc, caller, false, dir)?;
         Ok(())
@@ -217,6 +218,7 @@ impl<'a> ProcessBuilder<'a> {
         ensures err { IfErr result (IsFault C.tells (asked_of true (command_of self.now))
             (text_of true dir.now (command_of self.now))
             (C.calls caller.old) (C.calls caller.new)) }
+        ensures course { C.course caller.old caller.new }
     {
         self.call_once(alloc, caller, true, dir)
     }
@@ -261,6 +263,7 @@ impl<'a> ProcessBuilder<'a> {
             (text_of true dir.now (command_of self.now))
             (C.calls caller.old) (C.calls caller.new)) }
         ensures bare { capture ≡ false → IfErr result ShowsNothing }
+        ensures course { C.course caller.old caller.new }
     {
         let program = self.program();
         if program.is_empty() {
