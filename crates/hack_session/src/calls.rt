@@ -21,9 +21,10 @@ pub(crate) fn call<C: Caller>(
     print_output: bool,
     dir: &str,
 ) -> Result<(), ProcessFault>
-    ensures { ComesTo C.tells (asked_of (not print_output) (command_of command.now))
+    ensures comes { ComesTo C.tells (asked_of (not print_output) (command_of command.now))
         (text_of true dir.now (command_of command.now)) result
         (C.calls caller.old) (C.calls caller.new) }
+    ensures course { C.course caller.old caller.new }
 {
     if print_output {
         return command.run(alloc, caller, dir);
@@ -48,6 +49,7 @@ pub(crate) fn call_in_group<C: Caller, O: Sink, E: Sink>(
         (scene_of C.Caller O.Sink E.Sink caller.old screen.old)
         (scene_of C.Caller O.Sink E.Sink caller.new screen.new) }
     ensures screen { IsSameScreen screen.old screen.new }
+    ensures course { C.course caller.old caller.new }
 {
     let guard = screen.open(text);
     let came = call(alloc, caller, command, true, dir);

@@ -37,6 +37,7 @@ pub(crate) fn perform<C: Caller, O: Sink, E: Sink>(
         (scene_of C.Caller O.Sink E.Sink caller.old screen.old)
         (scene_of C.Caller O.Sink E.Sink caller.new screen.new) }
     ensures screen { IsSameScreen screen.old screen.new }
+    ensures course { C.course caller.old caller.new }
 {
     match step {
         Step::Prepare(Preparation::Toolchain(version)) => {
@@ -73,6 +74,7 @@ fn install<C: Caller, O: Sink, E: Sink>(
         (scene_of C.Caller O.Sink E.Sink caller.old screen.old)
         (scene_of C.Caller O.Sink E.Sink caller.new screen.new) }
     ensures screen { IsSameScreen screen.old screen.new }
+    ensures course { C.course caller.old caller.new }
 {
     match number {
         Some(number) => {
@@ -99,9 +101,10 @@ fn generate_lockfile<C: Caller>(
     plan: &Plan,
     number: Option<Version>,
 ) -> Result<(), ProcessFault>
-    ensures { (streams : Streams) → DoesTasks C.tells (lockfile_tasks plan.now number) result
+    ensures does { (streams : Streams) → DoesTasks C.tells (lockfile_tasks plan.now number) result
         (record { calls = C.calls caller.old; streams = streams })
         (record { calls = C.calls caller.new; streams = streams }) }
+    ensures course { C.course caller.old caller.new }
 {
     match number {
         Some(number) => {
@@ -124,6 +127,7 @@ fn clean_all<C: Caller, O: Sink, E: Sink>(
         (scene_of C.Caller O.Sink E.Sink caller.old screen.old)
         (scene_of C.Caller O.Sink E.Sink caller.new screen.new) }
     ensures screen { IsSameScreen screen.old screen.new }
+    ensures course { C.course caller.old caller.new }
 {
     let command = plan.cleaning(alloc)?;
     clean(alloc, caller, screen, &command, plan.dir())
@@ -142,6 +146,7 @@ fn clean<C: Caller, O: Sink, E: Sink>(
         (scene_of C.Caller O.Sink E.Sink caller.old screen.old)
         (scene_of C.Caller O.Sink E.Sink caller.new screen.new) }
     ensures screen { IsSameScreen screen.old screen.new }
+    ensures course { C.course caller.old caller.new }
 {
     screen.tell_cleaning(alloc, command, dir)?;
     call(alloc, caller, command, true, dir)
@@ -182,6 +187,7 @@ fn run<C: Caller, O: Sink, E: Sink>(
         (scene_of C.Caller O.Sink E.Sink caller.old screen.old)
         (scene_of C.Caller O.Sink E.Sink caller.new screen.new)) }
     ensures screen { IsSameScreen screen.old screen.new }
+    ensures course { C.course caller.old caller.new }
 {
     screen.space(place);
     let run = plan.run(alloc, place)?;
@@ -213,6 +219,7 @@ fn run_own<C: Caller, O: Sink, E: Sink>(
         (scene_of C.Caller O.Sink E.Sink caller.old screen.old)
         (scene_of C.Caller O.Sink E.Sink caller.new screen.new) }
     ensures screen { IsSameScreen screen.old screen.new }
+    ensures course { C.course caller.old caller.new }
 {
     let text = status(alloc, "running", screen.term.verbose, plan, place, run)?;
     call_in_group(alloc, caller, screen, &run.command, &text, plan.dir())

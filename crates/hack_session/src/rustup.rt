@@ -35,6 +35,7 @@ pub fn install_toolchain<C: Caller, O: Sink, E: Sink>(
         (scene_of C.Caller O.Sink E.Sink caller.new screen.new) }
     ensures quiet { print_output ≡ false → screen.new ≡ screen.old }
     ensures screen { IsSameScreen screen.old screen.new }
+    ensures course { C.course caller.old caller.new }
 {
     let commands = commands(alloc, rustup, without_plus(toolchain), target)?;
     if !target.is_empty() {
@@ -85,6 +86,7 @@ fn try_toolchain<C: Caller, O: Sink, E: Sink>(
         (scene_of C.Caller O.Sink E.Sink caller.new screen.new) }
     ensures quiet { print_output ≡ false → screen.new ≡ screen.old }
     ensures screen { IsSameScreen screen.old screen.new }
+    ensures course { C.course caller.old caller.new }
 {
     match call(alloc, caller, &commands.trial, false, dir) {
         Ok(()) => Ok(()),
@@ -112,6 +114,7 @@ fn add_toolchain<C: Caller, O: Sink, E: Sink>(
         (scene_of C.Caller O.Sink E.Sink caller.new screen.new) }
     ensures quiet { print_output ≡ false → screen.new ≡ screen.old }
     ensures screen { IsSameScreen screen.old screen.new }
+    ensures course { C.course caller.old caller.new }
 {
     if !print_output {
         return call(alloc, caller, add, false, dir);

@@ -91,6 +91,7 @@ impl<C: Caller, O: Sink, E: Sink> Runner for Starter<'_, C, O, E> {
         × (a.keep_going ≡ b.keep_going)
         × (a.log_group ≡ b.log_group)
         × (b.term.now ≡ record a.term.now { error = b.term.now.error })
+        × C.course a.caller.now b.caller.now
         × DoesAll C.tells a.keep_going (manner_of a.log_group a.term.now) plan steps
         (state (C.calls a.caller.now)
         (streams O.contents O.failed E.contents E.failed a.out.now a.err.now)
@@ -99,7 +100,18 @@ impl<C: Caller, O: Sink, E: Sink> Runner for Starter<'_, C, O, E> {
         (streams O.contents O.failed E.contents E.failed b.out.now b.err.now)
         b.fault.now b.term.now.error b.refused) };
 
-    ghost ran_none = { λ plan a. (refl, refl, refl, refl, refl, refl, refl, refl, refl) };
+    ghost ran_none = { λ plan a. (
+      refl,
+      refl,
+      refl,
+      refl,
+      refl,
+      refl,
+      refl,
+      refl,
+      C.course_none a.caller.now,
+      refl,
+    ) };
 
     ghost ran_more = { λ plan steps more a b c p q. (
       p.0 ∙ q.0,
@@ -110,6 +122,7 @@ impl<C: Caller, O: Sink, E: Sink> Runner for Starter<'_, C, O, E> {
       p.5 ∙ q.5,
       p.6 ∙ q.6,
       error_alone a.term.now b.term.now c.term.now p.7 q.7,
+      C.course_more a.caller.now b.caller.now c.caller.now p.8 q.8,
       done_more C.tells a.keep_going b.keep_going (manner_of a.log_group a.term.now)
           (manner_of b.log_group b.term.now) plan steps more
           (state (C.calls a.caller.now)
@@ -121,7 +134,7 @@ impl<C: Caller, O: Sink, E: Sink> Runner for Starter<'_, C, O, E> {
           (state (C.calls c.caller.now)
           (streams O.contents O.failed E.contents E.failed c.out.now c.err.now)
           c.fault.now c.term.now.error c.refused)
-          p.5 (manner_stays a.log_group b.log_group a.term.now b.term.now p.6 p.7) p.8 q.8,
+          p.5 (manner_stays a.log_group b.log_group a.term.now b.term.now p.6 p.7) p.9 q.9,
     ) };
 
     fn step(&mut self, plan: &Plan, step: Step) -> Outcome {
