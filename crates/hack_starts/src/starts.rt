@@ -14,6 +14,13 @@ pub trait Starts: Caller {
     /// What happened between two states, in order.
     ghost did: { List Event → Self → Self → Type 0 };
 
+    /// Nothing happened to what wasn't called.
+    ghost did_none: { (a : Self) → did [] a a };
+
+    /// What happened, and what happened after it.
+    ghost did_more: { (events more : List Event) (a b c : Self)
+        → did events a b → did more b c → did (events ++ more) a c };
+
     /// Runs a program to its end, as `call` does.
     fn perform(
         &mut self,
@@ -75,13 +82,6 @@ pub trait Starts: Caller {
     /// Waits a moment. So many commands that were started have ended, and so many run.
     fn pause(&mut self, alloc: Global, ended: usize, running: usize)
         ensures { did [] self.old self.new };
-
-    /// Nothing happened to what wasn't called.
-    ghost did_none: { (a : Self) → did [] a a };
-
-    /// What happened, and what happened after it.
-    ghost did_more: { (events more : List Event) (a b c : Self)
-        → did events a b → did more b c → did (events ++ more) a c };
 
     /// The calls with their answers are those that came of what happened.
     ghost did_calls: { (events : List Event) (a b : Self) → did events a b → Self.tells

@@ -1,0 +1,119 @@
+-- What happened between scenes, one thing after another.
+use Rattle.std.proofs.Common.{◌≡◌, ℕ, ◌<◌, ◌*◌, length, map, sym, List, [], ◌∷◌, ◌++◌, refl, ◌∙◌, ap, subst, append-nil, inl, inr}
+use Rattle.std.specs.Prelude.{Contains, Result, Ok, Err, IfOk, OnErr, ◌⊎◌, Option, None, Some, slice_get, slice_set, IsSomeAnd, option_map, true, false, IfSome}
+use Rattle.std.proofs.lemmas.Result.{IfOk-weaker, on_err_weaker}
+use Rattle.std.proofs.lemmas.List.{map-set, map-append, length-map}
+use Rattle.std.proofs.lemmas.List.Elements.{Contains-get_or}
+use Rattle.std.proofs.lemmas.Option.{slice_get-map, slice_get_within, get_or_from_slice_get}
+use Rattle.hack_process.specs.Calls.{Asked, Answer, Call, answer_of}
+use Rattle.hack_process.specs.declared.caller.Called.{Called}
+use Rattle.hack_starts.specs.Events.{Event, Ran, Started, Ended, calls_of}
+use Rattle.hack_lanes.specs.declared.job.Job.{Job}
+use Rattle.hack_lanes.specs.declared.child.Child.{Child}
+use Rattle.hack_lanes.specs.Views.{offer_of, pending_of}
+use Rattle.hack_lanes.specs.Lanes.{Offer, Pending, is_free, Turn, State, IsNew, Moves, Scene, Goes, MayGo}
+use Rattle.hack_lanes.specs.JoinedScenes.{goes_more}
+
+-- somebody was called, and nothing happened
+pub goes_idle : {S : Type 0} (did : List Event → S → S → Type 0) (turn : Turn) (state : State) (s t : S) → did [] s t
+    → Goes did [] (record { turn = turn; state = state; starts = s }) (record { turn = turn; state = state; starts = t })
+goes_idle did turn state s t h = record { events = []; did_them = h; follows = refl; calls = refl; turn = refl }
+
+-- one event
+pub goes_one : {S : Type 0} (did : List Event → S → S → Type 0) (turn : Turn) (e : Event) (old new : State) (s t : S) → Moves turn old e new → did (e ∷ []) s t
+    → Goes did (calls_of (e ∷ [])) (record { turn = turn; state = old; starts = s }) (record { turn = turn; state = new; starts = t })
+goes_one did turn e old new s t p h = record { events = e ∷ []; did_them = h; follows = (new, p, refl); calls = refl; turn = refl }
+
+-- the same where no call came of the second part
+pub goes_on : {S : Type 0} (did : List Event → S → S → Type 0) (told : List Call) (a b c : Scene S)
+    → ((es fs : List Event) (x y z : S) → did es x y → did fs y z → did (es ++ fs) x z)
+    → Goes did told a b → Goes did [] b c → Goes did told a c
+goes_on did told a b c law p q =
+    subst (λ (l : List Call). Goes did l a c) (append-nil told) (goes_more did told [] a b c law p q)
+
+-- after some events, a command was run to its end where none is pending
+pub goes_run : {S E : Type 0} (did : List Event → S → S → Type 0) (turn : Turn) (state : State) (a : Scene S) (s t : S) (asked : Asked) (came : Result Called E)
+    → ((es fs : List Event) (x y z : S) → did es x y → did fs y z → did (es ++ fs) x z)
+    → Goes did [] a (record { turn = turn; state = state; starts = s }) → state.pending ≡ [] → IfSome turn.place (IsNew state.last)
+    → IfOk came (λ (called : Called). did (Ran asked (answer_of called) ∷ []) s t)
+    → IfOk came (λ (called : Called). Goes did (record { asked = asked; answer = answer_of called } ∷ []) a (record { turn = turn; state = state; starts = t }))
+goes_run did turn state a s t asked came law p none new h =
+    IfOk-weaker came (λ (called : Called). did (Ran asked (answer_of called) ∷ []) s t)
+    (λ (called : Called). Goes did (record { asked = asked; answer = answer_of called } ∷ []) a (record { turn = turn; state = state; starts = t }))
+    (λ (called : Called) (d : did (Ran asked (answer_of called) ∷ []) s t).
+    goes_more did [] (record { asked = asked; answer = answer_of called } ∷ []) a (record { turn = turn; state = state; starts = s }) (record { turn = turn; state = state; starts = t }) law p
+    (goes_one did turn (Ran asked (answer_of called)) state state s t (none, new, refl) d)) h
+
+may_go : {S : Type 0} (did : List Event → S → S → Type 0) (turn : Turn) (state : State) (a : Scene S) (s t : S) (asked : Asked)
+    → ((es fs : List Event) (x y z : S) → did es x y → did fs y z → did (es ++ fs) x z)
+    → Goes did [] a (record { turn = turn; state = state; starts = s }) → state.pending ≡ [] → IfSome turn.place (IsNew state.last)
+    → (did [] s t ⊎ ((answer : Answer) × did (Ran asked answer ∷ []) s t)) → MayGo did asked a (record { turn = turn; state = state; starts = t })
+may_go did turn state a s t asked law p none new (inl d) =
+    inl (goes_on did [] a (record { turn = turn; state = state; starts = s }) (record { turn = turn; state = state; starts = t }) law p (goes_idle did turn state s t d))
+may_go did turn state a s t asked law p none new (inr d) =
+    inr (
+      d.0,
+      goes_more did [] (record { asked = asked; answer = d.0 } ∷ []) a (record { turn = turn; state = state; starts = s }) (record { turn = turn; state = state; starts = t }) law p
+          (goes_one did turn (Ran asked d.0) state state s t (none, new, refl) d.1),
+    )
+
+-- the same where memory was refused
+pub goes_refused : {S E : Type 0} (did : List Event → S → S → Type 0) (turn : Turn) (state : State) (a : Scene S) (s t : S) (asked : Asked) (came : Result Called E)
+    → ((es fs : List Event) (x y z : S) → did es x y → did fs y z → did (es ++ fs) x z)
+    → Goes did [] a (record { turn = turn; state = state; starts = s }) → state.pending ≡ [] → IfSome turn.place (IsNew state.last)
+    → OnErr came (did [] s t ⊎ ((answer : Answer) × did (Ran asked answer ∷ []) s t))
+    → OnErr came (MayGo did asked a (record { turn = turn; state = state; starts = t }))
+goes_refused did turn state a s t asked came law p none new h =
+    on_err_weaker came (λ (d : did [] s t ⊎ ((answer : Answer) × did (Ran asked answer ∷ []) s t)). may_go did turn state a s t asked law p none new d) h
+
+-- what is at an index of a list is in the list
+contains_at : {X : Type 0} (xs : List X) (i : ℕ) (x : X) → slice_get xs i ≡ Some x → Contains xs x
+contains_at xs i x there = subst (λ y. Contains xs y) (get_or_from_slice_get xs i x x there) (Contains-get_or xs i x (slice_get_within xs i x there))
+
+-- a command is seen to have ended
+pub goes_ended : {S : Type 0} (did : List Event → S → S → Type 0) (turn : Turn) (last : Option ℕ) (children : List Child) (index : ℕ) (child : Child) (s t : S) → slice_get children index ≡ Some child → did (Ended child.place ∷ []) s t
+    → Goes did [] (record { turn = turn; state = record { last = last; pending = map pending_of children }; starts = s })
+    (record { turn = turn; state = record { last = last; pending = map pending_of (slice_set children index (record child { over = true })) }; starts = t })
+goes_ended did turn last children index child s t there h =
+    goes_one did turn (Ended child.place) (record { last = last; pending = map pending_of children }) (record { last = last; pending = map pending_of (slice_set children index (record child { over = true })) }) s t
+    (record {
+      index = index;
+      which = pending_of child;
+      there = slice_get-map pending_of children index ∙ ap (option_map pending_of) there;
+      named = refl;
+      after = ap (λ (p : List Pending). record { last = last; pending = p }) (map-set pending_of children index (record child { over = true }));
+    }) h
+
+-- an offered command starts in a free lane
+pub goes_started : {S : Type 0} (did : List Event → S → S → Type 0) (turn : Option ℕ) (offers : List Job) (width : ℕ) (last : Option ℕ) (children : List Child) (index : ℕ) (job : Job) (child : Child) (s t : S)
+    → slice_get offers index ≡ Some job
+    → pending_of child ≡ record { place = job.place; lane = child.lane; asked = (offer_of job).asked; over = false }
+    → IsNew last child.place → child.lane < width → length children < 2 * width → is_free child.lane (map pending_of children) ≡ true
+    → did (Started child.place child.lane (offer_of job).asked ∷ []) s t
+    → Goes did [] (record { turn = record { place = turn; offers = map offer_of offers; width = width }; state = record { last = last; pending = map pending_of children }; starts = s })
+    (record { turn = record { place = turn; offers = map offer_of offers; width = width }; state = record { last = Some child.place; pending = map pending_of (children ++ child ∷ []) }; starts = t })
+goes_started did turn offers width last children index job child s t there same new within ahead alone h =
+    goes_one did (record { place = turn; offers = map offer_of offers; width = width }) (Started child.place child.lane (offer_of job).asked)
+    (record { last = last; pending = map pending_of children }) (record { last = Some child.place; pending = map pending_of (children ++ child ∷ []) }) s t
+    (record {
+      offered = subst (λ (n : ℕ). Contains (map offer_of offers) (record { place = n; asked = (offer_of job).asked })) (sym (ap (λ (p : Pending). p.place) same))
+          (contains_at (map offer_of offers) index (offer_of job) (slice_get-map offer_of offers index ∙ ap (option_map offer_of) there));
+      behind = new;
+      within = within;
+      alone = alone;
+      ahead = subst (λ (n : ℕ). n < 2 * width) (sym (length-map children pending_of)) ahead;
+      after = ap (λ (p : List Pending). record { last = Some child.place; pending = p }) (map-append pending_of children (child ∷ []) ∙ ap (λ (p : Pending). map pending_of children ++ p ∷ []) (same ∙ ap (λ (n : ℕ). record { place = n; lane = child.lane; asked = (offer_of job).asked; over = false }) (sym (ap (λ (p : Pending). p.place) same))));
+    }) h
+
+-- what came of a call, whether it was answered or not
+pub goes_told : {S E : Type 0} (did : List Event → S → S → Type 0) (a b : Scene S) (asked : Asked) (came : Result Called E)
+    → IfOk came (λ (called : Called). Goes did (record { asked = asked; answer = answer_of called } ∷ []) a b) → OnErr came (MayGo did asked a b) → (told : List Call) × Goes did told a b
+goes_told did a b asked (Ok called) told refused = (record { asked = asked; answer = answer_of called } ∷ [], told)
+goes_told did a b asked (Err e) told (inl h) = ([], h)
+goes_told did a b asked (Err e) told (inr h) = (record { asked = asked; answer = h.0 } ∷ [], h.1)
+
+-- the same where without an answer no call came
+pub goes_said : {S E : Type 0} (did : List Event → S → S → Type 0) (a b : Scene S) (asked : Asked) (came : Result Called E)
+    → IfOk came (λ (called : Called). Goes did (record { asked = asked; answer = answer_of called } ∷ []) a b) → OnErr came (Goes did [] a b) → (told : List Call) × Goes did told a b
+goes_said did a b asked (Ok called) told refused = (record { asked = asked; answer = answer_of called } ∷ [], told)
+goes_said did a b asked (Err e) told h = ([], h)

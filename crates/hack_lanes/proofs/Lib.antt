@@ -1,0 +1,2 @@
+pub mod GoLemmas
+pub mod NameLemmas

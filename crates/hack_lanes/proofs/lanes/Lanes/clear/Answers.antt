@@ -1,0 +1,10 @@
+use Rattle.std.proofs.Common.{◌≡◌, [], ◌∷◌, refl, ◌∙◌, inl, inr}
+use Rattle.hack_lanes.specs.Views.{scene_of}
+use Rattle.hack_lanes.proofs.GoLemmas.{goes_on}
+use Rattle.hack_lanes.proofs.lanes.Lanes.clear.Goals as goal
+
+pub loop-alloc-preserved : goal.loop-alloc-preserved
+loop-alloc-preserved g c = record {
+  goes = goes_on g.S.Starts.did [] (scene_of c.args.self.now) (scene_of c.loop-alloc.self) (scene_of c.abandon_first.new.self) g.S.Starts.did_more c.loop-alloc.invariant.goes c.abandon_first.ensures.goes;
+  loan = c.abandon_first.ensures.starts ∙ c.loop-alloc.invariant.loan;
+}

@@ -1,0 +1,21 @@
+use Rattle.std.proofs.Common.{◌≡◌, ℕ, ◌<◌, List, [], ◌∷◌, Some, length, slice_get, slice_index_or, subst, refl, sym, ap, ◌∙◌}
+use Rattle.std.proofs.lemmas.Option.{get_or_from_slice_get, slice_get_read}
+use Rattle.hack_starts.specs.Events.{Ended}
+use Rattle.hack_lanes.specs.Views.{turn_of}
+use Rattle.hack_lanes.specs.declared.child.Child.{Child}
+use Rattle.hack_lanes.proofs.GoLemmas.{goes_ended}
+use Rattle.hack_lanes.proofs.lanes.Lanes.look_at.Goals as goal
+
+pub returns-then-has_ended-clause-goes : goal.returns-then-has_ended-clause-goes
+returns-then-has_ended-clause-goes g c =
+    let within : c.args.index < length c.args.self.now.children.items =
+    subst (λ (xs : List Child). c.args.index < length xs) c.deref.ensures.value c.in-Some.ensures.lookup.3.0 in
+    let read : c.in-Some.child.now ≡ slice_index_or c.args.self.now.children.items c.args.index c.in-Some.child.now =
+    subst (λ (xs : List Child). c.in-Some.child.now ≡ slice_index_or xs c.args.index c.in-Some.child.now) c.deref.ensures.value c.in-Some.ensures.lookup.1 in
+    let found : slice_get c.args.self.now.children.items c.args.index ≡ Some c.in-Some.child.now =
+    slice_get_read c.args.self.now.children.items (length c.args.self.now.children.items) c.args.index c.in-Some.child.now refl within read in
+    let same : c.index_mut.result.now ≡ c.in-Some.child.now =
+    c.index_mut.ensures.value ∙ get_or_from_slice_get c.args.self.now.children.items c.args.index c.in-Some.child.now c.index_mut.result.now found in
+    goes_ended g.S.Starts.did (turn_of c.args.self.now) c.args.self.now.last c.args.self.now.children.items c.args.index c.index_mut.result.now c.args.self.now.starts.now c.has_ended.new.self
+    (found ∙ sym (ap (λ (child : Child). Some child) same))
+    (subst (λ (n : ℕ). g.S.Starts.did (Ended n ∷ []) c.args.self.now.starts.now c.has_ended.new.self) (sym (ap (λ (child : Child). child.place) same)) c.if-has_ended.ensures)

@@ -1,0 +1,4 @@
+pub mod Lanes
+pub mod Views
+pub mod Loans
+pub mod JoinedScenes

@@ -1,0 +1,413 @@
+//! The lanes of a call: what was offered for the turn, and what was started of it.
+
+ghost use Rattle.std.specs.Prelude.{◌≡◌, ◌<◌, ◌≤◌, ◌+◌, ◌*◌, ◌∷◌, [], IfOk, IfSome, IsSomeAnd, MatchBool};
+ghost use Rattle.std.specs.Prelude.{None, OnErr, Some, false, length, map};
+ghost use Rattle.std.specs.Prelude.{slice_get, true};
+ghost use Rattle.hack_process.specs.Calls.{WroteNothing, answer_of, asked_call};
+ghost use Rattle.hack_lanes.specs.Lanes.{Goes, IsNew, MayGo, is_free};
+ghost use Rattle.hack_lanes.specs.Views.{offer_of, pending_of, scene_of, state_of, turn_of};
+ghost use Rattle.hack_lanes.specs.Loans.{IsHandedOver};
+
+use crate::child::Child;
+use crate::job::Job;
+use hack_process::process::{Called, Caller};
+use hack_starts::starts::Starts;
+use std::alloc::{AllocError, Global};
+
+/// Runs commands through who starts them, some of them ahead of their turn. Without a turn each is
+/// run to its end, and nothing else runs meanwhile.
+#[derive(Drop)]
+pub struct Lanes<'a, S: Starts> {
+    pub(crate) starts: &'a mut S,
+    pub(crate) width: usize,
+    pub(crate) folder: &'a str,
+    /// The place whose turn it is.
+    pub(crate) turn: Option<usize>,
+    /// What may be started at this turn, in the order of their places.
+    pub(crate) offers: Vec<Job>,
+    /// The last place whose command was started.
+    pub(crate) last: Option<usize>,
+    /// What was started and isn't told yet, in order.
+    pub(crate) children: Vec<Child>,
+}
+
+impl<'a, S: Starts> Lanes<'a, S> {
+    /// Lanes in which so many commands run at once, and in which none was started. Lanes other than
+    /// 0 build into folders of their own below `folder`.
+    pub fn new(alloc: Global, starts: &'a mut S, width: usize, folder: &'a str) -> Lanes<'a, S>
+        ensures starts { IsHandedOver starts.entry result.starts }
+        ensures turn { turn_of result ≡ record { place = None; offers = []; width = width } }
+        ensures state { state_of result ≡ record { last = None; pending = [] } }
+    {
+        Lanes {
+            starts,
+            width,
+            folder,
+            turn: None,
+            offers: Vec::new(alloc),
+            last: None,
+            children: Vec::new(alloc),
+        }
+    }
+
+    /// How many commands run at once.
+    pub fn width(&self) -> usize
+        ensures { result ≡ (turn_of self.now).width }
+    {
+        self.width
+    }
+
+    /// How many more commands may be started before the first one is told.
+    pub fn room(&self) -> usize
+        ensures { 0 < result → length self.now.children.items + result ≤ 2 * self.now.width }
+    {
+        self.width
+            .saturating_mul(2)
+            .saturating_sub(self.children.len())
+    }
+
+    /// Whether no command of this place was started.
+    pub fn is_new(&self, place: usize) -> bool
+        ensures { MatchBool result (IsNew self.now.last place) (Unit {0}) }
+    {
+        match self.last {
+            Some(last) => last < place,
+            None => true,
+        }
+    }
+
+    /// Gives a place its turn, at which these commands may be started.
+    pub fn give_turn(&mut self, place: usize, offers: Vec<Job>)
+        ensures turn { turn_of self.new ≡ record {
+          place = Some place;
+          offers = map offer_of offers.items;
+          width = (turn_of self.old).width;
+        } }
+        ensures state { state_of self.new ≡ state_of self.old }
+        ensures starts { IsHandedOver self.old.starts self.new.starts }
+    {
+        self.turn = Some(place);
+        self.offers = offers;
+    }
+
+    /// Ends the turn.
+    pub fn take_turn(&mut self)
+        ensures turn { turn_of self.new ≡ record {
+          place = None;
+          offers = [];
+          width = (turn_of self.old).width;
+        } }
+        ensures state { state_of self.new ≡ state_of self.old }
+        ensures starts { IsHandedOver self.old.starts self.new.starts }
+    {
+        self.turn = None;
+        self.offers.clear();
+    }
+
+    /// Ends each command that was started and isn't told, and drops its outcome.
+    pub fn clear(&mut self, alloc: Global)
+        ensures goes { Goes S.did [] (scene_of self.old) (scene_of self.new) }
+        ensures none { (state_of self.new).pending ≡ [] }
+        ensures starts { self.new.starts.ghost_name ≡ self.old.starts.ghost_name }
+    {
+        while !self.children.is_empty() {
+            self.abandon_first(alloc);
+        }
+    }
+
+    /// Ends the first of the started commands.
+    fn abandon_first(&mut self, alloc: Global)
+        requires { 0 < length self.old.children.items }
+        ensures goes { Goes S.did [] (scene_of self.old) (scene_of self.new) }
+        ensures fewer { length self.new.children.items < length self.old.children.items }
+        ensures starts { self.new.starts.ghost_name ≡ self.old.starts.ghost_name }
+    {
+        let child = self.children.remove(0);
+        self.starts.abandon(alloc, child.place);
+    }
+
+    /// Starts what was offered, in order, as long as a lane is free.
+    fn fill(&mut self, alloc: Global)
+        ensures goes { Goes S.did [] (scene_of self.old) (scene_of self.new) }
+        ensures starts { self.new.starts.ghost_name ≡ self.old.starts.ghost_name }
+    {
+        for index in 0..self.offers.len() {
+            if !self.start(alloc, index) {
+                return;
+            }
+        }
+    }
+
+    /// Starts one of the offered commands in a free lane, where it wasn't started before. False
+    /// where there is none, or where the command can't be started now.
+    fn start(&mut self, alloc: Global, index: usize) -> bool
+        ensures goes { Goes S.did [] (scene_of self.old) (scene_of self.new) }
+        ensures starts { self.new.starts.ghost_name ≡ self.old.starts.ghost_name }
+    {
+        let Some(job) = self.offers.get(index) else {
+            return false;
+        };
+        if !self.is_new(job.place) {
+            return true;
+        }
+        let Some(lane) = self.free_lane() else {
+            return false;
+        };
+        let Ok(child) = Child::new(alloc, lane, job) else {
+            return false;
+        };
+        self.start_in(alloc, index, child)
+    }
+
+    /// Starts one of the offered commands in a lane that no command runs in.
+    fn start_in(&mut self, alloc: Global, index: usize, child: Child) -> bool
+        requires offered { IsSomeAnd (slice_get self.old.offers.items index) (λ job.
+            pending_of child ≡ record {
+              place = job.place;
+              lane = child.lane;
+              asked = (offer_of job).asked;
+              over = false;
+            }) }
+        requires behind { IsNew self.old.last child.place }
+        requires within { child.lane < self.old.width }
+        requires ahead { length self.old.children.items < 2 * self.old.width }
+        requires alone { is_free child.lane (map pending_of self.old.children.items) ≡ true }
+        ensures goes { Goes S.did [] (scene_of self.old) (scene_of self.new) }
+        ensures starts { self.new.starts.ghost_name ≡ self.old.starts.ghost_name }
+    {
+        let (place, lane) = (child.place, child.lane);
+        let Some(job) = self.offers.get(index) else {
+            return false;
+        };
+        let Ok(()) = self.children.push(child) else {
+            return false;
+        };
+        let (program, words) = (job.program.as_str(), job.words.as_slice());
+        if self.starts.start(alloc, place, lane, self.folder, program, words) {
+            self.last = Some(place);
+            return true;
+        }
+        self.children.pop();
+        false
+    }
+
+    /// The first lane that no command runs in, where one more may be started.
+    fn free_lane(&self) -> Option<usize>
+        ensures within { IfSome result (λ lane. lane < self.now.width) }
+        ensures ahead { IfSome result (λ _. length self.now.children.items < 2 * self.now.width) }
+        ensures alone { IfSome result (λ lane.
+            is_free lane (map pending_of self.now.children.items) ≡ true) }
+    {
+        if self.room() == 0 {
+            return None;
+        }
+        for lane in 0..self.width {
+            if self.has_none(lane) {
+                return Some(lane);
+            }
+        }
+        None
+    }
+
+    /// Whether no command runs in a lane.
+    fn has_none(&self, lane: usize) -> bool
+        ensures { result ≡ is_free lane (map pending_of self.now.children.items) }
+    {
+        for child in &self.children {
+            if !child.leaves(lane) {
+                return false;
+            }
+        }
+        true
+    }
+
+    /// Looks which of the started commands have ended.
+    fn look(&mut self)
+        ensures goes { Goes S.did [] (scene_of self.old) (scene_of self.new) }
+        ensures starts { self.new.starts.ghost_name ≡ self.old.starts.ghost_name }
+    {
+        for index in 0..self.children.len() {
+            self.look_at(index);
+        }
+    }
+
+    fn look_at(&mut self, index: usize)
+        ensures goes { Goes S.did [] (scene_of self.old) (scene_of self.new) }
+        ensures starts { self.new.starts.ghost_name ≡ self.old.starts.ghost_name }
+    {
+        let Some(child) = self.children.get(index) else {
+            return;
+        };
+        if child.over {
+            return;
+        }
+        if self.starts.has_ended(child.place) {
+            self.children[index].over = true;
+        }
+    }
+
+    /// Whether the first of the started commands is that of a place, with this program and these
+    /// arguments.
+    fn is_first(&self, place: usize, program: &str, words: &[String]) -> bool
+        ensures { MatchBool result (IsSomeAnd (slice_get self.now.children.items 0) (λ child.
+            (child.place ≡ place)
+            × ((pending_of child).asked ≡ asked_call program.now words.now false))) (Unit {0}) }
+    {
+        match self.children.first() {
+            Some(child) => child.is_of(place, program, words),
+            None => false,
+        }
+    }
+
+    /// Starts what was offered, and waits for the turn's own command where it is the first of the
+    /// started ones.
+    fn await_turn(&mut self, alloc: Global, place: usize, program: &str, words: &[String])
+        ensures goes { Goes S.did [] (scene_of self.old) (scene_of self.new) }
+        ensures starts { self.new.starts.ghost_name ≡ self.old.starts.ghost_name }
+    {
+        self.fill(alloc);
+        if self.is_first(place, program, words) {
+            self.await_first(alloc);
+        }
+    }
+
+    /// Waits until the first of the started commands has ended, and starts others meanwhile.
+    fn await_first(&mut self, alloc: Global)
+        ensures goes { Goes S.did [] (scene_of self.old) (scene_of self.new) }
+        ensures starts { self.new.starts.ghost_name ≡ self.old.starts.ghost_name }
+    {
+        for _ in 0..u64::MAX {
+            self.look();
+            if self.is_first_over() {
+                return;
+            }
+            self.fill(alloc);
+            let running = self.count_running();
+            let ended = self.children.len().saturating_sub(running);
+            self.starts.pause(alloc, ended, running);
+        }
+    }
+
+    /// Whether the first of the started commands has been seen to have ended, or there is none.
+    fn is_first_over(&self) -> bool {
+        match self.children.first() {
+            Some(child) => child.over,
+            None => true,
+        }
+    }
+
+    fn count_running(&self) -> usize {
+        self.children.iter().filter(|child| !child.over).count()
+    }
+
+    /// Tells how the first of the started commands ended.
+    fn tell_first(
+        &mut self,
+        alloc: Global,
+        place: usize,
+        program: &str,
+        words: &[String],
+    ) -> Result<Called, AllocError>
+        requires turn { self.old.turn ≡ Some place }
+        requires first { IsSomeAnd (slice_get self.old.children.items 0) (λ child.
+            (child.place ≡ place)
+            × ((pending_of child).asked ≡ asked_call program.now words.now false)) }
+        ensures told { IfOk result (λ called. Goes S.did (record {
+          asked = asked_call program.now words.now false;
+          answer = answer_of called;
+        } ∷ []) (scene_of self.old) (scene_of self.new)) }
+        ensures refused { OnErr result (Goes S.did [] (scene_of self.old) (scene_of self.new)) }
+        ensures silent { IfOk result (λ called. WroteNothing (answer_of called)) }
+        ensures starts { self.new.starts.ghost_name ≡ self.old.starts.ghost_name }
+    {
+        self.children.remove(0);
+        self.starts.finish(alloc, place, program, words)
+    }
+
+    /// Runs a command to its end, while nothing else runs.
+    fn run_alone(
+        &mut self,
+        alloc: Global,
+        program: &str,
+        words: &[String],
+        capture: bool,
+    ) -> Result<Called, AllocError>
+        ensures told { IfOk result (λ called. Goes S.did (record {
+          asked = asked_call program.now words.now capture;
+          answer = answer_of called;
+        } ∷ []) (scene_of self.old) (scene_of self.new)) }
+        ensures refused { OnErr result (MayGo S.did (asked_call program.now words.now capture)
+            (scene_of self.old) (scene_of self.new)) }
+        ensures silent { capture ≡ false →
+            IfOk result (λ called. WroteNothing (answer_of called)) }
+        ensures starts { self.new.starts.ghost_name ≡ self.old.starts.ghost_name }
+    {
+        self.clear(alloc);
+        if !self.is_turn_new() {
+            return Err(AllocError);
+        }
+        self.starts.perform(alloc, program, words, capture)
+    }
+
+    /// The place whose turn it is, for a call without capture.
+    fn own_turn(&self, capture: bool) -> Option<usize>
+        ensures turn { IfSome result (λ place. self.now.turn ≡ Some place) }
+        ensures plain { IfSome result (λ _. capture ≡ false) }
+    {
+        if capture { None } else { self.turn }
+    }
+
+    /// Whether it is no place's turn, or the turn of one whose command wasn't started.
+    fn is_turn_new(&self) -> bool
+        ensures { MatchBool result (IfSome self.now.turn (IsNew self.now.last)) (Unit {0}) }
+    {
+        match self.turn {
+            Some(place) => self.is_new(place),
+            None => true,
+        }
+    }
+}
+
+/// Each call is told what came of its command alone. At a turn the turn's own command is started,
+/// with others behind it, and waited for; where it can't be started, and for any other call, all
+/// that was started is ended, and the command is run by itself.
+impl<S: Starts> Caller for Lanes<'_, S> {
+    ghost use Rattle.std.proofs.Common.{◌∙◌, refl};
+    ghost use Rattle.hack_lanes.specs.JoinedScenes.{course_after, goes_none};
+    ghost use Rattle.hack_process.specs.Calls.{Call};
+    ghost use Rattle.std.specs.Prelude.{List};
+
+    ghost tells = { S.tells };
+
+    ghost calls = { λ lanes. S.calls lanes.starts.now };
+
+    ghost course = { λ a b. (b.starts.ghost_name ≡ a.starts.ghost_name)
+        × ((told : List Call) × Goes S.did told (scene_of a) (scene_of b)) };
+
+    ghost course_none = { λ a. (
+      refl,
+      ([], goes_none S.did (scene_of a) (S.did_none a.starts.now)),
+    ) };
+
+    ghost course_more = { λ a b c p q. (
+      q.0 ∙ p.0,
+      course_after S.did (scene_of a) (scene_of b) (scene_of c) S.did_more p.1 q.1,
+    ) };
+
+    fn call(
+        &mut self,
+        alloc: Global,
+        program: &str,
+        words: &[String],
+        capture: bool,
+    ) -> Result<Called, AllocError> {
+        let Some(place) = self.own_turn(capture) else {
+            return self.run_alone(alloc, program, words, capture);
+        };
+        self.await_turn(alloc, place, program, words);
+        if self.is_first(place, program, words) {
+            return self.tell_first(alloc, place, program, words);
+        }
+        self.run_alone(alloc, program, words, capture)
+    }
+}
