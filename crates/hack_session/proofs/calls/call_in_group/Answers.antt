@@ -14,4 +14,4 @@ pub returns-clause-does : goal.returns-clause-does
 returns-clause-does g c =
     in_group g.C.Caller.tells c.call-came.result (manner_on c.args.screen.now) c.args.text.now c.args.dir.now (command_of c.args.command.now) (g.C.Caller.calls c.args.caller.now) (g.C.Caller.calls c.call-came.new.caller)
     (streams_of g.O.Sink g.E.Sink c.args.screen.now) (streams_of g.O.Sink g.E.Sink c.open-guard.new.self) (streams_of g.O.Sink g.E.Sink c.close.new.self) c.open-guard.new.self.log_group
-    (ap (λ (m : Manner). m.group) c.open-guard.ensures.screen.manner) c.open-guard.ensures.says c.call-came.ensures c.close.ensures.says
+    (ap (λ (m : Manner). m.group) c.open-guard.ensures.screen.manner) c.open-guard.ensures.says c.call-came.ensures.comes c.close.ensures.says

@@ -12,4 +12,4 @@ returns-in_err-tell_cleaning-clause-does g c =
     refused_task g.C.Caller.tells c.from_residual.result (cleaning_task (manner_on c.args.screen.now) c.args.dir.now (command_of c.args.command.now)) (scene_of g.C.Caller g.O.Sink g.E.Sink c.args.caller.now c.args.screen.now) (scene_of g.C.Caller g.O.Sink g.E.Sink c.args.caller.now c.tell_cleaning.new.self) (p.1 ∙ ap Err p.2) (ap (scene_of g.C.Caller g.O.Sink g.E.Sink c.args.caller.now) c.in_err-tell_cleaning.ensures.err)
 
 pub returns-clause-does : goal.returns-clause-does
-returns-clause-does g c = inr (c.in_ok-tell_cleaning.ensures.ok, c.call.ensures)
+returns-clause-does g c = inr (c.in_ok-tell_cleaning.ensures.ok, c.call.ensures.comes)

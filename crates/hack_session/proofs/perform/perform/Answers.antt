@@ -10,4 +10,4 @@ pub returns-in-Prepare-Lockfile-clause-does : goal.returns-in-Prepare-Lockfile-c
 returns-in-Prepare-Lockfile-clause-does g c =
     performed_as g.C.Caller.tells c.generate_lockfile.result (manner_on c.args.screen.now) c.args.plan.now c.args.step (Prepare (Lockfile c.in-Prepare-Lockfile.version)) (scene_of g.C.Caller g.O.Sink g.E.Sink c.args.caller.now c.args.screen.now) (scene_of g.C.Caller g.O.Sink g.E.Sink c.generate_lockfile.new.caller c.args.screen.now)
     (let h = rw c.in-Prepare-Lockfile.is at c.in-Prepare-Lockfile.field-0-is in c.in-Prepare-Lockfile.is ∙ ap Prepare h)
-    (rw c.number-in-Prepare-Lockfile.ensures at (c.generate_lockfile.ensures (streams_of g.O.Sink g.E.Sink c.args.screen.now)))
+    (rw c.number-in-Prepare-Lockfile.ensures at (c.generate_lockfile.ensures.does (streams_of g.O.Sink g.E.Sink c.args.screen.now)))

@@ -8,7 +8,7 @@ use Rattle.hack_session.proofs.rustup.add_toolchain.Goals as goal
 
 pub returns-then-not-print_output-clause-does : goal.returns-then-not-print_output-clause-does
 returns-then-not-print_output-clause-does g c =
-    added_quiet g.C.Caller.tells c.call.result c.args.print_output (manner_on c.args.screen.now) c.args.dir.now (command_of c.args.add.now) (g.C.Caller.calls c.args.caller.now) (g.C.Caller.calls c.call.new.caller) (streams_of g.O.Sink g.E.Sink c.args.screen.now) c.if-not-print_output.true c.call.ensures
+    added_quiet g.C.Caller.tells c.call.result c.args.print_output (manner_on c.args.screen.now) c.args.dir.now (command_of c.args.add.now) (g.C.Caller.calls c.args.caller.now) (g.C.Caller.calls c.call.new.caller) (streams_of g.O.Sink g.E.Sink c.args.screen.now) c.if-not-print_output.true c.call.ensures.comes
 
 pub returns-in_err-text-clause-does : goal.returns-in_err-text-clause-does
 returns-in_err-text-clause-does g c =

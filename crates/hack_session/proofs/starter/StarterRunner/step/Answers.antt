@@ -18,6 +18,7 @@ returns-in-Ok g c = (
   refl,
   refl,
   refl,
+  c.in-Ok.ensures.course,
   one_step g.C.Caller.tells c.args.self.now.keep_going (manner_of c.args.self.now.log_group c.args.self.now.term.now) c.args.plan.now (record { step = c.args.step; outcome = Passed }) (Ok tt) (scene_of g.C.Caller g.O.Sink g.E.Sink c.perform.new.caller c.perform.new.screen)
       (state (g.C.Caller.calls c.args.self.now.caller.now) (streams g.O.Sink.contents g.O.Sink.failed g.E.Sink.contents g.E.Sink.failed c.args.self.now.out.now c.args.self.now.err.now) c.args.self.now.fault.now c.args.self.now.term.now.error c.args.self.now.refused)
       (state (g.C.Caller.calls c.perform.new.caller) (streams g.O.Sink.contents g.O.Sink.failed g.E.Sink.contents g.E.Sink.failed c.perform.new.screen.out.now c.perform.new.screen.err.now) c.args.self.now.fault.now c.args.self.now.term.now.error c.args.self.now.refused)
@@ -34,6 +35,7 @@ returns-then-is_memory g c = (
   refl,
   refl,
   error_noted c.args.self.now.term.now c.error.new.self c.error.ensures.noted,
+  c.in-Err.ensures.course,
   one_step g.C.Caller.tells c.args.self.now.keep_going (manner_of c.args.self.now.log_group c.args.self.now.term.now) c.args.plan.now (record { step = c.args.step; outcome = Failed }) (Err c.in-Err.fault) (scene_of g.C.Caller g.O.Sink g.E.Sink c.perform.new.caller c.perform.new.screen)
       (state (g.C.Caller.calls c.args.self.now.caller.now) (streams g.O.Sink.contents g.O.Sink.failed g.E.Sink.contents g.E.Sink.failed c.args.self.now.out.now c.args.self.now.err.now) c.args.self.now.fault.now c.args.self.now.term.now.error c.args.self.now.refused)
       (state (g.C.Caller.calls c.perform.new.caller) (streams g.O.Sink.contents g.O.Sink.failed g.E.Sink.contents g.E.Sink.failed c.perform.new.screen.out.now c.error.new.out) c.args.self.now.fault.now c.error.new.self.error c.saturating_add-self.result)
@@ -59,6 +61,7 @@ returns-then-is_run g c = (
   refl,
   refl,
   error_noted c.args.self.now.term.now c.tell_fault.new.term c.tell_fault.ensures.noted,
+  c.in-Err.ensures.course,
   one_step g.C.Caller.tells c.args.self.now.keep_going (manner_of c.args.self.now.log_group c.args.self.now.term.now) c.args.plan.now (record { step = c.args.step; outcome = Failed }) (Err c.in-Err.fault) (scene_of g.C.Caller g.O.Sink g.E.Sink c.perform.new.caller c.perform.new.screen)
       (state (g.C.Caller.calls c.args.self.now.caller.now) (streams g.O.Sink.contents g.O.Sink.failed g.E.Sink.contents g.E.Sink.failed c.args.self.now.out.now c.args.self.now.err.now) c.args.self.now.fault.now c.args.self.now.term.now.error c.args.self.now.refused)
       (state (g.C.Caller.calls c.perform.new.caller) (streams g.O.Sink.contents g.O.Sink.failed g.E.Sink.contents g.E.Sink.failed c.perform.new.screen.out.now c.tell_fault.new.err) c.args.self.now.fault.now c.tell_fault.new.term.error c.args.self.now.refused)
@@ -84,6 +87,7 @@ returns-else-self g c = (
   refl,
   refl,
   refl,
+  c.in-Err.ensures.course,
   one_step g.C.Caller.tells c.args.self.now.keep_going (manner_of c.args.self.now.log_group c.args.self.now.term.now) c.args.plan.now (record { step = c.args.step; outcome = Failed }) (Err c.in-Err.fault) (scene_of g.C.Caller g.O.Sink g.E.Sink c.perform.new.caller c.perform.new.screen)
       (state (g.C.Caller.calls c.args.self.now.caller.now) (streams g.O.Sink.contents g.O.Sink.failed g.E.Sink.contents g.E.Sink.failed c.args.self.now.out.now c.args.self.now.err.now) c.args.self.now.fault.now c.args.self.now.term.now.error c.args.self.now.refused)
       (state (g.C.Caller.calls c.perform.new.caller) (streams g.O.Sink.contents g.O.Sink.failed g.E.Sink.contents g.E.Sink.failed c.perform.new.screen.out.now c.perform.new.screen.err.now) (Some c.in-Err.fault) c.args.self.now.term.now.error c.args.self.now.refused)
