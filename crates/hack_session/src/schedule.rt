@@ -92,8 +92,8 @@ fn mark(piece: Option<Partition>, place: usize, total: usize) -> Step
     }
 }
 
-/// Whether the chosen piece has the place, or none is chosen.
-fn is_chosen(piece: Option<Partition>, place: usize, total: usize) -> bool
+/// Whether the chosen piece of a plan of so many places has the place, or none is chosen.
+pub fn is_chosen(piece: Option<Partition>, place: usize, total: usize) -> bool
     requires { place < total }
     ensures { result ≡ in_piece piece total place }
 {

@@ -9,6 +9,7 @@ pub use crate::lines::{LineFault, Lines};
 pub use crate::lister::Lister;
 pub use crate::report::KeepGoing;
 pub use crate::runner::{Runner, drive, drive_plan};
+pub use crate::schedule::is_chosen;
 use crate::schedule::{Cursor, count_steps};
 pub use crate::screen::{Screen, Status};
 pub use crate::starter::Starter;
