@@ -66,8 +66,15 @@ impl<'a, S: Starts> Lanes<'a, S> {
             .saturating_sub(self.children.len())
     }
 
+    /// The last place whose command was started.
+    pub fn last(&self) -> Option<usize>
+        ensures { result ≡ (state_of self.now).last }
+    {
+        self.last
+    }
+
     /// Whether no command of this place was started.
-    pub fn is_new(&self, place: usize) -> bool
+    fn is_new(&self, place: usize) -> bool
         ensures { MatchBool result (IsNew self.now.last place) (Unit {0}) }
     {
         match self.last {
@@ -183,7 +190,10 @@ impl<'a, S: Starts> Lanes<'a, S> {
             return false;
         };
         let (program, words) = (job.program.as_str(), job.words.as_slice());
-        if self.starts.start(alloc, place, lane, self.folder, program, words) {
+        if self
+            .starts
+            .start(alloc, place, lane, self.folder, program, words)
+        {
             self.last = Some(place);
             return true;
         }

@@ -1,0 +1,119 @@
+//! What may be started at the turn of a run.
+
+ghost use Rattle.std.specs.Prelude.{◌≡◌, ◌≤◌, ◌<◌, ◌+◌, All, IfOk, Some, length, map, option_map};
+ghost use Rattle.std.specs.Prelude.{slice_get, true};
+ghost use Rattle.hack_lanes.specs.Views.{offer_of};
+ghost use Rattle.hack_plan.specs.Commands.{command_of_entry};
+ghost use Rattle.hack_process.specs.Commands.{asked_of};
+ghost use Rattle.hack_session.specs.Schedules.{in_piece};
+ghost use Rattle.hack_side.specs.Turns.{AreOffers, IsWithin, MayStart};
+
+use hack_base::copies::copies;
+use hack_lanes::job::Job;
+use hack_plan::partition::Partition;
+use hack_plan::plan::Plan;
+use hack_process::process::{End, FakeCaller};
+use hack_session::session::is_chosen;
+use std::alloc::{AllocError, Global};
+
+/// Which places are offered at a turn.
+#[derive(Clone, Copy)]
+pub(crate) struct Outlook {
+    pub(crate) piece: Option<Partition>,
+    /// The place whose turn it is.
+    pub(crate) place: usize,
+    /// The last place whose command was started.
+    pub(crate) last: Option<usize>,
+    /// How many commands are offered at most.
+    pub(crate) room: usize,
+}
+
+impl Outlook {
+    /// The commands of the place and of the chosen ones behind it, of the same version, that
+    /// weren't started yet. Where memory is refused, there are fewer.
+    pub(crate) fn offers(self, alloc: Global, plan: &Plan) -> Vec<Job>
+        ensures { AreOffers self.piece plan.now self.place (map offer_of result.items) }
+    {
+        let mut offers = Vec::new(alloc);
+        let end = self.end(plan);
+        for place in self.place..end {
+            if offers.len() >= self.room || !self.push(alloc, plan, place, &mut offers) {
+                return offers;
+            }
+        }
+        offers
+    }
+
+    /// The end of the places that may be offered: they are of the version of the turn's own place,
+    /// and not farther from it than the pieces of a plan make necessary.
+    fn end(self, plan: &Plan) -> usize {
+        let pieces = match self.piece {
+            Some(piece) => piece.count,
+            None => 1,
+        };
+        let reach = self.room.saturating_mul(pieces);
+        self.place.saturating_add(reach).min(plan.len())
+    }
+
+    /// Offers the command of a place, where it may be started. False where nothing more is to be
+    /// offered.
+    fn push(self, alloc: Global, plan: &Plan, place: usize, offers: &mut Vec<Job>) -> bool
+        requires behind { self.place ≤ place }
+        requires offers { AreOffers self.piece plan.now self.place (map offer_of offers.old.items) }
+        ensures { AreOffers self.piece plan.now self.place (map offer_of offers.new.items) }
+    {
+        if place >= plan.len() || !is_within(plan, self.place, place) {
+            return false;
+        }
+        if !is_chosen(self.piece, place, plan.len()) || !self.is_new(place) {
+            return true;
+        }
+        match job(alloc, plan, place) {
+            Ok(job) => offers.push(job).is_ok(),
+            Err(_) => false,
+        }
+    }
+
+    fn is_new(self, place: usize) -> bool {
+        match self.last {
+            Some(last) => last < place,
+            None => true,
+        }
+    }
+}
+
+/// Whether both places are of one version.
+fn is_within(plan: &Plan, place: usize, other: usize) -> bool
+    ensures { result ≡ true → IsWithin plan.now place other }
+{
+    for version in plan.versions() {
+        let has = |p: usize| version.first <= p && p < version.end;
+        if has(place) && has(other) {
+            return true;
+        }
+    }
+    false
+}
+
+/// The command of a place, taken down by a caller that runs none.
+fn job(alloc: Global, plan: &Plan, place: usize) -> Result<Job, AllocError>
+    requires { place < length plan.now.entries }
+    ensures place { IfOk result (λ job. job.place ≡ place) }
+    ensures asked { IfOk result (λ job.
+        option_map (λ entry. asked_of false (command_of_entry plan.now entry))
+        (slice_get plan.now.entries place) ≡ Some (offer_of job).asked) }
+{
+    let run = plan.run(alloc, place)?;
+    let mut scribe = FakeCaller::new(alloc, End::Status(0));
+    let Ok(()) = run.command.run(alloc, &mut scribe, plan.dir()) else {
+        return Err(AllocError);
+    };
+    let Some(made) = scribe.made().first() else {
+        return Err(AllocError);
+    };
+    Ok(Job {
+        place,
+        program: String::from_str(alloc, made.program.as_str())?,
+        words: copies(alloc, &made.words)?,
+    })
+}
