@@ -11,7 +11,7 @@ ghost use Rattle.hack_lanes.specs.Loans.{IsHandedOver};
 use crate::child::Child;
 use crate::job::Job;
 use hack_process::process::{Called, Caller};
-use hack_starts::starts::Starts;
+use hack_starts::starts::{Lane, Starts};
 use std::alloc::{AllocError, Global};
 
 /// Runs commands through who starts them, some of them ahead of their turn. Without a turn each is
@@ -182,7 +182,12 @@ impl<'a, S: Starts> Lanes<'a, S> {
         ensures goes { Goes S.did [] (scene_of self.old) (scene_of self.new) }
         ensures starts { self.new.starts.ghost_name ≡ self.old.starts.ghost_name }
     {
-        let (place, lane) = (child.place, child.lane);
+        let place = child.place;
+        let lane = Lane {
+            number: child.lane,
+            count: self.width,
+            folder: self.folder,
+        };
         let Some(job) = self.offers.get(index) else {
             return false;
         };
@@ -190,10 +195,7 @@ impl<'a, S: Starts> Lanes<'a, S> {
             return false;
         };
         let (program, words) = (job.program.as_str(), job.words.as_slice());
-        if self
-            .starts
-            .start(alloc, place, lane, self.folder, program, words)
-        {
+        if self.starts.start(alloc, place, lane, program, words) {
             self.last = Some(place);
             return true;
         }

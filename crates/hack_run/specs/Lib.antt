@@ -8,6 +8,7 @@ pub mod Loading
 pub mod Warnings
 pub mod Refusals
 pub mod Worlds
+pub mod Lanes
 pub mod Readings
 pub mod InternalExtensions
 pub mod Internal

@@ -5,6 +5,7 @@ use Rattle.hack_base.specs.Notes.{Note}
 use Rattle.hack_base.specs.declared.notice.NoticeKind.{NoticeKind}
 use Rattle.hack_base.specs.declared.notice.NoticeKind.TheVariants.{Warn}
 use Rattle.hack_term.specs.declared.term.Term.{Term}
+use Rattle.hack_session.specs.declared.starter.Starter.{Starter}
 
 -- notices of a kind count as warnings
 abbrev pub is_counted : NoticeKind → Bool
@@ -23,3 +24,20 @@ after_notes term notes = record term { warn = have_warning notes || term.warn }
 -- a warning is noted just where one was before, or some of the notes counts as one
 abbrev pub Warned : List Note → Bool → Bool → Type 0
 Warned notes warned warn = warn ≡ (have_warning notes || warned)
+
+-- a starter printed these notes: its terminal has noted them, and all else but its errors' stream is
+-- as it was
+abbrev pub TellsNotes : {C O E : Type 0} → List Note → Starter C O E → Starter C O E → Type 0
+TellsNotes notes a b =
+    (a.caller.ghost_name ≡ b.caller.ghost_name)
+    × (a.term.ghost_name ≡ b.term.ghost_name)
+    × (a.fault.ghost_name ≡ b.fault.ghost_name)
+    × (b.caller.now ≡ a.caller.now)
+    × (b.refused ≡ a.refused)
+    × (b.fault.now ≡ a.fault.now)
+    × (b.term.now ≡ after_notes a.term.now notes)
+    × (a.out.ghost_name ≡ b.out.ghost_name)
+    × (a.err.ghost_name ≡ b.err.ghost_name)
+    × (b.out.now ≡ a.out.now)
+    × (b.keep_going ≡ a.keep_going)
+    × (b.log_group ≡ a.log_group)

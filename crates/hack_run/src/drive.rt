@@ -7,7 +7,7 @@ ghost use Rattle.hack_plan.specs.View.{PlanView};
 ghost use Rattle.hack_base.specs.Notes.{Note, note_of};
 ghost use Rattle.hack_run.specs.Headline.{IsHandedOut};
 ghost use Rattle.hack_run.specs.Questions.{IsAnswered};
-ghost use Rattle.hack_run.specs.Warnings.{after_notes};
+ghost use Rattle.hack_run.specs.Warnings.{TellsNotes};
 
 use crate::tell::tell_all;
 use hack_base::notice::Notice;
@@ -17,6 +17,8 @@ use hack_planner::fault::PlanFault;
 use hack_planner::plan::plan_of;
 use hack_process::process::Caller;
 use hack_session::session::{Lines, Lister, Runner, Session, Starter, drive_plan};
+use hack_side::side::Side;
+use hack_starts::starts::Starts;
 use hack_versions::version::Version;
 use std::alloc::Global;
 
@@ -81,21 +83,18 @@ pub fn drive_context<R: Teller>(
 }
 
 impl<C: Caller, O: Sink, E: Sink> Teller for Starter<'_, C, O, E> {
-    ghost told = { λ notes a b. (a.caller.ghost_name ≡ b.caller.ghost_name)
-        × (a.term.ghost_name ≡ b.term.ghost_name)
-        × (a.fault.ghost_name ≡ b.fault.ghost_name)
-        × (b.caller.now ≡ a.caller.now)
-        × (b.refused ≡ a.refused)
-        × (b.fault.now ≡ a.fault.now)
-        × (b.term.now ≡ after_notes a.term.now notes)
-        × (a.out.ghost_name ≡ b.out.ghost_name)
-        × (a.err.ghost_name ≡ b.err.ghost_name)
-        × (b.out.now ≡ a.out.now)
-        × (b.keep_going ≡ a.keep_going)
-        × (b.log_group ≡ a.log_group) };
+    ghost told = { λ notes a b. TellsNotes notes a b };
 
     fn tell(&mut self, notices: &[Notice]) {
         tell_all(notices, self.term, self.err);
+    }
+}
+
+impl<S: Starts, O: Sink, E: Sink> Teller for Side<'_, '_, S, O, E> {
+    ghost told = { λ notes a b. (b.piece ≡ a.piece) × TellsNotes notes a.starter b.starter };
+
+    fn tell(&mut self, notices: &[Notice]) {
+        self.starter.tell(notices);
     }
 }
 

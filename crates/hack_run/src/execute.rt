@@ -1,8 +1,10 @@
 //! The runs of a plan, and the report of those that failed.
 
-ghost use Rattle.std.specs.Prelude.{◌≡◌, None, OnOk, false, true};
+ghost use Rattle.std.specs.Prelude.{◌≡◌, None, OnOk, false, string_bytes, true};
+ghost use Rattle.std.specs.Option.{unwrap_or};
 ghost use Rattle.hack_load.specs.ContextView.{context_view};
 ghost use Rattle.hack_run.specs.Internal.{MayPerformItsPlan, PerformsItsPlan};
+ghost use Rattle.hack_run.specs.Lanes.{MayRunInLanes};
 ghost use Rattle.hack_run.specs.Questions.{IsAnswered};
 ghost use Rattle.hack_run.specs.Worlds.{IsSameHost};
 
@@ -12,8 +14,11 @@ use crate::fault::RunFault;
 use crate::host::Host;
 use hack_load::context::Context;
 use hack_planner::fault::PlanFault;
-use hack_process::process::{Caller, ProcessFault};
+use hack_lanes::lanes::Lanes;
+use hack_process::process::ProcessFault;
 use hack_session::session::{Handed, History, Outcome, Session, Starter, Step};
+use hack_side::side::Side;
+use hack_starts::starts::Starts;
 use hack_term::term::{LogGroup, Term};
 use hack_versions::version::Version;
 use hack_words::cli::Args;
@@ -21,7 +26,7 @@ use std::alloc::{AllocError, Global};
 use std::io::Write;
 
 /// Performs the chosen piece of a context's plan, and reports the runs that failed.
-pub(crate) fn execute<C: Caller, O: Write, E: Write>(
+pub(crate) fn execute<C: Starts, O: Write, E: Write>(
     cx: &Context,
     stable: Result<Option<Version>, String>,
     host: &mut Host<'_, C, O, E>,
@@ -32,6 +37,10 @@ pub(crate) fn execute<C: Caller, O: Write, E: Write>(
         (context_view cx.now) stable host.old host.new) }
     ensures made { MayPerformItsPlan C.Caller O.Write false
         (context_view cx.now) stable host.old host.new }
+
+    // Commands were started, told and ended by the rules of lanes, and none that was started is left.
+    ensures lanes { MayRunInLanes C.did (context_view cx.now) stable
+        (string_bytes host.old.env.now.rustup) host.old.caller.now host.new.caller.now }
 {
     let mut fault = None;
     let session = match hand_to_starter(cx, stable, &mut fault, host) {
@@ -47,7 +56,7 @@ pub(crate) fn execute<C: Caller, O: Write, E: Write>(
 }
 
 /// Hands the plan to a starter. The error that stopped it goes to `fault`, unless it was reported.
-fn hand_to_starter<C: Caller, O: Write, E: Write>(
+fn hand_to_starter<C: Starts, O: Write, E: Write>(
     cx: &Context,
     stable: Result<Option<Version>, String>,
     fault: &mut Option<ProcessFault>,
@@ -59,20 +68,47 @@ fn hand_to_starter<C: Caller, O: Write, E: Write>(
         (context_view cx.now) stable host.old host.new) }
     ensures made { MayPerformItsPlan C.Caller O.Write false
         (context_view cx.now) stable host.old host.new }
+    ensures lanes { MayRunInLanes C.did (context_view cx.now) stable
+        (string_bytes host.old.env.now.rustup) host.old.caller.now host.new.caller.now }
 {
     let rustup = host.env.rustup.as_str();
     let (log_group, keep_going) = manner(cx.args());
+    let folder = target_folder(host.alloc, cx)?;
+    let mut lanes = Lanes::new(host.alloc, host.caller, width(cx.args()), folder.as_str());
     let mut starter = Starter::new(
         host.alloc,
-        host.caller,
+        &mut lanes,
         host.term,
         host.out,
         host.err,
         fault,
     );
     starter.set_manner(log_group, keep_going);
-    let session = drive_context(host.alloc, cx, rustup, stable, &mut starter)?;
+    let mut side = Side {
+        starter,
+        piece: cx.args().partition,
+    };
+    let session = drive_context(host.alloc, cx, rustup, stable, &mut side)?;
+    lanes.clear(host.alloc);
     Ok(session)
+}
+
+/// How many runs go side by side.
+fn width(args: &Args) -> usize
+    ensures { result ≡ unwrap_or args.now.parallel 1 }
+{
+    args.parallel.unwrap_or(1)
+}
+
+/// The folder that cargo builds into.
+fn target_folder(alloc: Global, cx: &Context) -> Result<String, AllocError> {
+    match &cx.metadata().target_directory {
+        Some(folder) => String::from_str(alloc, folder.as_str()),
+        None => {
+            let root = cx.workspace_root();
+            format!(in alloc; "{root}/target")
+        }
+    }
 }
 
 /// How a starter prints, and whether it goes on after a failed run.

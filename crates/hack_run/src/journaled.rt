@@ -27,7 +27,7 @@ use hack_journal::apart::Apart;
 use hack_journal::journaled::Journaled;
 use hack_journal::place::Place;
 use hack_journal::unkept::Unkept;
-use hack_process::process::Caller;
+use hack_starts::starts::Starts;
 use std::io::Write;
 
 /// Performs a call as [`run`] does, and returns its exit status, the files, the lockfiles, how many
@@ -35,7 +35,7 @@ use std::io::Write;
 /// place, where no file may be yet; at the end the journal is removed, unless some file isn't
 /// restored. A change that can't be noted is refused, and `unkept` is told of it: so it is where
 /// memory is refused for that. Lockfiles, which cargo changes too, are those of `lockfiles`.
-pub fn run_journaled<F: Files, L: Files, U: Unkept, C: Caller, O: Write, E: Write>(
+pub fn run_journaled<F: Files, L: Files, U: Unkept, C: Starts, O: Write, E: Write>(
     words: &[String],
     reading: Option<Reading>,
     files: F,

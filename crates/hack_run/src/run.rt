@@ -28,6 +28,7 @@ use hack_base::notice::Notice;
 use hack_base::writes::write_front;
 use hack_files::fs::Files;
 use hack_process::process::{Caller, ProcessBuilder, ProcessFault};
+use hack_starts::starts::Starts;
 use hack_term::term::{Coloring, Term};
 use hack_words::cli::{Args, Env, Parsed};
 use std::alloc::Global;
@@ -37,7 +38,7 @@ use std::io::Write;
 /// `reading` is what they are read into, where that is known already. Messages go to the host's
 /// `err`, the line of an error last. Under `--color auto` the colouring is the one that its
 /// terminal has.
-pub fn run<F: Files, C: Caller, O: Write, E: Write>(
+pub fn run<F: Files, C: Starts, O: Write, E: Write>(
     words: &[String],
     reading: Option<Reading>,
     files: &mut F,
@@ -106,7 +107,7 @@ pub fn run<F: Files, C: Caller, O: Write, E: Write>(
 }
 
 /// Reads the command line, unless it is read already, and does what it asks for.
-fn read<F: Files, C: Caller, O: Write, E: Write>(
+fn read<F: Files, C: Starts, O: Write, E: Write>(
     words: &[String],
     reading: Option<Reading>,
     files: &mut F,
@@ -153,7 +154,7 @@ fn read<F: Files, C: Caller, O: Write, E: Write>(
 }
 
 /// Does what a parsed command line asks for. The notices are those of parsing it.
-fn obey<F: Files, C: Caller, O: Write, E: Write>(
+fn obey<F: Files, C: Starts, O: Write, E: Write>(
     parsed: Parsed,
     notices: &[Notice],
     files: &mut F,

@@ -16,6 +16,7 @@ ghost use Rattle.hack_files.specs.Files.{Grows, KeepsAllBut};
 ghost use Rattle.hack_run.specs.CallChanges.{LoadsAndChanges};
 ghost use Rattle.hack_run.specs.CallTrace.{AfterLoading, LoadsAndPerforms};
 ghost use Rattle.hack_run.specs.Internal.{EditsAndPerforms, MayPerformItsPlan, PerformsItsPlan};
+ghost use Rattle.hack_run.specs.Lanes.{MayRunInLanes};
 ghost use Rattle.hack_run.specs.TemporaryEdits.{BringsBack, IsClean};
 ghost use Rattle.hack_run.specs.Questions.{IsAnswered};
 ghost use Rattle.hack_run.specs.Warnings.{after_notes};
@@ -31,7 +32,7 @@ use hack_files::fs::{Files, FsFault};
 use hack_files::restore::Manager;
 use hack_load::context::{Answers, Context};
 use hack_prepare::manifest::{PrepareFault, finish, prepare};
-use hack_process::process::Caller;
+use hack_starts::starts::Starts;
 use hack_term::term::Term;
 use hack_versions::version::Version;
 use hack_words::cli::Args;
@@ -40,7 +41,7 @@ use std::io::Write;
 
 /// Performs a call with these arguments. Whatever comes of it, edited files are restored at the
 /// end, unless the arguments ask for edits that stay.
-pub(crate) fn perform<F: Files, C: Caller, O: Write, E: Write>(
+pub(crate) fn perform<F: Files, C: Starts, O: Write, E: Write>(
     args: Args,
     files: &mut F,
     host: &mut Host<'_, C, O, E>,
@@ -82,7 +83,7 @@ pub(crate) fn perform<F: Files, C: Caller, O: Write, E: Write>(
 }
 
 /// Performs a call, given the answers to its questions.
-fn follow<F: Files, C: Caller, O: Write, E: Write>(
+fn follow<F: Files, C: Starts, O: Write, E: Write>(
     args: Args,
     answers: Answers,
     files: &mut F,
@@ -201,7 +202,7 @@ fn leave_report(alloc: Global, fault: &PrepareFault, manager: &mut Manager)
 }
 
 /// Lists the plan or performs it.
-fn run_plan<C: Caller, O: Write, E: Write>(
+fn run_plan<C: Starts, O: Write, E: Write>(
     cx: &Context,
     stable: Result<Option<Version>, String>,
     host: &mut Host<'_, C, O, E>,
@@ -214,6 +215,9 @@ fn run_plan<C: Caller, O: Write, E: Write>(
     ensures made { MayPerformItsPlan C.Caller O.Write
         (context_view cx.now).args.print_command_list
         (context_view cx.now) stable host.old host.new }
+    ensures lanes { (context_view cx.now).args.print_command_list ≡ false → MayRunInLanes C.did
+        (context_view cx.now) stable (string_bytes host.old.env.now.rustup)
+        host.old.caller.now host.new.caller.now }
 {
     if cx.args().print_command_list {
         return print_list(cx, stable, host);

@@ -5,7 +5,7 @@ ghost use Rattle.hack_process.specs.Fake.{made_by};
 ghost use Rattle.hack_starts.specs.Events.{calls_of};
 ghost use Rattle.hack_starts.specs.JoinedCalls.{calls_none, calls_more};
 
-use crate::starts::Starts;
+use crate::starts::{Lane, Starts};
 use hack_process::process::{Called, Caller, FakeCaller};
 use std::alloc::{AllocError, Global};
 
@@ -33,8 +33,7 @@ impl Starts for FakeCaller {
         &mut self,
         _alloc: Global,
         _place: usize,
-        _lane: usize,
-        _folder: &str,
+        _lane: Lane<'_>,
         _program: &str,
         _words: &[String],
     ) -> bool {

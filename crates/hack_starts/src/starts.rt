@@ -7,6 +7,16 @@ ghost use Rattle.hack_starts.specs.Events.{Event, Ran, Started, Ended, Told, Aba
 use hack_process::process::{Called, Caller};
 use std::alloc::{AllocError, Global};
 
+/// A place to build in, beside others.
+#[derive(Clone, Copy)]
+pub struct Lane<'a> {
+    pub number: usize,
+    /// How many lanes there are.
+    pub count: usize,
+    /// The folder that cargo builds into. Lanes other than 0 have folders of their own below it.
+    pub folder: &'a str,
+}
+
 /// Runs commands to their end, and starts others ahead of their turn. A command that was started
 /// has a place, from 0, which tells it from the others, and a lane, in which no other runs
 /// meanwhile.
@@ -39,18 +49,16 @@ pub trait Starts: Caller {
             IfOk result (λ called. WroteNothing (answer_of called)) };
 
     /// Starts a program in a lane, with an empty input, and doesn't wait for it: what it writes is
-    /// kept apart. Lanes other than 0 build into a folder of their own below `folder`. False where
-    /// it can't be started: then nothing was.
+    /// kept apart. False where it can't be started: then nothing was.
     fn start(
         &mut self,
         alloc: Global,
         place: usize,
-        lane: usize,
-        folder: &str,
+        lane: Lane<'_>,
         program: &str,
         words: &[String],
     ) -> bool
-        ensures { MatchBool result (did (Started place lane
+        ensures { MatchBool result (did (Started place lane.number
             (asked_call program.now words.now false) ∷ []) self.old self.new)
             (did [] self.old self.new) };
 

@@ -29,8 +29,8 @@ returns-clause-done g c = λ ok none short quiet t.
     let gathered_is = c.gathered-1.given.1 (sym c.gather_on-lines.ensures.gathered.0 ∙ stays.1) in
     rw (gathered_is, sym c.gather_on-lines.ensures.out.1, sym c.gather_on-lines.ensures.gathered.1, sym (ap (λ s. s.caller.now) c.set_manner.ensures ∙ c.new-starter.ensures.caller.1), sym c.as_str-rustup.ensures.value)
     (lists_one before.out after.out _ _ cx c.args.stable _ _ last list (λ s. calls s.caller.now) l.mid.refused last.refused c.args.host.now.term.now last.term.now last.fault.now
-    (ap calls l.told.3) (has_performed g.C.Caller.tells _ _ l.course.plan (filter is_sent l.course.handed) _ _ l.ran.8 t)
-    (passed_or_told g.C.Caller.tells _ _ l.course.plan (filter is_sent l.course.handed) _ _ l.ran.8) (warned_run c.args.host.now.term.now c.set_manner.new.self.term.now l.mid.term.now last.term.now l.notes (ap (λ s. s.term.now) made ∙ c.new-starter.ensures.term.1) l.told.6 (ap (λ s. s.warn) l.ran.7)) (sym fault_is ∙ none) quiet)
+    (ap calls l.told.3) (has_performed g.C.Caller.tells _ _ l.course.plan (filter is_sent l.course.handed) _ _ l.ran.9 t)
+    (passed_or_told g.C.Caller.tells _ _ l.course.plan (filter is_sent l.course.handed) _ _ l.ran.9) (warned_run c.args.host.now.term.now c.set_manner.new.self.term.now l.mid.term.now last.term.now l.notes (ap (λ s. s.term.now) made ∙ c.new-starter.ensures.term.1) l.told.6 (ap (λ s. s.warn) l.ran.7)) (sym fault_is ∙ none) quiet)
 
 pub returns-clause-made : goal.returns-clause-made
 returns-clause-made g c = λ t.
@@ -44,7 +44,7 @@ returns-clause-made g c = λ t.
     let gathered_is = c.gathered-1.given.1 (sym c.gather_on-lines.ensures.gathered.0 ∙ stays.1) in
     rw (gathered_is, sym c.gather_on-lines.ensures.out.1, sym c.gather_on-lines.ensures.gathered.1, sym (ap (λ s. s.caller.now) c.set_manner.ensures ∙ c.new-starter.ensures.caller.1), sym c.as_str-rustup.ensures.value)
     (handed_makes (Unit {0}) had has _ _ (context_view c.args.cx.now) c.args.stable c.as_str-rustup.result.now _ last c.list_over-refused.ensures.made tt (λ s. calls s.caller.now) (λ s. s.refused) c.args.host.now.term.now last.term.now
-    (λ notes x y told. ap calls told.3) (λ plan steps x y ran. has_performed g.C.Caller.tells _ _ plan steps _ _ ran.8 t))
+    (λ notes x y told. ap calls told.3) (λ plan steps x y ran. has_performed g.C.Caller.tells _ _ plan steps _ _ ran.9 t))
 
 pub returns-clause-grown : goal.returns-clause-grown
 returns-clause-grown g c =
