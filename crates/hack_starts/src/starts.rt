@@ -58,7 +58,7 @@ pub trait Starts: Caller {
         program: &str,
         words: &[String],
     ) -> bool
-        ensures { MatchBool result (did (Started place lane.number
+        ensures { MatchBool result (did (Started place lane.entry.number
             (asked_call program.now words.now false) ∷ []) self.old self.new)
             (did [] self.old self.new) };
 
