@@ -6,7 +6,8 @@ use Rattle.hack_plan.specs.View.{PlanView}
 use Rattle.hack_session.specs.declared.step.Handed.{Handed}
 use Rattle.hack_session.specs.declared.starter.Starter.{Starter}
 use Rattle.hack_session.specs.StepEffects.{DoesAll, state}
-use Rattle.hack_session.specs.StepOutput.{Taking, manner_of, streams}
+use Rattle.hack_base.specs.declared.writes.Sink.{Ghosts as Taking}
+use Rattle.hack_session.specs.StepOutput.{manner_of, streams}
 use Rattle.hack_session.specs.JoinedSteps.{done_more, error_alone, manner_stays}
 
 -- the loans, the manner and the terminal are as they were, and each step did just what is its own

@@ -1,16 +1,17 @@
 //! What may be started at the turn of a run.
 
-ghost use Rattle.std.specs.Prelude.{◌≡◌, ◌≤◌, ◌<◌, ◌+◌, All, IfOk, Some, length, map, option_map};
-ghost use Rattle.std.specs.Prelude.{slice_get, true};
+ghost use Rattle.std.specs.Prelude.{◌≡◌, ◌≤◌, ◌<◌, IfOk, MatchBool, Some};
+ghost use Rattle.std.specs.Prelude.{false, length, map, option_map, slice_get};
 ghost use Rattle.hack_lanes.specs.Views.{offer_of};
 ghost use Rattle.hack_plan.specs.Commands.{command_of_entry};
 ghost use Rattle.hack_process.specs.Commands.{asked_of};
 ghost use Rattle.hack_session.specs.Schedules.{in_piece};
-ghost use Rattle.hack_side.specs.Turns.{AreOffers, IsWithin, MayStart};
+ghost use Rattle.hack_side.specs.Turns.{AreOffers, HasPlace, IsWithin};
 
 use hack_base::copies::copies;
 use hack_lanes::job::Job;
 use hack_plan::partition::Partition;
+use hack_plan::parts::PlanVersion;
 use hack_plan::plan::Plan;
 use hack_process::process::{End, FakeCaller};
 use hack_session::session::is_chosen;
@@ -37,7 +38,10 @@ impl Outlook {
         let mut offers = Vec::new(alloc);
         let end = self.end(plan);
         for place in self.place..end {
-            if offers.len() >= self.room || !self.push(alloc, plan, place, &mut offers) {
+            if offers.len() >= self.room {
+                return offers;
+            }
+            if !self.push(alloc, plan, place, &mut offers) {
                 return offers;
             }
         }
@@ -48,7 +52,7 @@ impl Outlook {
     /// and not farther from it than the pieces of a plan make necessary.
     fn end(self, plan: &Plan) -> usize {
         let pieces = match self.piece {
-            Some(piece) => piece.count,
+            Some(piece) => usize::try_from(piece.count).unwrap_or(usize::MAX),
             None => 1,
         };
         let reach = self.room.saturating_mul(pieces);
@@ -68,10 +72,13 @@ impl Outlook {
         if !is_chosen(self.piece, place, plan.len()) || !self.is_new(place) {
             return true;
         }
-        match job(alloc, plan, place) {
-            Ok(job) => offers.push(job).is_ok(),
-            Err(_) => false,
-        }
+        let Ok(job) = job(alloc, plan, place) else {
+            return false;
+        };
+        let Ok(()) = offers.push(job) else {
+            return false;
+        };
+        true
     }
 
     fn is_new(self, place: usize) -> bool {
@@ -84,15 +91,28 @@ impl Outlook {
 
 /// Whether both places are of one version.
 fn is_within(plan: &Plan, place: usize, other: usize) -> bool
-    ensures { result ≡ true → IsWithin plan.now place other }
+    ensures { MatchBool result (IsWithin plan.now place other) (Unit {0}) }
 {
     for version in plan.versions() {
-        let has = |p: usize| version.first <= p && p < version.end;
-        if has(place) && has(other) {
+        if has_both(version, place, other) {
             return true;
         }
     }
     false
+}
+
+/// Whether a version has both places.
+fn has_both(version: &PlanVersion, place: usize, other: usize) -> bool
+    ensures { MatchBool result (HasPlace version.now place × HasPlace version.now other)
+        (Unit {0}) }
+{
+    has_place(version, place) && has_place(version, other)
+}
+
+fn has_place(version: &PlanVersion, place: usize) -> bool
+    ensures { MatchBool result (HasPlace version.now place) (Unit {0}) }
+{
+    version.first <= place && place < version.end
 }
 
 /// The command of a place, taken down by a caller that runs none.

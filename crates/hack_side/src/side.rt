@@ -4,7 +4,6 @@ ghost use Rattle.std.specs.Prelude.{◌≡◌};
 ghost use Rattle.std.proofs.Common.{◌∙◌, refl};
 ghost use Rattle.hack_lanes.specs.Views.{scene_of, turn_of, state_of};
 ghost use Rattle.hack_lanes.specs.Loans.{IsHandedOver};
-ghost use Rattle.hack_session.specs.Histories.{IsStepOf};
 ghost use Rattle.hack_side.specs.Beside.{DoesSteps, does_more, does_none};
 ghost use Rattle.hack_side.specs.JoinedRuns.{runs_more};
 ghost use Rattle.hack_side.specs.Turns.{IsTurnFor, RunsAll};
@@ -16,6 +15,7 @@ use hack_plan::partition::Partition;
 use hack_plan::plan::Plan;
 use hack_session::session::{Outcome, Runner, Starter, Step};
 use hack_starts::starts::Starts;
+use std::alloc::Global;
 
 /// Performs steps by a starter whose caller has lanes: at the step of a run its command and those
 /// behind it may be started.
@@ -26,25 +26,50 @@ pub struct Side<'a, 'b, S: Starts, O: Sink, E: Sink> {
     pub piece: Option<Partition>,
 }
 
-impl<S: Starts, O: Sink, E: Sink> Side<'_, '_, S, O, E> {
-    /// Gives a run's place its turn, where several run at once.
-    fn give_turn(&mut self, plan: &Plan, step: Step)
-        requires { IsStepOf plan.now step }
-    {
-        match step {
-            Step::Run(place) if self.starter.caller.width() > 1 => {
-                let outlook = Outlook {
-                    piece: self.piece,
-                    place,
-                    last: self.starter.caller.last(),
-                    room: self.starter.caller.room(),
-                };
-                let offers = outlook.offers(self.starter.alloc, plan);
-                self.starter.caller.give_turn(place, offers);
-            }
-            _ => self.starter.caller.take_turn(),
-        }
+/// Gives a run's place its turn, where several run at once.
+fn give_turn<S: Starts>(
+    alloc: Global,
+    plan: &Plan,
+    piece: Option<Partition>,
+    step: Step,
+    lanes: &mut Lanes<'_, S>,
+)
+    ensures fits { IsTurnFor piece plan.now step (turn_of lanes.new) }
+    ensures width { (turn_of lanes.new).width ≡ (turn_of lanes.old).width }
+    ensures state { state_of lanes.new ≡ state_of lanes.old }
+    ensures starts { IsHandedOver lanes.old.starts lanes.new.starts }
+{
+    match step {
+        Step::Run(place) => give_run_turn(alloc, plan, piece, place, lanes),
+        Step::Prepare(_) | Step::Skip(_) => lanes.take_turn(),
     }
+}
+
+/// Gives a run's place its turn, where several run at once.
+fn give_run_turn<S: Starts>(
+    alloc: Global,
+    plan: &Plan,
+    piece: Option<Partition>,
+    place: usize,
+    lanes: &mut Lanes<'_, S>,
+)
+    ensures fits { IsTurnFor piece plan.now (Step.Run place) (turn_of lanes.new) }
+    ensures width { (turn_of lanes.new).width ≡ (turn_of lanes.old).width }
+    ensures state { state_of lanes.new ≡ state_of lanes.old }
+    ensures starts { IsHandedOver lanes.old.starts lanes.new.starts }
+{
+    if lanes.width() <= 1 {
+        lanes.take_turn();
+        return;
+    }
+    let outlook = Outlook {
+        piece,
+        place,
+        last: lanes.last(),
+        room: lanes.room(),
+    };
+    let offers = outlook.offers(alloc, plan);
+    lanes.give_turn(place, offers);
 }
 
 impl<S: Starts, O: Sink, E: Sink> Runner for Side<'_, '_, S, O, E> {
@@ -72,7 +97,13 @@ impl<S: Starts, O: Sink, E: Sink> Runner for Side<'_, '_, S, O, E> {
     ) };
 
     fn step(&mut self, plan: &Plan, step: Step) -> Outcome {
-        self.give_turn(plan, step);
+        give_turn(
+            self.starter.alloc,
+            plan,
+            self.piece,
+            step,
+            self.starter.caller,
+        );
         let outcome = self.starter.step(plan, step);
         self.starter.caller.take_turn();
         outcome

@@ -1,0 +1,2 @@
+pub mod OfferLemmas
+pub mod StepLemmas
