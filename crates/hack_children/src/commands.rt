@@ -23,6 +23,7 @@ pub fn lane_folder(alloc: Global, folder: &str, lane: usize) -> Result<Option<St
 
 /// The command that `Children` starts: the program with just these arguments, in the folder and the
 /// environment of this process, but for three variables of cargo.
+#[tactic(auto, using(crate::proofs::LaneLemmas::in_lane))]
 pub fn lane_command(
     alloc: Global,
     program: &str,
@@ -32,7 +33,7 @@ pub fn lane_command(
     colors: bool,
 ) -> Result<Command, AllocError>
     ensures { IfOk result (OrdersInLane program.now (names_of words.now)
-        (option_copied target) jobs colors) }
+        (option_copied target.entry) jobs colors) }
 {
     let mut command = system_command(alloc, program, words)?;
     set(&mut command, "CARGO_TARGET_DIR", target)?;
@@ -43,7 +44,7 @@ pub fn lane_command(
 
 /// Sets a variable, where there is a text for it.
 fn set(command: &mut Command, name: &str, value: Option<&str>) -> Result<(), AllocError>
-    ensures { OnOk result (Sets name.now (option_copied value) command.old command.new) }
+    ensures { OnOk result (Sets name.now (option_copied value.entry) command.old command.new) }
 {
     if let Some(value) = value {
         command.env(name, value)?;
