@@ -48,7 +48,13 @@ impl<R: Processes + Files<File = File> + Clock + Drop> Children<R> {
         err: Stderr,
         scratch: String,
         process: u32,
-    ) -> Self {
+    ) -> Self
+        ensures rt { result.rt ≡ rt }
+        ensures streams { (result.out ≡ out) × (result.err ≡ err) }
+        ensures files { (result.scratch ≡ scratch) × (result.process ≡ process) }
+        ensures share { (result.jobs ≡ None) × (result.colors ≡ false) }
+        ensures running { result.running.items ≡ [] }
+    {
         Children {
             rt,
             out,
@@ -64,7 +70,9 @@ impl<R: Processes + Files<File = File> + Clock + Drop> Children<R> {
 
     /// Says how many jobs each cargo that is started from now on may run at once, unless cargo is
     /// to decide, and whether it writes colors.
-    pub fn share(&mut self, jobs: Option<usize>, colors: bool) {
+    pub fn share(&mut self, jobs: Option<usize>, colors: bool)
+        ensures { self.new ≡ record self.old { jobs = jobs; colors = colors } }
+    {
         self.jobs = jobs;
         self.colors = colors;
     }
@@ -184,10 +192,15 @@ impl<R: Processes + Files<File = File> + Clock + Drop> Starts for Children<R> {
     }
 
     fn has_ended(&mut self, place: usize) -> bool {
-        match self.index_of(place) {
-            Some(i) => self.running[i].has_ended(),
-            None => false,
+        let Some(i) = self.index_of(place) else {
+            return false;
+        };
+        let has_ended = self.running[i].has_ended();
+        if has_ended {
+            // Others may write to the terminal now, before `finish`.
+            self.progress.erase(&mut self.err);
         }
+        has_ended
     }
 
     fn finish(
