@@ -1,6 +1,6 @@
 //! Starts programs of the system in lanes, and prints what becomes of them. Each runs a script of
-//! the shell, for which `$0` is this program and `$1` a folder for this run alone. If it has an
-//! argument, it starts two programs that write 10 MB to each of the standard streams.
+//! the shell, for which `$1` is a folder of this run alone. If it has an argument, it starts two
+//! programs that write 10 MB to each of the standard streams.
 #![tactic(auto)]
 
 mod rows;
@@ -17,11 +17,10 @@ fn main(rt: HostRuntime) -> io::Result<()> {
     let alloc = rt.alloc();
     let made = Child::new(&rt).call(alloc, "mktemp", &copies(alloc, &["-d"])?, true)?;
     let folder = text_in(alloc, &made)?;
-    let program = env::current_exe(&rt)?.into_string();
     let files = folder.clone()?;
     let number = process::id(rt.process());
     let children = Children::new(alloc, &rt, rt.stdout(), rt.stderr(), files, number);
-    let mut shells = Shells::new(children, program, folder);
+    let mut shells = Shells::new(children, folder);
     if env::args(&rt)?.count() > 1 {
         heavy(alloc, &mut shells)?;
     } else {

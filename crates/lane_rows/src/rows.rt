@@ -31,6 +31,10 @@ const STATE: &str =
 const GONE: &str =
     r#"state() { cut -d ' ' -f 3 "/proc/$(cat "$1/number")/stat" 2>/dev/null; }; for try in 1 2 3 4 5 6 7 8 9; do case "$(state "$1")" in ''|Z) echo gone; break;; *) sleep 0.1;; esac; done; rm "$1/number""#;
 
+/// Calls this program again, the way that it was called, and counts each stretch of equal lines.
+const COUNTED: &str =
+    r#"xargs -0 sh -c '"$@" heavy' sh < "/proc/$PPID/cmdline" 2>&1 | uniq -c | tr -s ' ' | tr '\n' ','"#;
+
 const HEAVY: &str = "yes x | head -c 10485760; yes y | head -c 10485760 >&2";
 
 /// Prints a line for each row, after what the programs themselves wrote.
@@ -46,10 +50,7 @@ pub fn rows<R: Print, S: Starts + Drop>(
     abandoned(rt, alloc, shells)?;
     abandoned_after_its_end(rt, alloc, shells)?;
     name_taken(rt, alloc, shells, number)?;
-    let counted = shells.read(
-        alloc,
-        r#""$0" heavy 2>&1 | uniq -c | tr -s ' ' | tr '\n' ','"#,
-    )?;
+    let counted = shells.read(alloc, COUNTED)?;
     println!(rt; "10 MB on both streams, twice:{counted}")
 }
 

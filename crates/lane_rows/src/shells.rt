@@ -10,23 +10,18 @@ use std::{io, str};
 #[derive(Drop)]
 pub struct Shells<S: Starts + Drop> {
     pub starts: S,
-    program: String,
     folder: String,
 }
 
 impl<S: Starts + Drop> Shells<S> {
-    /// Scripts for which this program is `$0`, and this folder `$1`.
-    pub fn new(starts: S, program: String, folder: String) -> Self {
-        Shells {
-            starts,
-            program,
-            folder,
-        }
+    /// Scripts for which this folder is `$1`.
+    pub fn new(starts: S, folder: String) -> Self {
+        Shells { starts, folder }
     }
 
     fn words(&self, alloc: Global, script: &str) -> Result<Vec<String>, AllocError> {
-        let (program, folder) = (self.program.as_str(), self.folder.as_str());
-        copies(alloc, &["-c", script, program, folder])
+        let folder = self.folder.as_str();
+        copies(alloc, &["-c", script, "sh", folder])
     }
 
     /// Runs a script to its end, and returns the text that it wrote, without line feeds at its end.
