@@ -13,9 +13,9 @@ use std::os::unix::prelude::ExitStatusExt;
 use std::process::{Child, Command, ExitStatus, OpenProcess, Processes, Stdio};
 
 /// Ends a process and all below it. Each is stopped first, so that it starts nothing more while its
-/// children are ended.
+/// children are ended. A kernel may be built without the files `children`.
 const SCRIPT: &str =
-    r#"end() { kill -STOP "$1"; for child in $(cat "/proc/$1/task/"*/children); do end "$child"; done; kill -KILL "$1"; }; end "$1""#;
+    r#"end() { kill -STOP "$1"; for child in $(cat "/proc/$1/task/"*/children || pgrep -P "$1"); do end "$child"; done; kill -KILL "$1"; }; end "$1""#;
 
 /// A child that was started for a place.
 #[derive(Drop)]

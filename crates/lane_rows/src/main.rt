@@ -6,7 +6,7 @@
 mod rows;
 mod shells;
 
-use crate::rows::{heavy, last_rows, rows};
+use crate::rows::{heavy, last_rows, rows, told_by_nproc};
 use crate::shells::{Shells, text_in};
 use hack_base::copies::copies;
 use hack_children::children::Children;
@@ -25,6 +25,7 @@ fn main(rt: HostRuntime) -> io::Result<()> {
         heavy(alloc, &mut shells)?;
     } else {
         rows(&rt, alloc, &mut shells, number)?;
+        told_by_nproc(&rt, alloc, &mut shells)?;
         shells.starts.share(Some(3), true);
         last_rows(&rt, alloc, &mut shells)?;
     }

@@ -1,9 +1,11 @@
 //! What is tried, in order.
 
 use crate::shells::Shells;
+use hack_children::processors::processors;
 use hack_starts::starts::Starts;
 use std::alloc::{AllocError, Global};
 use std::io;
+use std::process::Processes;
 
 /// Ends only where the last of the lanes runs at the same time.
 const FIRST: &str = r#"until [ -e "$1/third" ]; do sleep 0.01; done; rm "$1/third"; echo first"#;
@@ -52,6 +54,17 @@ pub fn rows<R: Print, S: Starts + Drop>(
     name_taken(rt, alloc, shells, number)?;
     let counted = shells.read(alloc, COUNTED)?;
     println!(rt; "10 MB on both streams, twice:{counted}")
+}
+
+/// Prints whether the number of processors is what a shell is told.
+pub fn told_by_nproc<R: Print + Processes, S: Starts + Drop>(
+    rt: &R,
+    alloc: Global,
+    shells: &mut Shells<S>,
+) -> io::Result<()> {
+    let wanted = shells.read(alloc, "nproc")?;
+    let is_same = processors(rt, alloc) == wanted.as_str().parse::<usize>().ok();
+    println!(rt; "as many processors as nproc tells: {is_same}")
 }
 
 /// Prints a line of a lane that has a share of the processors, and how many files are left.
