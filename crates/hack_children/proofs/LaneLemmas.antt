@@ -1,5 +1,5 @@
 -- Commands of lanes, variable by variable.
-use Rattle.std.proofs.Common.{◌≡◌, ◌≢◌, ◌∙◌, sym, ap, arith, get_or, codes, decimal, ℕ, Bool, List, Option, None, option_map, Global}
+use Rattle.std.proofs.Common.{◌≢◌, ◌∙◌, sym, ap, arith, get_or, codes, decimal, ℕ, Bool, List, Option, option_map, Global}
 use Rattle.std.specs.declared.process.command.Command.{Command}
 use Rattle.hack_base.specs.Names.{Name}
 use Rattle.hack_process.specs.SystemCommands.{Orders}

@@ -38,9 +38,10 @@ pub struct Children<R: Processes + Files<File = File> + Clock + Drop> {
 }
 
 impl<R: Processes + Files<File = File> + Clock + Drop> Children<R> {
-    /// Starts programs by this handle of the runtime, which is that of the process of this number
-    /// and these streams. What they write goes into files in the folder `scratch`, of which only
-    /// the space is left while the programs run.
+    /// Starts programs by this handle of the runtime. What they write goes into files in the folder
+    /// `scratch`, whose names have the number of this process in them, and are taken away before a
+    /// program starts; at their turn it goes to these streams. A line on how far they are is shown
+    /// where `err` is a terminal. Cargo decides on its jobs and colors.
     pub fn new(
         alloc: Global,
         rt: R,
