@@ -1,14 +1,15 @@
 //! Programs of the system that were started ahead of their turn. No contract says what they do;
 //! tests check it.
 
-ghost use Rattle.std.specs.Prelude.{◌≡◌, [], IfSome, ◌<◌, None, false, vec_len};
+ghost use Rattle.std.specs.Prelude.{◌≡◌, ◌<◌, [], IfSome, false, vec_len};
 
 use crate::captures::nameless_file;
 use crate::commands::{lane_command, lane_folder};
+use crate::processors::{Processors, jobs_for, processors};
 use crate::progress::Progress;
 use crate::running::Running;
 use hack_process::process::{Called, Caller, Child};
-use hack_starts::starts::Starts;
+use hack_starts::starts::{Lane, Starts};
 use std::alloc::{AllocError, Global};
 use std::fs::File;
 use std::io::{IsTerminal, Stderr, Stdout};
@@ -31,7 +32,7 @@ pub struct Children<R: Processes + Files<File = File> + Clock + Drop> {
     scratch: String,
     /// The number of this process, which makes the names of these files its own.
     process: u32,
-    jobs: Option<usize>,
+    processors: Processors,
     colors: bool,
     running: Vec<Running<R::Started>>,
     progress: Progress,
@@ -53,7 +54,7 @@ impl<R: Processes + Files<File = File> + Clock + Drop> Children<R> {
         ensures rt { result.rt ≡ rt }
         ensures streams { (result.out ≡ out) × (result.err ≡ err) }
         ensures files { (result.scratch ≡ scratch) × (result.process ≡ process) }
-        ensures share { (result.jobs ≡ None) × (result.colors ≡ false) }
+        ensures share { (result.processors ≡ Processors.Unshared) × (result.colors ≡ false) }
         ensures running { result.running.items ≡ [] }
     {
         Children {
@@ -62,20 +63,34 @@ impl<R: Processes + Files<File = File> + Clock + Drop> Children<R> {
             err,
             scratch,
             process,
-            jobs: None,
+            processors: Processors::Unshared,
             colors: false,
             running: Vec::new(alloc),
             progress: Progress::new(),
         }
     }
 
-    /// Says how many jobs each cargo that is started from now on may run at once, unless cargo is
-    /// to decide, and whether it writes colors.
-    pub fn share(&mut self, jobs: Option<usize>, colors: bool)
-        ensures { self.new ≡ record self.old { jobs = jobs; colors = colors } }
+    /// Says which processors the cargos that are started from now on share, each with a part of
+    /// the jobs, and whether they write colors.
+    pub fn share(&mut self, processors: Processors, colors: bool)
+        ensures { self.new ≡ record self.old { processors = processors; colors = colors } }
     {
-        self.jobs = jobs;
+        self.processors = processors;
         self.colors = colors;
+    }
+
+    /// How many jobs each cargo has, of which so many run at once.
+    fn jobs(&mut self, alloc: Global, count: usize) -> Option<usize> {
+        if self.processors == Processors::All {
+            self.processors = match processors(&self.rt, alloc) {
+                Some(number) => Processors::Known(number),
+                None => Processors::Unshared,
+            };
+        }
+        match self.processors {
+            Processors::Known(number) => Some(jobs_for(number, count)),
+            Processors::Unshared | Processors::All => None,
+        }
     }
 
     /// Makes a file for what the child of a place writes to a stream.
@@ -91,10 +106,11 @@ impl<R: Processes + Files<File = File> + Clock + Drop> Children<R> {
         alloc: Global,
         place: usize,
         target: Option<&str>,
+        jobs: Option<usize>,
         program: &str,
         words: &[String],
     ) -> io::Result<Running<R::Started>> {
-        let mut command = lane_command(alloc, program, words, target, self.jobs, self.colors)?;
+        let mut command = lane_command(alloc, program, words, target, jobs, self.colors)?;
         let output = self.capture(alloc, place, "out")?;
         let errors = self.capture(alloc, place, "err")?;
         command.stdin(Stdio::null());
@@ -174,19 +190,19 @@ impl<R: Processes + Files<File = File> + Clock + Drop> Starts for Children<R> {
         &mut self,
         alloc: Global,
         place: usize,
-        lane: usize,
-        folder: &str,
+        lane: Lane<'_>,
         program: &str,
         words: &[String],
     ) -> bool {
         if self.running.reserve(1).is_err() {
             return false;
         }
-        let Ok(target) = lane_folder(alloc, folder, lane) else {
+        let Ok(target) = lane_folder(alloc, lane.folder, lane.number) else {
             return false;
         };
         let target = target.as_ref().map(|target| target.as_str());
-        match self.spawn(alloc, place, target, program, words) {
+        let jobs = self.jobs(alloc, lane.count);
+        match self.spawn(alloc, place, target, jobs, program, words) {
             Ok(running) => self.running.push(running).is_ok(),
             Err(_) => false,
         }

@@ -6,6 +6,16 @@ use std::alloc::Global;
 use std::process::{Command, Processes};
 use std::{io, str};
 
+/// The processors that commands side by side share.
+#[derive(Clone, Copy, Debug, PartialEq, Eq)]
+pub enum Processors {
+    /// Nothing is said of them: cargo decides on its jobs.
+    Unshared,
+    /// Those of this machine, which is asked for their number once it matters.
+    All,
+    Known(usize),
+}
+
 /// How many jobs each of so many commands runs at once, so that all have the processors to
 /// themselves: an equal share, and at least one. With no commands it is one.
 pub fn jobs_for(processors: usize, width: usize) -> usize

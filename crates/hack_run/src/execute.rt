@@ -12,9 +12,9 @@ use crate::drive::drive_context;
 use crate::explain::explain;
 use crate::fault::RunFault;
 use crate::host::Host;
+use hack_lanes::lanes::Lanes;
 use hack_load::context::Context;
 use hack_planner::fault::PlanFault;
-use hack_lanes::lanes::Lanes;
 use hack_process::process::ProcessFault;
 use hack_session::session::{Handed, History, Outcome, Session, Starter, Step};
 use hack_side::side::Side;
@@ -75,14 +75,7 @@ fn hand_to_starter<C: Starts, O: Write, E: Write>(
     let (log_group, keep_going) = manner(cx.args());
     let folder = target_folder(host.alloc, cx)?;
     let mut lanes = Lanes::new(host.alloc, host.caller, width(cx.args()), folder.as_str());
-    let mut starter = Starter::new(
-        host.alloc,
-        &mut lanes,
-        host.term,
-        host.out,
-        host.err,
-        fault,
-    );
+    let mut starter = Starter::new(host.alloc, &mut lanes, host.term, host.out, host.err, fault);
     starter.set_manner(log_group, keep_going);
     let mut side = Side {
         starter,

@@ -10,6 +10,7 @@ use crate::rows::{heavy, last_rows, rows, told_by_nproc};
 use crate::shells::{Shells, text_in};
 use hack_base::copies::copies;
 use hack_children::children::Children;
+use hack_children::processors::Processors;
 use hack_process::process::{Caller, Child};
 use std::{env, io, process};
 
@@ -26,7 +27,7 @@ fn main(rt: HostRuntime) -> io::Result<()> {
     } else {
         rows(&rt, alloc, &mut shells, number)?;
         told_by_nproc(&rt, alloc, &mut shells)?;
-        shells.starts.share(Some(3), true);
+        shells.starts.share(Processors::Known(12), true);
         last_rows(&rt, alloc, &mut shells)?;
     }
     shells.read(alloc, "rmdir \"$1\"")?;

@@ -1,6 +1,6 @@
 //! What is tried, in order.
 
-use crate::shells::Shells;
+use crate::shells::{Shells, lane_at};
 use hack_children::processors::processors;
 use hack_starts::starts::Starts;
 use std::alloc::{AllocError, Global};
@@ -148,7 +148,7 @@ fn nothing_started<R: Print, S: Starts + Drop>(
 ) -> io::Result<()> {
     let missing = shells
         .starts
-        .start(alloc, 4, 1, "built", "/hack/no/such/program", &[]);
+        .start(alloc, 4, lane_at(1), "/hack/no/such/program", &[]);
     println!(rt; "a missing program: {missing}")?;
     let ended = shells.starts.has_ended(4);
     println!(rt; "ended: {ended}")?;

@@ -2,7 +2,7 @@
 
 use hack_base::copies::copies;
 use hack_process::process::Called;
-use hack_starts::starts::Starts;
+use hack_starts::starts::{Lane, Starts};
 use std::alloc::{AllocError, Global};
 use std::{io, str};
 
@@ -47,7 +47,7 @@ impl<S: Starts + Drop> Shells<S> {
         script: &str,
     ) -> Result<bool, AllocError> {
         let words = self.words(alloc, script)?;
-        Ok(self.starts.start(alloc, place, lane, "built", "sh", &words))
+        Ok(self.starts.start(alloc, place, lane_at(lane), "sh", &words))
     }
 
     /// Waits until the script at a place has ended, for a minute at most. It is not told by that.
@@ -79,5 +79,14 @@ pub fn text_in(alloc: Global, called: &Called) -> Result<String, AllocError> {
     match str::from_utf8(called.stdout.as_slice()) {
         Ok(text) => String::from_str(alloc, text.trim_end_matches('\n')),
         Err(_) => String::from_str(alloc, "no text"),
+    }
+}
+
+/// One of four lanes below the folder `built`.
+pub fn lane_at(number: usize) -> Lane<'static> {
+    Lane {
+        number,
+        count: 4,
+        folder: "built",
     }
 }

@@ -22,7 +22,14 @@ returns g c =
         refl,
       ),
       (
-        ran.0, ran.1, ran.2, ran.3, ran.4, ran.5, ran.6, ran.7,
+        ran.0,
+        ran.1,
+        ran.2,
+        ran.3,
+        ran.4,
+        ran.5,
+        ran.6,
+        ran.7,
         does_at g.S.Caller.tells old.keep_going (manner_of old.log_group old.term.now) c.args.plan.now (record { step = c.args.step; outcome = c.step-outcome.result } ∷ [])
             (state (g.S.Caller.calls c.give_turn.new.lanes.starts.now) (said old.out.now old.err.now) old.fault.now old.term.now.error old.refused)
             (state (g.S.Caller.calls new.caller.now.starts.now) (said new.out.now new.err.now) new.fault.now new.term.now.error new.refused)
