@@ -5,7 +5,7 @@ ghost use Rattle.std.specs.Prelude.{◌≡◌, ◌<◌, [], IfSome, false, vec_l
 
 use crate::captures::nameless_file;
 use crate::commands::{lane_command, lane_folder};
-use crate::processors::{Processors, jobs_for, processors};
+use crate::processors::{Processors, count_processors, jobs_for};
 use crate::progress::Progress;
 use crate::running::Running;
 use hack_process::process::{Called, Caller, Child};
@@ -82,7 +82,7 @@ impl<R: Processes + Files<File = File> + Clock + Drop> Children<R> {
     /// How many jobs each cargo has, of which so many run at once.
     fn jobs(&mut self, alloc: Global, count: usize) -> Option<usize> {
         if self.processors == Processors::All {
-            self.processors = match processors(&self.rt, alloc) {
+            self.processors = match count_processors(&self.rt, alloc) {
                 Some(number) => Processors::Known(number),
                 None => Processors::Unshared,
             };

@@ -25,7 +25,7 @@ pub fn jobs_for(processors: usize, width: usize) -> usize
 }
 
 /// The number of processors that this process may use, as the program `nproc` tells it.
-pub fn processors<R: Processes>(rt: &R, alloc: Global) -> Option<usize> {
+pub fn count_processors<R: Processes>(rt: &R, alloc: Global) -> Option<usize> {
     match told_by_nproc(rt, alloc) {
         Ok(told) => number_in(told.as_slice()),
         Err(_) => None,

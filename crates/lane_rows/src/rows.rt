@@ -1,7 +1,7 @@
 //! What is tried, in order.
 
 use crate::shells::{Shells, lane_at};
-use hack_children::processors::processors;
+use hack_children::processors::count_processors;
 use hack_starts::starts::Starts;
 use std::alloc::{AllocError, Global};
 use std::io;
@@ -63,7 +63,7 @@ pub fn told_by_nproc<R: Print + Processes, S: Starts + Drop>(
     shells: &mut Shells<S>,
 ) -> io::Result<()> {
     let wanted = shells.read(alloc, "nproc")?;
-    let is_same = processors(rt, alloc) == wanted.as_str().parse::<usize>().ok();
+    let is_same = count_processors(rt, alloc) == wanted.as_str().parse::<usize>().ok();
     println!(rt; "as many processors as nproc tells: {is_same}")
 }
 
