@@ -2,17 +2,18 @@
 //! guards, programs and streams, to `hack_recovery::call`.
 #![tactic(auto)]
 
+use hack_children::children::Children;
+use hack_children::processors::Processors;
 use hack_files::fs::Disk;
-use hack_process::process::Child;
 use hack_recovery::call::{Outside, call};
 use hack_recovery::guards::ShellGuards;
 use hack_recovery::keepers::Keepers;
 use hack_recovery::locks::FolderLocks;
-use hack_start::system::HostSystem;
+use hack_start::system::{HostSystem, System, Variable};
 use hack_term::term::{Coloring, Term};
-use std::io;
 use std::io::IsTerminal;
 use std::process::ExitCode;
+use std::{env, io, process};
 
 fn main(rt: HostRuntime) -> ExitCode {
     ExitCode::from(call_here(&rt))
@@ -21,10 +22,11 @@ fn main(rt: HostRuntime) -> ExitCode {
 /// Performs the call of this process, and returns its exit status.
 fn call_here(rt: &HostRuntime) -> u8 {
     let mut term = Term::new(Coloring::Auto, false);
-    let mut caller = Child::new(rt);
     let mut out = io::writer(rt);
     let mut err = rt.stderr();
     let is_terminal = err.is_terminal();
+    let system = HostSystem::new(rt);
+    let mut caller = children(rt, &system, is_terminal);
     let mut outside = Outside {
         term: &mut term,
         caller: &mut caller,
@@ -32,7 +34,6 @@ fn call_here(rt: &HostRuntime) -> u8 {
         err: &mut err,
         is_terminal,
     };
-    let system = HostSystem::new(rt);
     let mut keepers = Keepers::new(FolderLocks::new(rt), ShellGuards::new(rt));
     let (status, _, _) = call(
         rt.alloc(),
@@ -43,4 +44,38 @@ fn call_here(rt: &HostRuntime) -> u8 {
         &mut outside,
     );
     status
+}
+
+/// Who runs programs. Those that are started ahead share the processors, and have colors where
+/// messages go to a terminal, unless the environment decides that.
+fn children<'a, S: System>(
+    rt: &'a HostRuntime,
+    system: &S,
+    is_terminal: bool,
+) -> Children<&'a HostRuntime> {
+    let alloc = rt.alloc();
+    let scratch = match env::temp_dir(rt) {
+        Ok(folder) => folder.into_string(),
+        Err(_) => String::new(alloc),
+    };
+    let process = process::id(rt.process());
+    let mut children = Children::new(alloc, rt, rt.stdout(), rt.stderr(), scratch, process);
+    let processors = if is_unset(system, "CARGO_BUILD_JOBS") {
+        Processors::All
+    } else {
+        Processors::Unshared
+    };
+    let colors = is_terminal
+        && is_unset(system, "CARGO_TERM_COLOR")
+        && is_unset(system, "NO_COLOR");
+    children.share(processors, colors);
+    children
+}
+
+/// Whether the environment has no variable of this name.
+fn is_unset<S: System>(system: &S, name: &str) -> bool {
+    match system.variable(name) {
+        Ok(Variable::Unset) => true,
+        Ok(Variable::Text(_)) | Ok(Variable::NotText) | Err(_) => false,
+    }
 }

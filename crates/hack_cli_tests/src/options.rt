@@ -171,6 +171,8 @@ fn rows(rt: HostRuntime) -> Result<(), Wrong> {
             | Restore restore Flag once
             > row: package-rules
             | PackageRules package-rules Flag once
+            > row: parallel
+            | Parallel parallel Value once
             > row: workspace-behavior
             | WorkspaceBehavior workspace-behavior Refused often
             > row: help
@@ -204,8 +206,10 @@ fn options_in_messages(rt: HostRuntime) -> Result<(), Wrong> {
 | --restore|--restore|no
 > package-rules
 | --package-rules|--package-rules|no
+> parallel
+| --parallel|--parallel|no
 ",
-        "0 of 9 are wrong",
+        "0 of 10 are wrong",
     )
 }
 

@@ -330,6 +330,25 @@ const LATE: &str = r"[words] There is a subcommand, or a list is asked for.
 | --restore may not be used together with other arguments
 > hack check --each-feature --package-rules
 | args
+[words] Runs side by side.
+> hack check --parallel 4
+| args
+> hack check --parallel 0
+| --parallel cannot be zero
+> hack check --parallel 257
+| invalid number `257`
+> hack check --parallel 2 --print-command-list
+| --parallel may not be used together with --print-command-list
+> hack check --parallel 2 --clean-per-run
+| --parallel may not be used together with --clean-per-run
+> hack check --parallel 2 --parallel 3
+| The argument '--parallel' was provided more than once, but cannot be used multiple times
+|
+| USAGE:
+|     cargo hack check --parallel
+|
+| For more information try --help
+|
 [words] Notices.
 > hack check --each-feature --ignore-unknown-features --include-features a
 | args
@@ -341,5 +360,5 @@ const LATE: &str = r"[words] There is a subcommand, or a list is asked for.
 
 #[test]
 fn rules_behind_the_subcommand(rt: HostRuntime) -> Result<(), Wrong> {
-    checked(rt.alloc(), LATE, "0 of 36 are wrong")
+    checked(rt.alloc(), LATE, "0 of 42 are wrong")
 }

@@ -11,6 +11,7 @@ use hack_process::process::Caller;
 use hack_run::host::Host;
 use hack_start::started::Started;
 use hack_start::system::System;
+use hack_starts::starts::Starts;
 use hack_term::term::Term;
 use std::alloc::Global;
 use std::io::Write;
@@ -33,7 +34,7 @@ pub struct Outside<'a, C: Caller, O: Write, E: Write> {
 /// Performs the call whose arguments and environment the system tells, as `perform` does, and
 /// returns its exit status, the files and the lockfiles. Where these can't be read, that is
 /// reported, and nothing else is done.
-pub fn call<S: System, F: Files, L: Files, K: Locks, G: Guards, C: Caller, O: Write, E: Write>(
+pub fn call<S: System, F: Files, L: Files, K: Locks, G: Guards, C: Starts, O: Write, E: Write>(
     alloc: Global,
     system: &S,
     files: F,

@@ -36,6 +36,7 @@ use hack_run::host::Host;
 use hack_run::journaled::run_journaled;
 use hack_run::reading::Reading;
 use hack_run::run::run;
+use hack_starts::starts::Starts;
 use hack_term::term::Term;
 use std::alloc::Global;
 use std::io::Write;
@@ -46,7 +47,7 @@ use std::io::Write;
 /// journal of its edits, under a lock of its workspace's folder, and a guard restores them where it
 /// ends early. `files` and `lockfiles` are the same file system.
 #[tactic(auto, using(hack_run::proofs::ReadingLemmas::some_or_refusal))]
-pub fn perform<F: Files, L: Files, K: Locks, G: Guards, C: Caller, O: Write, E: Write>(
+pub fn perform<F: Files, L: Files, K: Locks, G: Guards, C: Starts, O: Write, E: Write>(
     words: &[String],
     files: F,
     lockfiles: L,
@@ -101,7 +102,7 @@ pub(crate) fn report<E: Write>(fault: CallFault, term: &mut Term, err: &mut E) -
 
 /// Performs a call without a journal. Where it is to restore, there is nothing that it may.
 #[tactic(auto, using(hack_run::proofs::ReadingLemmas::some_or_refusal))]
-fn plainly<F: Files, C: Caller, O: Write, E: Write>(
+fn plainly<F: Files, C: Starts, O: Write, E: Write>(
     words: &[String],
     begun: Begun,
     files: &mut F,
@@ -141,7 +142,7 @@ fn tell_unrestored<E: Write>(is_left: bool, term: &Term, err: &mut E) {
 }
 
 /// Performs a call under its own lock.
-fn guarded<F: Files, L: Files, K: Locks, G: Guards, C: Caller, O: Write, E: Write>(
+fn guarded<F: Files, L: Files, K: Locks, G: Guards, C: Starts, O: Write, E: Write>(
     words: &[String],
     begun: Begun,
     files: F,
@@ -214,7 +215,7 @@ fn is_done(came: &Result<bool, CallFault>) -> bool
 
 /// Performs a call under its own lock, where nothing of an interrupted call is left.
 #[tactic(auto, using(hack_run::proofs::ReadingLemmas::some_or_refusal))]
-fn go_on<F: Files, L: Files, K: Locks, G: Guards, C: Caller, O: Write, E: Write>(
+fn go_on<F: Files, L: Files, K: Locks, G: Guards, C: Starts, O: Write, E: Write>(
     words: &[String],
     begun: Begun,
     files: F,
@@ -254,7 +255,7 @@ fn go_on<F: Files, L: Files, K: Locks, G: Guards, C: Caller, O: Write, E: Write>
 }
 
 /// Performs a call with a journal, under the eyes of a guard.
-fn journaled<F: Files, L: Files, G: Guards, C: Caller, O: Write, E: Write>(
+fn journaled<F: Files, L: Files, G: Guards, C: Starts, O: Write, E: Write>(
     words: &[String],
     begun: Begun,
     files: F,
@@ -290,7 +291,7 @@ fn journaled<F: Files, L: Files, G: Guards, C: Caller, O: Write, E: Write>(
 }
 
 /// Performs a call with a journal, after the lockfile was copied.
-fn copied<F: Files, L: Files, C: Caller, O: Write, E: Write>(
+fn copied<F: Files, L: Files, C: Starts, O: Write, E: Write>(
     words: &[String],
     begun: Begun,
     files: F,
@@ -328,7 +329,7 @@ fn tell_watch<E: Write>(watches: bool, verbose: bool, term: &Term, err: &mut E) 
 
 /// Performs a call over a journal, and closes it.
 #[tactic(auto, using(hack_run::proofs::ReadingLemmas::some_or_refusal))]
-fn over_journal<F: Files, L: Files, C: Caller, O: Write, E: Write>(
+fn over_journal<F: Files, L: Files, C: Starts, O: Write, E: Write>(
     words: &[String],
     begun: Begun,
     files: F,

@@ -15,9 +15,9 @@ ghost use Rattle.hack_term.specs.Lines.{IsExitStatus};
 
 use crate::asked::Asked;
 use hack_files::fs::Files;
-use hack_process::process::Caller;
 use hack_run::host::Host;
 use hack_run::run::run;
+use hack_starts::starts::Starts;
 use hack_term::term::Term;
 use std::alloc::Global;
 use std::io::Write;
@@ -25,7 +25,7 @@ use std::io::Write;
 /// Refuses a call that would change manifests, and performs any other, after a warning. `path` is
 /// what can't be looked at.
 #[tactic(auto, using(hack_run::proofs::ReadingLemmas::some_or_refusal))]
-pub(crate) fn blindly<F: Files, C: Caller, O: Write, E: Write>(
+pub(crate) fn blindly<F: Files, C: Starts, O: Write, E: Write>(
     words: &[String],
     asked: Asked,
     path: &str,

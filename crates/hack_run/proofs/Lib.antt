@@ -6,6 +6,7 @@ mod HeadlineLemmas
 mod JournalLemmas
 mod LoadingLemmas
 pub mod ReadingLemmas
+mod LaneLemmas
 mod RunLemmas
 mod ToldLemmas
 mod TraceLemmas

@@ -136,6 +136,9 @@ fn show_numbers(alloc: Global, fields: &mut Fields, args: &Args) -> Result<(), A
     if let Some(strength) = args.strength {
         fields.text("strength", format!(in alloc; "{strength}")?.as_str())?;
     }
+    if let Some(parallel) = args.parallel {
+        fields.text("parallel", format!(in alloc; "{parallel}")?.as_str())?;
+    }
     if let Some(piece) = args.partition {
         let text = format!(in alloc; "{}/{}", piece.piece, piece.count)?;
         fields.text("partition", text.as_str())?;
