@@ -117,3 +117,31 @@ pub goes_said : {S E : Type 0} (did : List Event → S → S → Type 0) (a b : 
     → IfOk came (λ (called : Called). Goes did (record { asked = asked; answer = answer_of called } ∷ []) a b) → OnErr came (Goes did [] a b) → (told : List Call) × Goes did told a b
 goes_said did a b asked (Ok called) told refused = (record { asked = asked; answer = answer_of called } ∷ [], told)
 goes_said did a b asked (Err e) told h = ([], h)
+
+-- an answer after some events without a call
+pub goes_behind : {S E : Type 0} (did : List Event → S → S → Type 0) (a b c : Scene S) (asked : Asked) (came : Result Called E)
+    → ((es fs : List Event) (x y z : S) → did es x y → did fs y z → did (es ++ fs) x z)
+    → Goes did [] a b → IfOk came (λ (called : Called). Goes did (record { asked = asked; answer = answer_of called } ∷ []) b c)
+    → IfOk came (λ (called : Called). Goes did (record { asked = asked; answer = answer_of called } ∷ []) a c)
+goes_behind did a b c asked came law p h =
+    IfOk-weaker came (λ (called : Called). Goes did (record { asked = asked; answer = answer_of called } ∷ []) b c)
+    (λ (called : Called). Goes did (record { asked = asked; answer = answer_of called } ∷ []) a c)
+    (λ (called : Called) (q : Goes did (record { asked = asked; answer = answer_of called } ∷ []) b c). goes_more did [] (record { asked = asked; answer = answer_of called } ∷ []) a b c law p q) h
+
+-- no answer after some events without a call
+pub goes_nowhere : {S E : Type 0} (did : List Event → S → S → Type 0) (a b c : Scene S) (asked : Asked) (came : Result Called E)
+    → ((es fs : List Event) (x y z : S) → did es x y → did fs y z → did (es ++ fs) x z)
+    → Goes did [] a b → OnErr came (Goes did [] b c) → OnErr came (MayGo did asked a c)
+goes_nowhere did a b c asked came law p h = on_err_weaker came (λ (q : Goes did [] b c). inl (goes_on did [] a b c law p q)) h
+
+may_behind : {S : Type 0} (did : List Event → S → S → Type 0) (a b c : Scene S) (asked : Asked)
+    → ((es fs : List Event) (x y z : S) → did es x y → did fs y z → did (es ++ fs) x z)
+    → Goes did [] a b → MayGo did asked b c → MayGo did asked a c
+may_behind did a b c asked law p (inl q) = inl (goes_on did [] a b c law p q)
+may_behind did a b c asked law p (inr q) = inr (q.0, goes_more did [] (record { asked = asked; answer = q.0 } ∷ []) a b c law p q.1)
+
+-- perhaps a call after some events without one
+pub goes_maybe : {S E : Type 0} (did : List Event → S → S → Type 0) (a b c : Scene S) (asked : Asked) (came : Result Called E)
+    → ((es fs : List Event) (x y z : S) → did es x y → did fs y z → did (es ++ fs) x z)
+    → Goes did [] a b → OnErr came (MayGo did asked b c) → OnErr came (MayGo did asked a c)
+goes_maybe did a b c asked came law p h = on_err_weaker came (λ (q : MayGo did asked b c). may_behind did a b c asked law p q) h

@@ -1,4 +1,3 @@
 pub mod Lanes
 pub mod Views
-pub mod Loans
 pub mod JoinedScenes

@@ -6,6 +6,7 @@ use Rattle.hack_starts.specs.Events.{Event}
 use Rattle.hack_lanes.specs.declared.job.Job.{Job}
 use Rattle.hack_lanes.specs.declared.child.Child.{Child}
 use Rattle.hack_lanes.specs.declared.lanes.Lanes.{Lanes}
+use Rattle.hack_lanes.specs.declared.lanes.Window.{Window}
 use Rattle.hack_lanes.specs.Lanes.{Offer, Pending, State, Turn, Scene}
 
 abbrev pub offer_of : Job → Offer
@@ -14,11 +15,14 @@ offer_of job = record { place = job.place; asked = asked_call (string_bytes job.
 abbrev pub pending_of : Child → Pending
 pending_of child = record { place = child.place; lane = child.lane; asked = asked_call (string_bytes child.program) child.words.items false; over = child.over }
 
-abbrev pub turn_of : {S : Type 0} → Lanes S → Turn
-turn_of lanes = record { place = lanes.turn; offers = map offer_of lanes.offers.items; width = lanes.width }
+abbrev pub turn_of : Window → Turn
+turn_of window = record { place = window.turn; offers = map offer_of window.offers.items; width = window.width }
 
-abbrev pub state_of : {S : Type 0} → Lanes S → State
-state_of lanes = record { last = lanes.last; pending = map pending_of lanes.children.items }
+abbrev pub state_of : Window → State
+state_of window = record { last = window.last; pending = map pending_of window.children.items }
 
-abbrev pub scene_of : {S : Type 0} → Lanes S → Scene S
-scene_of lanes = record { turn = turn_of lanes; state = state_of lanes; starts = lanes.starts.now }
+abbrev pub scene_of : {S : Type 0} → Window → S → Scene S
+scene_of window starts = record { turn = turn_of window; state = state_of window; starts = starts }
+
+abbrev pub scene_in : {S : Type 0} → Lanes S → Scene S
+scene_in lanes = scene_of lanes.window.now lanes.starts.now

@@ -6,7 +6,6 @@ ghost use Rattle.std.specs.Prelude.{slice_get, true};
 ghost use Rattle.hack_process.specs.Calls.{WroteNothing, answer_of, asked_call};
 ghost use Rattle.hack_lanes.specs.Lanes.{Goes, IsNew, MayGo, is_free};
 ghost use Rattle.hack_lanes.specs.Views.{offer_of, pending_of, scene_of, state_of, turn_of};
-ghost use Rattle.hack_lanes.specs.Loans.{IsHandedOver};
 
 use crate::child::Child;
 use crate::job::Job;
@@ -14,13 +13,11 @@ use hack_process::process::{Called, Caller};
 use hack_starts::starts::{Lane, Starts};
 use std::alloc::{AllocError, Global};
 
-/// Runs commands through who starts them, some of them ahead of their turn. Without a turn each is
-/// run to its end, and nothing else runs meanwhile.
+/// What was offered for the turn of a place, and what was started and isn't told yet.
 #[derive(Drop)]
-pub struct Lanes<'a, S: Starts> {
-    pub(crate) starts: &'a mut S,
+pub struct Window {
     pub(crate) width: usize,
-    pub(crate) folder: &'a str,
+    pub(crate) folder: String,
     /// The place whose turn it is.
     pub(crate) turn: Option<usize>,
     /// What may be started at this turn, in the order of their places.
@@ -31,16 +28,14 @@ pub struct Lanes<'a, S: Starts> {
     pub(crate) children: Vec<Child>,
 }
 
-impl<'a, S: Starts> Lanes<'a, S> {
-    /// Lanes in which so many commands run at once, and in which none was started. Lanes other than
-    /// 0 build into folders of their own below `folder`.
-    pub fn new(alloc: Global, starts: &'a mut S, width: usize, folder: &'a str) -> Lanes<'a, S>
-        ensures starts { IsHandedOver starts.entry result.starts }
+impl Window {
+    /// A window in which so many commands run at once, and in which none was started. Lanes other
+    /// than 0 build into folders of their own below `folder`.
+    pub fn new(alloc: Global, width: usize, folder: String) -> Window
         ensures turn { turn_of result ≡ record { place = None; offers = []; width = width } }
         ensures state { state_of result ≡ record { last = None; pending = [] } }
     {
-        Lanes {
-            starts,
+        Window {
             width,
             folder,
             turn: None,
@@ -91,7 +86,6 @@ impl<'a, S: Starts> Lanes<'a, S> {
           width = (turn_of self.old).width;
         } }
         ensures state { state_of self.new ≡ state_of self.old }
-        ensures starts { IsHandedOver self.old.starts self.new.starts }
     {
         self.turn = Some(place);
         self.offers = offers;
@@ -105,41 +99,40 @@ impl<'a, S: Starts> Lanes<'a, S> {
           width = (turn_of self.old).width;
         } }
         ensures state { state_of self.new ≡ state_of self.old }
-        ensures starts { IsHandedOver self.old.starts self.new.starts }
     {
         self.turn = None;
         self.offers.clear();
     }
 
     /// Ends each command that was started and isn't told, and drops its outcome.
-    pub fn clear(&mut self, alloc: Global)
-        ensures goes { Goes S.did [] (scene_of self.old) (scene_of self.new) }
+    pub fn clear<S: Starts>(&mut self, alloc: Global, starts: &mut S)
+        ensures goes { Goes S.did [] (scene_of self.old starts.old)
+            (scene_of self.new starts.new) }
         ensures none { (state_of self.new).pending ≡ [] }
-        ensures starts { self.new.starts.ghost_name ≡ self.old.starts.ghost_name }
     {
         while !self.children.is_empty() {
-            self.abandon_first(alloc);
+            self.abandon_first(alloc, starts);
         }
     }
 
     /// Ends the first of the started commands.
-    fn abandon_first(&mut self, alloc: Global)
+    fn abandon_first<S: Starts>(&mut self, alloc: Global, starts: &mut S)
         requires { 0 < length self.old.children.items }
-        ensures goes { Goes S.did [] (scene_of self.old) (scene_of self.new) }
+        ensures goes { Goes S.did [] (scene_of self.old starts.old)
+            (scene_of self.new starts.new) }
         ensures fewer { length self.new.children.items < length self.old.children.items }
-        ensures starts { self.new.starts.ghost_name ≡ self.old.starts.ghost_name }
     {
         let child = self.children.remove(0);
-        self.starts.abandon(alloc, child.place);
+        starts.abandon(alloc, child.place);
     }
 
     /// Starts what was offered, in order, as long as a lane is free.
-    fn fill(&mut self, alloc: Global)
-        ensures goes { Goes S.did [] (scene_of self.old) (scene_of self.new) }
-        ensures starts { self.new.starts.ghost_name ≡ self.old.starts.ghost_name }
+    fn fill<S: Starts>(&mut self, alloc: Global, starts: &mut S)
+        ensures { Goes S.did [] (scene_of self.old starts.old)
+            (scene_of self.new starts.new) }
     {
         for index in 0..self.offers.len() {
-            if !self.start(alloc, index) {
+            if !self.start(alloc, starts, index) {
                 return;
             }
         }
@@ -147,9 +140,9 @@ impl<'a, S: Starts> Lanes<'a, S> {
 
     /// Starts one of the offered commands in a free lane, where it wasn't started before. False
     /// where there is none, or where the command can't be started now.
-    fn start(&mut self, alloc: Global, index: usize) -> bool
-        ensures goes { Goes S.did [] (scene_of self.old) (scene_of self.new) }
-        ensures starts { self.new.starts.ghost_name ≡ self.old.starts.ghost_name }
+    fn start<S: Starts>(&mut self, alloc: Global, starts: &mut S, index: usize) -> bool
+        ensures { Goes S.did [] (scene_of self.old starts.old)
+            (scene_of self.new starts.new) }
     {
         let Some(job) = self.offers.get(index) else {
             return false;
@@ -163,11 +156,17 @@ impl<'a, S: Starts> Lanes<'a, S> {
         let Ok(child) = Child::new(alloc, lane, job) else {
             return false;
         };
-        self.start_in(alloc, index, child)
+        self.start_in(alloc, starts, index, child)
     }
 
     /// Starts one of the offered commands in a lane that no command runs in.
-    fn start_in(&mut self, alloc: Global, index: usize, child: Child) -> bool
+    fn start_in<S: Starts>(
+        &mut self,
+        alloc: Global,
+        starts: &mut S,
+        index: usize,
+        child: Child,
+    ) -> bool
         requires offered { IsSomeAnd (slice_get self.old.offers.items index) (λ job.
             pending_of child ≡ record {
               place = job.place;
@@ -179,14 +178,14 @@ impl<'a, S: Starts> Lanes<'a, S> {
         requires within { child.lane < self.old.width }
         requires ahead { length self.old.children.items < 2 * self.old.width }
         requires alone { is_free child.lane (map pending_of self.old.children.items) ≡ true }
-        ensures goes { Goes S.did [] (scene_of self.old) (scene_of self.new) }
-        ensures starts { self.new.starts.ghost_name ≡ self.old.starts.ghost_name }
+        ensures { Goes S.did [] (scene_of self.old starts.old)
+            (scene_of self.new starts.new) }
     {
         let place = child.place;
         let lane = Lane {
             number: child.lane,
             count: self.width,
-            folder: self.folder,
+            folder: self.folder.as_str(),
         };
         let Some(job) = self.offers.get(index) else {
             return false;
@@ -195,7 +194,7 @@ impl<'a, S: Starts> Lanes<'a, S> {
             return false;
         };
         let (program, words) = (job.program.as_str(), job.words.as_slice());
-        if self.starts.start(alloc, place, lane, program, words) {
+        if starts.start(alloc, place, lane, program, words) {
             self.last = Some(place);
             return true;
         }
@@ -234,18 +233,18 @@ impl<'a, S: Starts> Lanes<'a, S> {
     }
 
     /// Looks which of the started commands have ended.
-    fn look(&mut self)
-        ensures goes { Goes S.did [] (scene_of self.old) (scene_of self.new) }
-        ensures starts { self.new.starts.ghost_name ≡ self.old.starts.ghost_name }
+    fn look<S: Starts>(&mut self, starts: &mut S)
+        ensures { Goes S.did [] (scene_of self.old starts.old)
+            (scene_of self.new starts.new) }
     {
         for index in 0..self.children.len() {
-            self.look_at(index);
+            self.look_at(index, starts);
         }
     }
 
-    fn look_at(&mut self, index: usize)
-        ensures goes { Goes S.did [] (scene_of self.old) (scene_of self.new) }
-        ensures starts { self.new.starts.ghost_name ≡ self.old.starts.ghost_name }
+    fn look_at<S: Starts>(&mut self, index: usize, starts: &mut S)
+        ensures { Goes S.did [] (scene_of self.old starts.old)
+            (scene_of self.new starts.new) }
     {
         let Some(child) = self.children.get(index) else {
             return;
@@ -253,7 +252,7 @@ impl<'a, S: Starts> Lanes<'a, S> {
         if child.over {
             return;
         }
-        if self.starts.has_ended(child.place) {
+        if starts.has_ended(child.place) {
             self.children[index].over = true;
         }
     }
@@ -271,32 +270,65 @@ impl<'a, S: Starts> Lanes<'a, S> {
         }
     }
 
+    /// Tells what came of the turn's own command, which is started with others behind it. Where it
+    /// can't be started, it is run by itself.
+    fn run_in_turn<S: Starts>(
+        &mut self,
+        alloc: Global,
+        starts: &mut S,
+        place: usize,
+        program: &str,
+        words: &[String],
+    ) -> Result<Called, AllocError>
+        requires { self.old.turn ≡ Some place }
+        ensures told { IfOk result (λ called. Goes S.did (record {
+          asked = asked_call program.now words.now false;
+          answer = answer_of called;
+        } ∷ []) (scene_of self.old starts.old) (scene_of self.new starts.new)) }
+        ensures refused { OnErr result (MayGo S.did (asked_call program.now words.now false)
+            (scene_of self.old starts.old) (scene_of self.new starts.new)) }
+        ensures silent { IfOk result (λ called. WroteNothing (answer_of called)) }
+    {
+        self.await_turn(alloc, starts, place, program, words);
+        if self.is_first(place, program, words) {
+            return self.tell_first(alloc, starts, place, program, words);
+        }
+        self.run_alone(alloc, starts, program, words, false)
+    }
+
     /// Starts what was offered, and waits for the turn's own command where it is the first of the
     /// started ones.
-    fn await_turn(&mut self, alloc: Global, place: usize, program: &str, words: &[String])
-        ensures goes { Goes S.did [] (scene_of self.old) (scene_of self.new) }
-        ensures starts { self.new.starts.ghost_name ≡ self.old.starts.ghost_name }
+    fn await_turn<S: Starts>(
+        &mut self,
+        alloc: Global,
+        starts: &mut S,
+        place: usize,
+        program: &str,
+        words: &[String],
+    )
+        ensures { Goes S.did [] (scene_of self.old starts.old)
+            (scene_of self.new starts.new) }
     {
-        self.fill(alloc);
+        self.fill(alloc, starts);
         if self.is_first(place, program, words) {
-            self.await_first(alloc);
+            self.await_first(alloc, starts);
         }
     }
 
     /// Waits until the first of the started commands has ended, and starts others meanwhile.
-    fn await_first(&mut self, alloc: Global)
-        ensures goes { Goes S.did [] (scene_of self.old) (scene_of self.new) }
-        ensures starts { self.new.starts.ghost_name ≡ self.old.starts.ghost_name }
+    fn await_first<S: Starts>(&mut self, alloc: Global, starts: &mut S)
+        ensures { Goes S.did [] (scene_of self.old starts.old)
+            (scene_of self.new starts.new) }
     {
         for _ in 0..u64::MAX {
-            self.look();
+            self.look(starts);
             if self.is_first_over() {
                 return;
             }
-            self.fill(alloc);
+            self.fill(alloc, starts);
             let running = self.count_running();
             let ended = self.children.len().saturating_sub(running);
-            self.starts.pause(alloc, ended, running);
+            starts.pause(alloc, ended, running);
         }
     }
 
@@ -313,9 +345,10 @@ impl<'a, S: Starts> Lanes<'a, S> {
     }
 
     /// Tells how the first of the started commands ended.
-    fn tell_first(
+    fn tell_first<S: Starts>(
         &mut self,
         alloc: Global,
+        starts: &mut S,
         place: usize,
         program: &str,
         words: &[String],
@@ -327,19 +360,21 @@ impl<'a, S: Starts> Lanes<'a, S> {
         ensures told { IfOk result (λ called. Goes S.did (record {
           asked = asked_call program.now words.now false;
           answer = answer_of called;
-        } ∷ []) (scene_of self.old) (scene_of self.new)) }
-        ensures refused { OnErr result (Goes S.did [] (scene_of self.old) (scene_of self.new)) }
+        } ∷ []) (scene_of self.old starts.old)
+            (scene_of self.new starts.new)) }
+        ensures refused { OnErr result (Goes S.did [] (scene_of self.old starts.old)
+            (scene_of self.new starts.new)) }
         ensures silent { IfOk result (λ called. WroteNothing (answer_of called)) }
-        ensures starts { self.new.starts.ghost_name ≡ self.old.starts.ghost_name }
     {
         self.children.remove(0);
-        self.starts.finish(alloc, place, program, words)
+        starts.finish(alloc, place, program, words)
     }
 
     /// Runs a command to its end, while nothing else runs.
-    fn run_alone(
+    fn run_alone<S: Starts>(
         &mut self,
         alloc: Global,
+        starts: &mut S,
         program: &str,
         words: &[String],
         capture: bool,
@@ -347,18 +382,19 @@ impl<'a, S: Starts> Lanes<'a, S> {
         ensures told { IfOk result (λ called. Goes S.did (record {
           asked = asked_call program.now words.now capture;
           answer = answer_of called;
-        } ∷ []) (scene_of self.old) (scene_of self.new)) }
+        } ∷ []) (scene_of self.old starts.old)
+            (scene_of self.new starts.new)) }
         ensures refused { OnErr result (MayGo S.did (asked_call program.now words.now capture)
-            (scene_of self.old) (scene_of self.new)) }
+            (scene_of self.old starts.old)
+            (scene_of self.new starts.new)) }
         ensures silent { capture ≡ false →
             IfOk result (λ called. WroteNothing (answer_of called)) }
-        ensures starts { self.new.starts.ghost_name ≡ self.old.starts.ghost_name }
     {
-        self.clear(alloc);
+        self.clear(alloc, starts);
         if !self.is_turn_new() {
             return Err(AllocError);
         }
-        self.starts.perform(alloc, program, words, capture)
+        starts.perform(alloc, program, words, capture)
     }
 
     /// The place whose turn it is, for a call without capture.
@@ -380,12 +416,20 @@ impl<'a, S: Starts> Lanes<'a, S> {
     }
 }
 
-/// Each call is told what came of its command alone. At a turn the turn's own command is started,
-/// with others behind it, and waited for; where it can't be started, and for any other call, all
-/// that was started is ended, and the command is run by itself.
+/// Runs commands through who starts them, some of them ahead of their turn. Each call is told what
+/// came of its command alone. At a turn the turn's own command is started, with others behind it,
+/// and waited for; where it can't be started, and for any other call, all that was started is
+/// ended, and the command is run by itself.
+#[derive(Drop)]
+pub struct Lanes<'a, S: Starts> {
+    pub starts: &'a mut S,
+    pub window: &'a mut Window,
+}
+
 impl<S: Starts> Caller for Lanes<'_, S> {
     ghost use Rattle.std.proofs.Common.{◌∙◌, refl};
     ghost use Rattle.hack_lanes.specs.JoinedScenes.{course_after, goes_none};
+    ghost use Rattle.hack_lanes.specs.Views.{scene_in};
     ghost use Rattle.hack_process.specs.Calls.{Call};
     ghost use Rattle.std.specs.Prelude.{List};
 
@@ -394,16 +438,19 @@ impl<S: Starts> Caller for Lanes<'_, S> {
     ghost calls = { λ lanes. S.calls lanes.starts.now };
 
     ghost course = { λ a b. (b.starts.ghost_name ≡ a.starts.ghost_name)
-        × ((told : List Call) × Goes S.did told (scene_of a) (scene_of b)) };
+        × (b.window.ghost_name ≡ a.window.ghost_name)
+        × ((told : List Call) × Goes S.did told (scene_in a) (scene_in b)) };
 
     ghost course_none = { λ a. (
       refl,
-      ([], goes_none S.did (scene_of a) (S.did_none a.starts.now)),
+      refl,
+      ([], goes_none S.did (scene_in a) (S.did_none a.starts.now)),
     ) };
 
     ghost course_more = { λ a b c p q. (
       q.0 ∙ p.0,
-      course_after S.did (scene_of a) (scene_of b) (scene_of c) S.did_more p.1 q.1,
+      q.1 ∙ p.1,
+      course_after S.did (scene_in a) (scene_in b) (scene_in c) S.did_more p.2 q.2,
     ) };
 
     fn call(
@@ -413,13 +460,12 @@ impl<S: Starts> Caller for Lanes<'_, S> {
         words: &[String],
         capture: bool,
     ) -> Result<Called, AllocError> {
-        let Some(place) = self.own_turn(capture) else {
-            return self.run_alone(alloc, program, words, capture);
+        let Some(place) = self.window.own_turn(capture) else {
+            return self
+                .window
+                .run_alone(alloc, self.starts, program, words, capture);
         };
-        self.await_turn(alloc, place, program, words);
-        if self.is_first(place, program, words) {
-            return self.tell_first(alloc, place, program, words);
-        }
-        self.run_alone(alloc, program, words, capture)
+        self.window
+            .run_in_turn(alloc, self.starts, place, program, words)
     }
 }

@@ -34,7 +34,7 @@ use Rattle.hack_session.specs.Handouts.{IsDriven}
 use Rattle.hack_run.specs.InternalExtensions.{Extends}
 use Rattle.hack_run.specs.Internal.{HandsOverAtMostOne, ListsOver, PerformsAtMostOne, host_writing}
 use Rattle.hack_run.specs.Warnings.{Warned}
-use Rattle.hack_run.proofs.TraceLemmas.{all_shown, unended}
+use Rattle.hack_run.proofs.TraceLemmas.{all_shown, one_told, unended}
 use Rattle.hack_run.specs.Worlds.{HostView}
 use Rattle.hack_run.proofs.GatherLemmas.{known-none}
 
@@ -263,6 +263,10 @@ runs_some cx stable rustup course notes old new mid before now same planned driv
   warns = λ e. unended e;
 })
 
+-- the same to calls by another name
+pub performed_to : (plan : PlanView) (handed : List Handed) (old new other : List Call) (before now : ℕ) → new ≡ other → HasPerformed plan handed old new before now → HasPerformed plan handed old other before now
+performed_to plan handed old new other before now same h = subst (λ (calls : List Call). HasPerformed plan handed old calls before now) same h
+
 -- a list that was handed over, each step of which passed or was listed where no error was reported
 pub lists_one : {R : Type 0} (had has : Option (List ℕ)) (Told : List Note → R → R → Type 0) (Ran : PlanView → List Handed → R → R → Type 0) (cx : ContextRecord) (stable : Result (Option Version) (String Global)) (rustup : Name) (a b : R) (l : ListsOver (Unit {0}) had has Told Ran cx stable rustup a b)
     → (calls : R → List Call) (before now : ℕ) (was term : Term) (fault : Option ProcessFault) → calls l.over.mid ≡ calls a → HasPerformed l.over.course.plan (filter is_sent l.over.course.handed) (calls l.over.mid) (calls b) before now
@@ -279,3 +283,9 @@ lists_one had has Told Ran cx stable rustup a b l calls before now was term faul
   passed = λ e. all_handed l.over.course.handed (all_passed (filter is_sent l.over.course.handed) term fault told none quiet) l.listed;
   warns = λ e. warned;
 }
+
+-- whatever is noted afterwards, one history at most was performed
+pub some_told : (listing : Bool) (cx : ContextRecord) (stable : Result (Option Version) (String Global)) (rustup : Name) (old new : HostView) (now : Term) → PerformsAtMostOne listing cx stable rustup old new
+    → PerformsAtMostOne listing cx stable rustup old (record new { term = now })
+some_told listing cx stable rustup old new now (inl h) = inl h
+some_told listing cx stable rustup old new now (inr h) = inr (one_told false listing cx stable rustup old.term.warn old new old.term now (λ e. unended e) h)

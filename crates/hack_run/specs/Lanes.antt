@@ -6,10 +6,7 @@ use Rattle.hack_base.specs.Names.{Name}
 use Rattle.hack_base.specs.Notes.{Note}
 use Rattle.hack_versions.specs.declared.version.Version.{Version}
 use Rattle.hack_load.specs.Contexts.{ContextRecord}
-use Rattle.hack_plan.specs.declared.partition.Partition.{Partition}
-use Rattle.hack_plan.specs.View.{PlanView}
 use Rattle.hack_planner.specs.CallPlan.{IsPlanOf}
-use Rattle.hack_session.specs.declared.step.Handed.{Handed}
 use Rattle.hack_session.specs.Handouts.{IsDriven}
 use Rattle.hack_session.specs.Histories.{Course}
 use Rattle.hack_starts.specs.Events.{Event}
@@ -24,25 +21,27 @@ scene_at width s = record {
   starts = s;
 }
 
--- Steps of a plan were performed by the rules of lanes, from the first on; then all that was started
--- and not told was ended.
-pub record RunsInLanes {S : Type 0} (did : List Event → S → S → Type 0) (width : ℕ) (piece : Option Partition) (plan : PlanView) (handed : List Handed) (old new : S) : Type 0 where
-  pub mid : Scene S
-  pub last : Scene S
-  pub ran : RunsAll did piece plan handed (scene_at width old) mid
-  pub ended : Goes did [] mid last
-  pub none : last.state.pending ≡ []
-  pub now : last.starts ≡ new
-
--- one history of a context's plan was performed in as many lanes as the arguments ask for
-pub record RunsOneInLanes {S : Type 0} (did : List Event → S → S → Type 0) (cx : ContextRecord)
-    (stable : Result (Option Version) (String Global)) (rustup : Name) (old new : S) : Type 0 where
+-- one history of a context's plan, made with this answer on stable's version, was performed by the
+-- rules of lanes
+pub record RunsOne {S : Type 0} (did : List Event → S → S → Type 0) (cx : ContextRecord)
+    (stable : Result (Option Version) (String Global)) (rustup : Name) (old new : Scene S) : Type 0 where
   pub course : Course
   pub notes : List Note
   pub planned : IsPlanOf cx.args.subcommand stable cx rustup course.plan notes
   pub driven : IsDriven cx.args.partition cx.args.keep_going course
-  pub lanes : RunsInLanes did (unwrap_or cx.args.parallel 1) cx.args.partition course.plan course.handed old new
+  pub ran : RunsAll did cx.args.partition course.plan course.handed old new
+
+-- One history was performed in as many lanes as the arguments ask for, from fresh ones on; and then
+-- all that was started and not told was ended.
+pub record RunsInLanes {S : Type 0} (did : List Event → S → S → Type 0) (cx : ContextRecord)
+    (stable : Result (Option Version) (String Global)) (rustup : Name) (old new : S) : Type 0 where
+  pub mid : Scene S
+  pub last : Scene S
+  pub one : RunsOne did cx stable rustup (scene_at (unwrap_or cx.args.parallel 1) old) mid
+  pub ended : Goes did [] mid last
+  pub none : last.state.pending ≡ []
+  pub now : last.starts ≡ new
 
 -- the same, or nothing was handed out
 abbrev pub MayRunInLanes : {S : Type 0} → (List Event → S → S → Type 0) → ContextRecord → Result (Option Version) (String Global) → Name → S → S → Type 0
-MayRunInLanes did cx stable rustup old new = (new ≡ old) ⊎ RunsOneInLanes did cx stable rustup old new
+MayRunInLanes did cx stable rustup old new = (new ≡ old) ⊎ RunsInLanes did cx stable rustup old new

@@ -1,12 +1,14 @@
 //! The runs of a plan, and the report of those that failed.
 
-ghost use Rattle.std.specs.Prelude.{◌≡◌, None, OnOk, false, string_bytes, true};
+ghost use Rattle.std.specs.Prelude.{◌≡◌, None, OnErr, OnOk, false, string_bytes, true};
 ghost use Rattle.std.specs.Option.{unwrap_or};
 ghost use Rattle.hack_load.specs.ContextView.{context_view};
-ghost use Rattle.hack_run.specs.Internal.{MayPerformItsPlan, PerformsItsPlan};
-ghost use Rattle.hack_run.specs.Lanes.{MayRunInLanes};
+ghost use Rattle.hack_lanes.specs.Views.{scene_of};
+ghost use Rattle.hack_run.specs.CallTrace.{PerformsOne};
+ghost use Rattle.hack_run.specs.Internal.{MayPerformItsPlan, PerformsAtMostOne, PerformsItsPlan};
+ghost use Rattle.hack_run.specs.Lanes.{MayRunInLanes, RunsOne};
 ghost use Rattle.hack_run.specs.Questions.{IsAnswered};
-ghost use Rattle.hack_run.specs.Worlds.{IsSameHost};
+ghost use Rattle.hack_run.specs.Worlds.{IsSameHost, host_in};
 
 use crate::drive::drive_context;
 use crate::explain::explain;
@@ -72,17 +74,48 @@ fn hand_to_starter<C: Starts, O: Write, E: Write>(
         (string_bytes host.old.env.now.rustup) host.old.caller.now host.new.caller.now }
 {
     let rustup = host.env.rustup.as_str();
-    let (log_group, keep_going) = manner(cx.args());
     let folder = target_folder(host.alloc, cx)?;
     let mut lanes = Lanes::new(host.alloc, host.caller, width(cx.args()), folder.as_str());
-    let mut starter = Starter::new(host.alloc, &mut lanes, host.term, host.out, host.err, fault);
+    let session = hand_out(
+        host.alloc, cx, rustup, stable, &mut lanes, host.term, host.out, host.err, fault,
+    )?;
+    lanes.clear(host.alloc);
+    Ok(session)
+}
+
+/// Hands the plan to a starter whose programs are called in lanes.
+fn hand_out<C: Starts, O: Write, E: Write>(
+    alloc: Global,
+    cx: &Context,
+    rustup: &str,
+    stable: Result<Option<Version>, String>,
+    lanes: &mut Lanes<'_, C>,
+    term: &mut Term,
+    out: &mut O,
+    err: &mut E,
+    fault: &mut Option<ProcessFault>,
+) -> Result<Session, PlanFault>
+    requires { IsAnswered (context_view cx.now).args stable }
+    ensures done { OnOk result (fault.new ≡ None → term.new.error ≡ false → C.tells
+        → PerformsOne true false (context_view cx.now) stable rustup.now term.old.warn
+        (host_in C.Caller O.Write lanes.old out.old term.old)
+        (host_in C.Caller O.Write lanes.new out.new term.new)) }
+    ensures made { C.tells → PerformsAtMostOne false (context_view cx.now) stable rustup.now
+        (host_in C.Caller O.Write lanes.old out.old term.old)
+        (host_in C.Caller O.Write lanes.new out.new term.new) }
+    ensures lanes { OnOk result (RunsOne C.did (context_view cx.now) stable rustup.now
+        (scene_of lanes.old) (scene_of lanes.new)) }
+    ensures refused { OnErr result (scene_of lanes.new ≡ scene_of lanes.old) }
+    ensures loan { lanes.new.starts.ghost_name ≡ lanes.old.starts.ghost_name }
+{
+    let (log_group, keep_going) = manner(cx.args());
+    let mut starter = Starter::new(alloc, lanes, term, out, err, fault);
     starter.set_manner(log_group, keep_going);
     let mut side = Side {
         starter,
         piece: cx.args().partition,
     };
-    let session = drive_context(host.alloc, cx, rustup, stable, &mut side)?;
-    lanes.clear(host.alloc);
+    let session = drive_context(alloc, cx, rustup, stable, &mut side)?;
     Ok(session)
 }
 

@@ -1,13 +1,9 @@
 -- A step with its turn.
-use Rattle.std.proofs.Common.{◌≡◌, Bool, List, Option, refl, sym, ◌∙◌, ap, subst}
+use Rattle.std.proofs.Common.{◌≡◌, List, Option, refl, sym, ◌∙◌, ap, subst}
 use Rattle.hack_process.specs.Calls.{Call}
-use Rattle.hack_process.specs.declared.fault.ProcessFault.{ProcessFault}
 use Rattle.hack_plan.specs.declared.partition.Partition.{Partition}
 use Rattle.hack_plan.specs.View.{PlanView}
 use Rattle.hack_session.specs.declared.step.Step.{Step}
-use Rattle.hack_session.specs.declared.step.Handed.{Handed}
-use Rattle.hack_session.specs.StepEffects.{DoesAll, State as Seen}
-use Rattle.hack_session.specs.StepOutput.{Manner}
 use Rattle.hack_starts.specs.Events.{Event}
 use Rattle.hack_lanes.specs.Lanes.{State, Turn, Follows, Scene, Goes}
 use Rattle.hack_side.specs.Turns.{IsTurnFor, RunsStep}
@@ -30,8 +26,3 @@ ran_step {S} did piece plan step old given came new state starts fits width went
   };
   kept = kept ∙ ap (λ (t : Turn). t.width) went.1.turn ∙ width;
 }
-
--- the same calls by other names
-pub does_at : (tells : Type 0) (keep_going : Bool) (m : Manner) (plan : PlanView) (steps : List Handed) (a b c d : Seen) → a ≡ c → b ≡ d → DoesAll tells keep_going m plan steps a b → DoesAll tells keep_going m plan steps c d
-does_at tells keep_going m plan steps a b c d e f h =
-    subst (λ (s : Seen). DoesAll tells keep_going m plan steps s d) e (subst (λ (s : Seen). DoesAll tells keep_going m plan steps a s) f h)

@@ -2,15 +2,14 @@
 
 ghost use Rattle.std.specs.Prelude.{◌≡◌};
 ghost use Rattle.std.proofs.Common.{◌∙◌, refl};
-ghost use Rattle.hack_lanes.specs.Views.{scene_of, turn_of, state_of};
-ghost use Rattle.hack_lanes.specs.Loans.{IsHandedOver};
+ghost use Rattle.hack_lanes.specs.Views.{scene_in, state_of, turn_of};
 ghost use Rattle.hack_side.specs.Beside.{DoesSteps, does_more, does_none};
 ghost use Rattle.hack_side.specs.JoinedRuns.{runs_more};
 ghost use Rattle.hack_side.specs.Turns.{IsTurnFor, RunsAll};
 
 use crate::offers::Outlook;
 use hack_base::writes::Sink;
-use hack_lanes::lanes::Lanes;
+use hack_lanes::lanes::{Lanes, Window};
 use hack_plan::partition::Partition;
 use hack_plan::plan::Plan;
 use hack_session::session::{Outcome, Runner, Starter, Step};
@@ -27,60 +26,54 @@ pub struct Side<'a, 'b, S: Starts, O: Sink, E: Sink> {
 }
 
 /// Gives a run's place its turn, where several run at once.
-fn give_turn<S: Starts>(
-    alloc: Global,
-    plan: &Plan,
-    piece: Option<Partition>,
-    step: Step,
-    lanes: &mut Lanes<'_, S>,
-)
-    ensures fits { IsTurnFor piece plan.now step (turn_of lanes.new) }
-    ensures width { (turn_of lanes.new).width ≡ (turn_of lanes.old).width }
-    ensures state { state_of lanes.new ≡ state_of lanes.old }
-    ensures starts { IsHandedOver lanes.old.starts lanes.new.starts }
+fn give_turn(alloc: Global, plan: &Plan, piece: Option<Partition>, step: Step, window: &mut Window)
+    ensures fits { IsTurnFor piece plan.now step (turn_of window.new) }
+    ensures width { (turn_of window.new).width ≡ (turn_of window.old).width }
+    ensures state { state_of window.new ≡ state_of window.old }
 {
     match step {
-        Step::Run(place) => give_run_turn(alloc, plan, piece, place, lanes),
-        Step::Prepare(_) | Step::Skip(_) => lanes.take_turn(),
+        Step::Run(place) => give_run_turn(alloc, plan, piece, place, window),
+        Step::Prepare(_) | Step::Skip(_) => window.take_turn(),
     }
 }
 
 /// Gives a run's place its turn, where several run at once.
-fn give_run_turn<S: Starts>(
+fn give_run_turn(
     alloc: Global,
     plan: &Plan,
     piece: Option<Partition>,
     place: usize,
-    lanes: &mut Lanes<'_, S>,
+    window: &mut Window,
 )
-    ensures fits { IsTurnFor piece plan.now (Step.Run place) (turn_of lanes.new) }
-    ensures width { (turn_of lanes.new).width ≡ (turn_of lanes.old).width }
-    ensures state { state_of lanes.new ≡ state_of lanes.old }
-    ensures starts { IsHandedOver lanes.old.starts lanes.new.starts }
+    ensures fits { IsTurnFor piece plan.now (Step.Run place) (turn_of window.new) }
+    ensures width { (turn_of window.new).width ≡ (turn_of window.old).width }
+    ensures state { state_of window.new ≡ state_of window.old }
 {
-    if lanes.width() <= 1 {
-        lanes.take_turn();
+    if window.width() <= 1 {
+        window.take_turn();
         return;
     }
     let outlook = Outlook {
         piece,
         place,
-        last: lanes.last(),
-        room: lanes.room(),
+        last: window.last(),
+        room: window.room(),
     };
     let offers = outlook.offers(alloc, plan);
-    lanes.give_turn(place, offers);
+    window.give_turn(place, offers);
 }
 
 impl<S: Starts, O: Sink, E: Sink> Runner for Side<'_, '_, S, O, E> {
     ghost ran = { λ plan steps a b. (b.piece ≡ a.piece)
         × (b.starter.caller.now.starts.ghost_name ≡ a.starter.caller.now.starts.ghost_name)
-        × RunsAll S.did a.piece plan steps (scene_of a.starter.caller.now)
-        (scene_of b.starter.caller.now)
+        × (b.starter.caller.now.window.ghost_name ≡ a.starter.caller.now.window.ghost_name)
+        × RunsAll S.did a.piece plan steps (scene_in a.starter.caller.now)
+        (scene_in b.starter.caller.now)
         × DoesSteps S.tells (λ lanes. S.calls lanes.starts.now) O.Sink E.Sink plan steps
         a.starter b.starter };
 
     ghost ran_none = { λ plan a. (
+      refl,
       refl,
       refl,
       refl,
@@ -90,10 +83,11 @@ impl<S: Starts, O: Sink, E: Sink> Runner for Side<'_, '_, S, O, E> {
     ghost ran_more = { λ plan steps more a b c p q. (
       q.0 ∙ p.0,
       q.1 ∙ p.1,
-      runs_more S.did a.piece b.piece plan steps more (scene_of a.starter.caller.now)
-          (scene_of b.starter.caller.now) (scene_of c.starter.caller.now) p.0 p.2 q.2,
+      q.2 ∙ p.2,
+      runs_more S.did a.piece b.piece plan steps more (scene_in a.starter.caller.now)
+          (scene_in b.starter.caller.now) (scene_in c.starter.caller.now) p.0 p.3 q.3,
       does_more S.tells (λ lanes. S.calls lanes.starts.now) O.Sink E.Sink plan steps more
-          a.starter b.starter c.starter p.3 q.3,
+          a.starter b.starter c.starter p.4 q.4,
     ) };
 
     fn step(&mut self, plan: &Plan, step: Step) -> Outcome {
@@ -102,10 +96,10 @@ impl<S: Starts, O: Sink, E: Sink> Runner for Side<'_, '_, S, O, E> {
             plan,
             self.piece,
             step,
-            self.starter.caller,
+            self.starter.caller.window,
         );
         let outcome = self.starter.step(plan, step);
-        self.starter.caller.take_turn();
+        self.starter.caller.window.take_turn();
         outcome
     }
 }

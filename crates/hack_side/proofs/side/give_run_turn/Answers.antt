@@ -7,5 +7,5 @@ use Rattle.std.proofs.Common.{refl}
 use Rattle.hack_side.proofs.side.give_run_turn.Goals as goal
 
 pub returns-clause-fits : goal.returns-clause-fits
-returns-clause-fits g c =
+returns-clause-fits c =
     subst (λ (t : Turn). IsTurnFor c.args.piece c.args.plan.now (Run c.args.place) t) (sym c.give_turn.ensures.turn) (inr (refl, c.offers-offers.ensures))

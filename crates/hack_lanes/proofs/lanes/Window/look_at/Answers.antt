@@ -4,10 +4,10 @@ use Rattle.hack_starts.specs.Events.{Ended}
 use Rattle.hack_lanes.specs.Views.{turn_of}
 use Rattle.hack_lanes.specs.declared.child.Child.{Child}
 use Rattle.hack_lanes.proofs.GoLemmas.{goes_ended}
-use Rattle.hack_lanes.proofs.lanes.Lanes.look_at.Goals as goal
+use Rattle.hack_lanes.proofs.lanes.Window.look_at.Goals as goal
 
-pub returns-then-has_ended-clause-goes : goal.returns-then-has_ended-clause-goes
-returns-then-has_ended-clause-goes g c =
+pub returns-then-has_ended : goal.returns-then-has_ended
+returns-then-has_ended g c =
     let within : c.args.index < length c.args.self.now.children.items =
     subst (λ (xs : List Child). c.args.index < length xs) c.deref.ensures.value c.in-Some.ensures.lookup.3.0 in
     let read : c.in-Some.child.now ≡ slice_index_or c.args.self.now.children.items c.args.index c.in-Some.child.now =
@@ -16,6 +16,6 @@ returns-then-has_ended-clause-goes g c =
     slice_get_read c.args.self.now.children.items (length c.args.self.now.children.items) c.args.index c.in-Some.child.now refl within read in
     let same : c.index_mut.result.now ≡ c.in-Some.child.now =
     c.index_mut.ensures.value ∙ get_or_from_slice_get c.args.self.now.children.items c.args.index c.in-Some.child.now c.index_mut.result.now found in
-    goes_ended g.S.Starts.did (turn_of c.args.self.now) c.args.self.now.last c.args.self.now.children.items c.args.index c.index_mut.result.now c.args.self.now.starts.now c.has_ended.new.self
+    goes_ended g.S.Starts.did (turn_of c.args.self.now) c.args.self.now.last c.args.self.now.children.items c.args.index c.index_mut.result.now c.args.starts.now c.has_ended.new.self
     (found ∙ sym (ap (λ (child : Child). Some child) same))
-    (subst (λ (n : ℕ). g.S.Starts.did (Ended n ∷ []) c.args.self.now.starts.now c.has_ended.new.self) (sym (ap (λ (child : Child). child.place) same)) c.if-has_ended.ensures)
+    (subst (λ (n : ℕ). g.S.Starts.did (Ended n ∷ []) c.args.starts.now c.has_ended.new.self) (sym (ap (λ (child : Child). child.place) same)) c.if-has_ended.ensures)

@@ -1,12 +1,11 @@
 use Rattle.std.proofs.Common.{◌≡◌, [], length}
 use Rattle.hack_lanes.specs.Lanes.{Goes}
 use Rattle.hack_lanes.specs.Views.{scene_of}
-use Rattle.hack_lanes.proofs.lanes.Lanes.clear.Given as goal
+use Rattle.hack_lanes.proofs.lanes.Window.clear.Given as goal
 
 abbrev pub invariant-loop-alloc : goal.invariant-loop-alloc
 invariant-loop-alloc g l = record {
-  goes : Goes g.S.Starts.did [] (scene_of l.fn.self) (scene_of l.self);
-  loan : l.self.starts.ghost_name ≡ l.fn.self.starts.ghost_name;
+  goes : Goes g.S.Starts.did [] (scene_of l.fn.self l.fn.starts) (scene_of l.self l.starts);
 }
 
 abbrev pub decreases-loop-alloc : goal.decreases-loop-alloc

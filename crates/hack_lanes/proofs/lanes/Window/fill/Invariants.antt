@@ -1,10 +1,9 @@
 use Rattle.std.proofs.Common.{◌≡◌, [], length}
 use Rattle.hack_lanes.specs.Lanes.{Goes}
 use Rattle.hack_lanes.specs.Views.{scene_of}
-use Rattle.hack_lanes.proofs.lanes.Lanes.fill.Given as goal
+use Rattle.hack_lanes.proofs.lanes.Window.fill.Given as goal
 
 abbrev pub invariant-loop-index : goal.invariant-loop-index
 invariant-loop-index g l = record {
-  goes : Goes g.S.Starts.did [] (scene_of l.fn.self) (scene_of l.self);
-  loan : l.self.starts.ghost_name ≡ l.fn.self.starts.ghost_name;
+  goes : Goes g.S.Starts.did [] (scene_of l.fn.self l.fn.starts) (scene_of l.self l.starts);
 }

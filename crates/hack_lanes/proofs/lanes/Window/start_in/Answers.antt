@@ -5,10 +5,10 @@ use Rattle.hack_lanes.specs.declared.job.Job.{Job}
 use Rattle.hack_lanes.specs.Lanes.{Pending}
 use Rattle.hack_lanes.specs.Views.{offer_of, pending_of}
 use Rattle.hack_lanes.proofs.GoLemmas.{goes_started}
-use Rattle.hack_lanes.proofs.lanes.Lanes.start_in.Goals as goal
+use Rattle.hack_lanes.proofs.lanes.Window.start_in.Goals as goal
 
-pub returns-then-start-clause-goes : goal.returns-then-start-clause-goes
-returns-then-start-clause-goes g c =
+pub returns-then-start : goal.returns-then-start
+returns-then-start g c =
     let offers : List Job = c.args.self.now.offers.items in
     let job : Job = c.in-Some.job.now in
     let within : c.args.index < length offers = subst (λ (xs : List Job). c.args.index < length xs) c.deref.ensures.value c.in-Some.ensures.lookup.3.0 in
@@ -17,6 +17,6 @@ returns-then-start-clause-goes g c =
     let there : slice_get offers c.args.index ≡ Some job = slice_get_read offers (length offers) c.args.index job refl within read in
     let same : pending_of c.args.child ≡ record { place = job.place; lane = c.args.child.lane; asked = (offer_of job).asked; over = false } =
     subst (λ (o : Option Job). IsSomeAnd o (λ (j : Job). pending_of c.args.child ≡ record { place = j.place; lane = c.args.child.lane; asked = (offer_of j).asked; over = false })) there c.requires.offered in
-    rw c.in-Ok.ensures.items (goes_started g.S.Starts.did c.args.self.now.turn offers c.args.self.now.width c.args.self.now.last c.args.self.now.children.items c.args.index job c.args.child c.args.self.now.starts.now c.start.new.self
+    rw c.in-Ok.ensures.items (goes_started g.S.Starts.did c.args.self.now.turn offers c.args.self.now.width c.args.self.now.last c.args.self.now.children.items c.args.index job c.args.child c.args.starts.now c.start.new.self
     there same c.requires.behind c.requires.within c.requires.ahead c.requires.alone
     (rw (sym c.as_str-program.ensures.value, sym c.as_slice-words.ensures.value) c.if-start.ensures))
