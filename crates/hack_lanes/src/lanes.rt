@@ -9,6 +9,7 @@ ghost use Rattle.hack_lanes.specs.Views.{offer_of, pending_of, scene_of, state_o
 
 use crate::child::Child;
 use crate::job::Job;
+use crate::turns::Turns;
 use hack_process::process::{Called, Caller};
 use hack_starts::starts::{Lane, Starts};
 use std::alloc::{AllocError, Global};
@@ -467,5 +468,45 @@ impl<S: Starts> Caller for Lanes<'_, S> {
         };
         self.window
             .run_in_turn(alloc, self.starts, place, program, words)
+    }
+}
+
+impl<S: Starts> Turns for Lanes<'_, S> {
+    ghost use Rattle.std.proofs.Common.{◌∙◌, refl};
+    ghost use Rattle.hack_lanes.specs.Views.{scene_in};
+
+    ghost Below = { S };
+
+    ghost did = { S.did };
+
+    ghost scene = { λ lanes. scene_in lanes };
+
+    ghost stays = { λ a b. (b.starts.ghost_name ≡ a.starts.ghost_name)
+        × (b.window.ghost_name ≡ a.window.ghost_name) };
+
+    ghost stays_none = { λ a. (refl, refl) };
+
+    ghost stays_more = { λ a b c p q. (q.0 ∙ p.0, q.1 ∙ p.1) };
+
+    ghost goes = { λ a b p. ((p.0, p.1), p.2) };
+
+    fn width(&self) -> usize {
+        self.window.width()
+    }
+
+    fn room(&self) -> usize {
+        self.window.room()
+    }
+
+    fn last(&self) -> Option<usize> {
+        self.window.last()
+    }
+
+    fn give_turn(&mut self, place: usize, offers: Vec<Job>) {
+        self.window.give_turn(place, offers);
+    }
+
+    fn take_turn(&mut self) {
+        self.window.take_turn();
     }
 }

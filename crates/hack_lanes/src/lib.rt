@@ -4,3 +4,4 @@
 mod child;
 pub mod job;
 pub mod lanes;
+pub mod turns;

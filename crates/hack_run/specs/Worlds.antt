@@ -6,7 +6,6 @@ use Rattle.hack_files.specs.declared.fs.Files.{Ghosts as Filing}
 use Rattle.hack_process.specs.Calls.{Call}
 use Rattle.hack_process.specs.declared.caller.Caller.{Ghosts as Calling}
 use Rattle.hack_term.specs.declared.term.Term.{Term}
-use Rattle.hack_lanes.specs.declared.lanes.Lanes.{Lanes}
 use Rattle.hack_run.specs.declared.host.Host.{Host}
 
 -- files: what their paths hold, the changes so far, and how many of their calls failed
@@ -32,9 +31,9 @@ files_view f files = record { held = f.bytes_at files; trace = f.trace files; fa
 abbrev pub host_view : {C O E : Type 0} → Calling C → Writing O → Host C O E → HostView
 host_view c o host = record { calls = c.calls host.caller.now; out = o.contents host.out.now; term = host.term.now }
 
--- a host whose programs are called in lanes
-abbrev pub host_in : {C O : Type 0} → Calling C → Writing O → Lanes C → O → Term → HostView
-host_in c o lanes out term = record { calls = c.calls lanes.starts.now; out = o.contents out; term = term }
+-- a host of a caller, an output and a terminal
+abbrev pub host_of : {C O : Type 0} → Calling C → Writing O → C → O → Term → HostView
+host_of c o caller out term = record { calls = c.calls caller; out = o.contents out; term = term }
 
 abbrev pub world_of : {F C O E : Type 0} → Filing F → Calling C → Writing O → F → Host C O E → World
 world_of f c o files host = record { files = files_view f files; host = host_view c o host }

@@ -8,13 +8,13 @@ ghost use Rattle.hack_run.specs.CallTrace.{PerformsOne};
 ghost use Rattle.hack_run.specs.Internal.{MayPerformItsPlan, PerformsAtMostOne, PerformsItsPlan};
 ghost use Rattle.hack_run.specs.Lanes.{MayRunInLanes, RunsOne};
 ghost use Rattle.hack_run.specs.Questions.{IsAnswered};
-ghost use Rattle.hack_run.specs.Worlds.{IsSameHost, host_in};
+ghost use Rattle.hack_run.specs.Worlds.{IsSameHost, host_of};
 
 use crate::drive::drive_context;
 use crate::explain::explain;
 use crate::fault::RunFault;
 use crate::host::Host;
-use hack_lanes::lanes::Lanes;
+use hack_lanes::lanes::{Lanes, Window};
 use hack_load::context::Context;
 use hack_planner::fault::PlanFault;
 use hack_process::process::ProcessFault;
@@ -75,11 +75,20 @@ fn hand_to_starter<C: Starts, O: Write, E: Write>(
 {
     let rustup = host.env.rustup.as_str();
     let folder = target_folder(host.alloc, cx)?;
-    let mut lanes = Lanes::new(host.alloc, host.caller, width(cx.args()), folder.as_str());
+    let mut window = Window::new(host.alloc, width(cx.args()), folder);
     let session = hand_out(
-        host.alloc, cx, rustup, stable, &mut lanes, host.term, host.out, host.err, fault,
+        host.alloc,
+        cx,
+        rustup,
+        stable,
+        host.caller,
+        &mut window,
+        host.term,
+        host.out,
+        host.err,
+        fault,
     )?;
-    lanes.clear(host.alloc);
+    window.clear(host.alloc, host.caller);
     Ok(session)
 }
 
@@ -89,7 +98,8 @@ fn hand_out<C: Starts, O: Write, E: Write>(
     cx: &Context,
     rustup: &str,
     stable: Result<Option<Version>, String>,
-    lanes: &mut Lanes<'_, C>,
+    caller: &mut C,
+    window: &mut Window,
     term: &mut Term,
     out: &mut O,
     err: &mut E,
@@ -98,18 +108,21 @@ fn hand_out<C: Starts, O: Write, E: Write>(
     requires { IsAnswered (context_view cx.now).args stable }
     ensures done { OnOk result (fault.new ≡ None → term.new.error ≡ false → C.tells
         → PerformsOne true false (context_view cx.now) stable rustup.now term.old.warn
-        (host_in C.Caller O.Write lanes.old out.old term.old)
-        (host_in C.Caller O.Write lanes.new out.new term.new)) }
+        (host_of C.Caller O.Write caller.old out.old term.old)
+        (host_of C.Caller O.Write caller.new out.new term.new)) }
     ensures made { C.tells → PerformsAtMostOne false (context_view cx.now) stable rustup.now
-        (host_in C.Caller O.Write lanes.old out.old term.old)
-        (host_in C.Caller O.Write lanes.new out.new term.new) }
+        (host_of C.Caller O.Write caller.old out.old term.old)
+        (host_of C.Caller O.Write caller.new out.new term.new) }
     ensures lanes { OnOk result (RunsOne C.did (context_view cx.now) stable rustup.now
-        (scene_of lanes.old) (scene_of lanes.new)) }
-    ensures refused { OnErr result (scene_of lanes.new ≡ scene_of lanes.old) }
-    ensures loan { lanes.new.starts.ghost_name ≡ lanes.old.starts.ghost_name }
+        (scene_of window.old caller.old) (scene_of window.new caller.new)) }
+    ensures refused { OnErr result (caller.new ≡ caller.old) }
 {
     let (log_group, keep_going) = manner(cx.args());
-    let mut starter = Starter::new(alloc, lanes, term, out, err, fault);
+    let mut lanes = Lanes {
+        starts: caller,
+        window,
+    };
+    let mut starter = Starter::new(alloc, &mut lanes, term, out, err, fault);
     starter.set_manner(log_group, keep_going);
     let mut side = Side {
         starter,

@@ -41,6 +41,10 @@ abbrev pub IsTurnFor : Option Partition → PlanView → Step → Turn → Type 
 IsTurnFor piece plan (Run place) turn = IsSerial turn ⊎ ((turn.place ≡ Some place) × AreOffers piece plan place turn.offers)
 IsTurnFor piece plan step turn = IsSerial turn
 
+-- only the turn is another, for as many commands at once
+abbrev pub IsAtTurn : {S : Type 0} → Scene S → Scene S → Type 0
+IsAtTurn old new = (new ≡ record old { turn = new.turn }) × (new.turn.width ≡ old.turn.width)
+
 -- at its turn a step did something by the rules of lanes
 pub record RunsStep {S : Type 0} (did : List Event → S → S → Type 0) (piece : Option Partition) (plan : PlanView) (step : Step) (old new : Scene S) : Type 0 where
   pub turn : Turn

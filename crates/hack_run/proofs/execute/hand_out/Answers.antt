@@ -5,7 +5,7 @@ use Rattle.hack_term.specs.declared.term.Term.{Term}
 use Rattle.hack_load.specs.ContextView.{context_view}
 use Rattle.hack_lanes.specs.Views.{scene_of}
 use Rattle.hack_side.specs.Turns.{RunsAll}
-use Rattle.hack_run.specs.Worlds.{host_in}
+use Rattle.hack_run.specs.Worlds.{host_of}
 use Rattle.hack_run.proofs.RunLemmas.{runs_one, runs_some}
 use Rattle.hack_session.proofs.StepLemmas.{has_performed, passed_or_told}
 use Rattle.hack_run.proofs.ToldLemmas.{warned_run}
@@ -20,15 +20,15 @@ returns-clause-done g c = λ none quiet t.
     let notes = c.in_ok-session.ensures.ran.0 in
     let mid = c.in_ok-session.ensures.ran.1.starter in
     let told = c.in_ok-session.ensures.ran.3.1 in
-    let ran = c.in_ok-session.ensures.ran.4.3 in
+    let ran = c.in_ok-session.ensures.ran.4.4 in
     let last = c.drive_context.new.runner.starter in
     let made = c.set_manner.ensures in
-    let lanes_is = c.lanes-1.given.1 (sym c.new-starter.ensures.caller.0 ∙ ap (λ s. s.caller.ghost_name) (sym made) ∙ told.0 ∙ ran.0) in
+    let caller_is = c.caller-1.given.1 ? in
     let term_is = c.term-1.given.1 (sym c.new-starter.ensures.term.0 ∙ ap (λ s. s.term.ghost_name) (sym made) ∙ told.1 ∙ ran.1) in
     let fault_is = c.fault-1.given.1 (sym c.new-starter.ensures.fault.0 ∙ ap (λ s. s.fault.ghost_name) (sym made) ∙ told.2 ∙ ran.2) in
     let out_is = c.out-1.given.1 (sym c.new-starter.ensures.out.0 ∙ ap (λ s. s.out.ghost_name) (sym made) ∙ told.7 ∙ ran.3) in
-    rw (lanes_is, term_is, out_is)
-    (runs_one cx c.args.stable c.args.rustup.now session notes (host_in g.C.Caller g.O.Write c.args.lanes.now c.args.out.now c.args.term.now) (host_in g.C.Caller g.O.Write last.caller.now last.out.now last.term.now) (calls mid.caller.now.starts.now) mid.refused last.refused last.term.now last.fault.now
+    rw (caller_is, term_is, out_is)
+    (runs_one cx c.args.stable c.args.rustup.now session notes (host_of g.C.Caller g.O.Write c.args.caller.now c.args.out.now c.args.term.now) (host_of g.C.Caller g.O.Write last.caller.now.starts.now last.out.now last.term.now) (calls mid.caller.now.starts.now) mid.refused last.refused last.term.now last.fault.now
     (ap (λ l. calls l.starts.now) (told.3 ∙ ap (λ s. s.caller.now) made ∙ c.new-starter.ensures.caller.1)) c.in_ok-session.ensures.ran.2 headline.driven
     (has_performed g.C.Caller.tells _ _ session.plan session.handed _ _ ran.8 t) (passed_or_told g.C.Caller.tells _ _ session.plan session.handed _ _ ran.8)
     (warned_run c.args.term.now c.set_manner.new.self.term.now mid.term.now last.term.now notes (ap (λ s. s.term.now) made ∙ c.new-starter.ensures.term.1) told.6 (ap (λ s. s.warn) ran.7)) (sym fault_is ∙ none)
@@ -41,13 +41,13 @@ returns-clause-made g c = λ t.
     let session = c.in_ok-session.session in
     let mid = c.in_ok-session.ensures.ran.1.starter in
     let told = c.in_ok-session.ensures.ran.3.1 in
-    let ran = c.in_ok-session.ensures.ran.4.3 in
+    let ran = c.in_ok-session.ensures.ran.4.4 in
     let last = c.drive_context.new.runner.starter in
     let made = c.set_manner.ensures in
-    let lanes_is = c.lanes-1.given.1 (sym c.new-starter.ensures.caller.0 ∙ ap (λ s. s.caller.ghost_name) (sym made) ∙ told.0 ∙ ran.0) in
+    let caller_is = c.caller-1.given.1 ? in
     let term_is = c.term-1.given.1 (sym c.new-starter.ensures.term.0 ∙ ap (λ s. s.term.ghost_name) (sym made) ∙ told.1 ∙ ran.1) in
     let out_is = c.out-1.given.1 (sym c.new-starter.ensures.out.0 ∙ ap (λ s. s.out.ghost_name) (sym made) ∙ told.7 ∙ ran.3) in
-    rw (lanes_is, term_is, out_is)
-    (runs_some cx c.args.stable c.args.rustup.now session c.in_ok-session.ensures.ran.0 (host_in g.C.Caller g.O.Write c.args.lanes.now c.args.out.now c.args.term.now) (host_in g.C.Caller g.O.Write last.caller.now last.out.now last.term.now) (calls mid.caller.now.starts.now) mid.refused last.refused
+    rw (caller_is, term_is, out_is)
+    (runs_some cx c.args.stable c.args.rustup.now session c.in_ok-session.ensures.ran.0 (host_of g.C.Caller g.O.Write c.args.caller.now c.args.out.now c.args.term.now) (host_of g.C.Caller g.O.Write last.caller.now.starts.now last.out.now last.term.now) (calls mid.caller.now.starts.now) mid.refused last.refused
     (ap (λ l. calls l.starts.now) (told.3 ∙ ap (λ s. s.caller.now) made ∙ c.new-starter.ensures.caller.1)) c.in_ok-session.ensures.ran.2 c.in_ok-session.ensures.headline.driven
     (has_performed g.C.Caller.tells _ _ session.plan session.handed _ _ ran.8 t))
