@@ -12,13 +12,13 @@ ghost use Rattle.hack_run.specs.Warnings.{TellsNotes};
 use crate::tell::tell_all;
 use hack_base::notice::Notice;
 use hack_base::writes::Sink;
+use hack_lanes::turns::Turns;
 use hack_load::context::Context;
 use hack_planner::fault::PlanFault;
 use hack_planner::plan::plan_of;
 use hack_process::process::Caller;
 use hack_session::session::{Lines, Lister, Runner, Session, Starter, drive_plan};
 use hack_side::side::Side;
-use hack_starts::starts::Starts;
 use hack_versions::version::Version;
 use std::alloc::Global;
 
@@ -90,7 +90,7 @@ impl<C: Caller, O: Sink, E: Sink> Teller for Starter<'_, C, O, E> {
     }
 }
 
-impl<S: Starts, O: Sink, E: Sink> Teller for Side<'_, '_, S, O, E> {
+impl<L: Turns, O: Sink, E: Sink> Teller for Side<'_, L, O, E> {
     ghost told = { λ notes a b. (b.piece ≡ a.piece) × TellsNotes notes a.starter b.starter };
 
     fn tell(&mut self, notices: &[Notice]) {

@@ -3,7 +3,6 @@
 ghost use Rattle.std.specs.Prelude.{◌≡◌, None, OnErr, OnOk, false, string_bytes, true};
 ghost use Rattle.std.specs.Option.{unwrap_or};
 ghost use Rattle.hack_load.specs.ContextView.{context_view};
-ghost use Rattle.hack_lanes.specs.Views.{scene_of};
 ghost use Rattle.hack_run.specs.CallTrace.{PerformsOne};
 ghost use Rattle.hack_run.specs.Internal.{MayPerformItsPlan, PerformsAtMostOne, PerformsItsPlan};
 ghost use Rattle.hack_run.specs.Lanes.{MayRunInLanes, RunsOne};
@@ -15,6 +14,7 @@ use crate::explain::explain;
 use crate::fault::RunFault;
 use crate::host::Host;
 use hack_lanes::lanes::{Lanes, Window};
+use hack_lanes::turns::Turns;
 use hack_load::context::Context;
 use hack_planner::fault::PlanFault;
 use hack_process::process::ProcessFault;
@@ -76,53 +76,44 @@ fn hand_to_starter<C: Starts, O: Write, E: Write>(
     let rustup = host.env.rustup.as_str();
     let folder = target_folder(host.alloc, cx)?;
     let mut window = Window::new(host.alloc, width(cx.args()), folder);
+    let mut lanes = Lanes {
+        starts: host.caller,
+        window: &mut window,
+    };
     let session = hand_out(
-        host.alloc,
-        cx,
-        rustup,
-        stable,
-        host.caller,
-        &mut window,
-        host.term,
-        host.out,
-        host.err,
-        fault,
+        host.alloc, cx, rustup, stable, &mut lanes, host.term, host.out, host.err, fault,
     )?;
     window.clear(host.alloc, host.caller);
     Ok(session)
 }
 
 /// Hands the plan to a starter whose programs are called in lanes.
-fn hand_out<C: Starts, O: Write, E: Write>(
+fn hand_out<L: Turns, O: Write, E: Write>(
     alloc: Global,
     cx: &Context,
     rustup: &str,
     stable: Result<Option<Version>, String>,
-    caller: &mut C,
-    window: &mut Window,
+    lanes: &mut L,
     term: &mut Term,
     out: &mut O,
     err: &mut E,
     fault: &mut Option<ProcessFault>,
 ) -> Result<Session, PlanFault>
     requires { IsAnswered (context_view cx.now).args stable }
-    ensures done { OnOk result (fault.new ≡ None → term.new.error ≡ false → C.tells
+    ensures done { OnOk result (fault.new ≡ None → term.new.error ≡ false → L.tells
         → PerformsOne true false (context_view cx.now) stable rustup.now term.old.warn
-        (host_of C.Caller O.Write caller.old out.old term.old)
-        (host_of C.Caller O.Write caller.new out.new term.new)) }
-    ensures made { C.tells → PerformsAtMostOne false (context_view cx.now) stable rustup.now
-        (host_of C.Caller O.Write caller.old out.old term.old)
-        (host_of C.Caller O.Write caller.new out.new term.new) }
-    ensures lanes { OnOk result (RunsOne C.did (context_view cx.now) stable rustup.now
-        (scene_of window.old caller.old) (scene_of window.new caller.new)) }
-    ensures refused { OnErr result (caller.new ≡ caller.old) }
+        (host_of L.Caller O.Write lanes.old out.old term.old)
+        (host_of L.Caller O.Write lanes.new out.new term.new)) }
+    ensures made { L.tells → PerformsAtMostOne false (context_view cx.now) stable rustup.now
+        (host_of L.Caller O.Write lanes.old out.old term.old)
+        (host_of L.Caller O.Write lanes.new out.new term.new) }
+    ensures lanes { OnOk result (RunsOne L.did (context_view cx.now) stable rustup.now
+        (L.scene lanes.old) (L.scene lanes.new)) }
+    ensures stays { L.stays lanes.old lanes.new }
+    ensures refused { OnErr result (lanes.new ≡ lanes.old) }
 {
     let (log_group, keep_going) = manner(cx.args());
-    let mut lanes = Lanes {
-        starts: caller,
-        window,
-    };
-    let mut starter = Starter::new(alloc, &mut lanes, term, out, err, fault);
+    let mut starter = Starter::new(alloc, lanes, term, out, err, fault);
     starter.set_manner(log_group, keep_going);
     let mut side = Side {
         starter,

@@ -2,6 +2,7 @@ use Rattle.std.proofs.Common.{◌≡◌, ap, false, subst, sym, ◌∙◌}
 use Rattle.std.specs.Prelude.{Option}
 use Rattle.hack_plan.specs.declared.partition.Partition.{Partition}
 use Rattle.hack_term.specs.declared.term.Term.{Term}
+use Rattle.hack_words.specs.declared.cli.args.Args.{Args}
 use Rattle.hack_load.specs.ContextView.{context_view}
 use Rattle.hack_lanes.specs.Views.{scene_of}
 use Rattle.hack_side.specs.Turns.{RunsAll}
@@ -14,40 +15,59 @@ use Rattle.hack_run.proofs.execute.hand_out.Goals as goal
 pub returns-clause-done : goal.returns-clause-done
 returns-clause-done g c = λ none quiet t.
     let cx = context_view c.args.cx.now in
-    let calls = g.C.Caller.calls in
+    let calls = g.L.Caller.calls in
     let session = c.in_ok-session.session in
     let headline = c.in_ok-session.ensures.headline in
     let notes = c.in_ok-session.ensures.ran.0 in
     let mid = c.in_ok-session.ensures.ran.1.starter in
     let told = c.in_ok-session.ensures.ran.3.1 in
-    let ran = c.in_ok-session.ensures.ran.4.4 in
+    let ran = c.in_ok-session.ensures.ran.4.3 in
     let last = c.drive_context.new.runner.starter in
     let made = c.set_manner.ensures in
-    let caller_is = c.caller-1.given.1 ? in
+    let lanes_is = c.lanes-1.given.1 (sym c.new-starter.ensures.caller.0 ∙ ap (λ s. s.caller.ghost_name) (sym made) ∙ told.0 ∙ ran.0) in
     let term_is = c.term-1.given.1 (sym c.new-starter.ensures.term.0 ∙ ap (λ s. s.term.ghost_name) (sym made) ∙ told.1 ∙ ran.1) in
     let fault_is = c.fault-1.given.1 (sym c.new-starter.ensures.fault.0 ∙ ap (λ s. s.fault.ghost_name) (sym made) ∙ told.2 ∙ ran.2) in
     let out_is = c.out-1.given.1 (sym c.new-starter.ensures.out.0 ∙ ap (λ s. s.out.ghost_name) (sym made) ∙ told.7 ∙ ran.3) in
-    rw (caller_is, term_is, out_is)
-    (runs_one cx c.args.stable c.args.rustup.now session notes (host_of g.C.Caller g.O.Write c.args.caller.now c.args.out.now c.args.term.now) (host_of g.C.Caller g.O.Write last.caller.now.starts.now last.out.now last.term.now) (calls mid.caller.now.starts.now) mid.refused last.refused last.term.now last.fault.now
-    (ap (λ l. calls l.starts.now) (told.3 ∙ ap (λ s. s.caller.now) made ∙ c.new-starter.ensures.caller.1)) c.in_ok-session.ensures.ran.2 headline.driven
-    (has_performed g.C.Caller.tells _ _ session.plan session.handed _ _ ran.8 t) (passed_or_told g.C.Caller.tells _ _ session.plan session.handed _ _ ran.8)
+    rw (lanes_is, term_is, out_is)
+    (runs_one cx c.args.stable c.args.rustup.now session notes (host_of g.L.Caller g.O.Write c.args.lanes.now c.args.out.now c.args.term.now) (host_of g.L.Caller g.O.Write last.caller.now last.out.now last.term.now) (calls mid.caller.now) mid.refused last.refused last.term.now last.fault.now
+    (ap calls (told.3 ∙ ap (λ s. s.caller.now) made ∙ c.new-starter.ensures.caller.1)) c.in_ok-session.ensures.ran.2 headline.driven
+    (has_performed g.L.Caller.tells _ _ session.plan session.handed _ _ ran.8 t) (passed_or_told g.L.Caller.tells _ _ session.plan session.handed _ _ ran.8)
     (warned_run c.args.term.now c.set_manner.new.self.term.now mid.term.now last.term.now notes (ap (λ s. s.term.now) made ∙ c.new-starter.ensures.term.1) told.6 (ap (λ s. s.warn) ran.7)) (sym fault_is ∙ none)
     (subst (λ (term : Term). term.error ≡ false) term_is quiet))
 
 pub returns-clause-made : goal.returns-clause-made
 returns-clause-made g c = λ t.
     let cx = context_view c.args.cx.now in
-    let calls = g.C.Caller.calls in
+    let calls = g.L.Caller.calls in
     let session = c.in_ok-session.session in
     let mid = c.in_ok-session.ensures.ran.1.starter in
     let told = c.in_ok-session.ensures.ran.3.1 in
-    let ran = c.in_ok-session.ensures.ran.4.4 in
+    let ran = c.in_ok-session.ensures.ran.4.3 in
     let last = c.drive_context.new.runner.starter in
     let made = c.set_manner.ensures in
-    let caller_is = c.caller-1.given.1 ? in
+    let lanes_is = c.lanes-1.given.1 (sym c.new-starter.ensures.caller.0 ∙ ap (λ s. s.caller.ghost_name) (sym made) ∙ told.0 ∙ ran.0) in
     let term_is = c.term-1.given.1 (sym c.new-starter.ensures.term.0 ∙ ap (λ s. s.term.ghost_name) (sym made) ∙ told.1 ∙ ran.1) in
     let out_is = c.out-1.given.1 (sym c.new-starter.ensures.out.0 ∙ ap (λ s. s.out.ghost_name) (sym made) ∙ told.7 ∙ ran.3) in
-    rw (caller_is, term_is, out_is)
-    (runs_some cx c.args.stable c.args.rustup.now session c.in_ok-session.ensures.ran.0 (host_of g.C.Caller g.O.Write c.args.caller.now c.args.out.now c.args.term.now) (host_of g.C.Caller g.O.Write last.caller.now.starts.now last.out.now last.term.now) (calls mid.caller.now.starts.now) mid.refused last.refused
-    (ap (λ l. calls l.starts.now) (told.3 ∙ ap (λ s. s.caller.now) made ∙ c.new-starter.ensures.caller.1)) c.in_ok-session.ensures.ran.2 c.in_ok-session.ensures.headline.driven
-    (has_performed g.C.Caller.tells _ _ session.plan session.handed _ _ ran.8 t))
+    rw (lanes_is, term_is, out_is)
+    (runs_some cx c.args.stable c.args.rustup.now session c.in_ok-session.ensures.ran.0 (host_of g.L.Caller g.O.Write c.args.lanes.now c.args.out.now c.args.term.now) (host_of g.L.Caller g.O.Write last.caller.now last.out.now last.term.now) (calls mid.caller.now) mid.refused last.refused
+    (ap calls (told.3 ∙ ap (λ s. s.caller.now) made ∙ c.new-starter.ensures.caller.1)) c.in_ok-session.ensures.ran.2 c.in_ok-session.ensures.headline.driven
+    (has_performed g.L.Caller.tells _ _ session.plan session.handed _ _ ran.8 t))
+
+pub returns-clause-lanes : goal.returns-clause-lanes
+returns-clause-lanes g c =
+    let cx = context_view c.args.cx.now in
+    let session = c.in_ok-session.session in
+    let mid = c.in_ok-session.ensures.ran.1 in
+    let told = c.in_ok-session.ensures.ran.3 in
+    let ran = c.in_ok-session.ensures.ran.4 in
+    let made = c.set_manner.ensures in
+    let last = c.drive_context.new.runner.starter in
+    let lanes_is = c.lanes-1.given.1 (sym c.new-starter.ensures.caller.0 ∙ ap (λ s. s.caller.ghost_name) (sym made) ∙ told.1.0 ∙ ran.3.0) in
+    rw lanes_is (record {
+      course = session;
+      notes = c.in_ok-session.ensures.ran.0;
+      planned = c.in_ok-session.ensures.ran.2;
+      driven = c.in_ok-session.ensures.headline.driven;
+      ran = subst (λ (p : Option Partition). RunsAll g.L.Turns.did p session.plan session.handed (g.L.Turns.scene c.args.lanes.now) (g.L.Turns.scene last.caller.now)) (told.0 ∙ ap (λ (a : Args). a.partition) c.args-3.ensures)
+          (subst (λ s. RunsAll g.L.Turns.did mid.piece session.plan session.handed s (g.L.Turns.scene last.caller.now)) (ap g.L.Turns.scene (told.1.3 ∙ ap (λ s. s.caller.now) made ∙ c.new-starter.ensures.caller.1)) ran.2);
+    })
