@@ -23,13 +23,13 @@ _cargo_hack() {
         --color) COMPREPLY=($(compgen -W 'auto always never' -- "$word")); return ;;
         --log-group) COMPREPLY=($(compgen -W 'none github-actions' -- "$word")); return ;;
         --partition-kind) COMPREPLY=($(compgen -W 'block turn' -- "$word")); return ;;
-        -p|--package|--exclude|-F|--features|--skip|--exclude-features|--depth|--group-features|--target|--mutually-exclusive-features|--allow-together|--at-least-one-of|--include-features|--version-range|--version-step|--partition|--strength) COMPREPLY=(); return ;;
+        -p|--package|--exclude|-F|--features|--skip|--exclude-features|--depth|--group-features|--target|--mutually-exclusive-features|--allow-together|--at-least-one-of|--include-features|--version-range|--version-step|--partition|--strength|--parallel) COMPREPLY=(); return ;;
     esac
     subcommands=$(_cargo_hack_subcommands)
     for it in "${COMP_WORDS[@]:1:COMP_CWORD-1}"; do
         [[ $it != hack && " $subcommands " == *" $it "* ]] && subcommands=
     done
-    COMPREPLY=($(compgen -W "$subcommands -p -F -v -h -V --package --all --workspace --exclude --manifest-path --locked --features --each-feature --feature-powerset --optional-deps --skip --exclude-features --exclude-no-default-features --exclude-all-features --depth --group-features --target --mutually-exclusive-features --allow-together --at-least-one-of --include-features --no-dev-deps --remove-dev-deps --no-private --ignore-private --ignore-unknown-features --rust-version --version-range --version-step --clean-per-run --clean-per-version --keep-going --partition --partition-kind --log-group --workspace-behavior=cargo --print-command-list --no-manifest-path --verbose --color --help --version --no-default-features --all-features --include-deps-features --strength --restore --package-rules" -- "$word"))
+    COMPREPLY=($(compgen -W "$subcommands -p -F -v -h -V --package --all --workspace --exclude --manifest-path --locked --features --each-feature --feature-powerset --optional-deps --skip --exclude-features --exclude-no-default-features --exclude-all-features --depth --group-features --target --mutually-exclusive-features --allow-together --at-least-one-of --include-features --no-dev-deps --remove-dev-deps --no-private --ignore-private --ignore-unknown-features --rust-version --version-range --version-step --clean-per-run --clean-per-version --keep-going --partition --partition-kind --log-group --workspace-behavior=cargo --print-command-list --no-manifest-path --verbose --color --help --version --no-default-features --all-features --include-deps-features --strength --restore --package-rules --parallel" -- "$word"))
 }
 complete -F _cargo_hack cargo-hack
 

@@ -51,6 +51,7 @@ complete -c cargo -n '__fish_seen_subcommand_from hack' -l 'include-deps-feature
 complete -c cargo -n '__fish_seen_subcommand_from hack' -l 'strength' -r -d 'Run a sample of the powerset, a few sets that show each pattern of at most NUM features'
 complete -c cargo -n '__fish_seen_subcommand_from hack' -l 'restore' -d 'Bring back what an interrupted call left edited, and run nothing'
 complete -c cargo -n '__fish_seen_subcommand_from hack' -l 'package-rules' -d 'Run each package also by the rules that its manifest and the workspace\'s have'
+complete -c cargo -n '__fish_seen_subcommand_from hack' -l 'parallel' -r -d 'Run up to NUM commands at once, from 1 to 256, in the order and with the outcomes of one by one'
 complete -c cargo-hack -f -a build -d 'Compile the current package'
 complete -c cargo-hack -f -a check -d 'Analyze the current package and report errors'
 complete -c cargo-hack -f -a run -d 'Run a binary or example of the local package'
@@ -103,3 +104,4 @@ complete -c cargo-hack -l 'include-deps-features' -d 'Use the features of depend
 complete -c cargo-hack -l 'strength' -r -d 'Run a sample of the powerset, a few sets that show each pattern of at most NUM features'
 complete -c cargo-hack -l 'restore' -d 'Bring back what an interrupted call left edited, and run nothing'
 complete -c cargo-hack -l 'package-rules' -d 'Run each package also by the rules that its manifest and the workspace\'s have'
+complete -c cargo-hack -l 'parallel' -r -d 'Run up to NUM commands at once, from 1 to 256, in the order and with the outcomes of one by one'

@@ -2,7 +2,8 @@
 """Prints the wall time, the peak memory and the number of lines of powerset-list on growing feature maps, the times of
 packages grouped by version, of a large answer of cargo read, and of whole calls over a cargo and files in memory, the
 sizes of covering samples beside the least possible ones and the powersets', the times of the lists of the built cargo-hack,
-also by rules in manifests and where it edits many manifests meanwhile, and what its guard adds to a call.
+also by rules in manifests and where it edits many manifests meanwhile, what its guard adds to a call, and what runs side by
+side save.
 
 usage: tests/bench.py PROGRAM [ROWS [CALLS [HACK CARGO [OTHER]]]]
 
@@ -307,6 +308,22 @@ def print_guard(hack, cargo, folder, path):
         print(f"{title:40}{seconds_of([hack, *LIST, '--no-dev-deps'], path, **where):9.3f}", flush=True)
 
 
+def print_parallel(hack, cargo, folder, path):
+    """Prints the time of 32 runs of a tenth of a second each, by how many go side by side: at four, on four free processors, it
+    is to be at most 0.4 of that of one by one."""
+    where = lay_out(f"{folder}/parallel", cargo, 1, without_edges(31))
+    slow = f"{folder}/parallel/slow"
+    write(slow, f'#!/bin/sh\ncase "$1" in check) sleep 0.1;; esac\nexec {cargo} "$@"\n', 0o755)
+    where["env"] |= {"CARGO": slow, "PATH": os.environ["PATH"]}
+    print(f"{'32 runs of a tenth of a second':40}{'seconds':>9}{'of one by one':>18}")
+    one_by_one = None
+    for width in (1, 2, 4, 8):
+        words = [hack, *"hack check --each-feature --exclude-all-features --parallel".split(), str(width)]
+        seconds = seconds_of(words, path, **where)
+        one_by_one = one_by_one or seconds
+        print(f"{f'--parallel {width}':40}{seconds:9.3f}{seconds / one_by_one:18.2f}", flush=True)
+
+
 # ---- Measuring.
 
 
@@ -377,6 +394,7 @@ def main():
             print_lists(program, hack, cargo, other[0] if other else None, folder, path)
             print_tables(hack, cargo, folder, path)
             print_guard(hack, cargo, folder, path)
+            print_parallel(hack, cargo, folder, path)
 
 
 if __name__ == "__main__":

@@ -28,6 +28,7 @@ SCRIPTS = [
     ["tests/powerset_list_refusals.py", built("powerset_list")],
     ["tests/stand_ins.py", "--built"],
     ["tests/whole_calls.py", built("cargo_hack_program"), built("stand_cargo"), built("stand_rustup")],
+    ["tests/parallel_runs.py", built("cargo_hack_program")],
     ["tests/dist_archive.py", built("cargo_hack_program"), built("powerset_list")],
     ["tests/real_cargo.py", built("cargo_hack_program")],
     ["tests/refused_memory.py", "--every", "5", built("cargo_hack_program"), built("powerset_list")],
