@@ -1,15 +1,18 @@
 -- Runs side by side, from the first step to the end of what is left.
-use Rattle.std.proofs.Common.{◌≡◌, ℕ, List, [], ◌++◌, Option, refl, sym, ◌∙◌, ap, subst, append-nil}
+use Rattle.std.proofs.Common.{◌≡◌, ℕ, List, [], ◌++◌, Option, inl, inr, refl, sym, ◌∙◌, ap, subst, append-nil}
 use Rattle.hack_process.specs.Calls.{Call}
-use Rattle.std.specs.Prelude.{Result}
+use Rattle.std.specs.Prelude.{◌⊎◌, Result, Ok, Err, OnOk, true}
 use Rattle.std.specs.Option.{unwrap_or}
 use Rattle.std.proofs.Common.{Global, String}
 use Rattle.hack_base.specs.Names.{Name}
 use Rattle.hack_versions.specs.declared.version.Version.{Version}
+use Rattle.hack_words.specs.declared.cli.args.Args.{Args}
+use Rattle.hack_load.specs.ContextOf.{IsContextFrom}
 use Rattle.hack_load.specs.Contexts.{ContextRecord}
+use Rattle.hack_load.specs.declared.answers.Answers.{Answers}
 use Rattle.hack_starts.specs.Events.{Event, calls_of}
 use Rattle.hack_lanes.specs.Lanes.{Goes, Scene, State, Turn}
-use Rattle.hack_run.specs.Lanes.{RunsInLanes, RunsOne, scene_at}
+use Rattle.hack_run.specs.Lanes.{PerformsInLanes, RunsInLanes, RunsOne, scene_at}
 
 -- ending what is left makes no call
 pub cleared_calls : {S : Type 0} (tells : Type 0) (calls : S → List Call) (did : List Event → S → S → Type 0)
@@ -36,3 +39,10 @@ ran_in_lanes {S} did cx stable rustup old a b c turn state starts one ended none
   none = none;
   now = refl;
 }
+
+-- a context that was made for the arguments was performed in lanes, where it isn't listed
+pub follows_in_lanes : {S T E : Type 0} (did : List Event → S → S → Type 0) (r : Result T E) (args : Args) (answers : Answers) (cx : ContextRecord) (stable : Result (Option Version) (String Global)) (rustup : Name) (before new : S)
+    → IsContextFrom args answers cx → OnOk r ((cx.args.print_command_list ≡ true) ⊎ RunsInLanes did cx stable rustup before new) → OnOk r (PerformsInLanes did args new)
+follows_in_lanes did (Err e) args answers cx stable rustup before new context h = tt
+follows_in_lanes did (Ok v) args answers cx stable rustup before new context (inl listed) = inl (subst (λ (a : Args). a.print_command_list ≡ true) context.2.args listed)
+follows_in_lanes did (Ok v) args answers cx stable rustup before new context (inr ran) = inr (cx, context.2.args, stable, rustup, before, ran)

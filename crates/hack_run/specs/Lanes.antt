@@ -1,10 +1,17 @@
 -- What happened to the commands of runs that go side by side.
-use Rattle.std.specs.Prelude.{ℕ, ◌≡◌, ◌⊎◌, List, [], Option, None, Result}
+use Rattle.std.specs.Prelude.{ℕ, ◌≡◌, ◌⊎◌, List, [], Option, None, Result, true}
 use Rattle.std.specs.Option.{unwrap_or}
 use Rattle.std.proofs.Common.{Global, String}
 use Rattle.hack_base.specs.Names.{Name}
 use Rattle.hack_base.specs.Notes.{Note}
 use Rattle.hack_versions.specs.declared.version.Version.{Version}
+use Rattle.hack_versions.specs.declared.rustup.Rustup.{Rustup}
+use Rattle.hack_words.specs.CommandLine.{ComesTo}
+use Rattle.hack_words.specs.ParseAnswers.{AnswersCommandLine as IsAnswer, around_of}
+use Rattle.hack_words.specs.declared.cli.args.Args.{Args}
+use Rattle.hack_words.specs.declared.cli.env.Env.{Env}
+use Rattle.hack_words.specs.declared.cli.parse.Parsed.{Parsed}
+use Rattle.hack_words.specs.declared.cli.parse.Parsed.TheVariants as parsed
 use Rattle.hack_load.specs.Contexts.{ContextRecord}
 use Rattle.hack_planner.specs.CallPlan.{IsPlanOf}
 use Rattle.hack_session.specs.Handouts.{IsDriven}
@@ -45,3 +52,23 @@ pub record RunsInLanes {S : Type 0} (did : List Event → S → S → Type 0) (c
 -- the same, or nothing was handed out
 abbrev pub MayRunInLanes : {S : Type 0} → (List Event → S → S → Type 0) → ContextRecord → Result (Option Version) (String Global) → Name → S → S → Type 0
 MayRunInLanes did cx stable rustup old new = (new ≡ old) ⊎ RunsInLanes did cx stable rustup old new
+
+-- a plan is listed; or from some state of the caller on one that was made for the arguments was
+-- performed in lanes
+abbrev pub PerformsInLanes : {S : Type 0} → (List Event → S → S → Type 0) → Args → S → Type 0
+PerformsInLanes {S} did args new = (args.print_command_list ≡ true)
+    ⊎ ((cx : ContextRecord) × (cx.args ≡ args) × (stable : Result (Option Version) (String Global))
+    × (rustup : Name) × (before : S) × RunsInLanes did cx stable rustup before new)
+
+-- what a command line asks for was done in lanes, where it asks for runs
+abbrev pub ObeysInLanes : {S : Type 0} → (List Event → S → S → Type 0) → Parsed → S → Type 0
+ObeysInLanes did (parsed.Args args) new = PerformsInLanes did args new
+ObeysInLanes did answer new = Unit {0}
+
+-- a command line was read with what is known of rustup, and what it asks for was done in lanes
+pub record IsLaneCall {S : Type 0} (did : List Event → S → S → Type 0) (words : List Name) (env : Env) (new : S) : Type 0 where
+  pub rustup : Rustup
+  pub answer : Parsed
+  pub notes : List Note
+  pub read : IsAnswer (around_of env rustup) (ComesTo (around_of env rustup) words) answer notes
+  pub obeyed : ObeysInLanes did answer new

@@ -5,7 +5,7 @@ ghost use Rattle.std.specs.Option.{unwrap_or};
 ghost use Rattle.hack_load.specs.ContextView.{context_view};
 ghost use Rattle.hack_run.specs.CallTrace.{PerformsOne};
 ghost use Rattle.hack_run.specs.Internal.{MayPerformItsPlan, PerformsAtMostOne, PerformsItsPlan};
-ghost use Rattle.hack_run.specs.Lanes.{MayRunInLanes, RunsOne};
+ghost use Rattle.hack_run.specs.Lanes.{MayRunInLanes, RunsInLanes, RunsOne};
 ghost use Rattle.hack_run.specs.Questions.{IsAnswered};
 ghost use Rattle.hack_run.specs.Worlds.{IsSameHost, host_of};
 
@@ -43,6 +43,8 @@ pub(crate) fn execute<C: Starts, O: Write, E: Write>(
     // Commands were started, told and ended by the rules of lanes, and none that was started is left.
     ensures lanes { MayRunInLanes C.did (context_view cx.now) stable
         (string_bytes host.old.env.now.rustup) host.old.caller.now host.new.caller.now }
+    ensures ran { OnOk result (RunsInLanes C.did (context_view cx.now) stable
+        (string_bytes host.old.env.now.rustup) host.old.caller.now host.new.caller.now) }
 {
     let mut fault = None;
     let session = match hand_to_starter(cx, stable, &mut fault, host) {
@@ -72,6 +74,8 @@ fn hand_to_starter<C: Starts, O: Write, E: Write>(
         (context_view cx.now) stable host.old host.new }
     ensures lanes { MayRunInLanes C.did (context_view cx.now) stable
         (string_bytes host.old.env.now.rustup) host.old.caller.now host.new.caller.now }
+    ensures ran { OnOk result (RunsInLanes C.did (context_view cx.now) stable
+        (string_bytes host.old.env.now.rustup) host.old.caller.now host.new.caller.now) }
 {
     let rustup = host.env.rustup.as_str();
     let folder = target_folder(host.alloc, cx)?;

@@ -1,7 +1,7 @@
 //! The stages of a call after its command line is parsed: loading, edits of manifests, the plan,
 //! and its runs or their list.
 
-ghost use Rattle.std.specs.Prelude.{◌≡◌, IfOk, IfSome, IsOk, OnOk, false, string_bytes, true};
+ghost use Rattle.std.specs.Prelude.{◌≡◌, ◌⊎◌, IfOk, IfSome, IsOk, OnOk, false, string_bytes, true};
 ghost use Rattle.hack_base.specs.Counters.{GrowsBy};
 ghost use Rattle.hack_files.specs.Restore.{AreSafe, is_kept, registered_files};
 ghost use Rattle.hack_load.specs.Answers.{IsLoaded};
@@ -16,7 +16,7 @@ ghost use Rattle.hack_files.specs.Files.{Grows, KeepsAllBut};
 ghost use Rattle.hack_run.specs.CallChanges.{LoadsAndChanges};
 ghost use Rattle.hack_run.specs.CallTrace.{AfterLoading, LoadsAndPerforms};
 ghost use Rattle.hack_run.specs.Internal.{EditsAndPerforms, MayPerformItsPlan, PerformsItsPlan};
-ghost use Rattle.hack_run.specs.Lanes.{MayRunInLanes};
+ghost use Rattle.hack_run.specs.Lanes.{MayRunInLanes, PerformsInLanes, RunsInLanes};
 ghost use Rattle.hack_run.specs.TemporaryEdits.{BringsBack, IsClean};
 ghost use Rattle.hack_run.specs.Questions.{IsAnswered};
 ghost use Rattle.hack_run.specs.Warnings.{after_notes};
@@ -67,6 +67,7 @@ pub(crate) fn perform<F: Files, C: Starts, O: Write, E: Write>(
     ensures clean { OnOk result (host.new.term.now.error ≡ false
         → IsClean (args.remove_dev_deps ≡ false) F.tells
         (files_view F.Files files.old) (files_view F.Files files.new)) }
+    ensures lanes { OnOk result (PerformsInLanes C.did args host.new.caller.now) }
 {
     let mut manager = Manager::new(host.alloc, !args.remove_dev_deps);
     let answers = Answers::ask(
@@ -107,6 +108,7 @@ fn follow<F: Files, C: Starts, O: Write, E: Write>(
         (string_bytes host.old.env.now.rustup) host.old.term.now.warn
         (world_of F.Files C.Caller O.Write files.old host.old)
         (world_of F.Files C.Caller O.Write files.new host.new) }
+    ensures lanes { OnOk result (PerformsInLanes C.did args host.new.caller.now) }
     ensures unkept { manager.old.needs_restore ≡ false
         → registered_files manager.new ≡ registered_files manager.old }
     ensures grows { Grows (F.failed files.old) (F.failed files.new) }
@@ -218,6 +220,9 @@ fn run_plan<C: Starts, O: Write, E: Write>(
     ensures lanes { (context_view cx.now).args.print_command_list ≡ false → MayRunInLanes C.did
         (context_view cx.now) stable (string_bytes host.old.env.now.rustup)
         host.old.caller.now host.new.caller.now }
+    ensures ran { OnOk result (((context_view cx.now).args.print_command_list ≡ true)
+        ⊎ RunsInLanes C.did (context_view cx.now) stable
+        (string_bytes host.old.env.now.rustup) host.old.caller.now host.new.caller.now) }
 {
     if cx.args().print_command_list {
         return print_list(cx, stable, host);

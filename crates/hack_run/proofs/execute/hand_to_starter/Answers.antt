@@ -30,11 +30,14 @@ returns-clause-made g c = λ t.
     (record { calls = made; out = g.O.Write.contents c.hand_out.new.out; term = c.hand_out.new.term })) (sym cleared)
     (rw c.as_str-rustup.ensures.value at c.in_ok-session.ensures.made t)
 
-pub returns-clause-lanes : goal.returns-clause-lanes
-returns-clause-lanes g c =
+pub returns-clause-ran : goal.returns-clause-ran
+returns-clause-ran g c =
     let cx = context_view c.args.cx.now in
     let lanes = c.hand_out.new.lanes in
     let window_is = c.window-2-1.given.1 (sym c.hand_out.ensures.stays.1) in
-    inr (ran_in_lanes g.C.Starts.did cx c.args.stable (string_bytes c.args.host.now.env.now.rustup) c.args.host.now.caller.now (scene_of c.new-window.result c.args.host.now.caller.now) (scene_in lanes) (scene_of c.clear.new.self c.clear.new.starts)
+    ran_in_lanes g.C.Starts.did cx c.args.stable (string_bytes c.args.host.now.env.now.rustup) c.args.host.now.caller.now (scene_of c.new-window.result c.args.host.now.caller.now) (scene_in lanes) (scene_of c.clear.new.self c.clear.new.starts)
     (c.new-window.ensures.turn ∙ ap (λ (n : ℕ). record { place = None; offers = []; width = n }) (c.width.ensures ∙ ap (λ (a : Args). unwrap_or a.parallel 1) c.args-2.ensures)) c.new-window.ensures.state refl (rw c.as_str-rustup.ensures.value at c.in_ok-session.ensures.lanes)
-    (subst (λ (w : Window). Goes g.C.Starts.did [] (scene_of w lanes.starts.now) (scene_of c.clear.new.self c.clear.new.starts)) window_is c.clear.ensures.goes) c.clear.ensures.none)
+    (subst (λ (w : Window). Goes g.C.Starts.did [] (scene_of w lanes.starts.now) (scene_of c.clear.new.self c.clear.new.starts)) window_is c.clear.ensures.goes) c.clear.ensures.none
+
+pub returns-clause-lanes : goal.returns-clause-lanes
+returns-clause-lanes g c = inr (returns-clause-ran g c)

@@ -7,6 +7,7 @@ use Rattle.hack_prepare.proofs.HeldLemmas.{loaded-holds}
 use Rattle.hack_words.specs.declared.cli.args.Args.{Args}
 use Rattle.hack_run.specs.Questions.{NeedsAnswer}
 use Rattle.hack_run.proofs.BackLemmas.{counted_ok}
+use Rattle.hack_run.proofs.LaneLemmas.{follows_in_lanes}
 use Rattle.hack_run.proofs.LoadingLemmas.{warns_unknown}
 use Rattle.hack_run.proofs.TraceLemmas.{follows, goes_on, plan_follows, shows_nothing, unended}
 use Rattle.hack_run.proofs.ChangeLemmas.{follows_changes}
@@ -91,3 +92,8 @@ returns-clause-made g c = λ t.
 
 pub returns-in_err-cx-clause-stays : goal.returns-in_err-cx-clause-stays
 returns-in_err-cx-clause-stays g c = g.F.Files.stays_none c.args.files.now
+
+pub returns-clause-lanes : goal.returns-clause-lanes
+returns-clause-lanes g c =
+    follows_in_lanes g.C.Starts.did c.run_plan.result c.args.args c.args.answers (context_view c.in_ok-cx.cx) c.in_ok-stable.stable (string_bytes c.args.host.now.env.now.rustup) c.stable_for.new.caller c.run_plan.new.host.caller.now
+    c.in_ok-cx.ensures.ok c.run_plan.ensures.ran
