@@ -36,8 +36,8 @@ impl Outlook {
         ensures { AreOffers self.piece plan.now self.place (map offer_of result.items) }
     {
         let mut offers = Vec::new(alloc);
-        let end = self.end(plan);
-        for place in self.place..end {
+        let first = self.first();
+        for place in first..self.end(first, plan) {
             if offers.len() >= self.room {
                 return offers;
             }
@@ -48,15 +48,25 @@ impl Outlook {
         offers
     }
 
-    /// The end of the places that may be offered: they are of the version of the turn's own place,
-    /// and not farther from it than the pieces of a plan make necessary.
-    fn end(self, plan: &Plan) -> usize {
+    /// The first place from that of the turn on whose command wasn't started.
+    fn first(self) -> usize
+        ensures { self.place ≤ result }
+    {
+        match self.last {
+            Some(last) => last.saturating_add(1).max(self.place),
+            None => self.place,
+        }
+    }
+
+    /// The end of the places that may be offered, not farther from the first than the pieces of a
+    /// plan make necessary.
+    fn end(self, first: usize, plan: &Plan) -> usize {
         let pieces = match self.piece {
             Some(piece) => usize::try_from(piece.count).unwrap_or(usize::MAX),
             None => 1,
         };
         let reach = self.room.saturating_mul(pieces);
-        self.place.saturating_add(reach).min(plan.len())
+        first.saturating_add(reach).min(plan.len())
     }
 
     /// Offers the command of a place, where it may be started. False where nothing more is to be
@@ -69,7 +79,7 @@ impl Outlook {
         if place >= plan.len() || !is_within(plan, self.place, place) {
             return false;
         }
-        if !is_chosen(self.piece, place, plan.len()) || !self.is_new(place) {
+        if !is_chosen(self.piece, place, plan.len()) {
             return true;
         }
         let Ok(job) = job(alloc, plan, place) else {
@@ -79,13 +89,6 @@ impl Outlook {
             return false;
         };
         true
-    }
-
-    fn is_new(self, place: usize) -> bool {
-        match self.last {
-            Some(last) => last < place,
-            None => true,
-        }
     }
 }
 
