@@ -84,6 +84,10 @@ CALLS["rules of its own, to the end"] = (
        " --features compact,trace` (exit status: 101)", "error: failed to run 1 commands"],
 )
 
+# Side by side, the same is told.
+for name in ["each feature of both packages", "rules of its own, to the end"]:
+    CALLS[f"{name}, side by side"] = ([*CALLS[name][0], "--parallel", "3"], *CALLS[name][1:])
+
 # Rules for both packages beside these, and what is listed then. With a wrong table nothing is.
 TABLE = '\n[workspace.metadata.cargo-hack]\nexclude-features = ["quiet", "trace"]\noptional-deps = true\n'
 BY_RULES = ["check", "--feature-powerset", "--package-rules", "--print-command-list"]
