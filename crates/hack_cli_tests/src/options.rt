@@ -88,7 +88,7 @@ fn options_by_name(rt: HostRuntime) -> Result<(), Wrong> {
         rt.alloc(),
         "
             > all by name
-            | 48
+            | 49
             > long:
             | none
             > long: al
