@@ -61,6 +61,7 @@ long_option-name opt.Strength = refl
 long_option-name opt.Restore = refl
 long_option-name opt.PackageRules = refl
 long_option-name opt.Parallel = refl
+long_option-name opt.FindRustVersion = refl
 
 pub short_option-letter : (o : Opt) → IfSome (entry_of o).letter (λ c. short_option c ≡ Some o)
 short_option-letter opt.Package = refl
@@ -112,6 +113,7 @@ short_option-letter opt.Strength = tt
 short_option-letter opt.Restore = tt
 short_option-letter opt.PackageRules = tt
 short_option-letter opt.Parallel = tt
+short_option-letter opt.FindRustVersion = tt
 
 -- ---- an option that is found has the name, or the letter
 

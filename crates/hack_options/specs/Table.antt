@@ -88,6 +88,7 @@ entry_of opt.Strength = once (codes "strength") Value (codes "<NUM>")
 entry_of opt.Restore = flag (codes "restore")
 entry_of opt.PackageRules = flag (codes "package-rules")
 entry_of opt.Parallel = once (codes "parallel") Value (codes "<NUM>")
+entry_of opt.FindRustVersion = flag (codes "find-rust-version")
 
 -- the option that an alias means
 abbrev pub meaning_of : Opt → Opt

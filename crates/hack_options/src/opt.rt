@@ -66,6 +66,7 @@ pub enum Opt {
     Restore,
     PackageRules,
     Parallel,
+    FindRustVersion,
 }
 
 /// The option as messages name it. `--workspace-behavior` is shown with `cargo`, the only value

@@ -56,7 +56,7 @@ pub enum Kind {
 }
 
 /// All options, in the order of the help; those that the help doesn't show come last.
-pub const ALL: [Opt; 49] = [
+pub const ALL: [Opt; 50] = [
     Opt::Package,
     Opt::All,
     Opt::Workspace,
@@ -106,6 +106,7 @@ pub const ALL: [Opt; 49] = [
     Opt::Restore,
     Opt::PackageRules,
     Opt::Parallel,
+    Opt::FindRustVersion,
 ];
 
 impl Row {
@@ -200,6 +201,7 @@ fn syntax(option: Opt) -> Row
         Opt::Restore => flag("restore"),
         Opt::PackageRules => flag("package-rules"),
         Opt::Parallel => once("parallel", Kind::Value, "<NUM>"),
+        Opt::FindRustVersion => flag("find-rust-version"),
     }
 }
 
@@ -374,7 +376,8 @@ fn help_text(option: Opt) -> Option<HelpText>
         | Opt::Strength
         | Opt::Restore
         | Opt::PackageRules
-        | Opt::Parallel => None,
+        | Opt::Parallel
+        | Opt::FindRustVersion => None,
     }
 }
 

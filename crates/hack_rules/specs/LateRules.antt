@@ -14,7 +14,7 @@ use Rattle.hack_rules.specs.Behavior.{is_cargo}
 use Rattle.hack_rules.specs.Uses.{Use, is_given, is_use_of}
 use Rattle.hack_rules.specs.Values.{from_value, values_given}
 use Rattle.hack_rules.specs.declared.fault.Beside.TheVariants as beside
-use Rattle.hack_rules.specs.CliFaults.{Fault, LiftForm, LiftGroup, LogGroup, Number, OldRustup, Partition, PartitionKind, Range, RestoreAlone, Zero}
+use Rattle.hack_rules.specs.CliFaults.{Clash, Fault, LiftForm, LiftGroup, LogGroup, Number, OldRustup, Partition, PartitionKind, Range, RestoreAlone, Zero}
 use Rattle.hack_rules.specs.CliLists.{lift_of, lifts_one_of}
 use Rattle.hack_rules.specs.Rules.{fault_if, first_of, needs, clash}
 
@@ -75,9 +75,24 @@ parallel_rules us =
     ∷ clash opt.Parallel opt.CleanPerRun us
     ∷ []
 
+-- the rules on a search for the least version: it needs a range, and chooses its runs by itself, one
+-- after another
+abbrev pub version_search_rules : WorkspaceBehavior → List Use → List (Option Fault)
+version_search_rules behavior us =
+    needs opt.FindRustVersion beside.VersionRange us
+    ∷ clash opt.FindRustVersion opt.Partition us
+    ∷ clash opt.FindRustVersion opt.PrintCommandList us
+    ∷ clash opt.FindRustVersion opt.KeepGoing us
+    ∷ fault_if (is_cargo behavior && is_given opt.FindRustVersion us)
+    (Clash opt.FindRustVersion opt.WorkspaceBehavior)
+    ∷ clash opt.FindRustVersion opt.RustVersion us
+    ∷ clash opt.FindRustVersion opt.Parallel us
+    ∷ []
+
 -- the rules that are checked after the one on a missing subcommand, given the exclusive groups, who
 -- handles workspaces, and the arguments after --: on ranges, the log group, pieces, lifted groups,
--- the strength of a sample, --restore, the rules of packages, and runs side by side
+-- the strength of a sample, --restore, the rules of packages, runs side by side, and the search for
+-- the least version
 abbrev pub rules_after : Option ℕ → List (List (List ℕ)) → WorkspaceBehavior → List (List ℕ) → List Use → List (Option Fault)
 rules_after rustup exclusive behavior trailing us =
     first_of (range_rules rustup us)
@@ -92,4 +107,5 @@ rules_after rustup exclusive behavior trailing us =
     ∷ restore_rule behavior trailing us
     ∷ needs opt.PackageRules beside.EachOrPowerset us
     ∷ first_of (parallel_rules us)
+    ∷ first_of (version_search_rules behavior us)
     ∷ []

@@ -1,6 +1,6 @@
 //! The rules that are checked after the one on a missing subcommand: on ranges of versions, log
 //! groups, pieces of a plan, lifted groups, the strength of a sample, `--restore`,
-//! `--package-rules` and runs side by side.
+//! `--package-rules`, runs side by side and the search for the least version.
 
 ghost use Rattle.std.specs.Prelude.{◌≡◌, ◌&&◌, [], ◌∷◌, false, IfOk, IfSome};
 ghost use Rattle.std.specs.Prelude.{option_map, option_and_then, nat_lt};
@@ -18,12 +18,14 @@ ghost use Rattle.hack_rules.specs.Values.{from_value};
 ghost use Rattle.hack_rules.specs.AskedFields.{range_asked, is_old_asked};
 ghost use Rattle.hack_rules.specs.AskedFields.{is_message_format as message_format};
 ghost use Rattle.hack_rules.specs.AskedFields.{log_group_asked};
-ghost use Rattle.hack_rules.specs.CliFaults.{Checks, LogGroup as WrongLogGroup, OldRustup, Range};
+ghost use Rattle.hack_rules.specs.CliFaults.{Checks, Clash, LogGroup as WrongLogGroup, OldRustup, Range};
 ghost use Rattle.hack_rules.specs.CliFaults.{Partition as WrongPiece, PartitionKind as WrongKind};
 ghost use Rattle.hack_rules.specs.LateView.{IsLate};
 ghost use Rattle.hack_rules.specs.Rules.{fault_if, first_of, has_beside, needs as needs_rule};
 ghost use Rattle.hack_rules.specs.LateRules.{number_within, unless_counted, unless_within};
 ghost use Rattle.hack_rules.specs.LateRules.{parallel_rules, range_rules, rules_after};
+ghost use Rattle.hack_rules.specs.LateRules.{version_search_rules};
+ghost use Rattle.hack_rules.specs.Behavior.{is_cargo};
 ghost use Rattle.hack_rules.specs.LateRules.{is_beside_restore as beside_restore, restore_rule};
 
 use crate::checks::{clash, needs};
@@ -280,6 +282,39 @@ fn parallel(alloc: Global, uses: &[Use]) -> Result<Option<usize>, CliFault>
     Ok(width)
 }
 
+/// Refuses the option where Cargo handles workspaces.
+fn apart_from_cargo(behavior: WorkspaceBehavior, option: Opt, uses: &[Use]) -> Result<(), CliFault>
+    ensures { Checks result (fault_if (is_cargo behavior && is_given option (views uses.now))
+        (Clash option Opt.WorkspaceBehavior)) }
+{
+    if behavior == WorkspaceBehavior::Cargo && given(option, uses) {
+        return Err(CliFault::Clash {
+            option,
+            other: Opt::WorkspaceBehavior,
+        });
+    }
+    Ok(())
+}
+
+/// The rules on a search for the least version.
+fn version_search(behavior: WorkspaceBehavior, uses: &[Use]) -> Result<(), CliFault>
+    ensures { Checks result (first_of (version_search_rules behavior (views uses.now))) }
+{
+    let option = Opt::FindRustVersion;
+    needs(
+        given(option, uses),
+        option,
+        Beside::VersionRange,
+        is_ranged(uses),
+    )?;
+    clash(option, Opt::Partition, uses)?;
+    clash(option, Opt::PrintCommandList, uses)?;
+    clash(option, Opt::KeepGoing, uses)?;
+    apart_from_cargo(behavior, option, uses)?;
+    clash(option, Opt::RustVersion, uses)?;
+    clash(option, Opt::Parallel, uses)
+}
+
 /// What these rules read while they check.
 #[derive(Drop)]
 pub struct Late {
@@ -334,6 +369,7 @@ pub fn check(
         is_each(uses),
     )?;
     let parallel = parallel(alloc, uses)?;
+    version_search(behavior, uses)?;
     Ok(Late {
         versions,
         log_group,

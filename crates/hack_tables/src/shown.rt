@@ -178,6 +178,7 @@ fn show_flags(fields: &mut Fields, args: &Args) -> Result<(), AllocError> {
         (args.remove_dev_deps, "remove_dev_deps"),
         (args.restore, "restore"),
         (args.package_rules, "package_rules"),
+        (args.find_rust_version, "find_rust_version"),
         (args.no_private, "no_private"),
         (args.ignore_private, "ignore_private"),
         (args.ignore_unknown_features, "ignore_unknown_features"),

@@ -33,6 +33,7 @@ pub record HasFlags (us : List Use) (args : Args) : Type 0 where
   pub remove_dev_deps : args.remove_dev_deps ≡ is_given opt.RemoveDevDeps us
   pub restore : args.restore ≡ is_given opt.Restore us
   pub package_rules : args.package_rules ≡ is_given opt.PackageRules us
+  pub find_rust_version : args.find_rust_version ≡ is_given opt.FindRustVersion us
   pub no_private : args.no_private ≡ is_given opt.NoPrivate us
   pub ignore_private : args.ignore_private ≡ (is_given opt.IgnorePrivate us || is_given opt.NoPrivate us)
   pub ignore_unknown_features : args.ignore_unknown_features ≡ is_given opt.IgnoreUnknownFeatures us

@@ -70,6 +70,9 @@ pub struct Args {
     pub version_range: Option<VersionRange>,
     /// At least 1.
     pub version_step: u16,
+    /// In place of all versions of the range a few are tried, to find the least on which all runs
+    /// pass.
+    pub find_rust_version: bool,
     pub log_group: LogGroup,
     pub workspace_behavior: WorkspaceBehavior,
     pub coloring: Coloring,
@@ -257,6 +260,7 @@ impl Args {
             remove_dev_deps: given(Opt::RemoveDevDeps, uses),
             restore: given(Opt::Restore, uses),
             package_rules: given(Opt::PackageRules, uses),
+            find_rust_version: given(Opt::FindRustVersion, uses),
             no_private: given(Opt::NoPrivate, uses),
             ignore_private: ignores_private(uses),
             ignore_unknown_features: given(Opt::IgnoreUnknownFeatures, uses),
