@@ -238,6 +238,7 @@ impl<'a> ProcessBuilder<'a> {
         ensures err { IfErr result (IsReadFault C.tells (asked_of true (command_of self.now))
             (text_of true dir.now (command_of self.now))
             (C.calls caller.old) (C.calls caller.new)) }
+        ensures course { C.course caller.old caller.new }
     {
         let called = self.call_once(alloc, caller, true, dir)?;
         match String::from_utf8(called.stdout) {
