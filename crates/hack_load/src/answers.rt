@@ -58,6 +58,7 @@ impl Answers {
             (F.trace files.old) (F.trace files.new) (F.bytes_at files.old) (F.bytes_at files.new))
             args.now env.now (F.bytes_at files.old) (F.failed files.old) (F.failed files.new)
             (C.calls caller.old) (C.calls caller.new) result }
+        ensures course { C.course caller.old caller.new }
     {
         let told = match CargoVersion::ask(alloc, args, env, caller) {
             Ok(told) => told,
@@ -123,6 +124,7 @@ impl<'a, 'h> Asker<'a, 'h> {
             (F.trace files.old) (F.trace files.new) (F.bytes_at files.old) (F.bytes_at files.new))
             self.now.minor (option_copied self.now.host) (C.calls caller.old) (C.calls caller.new)
             result }
+        ensures course { C.course caller.old caller.new }
     {
         match Metadata::new(
             alloc, self.args, self.env, self.minor, self.host, caller, files, manager,
@@ -149,6 +151,7 @@ impl<'a, 'h> Asker<'a, 'h> {
         ensures asked { C.tells → LoadsFromMetadata F.tells self.now.args.now self.now.env.now
             (F.bytes_at files.old) (F.failed files.old) (F.failed files.new) metadata
             (C.calls caller.old) (C.calls caller.new) result }
+        ensures course { C.course caller.old caller.new }
     {
         let manifests = match manifests_of(alloc, &metadata, files) {
             Ok(manifests) => manifests,

@@ -40,6 +40,7 @@ impl CargoVersion {
         ensures err { OnErr result (C.tells → MayAdd
             (asked_of true (self_command (string_bytes env.now.cargo)))
             (C.calls caller.old) (C.calls caller.new)) }
+        ensures course { C.course caller.old caller.new }
     {
         let asked = self_command(alloc, env)?;
         match asked.read(alloc, caller, env.current_dir.as_str()) {

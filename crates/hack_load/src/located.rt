@@ -42,6 +42,7 @@ impl Located {
             (string_bytes l.text) (C.calls caller.old) (C.calls caller.new)) }
         ensures err { IfErr result (FailsLocate C.tells (locate args.now env.now)
             (string_bytes env.now.current_dir) (C.calls caller.old) (C.calls caller.new)) }
+        ensures course { C.course caller.old caller.new }
     {
         let asked = locate_command(alloc, args, env)?;
         let command = asked.text(alloc, false, args.verbose, env.current_dir.as_str())?;

@@ -65,6 +65,7 @@ impl Metadata {
             (F.bytes_at files.old) (C.calls caller.old) (C.calls caller.new)
             (WroteWhereKnown F.whole F.tells (F.trace files.old) (F.trace files.new)
             (F.bytes_at files.old) (F.bytes_at files.new)) result }
+        ensures course { C.course caller.old caller.new }
     {
         let stable = stable_minor(alloc, env, caller)?;
         let question = Question::new(alloc, args, env, cargo_version, host)?;
@@ -128,6 +129,7 @@ impl<'a> Question<'a> {
         ensures asked { C.tells → AsksCargo (question_of self.now) (C.calls caller.old)
             (C.calls caller.new) result }
         ensures spares { IfErr result IsNoFileFault }
+        ensures course { C.course caller.old caller.new }
     {
         let asked = command(alloc, self.env.cargo.as_str(), &[], &self.full)?;
         let text = read(alloc, &asked, self.env, caller)?;
@@ -164,6 +166,7 @@ impl<'a> Question<'a> {
             (C.calls caller.new)
             (WroteWhereKnown F.whole F.tells (F.trace files.old) (F.trace files.new)
             (F.bytes_at files.old) (F.bytes_at files.new)) result }
+        ensures course { C.course caller.old caller.new }
     {
         let first = self.first(alloc, caller)?;
         self.make_lockfile(alloc, first.lockfile.as_str(), caller, files)?;
@@ -193,6 +196,7 @@ impl<'a> Question<'a> {
             → FailsFirst (question_of self.now) minor
             (C.calls caller.old) (C.calls caller.new) e) }
         ensures spares { IfErr result IsNoFileFault }
+        ensures course { C.course caller.old caller.new }
     {
         let words = ["metadata", "--format-version=1", "--no-deps"];
         let rest = manifest_words(alloc, self.args)?;
@@ -231,6 +235,7 @@ impl<'a> Question<'a> {
         ensures err { IfErr result (λ e. C.tells → (minor : ℕ) (text : List ℕ)
             → IsLockfile text lockfile.now → StopsQuestion (question_of self.now) (first minor text)
             (C.calls caller.old) (C.calls caller.new) e) }
+        ensures course { C.course caller.old caller.new }
     {
         if is_there(alloc, lockfile, files)? {
             return Ok(());
@@ -276,6 +281,7 @@ impl<'a> Question<'a> {
             ⊎ PutsHeld F.tells (F.bytes_at files.old) over.now.lockfile.now
             (λ put. Makes (put ∷ []) (F.trace files.old) (F.trace files.new)
             (F.bytes_at files.old) (F.bytes_at files.new))) }
+        ensures course { C.course caller.old caller.new }
     {
         keep(alloc, over.lockfile, files, manager)?;
         let told = try_read(alloc, over.asked, self.env, caller);
@@ -298,6 +304,7 @@ impl<'a> Question<'a> {
             → FallsBack (question_of self.now) (string_bytes first.now.text)
             (C.calls caller.old) (C.calls caller.new) result }
         ensures spares { IfErr result IsNoFileFault }
+        ensures course { C.course caller.old caller.new }
     {
         if self.args.include_deps_features {
             return self.ask_cargo(alloc, caller);

@@ -43,6 +43,7 @@ pub(crate) fn rustup_for<C: Caller>(
         (rustup_wanted (names_of words.now)) (string_bytes env.now.rustup) known
         (C.calls caller.old) (C.calls caller.new)) }
     ensures unneeded { rustup_wanted (names_of words.now) ≡ false → caller.new ≡ caller.old }
+    ensures course { C.course caller.old caller.new }
 {
     if !wants_rustup(words) {
         return Ok(Rustup::Unasked);
@@ -122,6 +123,7 @@ pub(crate) fn stable_for<C: Caller>(
     ensures made { C.tells → MayAskStable (string_bytes env.now.rustup)
         (C.calls caller.old) (C.calls caller.new) }
     ensures unneeded { ¬ NeedsAnswer args.now → caller.new ≡ caller.old }
+    ensures course { C.course caller.old caller.new }
 {
     if args.subcommand.is_none() || !is_stable_asked(args) {
         return Ok(Ok(None));
@@ -154,6 +156,7 @@ fn install<C: Caller>(
         (C.calls caller.old) (C.calls caller.new)) }
     ensures err { OnErr result (C.tells → FailsStable (string_bytes env.now.rustup)
         (C.calls caller.old) (C.calls caller.new)) }
+    ensures course { C.course caller.old caller.new }
 {
     let mut screen = Screen {
         term,
@@ -205,6 +208,7 @@ fn stable_version<C: Caller>(
         (C.calls caller.old) (C.calls caller.new))) }
     ensures may { C.tells → MayAdd (asked_of true (asks_stable (string_bytes env.now.rustup)))
         (C.calls caller.old) (C.calls caller.new) }
+    ensures course { C.course caller.old caller.new }
 {
     let asked = stable_command(alloc, env)?;
     match asked.read(alloc, caller, env.current_dir.as_str()) {

@@ -61,6 +61,7 @@ pub(crate) fn reading_of<C: Caller>(
     ensures own { known ≡ None → IfOk result (ReadsAfterRustup IsReading C.tells
         (names_of words.now) env.now (C.calls caller.old) (C.calls caller.new)) }
     ensures unneeded { rustup_wanted (names_of words.now) ≡ false → caller.new ≡ caller.old }
+    ensures course { C.course caller.old caller.new }
 {
     if let Some(reading) = known {
         return Ok(reading);

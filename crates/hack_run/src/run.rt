@@ -238,6 +238,7 @@ fn list_commands<C: Caller>(alloc: Global, env: &Env, caller: &mut C) -> Result<
         (listing_asked (string_bytes env.now.cargo)) (C.calls caller.old) (C.calls caller.new)) }
     ensures made { C.tells → MayAdd (listing_asked (string_bytes env.now.cargo))
         (C.calls caller.old) (C.calls caller.new) }
+    ensures course { C.course caller.old caller.new }
 {
     let mut command = ProcessBuilder::new(alloc, env.cargo.as_str())?;
     command.arg("--list")?;

@@ -37,6 +37,7 @@ pub(crate) fn run<C: Caller>(
         (asked_of true (command_of asked.now))
         (text_of true (string_bytes env.now.current_dir) (command_of asked.now))
         (C.calls caller.old) (C.calls caller.new))) }
+    ensures course { C.course caller.old caller.new }
 {
     match asked.run_with_output(alloc, caller, env.current_dir.as_str()) {
         Ok(_) => Ok(()),
@@ -59,6 +60,7 @@ pub(crate) fn read<C: Caller>(
         (asked_of true (command_of asked.now))
         (text_of true (string_bytes env.now.current_dir) (command_of asked.now))
         (C.calls caller.old) (C.calls caller.new))) }
+    ensures course { C.course caller.old caller.new }
 {
     match asked.read(alloc, caller, env.current_dir.as_str()) {
         Ok(text) => Ok(text),
@@ -81,6 +83,7 @@ pub(crate) fn try_read<C: Caller>(
         (C.calls caller.old) (C.calls caller.new))) }
     ensures err { OnErr result (C.tells → MayAdd (asked_of true (command_of asked.now))
         (C.calls caller.old) (C.calls caller.new)) }
+    ensures course { C.course caller.old caller.new }
 {
     match asked.read(alloc, caller, env.current_dir.as_str()) {
         Ok(text) => Ok(Some(text)),

@@ -142,6 +142,7 @@ pub(crate) fn stable_minor<C: Caller>(
     ensures err { OnErr result (C.tells → MayAdd
         (asked_of true (version_command (string_bytes env.now.rustup)))
         (C.calls caller.old) (C.calls caller.new)) }
+    ensures course { C.course caller.old caller.new }
 {
     let words = ["run", "stable", "cargo", "-vV"];
     let asked = command(alloc, env.rustup.as_str(), &words, &[])?;

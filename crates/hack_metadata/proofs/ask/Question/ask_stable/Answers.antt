@@ -164,3 +164,24 @@ returns-clause-spoilt g c =
     but_then (g.F.Files.refuses c.args.files.now c.make_lockfile.new.files) (g.F.Files.refuses c.make_lockfile.new.files c.read_over.new.files) (g.F.Files.refuses c.args.files.now c.read_over.new.files) _ _ _ _ (λ ps qs one other. g.F.Files.refuses_more _ _ _ ps qs one other)
     (but_same _ _ _ _ (g.F.Files.refuses_some _ _ (0, c.in_ok-make_lockfile.ensures.left.0)) c.in_ok-make_lockfile.ensures.same)
     c.in_ok-told.ensures.spoilt
+
+pub returns-in_err-make_lockfile-clause-course : goal.returns-in_err-make_lockfile-clause-course
+returns-in_err-make_lockfile-clause-course g c = g.C.Caller.course_more _ _ _ c.in_ok-first.ensures.course c.in_err-make_lockfile.ensures.course
+
+pub returns-in_err-asked-clause-course : goal.returns-in_err-asked-clause-course
+returns-in_err-asked-clause-course g c = g.C.Caller.course_more _ _ _ c.in_ok-first.ensures.course c.in_ok-make_lockfile.ensures.course
+
+pub returns-in_err-told-clause-stays : goal.returns-in_err-told-clause-stays
+returns-in_err-told-clause-stays g c = g.F.Files.stays_more _ _ _ c.in_ok-make_lockfile.ensures.stays c.in_err-told.ensures.stays
+
+pub returns-in_err-told-clause-course : goal.returns-in_err-told-clause-course
+returns-in_err-told-clause-course g c =
+    g.C.Caller.course_more _ _ _ (g.C.Caller.course_more _ _ _ c.in_ok-first.ensures.course c.in_ok-make_lockfile.ensures.course) c.in_err-told.ensures.course
+
+pub returns-in-Some-clause-course : goal.returns-in-Some-clause-course
+returns-in-Some-clause-course g c =
+    g.C.Caller.course_more _ _ _ (g.C.Caller.course_more _ _ _ c.in_ok-first.ensures.course c.in_ok-make_lockfile.ensures.course) c.in_ok-told.ensures.course
+
+pub returns-clause-course : goal.returns-clause-course
+returns-clause-course g c =
+    g.C.Caller.course_more _ _ _ (g.C.Caller.course_more _ _ _ (g.C.Caller.course_more _ _ _ c.in_ok-first.ensures.course c.in_ok-make_lockfile.ensures.course) c.in_ok-told.ensures.course) c.fall_back.ensures.course
