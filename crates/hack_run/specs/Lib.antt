@@ -9,6 +9,7 @@ pub mod Warnings
 pub mod Refusals
 pub mod Worlds
 pub mod Lanes
+pub mod Findings
 pub mod Readings
 pub mod InternalExtensions
 pub mod Internal

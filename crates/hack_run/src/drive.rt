@@ -1,10 +1,11 @@
-//! What a call runs: the plan of what is loaded, handed out to a runner.
+//! What a call runs: the plan of what is loaded, handed out to a runner, or searched by one.
 
 ghost use Rattle.std.specs.Prelude.{◌≡◌, ◌⊎◌, IfErr, IfOk, List, map};
 ghost use Rattle.hack_planner.specs.CallPlan.{IsCauseOf, IsPlanOf, IsSureCauseOf};
 ghost use Rattle.hack_load.specs.ContextView.{context_view};
 ghost use Rattle.hack_plan.specs.View.{PlanView};
 ghost use Rattle.hack_base.specs.Notes.{Note, note_of};
+ghost use Rattle.hack_msrv.specs.Searches.{IsSearched};
 ghost use Rattle.hack_run.specs.Headline.{IsHandedOut};
 ghost use Rattle.hack_run.specs.Questions.{IsAnswered};
 ghost use Rattle.hack_run.specs.Warnings.{TellsNotes};
@@ -14,6 +15,10 @@ use hack_base::notice::Notice;
 use hack_base::writes::Sink;
 use hack_lanes::turns::Turns;
 use hack_load::context::Context;
+use hack_msrv::found::Found;
+use hack_msrv::judge::Judge;
+use hack_msrv::search::find_versions;
+use hack_plan::plan::Plan;
 use hack_planner::fault::PlanFault;
 use hack_planner::plan::plan_of;
 use hack_process::process::Caller;
@@ -80,6 +85,41 @@ pub fn drive_context<R: Teller>(
     let keep_going = cx.args().keep_going;
     let session = drive_plan(alloc, plan, cx.args().partition, keep_going, runner)?;
     Ok(session)
+}
+
+/// Makes the plan of a context, prints its notices, and searches for the least version of each
+/// package of the plan. `rustup` and `stable` are as for `drive_context`.
+pub fn search_context<R: Teller + Judge>(
+    alloc: Global,
+    cx: &Context,
+    rustup: &str,
+    stable: Result<Option<Version>, String>,
+    runner: &mut R,
+) -> Result<(Plan, Vec<Found>), PlanFault>
+    requires { IsAnswered (context_view cx.now).args stable }
+
+    // The plan is the call's, with its commands, versions and preparations. The runner printed just
+    // its notices, and was then handed just the steps of a search for the least version of each of
+    // its packages, which says what is found.
+    ensures ran { IfOk result (λ answer. (notes : List Note) × (mid : R)
+        × IsPlanOf (context_view cx.now).args.subcommand stable (context_view cx.now) rustup.now
+        answer.0 notes × R.told notes runner.old mid
+        × IsSearched R.ran R.ended answer.0 answer.1.items mid runner.new) }
+
+    // Errors are those of `drive_context`.
+    ensures never { IfOk result (λ _. (e : PlanFault)
+        → ¬ IsSureCauseOf (context_view cx.now).args.subcommand stable (context_view cx.now) e) }
+    ensures err { IfErr result (λ e. (e ≡ PlanFault.Memory)
+        ⊎ IsCauseOf (context_view cx.now).args.subcommand stable (context_view cx.now) e) }
+    ensures refused { IfErr result (λ e. (runner.new ≡ runner.old)
+        ⊎ ((e ≡ PlanFault.Memory) × (plan : PlanView) × (notes : List Note)
+        × IsPlanOf (context_view cx.now).args.subcommand stable (context_view cx.now) rustup.now
+        plan notes × R.told notes runner.old runner.new)) }
+{
+    let (plan, notices) = plan_of(alloc, cx, rustup, stable)?;
+    runner.tell(notices.as_slice());
+    let found = find_versions(alloc, &plan, runner)?;
+    Ok((plan, found))
 }
 
 impl<C: Caller, O: Sink, E: Sink> Teller for Starter<'_, C, O, E> {

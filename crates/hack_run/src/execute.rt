@@ -9,13 +9,15 @@ ghost use Rattle.hack_run.specs.Lanes.{MayRunInLanes, RunsInLanes, RunsOne};
 ghost use Rattle.hack_run.specs.Questions.{IsAnswered};
 ghost use Rattle.hack_run.specs.Worlds.{IsSameHost, host_of};
 
-use crate::drive::drive_context;
+use crate::drive::{drive_context, search_context};
 use crate::explain::explain;
 use crate::fault::RunFault;
+use crate::findings::tell_found;
 use crate::host::Host;
 use hack_lanes::lanes::{Lanes, Window};
 use hack_lanes::turns::Turns;
 use hack_load::context::Context;
+use hack_msrv::found::Found;
 use hack_planner::fault::PlanFault;
 use hack_process::process::ProcessFault;
 use hack_session::session::{Handed, History, Outcome, Session, Starter, Step};
@@ -27,7 +29,8 @@ use hack_words::cli::Args;
 use std::alloc::{AllocError, Global};
 use std::io::Write;
 
-/// Performs the chosen piece of a context's plan, and reports the runs that failed.
+/// Performs the chosen piece of a context's plan, and reports the runs that failed; or searches for
+/// the least versions, and reports these.
 pub(crate) fn execute<C: Starts, O: Write, E: Write>(
     cx: &Context,
     stable: Result<Option<Version>, String>,
@@ -51,7 +54,10 @@ pub(crate) fn execute<C: Starts, O: Write, E: Write>(
         Ok(session) => session,
         Err(fault) => return Err(RunFault::Plan(fault)),
     };
-    let reported = report_all(host.alloc, cx, &session, host.term, host.err);
+    let reported = match session {
+        Some(session) => report_all(host.alloc, cx, &session, host.term, host.err),
+        None => Ok(()),
+    };
     // Why the session stopped counts for more than a report that memory cut short.
     match fault {
         Some(fault) => Err(RunFault::Process(fault)),
@@ -59,13 +65,14 @@ pub(crate) fn execute<C: Starts, O: Write, E: Write>(
     }
 }
 
-/// Hands the plan to a starter. The error that stopped it goes to `fault`, unless it was reported.
+/// Hands the plan to a starter, and returns its session; none after a search, which is reported
+/// already. The error that stopped it goes to `fault`, unless it was reported.
 fn hand_to_starter<C: Starts, O: Write, E: Write>(
     cx: &Context,
     stable: Result<Option<Version>, String>,
     fault: &mut Option<ProcessFault>,
     host: &mut Host<'_, C, O, E>,
-) -> Result<Session, PlanFault>
+) -> Result<Option<Session>, PlanFault>
     requires { IsAnswered (context_view cx.now).args stable }
     ensures host { IsSameHost host.old host.new }
     ensures done { OnOk result (fault.new ≡ None → PerformsItsPlan C.Caller O.Write false
@@ -91,8 +98,41 @@ fn hand_to_starter<C: Starts, O: Write, E: Write>(
     Ok(session)
 }
 
-/// Hands the plan to a starter whose programs are called in lanes.
+/// Hands the plan to a starter whose programs are called in lanes, or has it search.
 fn hand_out<L: Turns, O: Write, E: Write>(
+    alloc: Global,
+    cx: &Context,
+    rustup: &str,
+    stable: Result<Option<Version>, String>,
+    lanes: &mut L,
+    term: &mut Term,
+    out: &mut O,
+    err: &mut E,
+    fault: &mut Option<ProcessFault>,
+) -> Result<Option<Session>, PlanFault>
+    requires { IsAnswered (context_view cx.now).args stable }
+    ensures done { OnOk result (fault.new ≡ None → term.new.error ≡ false → L.tells
+        → PerformsOne true false (context_view cx.now) stable rustup.now term.old.warn
+        (host_of L.Caller O.Write lanes.old out.old term.old)
+        (host_of L.Caller O.Write lanes.new out.new term.new)) }
+    ensures made { L.tells → PerformsAtMostOne false (context_view cx.now) stable rustup.now
+        (host_of L.Caller O.Write lanes.old out.old term.old)
+        (host_of L.Caller O.Write lanes.new out.new term.new) }
+    ensures lanes { OnOk result (RunsOne L.did (context_view cx.now) stable rustup.now
+        (L.scene lanes.old) (L.scene lanes.new)) }
+    ensures stays { L.stays lanes.old lanes.new }
+    ensures refused { OnErr result (lanes.new ≡ lanes.old) }
+{
+    if cx.args().find_rust_version {
+        search_in_lanes(alloc, cx, rustup, stable, lanes, term, out, err, fault)?;
+        return Ok(None);
+    }
+    let session = drive_in_lanes(alloc, cx, rustup, stable, lanes, term, out, err, fault)?;
+    Ok(Some(session))
+}
+
+/// Hands the plan to a starter whose programs are called in lanes.
+fn drive_in_lanes<L: Turns, O: Write, E: Write>(
     alloc: Global,
     cx: &Context,
     rustup: &str,
@@ -125,6 +165,57 @@ fn hand_out<L: Turns, O: Write, E: Write>(
     };
     let session = drive_context(alloc, cx, rustup, stable, &mut side)?;
     Ok(session)
+}
+
+/// Has a starter whose programs are called in lanes search for the least versions, and reports what
+/// was found, unless the search was broken off.
+fn search_in_lanes<L: Turns, O: Write, E: Write>(
+    alloc: Global,
+    cx: &Context,
+    rustup: &str,
+    stable: Result<Option<Version>, String>,
+    lanes: &mut L,
+    term: &mut Term,
+    out: &mut O,
+    err: &mut E,
+    fault: &mut Option<ProcessFault>,
+) -> Result<(), PlanFault>
+    requires { IsAnswered (context_view cx.now).args stable }
+    ensures done { OnOk result (fault.new ≡ None → term.new.error ≡ false → L.tells
+        → PerformsOne true false (context_view cx.now) stable rustup.now term.old.warn
+        (host_of L.Caller O.Write lanes.old out.old term.old)
+        (host_of L.Caller O.Write lanes.new out.new term.new)) }
+    ensures made { L.tells → PerformsAtMostOne false (context_view cx.now) stable rustup.now
+        (host_of L.Caller O.Write lanes.old out.old term.old)
+        (host_of L.Caller O.Write lanes.new out.new term.new) }
+    ensures lanes { OnOk result (RunsOne L.did (context_view cx.now) stable rustup.now
+        (L.scene lanes.old) (L.scene lanes.new)) }
+    ensures stays { L.stays lanes.old lanes.new }
+    ensures refused { OnErr result (lanes.new ≡ lanes.old) }
+{
+    let mut starter = Starter::new(alloc, lanes, term, out, err, fault);
+    starter.set_manner(cx.args().log_group, false);
+    let mut side = Side {
+        starter,
+        piece: cx.args().partition,
+    };
+    let (plan, found) = search_context(alloc, cx, rustup, stable, &mut side)?;
+    if is_broken(&found) {
+        return Ok(());
+    }
+    // A run that fails is no error of a search.
+    *fault = None;
+    Ok(tell_found(alloc, cx, &plan, &found, term, err)?)
+}
+
+/// Whether a search was broken off.
+fn is_broken(found: &[Found]) -> bool {
+    for one in found {
+        if one.is_broken() {
+            return true;
+        }
+    }
+    false
 }
 
 /// How many runs go side by side.

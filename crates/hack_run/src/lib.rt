@@ -6,6 +6,7 @@ pub mod drive;
 mod execute;
 mod explain;
 mod fault;
+mod findings;
 mod gathered;
 pub mod host;
 pub mod journaled;

@@ -1,0 +1,5 @@
+pub mod Ends
+pub mod Trials
+pub mod Searches
+pub mod Internal
+pub mod JoinedTrials

@@ -1,0 +1,199 @@
+//! What a search for the least version found, as lines for the user.
+
+ghost use Rattle.std.specs.Prelude.{◌≡◌, ◌||◌, Bool, false};
+ghost use Rattle.hack_run.specs.Findings.{TellsMore};
+
+use hack_load::context::Context;
+use hack_msrv::found::Found;
+use hack_plan::plan::{Plan, toolchain};
+use hack_term::term::Term;
+use hack_versions::version::Version;
+use std::alloc::{AllocError, Global};
+use std::cmp::Ordering;
+use std::io::Write;
+
+/// Reports what was found of each package of the plan, in order.
+pub(crate) fn tell_found<E: Write>(
+    alloc: Global,
+    cx: &Context,
+    plan: &Plan,
+    found: &[Found],
+    term: &mut Term,
+    err: &mut E,
+) -> Result<(), AllocError>
+    ensures { TellsMore term.old term.new }
+{
+    for member in 0..found.len() {
+        if let Some(one) = plan.packages().get(member) {
+            let about = About {
+                alloc,
+                cx,
+                plan,
+                name: one.name.as_str(),
+            };
+            about.tell(found[member], term, err)?;
+        }
+    }
+    Ok(())
+}
+
+/// A package of a plan whose least version was searched for.
+#[derive(Clone, Copy)]
+struct About<'a> {
+    alloc: Global,
+    cx: &'a Context,
+    plan: &'a Plan,
+    name: &'a str,
+}
+
+impl About<'_> {
+    /// Reports what was found of the package.
+    fn tell<E: Write>(self, found: Found, term: &mut Term, err: &mut E) -> Result<(), AllocError>
+        ensures { TellsMore term.old term.new }
+    {
+        match found {
+            Found::Untried | Found::Broken => Ok(()),
+            Found::Least { version, failed } => {
+                let Some(least) = self.version(version) else {
+                    return Ok(());
+                };
+                self.tell_least(least, failed, term, err)?;
+                self.compare(least, failed, term, err)
+            }
+            Found::Nowhere { version: _, failed } => {
+                let name = self.name;
+                let failure = self.failure(failed)?;
+                let text = format!(in self.alloc; "{name}: {failure}")?;
+                let _ = term.error(text.as_str(), err);
+                Ok(())
+            }
+        }
+    }
+
+    /// Reports the least version, and the place that fails before it.
+    fn tell_least<E: Write>(
+        self,
+        least: Version,
+        failed: Option<usize>,
+        term: &mut Term,
+        err: &mut E,
+    ) -> Result<(), AllocError>
+        ensures { TellsMore term.old term.new }
+    {
+        let name = self.name;
+        let least = toolchain(self.alloc, least)?;
+        let Some(place) = failed else {
+            let text = format!(
+                in self.alloc;
+                "{name}: all runs pass on each version that was tried, down to {least}"
+            )?;
+            let _ = term.info(text.as_str(), err);
+            return Ok(());
+        };
+        let failure = self.failure(place)?;
+        let range = self.range()?;
+        let text = format!(
+            in self.alloc;
+            "{name}: {least} is the least version of {range} on which all runs pass; {failure}"
+        )?;
+        let _ = term.info(text.as_str(), err);
+        Ok(())
+    }
+
+    /// Reports whether the package's own `rust-version` is another than the least version.
+    fn compare<E: Write>(
+        self,
+        least: Version,
+        failed: Option<usize>,
+        term: &mut Term,
+        err: &mut E,
+    ) -> Result<(), AllocError>
+        ensures { TellsMore term.old term.new }
+    {
+        let Some((own, promised)) = self.own()? else {
+            return Ok(());
+        };
+        let name = self.name;
+        if least.compare(promised) == Ordering::Less {
+            let least = toolchain(self.alloc, least)?;
+            let text = format!(
+                in self.alloc;
+                "{name}: its rust-version is {own}, and all runs pass on {least} too"
+            )?;
+            let _ = term.info(text.as_str(), err);
+            return Ok(());
+        }
+        let Some(failed) = self.failed_version(failed) else {
+            return Ok(());
+        };
+        // With steps between the versions, one below the promised one may be the one that failed.
+        if failed.compare(promised) == Ordering::Less {
+            return Ok(());
+        }
+        let failed = toolchain(self.alloc, failed)?;
+        let text = format!(
+            in self.alloc;
+            "{name}: its rust-version is {own}, but not all runs pass on {failed}"
+        )?;
+        let _ = term.warn(text.as_str(), err);
+        Ok(())
+    }
+
+    /// The package's `rust-version`, as its manifest has it, and the toolchain's version of it.
+    fn own(self) -> Result<Option<(&str, Version)>, AllocError> {
+        for id in self.cx.workspace_members() {
+            if self.cx.packages(*id).name.as_str() == self.name {
+                let Some(text) = self.cx.rust_version(*id) else {
+                    return Ok(None);
+                };
+                return match Version::parse(self.alloc, text) {
+                    Ok(version) => Ok(Some((text, version.strip_patch()))),
+                    Err(_) => Ok(None),
+                };
+            }
+        }
+        Ok(None)
+    }
+
+    /// The version at an index of the plan's list.
+    fn version(self, index: usize) -> Option<Version> {
+        match self.plan.versions().get(index) {
+            Some(version) => version.version,
+            None => None,
+        }
+    }
+
+    /// The version of the place whose run failed.
+    fn failed_version(self, failed: Option<usize>) -> Option<Version> {
+        match failed {
+            Some(place) if place < self.plan.len() => self.plan.entry(place).version,
+            _ => None,
+        }
+    }
+
+    /// Which run fails on which version.
+    fn failure(self, place: usize) -> Result<String, AllocError> {
+        if place >= self.plan.len() {
+            return Ok(String::new(self.alloc));
+        }
+        let run = self.plan.run(self.alloc, place)?;
+        let verbose = self.cx.args().verbose;
+        let dir = self.cx.current_dir();
+        let command = run.command.text(self.alloc, false, verbose, dir)?;
+        match run.entry.version {
+            Some(version) => {
+                let version = toolchain(self.alloc, version)?;
+                format!(in self.alloc; "on {version} this fails: {command}")
+            }
+            None => format!(in self.alloc; "this fails: {command}"),
+        }
+    }
+
+    /// The range of versions, as a user reads it.
+    fn range(self) -> Result<String, AllocError> {
+        match self.cx.args().version_range {
+            Some(range) => format!(in self.alloc; "{range}"),
+            None => Ok(String::new(self.alloc)),
+        }
+    }
+}
