@@ -46,7 +46,7 @@ struct About<'a> {
     name: &'a str,
 }
 
-impl About<'_> {
+impl<'a> About<'a> {
     /// Reports what was found of the package.
     fn tell<E: Write>(self, found: Found, term: &mut Term, err: &mut E) -> Result<(), AllocError>
         ensures { TellsMore term.old term.new }
@@ -140,7 +140,7 @@ impl About<'_> {
     }
 
     /// The package's `rust-version`, as its manifest has it, and the toolchain's version of it.
-    fn own(self) -> Result<Option<(&str, Version)>, AllocError> {
+    fn own(self) -> Result<Option<(&'a str, Version)>, AllocError> {
         for id in self.cx.workspace_members() {
             if self.cx.packages(*id).name.as_str() == self.name {
                 let Some(text) = self.cx.rust_version(*id) else {
