@@ -12,6 +12,8 @@ import re
 import subprocess
 import sys
 
+import shells
+
 ROOT = pathlib.Path(__file__).resolve().parent.parent
 
 # Options that the help doesn't show: how they are written, and what they do, in paragraphs.
@@ -61,20 +63,6 @@ HIDDEN = [
     ),
 ]
 
-# The values that an option takes, where they are few.
-VALUES = {
-    "--color": ["auto", "always", "never"],
-    "--log-group": ["none", "github-actions"],
-    "--partition-kind": ["block", "turn"],
-}
-
-SUBCOMMANDS = {
-    "build": "Compile the current package",
-    "check": "Analyze the current package and report errors",
-    "run": "Run a binary or example of the local package",
-    "test": "Run the tests",
-}
-
 ENVIRONMENT = [
     ("CARGO_HACK_CARGO_SRC, CARGO", "The cargo to call; the first that is set counts."),
     ("CARGO_HACK_RUSTUP", "The rustup to call for ranges of versions."),
@@ -102,7 +90,18 @@ class Option:
 
     @property
     def takes_value(self):
+        """Whether the next word is its value."""
         return self.value.startswith("<") or self.long == "--version-range"
+
+    @property
+    def is_path(self):
+        return self.value == "<PATH>"
+
+    @property
+    def values(self):
+        """The values that it takes, where the table lists them (`Coloring: auto, always, never`)."""
+        listed = re.fullmatch(r"\w+(?: \w+)*: ([\w-]+(?:, [\w-]+)+)", self.text)
+        return listed[1].split(", ") if listed else [self.value[1:]] if self.completed != self.long else []
 
     @property
     def completed(self):
@@ -208,105 +207,6 @@ def powerset_list_page():
     ])
 
 
-def bash(found):
-    words = " ".join([*(it.letter for it in found if it.letter), *(it.completed for it in found)])
-    texts = "|".join(name for it in found if it.takes_value for name in it.names if name not in VALUES and name != "--manifest-path")
-    cases = "\n".join(f"        {name}) COMPREPLY=($(compgen -W '{' '.join(values)}' -- \"$word\")); return ;;" for name, values in VALUES.items())
-    return f"""# Completions of `cargo hack` for bash, written by tools/manual.py.
-
-# The subcommands of cargo: also its aliases, and those that are installed.
-_cargo_hack_subcommands() {{
-    local listed
-    listed=$(cargo --list 2> /dev/null | awk 'NR > 1 {{ printf "%s ", $1 }}')
-    echo "${{listed:-{' '.join(SUBCOMMANDS)}}}"
-}}
-
-_cargo_hack() {{
-    local word=${{COMP_WORDS[COMP_CWORD]}} before=${{COMP_WORDS[COMP_CWORD-1]}} subcommands it
-    # `--color=never` comes as `--color`, `=` and `never`.
-    if [[ $word == = ]]; then
-        word=
-    elif [[ $before == = ]]; then
-        before=${{COMP_WORDS[COMP_CWORD-2]}}
-    fi
-    case $before in
-        --manifest-path)
-            compopt -o filenames 2> /dev/null
-            mapfile -t COMPREPLY < <(compgen -f -- "$word")
-            return ;;
-{cases}
-        {texts}) COMPREPLY=(); return ;;
-    esac
-    subcommands=$(_cargo_hack_subcommands)
-    for it in "${{COMP_WORDS[@]:1:COMP_CWORD-1}}"; do
-        [[ $it != hack && " $subcommands " == *" $it "* ]] && subcommands=
-    done
-    COMPREPLY=($(compgen -W "$subcommands {words}" -- "$word"))
-}}
-complete -F _cargo_hack cargo-hack
-
-# `cargo hack` too. All else is handed on to the completions of cargo, which are loaded if they aren't yet.
-_cargo_with_hack() {{
-    local at=1
-    [[ ${{COMP_WORDS[1]}} == +* ]] && at=2
-    if [[ ${{COMP_WORDS[at]}} == hack && COMP_CWORD -gt at ]]; then
-        _cargo_hack
-        return
-    fi
-    if ! declare -F _cargo > /dev/null && declare -F _completion_loader > /dev/null; then
-        _completion_loader cargo
-        complete -F _cargo_with_hack cargo
-    fi
-    if declare -F _cargo > /dev/null; then
-        _cargo "$@"
-    elif ((COMP_CWORD == at)); then
-        COMPREPLY=($(compgen -W "$(_cargo_hack_subcommands)" -- "${{COMP_WORDS[COMP_CWORD]}}"))
-    else
-        compopt -o default 2> /dev/null
-        COMPREPLY=()
-    fi
-}}
-complete -F _cargo_with_hack cargo
-"""
-
-
-def zsh_text(text):
-    return text.replace("'", "'\\''").replace("[", "\\[").replace("]", "\\]").replace(":", "\\:")
-
-
-def zsh(found):
-    lines = []
-    for it in found:
-        value = ""
-        if it.long == "--manifest-path":
-            value = ":path:_files"
-        elif it.takes_value:
-            value = f":value:({' '.join(VALUES.get(it.long, []))})" if it.long in VALUES else ":value:"
-        for name in [it.letter, it.completed]:
-            if name:
-                lines.append(f"    '*{name}[{zsh_text(it.text)}]{value}'")
-    subcommands = " ".join(f"{name}\\:'{text}'" for name, text in SUBCOMMANDS.items())
-    return "#compdef cargo-hack\n# Completions of `cargo hack` for zsh, written by tools/manual.py.\n_arguments \\\n" + " \\\n".join(
-        [*lines, f'    "1:subcommand:(({subcommands}))"', "    '*::arguments of cargo:_files'"]
-    ) + "\n"
-
-
-def fish_text(text):
-    return text.replace("\\", "\\\\").replace("'", "\\'")
-
-
-def fish(found):
-    lines = ["# Completions of `cargo hack` for fish, written by tools/manual.py."]
-    for command, when in (("cargo", " -n '__fish_seen_subcommand_from hack'"), ("cargo-hack", "")):
-        for name, text in SUBCOMMANDS.items():
-            lines.append(f"complete -c {command}{when} -f -a {name} -d '{fish_text(text)}'")
-        for it in found:
-            letter = f" -s {it.letter[1:]}" if it.letter else ""
-            value = f" -x -a '{' '.join(VALUES[it.long])}'" if it.long in VALUES else " -r" if it.takes_value else ""
-            lines.append(f"complete -c {command}{when}{letter} -l '{it.completed[2:]}'{value} -d '{fish_text(it.text)}'")
-    return "\n".join(lines) + "\n"
-
-
 def main(words):
     is_check = words[:1] == ["--check"]
     words = words[is_check:]
@@ -317,9 +217,9 @@ def main(words):
     files = {
         "man/cargo-hack.1": cargo_hack_page(found),
         "man/powerset-list.1": powerset_list_page(),
-        "completions/cargo-hack.bash": bash(found),
-        "completions/_cargo-hack": zsh(found),
-        "completions/cargo-hack.fish": fish(found),
+        "completions/cargo-hack.bash": shells.bash(found),
+        "completions/_cargo-hack": shells.zsh(found),
+        "completions/cargo-hack.fish": shells.fish(found),
     }
     stale = [it for it, text in files.items() if not (ROOT / it).is_file() or (ROOT / it).read_text("utf-8") != text]
     for it in stale:
