@@ -48,7 +48,12 @@ _cargo_hack_arguments() {
             mapfile -t COMPREPLY < <(compgen -W "$offered" -- "$word") ;;
         --manifest-path)
             compopt -o filenames
-            mapfile -t COMPREPLY < <(compgen -P "$glued" -f -- "$word") ;;
+            mapfile -t COMPREPLY < <(compgen -f -- "$word")
+            # Behind `--manifest-path=` in the same word bash doesn't see that it is a folder.
+            [[ ! $glued ]] || for it in "${!COMPREPLY[@]}"; do
+                [[ -d ${COMPREPLY[it]} ]] && COMPREPLY[it]+=/ && compopt -o nospace
+                COMPREPLY[it]=$glued${COMPREPLY[it]}
+            done ;;
         --partition-kind) mapfile -t COMPREPLY < <(compgen -P "$glued" -W 'block turn' -- "$word") ;;
         --log-group) mapfile -t COMPREPLY < <(compgen -P "$glued" -W 'none github-actions' -- "$word") ;;
         --workspace-behavior) mapfile -t COMPREPLY < <(compgen -P "$glued" -W 'cargo' -- "$word") ;;

@@ -57,7 +57,12 @@ _cargo_hack_arguments() {
             mapfile -t COMPREPLY < <(compgen -W "$offered" -- "$word") ;;
         @PATHS@)
             compopt -o filenames
-            mapfile -t COMPREPLY < <(compgen -P "$glued" -f -- "$word") ;;
+            mapfile -t COMPREPLY < <(compgen -f -- "$word")
+            # Behind `--manifest-path=` in the same word bash doesn't see that it is a folder.
+            [[ ! $glued ]] || for it in "${!COMPREPLY[@]}"; do
+                [[ -d ${COMPREPLY[it]} ]] && COMPREPLY[it]+=/ && compopt -o nospace
+                COMPREPLY[it]=$glued${COMPREPLY[it]}
+            done ;;
 @VALUES@
     esac
 }
