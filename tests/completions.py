@@ -51,14 +51,10 @@ ROWS = [
     ("cargo hack --partition-kind=t*", "hack --partition-kind=turn"),
     ("cargo hack --workspace-behavior=c*", "hack --workspace-behavior=cargo"),
     # Other values: nothing.
-    ("cargo hack -p *", "hack -p"),
-    ("cargo hack --package *", "hack --package"),
+    *((f"cargo hack {it} *", f"hack {it}") for it in ("-p", "--package", "--exclude", "-F", "--features", "--depth", "--skip")),
+    *((f"cargo hack {it} *", f"hack {it}") for it in ("--target", "--version-range", "--strength", "--partition", "--parallel")),
     ("cargo hack --package b*", "hack --package b"),
-    ("cargo hack --features *", "hack --features"),
     ("cargo hack --features=b*", "hack --features=b"),
-    ("cargo hack --depth *", "hack --depth"),
-    ("cargo hack --version-range *", "hack --version-range"),
-    ("cargo hack --parallel *", "hack --parallel"),
     # Subcommands: behind options, and none behind another one.
     ("cargo hack b*", "hack b bench build"),
     ("cargo hack nex*", "hack nextest"),

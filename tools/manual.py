@@ -27,8 +27,7 @@ HIDDEN = [
             "Run a sample of the powerset, a few sets that show each pattern of at most NUM features.",
             "A pattern is a choice of features, each on or off. With 2, for each two features one set has both on, one both off,"
             " and one each alone on, where the other options allow such a set.",
-            "With --keep-going, suspects are told at the end: the least patterns that a failed run shows and no passed one, and"
-            " how many of the failed runs show one.",
+            "With --keep-going, what only failed runs have is told at the end: see SUSPECTS.",
             "This flag can only be used together with --feature-powerset flag.",
         ],
     ),
@@ -63,10 +62,19 @@ HIDDEN = [
     ),
 ]
 
+# What the help leaves out of an option's paragraphs.
+MORE = {
+    "--allow-together": "PKG=FEATURES is the package, and all features of the group, in its order: `--allow-together codec=binary,json`.",
+    "--partition-kind": "With block, the default, a piece is a stretch of the list of runs. With turn, piece M of N is each Nth run, from run M on.",
+}
+
 ENVIRONMENT = [
     ("CARGO_HACK_CARGO_SRC, CARGO", "The cargo to call; the first that is set counts."),
     ("CARGO_HACK_RUSTUP", "The rustup to call for ranges of versions."),
-    ("CARGO_HACK_DENY_WARNINGS", "Where it is set, also to `false`, `0` or nothing, a warning makes the exit status 1."),
+    (
+        "CARGO_HACK_DENY_WARNINGS",
+        "Where it is set to anything at all, also to `false`, `0` or an empty text, a warning makes the exit status 1.",
+    ),
     ("CARGO_TERM_COLOR, NO_COLOR", "Whether messages are coloured."),
     ("GITHUB_ACTIONS", "Where it is set, each run is a group of the log."),
 ]
@@ -122,7 +130,9 @@ def options(help_text):
         usage, _, rest = block.strip("\n").partition("\n")
         if usage.strip():
             paragraphs = [" ".join(it.split()) for it in re.split(r"\n\s*\n", rest) if it.strip()]
-            found.append(Option(usage.strip(), paragraphs))
+            option = Option(usage.strip(), paragraphs)
+            option.paragraphs[1:1] = [MORE[option.long]] if option.long in MORE else []
+            found.append(option)
     return found + [Option(usage, paragraphs) for usage, paragraphs in HIDDEN]
 
 
@@ -168,13 +178,27 @@ def cargo_hack_page(found):
             roff("features, or for each version of Rust in a range. Arguments that it doesn't know go to cargo."),
         ]),
         ("OPTIONS", items((man_usage(it), it.paragraphs) for it in found)),
+        ("SUSPECTS", [
+            roff("Where runs of a sample (--strength NUM) fail under --keep-going, notes behind the report name their suspects: the"),
+            roff("smallest combinations of at most NUM features, each on or off, that a failed run of a package shows and no passed"),
+            roff("one. What breaks the build is likely among them."),
+            ".PP",
+            ".nf",
+            roff("    info: in codec all 2 failed runs have one of these, and no passed run does:"),
+            roff("    info:     compact on, trace on"),
+            ".fi",
+            ".PP",
+            roff("Here each failed run has both features on, and each passed run lacks one of them. A line says how many failed runs"),
+            roff("show no suspect, where there are some; a greater NUM may find what they have. At most twenty are shown. Nothing is"),
+            roff("said of a package of which all runs failed."),
+        ]),
         ("ENVIRONMENT", items((f"\\fB{roff(name)}\\fP", [text]) for name, text in ENVIRONMENT)),
         ("FILES", items([("\\fB.git/cargo\\-hack\\-journal\\fP, \\fB.cargo\\-hack\\-journal\\fP", [
             "What edited manifests held, kept while they are edited: in the repository of the workspace, or else beside its"
             " manifest. Where a call ends early, its guard, a shell, restores them at once. Where that can't act, as after"
             " the machine stopped, the next call does, or `cargo hack --restore`.",
         ])])),
-        ("EXIT STATUS", [roff("0, or 1 after an error. A warning counts as an error where CARGO_HACK_DENY_WARNINGS is set.")]),
+        ("EXIT STATUS", [roff("0, or 1 after an error. A warning counts as an error where CARGO_HACK_DENY_WARNINGS is set to anything.")]),
         ("EXAMPLES", items([
             ("\\fBcargo hack check \\-\\-each\\-feature \\-\\-workspace\\fP", ["Check each feature of each package alone."]),
             ("\\fBcargo hack test \\-\\-feature\\-powerset \\-\\-depth 2\\fP", ["Test each set of at most two features."]),

@@ -133,7 +133,7 @@ _cargo_hack_register
 
 ZSH = """\
 #compdef cargo-hack -p cargo
-# Completions of `cargo hack` for zsh, written by tools/manual.py.
+# Completions of `cargo hack` for zsh, written by tools/manual.py. They belong into a folder of fpath.
 # As a pattern (-p), they are asked for `cargo` before cargo's own, whichever file is found first, and take just `hack`.
 
 # The subcommands of cargo: also its aliases, and those that are installed.
