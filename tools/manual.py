@@ -108,8 +108,10 @@ class Option:
     @property
     def values(self):
         """The values that it takes, where the table lists them (`Coloring: auto, always, never`)."""
+        if self.completed != self.long:
+            return [self.value[1:]]
         listed = re.fullmatch(r"\w+(?: \w+)*: ([\w-]+(?:, [\w-]+)+)", self.text)
-        return listed[1].split(", ") if listed else [self.value[1:]] if self.completed != self.long else []
+        return listed[1].split(", ") if listed else []
 
     @property
     def completed(self):

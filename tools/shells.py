@@ -238,13 +238,22 @@ def bash(options):
     )
 
 
+def zsh_mark(name, option):
+    """How `_arguments` is told where the value of an option stands."""
+    if option.completed != option.long:
+        return "=-"  # Just behind `=`.
+    if not option.takes_value:
+        return ""
+    return "+" if name == option.letter else "="  # There, or in the next word.
+
+
 def zsh_option(name, option):
     """An option as `_arguments` takes it."""
     text = option.text.replace("'", "'\\''").replace("[", "\\[").replace("]", "\\]").replace(":", "\\:")
-    # With `=` the value stands behind that or in the next word, with `=-` just behind that, and with `+` as the letter needs it.
-    between = "=-" if option.completed != option.long else "" if not option.takes_value else "+" if len(name) == 2 else "="
+    mark = zsh_mark(name, option)
+    # A space offers nothing.
     value = f"({' '.join(option.values)})" if option.values else "_files" if option.is_path else " "
-    return f"    '*{name}{between}[{text}]{f':value:{value}' if between else ''}'"
+    return f"    '*{name}{mark}[{text}]{f':value:{value}' if mark else ''}'"
 
 
 def zsh(options):
