@@ -1,5 +1,5 @@
 # Completions of `cargo hack` for bash, written by tools/manual.py.
-# bash-completion loads this file. Without it, or where its file of cargo comes first, source this file in ~/.bashrc.
+# bash-completion loads it. Without that, or where that finds another file for cargo first, source this one in ~/.bashrc.
 
 # The subcommands of cargo: also its aliases, and those that are installed.
 _cargo_hack_subcommands() {
