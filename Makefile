@@ -4,9 +4,10 @@ PREFIX ?= /usr/local
 POWERSET_LIST := crates/powerset_list/out/powerset_list
 CARGO_HACK := crates/cargo_hack_program/out/cargo_hack_program
 SHARE = $(DESTDIR)$(PREFIX)/share
+BASH_FILES = $(SHARE)/bash-completion/completions
 
 .DEFAULT_GOAL := help
-.PHONY: help run program programs install uninstall dist manual test quick planted bench faults stand-ins
+.PHONY: help run program programs install install-completions uninstall dist manual test quick planted bench faults stand-ins
 
 help:
 	@echo 'make run      calls cargo hack on the workspace in examples/, over a cargo in memory, by a trial build without proofs'
@@ -15,6 +16,7 @@ help:
 	@echo 'make quick    lays out and checks CRATE=NAME and all that use it, and the rows, over what is kept'
 	@echo 'make planted  tries the edits that the gate leaves out, of all crates or of CRATE=NAME'
 	@echo 'make install  proves and builds cargo-hack and powerset-list, and installs them in PREFIX/bin (PREFIX=$(PREFIX))'
+	@echo 'make install-completions  installs just the completions of bash, zsh and fish'
 	@echo 'make uninstall  removes what make install put there'
 	@echo 'make dist     proves and builds both, and packs them with a sum of each file for machines without the kit'
 	@echo 'make bench    proves and builds the programs, and prints times and memory, beside those of OTHER=PATH, another cargo-hack'
@@ -43,20 +45,26 @@ program:
 programs:
 	@tools/build_programs.py cargo_hack_program powerset_list
 
-install: programs
+install: programs install-completions
 	install -D -m 755 $(CARGO_HACK) '$(DESTDIR)$(PREFIX)/bin/cargo-hack'
 	install -D -m 755 $(POWERSET_LIST) '$(DESTDIR)$(PREFIX)/bin/powerset-list'
 	install -D -m 644 man/cargo-hack.1 '$(SHARE)/man/man1/cargo-hack.1'
 	install -D -m 644 man/powerset-list.1 '$(SHARE)/man/man1/powerset-list.1'
-	install -D -m 644 completions/cargo-hack.bash '$(SHARE)/bash-completion/completions/cargo-hack'
+
+# bash-completion loads the file that has the name of the command, so `cargo` gets a link, unless a file of cargo's own is there.
+# fish would load one for `cargo` instead of its own, so ours goes where fish reads all files when it starts.
+install-completions:
+	install -D -m 644 completions/cargo-hack.bash '$(BASH_FILES)/cargo-hack'
+	test -e '$(BASH_FILES)/cargo' || ln -s cargo-hack '$(BASH_FILES)/cargo'
 	install -D -m 644 completions/_cargo-hack '$(SHARE)/zsh/site-functions/_cargo-hack'
-	install -D -m 644 completions/cargo-hack.fish '$(SHARE)/fish/vendor_completions.d/cargo-hack.fish'
+	install -D -m 644 completions/cargo-hack.fish '$(SHARE)/fish/vendor_conf.d/cargo-hack.fish'
 
 uninstall:
 	rm -f '$(DESTDIR)$(PREFIX)/bin/cargo-hack' '$(DESTDIR)$(PREFIX)/bin/powerset-list'
 	rm -f '$(SHARE)/man/man1/cargo-hack.1' '$(SHARE)/man/man1/powerset-list.1'
-	rm -f '$(SHARE)/bash-completion/completions/cargo-hack' '$(SHARE)/zsh/site-functions/_cargo-hack'
-	rm -f '$(SHARE)/fish/vendor_completions.d/cargo-hack.fish'
+	test "$$(readlink '$(BASH_FILES)/cargo')" != cargo-hack || rm '$(BASH_FILES)/cargo'
+	rm -f '$(BASH_FILES)/cargo-hack' '$(SHARE)/zsh/site-functions/_cargo-hack'
+	rm -f '$(SHARE)/fish/vendor_conf.d/cargo-hack.fish'
 
 dist: programs
 	@tools/dist.py $(CARGO_HACK) $(POWERSET_LIST)

@@ -41,6 +41,8 @@ def rows(folder, programs):
     yield "SHA256SUMS names each file", {name for _, name in sums} == files
     yield "each sum is its file's", all(hashlib.sha256((folder / name).read_bytes()).hexdigest() == sum for sum, name in sums)
     yield "licences and README are there", {"LICENSE-APACHE", "LICENSE-MIT", "README.md"} <= files
+    shells = {f"completions/{it}" for it in ("cargo-hack.bash", "_cargo-hack", "cargo-hack.fish")}
+    yield "man pages and completions are there", shells | {"man/cargo-hack.1", "man/powerset-list.1"} <= files
     status, text = called([folder / "cargo-hack", "hack", "--version"])
     yield "cargo-hack prints its version, by which the folder is called", (status, text) == (0, f"cargo-hack {folder.name.split('-')[2]}\n")
     status, text = called([folder / "powerset-list"], '{"a": [], "b": ["a"]}')

@@ -12,6 +12,8 @@ import re
 import subprocess
 import sys
 
+import shells
+
 ROOT = pathlib.Path(__file__).resolve().parent.parent
 
 # Options that the help doesn't show: how they are written, and what they do, in paragraphs.
@@ -25,8 +27,7 @@ HIDDEN = [
             "Run a sample of the powerset, a few sets that show each pattern of at most NUM features.",
             "A pattern is a choice of features, each on or off. With 2, for each two features one set has both on, one both off,"
             " and one each alone on, where the other options allow such a set.",
-            "With --keep-going, suspects are told at the end: the least patterns that a failed run shows and no passed one, and"
-            " how many of the failed runs show one.",
+            "With --keep-going, what only failed runs have is told at the end: see SUSPECTS.",
             "This flag can only be used together with --feature-powerset flag.",
         ],
     ),
@@ -61,24 +62,19 @@ HIDDEN = [
     ),
 ]
 
-# The values that an option takes, where they are few.
-VALUES = {
-    "--color": ["auto", "always", "never"],
-    "--log-group": ["none", "github-actions"],
-    "--partition-kind": ["block", "turn"],
-}
-
-SUBCOMMANDS = {
-    "build": "Compile the current package",
-    "check": "Analyze the current package and report errors",
-    "run": "Run a binary or example of the local package",
-    "test": "Run the tests",
+# What the help leaves out of an option's paragraphs.
+MORE = {
+    "--allow-together": "PKG=FEATURES is the package, and all features of the group, in its order: `--allow-together codec=binary,json`.",
+    "--partition-kind": "With block, the default, a piece is a stretch of the list of runs. With turn, piece M of N is each Nth run, from run M on.",
 }
 
 ENVIRONMENT = [
     ("CARGO_HACK_CARGO_SRC, CARGO", "The cargo to call; the first that is set counts."),
     ("CARGO_HACK_RUSTUP", "The rustup to call for ranges of versions."),
-    ("CARGO_HACK_DENY_WARNINGS", "Where it is set, also to `false`, `0` or nothing, a warning makes the exit status 1."),
+    (
+        "CARGO_HACK_DENY_WARNINGS",
+        "Where it is set to anything at all, also to `false`, `0` or an empty text, a warning makes the exit status 1.",
+    ),
     ("CARGO_TERM_COLOR, NO_COLOR", "Whether messages are coloured."),
     ("GITHUB_ACTIONS", "Where it is set, each run is a group of the log."),
 ]
@@ -102,7 +98,20 @@ class Option:
 
     @property
     def takes_value(self):
+        """Whether the next word is its value."""
         return self.value.startswith("<") or self.long == "--version-range"
+
+    @property
+    def is_path(self):
+        return self.value == "<PATH>"
+
+    @property
+    def values(self):
+        """The values that it takes, where the table lists them (`Coloring: auto, always, never`)."""
+        if self.completed != self.long:
+            return [self.value[1:]]
+        listed = re.fullmatch(r"\w+(?: \w+)*: ([\w-]+(?:, [\w-]+)+)", self.text)
+        return listed[1].split(", ") if listed else []
 
     @property
     def completed(self):
@@ -123,7 +132,9 @@ def options(help_text):
         usage, _, rest = block.strip("\n").partition("\n")
         if usage.strip():
             paragraphs = [" ".join(it.split()) for it in re.split(r"\n\s*\n", rest) if it.strip()]
-            found.append(Option(usage.strip(), paragraphs))
+            option = Option(usage.strip(), paragraphs)
+            option.paragraphs[1:1] = [MORE[option.long]] if option.long in MORE else []
+            found.append(option)
     return found + [Option(usage, paragraphs) for usage, paragraphs in HIDDEN]
 
 
@@ -169,13 +180,27 @@ def cargo_hack_page(found):
             roff("features, or for each version of Rust in a range. Arguments that it doesn't know go to cargo."),
         ]),
         ("OPTIONS", items((man_usage(it), it.paragraphs) for it in found)),
+        ("SUSPECTS", [
+            roff("Where runs of a sample (--strength NUM) fail under --keep-going, notes behind the report name their suspects: the"),
+            roff("smallest combinations of at most NUM features, each on or off, that a failed run of a package shows and no passed"),
+            roff("one. What breaks the build is likely among them."),
+            ".PP",
+            ".nf",
+            roff("    info: in codec all 2 failed runs have one of these, and no passed run does:"),
+            roff("    info:     compact on, trace on"),
+            ".fi",
+            ".PP",
+            roff("Here each failed run has both features on, and each passed run lacks one of them. A line says how many failed runs"),
+            roff("show no suspect, where there are some; a greater NUM may find what they have. At most twenty are shown. Nothing is"),
+            roff("said of a package of which all runs failed."),
+        ]),
         ("ENVIRONMENT", items((f"\\fB{roff(name)}\\fP", [text]) for name, text in ENVIRONMENT)),
         ("FILES", items([("\\fB.git/cargo\\-hack\\-journal\\fP, \\fB.cargo\\-hack\\-journal\\fP", [
             "What edited manifests held, kept while they are edited: in the repository of the workspace, or else beside its"
             " manifest. Where a call ends early, its guard, a shell, restores them at once. Where that can't act, as after"
             " the machine stopped, the next call does, or `cargo hack --restore`.",
         ])])),
-        ("EXIT STATUS", [roff("0, or 1 after an error. A warning counts as an error where CARGO_HACK_DENY_WARNINGS is set.")]),
+        ("EXIT STATUS", [roff("0, or 1 after an error. A warning counts as an error where CARGO_HACK_DENY_WARNINGS is set to anything.")]),
         ("EXAMPLES", items([
             ("\\fBcargo hack check \\-\\-each\\-feature \\-\\-workspace\\fP", ["Check each feature of each package alone."]),
             ("\\fBcargo hack test \\-\\-feature\\-powerset \\-\\-depth 2\\fP", ["Test each set of at most two features."]),
@@ -208,105 +233,6 @@ def powerset_list_page():
     ])
 
 
-def bash(found):
-    words = " ".join([*(it.letter for it in found if it.letter), *(it.completed for it in found)])
-    texts = "|".join(name for it in found if it.takes_value for name in it.names if name not in VALUES and name != "--manifest-path")
-    cases = "\n".join(f"        {name}) COMPREPLY=($(compgen -W '{' '.join(values)}' -- \"$word\")); return ;;" for name, values in VALUES.items())
-    return f"""# Completions of `cargo hack` for bash, written by tools/manual.py.
-
-# The subcommands of cargo: also its aliases, and those that are installed.
-_cargo_hack_subcommands() {{
-    local listed
-    listed=$(cargo --list 2> /dev/null | awk 'NR > 1 {{ printf "%s ", $1 }}')
-    echo "${{listed:-{' '.join(SUBCOMMANDS)}}}"
-}}
-
-_cargo_hack() {{
-    local word=${{COMP_WORDS[COMP_CWORD]}} before=${{COMP_WORDS[COMP_CWORD-1]}} subcommands it
-    # `--color=never` comes as `--color`, `=` and `never`.
-    if [[ $word == = ]]; then
-        word=
-    elif [[ $before == = ]]; then
-        before=${{COMP_WORDS[COMP_CWORD-2]}}
-    fi
-    case $before in
-        --manifest-path)
-            compopt -o filenames 2> /dev/null
-            mapfile -t COMPREPLY < <(compgen -f -- "$word")
-            return ;;
-{cases}
-        {texts}) COMPREPLY=(); return ;;
-    esac
-    subcommands=$(_cargo_hack_subcommands)
-    for it in "${{COMP_WORDS[@]:1:COMP_CWORD-1}}"; do
-        [[ $it != hack && " $subcommands " == *" $it "* ]] && subcommands=
-    done
-    COMPREPLY=($(compgen -W "$subcommands {words}" -- "$word"))
-}}
-complete -F _cargo_hack cargo-hack
-
-# `cargo hack` too. All else is handed on to the completions of cargo, which are loaded if they aren't yet.
-_cargo_with_hack() {{
-    local at=1
-    [[ ${{COMP_WORDS[1]}} == +* ]] && at=2
-    if [[ ${{COMP_WORDS[at]}} == hack && COMP_CWORD -gt at ]]; then
-        _cargo_hack
-        return
-    fi
-    if ! declare -F _cargo > /dev/null && declare -F _completion_loader > /dev/null; then
-        _completion_loader cargo
-        complete -F _cargo_with_hack cargo
-    fi
-    if declare -F _cargo > /dev/null; then
-        _cargo "$@"
-    elif ((COMP_CWORD == at)); then
-        COMPREPLY=($(compgen -W "$(_cargo_hack_subcommands)" -- "${{COMP_WORDS[COMP_CWORD]}}"))
-    else
-        compopt -o default 2> /dev/null
-        COMPREPLY=()
-    fi
-}}
-complete -F _cargo_with_hack cargo
-"""
-
-
-def zsh_text(text):
-    return text.replace("'", "'\\''").replace("[", "\\[").replace("]", "\\]").replace(":", "\\:")
-
-
-def zsh(found):
-    lines = []
-    for it in found:
-        value = ""
-        if it.long == "--manifest-path":
-            value = ":path:_files"
-        elif it.takes_value:
-            value = f":value:({' '.join(VALUES.get(it.long, []))})" if it.long in VALUES else ":value:"
-        for name in [it.letter, it.completed]:
-            if name:
-                lines.append(f"    '*{name}[{zsh_text(it.text)}]{value}'")
-    subcommands = " ".join(f"{name}\\:'{text}'" for name, text in SUBCOMMANDS.items())
-    return "#compdef cargo-hack\n# Completions of `cargo hack` for zsh, written by tools/manual.py.\n_arguments \\\n" + " \\\n".join(
-        [*lines, f'    "1:subcommand:(({subcommands}))"', "    '*::arguments of cargo:_files'"]
-    ) + "\n"
-
-
-def fish_text(text):
-    return text.replace("\\", "\\\\").replace("'", "\\'")
-
-
-def fish(found):
-    lines = ["# Completions of `cargo hack` for fish, written by tools/manual.py."]
-    for command, when in (("cargo", " -n '__fish_seen_subcommand_from hack'"), ("cargo-hack", "")):
-        for name, text in SUBCOMMANDS.items():
-            lines.append(f"complete -c {command}{when} -f -a {name} -d '{fish_text(text)}'")
-        for it in found:
-            letter = f" -s {it.letter[1:]}" if it.letter else ""
-            value = f" -x -a '{' '.join(VALUES[it.long])}'" if it.long in VALUES else " -r" if it.takes_value else ""
-            lines.append(f"complete -c {command}{when}{letter} -l '{it.completed[2:]}'{value} -d '{fish_text(it.text)}'")
-    return "\n".join(lines) + "\n"
-
-
 def main(words):
     is_check = words[:1] == ["--check"]
     words = words[is_check:]
@@ -317,9 +243,9 @@ def main(words):
     files = {
         "man/cargo-hack.1": cargo_hack_page(found),
         "man/powerset-list.1": powerset_list_page(),
-        "completions/cargo-hack.bash": bash(found),
-        "completions/_cargo-hack": zsh(found),
-        "completions/cargo-hack.fish": fish(found),
+        "completions/cargo-hack.bash": shells.bash(found),
+        "completions/_cargo-hack": shells.zsh(found),
+        "completions/cargo-hack.fish": shells.fish(found),
     }
     stale = [it for it, text in files.items() if not (ROOT / it).is_file() or (ROOT / it).read_text("utf-8") != text]
     for it in stale:
