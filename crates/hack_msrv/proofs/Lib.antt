@@ -1,0 +1,5 @@
+pub mod RangeLemmas
+pub mod TrialLemmas
+pub mod UseLemmas
+pub mod FailureLemmas
+pub mod SearchLemmas
