@@ -22,14 +22,14 @@ HasPassed trials place = Contains trials (record { place = place; outcome = Pass
 abbrev pub IsBeside : ℕ → ℕ → Trial → Type 0
 IsBeside low high t = ((t.outcome ≡ Failed) × (t.place < low)) ⊎ ((t.outcome ≡ Passed) × (high ≤ t.place))
 
--- the least place that passes is one from low to high, so far as the trials say: each of them failed
--- below low or passed at high or above, low is 0 or just above one that failed, and high passed
+-- the trials leave the places from low to high: each of them failed below low, or passed at high or
+-- above; low is 0 or just above one that failed; and high passed
 pub record AreLeft (trials : List Trial) (low high : ℕ) : Type 0 where
   pub beside : All (IsBeside low high) trials
   pub low_failed : (low ≡ 0) ⊎ HasFailed trials (low - 1)
   pub high_passed : HasPassed trials high
 
--- the place is the middle of those that the trials leave, which are more than one
+-- the place is in the middle of those that the trials leave, which are more than one
 abbrev pub IsMiddle : List Trial → ℕ → Type 0
 IsMiddle trials place = (low : ℕ) × (high : ℕ) × AreLeft trials low high × (low < high) × (place ≡ low + (high - low) / 2)
 
@@ -37,20 +37,20 @@ IsMiddle trials place = (low : ℕ) × (high : ℕ) × AreLeft trials low high �
 abbrev pub IsFirst : ℕ → List Trial → Type 0
 IsFirst greatest trials = (o : Outcome) × (later : List Trial) × (trials ≡ record { place = greatest; outcome = o } ∷ later)
 
--- each trial but the first is of the middle of the places that the trials before it leave
+-- each trial but the first is in the middle of the places that the trials before it leave
 abbrev pub AreHalving : List Trial → Type 0
 AreHalving trials = (k : ℕ) (d : Trial) → 0 < k → k < length trials → IsMiddle (take k trials) (slice_index_or trials k d).place
 
--- what the trials say: a place at which they leave no other; or that the greatest failed, which was
--- tried alone; or nothing, since the last of them was broken
+-- what the trials say: that this place is the only one that they leave; or that the greatest failed,
+-- which was tried alone; or nothing, since the last of them was broken
 abbrev pub IsAnswer : ℕ → List Trial → Least → Type 0
 IsAnswer greatest trials (At place) = AreLeft trials place place
 IsAnswer greatest trials Nowhere = trials ≡ record { place = greatest; outcome = Failed } ∷ []
 IsAnswer greatest trials BrokenOff = (before : List Trial) × (place : ℕ) × (trials ≡ before ++ record { place = place; outcome = Broken } ∷ [])
 
--- the trials of a search, and its answer: the greatest place is tried first, and then always the
+-- the trials of a search, and what it answers: the greatest place is tried first, and then always the
 -- middle of those that are left; no place is tried twice, and none above the greatest; no trial but
--- the last is broken; and they are few, since each trial but the first halves the places
+-- the last is broken; and they are few, since each but the first halves the places that are left
 pub record IsSearch (greatest : ℕ) (trials : List Trial) (answer : Least) : Type 0 where
   pub first : IsFirst greatest trials
   pub halving : AreHalving trials
@@ -68,8 +68,8 @@ Answers passes trials = All (λ t. t.outcome ≡ cond (passes t.place) Passed Fa
 abbrev pub IsMonotone : ℕ → (ℕ → Bool) → Type 0
 IsMonotone greatest passes = (p q : ℕ) → p ≤ q → q ≤ greatest → IsTrue (passes p) → IsTrue (passes q)
 
--- the least place that passes, of those up to the greatest: it passes and each lesser one fails; or
--- each of them fails; a search that was broken off tells nothing, and its trials are of no test
+-- of the places up to the greatest, this one passes and each lesser one fails; or each of them fails;
+-- and a search that was broken off is right for no test
 abbrev pub IsLeast : ℕ → (ℕ → Bool) → Least → Type 0
 IsLeast greatest passes (At place) = (place ≤ greatest) × IsTrue (passes place) × ((p : ℕ) → p < place → passes p ≡ false)
 IsLeast greatest passes Nowhere = (p : ℕ) → p ≤ greatest → passes p ≡ false
