@@ -1,20 +1,25 @@
 -- How trials and searches go together, and what they say.
-use Rattle.std.proofs.Common.{◌≡◌, ◌≢◌, ◌+◌, ◌-◌, ◌<◌, ◌≤◌, ◌⊎◌, ℕ, Bool, List, [], ◌∷◌, ◌++◌, All, Contains, Option, Some, None, length, get_or, refl, sym, ap, subst, ◌∙◌, inl, inr, arith}
+use Rattle.std.proofs.Common.{◌≡◌, ◌≢◌, ◌+◌, ◌-◌, ◌<◌, ◌≤◌, ◌⊎◌, ℕ, Bool, List, [], ◌∷◌, ◌++◌, All, Contains, Option, Some, None, length, get_or, map, refl, sym, ap, subst, ◌∙◌, inl, inr, arith}
 use Rattle.std.specs.Prelude.{AllPairs, slice_get}
 use Rattle.std.specs.List.{AllZip, flat_map}
 use Rattle.std.specs.Option.{option_map_or}
-use Rattle.std.proofs.lemmas.List.Elements.{All-cons, All-contains, All-nil, Contains-get_or}
+use Rattle.std.proofs.lemmas.List.Elements.{All-cons, All-contains, All-nil, Contains-append_left, Contains-append_right, Contains-push}
 use Rattle.std.proofs.lemmas.Option.{slice_get-get_or}
-use Rattle.hack_base.proofs.Members.{Contains-head}
+use Rattle.hack_base.proofs.Members.{Contains-cons_cases, Contains-head, Contains-nil, Contains-tail}
 use Rattle.hack_bisect.specs.Searches.{AreLeft, HasPassed, IsBeside, IsSearch, IsRight, Trial as Tried}
 use Rattle.hack_bisect.specs.declared.find.Least.{Least as LeastPlace}
 use Rattle.hack_bisect.specs.declared.find.Least.TheVariants.{At, Nowhere as NoPlace, Broken as BrokenOff}
 use Rattle.hack_bisect.specs.declared.tries.Outcome.TheVariants as outcome
 use Rattle.hack_plan.specs.View.{PlanView}
+use Rattle.hack_session.specs.Histories.{passed_step}
 use Rattle.hack_session.specs.declared.step.Handed.{Handed}
+use Rattle.hack_session.specs.declared.step.Outcome.TheVariants as step
+use Rattle.hack_session.specs.declared.step.Step.{Step}
 use Rattle.hack_msrv.specs.Internal.{AreSearched, HasVersion, TriesVersions, failed_after, found_of, nowhere_of}
-use Rattle.hack_msrv.specs.Searches.{AreSearches, AreTried, IsFound, IsHalving, IsReason, IsSearchOf, IsTrialAt, handed_in_all, uses_of}
-use Rattle.hack_msrv.specs.Trials.{AreTrials, IsTrial, Trial, handed_in}
+use Rattle.hack_msrv.specs.Searches.{AreSearches, AreTried, IsFound, IsHalving, IsReason, IsSearchOf, IsTrialAt, handed_in_all, outcome_of, uses_of}
+use Rattle.hack_msrv.specs.Trials.{AreTrials, ComesTo, IsTrial, Trial, failed_step, handed_in, trial_steps}
+use Rattle.hack_msrv.specs.declared.trial.Came.{Came}
+use Rattle.hack_msrv.specs.declared.trial.Came.TheVariants as came
 use Rattle.hack_msrv.specs.declared.found.Found.{Found}
 use Rattle.hack_msrv.specs.declared.found.Found.TheVariants.{Least, Nowhere, Broken}
 use Rattle.hack_msrv.proofs.FailureLemmas.{Climbs, IsLast, IsTop, climbs-of, last-failed, none-failed}
@@ -109,3 +114,55 @@ searched-more ran ended plan found one a b c s trials did is =
       tried = tried-push ran ended plan 0 (length found) s.searches trials a b c (omega (arith, long)) s.tried did;
       found = searches-push plan 0 (length found) s.searches found trials one (omega arith) s.found of;
     }
+
+-- ---- a search that was broken off
+
+zip-has : {A B : Type 0} (R : A → B → Type 0) (xs : List A) (ys : List B) (x : A) → AllZip R xs ys → Contains xs x → (y : B) × Contains ys y × R x y
+zip-has R [] ys x zip has = absurd (Contains-nil x has)
+zip-has R (z ∷ xs) [] x zip has = absurd zip
+zip-has {A} {B} R (z ∷ xs) (y ∷ ys) x zip has =
+    elim (Contains-cons_cases z xs x has) [
+      | inl e ↦ (y, Contains-head y ys, subst (λ (v : A). R v y) e zip.0)
+      | inr w ↦ let r = zip-has R xs ys x zip.1 w in (r.0, Contains-tail y ys r.0 r.1, r.2)
+    ]
+
+came-broken : (c : Came) → outcome_of c ≡ outcome.Broken → c ≡ came.Broken
+came-broken came.Passed is = absurd (cc is)
+came-broken (came.Failed place) is = absurd (cc is)
+came-broken came.Broken is = refl
+
+-- what a part of some lists has, all of them have
+flat-has : {X Y : Type 0} (f : X → List Y) (xs : List X) (x : X) (y : Y) → Contains xs x → Contains (f x) y → Contains (flat_map f xs) y
+flat-has f [] x y has in-it = absurd (Contains-nil x has)
+flat-has {X} f (z ∷ xs) x y has in-it =
+    elim (Contains-cons_cases z xs x has) [
+      | inl e ↦ Contains-append_left (f z) (flat_map f xs) y (subst (λ (v : X). Contains (f v) y) (sym e) in-it)
+      | inr w ↦ Contains-append_right (f z) (flat_map f xs) y (flat-has f xs x y w in-it)
+    ]
+
+-- a trial that is broken has a step that failed
+trial-fails : (steps : List Step) (handed : List Handed) (ended : Bool) → ComesTo ended steps handed came.Broken → (h : Handed) × Contains handed h × (h.outcome ≡ step.Failed)
+trial-fails steps handed ended c =
+    let last = failed_step c.0 in
+    (last, subst (λ l. Contains l last) (sym c.1.handed) (Contains-push (map passed_step c.1.front) last), refl)
+
+search-fails : (plan : PlanView) (p : ℕ) (trials : List Trial) → IsSearchOf plan p trials Broken → (h : Handed) × Contains (handed_in trials) h × (h.outcome ≡ step.Failed)
+search-fails plan p trials s =
+    let a = s.found.search.answered in
+    let last : Tried = record { place = a.1; outcome = outcome.Broken } in
+    let t = zip-has (IsTrialAt (uses_of plan p)) s.found.tried trials last s.found.same (subst (λ l. Contains l last) (sym a.2) (Contains-push a.0 last)) in
+    let one = All-contains (λ t. (e : Bool) × IsTrial plan p e t) trials t.0 s.each t.1 in
+    let f = trial-fails _ t.0.handed one.0 (subst (λ (c : Came). ComesTo one.0 (trial_steps plan p one.1.version) t.0.handed c) (came-broken t.0.came (sym t.2.outcome)) one.1.comes) in
+    (f.0, flat-has (λ (t : Trial). t.handed) trials t.0 f.0 t.1 f.1, f.2)
+
+-- where a search was broken off, a step failed
+pub broken_fails : (plan : PlanView) (p : ℕ) (searches : List (List Trial)) (found : List Found) → AreSearches plan p searches found → Contains found Broken
+    → (h : Handed) × Contains (handed_in_all searches) h × (h.outcome ≡ step.Failed)
+broken_fails plan p [] [] s has = absurd (Contains-nil Broken has)
+broken_fails plan p [] (one ∷ found) s has = absurd s
+broken_fails plan p (trials ∷ searches) [] s has = absurd s
+broken_fails plan p (trials ∷ searches) (one ∷ found) s has =
+    elim (Contains-cons_cases one found Broken has) [
+      | inl e ↦ let f = search-fails plan p trials (subst (IsSearchOf plan p trials) e s.0) in (f.0, Contains-append_left (handed_in trials) (handed_in_all searches) f.0 f.1, f.2)
+      | inr w ↦ let f = broken_fails plan (p + 1) searches found s.1 w in (f.0, Contains-append_right (handed_in trials) (handed_in_all searches) f.0 f.1, f.2)
+    ]

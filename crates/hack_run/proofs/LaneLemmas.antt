@@ -41,8 +41,15 @@ ran_in_lanes {S} did cx stable rustup old a b c turn state starts one ended none
 }
 
 -- a context that was made for the arguments was performed in lanes, where it isn't listed
-pub follows_in_lanes : {S T E : Type 0} (did : List Event → S → S → Type 0) (r : Result T E) (args : Args) (answers : Answers) (cx : ContextRecord) (stable : Result (Option Version) (String Global)) (rustup : Name) (before new : S)
-    → IsContextFrom args answers cx → OnOk r ((cx.args.print_command_list ≡ true) ⊎ RunsInLanes did cx stable rustup before new) → OnOk r (PerformsInLanes did args new)
-follows_in_lanes did (Err e) args answers cx stable rustup before new context h = tt
-follows_in_lanes did (Ok v) args answers cx stable rustup before new context (inl listed) = inl (subst (λ (a : Args). a.print_command_list ≡ true) context.2.args listed)
-follows_in_lanes did (Ok v) args answers cx stable rustup before new context (inr ran) = inr (cx, context.2.args, stable, rustup, before, ran)
+pub follows_in_lanes : {S T E : Type 0} (did : List Event → S → S → Type 0) (course : S → S → Type 0) (r : Result T E) (args : Args) (answers : Answers) (cx : ContextRecord) (stable : Result (Option Version) (String Global)) (rustup : Name) (old before new : S)
+    → course old before → IsContextFrom args answers cx → OnOk r ((cx.args.print_command_list ≡ true) ⊎ RunsInLanes did cx stable rustup before new) → OnOk r (PerformsInLanes did course args old new)
+follows_in_lanes did course (Err e) args answers cx stable rustup old before new asked context h = tt
+follows_in_lanes did course (Ok v) args answers cx stable rustup old before new asked context (inl listed) = inl (subst (λ (a : Args). a.print_command_list ≡ true) context.2.args listed)
+follows_in_lanes did course (Ok v) args answers cx stable rustup old before new asked context (inr ran) = inr (cx, context.2.args, stable, rustup, before, asked, ran)
+
+-- the same from a state before other calls
+pub asked_in_lanes : {S T E : Type 0} (did : List Event → S → S → Type 0) (course : S → S → Type 0) → ((a b c : S) → course a b → course b c → course a c) → (r : Result T E) (args : Args) (old mid new : S) → course old mid
+    → OnOk r (PerformsInLanes did course args mid new) → OnOk r (PerformsInLanes did course args old new)
+asked_in_lanes did course more (Err e) args old mid new asked h = tt
+asked_in_lanes did course more (Ok v) args old mid new asked (inl listed) = inl listed
+asked_in_lanes did course more (Ok v) args old mid new asked (inr p) = inr (p.0, p.1, p.2, p.3, p.4, more old mid p.4 asked p.5, p.6)

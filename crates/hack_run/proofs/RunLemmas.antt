@@ -6,7 +6,7 @@ use Rattle.std.specs.Io.KnownBytes.{Appends, Keeps, append_known}
 use Rattle.std.proofs.KnownBytes.{Appends-kept, Appends-nil, Appends-trans}
 use Rattle.std.proofs.lemmas.List.{append_cancel_left}
 use Rattle.std.proofs.lemmas.List.Elements.{All-cons, All-head, All-tail}
-use Rattle.std.proofs.lemmas.Bool.{lt-ltb}
+use Rattle.std.proofs.lemmas.Bool.{lt-ltb, true≢false}
 use Rattle.hack_process.specs.Calls.{Call}
 use Rattle.hack_process.specs.declared.fault.ProcessFault.{ProcessFault}
 use Rattle.hack_term.specs.declared.term.Term.{Term}
@@ -31,6 +31,8 @@ use Rattle.hack_planner.proofs.Performing.{performable}
 use Rattle.hack_planner.specs.CallPlan.{IsPlanOf}
 use Rattle.hack_run.specs.CallTrace.{PerformsOne, WritesText}
 use Rattle.hack_session.specs.Handouts.{IsDriven}
+use Rattle.hack_words.specs.declared.cli.args.Args.{Args}
+use Rattle.hack_run.specs.Handed.{IsHandedAsAsked, IsSearchedOut, is_search}
 use Rattle.hack_run.specs.InternalExtensions.{Extends}
 use Rattle.hack_run.specs.Internal.{HandsOverAtMostOne, ListsOver, PerformsAtMostOne, host_writing}
 use Rattle.hack_run.specs.Warnings.{Warned}
@@ -161,11 +163,13 @@ list_ends (Ok v) refused none short flushed quiet tells cx stable rustup warned 
       notes = d.notes;
       cut = d.cut;
       planned = d.planned;
-      driven = d.driven;
+      later = d.later;
+      handed = d.handed;
       calls = d.calls;
       wrote = wrote_end old.out (append_known mid.out gathered) out (flat_map (lines_written d.course.plan) d.course.handed)
           (subst (λ (x : Option (List ℕ)). WritesText true true x (append_known mid.out gathered) (flat_map (lines_written d.course.plan) d.course.handed)) start d.wrote) (kept came.3);
       passed = d.passed;
+      unreported = d.unreported;
       warns = d.warns;
     }
 
@@ -194,10 +198,12 @@ list_shows cx stable rustup old mid begun gathered left out empty made kept grow
       notes = one.notes;
       cut = one.cut;
       planned = one.planned;
-      driven = one.driven;
+      later = one.later;
+      handed = one.handed;
       calls = one.calls;
       wrote = shown (flat_map (lines_written one.course.plan) one.course.handed) one.wrote;
       passed = λ e. unended e;
+      unreported = one.unreported;
       warns = λ e. unended e;
     })
 
@@ -225,41 +231,77 @@ handed_makes whole had has Told Ran cx stable rustup a b (inr l) w calls refused
       notes = l.notes;
       cut = did.cut;
       planned = performable cx.args.subcommand stable cx rustup l.course.plan l.notes l.planned;
-      driven = l.driven;
+      later = false;
+      handed = l.driven;
       calls = subst (λ (cs : List Call). MakesCalls (λ made. PerformsAll l.course.plan steps made did.cut) cs (calls b)) (told l.notes a l.mid l.told) (record { made = did.made; grown = did.grown; such = did.performed });
       wrote = all_shown false had has (flat_map (lines_written l.course.plan) l.course.handed) (l.wrote w);
       passed = λ e. unended e;
+      unreported = λ u. refl;
       warns = λ e. unended e;
     })
 
+-- the chosen piece's steps, where no search is asked for
+pub handed_piece : (done : Bool) (args : Args) (course : Course) → args.find_rust_version ≡ false → IsDriven args.partition args.keep_going course → IsHandedAsAsked done (is_search false args) args course
+handed_piece done args course off driven = subst (λ (b : Bool). IsHandedAsAsked done b args course) (sym off) driven
+
+-- a search's steps, where one is asked for
+pub handed_search : (done : Bool) (args : Args) (course : Course) → args.find_rust_version ≡ true → IsSearchedOut done course.plan course.handed → IsHandedAsAsked done (is_search false args) args course
+handed_search done args course on out = subst (λ (b : Bool). IsHandedAsAsked done b args course) (sym on) out
+
+calls_from : (course : Course) (mid old new : List Call) (before now : ℕ) → mid ≡ old → (h : HasPerformed course.plan course.handed mid new before now) → MakesCalls (λ made. PerformsAll course.plan course.handed made h.cut) old new
+calls_from course mid old new before now same h =
+    subst (λ (calls : List Call). MakesCalls (λ made. PerformsAll course.plan course.handed made h.cut) calls new) same (record { made = h.made; grown = h.grown; such = h.performed })
+
 -- one history of a plan, each step of which passed where no error was reported
 pub runs_one : (cx : ContextRecord) (stable : Result (Option Version) (String Global)) (rustup : Name) (course : Course) (notes : List Note) (old new : HostView) (mid : List Call) (before now : ℕ) (term : Term) (fault : Option ProcessFault) → mid ≡ old.calls
-    → IsPlanOf cx.args.subcommand stable cx rustup course.plan notes → IsDriven cx.args.partition cx.args.keep_going course → HasPerformed course.plan course.handed mid new.calls before now
+    → IsPlanOf cx.args.subcommand stable cx rustup course.plan notes → cx.args.find_rust_version ≡ false → IsDriven cx.args.partition cx.args.keep_going course → HasPerformed course.plan course.handed mid new.calls before now
     → (All HasPassed course.handed ⊎ HasTold term.error fault) → Warned notes old.term.warn new.term.warn → fault ≡ None → term.error ≡ false → PerformsOne true false cx stable rustup old.term.warn old new
-runs_one cx stable rustup course notes old new mid before now term fault same planned driven performed told warned none quiet = record {
+runs_one cx stable rustup course notes old new mid before now term fault same planned off driven performed told warned none quiet = record {
   course = course;
   notes = notes;
   cut = performed.cut;
   planned = performable cx.args.subcommand stable cx rustup course.plan notes planned;
-  driven = driven;
-  calls = subst (λ (calls : List Call). MakesCalls (λ made. PerformsAll course.plan course.handed made performed.cut) calls new.calls) same (record { made = performed.made; grown = performed.grown; such = performed.performed });
+  later = false;
+  handed = handed_piece true cx.args course off driven;
+  calls = calls_from course mid old.calls new.calls before now same performed;
   wrote = tt;
-  passed = λ e. all_passed course.handed term fault told none quiet;
+  passed = λ e u. all_passed course.handed term fault told none quiet;
+  unreported = λ u. refl;
+  warns = λ e. warned;
+}
+
+-- one search, where no error was reported
+pub searches_one : (cx : ContextRecord) (stable : Result (Option Version) (String Global)) (rustup : Name) (course : Course) (notes : List Note) (later : Bool) (old new : HostView) (mid : List Call) (before now : ℕ) → mid ≡ old.calls
+    → IsPlanOf cx.args.subcommand stable cx rustup course.plan notes → cx.args.find_rust_version ≡ true → IsSearchedOut true course.plan course.handed → HasPerformed course.plan course.handed mid new.calls before now
+    → Warned notes (later || old.term.warn) new.term.warn → PerformsOne true false cx stable rustup old.term.warn old new
+searches_one cx stable rustup course notes later old new mid before now same planned on out performed warned = record {
+  course = course;
+  notes = notes;
+  cut = performed.cut;
+  later = later;
+  planned = performable cx.args.subcommand stable cx rustup course.plan notes planned;
+  handed = handed_search true cx.args course on out;
+  calls = calls_from course mid old.calls new.calls before now same performed;
+  wrote = tt;
+  passed = λ e off. absurd (true≢false (sym on ∙ off));
+  unreported = λ off. absurd (true≢false (sym on ∙ off));
   warns = λ e. warned;
 }
 
 -- the same, whatever came of its steps
 pub runs_some : (cx : ContextRecord) (stable : Result (Option Version) (String Global)) (rustup : Name) (course : Course) (notes : List Note) (old new : HostView) (mid : List Call) (before now : ℕ) → mid ≡ old.calls
-    → IsPlanOf cx.args.subcommand stable cx rustup course.plan notes → IsDriven cx.args.partition cx.args.keep_going course → HasPerformed course.plan course.handed mid new.calls before now → PerformsAtMostOne false cx stable rustup old new
-runs_some cx stable rustup course notes old new mid before now same planned driven performed = inr (record {
+    → IsPlanOf cx.args.subcommand stable cx rustup course.plan notes → IsHandedAsAsked false (is_search false cx.args) cx.args course → HasPerformed course.plan course.handed mid new.calls before now → PerformsAtMostOne false cx stable rustup old new
+runs_some cx stable rustup course notes old new mid before now same planned handed performed = inr (record {
   course = course;
   notes = notes;
   cut = performed.cut;
   planned = performable cx.args.subcommand stable cx rustup course.plan notes planned;
-  driven = driven;
-  calls = subst (λ (calls : List Call). MakesCalls (λ made. PerformsAll course.plan course.handed made performed.cut) calls new.calls) same (record { made = performed.made; grown = performed.grown; such = performed.performed });
+  later = false;
+  handed = handed;
+  calls = calls_from course mid old.calls new.calls before now same performed;
   wrote = tt;
   passed = λ e. unended e;
+  unreported = λ u. refl;
   warns = λ e. unended e;
 })
 
@@ -277,10 +319,12 @@ lists_one had has Told Ran cx stable rustup a b l calls before now was term faul
   notes = l.over.notes;
   cut = performed.cut;
   planned = performable cx.args.subcommand stable cx rustup l.over.course.plan l.over.notes l.over.planned;
-  driven = l.over.driven;
+  later = false;
+  handed = l.over.driven;
   calls = subst (λ (cs : List Call). MakesCalls (λ made. PerformsAll l.over.course.plan (filter is_sent l.over.course.handed) made performed.cut) cs (calls b)) same (record { made = performed.made; grown = performed.grown; such = performed.performed });
   wrote = all_shown true had has (flat_map (lines_written l.over.course.plan) l.over.course.handed) (l.over.wrote tt);
-  passed = λ e. all_handed l.over.course.handed (all_passed (filter is_sent l.over.course.handed) term fault told none quiet) l.listed;
+  passed = λ e u. all_handed l.over.course.handed (all_passed (filter is_sent l.over.course.handed) term fault told none quiet) l.listed;
+  unreported = λ u. refl;
   warns = λ e. warned;
 }
 

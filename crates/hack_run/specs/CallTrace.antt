@@ -31,7 +31,7 @@ use Rattle.hack_words.specs.declared.cli.args.Args.{Args}
 use Rattle.hack_words.specs.declared.cli.env.Env.{Env}
 use Rattle.hack_words.specs.declared.cli.parse.Parsed.{Parsed}
 use Rattle.hack_words.specs.declared.cli.parse.Parsed.TheVariants as parsed
-use Rattle.hack_session.specs.Handouts.{IsDriven}
+use Rattle.hack_run.specs.Handed.{IsHandedAsAsked, is_search}
 use Rattle.hack_run.specs.Loading.{AreLoaded}
 use Rattle.hack_run.specs.Questions.{AsksRustup, AsksStable, MayAskStable, NeedsAnswer, rustup_asked}
 use Rattle.hack_run.specs.Warnings.{Warned, have_warning}
@@ -49,21 +49,24 @@ WritesText done false had has text = Unit {0}
 
 -- One history of a context's plan, made with this answer on stable's version, was handed out. Its
 -- steps made just these calls, one after the other, of a list those that aren't listed, which wrote
--- the lines of the steps that passed. At the end of a call each step passed, and a warning is noted
--- just where one was before, or where a notice of the plan counts as one.
+-- the lines of the steps that passed. At the end of a call each step passed, unless it was a search's;
+-- and a warning is noted just where one was before, or where a notice of the plan counts as one, or a
+-- search reported one.
 pub record PerformsOne (done listing : Bool) (cx : ContextRecord)
     (stable : Result (Option Version) (String Global)) (rustup : Name) (warned : Bool)
     (old new : HostView) : Type 0 where
   pub course : Course
   pub notes : List Note
   pub cut : ℕ
+  pub later : Bool
   pub planned : IsPerformableOf cx.args.subcommand stable cx rustup course.plan notes
-  pub driven : IsDriven cx.args.partition cx.args.keep_going course
+  pub handed : IsHandedAsAsked done (is_search listing cx.args) cx.args course
   pub calls : MakesCalls (λ made.
       PerformsAll course.plan (if listing then filter is_sent course.handed else course.handed) made cut) old.calls new.calls
   pub wrote : WritesText done listing old.out new.out (flat_map (lines_written course.plan) course.handed)
-  pub passed : done ≡ true → All HasPassed course.handed
-  pub warns : done ≡ true → Warned notes warned new.term.warn
+  pub passed : done ≡ true → is_search listing cx.args ≡ false → All HasPassed course.handed
+  pub unreported : is_search listing cx.args ≡ false → later ≡ false
+  pub warns : done ≡ true → Warned notes (later || warned) new.term.warn
 
 -- stable's version was asked for, only where the range needs it, and then an error ended the call;
 -- or with the answer one history was performed

@@ -14,7 +14,7 @@ use Rattle.hack_words.specs.declared.cli.parse.Parsed.{Parsed}
 use Rattle.hack_words.specs.declared.cli.parse.Parsed.TheVariants as parsed
 use Rattle.hack_load.specs.Contexts.{ContextRecord}
 use Rattle.hack_planner.specs.CallPlan.{IsPlanOf}
-use Rattle.hack_session.specs.Handouts.{IsDriven}
+use Rattle.hack_run.specs.Handed.{IsHandedAsAsked, is_search}
 use Rattle.hack_session.specs.Histories.{Course}
 use Rattle.hack_starts.specs.Events.{Event}
 use Rattle.hack_lanes.specs.Lanes.{Scene, Goes}
@@ -35,7 +35,7 @@ pub record RunsOne {S : Type 0} (did : List Event → S → S → Type 0) (cx : 
   pub course : Course
   pub notes : List Note
   pub planned : IsPlanOf cx.args.subcommand stable cx rustup course.plan notes
-  pub driven : IsDriven cx.args.partition cx.args.keep_going course
+  pub handed : IsHandedAsAsked false (is_search false cx.args) cx.args course
   pub ran : RunsAll did cx.args.partition course.plan course.handed old new
 
 -- One history was performed in as many lanes as the arguments ask for, from fresh ones on; and then
@@ -53,22 +53,25 @@ pub record RunsInLanes {S : Type 0} (did : List Event → S → S → Type 0) (c
 abbrev pub MayRunInLanes : {S : Type 0} → (List Event → S → S → Type 0) → ContextRecord → Result (Option Version) (String Global) → Name → S → S → Type 0
 MayRunInLanes did cx stable rustup old new = (new ≡ old) ⊎ RunsInLanes did cx stable rustup old new
 
--- a plan is listed; or from some state of the caller on one that was made for the arguments was
+-- a plan is listed; or after calls in the caller's course one that was made for the arguments was
 -- performed in lanes
-abbrev pub PerformsInLanes : {S : Type 0} → (List Event → S → S → Type 0) → Args → S → Type 0
-PerformsInLanes {S} did args new = (args.print_command_list ≡ true)
+abbrev pub PerformsInLanes : {S : Type 0} → (List Event → S → S → Type 0) → (S → S → Type 0) → Args → S → S → Type 0
+PerformsInLanes {S} did course args old new = (args.print_command_list ≡ true)
     ⊎ ((cx : ContextRecord) × (cx.args ≡ args) × (stable : Result (Option Version) (String Global))
-    × (rustup : Name) × (before : S) × RunsInLanes did cx stable rustup before new)
+    × (rustup : Name) × (before : S) × course old before × RunsInLanes did cx stable rustup before new)
 
 -- what a command line asks for was done in lanes, where it asks for runs
-abbrev pub ObeysInLanes : {S : Type 0} → (List Event → S → S → Type 0) → Parsed → S → Type 0
-ObeysInLanes did (parsed.Args args) new = PerformsInLanes did args new
-ObeysInLanes did answer new = Unit {0}
+abbrev pub ObeysInLanes : {S : Type 0} → (List Event → S → S → Type 0) → (S → S → Type 0) → Parsed → S → S → Type 0
+ObeysInLanes did course (parsed.Args args) old new = PerformsInLanes did course args old new
+ObeysInLanes did course answer old new = course old new
 
--- a command line was read with what is known of rustup, and what it asks for was done in lanes
-pub record IsLaneCall {S : Type 0} (did : List Event → S → S → Type 0) (words : List Name) (env : Env) (new : S) : Type 0 where
+-- a command line was read with what is known of rustup, after a call in the caller's course at most,
+-- and what it asks for was done in lanes
+pub record IsLaneCall {S : Type 0} (did : List Event → S → S → Type 0) (course : S → S → Type 0) (words : List Name) (env : Env) (old new : S) : Type 0 where
+  pub mid : S
+  pub asked : course old mid
   pub rustup : Rustup
   pub answer : Parsed
   pub notes : List Note
   pub read : IsAnswer (around_of env rustup) (ComesTo (around_of env rustup) words) answer notes
-  pub obeyed : ObeysInLanes did answer new
+  pub obeyed : ObeysInLanes did course answer mid new

@@ -1,5 +1,6 @@
 pub mod Headline
 pub mod Journals
+pub mod Handed
 pub mod CallTrace
 pub mod CallChanges
 pub mod Questions

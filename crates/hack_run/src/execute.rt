@@ -1,8 +1,10 @@
 //! The runs of a plan, and the report of those that failed.
 
-ghost use Rattle.std.specs.Prelude.{◌≡◌, None, OnErr, OnOk, false, string_bytes, true};
+ghost use Rattle.std.specs.Prelude.{◌≡◌, Contains, MatchBool, None, OnErr, OnOk, false};
+ghost use Rattle.std.specs.Prelude.{string_bytes, true};
 ghost use Rattle.std.specs.Option.{unwrap_or};
 ghost use Rattle.hack_load.specs.ContextView.{context_view};
+ghost use Rattle.hack_msrv.specs.Searches.{AreUnbroken};
 ghost use Rattle.hack_run.specs.CallTrace.{PerformsOne};
 ghost use Rattle.hack_run.specs.Internal.{MayPerformItsPlan, PerformsAtMostOne, PerformsItsPlan};
 ghost use Rattle.hack_run.specs.Lanes.{MayRunInLanes, RunsInLanes, RunsOne};
@@ -54,10 +56,7 @@ pub(crate) fn execute<C: Starts, O: Write, E: Write>(
         Ok(session) => session,
         Err(fault) => return Err(RunFault::Plan(fault)),
     };
-    let reported = match session {
-        Some(session) => report_all(host.alloc, cx, &session, host.term, host.err),
-        None => Ok(()),
-    };
+    let reported = report_all(host.alloc, cx, session, host.term, host.err);
     // Why the session stopped counts for more than a report that memory cut short.
     match fault {
         Some(fault) => Err(RunFault::Process(fault)),
@@ -143,7 +142,8 @@ fn drive_in_lanes<L: Turns, O: Write, E: Write>(
     err: &mut E,
     fault: &mut Option<ProcessFault>,
 ) -> Result<Session, PlanFault>
-    requires { IsAnswered (context_view cx.now).args stable }
+    requires answered { IsAnswered (context_view cx.now).args stable }
+    requires piece { (context_view cx.now).args.find_rust_version ≡ false }
     ensures done { OnOk result (fault.new ≡ None → term.new.error ≡ false → L.tells
         → PerformsOne true false (context_view cx.now) stable rustup.now term.old.warn
         (host_of L.Caller O.Write lanes.old out.old term.old)
@@ -180,7 +180,8 @@ fn search_in_lanes<L: Turns, O: Write, E: Write>(
     err: &mut E,
     fault: &mut Option<ProcessFault>,
 ) -> Result<(), PlanFault>
-    requires { IsAnswered (context_view cx.now).args stable }
+    requires answered { IsAnswered (context_view cx.now).args stable }
+    requires search { (context_view cx.now).args.find_rust_version ≡ true }
     ensures done { OnOk result (fault.new ≡ None → term.new.error ≡ false → L.tells
         → PerformsOne true false (context_view cx.now) stable rustup.now term.old.warn
         (host_of L.Caller O.Write lanes.old out.old term.old)
@@ -193,8 +194,9 @@ fn search_in_lanes<L: Turns, O: Write, E: Write>(
     ensures stays { L.stays lanes.old lanes.new }
     ensures refused { OnErr result (lanes.new ≡ lanes.old) }
 {
+    let (log_group, _) = manner(cx.args());
     let mut starter = Starter::new(alloc, lanes, term, out, err, fault);
-    starter.set_manner(cx.args().log_group, false);
+    starter.set_manner(log_group, false);
     let mut side = Side {
         starter,
         piece: cx.args().partition,
@@ -205,11 +207,16 @@ fn search_in_lanes<L: Turns, O: Write, E: Write>(
     }
     // A run that fails is no error of a search.
     *fault = None;
-    Ok(tell_found(alloc, cx, &plan, &found, term, err)?)
+    if tell_found(alloc, cx, &plan, &found, term, err).is_err() {
+        let _ = term.error("out of memory", err);
+    }
+    Ok(())
 }
 
 /// Whether a search was broken off.
-fn is_broken(found: &[Found]) -> bool {
+fn is_broken(found: &[Found]) -> bool
+    ensures { MatchBool result (Contains found.now Found.Broken) (AreUnbroken found.now) }
+{
     for one in found {
         if one.is_broken() {
             return true;
@@ -243,22 +250,25 @@ fn manner(args: &Args) -> (LogGroup, bool)
     (args.log_group, args.keep_going)
 }
 
-/// Reports the runs that failed, and what only these have.
+/// Reports the runs of a session that failed, and what only these have.
 fn report_all<E: Write>(
     alloc: Global,
     cx: &Context,
-    session: &Session,
+    session: Option<Session>,
     term: &mut Term,
     err: &mut E,
 ) -> Result<(), AllocError>
     ensures error { term.new.error ≡ false → term.old.error ≡ false }
     ensures warn { term.new.warn ≡ term.old.warn }
 {
-    report(alloc, session, term, err)?;
+    let Some(session) = session else {
+        return Ok(());
+    };
+    report(alloc, &session, term, err)?;
     if !cx.args().keep_going || is_unprepared(session.handed()) {
         return Ok(());
     }
-    explain(alloc, cx, session, term, err)
+    explain(alloc, cx, &session, term, err)
 }
 
 /// Reports the runs that failed, where runs go on after a failed one and each preparation passed.

@@ -104,8 +104,8 @@ pub fn run<F: Files, C: Starts, O: Write, E: Write>(
     // Where no error was reported, the runs of the call were performed side by side, by the rules
     // of lanes, as many as `--parallel` asks for: their commands were started in order, each at
     // most once, and told in order; and none that was started is left.
-    ensures lanes { host.new.term.now.error ≡ false → IsLaneCall C.did (names_of words.now)
-        host.old.env.now host.new.caller.now }
+    ensures lanes { host.new.term.now.error ≡ false → IsLaneCall C.did C.course
+        (names_of words.now) host.old.env.now host.old.caller.now host.new.caller.now }
 {
     let env = host.env;
     let came = read(words, reading, files, host);
@@ -145,8 +145,8 @@ fn read<F: Files, C: Starts, O: Write, E: Write>(
     ensures clean { OnOk result (host.new.term.now.error ≡ false
         → IsClean (RestoresEdits host.old.env.now (names_of words.now)) F.tells
         (files_view F.Files files.old) (files_view F.Files files.new)) }
-    ensures lanes { OnOk result (IsLaneCall C.did (names_of words.now) host.old.env.now
-        host.new.caller.now) }
+    ensures lanes { OnOk result (IsLaneCall C.did C.course (names_of words.now)
+        host.old.env.now host.old.caller.now host.new.caller.now) }
 {
     let env = host.env;
     match reading_of(
@@ -192,7 +192,8 @@ fn obey<F: Files, C: Starts, O: Write, E: Write>(
     ensures clean { OnOk result (host.new.term.now.error ≡ false
         → IsClean (ComesBack parsed) F.tells
         (files_view F.Files files.old) (files_view F.Files files.new)) }
-    ensures lanes { OnOk result (ObeysInLanes C.did parsed host.new.caller.now) }
+    ensures lanes { OnOk result (ObeysInLanes C.did C.course parsed host.old.caller.now
+        host.new.caller.now) }
 {
     match parsed {
         Parsed::Args(args) => {

@@ -67,7 +67,8 @@ pub(crate) fn perform<F: Files, C: Starts, O: Write, E: Write>(
     ensures clean { OnOk result (host.new.term.now.error ≡ false
         → IsClean (args.remove_dev_deps ≡ false) F.tells
         (files_view F.Files files.old) (files_view F.Files files.new)) }
-    ensures lanes { OnOk result (PerformsInLanes C.did args host.new.caller.now) }
+    ensures lanes { OnOk result (PerformsInLanes C.did C.course args host.old.caller.now
+        host.new.caller.now) }
 {
     let mut manager = Manager::new(host.alloc, !args.remove_dev_deps);
     let answers = Answers::ask(
@@ -108,7 +109,8 @@ fn follow<F: Files, C: Starts, O: Write, E: Write>(
         (string_bytes host.old.env.now.rustup) host.old.term.now.warn
         (world_of F.Files C.Caller O.Write files.old host.old)
         (world_of F.Files C.Caller O.Write files.new host.new) }
-    ensures lanes { OnOk result (PerformsInLanes C.did args host.new.caller.now) }
+    ensures lanes { OnOk result (PerformsInLanes C.did C.course args host.old.caller.now
+        host.new.caller.now) }
     ensures unkept { manager.old.needs_restore ≡ false
         → registered_files manager.new ≡ registered_files manager.old }
     ensures grows { Grows (F.failed files.old) (F.failed files.new) }

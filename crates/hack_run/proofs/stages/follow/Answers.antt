@@ -95,5 +95,5 @@ returns-in_err-cx-clause-stays g c = g.F.Files.stays_none c.args.files.now
 
 pub returns-clause-lanes : goal.returns-clause-lanes
 returns-clause-lanes g c =
-    follows_in_lanes g.C.Starts.did c.run_plan.result c.args.args c.args.answers (context_view c.in_ok-cx.cx) c.in_ok-stable.stable (string_bytes c.args.host.now.env.now.rustup) c.stable_for.new.caller c.run_plan.new.host.caller.now
-    c.in_ok-cx.ensures.ok c.run_plan.ensures.ran
+    follows_in_lanes g.C.Starts.did g.C.Caller.course c.run_plan.result c.args.args c.args.answers (context_view c.in_ok-cx.cx) c.in_ok-stable.stable (string_bytes c.args.host.now.env.now.rustup) c.args.host.now.caller.now c.stable_for.new.caller c.run_plan.new.host.caller.now
+    c.in_ok-stable.ensures.course c.in_ok-cx.ensures.ok c.run_plan.ensures.ran

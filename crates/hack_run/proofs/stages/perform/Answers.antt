@@ -9,6 +9,7 @@ use Rattle.hack_term.specs.declared.term.Term.{Term}
 use Rattle.hack_run.proofs.ChangeLemmas.{changes}
 use Rattle.hack_run.proofs.LoadingLemmas.{loaded}
 use Rattle.hack_run.proofs.TraceLemmas.{made, performs}
+use Rattle.hack_run.proofs.LaneLemmas.{asked_in_lanes}
 use Rattle.hack_run.proofs.stages.perform.Goals as goal
 
 pub returns-clause-done : goal.returns-clause-done
@@ -82,3 +83,8 @@ returns-clause-spoilt g c = λ kept.
     (g.F.Files.refuses_some _ _ c.follow-came.ensures.grows)
     (λ t. c.follow-came.ensures.safe t c.ask-answers.ensures.read (c.ask-answers.ensures.needs ∙ c.new-manager.ensures.needs ∙ ap not kept) (safe_new c.new-manager.result c.ask-answers.new.manager asked c.new-manager.ensures.nothing c.ask-answers.ensures.kept))
     c.finish.ensures.refused)
+
+pub returns-clause-lanes : goal.returns-clause-lanes
+returns-clause-lanes g c =
+    asked_in_lanes g.C.Starts.did g.C.Caller.course g.C.Caller.course_more c.follow-came.result c.args.args c.args.host.now.caller.now c.ask-answers.new.caller c.follow-came.new.host.caller.now
+    c.ask-answers.ensures.course c.follow-came.ensures.lanes
