@@ -60,6 +60,17 @@ HIDDEN = [
             "This flag may not be used together with --print-command-list or --clean-per-run flag.",
         ],
     ),
+    (
+        "--find-rust-version",
+        [
+            "Find the least version of Rust on which all runs of a package pass, by few runs.",
+            "The greatest version of the range is tried first, and then always the one in the middle of those left. A version is"
+            " tried by the package's runs, until one fails. At the end a line for each package says its least version, which run"
+            " fails on the one before, and where its `rust-version` is another.",
+            "This flag can only be used together with --version-range flag, and not with --partition, --print-command-list,"
+            " --keep-going, --workspace-behavior=cargo or --parallel flag.",
+        ],
+    ),
 ]
 
 # What the help leaves out of an option's paragraphs.

@@ -88,7 +88,7 @@ fn options_by_name(rt: HostRuntime) -> Result<(), Wrong> {
         rt.alloc(),
         "
             > all by name
-            | 49
+            | 50
             > long:
             | none
             > long: al
@@ -173,6 +173,8 @@ fn rows(rt: HostRuntime) -> Result<(), Wrong> {
             | PackageRules package-rules Flag once
             > row: parallel
             | Parallel parallel Value once
+            > row: find-rust-version
+            | FindRustVersion find-rust-version Flag once
             > row: workspace-behavior
             | WorkspaceBehavior workspace-behavior Refused often
             > row: help
@@ -208,8 +210,10 @@ fn options_in_messages(rt: HostRuntime) -> Result<(), Wrong> {
 | --package-rules|--package-rules|no
 > parallel
 | --parallel|--parallel|no
+> find-rust-version
+| --find-rust-version|--find-rust-version|no
 ",
-        "0 of 10 are wrong",
+        "0 of 11 are wrong",
     )
 }
 

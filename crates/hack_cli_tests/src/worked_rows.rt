@@ -349,6 +349,13 @@ const LATE: &str = r"[words] There is a subcommand, or a list is asked for.
 |
 | For more information try --help
 |
+[words] The least version.
+> hack check --version-range 1.60..=1.70 --find-rust-version
+| args
+> hack check --find-rust-version
+| --find-rust-version can only be used together with --version-range
+> hack check --version-range 1.60.. --find-rust-version --keep-going
+| --find-rust-version may not be used together with --keep-going
 [words] Notices.
 > hack check --each-feature --ignore-unknown-features --include-features a
 | args
@@ -360,5 +367,5 @@ const LATE: &str = r"[words] There is a subcommand, or a list is asked for.
 
 #[test]
 fn rules_behind_the_subcommand(rt: HostRuntime) -> Result<(), Wrong> {
-    checked(rt.alloc(), LATE, "0 of 42 are wrong")
+    checked(rt.alloc(), LATE, "0 of 45 are wrong")
 }
