@@ -88,3 +88,4 @@ complete -c cargo -c cargo-hack -n __cargo_hack_arguments -l strength -x -d 'Run
 complete -c cargo -c cargo-hack -n __cargo_hack_arguments -l restore -d 'Bring back what an interrupted call left edited, and run nothing'
 complete -c cargo -c cargo-hack -n __cargo_hack_arguments -l package-rules -d 'Run each package also by the rules that its manifest and the workspace\'s have'
 complete -c cargo -c cargo-hack -n __cargo_hack_arguments -l parallel -x -d 'Run up to NUM commands at once, from 1 to 256, in the order and with the outcomes of one by one'
+complete -c cargo -c cargo-hack -n __cargo_hack_arguments -l find-rust-version -d 'Find the least version of Rust on which all runs of a package pass, by few runs'
