@@ -1,5 +1,6 @@
 pub mod Headline
 pub mod Journals
+pub mod Findings
 pub mod Handed
 pub mod CallTrace
 pub mod CallChanges
@@ -10,7 +11,6 @@ pub mod Warnings
 pub mod Refusals
 pub mod Worlds
 pub mod Lanes
-pub mod Findings
 pub mod Readings
 pub mod InternalExtensions
 pub mod Internal

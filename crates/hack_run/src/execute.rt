@@ -1,11 +1,12 @@
 //! The runs of a plan, and the report of those that failed.
 
-ghost use Rattle.std.specs.Prelude.{◌≡◌, Contains, MatchBool, None, OnErr, OnOk, false};
+ghost use Rattle.std.specs.Prelude.{◌≡◌, ◌⊎◌, All, Contains, MatchBool, None, OnErr, OnOk, false};
 ghost use Rattle.std.specs.Prelude.{string_bytes, true};
 ghost use Rattle.std.specs.Option.{unwrap_or};
 ghost use Rattle.hack_load.specs.ContextView.{context_view};
 ghost use Rattle.hack_msrv.specs.Searches.{AreUnbroken};
 ghost use Rattle.hack_run.specs.CallTrace.{PerformsOne};
+ghost use Rattle.hack_run.specs.Findings.{HasLeast, TellsMore};
 ghost use Rattle.hack_run.specs.Internal.{MayPerformItsPlan, PerformsAtMostOne, PerformsItsPlan};
 ghost use Rattle.hack_run.specs.Lanes.{MayRunInLanes, RunsInLanes, RunsOne};
 ghost use Rattle.hack_run.specs.Questions.{IsAnswered};
@@ -20,6 +21,7 @@ use hack_lanes::lanes::{Lanes, Window};
 use hack_lanes::turns::Turns;
 use hack_load::context::Context;
 use hack_msrv::found::Found;
+use hack_plan::plan::Plan;
 use hack_planner::fault::PlanFault;
 use hack_process::process::ProcessFault;
 use hack_session::session::{Handed, History, Outcome, Session, Starter, Step};
@@ -202,15 +204,32 @@ fn search_in_lanes<L: Turns, O: Write, E: Write>(
         piece: cx.args().partition,
     };
     let (plan, found) = search_context(alloc, cx, rustup, stable, &mut side)?;
-    if is_broken(&found) {
-        return Ok(());
+    settle(alloc, cx, &plan, &found, fault, term, err);
+    Ok(())
+}
+
+/// Reports what a search found, unless it was broken off: then `fault` says why. Else a run that
+/// failed is no error of the call.
+fn settle<E: Write>(
+    alloc: Global,
+    cx: &Context,
+    plan: &Plan,
+    found: &[Found],
+    fault: &mut Option<ProcessFault>,
+    term: &mut Term,
+    err: &mut E,
+)
+    ensures more { TellsMore term.old term.new }
+    ensures ends { fault.new ≡ None → term.new.error ≡ false
+        → ((fault.old ≡ None) × Contains found.now Found.Broken) ⊎ All HasLeast found.now }
+{
+    if is_broken(found) {
+        return;
     }
-    // A run that fails is no error of a search.
     *fault = None;
-    if tell_found(alloc, cx, &plan, &found, term, err).is_err() {
+    if tell_found(alloc, cx, plan, found, term, err).is_err() {
         let _ = term.error("out of memory", err);
     }
-    Ok(())
 }
 
 /// Whether a search was broken off.

@@ -1,7 +1,7 @@
 //! What a search for the least version found, as lines for the user.
 
-ghost use Rattle.std.specs.Prelude.{◌≡◌, ◌||◌, Bool, false};
-ghost use Rattle.hack_run.specs.Findings.{TellsMore};
+ghost use Rattle.std.specs.Prelude.{◌≡◌, All, OnOk, false};
+ghost use Rattle.hack_run.specs.Findings.{IsSpared, TellsMore};
 
 use hack_load::context::Context;
 use hack_msrv::found::Found;
@@ -12,7 +12,8 @@ use std::alloc::{AllocError, Global};
 use std::cmp::Ordering;
 use std::io::Write;
 
-/// Reports what was found of each package of the plan, in order.
+/// Reports what was found of each package of the plan, in order: as an error where its greatest
+/// version fails.
 pub(crate) fn tell_found<E: Write>(
     alloc: Global,
     cx: &Context,
@@ -21,20 +22,27 @@ pub(crate) fn tell_found<E: Write>(
     term: &mut Term,
     err: &mut E,
 ) -> Result<(), AllocError>
-    ensures { TellsMore term.old term.new }
+    ensures more { TellsMore term.old term.new }
+    ensures failing { OnOk result (term.new.error ≡ false → All IsSpared found.now) }
 {
     for member in 0..found.len() {
-        if let Some(one) = plan.packages().get(member) {
-            let about = About {
-                alloc,
-                cx,
-                plan,
-                name: one.name.as_str(),
-            };
-            about.tell(found[member], term, err)?;
-        }
+        let about = About {
+            alloc,
+            cx,
+            plan,
+            name: name_of(plan, member),
+        };
+        about.tell(found[member], term, err)?;
     }
     Ok(())
+}
+
+/// The name of a package of the plan.
+fn name_of(plan: &Plan, member: usize) -> &str {
+    match plan.packages().get(member) {
+        Some(one) => one.name.as_str(),
+        None => "",
+    }
 }
 
 /// A package of a plan whose least version was searched for.
@@ -49,7 +57,8 @@ struct About<'a> {
 impl<'a> About<'a> {
     /// Reports what was found of the package.
     fn tell<E: Write>(self, found: Found, term: &mut Term, err: &mut E) -> Result<(), AllocError>
-        ensures { TellsMore term.old term.new }
+        ensures more { TellsMore term.old term.new }
+        ensures failing { OnOk result (term.new.error ≡ false → IsSpared found) }
     {
         match found {
             Found::Untried | Found::Broken => Ok(()),

@@ -1,0 +1,39 @@
+-- What a search that wasn't broken off, and whose reports were told, says.
+use Rattle.std.proofs.Common.{◌≡◌, ◌≢◌, ◌∙◌, Bool, true, false, List, All, Contains, refl, sym, ap}
+use Rattle.std.specs.Prelude.{◌||◌}
+use Rattle.std.proofs.lemmas.List.Elements.{All-contains, Contains-get_or}
+use Rattle.hack_msrv.specs.Searches.{AreSearches, AreUnbroken, handed_in_all}
+use Rattle.hack_msrv.specs.Trials.{Trial}
+use Rattle.hack_msrv.specs.declared.found.Found.{Found}
+use Rattle.hack_msrv.specs.declared.found.Found.TheVariants.{Untried, Least, Nowhere, Broken}
+use Rattle.hack_msrv.proofs.SearchLemmas.{broken_fails}
+use Rattle.hack_plan.specs.View.{PlanView}
+use Rattle.hack_session.specs.Histories.{HasPassed}
+use Rattle.hack_session.specs.declared.step.Handed.{Handed}
+use Rattle.hack_run.specs.Findings.{HasLeast, IsSpared}
+
+least-of : (one : Found) → one ≢ Broken → IsSpared one → HasLeast one
+least-of Untried whole spared = tt
+least-of (Least version failed) whole spared = tt
+least-of (Nowhere version failed) whole spared = spared
+least-of Broken whole spared = absurd (whole refl)
+
+-- each package has a least version, where no search was broken off and no greatest version failed
+pub all_least : (found : List Found) → AreUnbroken found → All IsSpared found → All HasLeast found
+all_least found whole spared = λ k d lt. least-of _ (whole k d lt) (spared k d lt)
+
+-- where each step passed, no search was broken off
+pub not_broken : (plan : PlanView) (searches : List (List Trial)) (found : List Found) → AreSearches plan 0 searches found → Contains found Broken → All HasPassed (handed_in_all searches) → ⊥
+not_broken plan searches found such broken passed =
+    let f = broken_fails plan 0 searches found such broken in
+    let p = All-contains HasPassed (handed_in_all searches) f.0 passed f.1 in
+    cc (p, f.2)
+
+-- a warning of the notices, one of the reports, and one before them
+pub warned_later : (notes later warned was : Bool) → was ≡ (notes || warned) → (later || was) ≡ (notes || (later || warned))
+warned_later true later warned was is = warned_true later was is
+  where
+    warned_true : (later was : Bool) → was ≡ true → (later || was) ≡ true
+    warned_true true was is = refl
+    warned_true false was is = is
+warned_later false later warned was is = ap (λ b. later || b) is
