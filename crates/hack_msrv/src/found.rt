@@ -15,7 +15,10 @@ pub enum Found {
         failed: Option<usize>,
     },
     /// On the greatest version, the run at the place failed.
-    Nowhere { version: usize, failed: usize },
+    Nowhere {
+        version: usize,
+        failed: usize,
+    },
     /// A preparation failed, memory was refused, or a program couldn't be started. The search ended
     /// with that.
     Broken,

@@ -111,8 +111,12 @@ impl<R: Judge> Tries for Trier<'_, R> {
         × MayTry R.ran R.ended a.used.plan.now a.used.member a.used.uses.now trials a.failed
         b.failed a.runner.now b.runner.now };
 
-    ghost tried_none = { λ a. (refl, refl, tries_none R.ran R.ended a.used.plan.now a.used.member
-        a.used.uses.now a.failed a.runner.now) };
+    ghost tried_none = { λ a. (
+      refl,
+      refl,
+      tries_none R.ran R.ended a.used.plan.now a.used.member
+          a.used.uses.now a.failed a.runner.now,
+    ) };
 
     ghost tried_more = { λ trials more a b c p q. (
       p.0 ∙ q.0,

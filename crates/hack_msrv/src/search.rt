@@ -43,12 +43,7 @@ pub fn find_versions<R: Judge>(
 }
 
 /// Searches for the least version of each package, and appends what is found.
-fn search_all<R: Judge>(
-    plan: &Plan,
-    uses: &[Vec<usize>],
-    runner: &mut R,
-    found: &mut Vec<Found>,
-)
+fn search_all<R: Judge>(plan: &Plan, uses: &[Vec<usize>], runner: &mut R, found: &mut Vec<Found>)
     requires uses { map (λ uses. uses.items) uses.now
         ≡ map (uses_of plan.now) (range_with_len 0 (length plan.now.packages)) }
     requires found { found.old.items ≡ [] }

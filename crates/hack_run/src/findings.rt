@@ -9,7 +9,6 @@ use hack_plan::plan::{Plan, toolchain};
 use hack_term::term::Term;
 use hack_versions::version::Version;
 use std::alloc::{AllocError, Global};
-use std::cmp::Ordering;
 use std::io::Write;
 
 /// Reports what was found of each package of the plan, in order: as an error where its greatest
@@ -67,7 +66,7 @@ impl<'a> About<'a> {
                     return Ok(());
                 };
                 self.tell_least(least, failed, term, err)?;
-                self.compare(least, failed, term, err)
+                self.compare(failed, term, err)
             }
             Found::Nowhere { version: _, failed } => {
                 let name = self.name;
@@ -92,8 +91,7 @@ impl<'a> About<'a> {
         let name = self.name;
         let least = toolchain(self.alloc, least)?;
         let Some(place) = failed else {
-            let text = format!(
-                in self.alloc;
+            let text = format!(in self.alloc;
                 "{name}: all runs pass on each version that was tried, down to {least}"
             )?;
             let _ = term.info(text.as_str(), err);
@@ -101,67 +99,46 @@ impl<'a> About<'a> {
         };
         let failure = self.failure(place)?;
         let range = self.range()?;
-        let text = format!(
-            in self.alloc;
+        let text = format!(in self.alloc;
             "{name}: {least} is the least version of {range} on which all runs pass; {failure}"
         )?;
         let _ = term.info(text.as_str(), err);
         Ok(())
     }
 
-    /// Reports whether the package's own `rust-version` is another than the least version.
+    /// Warns where the package doesn't keep what its `rust-version` promises: no version below that
+    /// one is tried.
     fn compare<E: Write>(
         self,
-        least: Version,
         failed: Option<usize>,
         term: &mut Term,
         err: &mut E,
     ) -> Result<(), AllocError>
         ensures { TellsMore term.old term.new }
     {
-        let Some((own, promised)) = self.own()? else {
+        let Some(own) = self.own() else {
             return Ok(());
         };
-        let name = self.name;
-        if least.compare(promised) == Ordering::Less {
-            let least = toolchain(self.alloc, least)?;
-            let text = format!(
-                in self.alloc;
-                "{name}: its rust-version is {own}, and all runs pass on {least} too"
-            )?;
-            let _ = term.info(text.as_str(), err);
-            return Ok(());
-        }
         let Some(failed) = self.failed_version(failed) else {
             return Ok(());
         };
-        // With steps between the versions, one below the promised one may be the one that failed.
-        if failed.compare(promised) == Ordering::Less {
-            return Ok(());
-        }
+        let name = self.name;
         let failed = toolchain(self.alloc, failed)?;
-        let text = format!(
-            in self.alloc;
+        let text = format!(in self.alloc;
             "{name}: its rust-version is {own}, but not all runs pass on {failed}"
         )?;
         let _ = term.warn(text.as_str(), err);
         Ok(())
     }
 
-    /// The package's `rust-version`, as its manifest has it, and the toolchain's version of it.
-    fn own(self) -> Result<Option<(&'a str, Version)>, AllocError> {
+    /// The package's `rust-version`, as its manifest has it.
+    fn own(self) -> Option<&'a str> {
         for id in self.cx.workspace_members() {
             if self.cx.packages(*id).name.as_str() == self.name {
-                let Some(text) = self.cx.rust_version(*id) else {
-                    return Ok(None);
-                };
-                return match Version::parse(self.alloc, text) {
-                    Ok(version) => Ok(Some((text, version.strip_patch()))),
-                    Err(_) => Ok(None),
-                };
+                return self.cx.rust_version(*id);
             }
         }
-        Ok(None)
+        None
     }
 
     /// The version at an index of the plan's list.

@@ -317,3 +317,68 @@ fn toolchains(rt: HostRuntime) -> Result<(), Wrong> {
         "#,
     )
 }
+
+/// The greatest version is tried first, then the middle one of those left. What failed is no error,
+/// unless it is on the greatest. No version below the package's own is tried.
+#[test]
+fn searches(rt: HostRuntime) -> Result<(), Wrong> {
+    on(
+        rt.alloc(),
+        PLAIN,
+        r#"
+            > hack check --version-range 1.60..=1.63 --find-rust-version; fails 101 rustup run 1.60 cargo check --manifest-path Cargo.toml; fails 101 rustup run 1.61 cargo check --manifest-path Cargo.toml
+            + asked after rustup
+            | rustup run 1.63 cargo --version
+            | rustup run 1.63 cargo check --manifest-path Cargo.toml
+            | rustup run 1.61 cargo --version
+            | rustup run 1.61 cargo check --manifest-path Cargo.toml
+            | rustup run 1.62 cargo --version
+            | rustup run 1.62 cargo check --manifest-path Cargo.toml
+            | err
+            |
+            | info: running `rustup run 1.63 cargo check` on p (4/4)
+            |
+            | info: running `rustup run 1.61 cargo check` on p (2/4)
+            |
+            | info: running `rustup run 1.62 cargo check` on p (3/4)
+            | info: p: 1.62 is the least version of 1.60..=1.63 on which all runs pass; on 1.61 this fails: `rustup run 1.61 cargo check`
+            | status 0
+
+            > err: hack check --version-range 1.60..=1.63 --find-rust-version; own "1.61"; fails 101 rustup run 1.61 cargo check --manifest-path Cargo.toml
+            | err
+            |
+            | info: running `rustup run 1.63 cargo check` on p (3/3)
+            |
+            | info: running `rustup run 1.62 cargo check` on p (2/3)
+            | info: running `rustup run 1.61 cargo check` on p (1/3)
+            | info: p: 1.62 is the least version of 1.60..=1.63 on which all runs pass; on 1.61 this fails: `rustup run 1.61 cargo check`
+            | warning: p: its rust-version is 1.61, but not all runs pass on 1.61
+            | status 0
+
+            > err: hack check --version-range 1.60..=1.62 --find-rust-version
+            | err
+            |
+            | info: running `rustup run 1.62 cargo check` on p (3/3)
+            |
+            | info: running `rustup run 1.61 cargo check` on p (2/3)
+            | info: running `rustup run 1.60 cargo check` on p (1/3)
+            | info: p: all runs pass on each version that was tried, down to 1.60
+            | status 0
+
+            > err: hack check --version-range 1.60..=1.62 --find-rust-version; fails 101 rustup run 1.62 cargo check --manifest-path Cargo.toml
+            | err
+            |
+            | info: running `rustup run 1.62 cargo check` on p (3/3)
+            | error: p: on 1.62 this fails: `rustup run 1.62 cargo check`
+            | status 1
+
+            > err: hack check --version-range 1.60..=1.62 --find-rust-version; fails 1 rustup run 1.61 cargo --version; fails 1 rustup toolchain add 1.61 --no-self-update
+            | err
+            |
+            | info: running `rustup run 1.62 cargo check` on p (3/3)
+            | info: running `rustup toolchain add 1.61 --no-self-update`
+            | error: process didn't exit successfully: `rustup toolchain add 1.61 --no-self-update` (exit status: 1)
+            | status 1
+        "#,
+    )
+}
