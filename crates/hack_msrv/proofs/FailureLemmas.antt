@@ -1,5 +1,5 @@
 -- Which run failed last in a search by halving.
-use Rattle.std.proofs.Common.{◌≡◌, ◌≢◌, ◌+◌, ◌-◌, ◌/◌, ◌<◌, ◌≤◌, ◌⊎◌, ℕ, List, [], ◌∷◌, All, Contains, Option, Some, None, length, get_or, take, refl, sym, ap, subst, ◌∙◌, inl, inr, arith}
+use Rattle.std.proofs.Common.{◌≡◌, ◌≢◌, ◌+◌, ◌-◌, ◌/◌, ◌<◌, ◌≤◌, ◌⊎◌, ℕ, zero, suc, List, [], ◌∷◌, All, Contains, Option, Some, None, length, get_or, take, refl, sym, ap, subst, ◌∙◌, inl, inr, arith}
 use Rattle.std.specs.Prelude.{AllPairs, slice_get}
 use Rattle.std.specs.List.{AllZip}
 use Rattle.std.proofs.lemmas.List.{get_or-take, length-take-le}
@@ -27,10 +27,10 @@ abbrev pub IsLast : List ℕ → List Trial → ℕ → Option ℕ → Type 0
 IsLast uses trials k failed = (version place : ℕ) × (slice_get uses k ≡ Some version) × HasFailedAt trials version place × (failed ≡ Some place)
 
 pairs-head : {X : Type 0} (R : X → X → Type 0) (x : X) (xs : List X) → AllPairs R (x ∷ xs) → All (R x) xs
-pairs-head R x xs h = λ k d lt. h 0 (k + 1) d (omega arith) (omega arith)
+pairs-head R x xs h = λ k d lt. h zero (suc k) d (omega arith) (omega arith)
 
 pairs-tail : {X : Type 0} (R : X → X → Type 0) (x : X) (xs : List X) → AllPairs R (x ∷ xs) → AllPairs R xs
-pairs-tail R x xs h = λ i j d lt within. h (i + 1) (j + 1) d (omega arith) (omega arith)
+pairs-tail R x xs h = λ i j d lt within. h (suc i) (suc j) d (omega arith) (omega arith)
 
 kept-same : (failed : Option ℕ) (c : Came) → outcome_of c ≢ outcome.Failed → kept c failed ≡ failed
 kept-same failed came.Passed ne = refl

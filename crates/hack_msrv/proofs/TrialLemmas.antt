@@ -1,5 +1,6 @@
 -- How the steps of a trial go together.
-use Rattle.std.proofs.Common.{◌≡◌, ◌+◌, ◌-◌, ◌<◌, ◌≤◌, ◌⊎◌, ℕ, Bool, true, false, List, [], ◌∷◌, ◌++◌, map, filter, refl, sym, ap, subst, ◌∙◌, inl, inr, arith}
+use Rattle.std.proofs.Common.{◌≡◌, ◌+◌, ◌-◌, ◌<◌, ◌≤◌, ◌⊎◌, ℕ, zero, suc, Bool, true, false, List, [], ◌∷◌, ◌++◌, map, filter, length, get_or, take, drop, refl, sym, ap, subst, ◌∙◌, inl, inr, arith}
+use Rattle.std.specs.Prelude.{MatchBool}
 use Rattle.std.specs.List.{range_with_len}
 use Rattle.std.proofs.lemmas.List.{append_assoc, map-append}
 use Rattle.std.proofs.lemmas.List.Elements.{filter-append}
@@ -13,19 +14,19 @@ use Rattle.hack_session.specs.declared.step.Step.TheVariants.{Prepare, Run}
 use Rattle.hack_msrv.specs.Trials.{ComesTo, StopsAt, failed_step, is_of, places_of, trial_steps}
 use Rattle.hack_msrv.specs.declared.trial.Came.{Came}
 use Rattle.hack_msrv.specs.declared.trial.Came.TheVariants.{Passed, Failed, Broken}
-use Rattle.hack_msrv.proofs.RangeLemmas.{range-split}
+use Rattle.hack_msrv.proofs.RangeLemmas.{filter-more, range-split}
 
 -- a step fails behind others that passed
 pub stops-at : (front left : List Step) (step : Step) (steps : List Step) → steps ≡ front ++ step ∷ left → StopsAt steps (map passed_step front ++ failed_step step ∷ []) step
-stops-at front left step steps is = record { front = front; left = left; steps = is; handed = refl }
+stops-at front left step steps is = record { front = front; left = left; split = is; told = refl }
 
 -- the same with more steps behind
 pub stops-before : (steps more : List Step) (handed : List Handed) (step : Step) → StopsAt steps handed step → StopsAt (steps ++ more) handed step
 stops-before steps more handed step s = record {
   front = s.front;
   left = s.left ++ more;
-  steps = ap (λ l. l ++ more) s.steps ∙ append_assoc s.front (step ∷ s.left) more;
-  handed = s.handed;
+  split = ap (λ l. l ++ more) s.split ∙ append_assoc s.front (step ∷ s.left) more;
+  told = s.told;
 }
 
 -- the same with steps before that passed
@@ -33,8 +34,8 @@ pub stops-behind : (passed steps : List Step) (handed : List Handed) (step : Ste
 stops-behind passed steps handed step s = record {
   front = passed ++ s.front;
   left = s.left;
-  steps = ap (λ l. passed ++ l) s.steps ∙ sym (append_assoc passed s.front (step ∷ s.left));
-  handed = ap (λ l. map passed_step passed ++ l) s.handed ∙ sym (append_assoc (map passed_step passed) (map passed_step s.front) (failed_step step ∷ []))
+  split = ap (λ l. passed ++ l) s.split ∙ sym (append_assoc passed s.front (step ∷ s.left));
+  told = ap (λ l. map passed_step passed ++ l) s.told ∙ sym (append_assoc (map passed_step passed) (map passed_step s.front) (failed_step step ∷ []))
       ∙ ap (λ l. l ++ failed_step step ∷ []) (sym (map-append passed_step passed s.front));
 }
 
@@ -64,8 +65,39 @@ fails-at plan p v place le lt of =
     (ap (λ l. map Run (filter q l)) (range-split v.first place v.end le lt) ∙ ap (map Run) (filter-append q before (place ∷ behind) ∙ ap (λ l. filter q before ++ l) here)
     ∙ map-append Run (filter q before) (place ∷ filter q behind))
 
--- what came of a trial of which a run failed
-pub came-of : (ended : Bool) (steps : List Step) (handed : List Handed) (place : ℕ) (came : Came) → StopsAt steps handed (Run place) → (b : Bool) → ended ≡ b
-    → (b ≡ true → came ≡ Broken) → (b ≡ false → came ≡ Failed place) → ComesTo ended steps handed came
-came-of ended steps handed place came s true e broken failed = subst (ComesTo ended steps handed) (sym (broken refl)) (Run place, s, inr e)
-came-of ended steps handed place came s false e broken failed = subst (ComesTo ended steps handed) (sym (failed refl)) (e, s)
+-- what came of a trial of which a run failed, by whether the call is at its end
+pub came-by : (ended : Bool) (steps : List Step) (handed : List Handed) (place : ℕ) (came : Came) → StopsAt steps handed (Run place) → MatchBool ended (came ≡ Broken) (came ≡ Failed place) → ComesTo ended steps handed came
+came-by true steps handed place came s is = subst (λ (c : Came). ComesTo true steps handed c) (sym is) (Run place, s, inr refl)
+came-by false steps handed place came s is = subst (λ (c : Came). ComesTo false steps handed c) (sym is) (refl, s)
+
+split-at : {X : Type 0} (xs : List X) (k : ℕ) (d : X) → k < length xs → xs ≡ take k xs ++ get_or xs k d ∷ drop (suc k) xs
+split-at [] k d lt = absurd (omega (arith, lt))
+split-at (x ∷ xs) zero d lt = refl
+split-at (x ∷ xs) (suc k) d lt = ap (λ l. x ∷ l) (split-at xs k d (omega (arith, lt)))
+
+-- a preparation fails behind those before it
+pub prepared-fails : (preparations : List Preparation) (k : ℕ) (d : Preparation) → k < length preparations
+    → StopsAt (map Prepare preparations) (map passed_step (map Prepare (take k preparations)) ++ failed_step (Prepare (get_or preparations k d)) ∷ []) (Prepare (get_or preparations k d))
+prepared-fails preparations k d lt =
+    stops-at (map Prepare (take k preparations)) (map Prepare (drop (suc k) preparations)) (Prepare (get_or preparations k d)) (map Prepare preparations)
+    (ap (map Prepare) (split-at preparations k d lt) ∙ map-append Prepare (take k preparations) (get_or preparations k d ∷ drop (suc k) preparations))
+
+-- the steps of a trial that a preparation ends
+pub stops-prepared : {R : Type 0} (ran : PlanView → List Handed → R → R → Type 0) (more : (plan : PlanView) (steps more : List Handed) (a b c : R) → ran plan steps a b → ran plan more b c → ran plan (steps ++ more) a c)
+    (plan : PlanView) (preparations : List Preparation) (k : ℕ) (d : Preparation) → k < length preparations → (handed : List Handed) → handed ≡ map passed_step (map Prepare (take k preparations)) → (a b c : R)
+    → ran plan handed a b → ran plan (failed_step (Prepare (get_or preparations k d)) ∷ []) b c → (x : List Handed) × ran plan x a c × ((one : Preparation) × StopsAt (map Prepare preparations) x (Prepare one))
+stops-prepared ran more plan preparations k d lt handed passed a b c first last =
+    let one = get_or preparations k d in (
+      handed ++ failed_step (Prepare one) ∷ [],
+      more plan handed (failed_step (Prepare one) ∷ []) a b c first last,
+      (one, subst (λ (l : List Handed). StopsAt (map Prepare preparations) (l ++ failed_step (Prepare one) ∷ []) (Prepare one)) (sym passed) (prepared-fails preparations k d lt)),
+    )
+
+-- one place more, whose run passed where it is the package's
+pub runs-more : (plan : PlanView) (p first place : ℕ) → first ≤ place → (before here : List Handed) → before ≡ map passed_step (map Run (filter (is_of plan p) (range_with_len first (place - first))))
+    → here ≡ map passed_step (map Run (filter (is_of plan p) (place ∷ []))) → before ++ here ≡ map passed_step (map Run (filter (is_of plan p) (range_with_len first (place + 1 - first))))
+runs-more plan p first place le before here e f =
+    let front = filter (is_of plan p) (range_with_len first (place - first)) in
+    let bs = filter (is_of plan p) (place ∷ []) in
+    ap (λ (l : List Handed). l ++ here) e ∙ ap (λ (l : List Handed). map passed_step (map Run front) ++ l) f ∙ sym (map-append passed_step (map Run front) (map Run bs))
+    ∙ ap (λ (l : List Step). map passed_step l) (sym (map-append Run front bs)) ∙ ap (λ (l : List ℕ). map passed_step (map Run l)) (sym (filter-more (is_of plan p) first place le))

@@ -11,7 +11,7 @@ is_failure fault = false
 
 -- an error was kept, and it is another than that a command failed
 abbrev pub is_end : Option ProcessFault → Bool
-is_end kept = option_map_or (λ fault. not (is_failure fault)) false kept
+is_end kept = option_map_or (λ fault. not (is_failure fault)) kept false
 
 -- memory was refused, or such an error was kept
 abbrev pub has_ended : Option ProcessFault → ℕ → Bool

@@ -53,7 +53,7 @@ nowhere_of version failed = Broken
 
 -- what a search among these versions says by its answer and the place whose run failed last
 abbrev pub found_of : List ℕ → LeastPlace → Option ℕ → Found
-found_of uses (At place) failed = option_map_or (λ version. Least version failed) Broken (slice_get uses place)
+found_of uses (At place) failed = option_map_or (λ version. Least version failed) (slice_get uses place) Broken
 found_of uses NoPlace failed = nowhere_of (slice_get uses (length uses - 1)) failed
 found_of uses BrokenOff failed = Broken
 
@@ -62,4 +62,4 @@ pub record AreSearched {R : Type 0} (ran : PlanView → List Handed → R → R 
     (plan : PlanView) (found : List Found) (a b : R) : Type 0 where
   pub searches : List (List Trial)
   pub tried : AreTried ran ended plan 0 searches a b
-  pub found : AreSearches plan 0 searches found
+  pub say : AreSearches plan 0 searches found

@@ -1,5 +1,5 @@
 -- Searches for the least version of each package.
-use Rattle.std.specs.Prelude.{ℕ, ◌≡◌, ◌≢◌, ◌⊎◌, ◌+◌, ◌-◌, Bool, false, List, [], ◌∷◌, ◌++◌, All, Contains, filter, length, Option, None, Some, slice_get}
+use Rattle.std.specs.Prelude.{ℕ, zero, suc, ◌≡◌, ◌≢◌, ◌⊎◌, ◌+◌, ◌-◌, Bool, false, List, [], ◌∷◌, ◌++◌, All, Contains, filter, length, Option, None, Some, slice_get}
 use Rattle.std.specs.List.{AllZip, flat_map, list_any, range_with_len}
 use Rattle.std.specs.Option.{option_map_or}
 use Rattle.hack_bisect.specs.Searches.{IsSearch, IsRight, Trial as Tried}
@@ -18,7 +18,7 @@ use Rattle.hack_msrv.specs.declared.trial.Came.TheVariants as came
 -- the package uses the plan's version at an index: it has a place there
 abbrev pub is_used : PlanView → ℕ → ℕ → Bool
 is_used plan p index =
-    option_map_or (λ v. list_any (is_of plan p) (range_with_len v.first (v.end - v.first))) false (slice_get plan.versions index)
+    option_map_or (λ v. list_any (is_of plan p) (range_with_len v.first (v.end - v.first))) (slice_get plan.versions index) false
 
 -- the versions that the package uses, as indices, in order
 abbrev pub uses_of : PlanView → ℕ → List ℕ
@@ -48,7 +48,7 @@ HasFailedAt trials version place = (t : Trial) × Contains trials t × (t.versio
 
 -- why a place is the least: none is below it, or the version at the one below failed in this run
 abbrev pub IsReason : List ℕ → List Trial → ℕ → Option ℕ → Type 0
-IsReason uses trials 0 failed = failed ≡ None
+IsReason uses trials zero failed = failed ≡ None
 IsReason uses trials (suc below) failed =
     (version place : ℕ) × (slice_get uses below ≡ Some version) × HasFailedAt trials version place × (failed ≡ Some place)
 
@@ -64,7 +64,7 @@ IsFound uses trials Broken = IsHalving uses trials BrokenOff
 -- a package's trials, and what they say of it
 pub record IsSearchOf (plan : PlanView) (p : ℕ) (trials : List Trial) (found : Found) : Type 0 where
   pub each : All (λ t. (ended : Bool) × IsTrial plan p ended t) trials
-  pub found : IsFound (uses_of plan p) trials found
+  pub says : IsFound (uses_of plan p) trials found
 
 -- the searches of packages from one on, with what they say
 abbrev pub AreSearches : PlanView → ℕ → List (List Trial) → List Found → Type 0
@@ -97,6 +97,6 @@ pub record IsSearched {R : Type 0} (ran : PlanView → List Handed → R → R �
     (plan : PlanView) (found : List Found) (a b : R) : Type 0 where
   pub searches : List (List Trial)
   pub tried : AreTried ran ended plan 0 searches a b
-  pub ran : ran plan (handed_in_all searches) a b
-  pub found : AreSearches plan 0 searches found
+  pub whole : ran plan (handed_in_all searches) a b
+  pub say : AreSearches plan 0 searches found
   pub end : IsEnd plan found

@@ -15,7 +15,7 @@ use Rattle.hack_msrv.specs.declared.trial.Came.TheVariants.{Passed, Failed, Brok
 
 -- the place is one of the package
 abbrev pub is_of : PlanView → ℕ → ℕ → Bool
-is_of plan p place = option_map_or (λ entry. option_map_or (nat_eq p) false entry.«package») false (slice_get plan.entries place)
+is_of plan p place = option_map_or (λ entry. option_map_or (nat_eq p) entry.«package» false) (slice_get plan.entries place) false
 
 -- the package's places of a version, in order
 abbrev pub places_of : PlanView → ℕ → PlanVersion → List ℕ
@@ -33,8 +33,8 @@ failed_step step = record { step = step; outcome = outcome.Failed }
 pub record StopsAt (steps : List Step) (handed : List Handed) (step : Step) : Type 0 where
   pub front : List Step
   pub left : List Step
-  pub steps : steps ≡ front ++ step ∷ left
-  pub handed : handed ≡ map passed_step front ++ failed_step step ∷ []
+  pub split : steps ≡ front ++ step ∷ left
+  pub told : handed ≡ map passed_step front ++ failed_step step ∷ []
 
 -- a trial passed where all its steps did; it failed where a run did, and the call isn't at its end;
 -- else it is broken

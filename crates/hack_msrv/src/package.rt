@@ -83,9 +83,9 @@ struct Used<'a> {
 impl<'a> Used<'a> {
     /// The version at a place among them.
     fn version(self, place: usize) -> Option<&'a PlanVersion>
-        ensures { MatchOption result (¬ HasVersion self.plan.now self.uses.now place)
-            (λ version. (index : ℕ) × (slice_get self.uses.now place ≡ Some index)
-            × (slice_get self.plan.now.versions index ≡ Some version.now)) }
+        ensures { MatchOption result (¬ HasVersion self.entry.plan.now self.entry.uses.now place)
+            (λ version. (index : ℕ) × (slice_get self.entry.uses.now place ≡ Some index)
+            × (slice_get self.entry.plan.now.versions index ≡ Some version.now)) }
     {
         let index = *self.uses.get(place)?;
         self.plan.versions().get(index)

@@ -1,9 +1,8 @@
 //! Which versions of a plan its packages use.
 
-ghost use Rattle.std.specs.Prelude.{◌≡◌, ◌<◌, IfOk, IsTrue, length, map};
-ghost use Rattle.std.specs.List.{range_with_len};
+ghost use Rattle.std.specs.Prelude.{◌≡◌, ◌-◌, ◌<◌, IfOk, IsTrue, length, map};
+ghost use Rattle.std.specs.List.{list_any, range_with_len};
 ghost use Rattle.hack_msrv.specs.Searches.{uses_of};
-ghost use Rattle.hack_msrv.specs.Internal.{has_place_from, is_used, uses_below};
 ghost use Rattle.hack_msrv.specs.Trials.{is_of as of_package};
 
 use hack_plan::plan::Plan;
@@ -19,7 +18,8 @@ pub(crate) fn is_of(plan: &Plan, member: usize, place: usize) -> bool
 
 /// Whether the package has one of the places from the first up to the end.
 fn has_place(plan: &Plan, member: usize, first: usize, end: usize) -> bool
-    ensures { result ≡ has_place_from plan.now member first end }
+    ensures { result
+        ≡ list_any (of_package plan.now member) (range_with_len first (end - first)) }
 {
     for place in first..end {
         if is_of(plan, member, place) {

@@ -204,17 +204,19 @@ fn search_in_lanes<L: Turns, O: Write, E: Write>(
         piece: cx.args().partition,
     };
     let (plan, found) = search_context(alloc, cx, rustup, stable, &mut side)?;
-    settle(alloc, cx, &plan, &found, fault, term, err);
+    let refused = side.starter.refused > 0;
+    settle(alloc, cx, &plan, &found, refused, fault, term, err);
     Ok(())
 }
 
-/// Reports what a search found, unless it was broken off: then `fault` says why. Else a run that
-/// failed is no error of the call.
+/// Reports what a search found, unless it was broken off: then `fault` says why, or memory was
+/// refused, which is told already. Else a run that failed is no error of the call.
 fn settle<E: Write>(
     alloc: Global,
     cx: &Context,
     plan: &Plan,
     found: &[Found],
+    refused: bool,
     fault: &mut Option<ProcessFault>,
     term: &mut Term,
     err: &mut E,
@@ -224,6 +226,11 @@ fn settle<E: Write>(
         → ((fault.old ≡ None) × Contains found.now Found.Broken) ⊎ All HasLeast found.now }
 {
     if is_broken(found) {
+        if refused {
+            // It is that of an earlier run.
+            *fault = None;
+            term.error = true;
+        }
         return;
     }
     *fault = None;
