@@ -4,7 +4,7 @@ their order, both outputs, the status and all files with those of a search that 
 
 usage: tests/version_search.py CARGO_HACK [--cases N] [--seed S]
 
-There are calls whose trials and last lines are written here, calls that end early, calls that are refused, and N (90) random
+There are calls whose trials and last lines are written here, calls that end early, calls that are refused, and N (80) random
 workspaces with random arguments, whose runs and preparations fail at random: below some version, on any versions, or as the
 so manieth command, whatever it is. What is said before a search has to be what is said before a list of commands. Where
 the runs of a package fail below one version alone, its least version has to be the least of all on which they pass.
@@ -22,7 +22,7 @@ import tempfile
 from collections import namedtuple
 
 sys.dont_write_bytecode = True
-from lists_by_definition import LISTED, Asked, Plan, cleaning, last_line, under, version_of  # noqa: E402
+from lists_by_definition import LISTED, Asked, Plan, cleaning, last_line, refusal, under, version_of  # noqa: E402
 from random_workspace import Use, lay_out, metadata, random_words, random_workspace, told, write  # noqa: E402
 
 FIND = "--find-rust-version"
@@ -86,6 +86,10 @@ class Fails:
         self.lines = set(lines)
         self.numbers = dict(numbers) if isinstance(numbers, dict) else {it: "exit 101" for it in numbers}
 
+    def behind(self, count):
+        """The same, where the numbers begin behind so many commands."""
+        return Fails(self.lines, {number + count: what for number, what in self.numbers.items()})
+
     def has(self, number, line):
         return number in self.numbers or line in self.lines
 
@@ -110,23 +114,27 @@ class Ended(Exception):
 class Search:
     """What a call has the tools run, what it prints, and what it finds of each package: the least version that passed and
     the place that failed before it, none where nothing failed; or no version and the place that failed on the greatest.
-    The list of the same call says what is run and said before."""
+    `notices` are what is said before."""
 
-    def __init__(self, plan, fails, group, before):
-        self.plan, self.asked, self.workspace, self.fails = plan, plan.asked, plan.workspace, fails
+    def __init__(self, plan, fails, group, notices):
+        self.plan, self.asked, self.workspace = plan, plan.asked, plan.workspace
         self.is_grouped, self.is_verbose = group == "github-actions", plan.asked.has("--verbose")
-        ended, calls = before
-        self.calls, self.out, self.err, self.status = list(calls), "", ended.stderr, ended.returncode
+        self.calls, self.out, self.err = [], "", notices
+        # The version of stable is asked for before.
+        if "stable" in self.asked.range:
+            self.calls.append("rustup run stable cargo --version")
+        self.fails = fails.behind(len(self.calls))
         # What was tried, and what was found, by the place of the package.
         self.tried, self.found, self.end = {}, {}, None
         try:
             for member in plan.packages:
                 self.search(member)
+            self.err += "".join(f"{it}\n" for member in self.found for it in self.lines(member))
         except Ended as end:
-            self.end, self.status = f"error: {end}\n", 1
-        self.finding = "" if self.end else "".join(f"{it}\n" for member in self.found for it in self.lines(member))
-        if "error: " in self.finding or "warning: " in self.finding and self.asked.denies:
-            self.status = 1
+            self.end = end
+            self.err += f"error: {end}\n"
+        is_warned = self.asked.denies and re.search("^warning: ", self.err, re.M)
+        self.status = 1 if is_warned or re.search("^error: ", self.err, re.M) else 0
 
     def passes(self, tool, words):
         """Has a tool run something."""
@@ -265,41 +273,42 @@ EDITS = re.compile(r"info: (removing dev-dependencies from|restoring|--no-dev-de
 Call = namedtuple("Call", "uses trailing group denies")
 
 
-def words_of(uses):
-    return [word for it in uses for word in it.words]
-
-
 class Case:
-    """A call in a workspace: the plan, what a list of it says, and the search."""
+    """A call in a workspace, and its plan. Where the plan has a sample, or `is_listed`, a list of its commands is asked for: the
+    notices of the search have to be those of the list."""
 
-    def __init__(self, program, tools, asked):
+    def __init__(self, program, tools, asked, is_listed):
         self.program, self.tools, self.call = program, tools, asked
-        self.words = words_of(asked.uses) + (["--"] + asked.trailing if asked.trailing else [])
+        self.words = ["--log-group", asked.group] if asked.group else []
+        self.words += [word for it in asked.uses for word in it.words] + (["--"] + asked.trailing if asked.trailing else [])
         self.environment = {"CARGO_HACK_DENY_WARNINGS": "true"} if asked.denies else {}
-        more = ["--log-group", asked.group] if asked.group else []
-        self.words = more + self.words
-        ended, calls = tools.call(program, [LISTED] + self.words, Fails(), self.environment)
-        # (a list prepares each version too)
-        ended.stderr = re.sub("info: running .*\n", "", EDITS.sub("", ended.stderr))
-        self.before = ended, [it for it in calls if it == "rustup run stable cargo --version"]
         asks = Asked(asked.uses, asked.trailing)
         asks.denies = asked.denies
-        self.plan = Plan(tools.workspace, asks, self.before[0].stdout)
+        self.listed, whole = None, ""
+        if is_listed or asks.has("--strength") or asks.has("--package-rules"):
+            self.listed, _ = tools.call(program, [LISTED] + self.words, Fails(), self.environment)
+            whole = self.listed.stdout
+        self.plan = Plan(tools.workspace, asks, whole)
+
+    def notices(self, ended):
+        """What is said before a search: it ends before the first line on a command or on what was found."""
+        front = re.split("^(?:$|info: running |(?:info|error): [^ ]+: )", EDITS.sub("", ended.stderr), 1, re.M)[0]
+        if self.listed is None:
+            return front
+        # (a list prepares each version too)
+        return re.sub("info: running .*\n", "", EDITS.sub("", self.listed.stderr))
 
     def fault(self, fails):
         """What is wrong with the search where these commands fail, if something is; and what it should be, and was."""
-        root = self.tools.workspace["root"]
+        root, stable = self.tools.workspace["root"], int("stable" in self.plan.asked.range)
         files = held(root)
-        ended, calls = self.tools.call(self.program, [FIND] + self.words, fails, self.environment)
+        ended, calls = self.tools.call(self.program, [FIND] + self.words, fails.behind(stable), self.environment)
         if held(root) != files:
             return "the files aren't what they were", None, ended
         if self.plan.causes:
-            before, first = self.before
-            is_same = (ended.returncode, ended.stderr, ended.stdout, calls) == (1, before.stderr, "", first)
-            return (None if is_same else f"refused by {ended.stderr}, and the list by {before.stderr}"), None, ended
-        fails.numbers = {number + len(self.before[1]): what for number, what in fails.numbers.items()}
-        search = Search(self.plan, fails, self.call.group, self.before)
-        wanted = [search.status, search.calls, search.err + search.finding + (search.end or ""), search.out]
+            return refusal(self.plan.causes, ended), None, ended
+        search = Search(self.plan, fails, self.call.group, self.notices(ended))
+        wanted = [search.status, search.calls, search.err, search.out]
         found = [ended.returncode, calls, EDITS.sub("", ended.stderr), ended.stdout]
         for what, one, other in zip(("status", "commands", "standard error", "standard output"), wanted, found):
             if one != other:
@@ -505,7 +514,7 @@ def row_fault(program, row, folder):
     """What is wrong with a call of the table, if something is."""
     tools = Tools(small_workspace(row.packages, f"{folder}/w"), f"{folder}/tools")
     group = row.more if row.more == "github-actions" else None
-    case = Case(program, tools, Call(uses_of(f"check {row.words}"), [], group, row.more == "deny"))
+    case = Case(program, tools, Call(uses_of(f"check {row.words}"), [], group, row.more == "deny"), False)
     fault, search, ended = case.fault(fails_of(row.fails, case.plan))
     with open(f"{tools.folder}/calls", encoding="utf-8") as it:
         tried = [one[1] or one[2] for one in map(PREPARED.fullmatch, it.read().splitlines()) if one]
@@ -619,6 +628,8 @@ def random_fails(rng, plan):
     """Which commands fail: runs below a version, on any versions, or commands by their number; and some toolchains, which are
     then added or can't be."""
     fails = Fails()
+    if plan.causes:
+        return fails
     style = rng.choice(["below", "below", "any", "any", "number"])
     for member in plan.packages:
         used = sorted({it[0] for it in plan.places if it[2] == member})
@@ -639,20 +650,20 @@ def random_fails(rng, plan):
     return fails
 
 
-def random_case(program, folder, rng):
-    """A random call in a random workspace, which isn't too large."""
+def random_case(program, folder, rng, is_listed):
+    """A random call in a random workspace, whose plan isn't too large."""
     while True:
         workspace = random_workspace(rng, f"{folder}/w", 3)
         if rng.random() < 0.85:
             for it in workspace["packages"]:
-                it["rust_version"] = rng.choice([None, None, f"1.{rng.randint(40, 66)}", f"1.{rng.randint(56, 64)}.{rng.randint(0, 2)}"])
-        tools = Tools(workspace, f"{folder}/tools")
-        case = Case(program, tools, random_call(rng, workspace))
-        counts = [len(it) for it in case.plan.runs.values()] if not case.plan.causes else [0]
-        if len(case.plan.places) <= 500 and max(counts, default=0) <= 9 and not (case.plan.causes and rng.random() < 0.7):
-            return case
-        for it in os.listdir(folder):
-            subprocess.run(["rm", "-r", f"{folder}/{it}"], check=True)
+                own = [None, None, f"1.{rng.randint(40, 66)}", f"1.{rng.randint(56, 64)}.{rng.randint(0, 2)}"]
+                it["rust_version"] = rng.choice(own)
+        asked = random_call(rng, workspace)
+        workspace["cargo"], workspace["rustup"] = f"{folder}/tools/cargo", f"{folder}/tools/rustup"
+        plan = Plan(workspace, Asked(asked.uses, asked.trailing), "")
+        counts = [0] if plan.causes else [len(it) for it in plan.runs.values()]
+        if len(plan.places) <= 500 and max(counts, default=0) <= 9 and (not plan.causes or rng.random() < 0.2):
+            return Case(program, Tools(workspace, f"{folder}/tools"), asked, is_listed)
 
 
 # ---- All of them.
@@ -661,7 +672,7 @@ def random_case(program, folder, rng):
 def main():
     reader = argparse.ArgumentParser(usage=__doc__)
     reader.add_argument("program")
-    for option, default in (("--cases", 90), ("--seed", 1)):
+    for option, default in (("--cases", 80), ("--seed", 1)):
         reader.add_argument(option, type=int, default=default)
     asked = reader.parse_args()
     program = os.path.realpath(asked.program)
@@ -691,7 +702,7 @@ def main():
     for number in range(asked.cases):
         rng = random.Random(f"{asked.seed}/{number}")
         with tempfile.TemporaryDirectory(prefix="version-search-") as folder:
-            case = random_case(program, os.path.realpath(folder), rng)
+            case = random_case(program, os.path.realpath(folder), rng, number % 3 == 0)
             fails = random_fails(rng, case.plan)
             fault, search, _ = case.fault(fails)
         if fault:
