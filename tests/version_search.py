@@ -267,8 +267,8 @@ class Search:
 
 # ---- Comparing.
 
-# Which manifests are edited is said under `--verbose`.
-EDITS = re.compile(r"info: (removing dev-dependencies from|restoring|--no-dev-deps modifies real) .*\n")
+# Which manifests are edited, which the rows have.
+EDITS = re.compile(r"info: (removing (dev-dependencies|private crates) from|restoring|--no-(dev-deps|private) modifies real) .*\n")
 
 Call = namedtuple("Call", "uses trailing group denies")
 
@@ -292,7 +292,7 @@ class Case:
 
     def notices(self, ended):
         """What is said before a search: it ends before the first line on a command or on what was found."""
-        front = re.split("^(?:$|info: running |(?:info|error): [^ ]+: )", EDITS.sub("", ended.stderr), 1, re.M)[0]
+        front = re.split("^(?:$|info: running |info: [^ ]+: |error: )", EDITS.sub("", ended.stderr), maxsplit=1, flags=re.M)[0]
         if self.listed is None:
             return front
         # (a list prepares each version too)
@@ -484,6 +484,7 @@ ROWS = {
                                            "run_1.60_cargo_check_--manifest-path_p/Cargo.toml_--no-default-features_--features_c",
                                            "61 60", 0, [least("p", "1.61", "1.60..=1.61", "1.60",
                                                               " --no-default-features --features c")]),
+    "a run that is killed": Row("p", FOUR, "3:killed", "63 61 62", 0, [least("p", "1.62", "1.60..=1.63", "1.61")]),
     "an empty range": Row("p", "--version-range 1.61..=1.60", "", "", 1, ["error: specified version range `1.61..=1.60` is empty"]),
 }
 
@@ -501,7 +502,8 @@ def fails_of(text, plan):
                 if is_meant and plan.packages[place[2]]["name"] == runs[1]:
                     lines.add(last_line(plan.texts[rank]).rstrip("\n").split(" ", 1)[1])
         elif it[0].isdigit():
-            numbers[int(it.split(":")[0])] = "exit 101"
+            number, _, what = it.partition(":")
+            numbers[int(number)] = "kill -9 $$" if what == "killed" else "exit 101"
         else:
             lines.add(it.replace("_", " "))
     return Fails(lines, numbers)
