@@ -5,9 +5,10 @@ their order, both outputs, the status and all files with those of a search that 
 usage: tests/version_search.py CARGO_HACK [--cases N] [--seed S]
 
 There are calls whose trials and last lines are written here, calls that end early, calls that are refused, and N (80) random
-workspaces with random arguments, whose runs and preparations fail at random: below some version, on any versions, or as the
-so manieth command, whatever it is. What is said before a search has to be what is said before a list of commands. Where
-the runs of a package fail below one version alone, its least version has to be the least of all on which they pass.
+workspaces with random arguments, where commands fail at random: runs below some version or on any, toolchains, or commands
+by their number, whatever they are. In each third of these, what is said before the search has to be what a list of the
+commands says. Where the runs of a package fail below one version alone, its least version has to be the least of all on
+which they pass, by looking at all of them.
 The last line is `N passed, M failed`, and the status is 1 where one failed.
 """
 import argparse
@@ -358,8 +359,8 @@ def small_workspace(texts, root):
 
 
 # The packages, the arguments behind `check`, what fails, the versions in the order in which they are tried, the status, the
-# last lines, and more: `deny`, or the kind of log groups. What fails are the runs of a package below, from or at versions, or
-# a line, behind a number where it is that command alone.
+# last lines, and more: `deny`, or the kind of log groups. What fails are the runs of a package below a version or at one, a
+# line of words with `_` between them, or a command by its number, from 0, with a word that says what it is.
 Row = namedtuple("Row", "packages words fails tried status lines more", defaults=("",))
 
 LEAST = "info: {}: {} is the least version of {} on which all runs pass; on {} this fails: `rustup run {} cargo check{}`"
