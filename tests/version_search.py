@@ -6,8 +6,8 @@ usage: tests/version_search.py CARGO_HACK [--cases N] [--seed S]
 
 There are calls whose trials and last lines are written here, calls that end early, calls that are refused, and N (80) random
 workspaces with random arguments, where commands fail at random: runs below some version or on any, toolchains, or commands
-by their number, whatever they are. In each third of these, what is said before the search has to be what a list of the
-commands says. Where the runs of a package fail below one version alone, its least version has to be the least of all on
+by their number, whatever they are. In each third of these, and where warnings are denied, what is said before the search
+has to be what a list of the commands says. Where the runs of a package fail below one version alone, its least version has to be the least of all on
 which they pass, by looking at all of them.
 The last line is `N passed, M failed`, and the status is 1 where one failed.
 """
@@ -115,9 +115,9 @@ class Ended(Exception):
 class Search:
     """What a call has the tools run, what it prints, and what it finds of each package: the least version that passed and
     the place that failed before it, none where nothing failed; or no version and the place that failed on the greatest.
-    `notices` are what is said before."""
+    `notices` are what is said before, and `status` is what they come to."""
 
-    def __init__(self, plan, fails, group, notices):
+    def __init__(self, plan, fails, group, notices, status):
         self.plan, self.asked, self.workspace = plan, plan.asked, plan.workspace
         self.is_grouped, self.is_verbose = group == "github-actions", plan.asked.has("--verbose")
         self.calls, self.out, self.err = [], "", notices
@@ -130,12 +130,12 @@ class Search:
         try:
             for member in plan.packages:
                 self.search(member)
-            self.err += "".join(f"{it}\n" for member in self.found for it in self.lines(member))
+            lines = [it for member in self.found for it in self.lines(member)]
         except Ended as end:
-            self.end = end
-            self.err += f"error: {end}\n"
-        is_warned = self.asked.denies and re.search("^warning: ", self.err, re.M)
-        self.status = 1 if is_warned or re.search("^error: ", self.err, re.M) else 0
+            self.end, lines = end, [f"error: {end}"]
+        self.err += "".join(f"{it}\n" for it in lines)
+        counted = ("error: ", "warning: ") if self.asked.denies else ("error: ",)
+        self.status = 1 if any(it.startswith(counted) for it in lines) else status
 
     def passes(self, tool, words):
         """Has a tool run something."""
@@ -308,7 +308,8 @@ class Case:
             return "the files aren't what they were", None, ended
         if self.plan.causes:
             return refusal(self.plan.causes, ended), None, ended
-        search = Search(self.plan, fails, self.call.group, self.notices(ended))
+        status = self.listed.returncode if self.listed else 0
+        search = Search(self.plan, fails, self.call.group, self.notices(ended), status)
         wanted = [search.status, search.calls, search.err, search.out]
         found = [ended.returncode, calls, EDITS.sub("", ended.stderr), ended.stdout]
         for what, one, other in zip(("status", "commands", "standard error", "standard output"), wanted, found):
@@ -666,7 +667,7 @@ def random_case(program, folder, rng, is_listed):
         plan = Plan(workspace, Asked(asked.uses, asked.trailing), "")
         counts = [0] if plan.causes else [len(it) for it in plan.runs.values()]
         if len(plan.places) <= 500 and max(counts, default=0) <= 9 and (not plan.causes or rng.random() < 0.2):
-            return Case(program, Tools(workspace, f"{folder}/tools"), asked, is_listed)
+            return Case(program, Tools(workspace, f"{folder}/tools"), asked, is_listed or asked.denies)
 
 
 # ---- All of them.
