@@ -7,8 +7,8 @@ usage: tests/version_search.py CARGO_HACK [--cases N] [--seed S]
 There are calls whose trials and last lines are written here, calls that end early, calls that are refused, and N (80) random
 workspaces with random arguments, where commands fail at random: runs below some version or on any, toolchains, or commands
 by their number, whatever they are. In each third of these, and where warnings are denied, what is said before the search
-has to be what a list of the commands says. Where the runs of a package fail below one version alone, its least version has to be the least of all on
-which they pass, by looking at all of them.
+has to be what a list of the commands says. Where the runs of a package fail below one version alone, its least version has
+to be the least of all on which they pass, by looking at all of them.
 The last line is `N passed, M failed`, and the status is 1 where one failed.
 """
 import argparse
