@@ -2,6 +2,8 @@
 """Runs `cargo hack` with the machine's own cargo on a copy of examples/workspace, and compares commands, status, status
 lines and report with what is written here; calls that edit manifests have to leave every file as it was, byte for byte.
 
+Searches for the least version run the one cargo as each version, through a script in place of rustup that fails old ones.
+
 In repositories, `cargo package` under `--no-dev-deps` has to pack the bytes that it packs alone from manifests without
 development dependencies, and a call that is interrupted while cargo compiles has to leave all as it was within a second.
 
@@ -227,6 +229,80 @@ def rules_fault(program, folder):
     return fault
 
 
+# ---- Searches for the least version.
+
+# In place of rustup: it runs the one cargo as each version. One version has to be added first, and old ones are refused: for a
+# feature of the library, and for the tool.
+RUSTUP = """#!/bin/sh
+minor=${2#1.}
+case "$*" in
+--version) echo 'rustup 1.27.1 (54dd3d00f 2024-04-24)'; exit;;
+"run 1.65 cargo --version") [ -e "$0.added" ]; exit;;
+"toolchain add 1.65 "*) : > "$0.added"; exit;;
+*codec/Cargo.toml*" --features trace") [ "$minor" -ge 64 ] || exit 101;;
+*tool/Cargo.toml*) [ "$minor" -ge 62 ] || exit 101;;
+esac
+shift 3
+exec cargo "$@"
+"""
+
+FIND = ["check", "--find-rust-version", "--version-range", "1.60..=1.67"]
+TRIED = "info: running `rustup run 1.{} cargo check{}` on {} ({}/{})"
+ADDED = "info: running `rustup toolchain add 1.65 --no-self-update`"
+
+
+def least(package, version, failed, features):
+    return (f"info: {package}: 1.{version} is the least version of 1.60..=1.67 on which all runs pass; on 1.{failed} this fails:"
+            f" `rustup run 1.{failed} cargo check{features}`")
+
+
+def tried(version, *features):
+    """The status lines of the library at a version: without features, with one and with the other."""
+    return [TRIED.format(version, f" --no-default-features{it}", "codec", 3 * (version - 60) + place, 24)
+            for place, it in enumerate(features, 1)]
+
+
+NONE, COMPACT, TRACE = "", " --features compact", " --features trace"
+
+SEARCHES = {
+    "the least version of the library": (
+        FIND + ["--package", "codec", "--each-feature", "--exclude-all-features", "--exclude-features", "binary,default,json"],
+        0,
+        [*tried(67, NONE, COMPACT, TRACE), *tried(63, NONE, COMPACT, TRACE), ADDED, *tried(65, NONE, COMPACT, TRACE),
+         *tried(64, NONE, COMPACT, TRACE), least("codec", 64, 63, " --no-default-features --features trace"),
+         "warning: codec: its rust-version is 1.60, but not all runs pass on 1.63"],
+    ),
+    "that of both packages, without development dependencies": (
+        FIND + ["--no-dev-deps", "--workspace"],
+        0,
+        [MODIFIES.format("--no-dev-deps"), *(TRIED.format(it, "", "codec", 2 * (it - 60) + 1, 16) for it in (67, 63, 61, 60)),
+         *(TRIED.format(it, "", "tool", 2 * (it - 60) + 2, 16) for it in (67, 63, 61, 62)),
+         "info: codec: all runs pass on each version that was tried, down to 1.60", least("tool", 62, 61, "")],
+    ),
+    "a pair that doesn't build on any version": (
+        FIND + ["--no-dev-deps", "--package", "codec", "--features", "compact,trace"],
+        1,
+        [MODIFIES.format("--no-dev-deps"), TRIED.format(67, COMPACT + ",trace", "codec", 8, 8),
+         "error: codec: on 1.67 this fails: `rustup run 1.67 cargo check --features compact,trace`"],
+    ),
+}
+
+
+def search_fault(program, temporary, words, status, wanted):
+    """What is wrong with a search in a fresh workspace, if something is."""
+    with tempfile.TemporaryDirectory(dir=temporary) as top:
+        folder, rustup = f"{top}/workspace", f"{top}/rustup"
+        shutil.copytree(WORKSPACE, folder)
+        write(rustup, RUSTUP, 0o755)
+        before = held(folder)
+        done = call(program, folder, words, CARGO_HACK_RUSTUP=rustup)
+        starts = ("info: ", *(f"{kind}: {name}: " for kind in ("warning", "error") for name in ("codec", "tool")))
+        lines = [it for it in done.stderr.splitlines() if it.startswith(starts)]
+        if done.returncode != status:
+            return f"status {done.returncode}"
+        return changes(before, held(folder)) or difference(wanted, lines)
+
+
 # ---- In repositories.
 
 DEV = '\n[dev-dependencies]\n{0} = {{ path = "{1}" }}\n'
@@ -335,9 +411,9 @@ def cleared():
     }
 
 
-def call(program, folder, words):
+def call(program, folder, words, **more):
     return subprocess.run(
-        [program, "hack", *words], cwd=folder, env=cleared(), capture_output=True, text=True, check=False
+        [program, "hack", *words], cwd=folder, env={**cleared(), **more}, capture_output=True, text=True, check=False
     )
 
 
@@ -350,7 +426,7 @@ def main():
         "a package at the top of a repository": lambda folder: package_fault(program, folder, True),
         "a call that is interrupted": lambda folder: interrupted_fault(program, folder),
     }
-    checks, skipped = len(CALLS) + len(EDITS) + len(in_repositories) + 4, 0
+    checks, skipped = len(CALLS) + len(EDITS) + len(SEARCHES) + len(in_repositories) + 4, 0
     heed_signals()
     if not has_cargo():
         print(f"no cargo and rustc that answer here: {checks} calls skipped")
@@ -376,6 +452,8 @@ def main():
                 tell("the report", difference(REPORT, report))
         for name, (words, status, wanted) in EDITS.items():
             tell(name, edit_fault(program, folder, words, status, wanted))
+        for name, row in SEARCHES.items():
+            tell(name, search_fault(program, temporary, *row))
         sampled = call(program, folder, SAMPLE)
         tell("a sample", difference(SUSPECTS, sampled.stderr.splitlines()[-len(SUSPECTS):]))
         listed = call(program, folder, SETS + ["--print-command-list"])

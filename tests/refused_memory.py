@@ -63,14 +63,15 @@ void *realloc(void *old, size_t size) {
 }
 """
 
-# The stand-in for cargo and rustup: it answers from files, fails where features `b` are asked for, and else is content.
+# The stand-in for cargo and rustup: it answers from files, fails on one version and where features `b` are asked for, and else
+# is content.
 STAND_IN = """#!/bin/sh
 case "$*" in
     *" -vV"|-vV) exec cat "$0.version";;
     --version) exec cat "$0.rustup";;
     *metadata*) exec cat "$0.metadata";;
     *locate-project*) exec cat "$0.locate";;
-    *"--features b"*) exit 101;;
+    *"--features b"*|"run 1.61 cargo check "*) exit 101;;
 esac
 """
 
@@ -82,6 +83,7 @@ CALLS = {
     "a sample": ["check", "--feature-powerset", "--strength", "2", "--print-command-list", "-p", "p"],
     "development dependencies left out": ["check", "--each-feature", "--workspace", "--no-dev-deps", "--keep-going", "-v"],
     "private members left out": ["check", "--workspace", "--no-private"],
+    "a search for the least version": ["check", "-p", "p", "--find-rust-version", "--version-range", "1.60..=1.63"],
 }
 
 # Tables of rules in the manifests, the first with names that no package has.
