@@ -4,11 +4,12 @@
 usage: tests/documents.py CARGO_HACK
 
 It checks that each link, path, edit, function and type that a document names exists; that each function that PROVED.md
-names at the start of a promise is public in a crate of its heading; that each definition of DEFINITIONS.md is in the
-file named beside it; that ARCHITECTURE.md has each crate, after those that it uses; that rows have the errors of
-RULES.md; that the README's example is what the sample calls print; that no document counts tests, rows, edits or
-functions, or is too long; that tests/README.md has each script, and what the gate tries of it; and that man pages and
-completions are what tools/manual.py writes.
+names at the start of a promise is public in a crate of its heading, and each clause that it names in brackets is one
+of a contract or a definition; that each definition of DEFINITIONS.md is in the file named beside it; that
+ARCHITECTURE.md has each crate, after those that it uses; that rows have the errors of RULES.md; that the README's
+example is what the sample calls print; that no document counts tests, rows, edits or functions, or is too long; that
+tests/README.md has each script, and what the gate tries of it; and that man pages and completions are what
+tools/manual.py writes.
 
 The last line is `N passed, M failed`, and the status is 1 where one failed.
 """
@@ -117,6 +118,13 @@ def paths(document):
             yield text, any(ROOT.glob(text.rstrip("/")))
 
 
+def quoted(text):
+    """What stands between backquotes, also where a line ends in it; blocks of code are left out."""
+    text = re.sub(r"(?m)^    .*$", "", text)
+    for _, found in re.findall(r"(?s)(?<!`)(`+)(?!`)((?:(?!\n\n).)+?)(?<!`)\1(?!`)", text):
+        yield " ".join(found.split())
+
+
 def spread(name):
     """`Manager::{new, register}` as its names."""
     head, brace, rest = name.partition("{")
@@ -127,9 +135,8 @@ def identifiers(document, sources):
     """The functions and types that a document names between backquotes."""
     if document.name in FREE:
         return
-    text = re.sub(r"(?m)^    .*$", "", read(document))
-    for quoted in re.findall(r"`([^`\n]+)`", text):
-        for name in spread(quoted):
+    for found in quoted(read(document)):
+        for name in spread(found):
             if re.fullmatch(r"\w+(?:::\w+)+", name) and not name.startswith("std::"):
                 yield name, sources.has(name)
             elif document.name in STRICT and re.fullmatch(r"[a-z]+(?:_[a-z0-9]+)+|[A-Z][a-z]+(?:[A-Z][a-z]+)*", name):
@@ -146,9 +153,18 @@ def sections(text):
 def promises(sources):
     """The functions with which the promises of PROVED.md begin."""
     for crates, body in sections(read(ROOT / "docs" / "PROVED.md")):
-        for start in re.findall(r"(?m)^- ((?:`[^`\n]+`(?:,\s+(?:and )?| and )?)+)", body) if crates else []:
-            for name in (it for quoted in re.findall(r"`([^`(]+)[^`]*`", start) for it in spread(quoted)):
+        for start in re.findall(r"(?m)^- ((?:`[^`]+`(?:,\s+(?:and )?|\s+and )?)+)", body) if crates else []:
+            for name in (it for found in quoted(start) for it in spread(found.partition("(")[0])):
                 yield name, sources.is_public(crates, name)
+
+
+def clauses():
+    """The names in brackets in PROVED.md: each is that of a clause, a function or a field of a definition."""
+    files = [it for part in ("src", "specs") for it in (ROOT / "crates").glob(f"*/{part}/**/*.*")]
+    named = set(re.findall(r"\b(?:ensures|requires|pub|fn|ghost) (\w+)\b", "\n".join(read(it) for it in files if it.is_file())))
+    for inner in re.findall(r"\((`[^()]*?)\)", read(ROOT / "docs" / "PROVED.md")):
+        for name in re.findall(r"`([a-z]+)`", inner):
+            yield name, name in named
 
 
 def definitions():
@@ -236,6 +252,7 @@ def main(words):
         about = [*links(it), *paths(it), *identifiers(it, sources), *counts(it)]
         found += [(f"{it.name}: {name}", holds) for name, holds in about]
     found += [(f"PROVED.md: {name} is not public in its heading's crates", holds) for name, holds in promises(sources)]
+    found += [(f"PROVED.md: no contract has the clause {name}", holds) for name, holds in clauses()]
     found += [(f"DEFINITIONS.md: {name} is not in its file", holds) for name, holds in definitions()]
     found += [(f"ARCHITECTURE.md: {name} is missing, or before a crate that it uses", holds) for name, holds in order()]
     found += [(f"RULES.md: no row has the error {name}", holds) for name, holds in errors()]
