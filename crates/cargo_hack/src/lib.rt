@@ -6,6 +6,7 @@
 pub mod features;
 pub mod journal;
 pub mod manifest;
+pub mod msrv;
 pub mod plan;
 pub mod powerset_list;
 pub mod run;

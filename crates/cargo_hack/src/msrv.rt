@@ -1,0 +1,7 @@
+//! The oldest Rust of each package: the least version of a plan on which all its runs pass.
+
+pub use hack_bisect::{Least, Tries, find_least};
+pub use hack_msrv::found::Found;
+pub use hack_msrv::judge::Judge;
+pub use hack_msrv::search::find_versions;
+pub use hack_msrv::trial::Came;
