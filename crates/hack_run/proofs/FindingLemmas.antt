@@ -1,7 +1,7 @@
 -- What a search that wasn't broken off, and whose reports were told, says.
-use Rattle.std.proofs.Common.{◌≡◌, ◌≢◌, ◌∙◌, Bool, true, false, List, All, Contains, refl, sym, ap}
+use Rattle.std.proofs.Common.{◌≡◌, ◌≢◌, ◌∙◌, Bool, true, false, List, All, Contains, refl, sym}
 use Rattle.std.specs.Prelude.{◌||◌}
-use Rattle.std.proofs.lemmas.List.Elements.{All-contains, Contains-get_or}
+use Rattle.std.proofs.lemmas.List.Elements.{All-contains}
 use Rattle.hack_msrv.specs.Searches.{AreSearches, AreUnbroken, handed_in_all}
 use Rattle.hack_msrv.specs.Trials.{Trial}
 use Rattle.hack_msrv.specs.declared.found.Found.{Found}
@@ -29,11 +29,8 @@ not_broken plan searches found such broken passed =
     let p = All-contains HasPassed (handed_in_all searches) f.0 passed f.1 in
     cc (p, f.2)
 
--- a warning of the notices, one of the reports, and one before them
-pub warned_later : (notes later warned was : Bool) → was ≡ (notes || warned) → (later || was) ≡ (notes || (later || warned))
-warned_later true later warned was is = warned_true later was is
-  where
-    warned_true : (later was : Bool) → was ≡ true → (later || was) ≡ true
-    warned_true true was is = refl
-    warned_true false was is = is
-warned_later false later warned was is = ap (λ b. later || b) is
+-- a warning is noted where the notices or the reports after them warn, or one was noted before
+pub warned_later : (notes warned last now : Bool) → last ≡ (notes || warned) → (now ≡ false → last ≡ false) → now ≡ (notes || (now || warned))
+warned_later true warned last true is stays = refl
+warned_later false warned last true is stays = refl
+warned_later notes warned last false is stays = sym (sym is ∙ stays refl)

@@ -6,7 +6,7 @@ ghost use Rattle.std.specs.Option.{unwrap_or};
 ghost use Rattle.hack_load.specs.ContextView.{context_view};
 ghost use Rattle.hack_msrv.specs.Searches.{AreUnbroken};
 ghost use Rattle.hack_run.specs.CallTrace.{PerformsOne};
-ghost use Rattle.hack_run.specs.Findings.{HasLeast, TellsMore};
+ghost use Rattle.hack_run.specs.Findings.{HasLeast};
 ghost use Rattle.hack_run.specs.Internal.{MayPerformItsPlan, PerformsAtMostOne, PerformsItsPlan};
 ghost use Rattle.hack_run.specs.Lanes.{MayRunInLanes, RunsInLanes, RunsOne};
 ghost use Rattle.hack_run.specs.Questions.{IsAnswered};
@@ -221,7 +221,8 @@ fn settle<E: Write>(
     term: &mut Term,
     err: &mut E,
 )
-    ensures more { TellsMore term.old term.new }
+    ensures error { term.new.error ≡ false → term.old.error ≡ false }
+    ensures warn { term.new.warn ≡ false → term.old.warn ≡ false }
     ensures ends { fault.new ≡ None → term.new.error ≡ false
         → ((fault.old ≡ None) × Contains found.now Found.Broken) ⊎ All HasLeast found.now }
 {

@@ -1,7 +1,7 @@
 //! What a search for the least version found, as lines for the user.
 
 ghost use Rattle.std.specs.Prelude.{◌≡◌, All, OnOk, false};
-ghost use Rattle.hack_run.specs.Findings.{IsSpared, TellsMore};
+ghost use Rattle.hack_run.specs.Findings.{IsSpared};
 
 use hack_load::context::Context;
 use hack_msrv::found::Found;
@@ -21,7 +21,8 @@ pub(crate) fn tell_found<E: Write>(
     term: &mut Term,
     err: &mut E,
 ) -> Result<(), AllocError>
-    ensures more { TellsMore term.old term.new }
+    ensures error { term.new.error ≡ false → term.old.error ≡ false }
+    ensures warn { term.new.warn ≡ false → term.old.warn ≡ false }
     ensures failing { OnOk result (term.new.error ≡ false → All IsSpared found.now) }
 {
     for member in 0..found.len() {
@@ -56,7 +57,8 @@ struct About<'a> {
 impl<'a> About<'a> {
     /// Reports what was found of the package.
     fn tell<E: Write>(self, found: Found, term: &mut Term, err: &mut E) -> Result<(), AllocError>
-        ensures more { TellsMore term.old term.new }
+        ensures error { term.new.error ≡ false → term.old.error ≡ false }
+        ensures warn { term.new.warn ≡ false → term.old.warn ≡ false }
         ensures failing { OnOk result (term.new.error ≡ false → IsSpared found) }
     {
         match found {
@@ -86,7 +88,8 @@ impl<'a> About<'a> {
         term: &mut Term,
         err: &mut E,
     ) -> Result<(), AllocError>
-        ensures { TellsMore term.old term.new }
+        ensures error { term.new.error ≡ false → term.old.error ≡ false }
+        ensures warn { term.new.warn ≡ false → term.old.warn ≡ false }
     {
         let name = self.name;
         let least = toolchain(self.alloc, least)?;
@@ -114,7 +117,8 @@ impl<'a> About<'a> {
         term: &mut Term,
         err: &mut E,
     ) -> Result<(), AllocError>
-        ensures { TellsMore term.old term.new }
+        ensures error { term.new.error ≡ false → term.old.error ≡ false }
+        ensures warn { term.new.warn ≡ false → term.old.warn ≡ false }
     {
         let Some(own) = self.own() else {
             return Ok(());
