@@ -56,3 +56,6 @@ returns-in-Ok-clause-spoilt g c =
 
 pub returns-in-Ok-clause-stays : goal.returns-in-Ok-clause-stays
 returns-in-Ok-clause-stays g c = g.F.Files.stays_more _ _ _ c.in-Ok.ensures.stays c.load_behind.ensures.stays
+
+pub returns-in-Ok-clause-course : goal.returns-in-Ok-clause-course
+returns-in-Ok-clause-course g c = g.C.Caller.course_more _ _ _ c.in-Ok.ensures.course c.load_behind.ensures.course
