@@ -6,13 +6,19 @@ use Rattle.std.specs.Option.{unwrap_or}
 use Rattle.std.proofs.Common.{Global, String}
 use Rattle.hack_base.specs.Names.{Name}
 use Rattle.hack_versions.specs.declared.version.Version.{Version}
+use Rattle.hack_base.specs.Notes.{Note}
+use Rattle.hack_versions.specs.declared.rustup.Rustup.{Rustup}
+use Rattle.hack_words.specs.CommandLine.{ComesTo}
+use Rattle.hack_words.specs.ParseAnswers.{AnswersCommandLine as IsAnswer, around_of}
+use Rattle.hack_words.specs.declared.cli.env.Env.{Env}
+use Rattle.hack_words.specs.declared.cli.parse.Parsed.{Parsed}
 use Rattle.hack_words.specs.declared.cli.args.Args.{Args}
 use Rattle.hack_load.specs.ContextOf.{IsContextFrom}
 use Rattle.hack_load.specs.Contexts.{ContextRecord}
 use Rattle.hack_load.specs.declared.answers.Answers.{Answers}
 use Rattle.hack_starts.specs.Events.{Event, calls_of}
 use Rattle.hack_lanes.specs.Lanes.{Goes, Scene, State, Turn}
-use Rattle.hack_run.specs.Lanes.{PerformsInLanes, RunsInLanes, RunsOne, scene_at}
+use Rattle.hack_run.specs.Lanes.{IsLaneCall, ObeysInLanes, PerformsInLanes, RunsInLanes, RunsOne, scene_at}
 
 -- ending what is left makes no call
 pub cleared_calls : {S : Type 0} (tells : Type 0) (calls : S → List Call) (did : List Event → S → S → Type 0)
@@ -53,3 +59,9 @@ pub asked_in_lanes : {S T E : Type 0} (did : List Event → S → S → Type 0) 
 asked_in_lanes did course more (Err e) args old mid new asked h = tt
 asked_in_lanes did course more (Ok v) args old mid new asked (inl listed) = inl listed
 asked_in_lanes did course more (Ok v) args old mid new asked (inr p) = inr (p.0, p.1, p.2, p.3, p.4, more old mid p.4 asked p.5, p.6)
+
+-- a command line was read, and then obeyed in lanes
+pub reads_in_lanes : {S T E : Type 0} (did : List Event → S → S → Type 0) (course : S → S → Type 0) (r : Result T E) (words : List Name) (env : Env) (rustup : Rustup) (answer : Parsed) (notes : List Note) (old mid new : S) → course old mid
+    → IsAnswer (around_of env rustup) (ComesTo (around_of env rustup) words) answer notes → OnOk r (ObeysInLanes did course answer mid new) → OnOk r (IsLaneCall did course words env old new)
+reads_in_lanes did course (Err e) words env rustup answer notes old mid new asked read obeyed = tt
+reads_in_lanes did course (Ok v) words env rustup answer notes old mid new asked read obeyed = record { mid = mid; asked = asked; rustup = rustup; answer = answer; notes = notes; read = read; obeyed = obeyed }

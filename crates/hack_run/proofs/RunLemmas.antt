@@ -23,6 +23,7 @@ use Rattle.hack_session.specs.declared.step.Step.{Step}
 use Rattle.hack_session.specs.declared.step.Step.TheVariants.{Prepare, Skip, Run}
 use Rattle.hack_session.specs.declared.step.Outcome.{Outcome}
 use Rattle.hack_session.specs.declared.step.Outcome.TheVariants.{Passed, Failed}
+use Rattle.hack_base.specs.Counters.{GrowsBy}
 use Rattle.hack_base.specs.Names.{Name}
 use Rattle.hack_load.specs.Contexts.{ContextRecord}
 use Rattle.hack_versions.specs.declared.version.Version.{Version}
@@ -169,6 +170,7 @@ list_ends (Ok v) refused none short flushed quiet tells cx stable rustup warned 
       wrote = wrote_end old.out (append_known mid.out gathered) out (flat_map (lines_written d.course.plan) d.course.handed)
           (subst (λ (x : Option (List ℕ)). WritesText true true x (append_known mid.out gathered) (flat_map (lines_written d.course.plan) d.course.handed)) start d.wrote) (kept came.3);
       passed = d.passed;
+      uncut = d.uncut;
       unreported = d.unreported;
       warns = d.warns;
     }
@@ -202,6 +204,7 @@ list_shows cx stable rustup old mid begun gathered left out empty made kept grow
       handed = one.handed;
       calls = one.calls;
       wrote = shown (flat_map (lines_written one.course.plan) one.course.handed) one.wrote;
+      uncut = λ e. unended e;
       passed = λ e. unended e;
       unreported = one.unreported;
       warns = λ e. unended e;
@@ -235,10 +238,25 @@ handed_makes whole had has Told Ran cx stable rustup a b (inr l) w calls refused
       handed = l.driven;
       calls = subst (λ (cs : List Call). MakesCalls (λ made. PerformsAll l.course.plan steps made did.cut) cs (calls b)) (told l.notes a l.mid l.told) (record { made = did.made; grown = did.grown; such = did.performed });
       wrote = all_shown false had has (flat_map (lines_written l.course.plan) l.course.handed) (l.wrote w);
+      uncut = λ e. unended e;
       passed = λ e. unended e;
       unreported = λ u. refl;
       warns = λ e. unended e;
     })
+
+-- where each step passed, none was cut short
+none_cut : (plan : PlanView) (steps : List Handed) (calls : List Call) (cut : ℕ) → All HasPassed steps → PerformsAll plan steps calls cut → cut ≡ 0
+none_cut plan [] calls cut all p = p.1
+none_cut plan (h ∷ steps) calls cut all p =
+    let rest = none_cut plan steps p.1 p.3 (All-tail HasPassed h steps all) p.7 in
+    elim p.6 [
+      | inl e ↦ omega (arith, p.5, e.1, rest)
+      | inr m ↦ absurd (let e : Passed ≡ Failed = sym (All-head HasPassed h steps all) ∙ m.1 in cc)
+    ]
+
+-- where no refusal was counted, there was none
+whole_count : (cut before now : ℕ) → GrowsBy cut before now → before ≡ 0 → now ≡ 0 → cut ≡ 0
+whole_count cut before now grows first last = let e = grows (omega (arith, first)) in omega (arith, e, first, last)
 
 -- the chosen piece's steps, where no search is asked for
 pub handed_piece : (done : Bool) (args : Args) (course : Course) → args.find_rust_version ≡ false → IsDriven args.partition args.keep_going course → IsHandedAsAsked done (is_search false args) args course
@@ -265,6 +283,7 @@ runs_one cx stable rustup course notes old new mid before now term fault same pl
   handed = handed_piece true cx.args course off driven;
   calls = calls_from course mid old.calls new.calls before now same performed;
   wrote = tt;
+  uncut = λ e. none_cut course.plan course.handed performed.made performed.cut (all_passed course.handed term fault told none quiet) performed.performed;
   passed = λ e u. all_passed course.handed term fault told none quiet;
   unreported = λ u. refl;
   warns = λ e. warned;
@@ -273,8 +292,8 @@ runs_one cx stable rustup course notes old new mid before now term fault same pl
 -- one search, where no error was reported
 pub searches_one : (cx : ContextRecord) (stable : Result (Option Version) (String Global)) (rustup : Name) (course : Course) (notes : List Note) (later : Bool) (old new : HostView) (mid : List Call) (before now : ℕ) → mid ≡ old.calls
     → IsPlanOf cx.args.subcommand stable cx rustup course.plan notes → cx.args.find_rust_version ≡ true → IsSearchedOut true course.plan course.handed → HasPerformed course.plan course.handed mid new.calls before now
-    → Warned notes (later || old.term.warn) new.term.warn → PerformsOne true false cx stable rustup old.term.warn old new
-searches_one cx stable rustup course notes later old new mid before now same planned on out performed warned = record {
+    → before ≡ 0 → now ≡ 0 → Warned notes (later || old.term.warn) new.term.warn → PerformsOne true false cx stable rustup old.term.warn old new
+searches_one cx stable rustup course notes later old new mid before now same planned on out performed first last warned = record {
   course = course;
   notes = notes;
   cut = performed.cut;
@@ -283,6 +302,7 @@ searches_one cx stable rustup course notes later old new mid before now same pla
   handed = handed_search true cx.args course on out;
   calls = calls_from course mid old.calls new.calls before now same performed;
   wrote = tt;
+  uncut = λ e. whole_count performed.cut before now performed.counted first last;
   passed = λ e off. absurd (true≢false (sym on ∙ off));
   unreported = λ off. absurd (true≢false (sym on ∙ off));
   warns = λ e. warned;
@@ -300,6 +320,7 @@ runs_some cx stable rustup course notes old new mid before now same planned hand
   handed = handed;
   calls = calls_from course mid old.calls new.calls before now same performed;
   wrote = tt;
+  uncut = λ e. unended e;
   passed = λ e. unended e;
   unreported = λ u. refl;
   warns = λ e. unended e;
@@ -323,6 +344,7 @@ lists_one had has Told Ran cx stable rustup a b l calls before now was term faul
   handed = l.over.driven;
   calls = subst (λ (cs : List Call). MakesCalls (λ made. PerformsAll l.over.course.plan (filter is_sent l.over.course.handed) made performed.cut) cs (calls b)) same (record { made = performed.made; grown = performed.grown; such = performed.performed });
   wrote = all_shown true had has (flat_map (lines_written l.over.course.plan) l.over.course.handed) (l.over.wrote tt);
+  uncut = λ e. none_cut l.over.course.plan (filter is_sent l.over.course.handed) performed.made performed.cut (all_passed (filter is_sent l.over.course.handed) term fault told none quiet) performed.performed;
   passed = λ e u. all_handed l.over.course.handed (all_passed (filter is_sent l.over.course.handed) term fault told none quiet) l.listed;
   unreported = λ u. refl;
   warns = λ e. warned;

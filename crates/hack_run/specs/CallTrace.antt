@@ -49,7 +49,8 @@ WritesText done false had has text = Unit {0}
 
 -- One history of a context's plan, made with this answer on stable's version, was handed out. Its
 -- steps made just these calls, one after the other, of a list those that aren't listed, which wrote
--- the lines of the steps that passed. At the end of a call each step passed, unless it was a search's;
+-- the lines of the steps that passed. At the end of a call none was cut short for want of memory, and
+-- each step passed, unless it was a search's;
 -- and a warning is noted just where one was before, or where a notice of the plan counts as one, or a
 -- search reported one.
 pub record PerformsOne (done listing : Bool) (cx : ContextRecord)
@@ -64,6 +65,7 @@ pub record PerformsOne (done listing : Bool) (cx : ContextRecord)
   pub calls : MakesCalls (λ made.
       PerformsAll course.plan (if listing then filter is_sent course.handed else course.handed) made cut) old.calls new.calls
   pub wrote : WritesText done listing old.out new.out (flat_map (lines_written course.plan) course.handed)
+  pub uncut : done ≡ true → cut ≡ 0
   pub passed : done ≡ true → is_search listing cx.args ≡ false → All HasPassed course.handed
   pub unreported : is_search listing cx.args ≡ false → later ≡ false
   pub warns : done ≡ true → Warned notes (later || warned) new.term.warn

@@ -223,15 +223,16 @@ fn settle<E: Write>(
 )
     ensures error { term.new.error ≡ false → term.old.error ≡ false }
     ensures warn { term.new.warn ≡ false → term.old.warn ≡ false }
-    ensures ends { fault.new ≡ None → term.new.error ≡ false
-        → ((fault.old ≡ None) × Contains found.now Found.Broken) ⊎ All HasLeast found.now }
+    ensures ends { fault.new ≡ None → term.new.error ≡ false → (refused ≡ false)
+        × (((fault.old ≡ None) × Contains found.now Found.Broken) ⊎ All HasLeast found.now) }
 {
+    if refused {
+        // It was told at once. What is kept is the error of an earlier run.
+        *fault = None;
+        term.error = true;
+        return;
+    }
     if is_broken(found) {
-        if refused {
-            // It is that of an earlier run.
-            *fault = None;
-            term.error = true;
-        }
         return;
     }
     *fault = None;

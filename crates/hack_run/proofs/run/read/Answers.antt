@@ -9,6 +9,7 @@ use Rattle.hack_run.specs.Worlds.{files_view, world_of}
 use Rattle.hack_run.proofs.BackLemmas.{clean_by}
 use Rattle.hack_run.proofs.ChangeLemmas.{traces}
 use Rattle.hack_run.proofs.TraceLemmas.{done}
+use Rattle.hack_run.proofs.LaneLemmas.{reads_in_lanes}
 use Rattle.hack_run.proofs.run.read.Goals as goal
 
 pub returns-in-Accepted-clause-refused : goal.returns-in-Accepted-clause-refused
@@ -47,3 +48,9 @@ returns-in-Refused-clause-spoilt g c = λ back. but_none (g.F.Files.refuses c.ar
 
 pub returns-in_err-parsed-clause-spoilt : goal.returns-in_err-parsed-clause-spoilt
 returns-in_err-parsed-clause-spoilt g c = λ back. but_none (g.F.Files.refuses c.args.files.now c.args.files.now) _ _ (g.F.Files.refuses_none _)
+
+pub returns-in-Accepted-clause-lanes : goal.returns-in-Accepted-clause-lanes
+returns-in-Accepted-clause-lanes g c =
+    let after = rw c.in-Accepted.is at c.in_ok-parsed.ensures.read in
+    reads_in_lanes g.C.Starts.did g.C.Caller.course c.obey.result (names_of c.args.words.now) c.args.host.now.env.now after.rustup c.in-Accepted.parsed (map note_of c.in-Accepted.notices.items)
+    c.args.host.now.caller.now c.reading_of.new.caller c.obey.new.host.caller.now c.reading_of.ensures.course after.read c.obey.ensures.lanes
