@@ -60,8 +60,9 @@ pub fn run<F: Files, C: Starts, O: Write, E: Write>(
         (host_view C.Caller O.Write host.old) (host_view C.Caller O.Write host.new) }
 
     // Where no error was reported, what the command line asks for was done: the calls end with
-    // those of the whole schedule of the plan, which follows from what this call asked and read. A
-    // list wrote just the lines of that schedule. A warning is noted just where one was before, or
+    // those of the whole schedule of the plan, which follows from what this call asked and read, or
+    // of a search's trials, which found a least version of each package with a run. A list wrote
+    // just the lines of that schedule. A warning is noted just where one was before, or
     // where a notice on the command line, on what was loaded or on the plan counts as one. Under
     // `--remove-dev-deps` each manifest that is edited holds its edit, and all else what it held.
     ensures done { host.new.term.now.error ≡ false → C.tells
@@ -77,8 +78,8 @@ pub fn run<F: Files, C: Starts, O: Write, E: Write>(
         (world_of F.Files C.Caller O.Write files.old host.old)
         (world_of F.Files C.Caller O.Write files.new host.new) }
 
-    // Whatever comes of the call: after its questions the steps of one history of the plan made
-    // just their calls, or no step made one; and a list printed nothing but the lines of the steps
+    // Whatever comes of the call: after its questions the steps of one history of the plan, or of a
+    // search's trials, made just their calls, or no step made one; and a list printed nothing but the lines of the steps
     // that passed, in order, or the beginning of these lines.
     ensures made { C.tells → IsCallTrace false F.tells (names_of words.now) host.old.env.now
         (world_of F.Files C.Caller O.Write files.old host.old)
