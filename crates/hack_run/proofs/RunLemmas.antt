@@ -1,6 +1,6 @@
 -- One history of a plan: its calls, and what a list writes.
 use Rattle.std.proofs.Common.{◌≡◌, ◌⊎◌, inl, inr, refl, arith, ap, zero, suc, Result, Ok, Err, OnOk, ℕ, Global, String, List, [], ◌∷◌, ◌++◌, map, filter, All, Bool, Option, Some, None, IsSome, ◌∙◌, sym, subst, append-nil, append_assoc, if◌then◌else◌, true, false}
-use Rattle.std.specs.Prelude.{◌≤◌, ◌<◌, ◌^◌, nat_lt}
+use Rattle.std.specs.Prelude.{◌≤◌, ◌<◌, ◌^◌, ◌||◌, nat_lt}
 use Rattle.std.specs.List.{flat_map}
 use Rattle.std.specs.Io.KnownBytes.{Appends, Keeps, append_known}
 use Rattle.std.proofs.KnownBytes.{Appends-kept, Appends-nil, Appends-trans}
@@ -55,6 +55,11 @@ all_passed steps term fault (inr (inr kept)) none quiet = absurd (none_kept faul
 pub none_refused : {E : Type 0} (n : ℕ) → ◌≡◌ {A = Result Bool E} (Ok (nat_lt 0 n)) (Ok false) → n ≡ 0
 none_refused zero e = refl
 none_refused (suc n) e = let some : nat_lt 0 (suc n) ≡ true = lt-ltb 0 (suc n) (omega arith) in absurd (cc)
+
+-- a count that isn't above 0 is 0
+pub unrefused : (n : ℕ) → nat_lt 0 n ≡ false → n ≡ 0
+unrefused zero e = refl
+unrefused (suc n) e = let some : nat_lt 0 (suc n) ≡ true = lt-ltb 0 (suc n) (omega arith) in absurd (cc)
 
 -- counts of 64 bits
 abbrev Small : Page → Type 0
@@ -251,7 +256,7 @@ none_cut plan (h ∷ steps) calls cut all p =
     let rest = none_cut plan steps p.1 p.3 (All-tail HasPassed h steps all) p.7 in
     elim p.6 [
       | inl e ↦ omega (arith, p.5, e.1, rest)
-      | inr m ↦ absurd (let e : Passed ≡ Failed = sym (All-head HasPassed h steps all) ∙ m.1 in cc)
+      | inr m ↦ let e : Passed ≡ Failed = sym (All-head HasPassed h steps all) ∙ m.1 in absurd (cc)
     ]
 
 -- where no refusal was counted, there was none
