@@ -1,7 +1,8 @@
 -- What a search that wasn't broken off, and whose reports were told, says.
-use Rattle.std.proofs.Common.{◌≡◌, ◌≢◌, ◌∙◌, Bool, true, false, List, All, Contains, refl, sym}
+use Rattle.std.proofs.Common.{◌≡◌, ◌≢◌, ◌∙◌, ◌+◌, ◌<◌, ◌≤◌, ◌++◌, ◌∷◌, [], ℕ, Bool, true, false, List, All, Contains, arith, get_or, length, take, refl, subst, sym}
 use Rattle.std.specs.Prelude.{◌||◌}
-use Rattle.std.proofs.lemmas.List.Elements.{All-contains}
+use Rattle.std.proofs.lemmas.List.{get_or-take, length-take, take_more}
+use Rattle.std.proofs.lemmas.List.Elements.{All-append, All-cons, All-contains, All-nil}
 use Rattle.hack_msrv.specs.Searches.{AreSearches, AreUnbroken, handed_in_all}
 use Rattle.hack_msrv.specs.Trials.{Trial}
 use Rattle.hack_msrv.specs.declared.found.Found.{Found}
@@ -11,6 +12,16 @@ use Rattle.hack_plan.specs.View.{PlanView}
 use Rattle.hack_session.specs.Histories.{HasPassed}
 use Rattle.hack_session.specs.declared.step.Handed.{Handed}
 use Rattle.hack_run.specs.Findings.{HasLeast, IsSpared}
+
+-- one element more
+pub all-more : {X : Type 0} (P : X → Type 0) (xs : List X) (k : ℕ) (d : X) → k < length xs → All P (take k xs) → P (get_or xs k d) → All P (take (k + 1) xs)
+all-more P xs k d lt all one = subst (All P) (sym (take_more xs k d lt)) (All-append P (take k xs) (get_or xs k d ∷ []) all (All-cons P (get_or xs k d) [] one (All-nil P)))
+
+-- all elements
+pub all-whole : {X : Type 0} (P : X → Type 0) (xs : List X) (k : ℕ) → length xs ≤ k → All P (take k xs) → All P xs
+all-whole P xs k le all = λ i d lt.
+    let long = length-take k xs in
+    subst P (get_or-take k xs i d (omega arith)) (all i d (omega (arith, long)))
 
 least-of : (one : Found) → one ≢ Broken → IsSpared one → HasLeast one
 least-of Untried whole spared = tt

@@ -8,5 +8,6 @@ mod LoadingLemmas
 pub mod ReadingLemmas
 mod LaneLemmas
 mod RunLemmas
+mod FindingLemmas
 mod ToldLemmas
 mod TraceLemmas

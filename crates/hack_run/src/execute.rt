@@ -58,7 +58,7 @@ pub(crate) fn execute<C: Starts, O: Write, E: Write>(
         Ok(session) => session,
         Err(fault) => return Err(RunFault::Plan(fault)),
     };
-    let reported = report_all(host.alloc, cx, session, host.term, host.err);
+    let reported = report_all(host.alloc, cx, session.as_ref(), host.term, host.err);
     // Why the session stopped counts for more than a report that memory cut short.
     match fault {
         Some(fault) => Err(RunFault::Process(fault)),
@@ -282,7 +282,7 @@ fn manner(args: &Args) -> (LogGroup, bool)
 fn report_all<E: Write>(
     alloc: Global,
     cx: &Context,
-    session: Option<Session>,
+    session: Option<&Session>,
     term: &mut Term,
     err: &mut E,
 ) -> Result<(), AllocError>
@@ -292,11 +292,11 @@ fn report_all<E: Write>(
     let Some(session) = session else {
         return Ok(());
     };
-    report(alloc, &session, term, err)?;
+    report(alloc, session, term, err)?;
     if !cx.args().keep_going || is_unprepared(session.handed()) {
         return Ok(());
     }
-    explain(alloc, cx, &session, term, err)
+    explain(alloc, cx, session, term, err)
 }
 
 /// Reports the runs that failed, where runs go on after a failed one and each preparation passed.

@@ -138,7 +138,9 @@ impl<'a> About<'a> {
     /// The package's `rust-version`, as its manifest has it.
     fn own(self) -> Option<&'a str> {
         for id in self.cx.workspace_members() {
-            if self.cx.packages(*id).name.as_str() == self.name {
+            if let Some(pkg) = self.cx.metadata().find(*id)
+                && pkg.name.as_str() == self.name
+            {
                 return self.cx.rust_version(*id);
             }
         }

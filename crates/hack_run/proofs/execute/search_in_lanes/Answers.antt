@@ -1,11 +1,13 @@
 use Rattle.std.proofs.Common.{◌≡◌, ◌⊎◌, [], ap, false, inl, inr, refl, subst, sym, ◌∙◌}
-use Rattle.std.specs.Prelude.{All, Option}
+use Rattle.std.specs.Prelude.{All, Contains, List, Option}
 use Rattle.hack_plan.specs.declared.partition.Partition.{Partition}
 use Rattle.hack_session.specs.Histories.{Course, HasPassed}
 use Rattle.hack_term.specs.declared.term.Term.{Term}
 use Rattle.hack_words.specs.declared.cli.args.Args.{Args}
 use Rattle.hack_load.specs.ContextView.{context_view}
 use Rattle.hack_msrv.specs.Searches.{handed_in_all}
+use Rattle.hack_msrv.specs.declared.found.Found.{Found}
+use Rattle.hack_msrv.specs.declared.found.Found.TheVariants.{Broken}
 use Rattle.hack_side.specs.Turns.{RunsAll}
 use Rattle.hack_run.specs.Findings.{HasLeast}
 use Rattle.hack_run.specs.Warnings.{have_warning}
@@ -31,19 +33,19 @@ returns-clause-done g c = λ none quiet t.
     let made = c.set_manner.ensures in
     let ran = searched.whole.3 in
     let calls = g.L.Caller.calls in
-    let lanes_is = c.lanes-1.given.1 (sym c.new-starter.ensures.caller.0 ∙ ap (λ s. s.caller.ghost_name) (sym made) ∙ told.0 ∙ ran.0) in
-    let out_is = c.out-1.given.1 (sym c.new-starter.ensures.out.0 ∙ ap (λ s. s.out.ghost_name) (sym made) ∙ told.7 ∙ ran.3) in
-    let term_is = c.term-1.given.1 (sym c.new-starter.ensures.term.0 ∙ ap (λ s. s.term.ghost_name) (sym made) ∙ told.1 ∙ ran.1) in
-    let fault_is = c.fault-1.given.1 (sym c.new-starter.ensures.fault.0 ∙ ap (λ s. s.fault.ghost_name) (sym made) ∙ told.2 ∙ ran.2) in
+    let lanes_is = c.lanes-2-1.given.1 (sym c.new-starter.ensures.caller.0 ∙ ap (λ s. s.caller.ghost_name) (sym made) ∙ told.0 ∙ ran.0) in
+    let out_is = c.out-2-1.given.1 (sym c.new-starter.ensures.out.0 ∙ ap (λ s. s.out.ghost_name) (sym made) ∙ told.7 ∙ ran.3) in
+    let term_is = c.term-2-1.given.1 (sym c.new-starter.ensures.term.0 ∙ ap (λ s. s.term.ghost_name) (sym made) ∙ told.1 ∙ ran.1) in
+    let fault_is = c.fault-2-1.given.1 (sym c.new-starter.ensures.fault.0 ∙ ap (λ s. s.fault.ghost_name) (sym made) ∙ told.2 ∙ ran.2) in
     let now = c.settle.new.term in
     let settled = c.settle.ensures.ends none quiet in
     let silent = subst (λ (term : Term). term.error ≡ false) term_is (c.settle.ensures.error quiet) in
     let stays = subst (λ (term : Term). now.warn ≡ false → term.warn ≡ false) term_is c.settle.ensures.warn in
     let warned = warned_run c.args.term.now c.set_manner.new.self.term.now mid.term.now last.term.now notes (ap (λ s. s.term.now) made ∙ c.new-starter.ensures.term.1) told.6 (ap (λ s. s.warn) ran.7) in
     let least : All HasLeast c.in_ok-plan.found.items = elim settled.1 [
-      | inl broken ↦ absurd (not_broken plan searched.searches c.in_ok-plan.found.items searched.say broken.1
+      | inl broken ↦ absurd (not_broken plan searched.searches c.in_ok-plan.found.items searched.say (subst (λ (l : List Found). Contains l Broken) c.deref.ensures.value broken.1)
           (all_passed handed last.term.now last.fault.now (passed_or_told g.L.Caller.tells _ _ plan handed _ _ ran.8) (sym fault_is ∙ broken.0) silent))
-      | inr least ↦ least
+      | inr least ↦ subst (λ (l : List Found). All HasLeast l) c.deref.ensures.value least
     ] in
     rw (lanes_is, out_is)
     (searches_one cx c.args.stable c.args.rustup.now course notes now.warn (host_of g.L.Caller g.O.Write c.args.lanes.now c.args.out.now c.args.term.now) (host_of g.L.Caller g.O.Write last.caller.now last.out.now now)
@@ -66,8 +68,8 @@ returns-clause-made g c = λ t.
     let made = c.set_manner.ensures in
     let ran = searched.whole.3 in
     let calls = g.L.Caller.calls in
-    let lanes_is = c.lanes-1.given.1 (sym c.new-starter.ensures.caller.0 ∙ ap (λ s. s.caller.ghost_name) (sym made) ∙ told.0 ∙ ran.0) in
-    let out_is = c.out-1.given.1 (sym c.new-starter.ensures.out.0 ∙ ap (λ s. s.out.ghost_name) (sym made) ∙ told.7 ∙ ran.3) in
+    let lanes_is = c.lanes-2-1.given.1 (sym c.new-starter.ensures.caller.0 ∙ ap (λ s. s.caller.ghost_name) (sym made) ∙ told.0 ∙ ran.0) in
+    let out_is = c.out-2-1.given.1 (sym c.new-starter.ensures.out.0 ∙ ap (λ s. s.out.ghost_name) (sym made) ∙ told.7 ∙ ran.3) in
     rw (lanes_is, out_is)
     (runs_some cx c.args.stable c.args.rustup.now course notes (host_of g.L.Caller g.O.Write c.args.lanes.now c.args.out.now c.args.term.now) (host_of g.L.Caller g.O.Write last.caller.now last.out.now c.settle.new.term)
     (calls mid.caller.now) mid.refused last.refused (ap calls (told.3 ∙ ap (λ s. s.caller.now) made ∙ c.new-starter.ensures.caller.1)) c.in_ok-plan.ensures.ran.2
@@ -88,14 +90,14 @@ returns-clause-lanes g c =
     let made = c.set_manner.ensures in
     let ran = searched.whole.3 in
     let calls = g.L.Caller.calls in
-    let lanes_is = c.lanes-1.given.1 (sym c.new-starter.ensures.caller.0 ∙ ap (λ s. s.caller.ghost_name) (sym made) ∙ told.0 ∙ ran.0) in
-    let out_is = c.out-1.given.1 (sym c.new-starter.ensures.out.0 ∙ ap (λ s. s.out.ghost_name) (sym made) ∙ told.7 ∙ ran.3) in
+    let lanes_is = c.lanes-2-1.given.1 (sym c.new-starter.ensures.caller.0 ∙ ap (λ s. s.caller.ghost_name) (sym made) ∙ told.0 ∙ ran.0) in
+    let out_is = c.out-2-1.given.1 (sym c.new-starter.ensures.out.0 ∙ ap (λ s. s.out.ghost_name) (sym made) ∙ told.7 ∙ ran.3) in
     let side = c.in_ok-plan.ensures.ran.1 in
     rw lanes_is (record {
       course = course;
       notes = notes;
       planned = c.in_ok-plan.ensures.ran.2;
       handed = handed_search false cx.args course c.requires.search (record { searches = searched.searches; found = c.in_ok-plan.found.items; such = searched.say; steps = refl; end = searched.end; least = λ e. unended e });
-      ran = subst (λ (p : Option Partition). RunsAll g.L.Turns.did p plan handed (g.L.Turns.scene c.args.lanes.now) (g.L.Turns.scene last.caller.now)) (c.in_ok-plan.ensures.ran.3.0 ∙ ap (λ (a : Args). a.partition) c.args-2.ensures)
+      ran = subst (λ (p : Option Partition). RunsAll g.L.Turns.did p plan handed (g.L.Turns.scene c.args.lanes.now) (g.L.Turns.scene last.caller.now)) (c.in_ok-plan.ensures.ran.3.0 ∙ ap (λ (a : Args). a.partition) c.args-3.ensures)
           (subst (λ s. RunsAll g.L.Turns.did side.piece plan handed s (g.L.Turns.scene last.caller.now)) (ap g.L.Turns.scene (told.3 ∙ ap (λ s. s.caller.now) made ∙ c.new-starter.ensures.caller.1)) searched.whole.2);
     })
