@@ -13,3 +13,6 @@ returns-in-Some-clause-read g c =
       asked = λ _. asks_nothing (wants_rustup (names_of c.args.words.now)) (string_bytes c.args.env.now.rustup) (g.C.Caller.calls c.args.caller.now) early.0;
       read = early.1;
     }
+
+pub returns-in-Some-clause-course : goal.returns-in-Some-clause-course
+returns-in-Some-clause-course g c = g.C.Caller.course_none c.args.caller.now
