@@ -20,6 +20,9 @@ import sys
 import tempfile
 import time
 
+sys.dont_write_bytecode = True
+from small_workspace import write  # noqa: E402
+
 ROOT = pathlib.Path(__file__).resolve().parent.parent
 
 CARGO = """#!/bin/sh
@@ -198,12 +201,6 @@ else
     complete -D -F load
 fi
 """
-
-
-def write(path, text, mode=0o644):
-    path.parent.mkdir(parents=True, exist_ok=True)
-    path.write_text(text, "utf-8")
-    path.chmod(mode)
 
 
 def cases(room):

@@ -23,8 +23,10 @@ import tempfile
 from collections import namedtuple
 
 sys.dont_write_bytecode = True
-from lists_by_definition import LISTED, Asked, Plan, cleaning, last_line, refusal, under, version_of  # noqa: E402
-from random_workspace import Use, lay_out, metadata, random_words, random_workspace, told, write  # noqa: E402
+from killed_calls import tree  # noqa: E402
+from lists_by_definition import LISTED, Asked, Plan, cleaning, refusal, under, version_of  # noqa: E402
+from random_workspace import Use, lay_out, metadata, random_words, random_workspace, told  # noqa: E402
+from small_workspace import write  # noqa: E402
 
 FIND = "--find-rust-version"
 
@@ -66,8 +68,7 @@ class Tools:
         """How a call ends, and what it has the tools run. Some lines fail, and some numbers of commands; a number may have a
         line of the shell instead, which is run."""
         for tool in ("cargo", "rustup"):
-            write(f"{self.folder}/{tool}", self.text)
-            os.chmod(f"{self.folder}/{tool}", 0o755)
+            write(f"{self.folder}/{tool}", self.text, 0o755)
         does = [f"{number}:*) {what};;" for number, what in fails.numbers.items()]
         does += [f"*:{shlex.quote(line)}) exit 101;;" for line in sorted(fails.lines)]
         write(f"{self.folder}/fails", "\n".join(['case "$n:$*" in', *does, "esac", "exit 0", ""]))
@@ -95,14 +96,9 @@ class Fails:
         return number in self.numbers or line in self.lines
 
 
-def held(folder):
-    """What each file of a folder holds."""
-    files = {}
-    for place, _, names in os.walk(folder):
-        for name in names:
-            with open(os.path.join(place, name), "rb") as it:
-                files[os.path.join(place, name)] = it.read()
-    return files
+def asked_at(plan, rank):
+    """What the run at a place asks of its tool."""
+    return plan.own_line(rank).rstrip("\n").split(" ", 1)[1]
 
 
 # ---- A search, by its definition.
@@ -189,13 +185,10 @@ class Search:
         cleanings = self.plan.texts[rank].splitlines()[:-1]
         if cleanings and not self.clean(cleanings[0], self.passes):
             return False
-        words = self.words(rank)
+        words = asked_at(self.plan, rank)
         name = "" if self.is_verbose else f" on {self.plan.packages[self.plan.places[rank][2]]['name']}"
         self.say(f"running {self.shown('rustup', words)}{name} ({rank + 1}/{len(self.plan.places)})")
         return self.passes("rustup", words)
-
-    def words(self, rank):
-        return last_line(self.plan.texts[rank]).rstrip("\n").split(" ", 1)[1]
 
     def ranks(self, member, version):
         """The package's places at a version, in the order of the plan."""
@@ -238,7 +231,7 @@ class Search:
         name, text = package["name"], package["rust_version"]
         if failed is not None:
             at = self.plan.places[failed][0]
-            failure = f"on 1.{at} this fails: {self.shown('rustup', self.words(failed))}"
+            failure = f"on 1.{at} this fails: {self.shown('rustup', asked_at(self.plan, failed))}"
         if least is None:
             return [f"error: {name}: {failure}"]
         if failed is None:
@@ -246,8 +239,6 @@ class Search:
         else:
             first = f"info: {name}: 1.{least} is the least version of {self.range()} on which all runs pass; {failure}"
         own = version_of(text) if text else None
-        if own and (1, least) < own:
-            return [first, f"info: {name}: its rust-version is {text}, and all runs pass on 1.{least} too"]
         if own and failed is not None and own < (1, least) and own <= (1, at):
             return [first, f"warning: {name}: its rust-version is {text}, but not all runs pass on 1.{at}"]
         return [first]
@@ -260,7 +251,7 @@ class Search:
     def least_of_all(self, member):
         """The least version that passes, where the runs of the package fail below it alone; by looking at all."""
         uses = self.uses(member)
-        passes = [not any(self.words(rank) in self.fails.lines for rank in self.ranks(member, it)) for it in uses]
+        passes = [not any(asked_at(self.plan, rank) in self.fails.lines for rank in self.ranks(member, it)) for it in uses]
         is_cleaned = self.fails.numbers or any(it.startswith("clean ") for it in self.fails.lines)
         is_sure = not is_cleaned and passes == sorted(passes) and passes[-1]
         return uses[passes.index(True)] if is_sure else None
@@ -302,9 +293,9 @@ class Case:
     def fault(self, fails):
         """What is wrong with the search where these commands fail, if something is; and what it should be, and was."""
         root, stable = self.tools.workspace["root"], int("stable" in self.plan.asked.range)
-        files = held(root)
+        files = tree(root)
         ended, calls = self.tools.call(self.program, [FIND] + self.words, fails.behind(stable), self.environment)
-        if held(root) != files:
+        if tree(root) != files:
             return "the files aren't what they were", None, ended
         if self.plan.causes:
             return refusal(self.plan.causes, ended), None, ended
@@ -502,7 +493,7 @@ def fails_of(text, plan):
             for rank, place in enumerate(plan.places):
                 is_meant = place[0] < int(runs[3]) if runs[2] == "<" else place[0] == int(runs[3])
                 if is_meant and plan.packages[place[2]]["name"] == runs[1]:
-                    lines.add(last_line(plan.texts[rank]).rstrip("\n").split(" ", 1)[1])
+                    lines.add(asked_at(plan, rank))
         elif it[0].isdigit():
             number, _, what = it.partition(":")
             numbers[int(number)] = "kill -9 $$" if what == "killed" else "exit 101"
@@ -550,7 +541,7 @@ def gone_fault(program, row, folder):
     tools = Tools(small_workspace("p q" if "q/" in command else "p", f"{folder}/w"), f"{folder}/tools")
     numbers = {it - 1: what.replace("@", shlex.quote(tools.folder)) for it, what in numbers.items()}
     place = "1.60..=1.60" if "q/" in command else "1.60..=1.63"
-    files = held(f"{folder}/w")
+    files = tree(f"{folder}/w")
     asked = [FIND, "check", "--no-dev-deps", "--version-range", place, *words.split()]
     ended, _ = tools.call(program, asked, Fails((), numbers), {})
     wanted = ["info: cargo is chosen by CARGO_HACK_CARGO_SRC or CARGO, and rustup by CARGO_HACK_RUSTUP",
@@ -559,7 +550,7 @@ def gone_fault(program, row, folder):
         return f"status {ended.returncode}, {ended.stderr}\nwanted\n{readable(wanted)}"
     if re.search(r"fails: |pass ", ended.stderr):
         return f"it says what was found: {ended.stderr}"
-    return None if held(f"{folder}/w") == files else "the files aren't what they were"
+    return None if tree(f"{folder}/w") == files else "the files aren't what they were"
 
 
 # The arguments that a search excludes, in the order in which they are checked.
@@ -642,7 +633,7 @@ def random_fails(rng, plan):
             ranks = [rank for rank, it in enumerate(plan.places) if it[0] == version and it[2] == member]
             if version < least_passing if style == "below" else rng.random() < 0.4:
                 some = rng.sample(ranks, min(len(ranks), rng.choice([1, 1, 2])))
-                fails.lines |= {plan.own_line(rank).rstrip("\n").split(" ", 1)[1] for rank in some}
+                fails.lines |= {asked_at(plan, rank) for rank in some}
     if style == "number":
         fails = Fails((), [it for it in range(200) if rng.random() < 0.12])
     if rng.random() < 0.3:
