@@ -1,17 +1,17 @@
 -- What is found by what is known at the end.
-use Rattle.std.proofs.Common.{◌≡◌, ◌≤◌, ℕ, ◌+◌, ◌*◌, List, ◌++◌, length, get_or, inl, inr, arith, Bool, false, sym, subst, ap, ◌∙◌, ◌↔◌, ◌⊎◌, All, Option}
+use Rattle.std.proofs.Common.{◌≡◌, ◌≤◌, ℕ, ◌+◌, ◌*◌, List, ◌++◌, length, get_or, inl, inr, arith, Bool, false, sym, subst, ap, ◌∙◌, ◌↔◌, ◌⊎◌, All, IsTrue, Option}
 use Rattle.std.specs.Prelude.{AllPairs, Vec}
 use Rattle.std.proofs.lemmas.List.{length-append, length-map, get_or_default}
 use Rattle.std.proofs.lemmas.Bool.{cases_order}
 use Rattle.hack_conflicts.proofs.ShrinkLemmas.{passed-not-failed}
 use Rattle.hack_conflicts.specs.Sets.{IsWithin, HasInside, IsInside, AreApart, rows_of}
-use Rattle.hack_conflicts.specs.Rules.{IsChoice}
-use Rattle.hack_conflicts.specs.Runs.{Run, HasFailed, HasPassed, IsLeast, AreBlamed, IsUnfinished, IsNew, AreMonotone, IsDecided, IsIncomplete, Answers, IsMonotone, IsGreatest}
-use Rattle.hack_conflicts.specs.Internal.{IsSound, IsSettled, IsUnsettled, AreOthers, worth, told, conflicts_of, passing_of}
+use Rattle.hack_conflicts.specs.Rules.{IsChoice, IsPlain, size_of}
+use Rattle.hack_conflicts.specs.Runs.{Run, Finding, HasFailed, HasPassed, IsFinding, IsCourse, IsLeast, IsSpent, AreBlamed, AreWhole, IsUnfinished, IsNew, AreMonotone, IsDecided, IsIncomplete, Answers, IsMonotone, IsGreatest}
+use Rattle.hack_conflicts.specs.Internal.{IsSound, IsSettled, IsUnsettled, IsCutOff, IsGoing, IsSteady, AreOthers, worth, told, conflicts_of, passing_of}
 use Rattle.hack_conflicts.specs.declared.rules.Rules.{Rules}
 use Rattle.hack_conflicts.specs.declared.known.Known.{Known}
 use Rattle.hack_conflicts.specs.declared.tried.Outcome.TheVariants.{Passed, Failed}
-use Rattle.hack_conflicts.proofs.KnownLemmas.{each_of}
+use Rattle.hack_conflicts.proofs.KnownLemmas.{each_of, length-runs}
 use Rattle.hack_conflicts.proofs.GreatestLemmas.{all_passed, all_covered, all_apart, none_greater}
 use Rattle.hack_conflicts.proofs.EndLemmas.{decided_by, undecided_by, law}
 use Rattle.hack_conflicts.proofs.SearchLemmas.{one_more}
@@ -72,21 +72,6 @@ module _ (r : Rules) (most : Option ℕ) (k : Known) (runs : List Run) (conflict
       each_of (IsGreatest r builds) passing
       (none_greater r builds conflicts passing found_passing_apart (found_complete settled) (λ s choice inside. (found_law builds monotone answers settled s choice).1 inside))
 
--- as many runs as what is found accounts for
-pub found_few : (n : ℕ) (k : Known) (runs p x : ℕ) → runs ≤ worth n k → length k.passing.items ≤ p → x ≡ length k.conflicts.items → runs ≤ p + x * (2 * n + 1)
-found_few n k runs p x paid more same = rw same (omega arith)
-
-pub found_so_far : (n : ℕ) (k : Known) (runs p x : ℕ) → runs ≤ worth n k + (2 * n + 1) → length k.passing.items ≤ p → x ≡ length k.conflicts.items → runs ≤ p + (x + 1) * (2 * n + 1)
-found_so_far n k runs p x paid more same = rw (same, one_more (length k.conflicts.items) (2 * n)) (omega arith)
-
--- the first of two lists is no longer than both
-pub longer : {X Z : Type 0} (all first : List (Vec X Z)) (others : List (List X)) → rows_of all ≡ rows_of first ++ others → length first ≤ length all
-longer all first others e =
-    let both : length (rows_of all) ≡ length (rows_of first) + length others = ap length e ∙ length-append (rows_of first) others in
-    let a : length (rows_of all) ≡ length all = length-map all (λ l. l.items) in
-    let b : length (rows_of first) ≡ length first = length-map first (λ l. l.items) in
-    omega arith
-
 -- where no run is a foregone conclusion, no set that passed has one inside that failed
 pub monotone_runs : (runs : List Run) → AllPairs IsNew runs → AreMonotone runs
 monotone_runs runs fresh s t (i, li, si) (j, lj, tj) w =
@@ -97,3 +82,47 @@ monotone_runs runs fresh s t (i, li, si) (j, lj, tj) w =
       | inr (inl lt) ↦ (fresh i j d lt lj).failed (ap (λ (run : Run). run.outcome) si) (subst (λ u. IsWithin u (get_or runs j d).set) (ap (λ (run : Run). run.set) (sym si)) (subst (IsWithin s) (ap (λ (run : Run). run.set) (sym ti)) w))
       | inr (inr lt) ↦ (fresh j i d lt li).passed (ap (λ (run : Run). run.outcome) ti) (subst (λ u. IsWithin u (get_or runs j d).set) (ap (λ (run : Run). run.set) (sym si)) (subst (IsWithin s) (ap (λ (run : Run). run.set) (sym ti)) w))
     ]
+
+-- as many runs as what is found accounts for: a front of the passing sets is known
+fewer : (n : ℕ) (k : Known) (runs passing others : ℕ) → runs ≤ worth n k → passing ≡ length k.passing.items + others → runs ≤ passing + length k.conflicts.items * (2 * n + 1)
+fewer n k runs passing others paid long = omega arith
+
+fewer_so_far : (n : ℕ) (k : Known) (runs passing others : ℕ) → runs ≤ worth n k + (2 * n + 1) → passing ≡ length k.passing.items + others → runs ≤ passing + (length k.conflicts.items + 1) * (2 * n + 1)
+fewer_so_far n k runs passing others paid long = rw (one_more (length k.conflicts.items) (2 * n)) (omega arith)
+
+length-rows : {X Z : Type 0} (rows : List (Vec X Z)) → length (rows_of rows) ≡ length rows
+length-rows rows = length-map rows (λ row. row.items)
+
+-- what a search found, by what is known at its end
+pub is_finding : (r : Rules) (most : Option ℕ) (k : Known) (f : Finding) (complete : Bool) → IsSound r most k → IsFoundBy k f.runs f.conflicts f.passing → f.complete ≡ complete
+    → (IsPlain r → length k.runs.items ≤ worth (size_of r) k + (2 * size_of r + 1)) → IsGoing k → (complete ≡ false → IsCutOff r most k) → (IsTrue complete → IsSteady r 0 k)
+    → (IsTrue complete → (s : List Bool) → IsChoice r s → IsSettled k s) → IsFinding r most f
+is_finding r most k f complete sound found same owes going cut_off steady settled =
+    let n = size_of r in
+    let is_true : IsTrue f.complete → IsTrue complete = λ t. subst IsTrue same t in
+    let is_false : f.complete ≡ false → complete ≡ false = λ e. sym same ∙ e in
+    let runs : length f.runs ≡ length k.runs.items = ap length found.same_runs ∙ length-runs k.runs.items in
+    let conflicts : length f.conflicts ≡ length k.conflicts.items = ap length found.same_conflicts ∙ length-rows k.conflicts.items in
+    let passing : length f.passing ≡ length k.passing.items + length found.others =
+        ap length found.both ∙ length-append (passing_of k) found.others ∙ ap (λ m. m + length found.others) (length-rows k.passing.items) in
+    record {
+      course = subst (λ l. IsCourse r most l) (sym found.same_runs) sound.course;
+      whole = subst AreWhole (sym found.same_runs) going;
+      monotone = subst AreMonotone (sym found.same_runs) (monotone_runs (told k) sound.course.fresh);
+      failed = found_failed r most k f.runs f.conflicts f.passing sound found;
+      least = found_least r most k f.runs f.conflicts f.passing sound found;
+      conflicts_apart = found_conflicts_apart r most k f.runs f.conflicts f.passing sound found;
+      passed = found_passed r most k f.runs f.conflicts f.passing sound found;
+      covers = found_covers r most k f.runs f.conflicts f.passing sound found;
+      passing_apart = found_passing_apart r most k f.runs f.conflicts f.passing sound found;
+      decided = λ t. found_complete r most k f.runs f.conflicts f.passing sound found (settled (is_true t));
+      blamed = λ t. found_blamed r most k f.runs f.conflicts f.passing sound found (steady (is_true t)).blamed;
+      unfinished = λ e. found_unfinished r most k f.runs f.conflicts f.passing sound found (cut_off (is_false e)).blamed;
+      incomplete = λ e. found_incomplete r most k f.runs f.conflicts f.passing sound found (cut_off (is_false e)).unsettled;
+      spent = λ e. subst (IsSpent most) (sym runs) (cut_off (is_false e)).spent;
+      few = λ t plain.
+          rw (runs, conflicts) (fewer n k (length k.runs.items) (length f.passing) (length found.others) ((steady (is_true t)).paid plain) passing);
+      few_so_far = λ plain. rw (runs, conflicts) (fewer_so_far n k (length k.runs.items) (length f.passing) (length found.others) (owes plain) passing);
+      law = λ builds monotone answers t. found_law r most k f.runs f.conflicts f.passing sound found builds monotone answers (settled (is_true t));
+      greatest = λ builds monotone answers t. found_greatest r most k f.runs f.conflicts f.passing sound found builds monotone answers (settled (is_true t));
+    }

@@ -1,11 +1,12 @@
 -- Builds that were tried, and what is found by them.
-use Rattle.std.specs.Prelude.{◌≡◌, ◌≢◌, ◌≤◌, ℕ, List, map, length, Bool, cond, IsTrue, All, AllPairs, Contains, ◌⊎◌, Option, IfSome, MatchOption}
-use Rattle.hack_conflicts.specs.Sets.{Has, IsWithin, IsInside, HasInside}
-use Rattle.hack_conflicts.specs.Rules.{IsChoice}
+use Rattle.std.specs.Prelude.{◌≡◌, ◌≢◌, ◌≤◌, ◌+◌, ◌*◌, ◌↔◌, ℕ, List, map, length, Bool, false, cond, IsTrue, All, AllPairs, Contains, ◌⊎◌, Option, IfSome, MatchOption}
+use Rattle.hack_conflicts.specs.Sets.{Has, IsWithin, IsInside, HasInside, AreApart, rows_of}
+use Rattle.hack_conflicts.specs.Rules.{IsChoice, IsPlain, size_of}
 use Rattle.hack_conflicts.specs.declared.rules.Rules.{Rules}
 use Rattle.hack_conflicts.specs.declared.tried.Outcome.{Outcome}
 use Rattle.hack_conflicts.specs.declared.tried.Outcome.TheVariants.{Passed, Failed, Broken}
 use Rattle.hack_conflicts.specs.declared.tried.Tried.{Tried}
+use Rattle.hack_conflicts.specs.declared.found.Found.{Found}
 use Rattle.hack_conflicts.specs.declared.fault.SearchFault.{SearchFault}
 use Rattle.hack_conflicts.specs.declared.fault.SearchFault.TheVariants.{Memory, Broken as BrokenFault}
 
@@ -101,3 +102,51 @@ AreWhole runs = All (λ (run : Run). run.outcome ≢ Broken) runs
 abbrev pub IsFaultOf : List Run → SearchFault → Type 0
 IsFaultOf runs Memory = AreWhole runs
 IsFaultOf runs BrokenFault = (s : List Bool) × Contains runs (record { set = s; outcome = Broken })
+
+-- what a search found, as plain data
+pub record Finding : Type 0 where
+  pub runs : List Run
+  pub conflicts : List (List Bool)
+  pub passing : List (List Bool)
+  pub complete : Bool
+
+abbrev pub finding_of : Found → Finding
+finding_of f = record { runs = runs_in f.runs.items; conflicts = rows_of f.conflicts.items; passing = rows_of f.passing.items; complete = f.complete }
+
+-- What a search found, whatever the outcomes: its runs are of sets that may be chosen, none is a
+-- foregone conclusion or broken, they are at most as many as are allowed, and so no set that passed has
+-- one inside that failed. Each conflict failed, and each part of it that may be chosen lies inside a
+-- set that passed; each passing set passed, and each set that passed lies inside one; no conflict and
+-- no passing set lies inside another.
+-- Where the search is complete, each set that may be chosen has a conflict inside or lies inside a
+-- passing set, and each that failed has a conflict inside. Else some set isn't decided, all runs that
+-- are allowed were tried, and one set that failed may have been in the making.
+-- One run was tried for each passing set, and for each conflict one and two for each position; more only
+-- where a position enables two of an exclusion group. A search that isn't complete may have begun with
+-- one more conflict.
+-- Where the outcomes are those of a test by which of sets that may be chosen what lies inside one that
+-- builds builds, and the search is complete, such a set fails just where it has a conflict inside, and
+-- no greater set than a passing one builds.
+pub record IsFinding (r : Rules) (most : Option ℕ) (f : Finding) : Type 0 where
+  pub course : IsCourse r most f.runs
+  pub whole : AreWhole f.runs
+  pub monotone : AreMonotone f.runs
+  pub failed : All (HasFailed f.runs) f.conflicts
+  pub least : All (IsLeast r f.runs) f.conflicts
+  pub conflicts_apart : AllPairs AreApart f.conflicts
+  pub passed : All (HasPassed f.runs) f.passing
+  pub covers : (s : List Bool) → HasPassed f.runs s → IsInside f.passing s
+  pub passing_apart : AllPairs AreApart f.passing
+  pub decided : IsTrue f.complete → (s : List Bool) → IsChoice r s → IsDecided f.conflicts f.passing s
+  pub blamed : IsTrue f.complete → AreBlamed f.runs f.conflicts
+  pub unfinished : f.complete ≡ false → AreBlamed f.runs f.conflicts ⊎ IsUnfinished r f.runs f.conflicts
+  pub incomplete : f.complete ≡ false → IsIncomplete r f.conflicts f.passing
+  pub spent : f.complete ≡ false → IsSpent most (length f.runs)
+  pub few : IsTrue f.complete → IsPlain r
+      → length f.runs ≤ length f.passing + length f.conflicts * (2 * size_of r + 1)
+  pub few_so_far : IsPlain r
+      → length f.runs ≤ length f.passing + (length f.conflicts + 1) * (2 * size_of r + 1)
+  pub law : (builds : List Bool → Bool) → IsMonotone r builds → Answers builds f.runs → IsTrue f.complete
+      → (s : List Bool) → IsChoice r s → (builds s ≡ false) ↔ HasInside f.conflicts s
+  pub greatest : (builds : List Bool → Bool) → IsMonotone r builds → Answers builds f.runs → IsTrue f.complete
+      → All (IsGreatest r builds) f.passing

@@ -1,13 +1,10 @@
 //! Finds the least sets that fail and the greatest that pass.
 
-ghost use Rattle.std.specs.Prelude.{◌≡◌, ◌≢◌, ◌≤◌, ◌++◌, ◌+◌, ◌*◌, ◌↔◌, ◌⊎◌, List, Bool, true};
-ghost use Rattle.std.specs.Prelude.{false, IsTrue, IfOk, IfErr, All, AllPairs, length};
-ghost use Rattle.hack_conflicts.specs.Sets.{HasInside, IsInside, AreApart, rows_of};
+ghost use Rattle.std.specs.Prelude.{◌≡◌, ◌≤◌, ◌++◌, ◌+◌, ◌*◌, List, Bool, false, IsTrue, IfOk, IfErr};
+ghost use Rattle.std.specs.Prelude.{length};
+ghost use Rattle.hack_conflicts.specs.Sets.{rows_of};
 ghost use Rattle.hack_conflicts.specs.Rules.{IsPreorder, IsChoice, IsPlain, size_of};
-ghost use Rattle.hack_conflicts.specs.Runs.{Run, runs_in, HasFailed, HasPassed, IsCourse, IsLeast};
-ghost use Rattle.hack_conflicts.specs.Runs.{AreBlamed, IsUnfinished};
-ghost use Rattle.hack_conflicts.specs.Runs.{IsDecided, IsIncomplete, IsSpent, AreMonotone};
-ghost use Rattle.hack_conflicts.specs.Runs.{Answers, IsMonotone, IsGreatest, AreWhole, IsFaultOf};
+ghost use Rattle.hack_conflicts.specs.Runs.{Run, runs_in, IsCourse, IsFaultOf, IsFinding, finding_of};
 ghost use Rattle.hack_conflicts.specs.Internal.{IsSound, IsSteady, IsSettled, IsCutOff, IsGoing};
 ghost use Rattle.hack_conflicts.specs.Internal.{worth, told};
 ghost use Rattle.hack_conflicts.specs.Internal.{conflicts_of, passing_of, AreOthers};
@@ -111,75 +108,10 @@ pub fn find_conflicts<B: Builds>(
 ) -> Result<Found, SearchFault>
     requires { IsPreorder rules.now }
 
-    // The builds that were tried are those in `runs`, and none of them was broken. Each is of a set
-    // that may be chosen, and none is a foregone conclusion from those before. They are at most as
-    // many as are allowed.
+    // The builds that were tried are those in `runs`, and what was found is what they say.
     ensures ran { IfOk result (λ found.
-        B.ran (runs_in found.runs.items) builder.old builder.new) }
-    ensures course { IfOk result (λ found.
-        IsCourse rules.now most_runs (runs_in found.runs.items)) }
-    ensures whole { IfOk result (λ found.
-        AreWhole (runs_in found.runs.items)) }
-
-    // So no set that passed has one inside that failed, whatever the builder answers.
-    ensures monotone { IfOk result (λ found. AreMonotone (runs_in found.runs.items)) }
-
-    // Each conflict was tried and failed, and each part of it that may be chosen lies inside a set
-    // that was tried and passed. No conflict lies inside another.
-    ensures failed { IfOk result (λ found.
-        All (HasFailed (runs_in found.runs.items)) (rows_of found.conflicts.items)) }
-    ensures least { IfOk result (λ found.
-        All (IsLeast rules.now (runs_in found.runs.items)) (rows_of found.conflicts.items)) }
-    ensures conflicts_apart { IfOk result (λ found.
-        AllPairs AreApart (rows_of found.conflicts.items)) }
-
-    // Each passing set was tried and passed, and each set that passed lies inside one of them. No
-    // passing set lies inside another.
-    ensures passed { IfOk result (λ found.
-        All (HasPassed (runs_in found.runs.items)) (rows_of found.passing.items)) }
-    ensures covers { IfOk result (λ found. (s : List Bool)
-        → HasPassed (runs_in found.runs.items) s → IsInside (rows_of found.passing.items) s) }
-    ensures passing_apart { IfOk result (λ found.
-        AllPairs AreApart (rows_of found.passing.items)) }
-
-    // If the search is complete, each set that may be chosen has a conflict inside it or lies inside
-    // a passing set, and each set that failed has a conflict inside it. Else some set isn't decided,
-    // and all runs that are allowed were tried.
-    ensures complete { IfOk result (λ found. IsTrue found.complete → (s : List Bool)
-        → IsChoice rules.now s
-        → IsDecided (rows_of found.conflicts.items) (rows_of found.passing.items) s) }
-    ensures blamed { IfOk result (λ found. IsTrue found.complete
-        → AreBlamed (runs_in found.runs.items) (rows_of found.conflicts.items)) }
-    ensures unfinished { IfOk result (λ found. found.complete ≡ false
-        → AreBlamed (runs_in found.runs.items) (rows_of found.conflicts.items)
-        ⊎ IsUnfinished rules.now (runs_in found.runs.items) (rows_of found.conflicts.items)) }
-    ensures incomplete { IfOk result (λ found. found.complete ≡ false
-        → IsIncomplete rules.now (rows_of found.conflicts.items) (rows_of
-        found.passing.items)) }
-    ensures spent { IfOk result (λ found. found.complete ≡ false
-        → IsSpent most_runs (length found.runs.items)) }
-
-    // One build is tried for each passing set, and for each conflict one and two for each position;
-    // more only where a position enables two of an exclusion group. A search that isn't complete may
-    // have begun with one more conflict.
-    ensures few { IfOk result (λ found. IsTrue found.complete → IsPlain rules.now
-        → length found.runs.items ≤ length found.passing.items
-        + length found.conflicts.items * (2 * size_of rules.now + 1)) }
-    ensures few_so_far { IfOk result (λ found. IsPlain rules.now → length found.runs.items
-        ≤ length found.passing.items
-        + (length found.conflicts.items + 1) * (2 * size_of rules.now + 1)) }
-
-    // Where the outcomes are those of a test by which of sets that may be chosen what lies inside
-    // one that builds builds, and the search is complete, such a set fails just where it has a
-    // conflict inside it, and a passing set lies inside no greater one that builds.
-    ensures law { IfOk result (λ found. (builds : List Bool → Bool) → IsMonotone rules.now builds
-        → Answers builds (runs_in found.runs.items) → IsTrue found.complete → (s : List Bool)
-        → IsChoice rules.now s
-        → (builds s ≡ false) ↔ HasInside (rows_of found.conflicts.items) s) }
-    ensures greatest { IfOk result (λ found. (builds : List Bool → Bool)
-        → IsMonotone rules.now builds → Answers builds (runs_in found.runs.items)
-        → IsTrue found.complete
-        → All (IsGreatest rules.now builds) (rows_of found.passing.items)) }
+        B.ran (finding_of found).runs builder.old builder.new) }
+    ensures found { IfOk result (λ found. IsFinding rules.now most_runs (finding_of found)) }
 
     // After an error, too, no other builds were tried than such. The error is `Broken` just if one
     // was broken, after which none was tried.

@@ -1,4 +1,3 @@
-pub mod Ends
 pub mod Trials
 pub mod Searches
 pub mod Internal

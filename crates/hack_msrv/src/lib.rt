@@ -7,7 +7,6 @@
 #![tactic(auto)]
 
 pub mod found;
-pub mod judge;
 mod package;
 pub mod search;
 pub mod trial;

@@ -6,11 +6,11 @@ ghost use Rattle.hack_msrv.specs.Searches.{IsFound, outcome_of, uses_of};
 ghost use Rattle.hack_msrv.specs.Trials.{AreTrials, Trial};
 
 use crate::found::Found;
-use crate::judge::Judge;
 use crate::trial::{Came, try_version};
 use hack_bisect::{Least, Outcome, Tries, find_least};
 use hack_plan::parts::PlanVersion;
 use hack_plan::plan::Plan;
+use hack_side::judge::Judge;
 
 /// Searches for the least version of a package. Nothing is run where it uses no version.
 pub(crate) fn find_version<R: Judge>(

@@ -6,10 +6,10 @@ ghost use Rattle.hack_msrv.specs.Internal.{AreSearched};
 ghost use Rattle.hack_msrv.specs.Searches.{IsEnd, IsSearched, uses_of};
 
 use crate::found::Found;
-use crate::judge::Judge;
 use crate::package::find_version;
 use crate::uses::all_uses;
 use hack_plan::plan::Plan;
+use hack_side::judge::Judge;
 use std::alloc::{AllocError, Global};
 
 /// Searches for the least version of each package of the plan, one after another, and returns what

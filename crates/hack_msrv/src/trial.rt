@@ -7,11 +7,11 @@ ghost use Rattle.hack_session.specs.declared.step.Handed.{Handed};
 ghost use Rattle.hack_msrv.specs.Trials.{ComesTo, StopsAt, failed_step, places_of, trial_steps};
 ghost use Rattle.hack_msrv.specs.Trials.{is_of as of_package};
 
-use crate::judge::Judge;
 use crate::uses::is_of;
 use hack_plan::parts::{PlanVersion, Preparation};
 use hack_plan::plan::Plan;
 use hack_session::session::{Outcome, Runner, Step};
+use hack_side::judge::Judge;
 
 /// What came of a trial.
 #[derive(Clone, Copy, Debug, PartialEq, Eq)]

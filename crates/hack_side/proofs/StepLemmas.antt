@@ -1,21 +1,25 @@
 -- A step with its turn.
-use Rattle.std.proofs.Common.{◌≡◌, Bool, List, [], Option, None, refl, sym, ◌∙◌, ap, subst}
+use Rattle.std.proofs.Common.{◌≡◌, List, [], None, refl, sym, ◌∙◌, ap, subst}
 use Rattle.hack_process.specs.Calls.{Call}
-use Rattle.hack_plan.specs.declared.partition.Partition.{Partition}
 use Rattle.hack_plan.specs.View.{PlanView}
-use Rattle.hack_session.specs.declared.step.Step.{Step}
 use Rattle.hack_session.specs.declared.step.Handed.{Handed}
-use Rattle.hack_session.specs.StepEffects.{DoesAll, State as Seen}
-use Rattle.hack_session.specs.StepOutput.{Manner}
+use Rattle.hack_session.specs.declared.starter.Starter.{Starter}
+use Rattle.hack_session.specs.StepEffects.{DoesAll, State as Seen, state}
+use Rattle.hack_session.specs.StepOutput.{manner_of, streams}
+use Rattle.hack_base.specs.declared.writes.Sink.{Ghosts as Taking}
 use Rattle.hack_starts.specs.Events.{Event}
 use Rattle.hack_lanes.specs.Lanes.{State, Turn, Follows, Scene, Goes}
-use Rattle.hack_side.specs.Turns.{IsAtTurn, IsTurnFor, RunsStep}
+use Rattle.hack_side.specs.Turns.{IsAtTurn, RunsAt}
+
+-- the state of a starter after these calls
+abbrev pub state_by : {C O E : Type 0} → Taking O → Taking E → List Call → Starter C O E → Seen
+state_by o e calls s = state calls (streams o.contents o.failed e.contents e.failed s.out.now s.err.now) s.fault.now s.term.now.error s.refused
 
 -- a turn was given, something happened at it, and it was taken back
-pub ran_step : {S : Type 0} (did : List Event → S → S → Type 0) (piece : Option Partition) (plan : PlanView) (step : Step) (old given came new : Scene S)
-    → IsAtTurn old given → IsTurnFor piece plan step given.turn → ((told : List Call) × Goes did told given came)
-    → new ≡ record came { turn = record { place = None; offers = []; width = came.turn.width } } → RunsStep did piece plan step old new
-ran_step {S} did piece plan step old given came new at fits went taken = record {
+pub ran_step : {S : Type 0} (did : List Event → S → S → Type 0) (Fits : Turn → Type 0) (old given came new : Scene S)
+    → IsAtTurn old given → Fits given.turn → ((told : List Call) × Goes did told given came)
+    → new ≡ record came { turn = record { place = None; offers = []; width = came.turn.width } } → RunsAt did Fits old new
+ran_step {S} did Fits old given came new at fits went taken = record {
   turn = given.turn;
   fits = fits;
   width = at.1;
@@ -30,7 +34,13 @@ ran_step {S} did piece plan step old given came new at fits went taken = record 
   kept = ap (λ (s : Scene S). s.turn.width) taken ∙ ap (λ (t : Turn). t.width) went.1.turn ∙ at.1;
 }
 
--- the same calls by other names
-pub does_at : (tells : Type 0) (keep_going : Bool) (m : Manner) (plan : PlanView) (steps : List Handed) (a b c d : Seen) → a ≡ c → b ≡ d → DoesAll tells keep_going m plan steps a b → DoesAll tells keep_going m plan steps c d
-does_at tells keep_going m plan steps a b c d e f h =
-    subst (λ (s : Seen). DoesAll tells keep_going m plan steps s d) e (subst (λ (s : Seen). DoesAll tells keep_going m plan steps a s) f h)
+-- steps at a turn made no other calls than the steps
+pub does_turned : {C O E : Type 0} (tells : Type 0) (calls : C → List Call) (o : Taking O) (e : Taking E) (plan : PlanView) (steps : List Handed) (old new : Starter C O E) (given left : C)
+    → calls given ≡ calls old.caller.now → calls left ≡ calls new.caller.now
+    → DoesAll tells old.keep_going (manner_of old.log_group old.term.now) plan steps (state_by o e (calls given) old) (state_by o e (calls new.caller.now) new)
+    → DoesAll tells old.keep_going (manner_of old.log_group old.term.now) plan steps (state_by o e (calls old.caller.now) old) (state_by o e (calls left) new)
+does_turned {C} tells calls o e plan steps old new given left at_first at_last h =
+    let keep = old.keep_going in
+    let m = manner_of old.log_group old.term.now in
+    subst (λ (l : List Call). DoesAll tells keep m plan steps (state_by o e l old) (state_by o e (calls left) new)) at_first
+    (subst (λ (l : List Call). DoesAll tells keep m plan steps (state_by o e (calls given) old) (state_by o e l new)) (sym at_last) h)

@@ -1,3 +1,4 @@
 pub mod Turns
 pub mod Beside
 pub mod JoinedRuns
+pub mod Ends

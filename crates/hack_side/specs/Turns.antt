@@ -45,16 +45,25 @@ IsTurnFor piece plan step turn = IsSerial turn
 abbrev pub IsAtTurn : {S : Type 0} → Scene S → Scene S → Type 0
 IsAtTurn old new = (new ≡ record old { turn = new.turn }) × (new.turn.width ≡ old.turn.width)
 
--- at its turn a step did something by the rules of lanes
-pub record RunsStep {S : Type 0} (did : List Event → S → S → Type 0) (piece : Option Partition) (plan : PlanView) (step : Step) (old new : Scene S) : Type 0 where
+-- at a turn that fits something was done by the rules of lanes
+pub record RunsAt {S : Type 0} (did : List Event → S → S → Type 0) (Fits : Turn → Type 0) (old new : Scene S) : Type 0 where
   pub turn : Turn
-  pub fits : IsTurnFor piece plan step turn
+  pub fits : Fits turn
   pub width : turn.width ≡ old.turn.width
   pub told : List Call
   pub goes : Goes did told (record old { turn = turn }) (record new { turn = turn })
   pub kept : new.turn.width ≡ old.turn.width
 
+-- a step did something at its turn
+abbrev pub RunsStep : {S : Type 0} → (List Event → S → S → Type 0) → Option Partition → PlanView → Step → Scene S → Scene S → Type 0
+RunsStep did piece plan step old new = RunsAt did (IsTurnFor piece plan step) old new
+
 -- these steps did so, one after the other
 abbrev pub RunsAll : {S : Type 0} → (List Event → S → S → Type 0) → Option Partition → PlanView → List Handed → Scene S → Scene S → Type 0
 RunsAll did piece plan [] old new = new ≡ old
 RunsAll {S} did piece plan (h ∷ hs) old new = (mid : Scene S) × RunsStep did piece plan h.step old mid × RunsAll did piece plan hs mid new
+
+-- these steps did something, one after the other, and nothing was started ahead
+abbrev pub RunsSerially : {S : Type 0} → (List Event → S → S → Type 0) → List Handed → Scene S → Scene S → Type 0
+RunsSerially did [] old new = new ≡ old
+RunsSerially {S} did (h ∷ hs) old new = (mid : Scene S) × RunsAt did IsSerial old mid × RunsSerially did hs mid new

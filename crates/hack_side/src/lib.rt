@@ -2,5 +2,7 @@
 //! runs are started ahead of their turn.
 #![tactic(auto)]
 
+pub mod judge;
 mod offers;
+pub mod serial;
 pub mod side;

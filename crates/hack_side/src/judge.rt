@@ -1,13 +1,13 @@
 //! Who says whether a search may go on after a run failed.
 
 ghost use Rattle.std.specs.Prelude.{◌≡◌, Bool};
-ghost use Rattle.hack_msrv.specs.Ends.{has_ended, is_end as ends};
+ghost use Rattle.hack_side.specs.Ends.{has_ended, is_end as ends};
 
+use crate::serial::Serial;
 use hack_base::writes::Sink;
 use hack_lanes::turns::Turns;
 use hack_process::process::{Caller, ProcessFault};
 use hack_session::session::{Runner, Starter};
-use hack_side::side::Side;
 
 /// A runner that says whether a failed run is one of its package, so that a search may go on.
 pub trait Judge: Runner {
@@ -28,7 +28,7 @@ impl<C: Caller, O: Sink, E: Sink> Judge for Starter<'_, C, O, E> {
     }
 }
 
-impl<L: Turns, O: Sink, E: Sink> Judge for Side<'_, L, O, E> {
+impl<L: Turns, O: Sink, E: Sink> Judge for Serial<'_, L, O, E> {
     ghost ended = { λ a. has_ended a.starter.fault.now a.starter.refused };
 
     fn has_ended(&self) -> bool {
