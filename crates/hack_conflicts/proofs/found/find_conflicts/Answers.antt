@@ -13,5 +13,5 @@ returns-clause-found g c =
     let searched = c.in_ok-complete.ensures in
     let concluded = c.in_ok-conclude.ensures in
     let passing = concluded.passing in
-    is_finding c.args.rules.now c.args.most_runs c.search.new.known (finding_of c.in_ok-conclude.field-0) c.in_ok-complete.field-0 searched.sound
+    is_finding c.args.rules.now c.args.most_runs c.search.new.known (finding_of c.in_ok-conclude.field-0) c.in_ok-complete.complete searched.sound
     (record { others = passing.0; same_runs = concluded.runs; same_conflicts = concluded.conflicts; both = passing.1; rest = passing.2 }) concluded.complete searched.owes searched.going searched.cut_off searched.steady searched.settled
