@@ -104,7 +104,7 @@ is_finding r most k f complete sound found same owes going cut_off steady settle
     let runs : length f.runs ≡ length k.runs.items = ap length found.same_runs ∙ length-runs k.runs.items in
     let conflicts : length f.conflicts ≡ length k.conflicts.items = ap length found.same_conflicts ∙ length-rows k.conflicts.items in
     let passing : length f.passing ≡ length k.passing.items + length found.others =
-        ap length found.both ∙ length-append (passing_of k) found.others ∙ ap (λ m. m + length found.others) (length-rows k.passing.items) in
+    ap length found.both ∙ length-append (passing_of k) found.others ∙ ap (λ m. m + length found.others) (length-rows k.passing.items) in
     record {
       course = subst (λ l. IsCourse r most l) (sym found.same_runs) sound.course;
       whole = subst AreWhole (sym found.same_runs) going;

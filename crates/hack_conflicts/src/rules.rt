@@ -4,6 +4,7 @@ ghost use Rattle.std.specs.Prelude.{◌≡◌, ◌<◌, ◌≤◌, ◌↔◌, �
 ghost use Rattle.std.specs.Prelude.{MatchOption};
 ghost use Rattle.hack_conflicts.specs.Sets.{rows_of, Has, IsWithin};
 ghost use Rattle.hack_conflicts.specs.Rules.{Meets, IsRequired, IsExclusive, IsPreorder, IsClosed};
+ghost use Rattle.hack_conflicts.specs.Rules.{IsChoice};
 ghost use Rattle.hack_conflicts.specs.Rules.{enables, row_of, size_of, HasAbove, HasOneOf};
 ghost use Rattle.hack_conflicts.specs.Internal.{IsWithout, Clashes};
 
@@ -160,6 +161,33 @@ impl Rules {
             left = self.without(alloc, left.as_slice(), x)?;
         }
         Ok(left)
+    }
+
+    /// Whether `p` is a position, and the set has all that it enables.
+    fn keeps(&self, set: &[bool], p: usize) -> bool
+        ensures { IsTrue result
+            ↔ ((p < size_of self.now) × IsWithin (row_of self.now p) set.now) }
+    {
+        p < self.enables.len() && is_within(set_at(self.enables.as_slice(), p), set)
+    }
+
+    /// Whether each member of the set is a position, and the set has all that its members enable.
+    fn is_closed(&self, set: &[bool]) -> bool
+        ensures { IsTrue result ↔ IsClosed self.now set.now }
+    {
+        for p in 0..set.len() {
+            if has(set, p) && !self.keeps(set, p) {
+                return false;
+            }
+        }
+        true
+    }
+
+    /// Whether the set may be chosen.
+    pub fn is_choice(&self, set: &[bool]) -> bool
+        ensures { IsTrue result ↔ IsChoice self.now set.now }
+    {
+        self.is_closed(set) && self.clash(set).is_none() && self.is_required(set)
     }
 
     /// Whether `y`, where `x` enables it, is a position, and what it enables `x` enables too.

@@ -1,8 +1,11 @@
 -- What a starter's steps do, whatever its caller's course.
-use Rattle.std.specs.Prelude.{◌≡◌, List, [], ◌++◌}
+use Rattle.std.specs.Prelude.{◌≡◌, List, [], ◌++◌, true}
 use Rattle.std.proofs.Common.{refl, ◌∙◌}
 use Rattle.hack_process.specs.Calls.{Call}
+use Rattle.hack_plan.specs.Growth.{IsGrown}
+use Rattle.hack_plan.specs.Plans.{AreRunsOfPackages}
 use Rattle.hack_plan.specs.View.{PlanView}
+use Rattle.hack_session.specs.GrownSteps.{AreRuns, done_grown}
 use Rattle.hack_session.specs.declared.step.Handed.{Handed}
 use Rattle.hack_session.specs.declared.starter.Starter.{Starter}
 use Rattle.hack_session.specs.StepEffects.{DoesAll, state}
@@ -40,4 +43,21 @@ does_more tells calls o e plan steps more a b c p q = (
       (state (calls b.caller.now) (streams o.contents o.failed e.contents e.failed b.out.now b.err.now) b.fault.now b.term.now.error b.refused)
       (state (calls c.caller.now) (streams o.contents o.failed e.contents e.failed c.out.now c.err.now) c.fault.now c.term.now.error c.refused)
       p.5 (manner_stays a.log_group b.log_group a.term.now b.term.now p.6 p.7) p.8 q.8,
+)
+
+-- what runs did on a plan that grows they did on what it has become
+pub does_grown : {C O E : Type 0} (tells : Type 0) (calls : C → List Call) (o : Taking O) (e : Taking E) (old new : PlanView) (steps : List Handed) (a b : Starter C O E)
+    → IsGrown old new → old.call.grows ≡ true → AreRunsOfPackages old.packages old.entries → AreRuns steps → DoesSteps tells calls o e old steps a b → DoesSteps tells calls o e new steps a b
+does_grown tells calls o e old new steps a b grown grows runs are p = (
+  p.0,
+  p.1,
+  p.2,
+  p.3,
+  p.4,
+  p.5,
+  p.6,
+  p.7,
+  done_grown old new grown grows tells a.keep_going (manner_of a.log_group a.term.now) runs steps
+      (state (calls a.caller.now) (streams o.contents o.failed e.contents e.failed a.out.now a.err.now) a.fault.now a.term.now.error a.refused)
+      (state (calls b.caller.now) (streams o.contents o.failed e.contents e.failed b.out.now b.err.now) b.fault.now b.term.now.error b.refused) are p.8,
 )
