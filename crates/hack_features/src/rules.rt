@@ -15,6 +15,7 @@ ghost use Rattle.hack_features.specs.declared.reach.Edges.TheVariants.{Enabling}
 
 use crate::cover::first_cover;
 use crate::feature::Feature;
+use crate::marks::row_at;
 use crate::members::count_members;
 use crate::placed::Placed;
 use crate::questions::{Limits, Questions};
@@ -229,10 +230,7 @@ impl<'a> Rules<'a> {
         ensures { IsTrue result ↔ CandidateReaches (choice_of self.now)
             (slice_index_or (choice_of self.now).exclusive group []) candidate }
     {
-        match self.tables.hits.get(group) {
-            Some(row) => count(row.as_slice(), candidate) > 0,
-            None => false,
-        }
+        count(row_at(self.tables.hits.as_slice(), group), candidate) > 0
     }
 
     /// Whether no exclusion group is reached by two names of the candidate.

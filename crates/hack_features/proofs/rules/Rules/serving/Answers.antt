@@ -1,4 +1,4 @@
-use Rattle.std.proofs.Common.{sym, subst, List, Bool, ◌↔◌, IsTrue}
+use Rattle.std.proofs.Common.{sym, subst, ◌↔◌, IsTrue}
 use Rattle.hack_samples.specs.Sets.{rows_of}
 use Rattle.hack_features.specs.Rules.{IsRequired}
 use Rattle.hack_features.specs.Tables.{is_required}
