@@ -13,15 +13,15 @@ use Rattle.hack_base.proofs.Members.{Contains-nil, Contains-cons_cases, Contains
 use Rattle.hack_base.proofs.NameLemmas.{same_text, differ}
 use Rattle.hack_features.proofs.ReachLemmas.{all_targets, adds-one, adds-there, adds-target, adds-no_target, adds-no_targets, adds-edges, Searching, searching-start, searching-next, searching-bound, searching-end}
 use Rattle.hack_base.specs.Names.{Name}
-use Rattle.hack_features.specs.FeatureMap.{FeatureMap, values_at, IsKey, Chain, Enables, EnablesOneOf}
+use Rattle.hack_features.specs.FeatureMap.{FeatureMap, values_at, IsKey, Chain, Enables, EnablesOneOf, Reaches}
 use Rattle.hack_features.specs.Search.{edge_of}
 use Rattle.hack_features.specs.InternalSearch.{target_of, IsTarget, Adds, IsReach}
 use Rattle.hack_features.specs.Places.{name_at, AreAt, AreAllAt, AreRoutes, ArePlaced}
 use Rattle.hack_features.specs.Sets.{Pairwise}
-use Rattle.hack_features.specs.Rules.{Choice, names_at, names_in, SparesNames, NotBothReach, Serves}
-use Rattle.hack_features.specs.Tables.{AreTables, is_exclusive, is_required, cell, bit, leads}
+use Rattle.hack_features.specs.Rules.{Choice, names_at, names_in, SparesNames, NotBothReach, Serves, CandidateReaches}
+use Rattle.hack_features.specs.Tables.{AreTables, is_exclusive, is_required, cell, bit, count_at, leads}
 use Rattle.hack_features.specs.declared.reach.Edges.{Edges}
-use Rattle.hack_features.specs.declared.reach.Edges.TheVariants.{Enabling}
+use Rattle.hack_features.specs.declared.reach.Edges.TheVariants.{Enabling, Reaching}
 
 -- P holds, or it doesn't
 abbrev pub Told : Type 0 → Type 0
@@ -155,6 +155,10 @@ serves_told : (c : Choice) (group : List Name) (s : List ℕ) → Told (Serves c
 serves_told c group s =
     among_told (λ x. EnablesOneOf c.map group x) (λ x. enables_one_told c.map group x) (names_in c s)
 
+pub reaches_told : (c : Choice) (group : List Name) (p : ℕ) → Told (CandidateReaches c group p)
+reaches_told c group p =
+    among_told (λ x. Reaches c.map group x) (λ x. among_told (λ y. Chain (edge_of Reaching c.map) x y) (λ y. chain_told Reaching c.map x y) group) (names_at c p)
+
 -- ---- what is only known to hold
 
 never : IsProp ⊥
@@ -239,5 +243,10 @@ are_tables c spares hits serves h = record {
   required = λ s sel. (
     λ t k d lt key can. had (serves_told c (get_or c.at_least_one_of k d) s) (∥∥₁_map h (λ a. (a.required s sel).0 t k d lt key can)),
     λ r. had_true (is_required serves s) (∥∥₁_map h (λ a. (a.required s sel).1 r)),
+  );
+  groups = had (number_told (length hits) (length c.exclusive)) (∥∥₁_map h (λ a. a.groups));
+  reached = λ k p lk lp. (
+    λ lt. had (reaches_told c (get_or c.exclusive k []) p) (∥∥₁_map h (λ a. (a.reached k p lk lp).0 lt)),
+    λ r. had (low_told 0 (count_at (get_or hits k []) p)) (∥∥₁_map h (λ a. (a.reached k p lk lp).1 r)),
   );
 }

@@ -1,14 +1,15 @@
 -- What the entries of the tables say of the rules.
-use Rattle.std.proofs.Common.{◌≡◌, ◌≢◌, ℕ, zero, suc, ◌+◌, ◌<◌, ◌≤◌, List, [], ◌∷◌, ◌++◌, length, get_or, refl, sym, ◌∙◌, ap, subst, arith, flat_map, Option, Some, None, Bool, true, false, cond, ◌⊎◌, inl, inr, ◌↔◌, IsTrue, All, Contains, append_assoc, append-nil, take, length-take, map, eqb-true}
+use Rattle.std.proofs.Common.{◌≡◌, ◌≢◌, ℕ, zero, suc, ◌+◌, ◌<◌, ◌≤◌, List, [], ◌∷◌, ◌++◌, length, get_or, refl, sym, ◌∙◌, ap, subst, arith, flat_map, Option, Some, None, Bool, true, false, cond, ◌⊎◌, inl, inr, ◌↔◌, IsTrue, All, Contains, append_assoc, append-nil, take, length-take, length-append, map, eqb-true}
 use Rattle.std.specs.Prelude.{sum_by, not, nat_le, ◌==◌, ◌||◌, ◌&&◌}
 use Rattle.std.specs.List.{list_all, list_any, filter_map, cons_option}
-use Rattle.std.proofs.lemmas.List.{map-append, get_or_default, take_more}
+use Rattle.std.proofs.lemmas.List.{map-append, get_or_default, get_or_push, take_more}
+use Rattle.std.proofs.Math.ListN.{get_or-append}
 use Rattle.hack_features.proofs.MarkLemmas.{nil_from}
-use Rattle.std.proofs.lemmas.Bool.{leb-true, le-leb, and_cases, and_parts, and_from, or_cases}
+use Rattle.std.proofs.lemmas.Bool.{leb-true, le-leb, and_cases, and_parts, and_from, or_cases, cases_eq}
 use Rattle.std.proofs.lemmas.Bool.Decides.{eqb_tells}
 use Rattle.std.proofs.lemmas.List.Sums.{sum_by-cons}
 use Rattle.std.proofs.lemmas.List.Elements.{All-contains, All-head, All-tail, All-nil, All-cons, All-append, Contains-get_or, Contains-push, Contains-push_cases, Contains-append_left}
-use Rattle.hack_base.proofs.Members.{Contains-nil, Contains-cons_cases, Contains-head, Contains-tail, Contains-map, Contains-map_from}
+use Rattle.hack_base.proofs.Members.{Contains-nil, Contains-cons_cases, Contains-head, Contains-tail, Contains-map, Contains-map_from, lt_or_same}
 use Rattle.hack_base.proofs.Passes.{all_pass, each_passes, some_passes, any_passes}
 use Rattle.hack_features.proofs.Coverage.{named_in}
 use Rattle.hack_features.proofs.Single.{member_of}
@@ -20,7 +21,7 @@ use Rattle.hack_features.specs.Places.{name_at, AreAt, AreRoutes, ArePlaced}
 use Rattle.hack_features.specs.declared.reach.Edges.{Edges}
 use Rattle.hack_features.specs.declared.reach.Edges.TheVariants.{Enabling, Reaching}
 use Rattle.hack_features.specs.Sets.{IsSelection, Pairwise}
-use Rattle.hack_features.specs.Rules.{Choice, unlifted_groups, names_at, names_in, SparesNames, Spares, IsRedundant, NotBothReach, IsExclusive, Serves, IsRequired}
+use Rattle.hack_features.specs.Rules.{Choice, unlifted_groups, names_at, names_in, SparesNames, Spares, IsRedundant, NotBothReach, IsExclusive, Serves, IsRequired, CandidateReaches}
 use Rattle.hack_features.specs.Tables.{bit, count_at, cell, is_lean, is_exclusive, is_required, leads}
 use Rattle.hack_features.specs.InternalTables.{spares_test, serves_test, Counts, Matched, CountsHits, SaysServers, RowsServe}
 use Rattle.hack_features.specs.InternalTables as table
@@ -261,6 +262,25 @@ matched_right {R} (table.next {xs} {ys} {x} {y} h r) z c =
       | inr e ↦ (x, Contains-push xs x, subst (λ u. R x u) e r)
     ]
 
+matched_count : {X Y : Type 0} {R : X → Y → Type 0} {xs : List X} {ys : List Y} → Matched R xs ys → length ys ≡ length xs
+matched_count table.nothing = refl
+matched_count (table.next {xs} {ys} {x} {y} h r) =
+    let e = matched_count h in omega (arith, length-append ys (y ∷ []), length-append xs (x ∷ []))
+
+matched_at-by : {X Y : Type 0} (R : X → Y → Type 0) (xs : List X) (ys : List Y) (x : X) (y : Y) (d : X) (f : Y) (k : ℕ) → length ys ≡ length xs → (k < length xs) ⊎ (k ≡ length xs) → R x y → (k < length xs → R (get_or xs k d) (get_or ys k f))
+    → R (get_or (xs ++ x ∷ []) k d) (get_or (ys ++ y ∷ []) k f)
+matched_at-by R xs ys x y d f k same (inl lt) r before =
+    subst (λ u. R u (get_or (ys ++ y ∷ []) k f)) (sym (get_or-append xs (x ∷ []) d k lt))
+    (subst (R (get_or xs k d)) (sym (get_or-append ys (y ∷ []) f k (omega arith))) (before lt))
+matched_at-by R xs ys x y d f k same (inr e) r before =
+    subst (λ u. R u (get_or (ys ++ y ∷ []) k f)) (sym (get_or_push xs x d k (sym e)))
+    (subst (R x) (sym (get_or_push ys y f k (omega arith))) r)
+
+matched_at : {X Y : Type 0} {R : X → Y → Type 0} {xs : List X} {ys : List Y} → Matched R xs ys → (d : X) (f : Y) (k : ℕ) → k < length xs → R (get_or xs k d) (get_or ys k f)
+matched_at table.nothing d f k lt = absurd (omega arith)
+matched_at {R} (table.next {xs} {ys} {x} {y} h r) d f k lt =
+    matched_at-by R xs ys x y d f k (matched_count h) (lt_or_same k (length xs) (omega (arith, lt, length-append xs (x ∷ [])))) r (matched_at h d f k)
+
 -- exclusion
 
 few_or_many : (n : ℕ) (b : Bool) → nat_le n 1 ≡ b → (n ≤ 1) ⊎ (2 ≤ n)
@@ -284,6 +304,20 @@ exclusive_iff c rows h s sel =
             | inr many ↦ absurd (counts_many (counted group.0 row group.2) many
                 (All-contains (λ g. Pairwise (NotBothReach c.map g) (names_in c s)) c.exclusive group.0 e group.1))
           ]),
+    )
+
+-- there is a row for each exclusion group
+pub groups_of_hits : (c : Choice) (rows : List (List ℕ)) → Matched (CountsHits c.map c.candidates) c.exclusive rows → length rows ≡ length c.exclusive
+groups_of_hits c rows h = matched_count h
+
+-- a count isn't 0 where the candidate reaches the group
+pub reached_iff : (c : Choice) (rows : List (List ℕ)) → Matched (CountsHits c.map c.candidates) c.exclusive rows → (k p : ℕ) → k < length c.exclusive → p < length c.candidates
+    → (0 < count_at (get_or rows k []) p) ↔ CandidateReaches c (get_or c.exclusive k []) p
+reached_iff c rows h k p lk lp =
+    let n : ℕ = count_at (get_or rows k []) p in
+    let counts = matched_at h [] [] k lk p lp in (
+      λ lt. counts_some counts lt,
+      λ r. elim (cases_eq n 0) [ inl e ↦ absurd (counts_none counts e r.0 r.1 r.2) | inr ne ↦ (let other : n ≢ 0 = ne in omega arith) ],
     )
 
 -- what is counted of places is counted of their names

@@ -56,6 +56,10 @@ NotBothReach m group x y = Reaches m group x → Reaches m group y → ⊥
 abbrev pub IsExclusive : Choice → List ℕ → Type 0
 IsExclusive c s = All (λ group. Pairwise (NotBothReach c.map group) (names_in c s)) c.exclusive
 
+-- the candidate at p reaches the group: some name of it does
+abbrev pub CandidateReaches : Choice → List Name → ℕ → Type 0
+CandidateReaches c group p = (name : Name) × Contains (names_at c p) name × Reaches c.map group name
+
 -- some name of the set is a key that enables a name of the group
 abbrev pub Serves : Choice → List Name → List ℕ → Type 0
 Serves c group s = (name : Name) × Contains (names_in c s) name × EnablesOneOf c.map group name

@@ -1,8 +1,8 @@
 -- What tables answer on sets, entry by entry.
-use Rattle.std.specs.Prelude.{◌<◌, ℕ, List, [], Bool, false, true, not, nat_le, sum_by, length, Option, None, Some, IsTrue, ◌↔◌, ◌||◌, ◌==◌}
+use Rattle.std.specs.Prelude.{◌≡◌, ◌<◌, ℕ, List, [], Bool, false, true, not, nat_le, sum_by, length, Option, None, Some, IsTrue, ◌↔◌, ◌||◌, ◌==◌}
 use Rattle.std.specs.List.{slice_index_or, list_all, list_any}
 use Rattle.hack_features.specs.Sets.{IsSelection}
-use Rattle.hack_features.specs.Rules.{Choice, Spares, IsExclusive, IsRequired}
+use Rattle.hack_features.specs.Rules.{Choice, Spares, IsExclusive, IsRequired, CandidateReaches}
 
 -- the entry of a row, false past its end
 abbrev pub bit : List Bool → ℕ → Bool
@@ -42,3 +42,5 @@ pub record AreTables (c : Choice) (spares : List (List Bool)) (hits : List (List
   pub spared : (p q : ℕ) → p < length c.candidates → q < length c.candidates → IsTrue (cell spares p q) ↔ Spares c p q
   pub exclusive : (s : List ℕ) → IsSelection (length c.candidates) s → IsTrue (is_exclusive hits s) ↔ IsExclusive c s
   pub required : (s : List ℕ) → IsSelection (length c.candidates) s → IsTrue (is_required serves s) ↔ IsRequired c s
+  pub groups : length hits ≡ length c.exclusive
+  pub reached : (k p : ℕ) → k < length c.exclusive → p < length c.candidates → (0 < count_at (slice_index_or hits k []) p) ↔ CandidateReaches c (slice_index_or c.exclusive k []) p

@@ -15,11 +15,12 @@ ghost use Rattle.hack_features.specs.declared.reach.Edges.TheVariants.{Enabling}
 
 use crate::cover::first_cover;
 use crate::feature::Feature;
+use crate::marks::row_at;
 use crate::members::count_members;
 use crate::placed::Placed;
 use crate::questions::{Limits, Questions};
 use crate::reach::Edges;
-use crate::tables::{Given, Tables};
+use crate::tables::{Given, Tables, count};
 use crate::tally::Tally;
 use std::alloc::{AllocError, Global};
 use std::collections::BTreeMap;
@@ -46,6 +47,10 @@ impl<'a> Rules<'a> {
     ghost use Rattle.hack_features.specs.View.{choice_of, size_of, questions_asked, may_of};
     ghost use Rattle.hack_features.specs.View.{whole_of, asked_in};
     ghost use Rattle.hack_features.specs.Samples.{positions_of, IsSame};
+    ghost use Rattle.std.specs.Prelude.{◌<◌};
+    ghost use Rattle.std.specs.List.{slice_index_or};
+    ghost use Rattle.hack_features.specs.Rules.{IsExclusive, CandidateReaches};
+    ghost use Rattle.hack_features.specs.Tables.{is_required};
 
     /// Makes the rules for the candidates `features` of a package with the feature map `map`. A set
     /// has at most `depth` candidates. For each group of `at_least_one_of` that some key of the map
@@ -200,6 +205,40 @@ impl<'a> Rules<'a> {
         ensures { result.now ≡ self.now.tables.serves.items }
     {
         self.tables.serves.as_slice()
+    }
+
+    /// Rows of marks, one for each candidate: a set serves each at-least-one group that some key
+    /// serves just where each row is true at one of its members.
+    pub fn serving(&self) -> &[Vec<bool>]
+        ensures { (s : List ℕ) → IsSelection (size_of self.now) s
+            → IsTrue (is_required (rows_of result.now) s) ↔ IsRequired (choice_of self.now) s }
+    {
+        self.tables.serves.as_slice()
+    }
+
+    /// How many exclusion groups there are that aren't lifted.
+    pub fn exclusion_groups(&self) -> usize
+        ensures { result ≡ length (choice_of self.now).exclusive }
+    {
+        self.tables.hits.len()
+    }
+
+    /// Whether the candidate reaches the exclusion group, of those that aren't lifted.
+    pub fn reaches(&self, group: usize, candidate: usize) -> bool
+        requires group { group < length (choice_of self.now).exclusive }
+        requires candidate { candidate < size_of self.now }
+        ensures { IsTrue result ↔ CandidateReaches (choice_of self.now)
+            (slice_index_or (choice_of self.now).exclusive group []) candidate }
+    {
+        count(row_at(self.tables.hits.as_slice(), group), candidate) > 0
+    }
+
+    /// Whether no exclusion group is reached by two names of the candidate.
+    pub fn is_exclusive_alone(&self, candidate: usize) -> bool
+        requires { candidate < size_of self.now }
+        ensures { IsTrue result ↔ IsExclusive (choice_of self.now) (candidate ∷ []) }
+    {
+        self.tables.is_exclusive(&[], candidate)
     }
 
     /// Whether the set of `least` and the greater `positions` is permitted. It is counted as a

@@ -4,7 +4,7 @@ use Rattle.hack_samples.specs.Sets.{rows_of}
 use Rattle.hack_features.specs.ChoiceView.{choice_in}
 use Rattle.hack_features.specs.RoutesView.{routed_names}
 use Rattle.hack_base.proofs.Steps.{row_items}
-use Rattle.hack_features.proofs.TableLemmas.{spares_iff, exclusive_iff, required_iff}
+use Rattle.hack_features.proofs.TableLemmas.{spares_iff, exclusive_iff, required_iff, groups_of_hits, reached_iff}
 use Rattle.hack_features.proofs.tables.Tables.new.Goals as goal
 
 pub returns : goal.returns
@@ -21,4 +21,6 @@ returns c =
           (λ t. both.0 (sym same ∙ t), λ s. same ∙ both.1 s);
       exclusive = exclusive_iff choice (rows_of c.in_ok-hit_rows.field-0.items) c.in_ok-hit_rows.ensures;
       required = required_iff choice (rows_of c.in_ok-serve_rows.field-0.items) (c.in_ok-serve_rows.ensures choice.map choice.candidates choice.at_least_one_of p);
+      groups = groups_of_hits choice (rows_of c.in_ok-hit_rows.field-0.items) c.in_ok-hit_rows.ensures;
+      reached = reached_iff choice (rows_of c.in_ok-hit_rows.field-0.items) c.in_ok-hit_rows.ensures;
     }

@@ -1,0 +1,3 @@
+pub mod Closures
+pub mod View
+pub mod Internal
