@@ -4,6 +4,7 @@ mod calls;
 mod command_lists;
 mod comparison;
 mod given;
+mod growing;
 mod inputs;
 mod list_faults;
 mod lists;

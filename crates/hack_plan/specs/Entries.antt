@@ -61,3 +61,7 @@ pub record Overfills (Passes : PlanEntry → Type 0) (old : List PlanEntry) : Ty
   pub increasing : AllPairs Before added
   pub sound : All Passes added
   pub many : 2 ^ 32 ≤ length old + length added
+
+-- there are as many places as a plan may have
+abbrev pub IsFull : List PlanEntry → Type 0
+IsFull entries = length entries ≡ 4294967295

@@ -8,9 +8,13 @@ pub mod Spans
 pub mod Runs
 pub mod RunsView
 pub mod FrontRuns
+pub mod AddedRuns
 pub mod View
 pub mod Commands
 pub mod Plans
 pub mod Prepared
 pub mod Lines
+pub mod Growth
+pub mod GrowthLaws
 pub mod Internal
+pub mod InternalRuns

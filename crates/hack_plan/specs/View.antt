@@ -22,6 +22,7 @@ pub record CallView : Type 0 where
   pub locked : Bool
   pub clean_per_run : Bool
   pub clean_per_version : Bool
+  pub grows : Bool
   pub current_manifest : Option (List ℕ)
   pub dir : List ℕ
 
@@ -44,7 +45,7 @@ pub record PlanView : Type 0 where
 
 -- texts as their bytes
 abbrev pub call_view : CommandParts → CallView
-call_view w = record { cargo = string_bytes w.cargo; rustup = string_bytes w.rustup; passed = map string_bytes w.passed.items; trailing = map string_bytes w.trailing.items; features = map string_bytes w.features.items; targets = map string_bytes w.targets.items; cargo_minor = w.cargo_minor; locked = w.locked; clean_per_run = w.clean_per_run; clean_per_version = w.clean_per_version; current_manifest = optional_text w.current_manifest; dir = string_bytes w.dir }
+call_view w = record { cargo = string_bytes w.cargo; rustup = string_bytes w.rustup; passed = map string_bytes w.passed.items; trailing = map string_bytes w.trailing.items; features = map string_bytes w.features.items; targets = map string_bytes w.targets.items; cargo_minor = w.cargo_minor; locked = w.locked; clean_per_run = w.clean_per_run; clean_per_version = w.clean_per_version; grows = w.grows; current_manifest = optional_text w.current_manifest; dir = string_bytes w.dir }
 
 -- a package with its texts as bytes, and its runs
 abbrev pub plan_package_view : PlanPackage → PackageView

@@ -13,7 +13,7 @@ use std::alloc::Global;
 use std::marker::Model;
 
 /// How many places a plan may have.
-const MOST_PLACES: usize = 4_294_967_295;
+pub(crate) const MOST_PLACES: usize = 4_294_967_295;
 
 /// The runs of one version, slot and package, and the number of places up to and including them.
 #[derive(Drop)]

@@ -3,8 +3,10 @@
 //! workspace: a `PlanInput` and `CommandParts` hold all that matters.
 #![tactic(auto)]
 
+mod additions;
 mod blocks;
 mod commands;
+pub mod laws;
 mod line;
 pub mod partition;
 pub mod parts;

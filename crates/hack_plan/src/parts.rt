@@ -27,6 +27,8 @@ pub struct CommandParts {
     pub clean_per_run: bool,
     /// Whether artifacts are removed before the runs of each version.
     pub clean_per_version: bool,
+    /// Whether places are added while the plan is run, so that the number of all isn't shown.
+    pub grows: bool,
     /// The path of the current package's manifest as a command is given it; none where there is no
     /// current package, or commands get no paths.
     pub current_manifest: Option<String>,

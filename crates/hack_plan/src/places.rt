@@ -1,16 +1,16 @@
 //! The plan of an input: its runs in order, kept as blocks with running sums, in which binary
-//! search finds a run.
+//! search finds a run; and behind them runs that were added one by one.
 
 ghost use Rattle.std.specs.Prelude.{ℕ, ◌≡◌, ◌<◌, ◌^◌, ◌⊎◌, ◌↔◌, ◌∷◌, [], Some, None};
 ghost use Rattle.std.specs.Prelude.{false, length, All, AllPairs, Contains, OnOk};
-ghost use Rattle.std.specs.Prelude.{IfOk, IfErr, slice_get};
+ghost use Rattle.std.specs.Prelude.{IfOk, IfErr, OnErr, IsTrue, ◌++◌, slice_get};
 ghost use Rattle.hack_plan.specs.Inputs.{AreVersions, AreVersionsOf, AreCounted, slots_of};
 ghost use Rattle.hack_plan.specs.Entries.{ArePlaces, HasTooMany, Lists, IsAdmissible, AreTooMany};
-ghost use Rattle.hack_plan.specs.Entries.{AddsEntries, Overfills};
+ghost use Rattle.hack_plan.specs.Entries.{AddsEntries, Overfills, IsFull};
 ghost use Rattle.hack_plan.specs.Parts.{InVersion};
 ghost use Rattle.hack_plan.specs.declared.places.PlacesFault.TheVariants.{Memory as OutOfMemory};
 
-use crate::blocks::{Blocks, VersionUse};
+use crate::blocks::{Blocks, MOST_PLACES, VersionUse};
 use crate::versions::{PlanInput, Versions};
 use hack_versions::rustup::VersionGroup;
 use hack_versions::version::{Version, VersionRange};
@@ -64,17 +64,38 @@ impl<T: Drop> From<AllocFailed<T>> for PlacesFault {
 
 /// The runs of an input, in order.
 #[derive(Drop)]
-pub struct Places {
+struct InputPlaces {
     blocks: Blocks,
     spans: Vec<Span>,
 }
 
-impl Model for Places {
+impl Model for InputPlaces {
     ghost use Rattle.hack_plan.specs.Spans.{Laid};
 
     ghost Value = { Laid };
 
     ghost view = { λ p. record { entries = p.blocks; spans = p.spans.items } };
+}
+
+/// The runs of an input, in order, and behind them those that were added one by one.
+#[derive(Drop)]
+pub struct Places {
+    laid: InputPlaces,
+    added: Vec<PlanEntry>,
+}
+
+impl Model for Places {
+    ghost use Rattle.std.specs.Prelude.{◌<◌, ◌++◌, ◌^◌, length};
+    ghost use Rattle.hack_plan.specs.Spans.{Laid};
+
+    ghost Value = { Laid };
+
+    ghost view = { λ p. record {
+      entries = p.laid.entries ++ p.added.items;
+      spans = p.laid.spans;
+    } };
+
+    ghost invariant = { λ p. length (p.laid.entries ++ p.added.items) < 2 ^ 32 };
 }
 
 impl Places {
@@ -100,9 +121,23 @@ impl Places {
             ⊎ ((e ≡ PlacesFault.TooManyRuns) × HasTooMany input.now counts.now
             versions.now.stable)) }
     {
-        match input.range {
-            None => Places::without_range(alloc, input, counts),
-            Some(range) => Places::with_range(alloc, input, range, versions, counts),
+        match InputPlaces::new(alloc, input, versions, counts) {
+            Ok(laid) => Ok(Places {
+                laid,
+                added: Vec::new(alloc),
+            }),
+            Err(fault) => Err(fault),
+        }
+    }
+
+    /// No place.
+    pub fn empty(alloc: Global) -> Places
+        ensures entries { result.entries ≡ [] }
+        ensures spans { result.spans ≡ [] }
+    {
+        Places {
+            laid: InputPlaces::empty(alloc),
+            added: Vec::new(alloc),
         }
     }
 
@@ -111,11 +146,88 @@ impl Places {
         ensures value { result ≡ length self.now.entries }
         ensures short { length self.now.entries < 2 ^ 32 }
     {
-        self.blocks.len()
+        self.laid.len() + self.added.len()
+    }
+
+    /// Whether there are as many places as a plan may have.
+    pub fn is_full(&self) -> bool
+        ensures { IsTrue result ↔ IsFull self.now.entries }
+    {
+        self.len() >= MOST_PLACES
     }
 
     /// The run at a place.
     pub fn run(&self, place: usize) -> PlanEntry
+        requires { place < length self.now.entries }
+        ensures { slice_get self.now.entries place ≡ Some result }
+    {
+        let laid = self.laid.len();
+        if place < laid {
+            return self.laid.run(place);
+        }
+        self.added[place - laid]
+    }
+
+    /// Each version that some package uses, or "none" without a range, with the places that it had
+    /// at first, of which it may have none.
+    pub fn versions(&self) -> &[Span]
+        ensures { result.now ≡ self.now.spans }
+    {
+        self.laid.versions()
+    }
+
+    /// Appends a run.
+    pub fn add(&mut self, entry: PlanEntry) -> Result<(), AllocError>
+        requires { ¬ IsFull self.old.entries }
+        ensures ok { OnOk result (self.new ≡ record self.old {
+          entries = self.old.entries ++ entry ∷ [];
+        }) }
+        ensures err { OnErr result (self.new ≡ self.old) }
+    {
+        self.added.push(entry)?;
+        Ok(())
+    }
+}
+
+impl InputPlaces {
+    ghost use Rattle.hack_plan.specs.Spans.{AreSpans, AreTiled, versions_of};
+
+    /// The runs, as of `Places`.
+    fn new(
+        alloc: Global,
+        input: &PlanInput,
+        versions: &Versions,
+        counts: &[usize],
+    ) -> Result<InputPlaces, PlacesFault>
+        requires versions { AreVersionsOf input.now versions.now }
+        requires counted { AreCounted input.now counts.now }
+        ensures ok { IfOk result (λ p. ArePlaces input.now counts.now versions.now.stable
+            p.entries) }
+        ensures spans { IfOk result (λ p. AreSpans (versions_of input.now.range
+            versions.now.groups.items) p.entries p.spans) }
+        ensures tiled { IfOk result (λ p. AreTiled 0 p.spans (length p.entries)) }
+        ensures short { IfOk result (λ p. length p.entries < 2 ^ 32) }
+        ensures never { IfOk result (λ _. ¬ HasTooMany input.now counts.now versions.now.stable) }
+        ensures err { IfErr result (λ e. (e ≡ PlacesFault.Memory)
+            ⊎ ((e ≡ PlacesFault.TooManyRuns) × HasTooMany input.now counts.now
+            versions.now.stable)) }
+    {
+        match input.range {
+            None => InputPlaces::without_range(alloc, input, counts),
+            Some(range) => InputPlaces::with_range(alloc, input, range, versions, counts),
+        }
+    }
+
+    /// The number of places, at most 4294967295.
+    fn len(&self) -> usize
+        ensures value { result ≡ length self.now.entries }
+        ensures short { length self.now.entries < 2 ^ 32 }
+    {
+        self.blocks.len()
+    }
+
+    /// The run at a place.
+    fn run(&self, place: usize) -> PlanEntry
         requires { place < length self.now.entries }
         ensures { slice_get self.now.entries place ≡ Some result }
     {
@@ -124,23 +236,23 @@ impl Places {
 
     /// Each version that some package uses, or "none" without a range, with its places, of which it
     /// may have none.
-    pub fn versions(&self) -> &[Span]
+    fn versions(&self) -> &[Span]
         ensures { result.now ≡ self.now.spans }
     {
         &self.spans
     }
 }
 
-impl Places {
+impl InputPlaces {
     ghost use Rattle.hack_plan.specs.Spans.{AreSpans, AreTiled, versions_of};
     ghost use Rattle.hack_plan.specs.Internal.{AppendsPlaces};
 
     /// No place.
-    pub fn empty(alloc: Global) -> Places
+    fn empty(alloc: Global) -> InputPlaces
         ensures entries { result.entries ≡ [] }
         ensures spans { result.spans ≡ [] }
     {
-        Places {
+        InputPlaces {
             blocks: Blocks::empty(alloc),
             spans: Vec::new(alloc),
         }
@@ -193,7 +305,7 @@ impl Places {
         alloc: Global,
         input: &PlanInput,
         counts: &[usize],
-    ) -> Result<Places, PlacesFault>
+    ) -> Result<InputPlaces, PlacesFault>
         requires none { input.now.range ≡ None }
         requires counted { AreCounted input.now counts.now }
         ensures ok { IfOk result (λ p. Lists (IsAdmissible input.now counts.now []) p.entries) }
@@ -204,7 +316,7 @@ impl Places {
             ⊎ ((e ≡ PlacesFault.TooManyRuns) × AreTooMany (IsAdmissible input.now counts.now []))) }
     {
         let all = all_below(alloc, input.packages.len())?;
-        let mut places = Places::empty(alloc);
+        let mut places = InputPlaces::empty(alloc);
         match places.add(input, None, &all, counts) {
             Ok(()) => Ok(places),
             Err(fault) => Err(fault),
@@ -218,7 +330,7 @@ impl Places {
         range: VersionRange,
         versions: &Versions,
         counts: &[usize],
-    ) -> Result<Places, PlacesFault>
+    ) -> Result<InputPlaces, PlacesFault>
         requires some { input.now.range ≡ Some range }
         requires versions { AreVersions (Some range) input.now versions.now.stable
             versions.now.groups.items }
@@ -235,7 +347,7 @@ impl Places {
     {
         // Only the contract speaks of it.
         let _ = range;
-        let mut places = Places::empty(alloc);
+        let mut places = InputPlaces::empty(alloc);
         for group in versions.groups.as_slice() {
             if let Err(fault) = places.add(input, Some(group.version), &group.packages, counts) {
                 return Err(fault);

@@ -13,13 +13,15 @@ ghost use Rattle.hack_plan.specs.Commands.{lockfile_command};
 ghost use Rattle.hack_plan.specs.Commands.{chosen_package_at};
 ghost use Rattle.hack_plan.specs.Commands.{name_in, ranked_command, slot_target};
 ghost use Rattle.hack_plan.specs.Lines.{command_in, listed_text};
-ghost use Rattle.hack_plan.specs.Plans.{counts_in};
+ghost use Rattle.hack_plan.specs.Plans.{counts_in, AreRunsOfPackages};
 
 pub use crate::commands::toolchain;
 pub use crate::line::RunLine;
+use crate::additions::{add_run, end_last, reserve_run};
 use crate::parts::{CommandParts, PlanPackage, PlanVersion};
 use crate::places::{Places, PlacesFault, PlanEntry};
 use crate::prepared::prepared;
+pub use crate::runs::Added;
 use crate::versions::{PlanInput, Versions};
 use hack_process::process::ProcessBuilder;
 use hack_versions::version::Version;
@@ -71,6 +73,9 @@ impl Plan {
     pub fn len(&self) -> usize
         ensures value { result ≡ length self.now.entries }
         ensures short { length self.now.entries < 2 ^ 32 }
+
+        // Each place's run is one of its package's.
+        ensures runs { AreRunsOfPackages self.now.packages self.now.entries }
     {
         self.places.len()
     }
@@ -248,6 +253,13 @@ impl Plan {
         self.words.dir.as_str()
     }
 
+    /// Whether places are added while the plan is run, so that the number of all isn't shown.
+    pub fn grows(&self) -> bool
+        ensures { result ≡ self.now.call.grows }
+    {
+        self.words.grows
+    }
+
     /// Whether a package's artifacts are removed before each of its runs.
     pub fn cleans_per_run(&self) -> bool
         ensures { result ≡ self.now.call.clean_per_run }
@@ -321,6 +333,42 @@ impl Plan {
             versions,
             places,
         })
+    }
+}
+
+impl Plan {
+    ghost use Rattle.std.specs.Prelude.{IfErr, OnErr, OnOk};
+    ghost use Rattle.hack_plan.specs.AddedRuns.{added_run};
+    ghost use Rattle.hack_plan.specs.Entries.{IsFull};
+    ghost use Rattle.hack_plan.specs.Growth.{IsGrown, RefusesRun, with_run};
+
+    /// Appends a run to those of a package, and a place for it, which it returns: the last place,
+    /// in this slot, without a version, which becomes one of the last version's.
+    pub fn grow(&mut self, slot: usize, member: usize, run: Added) -> Result<usize, PlacesFault>
+        requires version { 0 < length self.old.versions }
+        requires member { member < length self.old.packages }
+        ensures place { IfOk result (λ place. place ≡ length self.old.entries) }
+        ensures ok { OnOk result (self.new ≡ with_run slot member (added_run run) self.old) }
+        ensures grown { OnOk result (IsGrown self.old self.new) }
+        ensures never { OnOk result (¬ IsFull self.old.entries) }
+        ensures err { IfErr result (RefusesRun self.old.entries) }
+        ensures same { OnErr result (self.new ≡ self.old) }
+    {
+        if self.places.is_full() {
+            return Err(PlacesFault::TooManyRuns);
+        }
+        let place = self.places.len();
+        let rank = reserve_run(&mut self.packages, member)?;
+        self.places.add(PlanEntry {
+            version: None,
+            slot,
+            package: Some(member),
+            rank,
+        })?;
+        // What follows takes no memory, so nothing is left half done.
+        add_run(&mut self.packages, member, run);
+        end_last(&mut self.versions, place + 1);
+        Ok(place)
     }
 }
 

@@ -66,6 +66,7 @@ call_of cx rustup = record {
   locked = cx.args.locked;
   clean_per_run = cx.args.clean_per_run;
   clean_per_version = cx.args.clean_per_version;
+  grows = false;
   current_manifest = given_path cx.args.no_manifest_path cx.current_dir
       (option_and_then (package_at cx) cx.current_package);
   dir = cx.current_dir;

@@ -72,6 +72,7 @@ pub(crate) fn call_words(
         locked: args.locked,
         clean_per_run: args.clean_per_run,
         clean_per_version: args.clean_per_version,
+        grows: false,
         current_manifest: manifest,
         dir: String::from_str(alloc, cx.current_dir())?,
     })

@@ -9,6 +9,7 @@ pub mod Statuses
 pub mod StepOutput
 pub mod StepEffects
 pub mod JoinedSteps
+pub mod GrownSteps
 pub mod ListLines
 pub mod JoinedLists
 pub mod Reports

@@ -18,4 +18,4 @@ mod step;
 pub mod suspect_notes;
 pub mod suspects;
 
-pub use laws::driven_hands_out;
+pub use laws::{driven_hands_out, grown_plans_tell};

@@ -11,7 +11,8 @@ ghost use Rattle.hack_session.specs.StepEffects.{DoesTask, DoesTasks, EnsuresToo
 ghost use Rattle.hack_session.specs.StepEffects.{Runs, Skips, cleaning_task, lockfile_tasks};
 ghost use Rattle.hack_session.specs.StepEffects.{own_task, scene_of};
 ghost use Rattle.hack_session.specs.StepOutput.{IsSameScreen, Streams, manner_on, streams_of};
-ghost use Rattle.hack_session.specs.Statuses.{place_status, told_name as name_told};
+ghost use Rattle.hack_session.specs.Statuses.{place_status, shown_total};
+ghost use Rattle.hack_session.specs.Statuses.{told_name as name_told};
 
 use crate::calls::{call, call_in_group};
 use crate::rustup::install_toolchain;
@@ -241,7 +242,7 @@ fn status(
     ensures { IfOk result (λ text. string_bytes text
         ≡ place_status verb.now verbose plan.now place run.now.entry) }
 {
-    let total = plan.len();
+    let total = total_of(plan);
     let command = run.command.text(alloc, false, verbose, plan.dir())?;
     let status = Status {
         verb,
@@ -251,6 +252,16 @@ fn status(
         total,
     };
     format!(in alloc; "{status}")
+}
+
+/// The number of all places; none where places are added while the plan is run.
+fn total_of(plan: &Plan) -> Option<usize>
+    ensures { result ≡ shown_total plan.now }
+{
+    if plan.grows() {
+        return None;
+    }
+    Some(plan.len())
 }
 
 /// Returns the package's name to show: none under `--verbose`, where commands are shown in full.

@@ -7,7 +7,7 @@ ghost use Rattle.hack_process.specs.Commands.{command_of};
 ghost use Rattle.hack_session.specs.StepOutput.{IsSameScreen, Says, SaysOn, cleaning_said};
 ghost use Rattle.hack_session.specs.StepOutput.{end_said, manner_on, opening_said, space_said};
 ghost use Rattle.hack_session.specs.StepOutput.{streams_of};
-ghost use Rattle.hack_session.specs.Statuses.{on_text, running_text, status_text};
+ghost use Rattle.hack_session.specs.Statuses.{of_text, on_text, running_text, status_text};
 
 use hack_base::writes::{Sink, write_front};
 use hack_process::process::ProcessBuilder;
@@ -106,8 +106,8 @@ pub struct Status<'a> {
     pub name: Option<&'a str>,
     /// The place, from 1.
     pub number: usize,
-    /// The number of all places.
-    pub total: usize,
+    /// The number of all places, where it is shown.
+    pub total: Option<usize>,
 }
 
 impl fmt::Display for Status<'_> {
@@ -119,8 +119,23 @@ impl fmt::Display for Status<'_> {
         let command = self.command;
         let name = OnName(self.name);
         let number = self.number;
-        let total = self.total;
-        write!(f, "{verb} {command}{name} ({number}/{total})")
+        let of = OfTotal(self.total);
+        write!(f, "{verb} {command}{name} ({number}{of})")
+    }
+}
+
+/// The number of all places, where it is shown.
+#[derive(Drop)]
+struct OfTotal(Option<usize>);
+
+impl fmt::Display for OfTotal {
+    ghost output = { λ s. Some (of_text s.0) };
+
+    fn fmt<W: fmt::Write>(&self, f: &mut fmt::Formatter<W>) -> fmt::Result {
+        match self.0 {
+            Some(total) => write!(f, "/{total}"),
+            None => Ok(()),
+        }
     }
 }
 

@@ -44,7 +44,7 @@ fn packages_of(alloc: Global, owns: &str) -> Result<Vec<PackageVersion>, AllocEr
     Ok(packages)
 }
 
-fn input_of(alloc: Global, words: &str) -> Result<PlanInput, AllocError> {
+pub fn input_of(alloc: Global, words: &str) -> Result<PlanInput, AllocError> {
     Ok(PlanInput {
         range: range_of(alloc, value(words, "range=", "")),
         step: value(words, "step=", "").parse::<u16>().unwrap_or(1),
@@ -56,7 +56,7 @@ fn input_of(alloc: Global, words: &str) -> Result<PlanInput, AllocError> {
 }
 
 /// The versions of an input, where stable is 1.64.
-fn versions_of(alloc: Global, input: &PlanInput) -> Result<Versions, RangeFault>
+pub fn versions_of(alloc: Global, input: &PlanInput) -> Result<Versions, RangeFault>
     ensures { IfOk result (λ versions. AreVersionsOf input.now versions) }
 {
     let stable = Version {

@@ -3,7 +3,7 @@ use Rattle.std.proofs.lemmas.List.Elements.{Contains-get_or}
 use Rattle.hack_plan.specs.Inputs.{slots_of}
 use Rattle.hack_plan.proofs.Groups.{alone-all, alone-over}
 use Rattle.hack_plan.proofs.SpanLemmas.{spans-alone, spans-in}
-use Rattle.hack_plan.proofs.places.Places.without_range.Goals as goal
+use Rattle.hack_plan.proofs.places.InputPlaces.without_range.Goals as goal
 
 pub add-requires-clause-within : goal.add-requires-clause-within
 add-requires-clause-within c =

@@ -1,6 +1,6 @@
 use Rattle.std.proofs.Common.{sym}
 use Rattle.hack_plan.proofs.Never.{never-alone, never-if}
-use Rattle.hack_plan.proofs.places.Places.new.Goals as goal
+use Rattle.hack_plan.proofs.places.InputPlaces.new.Goals as goal
 
 pub returns-in-None-clause-never : goal.returns-in-None-clause-never
 returns-in-None-clause-never c = never-alone c.args.input.now c.args.counts.now c.args.versions.now.stable c.without_range.result (λ p. p.entries) (sym c.in-None.is) c.without_range.ensures.ok c.without_range.ensures.short

@@ -7,7 +7,7 @@ use Rattle.hack_plan.specs.Inputs.{IsStepList, slots_of}
 use Rattle.hack_plan.specs.Spans.{AreSpans}
 use Rattle.hack_plan.proofs.Groups.{in_owns, groups-more, groups-over, groups-all}
 use Rattle.hack_plan.proofs.SpanLemmas.{spans-group, spans-in, version_in}
-use Rattle.hack_plan.proofs.places.Places.with_range.Goals as goal
+use Rattle.hack_plan.proofs.places.InputPlaces.with_range.Goals as goal
 
 pub add-requires-clause-within : goal.add-requires-clause-within
 add-requires-clause-within c = λ b.
