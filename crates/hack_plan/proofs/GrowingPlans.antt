@@ -1,13 +1,17 @@
 -- The parts of a plan that grows.
-use Rattle.std.proofs.Common.{◌≡◌, ◌<◌, ◌≤◌, ◌+◌, ◌-◌, ◌++◌, ℕ, zero, suc, List, [], ◌∷◌, length, map, get_or, set, arith, refl, ap, sym, subst, ◌∙◌, length-append, Option, Some, None}
+use Rattle.std.proofs.Common.{◌≡◌, ◌<◌, ◌≤◌, ◌+◌, ◌-◌, ◌++◌, ℕ, zero, suc, List, [], ◌∷◌, length, map, get_or, set, arith, refl, ap, sym, subst, ◌∙◌, length-append, Option, Some, None, Result, Ok, Err, IsOk, OnOk, IsSomeAnd, slice_get}
 use Rattle.std.specs.List.{AllZip}
+use Rattle.std.proofs.lemmas.Bool.{false≢true}
 use Rattle.std.proofs.lemmas.List.Elements.{All-push}
 use Rattle.hack_plan.specs.declared.parts.PlanVersion.{PlanVersion}
+use Rattle.hack_plan.specs.declared.parts.PlanPackage.{PlanPackage}
 use Rattle.hack_plan.specs.declared.places.PlanEntry.{PlanEntry}
+use Rattle.hack_plan.specs.declared.runs.Runs.{Runs}
 use Rattle.hack_plan.specs.Runs.{PackageRun}
+use Rattle.hack_plan.specs.RunsView.{runs_in}
 use Rattle.hack_plan.specs.Spans.{AreTiled}
 use Rattle.hack_plan.specs.Prepared.{span_of}
-use Rattle.hack_plan.specs.View.{PackageView}
+use Rattle.hack_plan.specs.View.{PackageView, plan_package_view}
 use Rattle.hack_plan.specs.Plans.{IsRunOf, AreRunsOfPackages}
 use Rattle.hack_plan.specs.Growth.{HasMoreRuns, count_at, next_entry, with_changed, with_one_place, with_one_run}
 use Rattle.hack_plan.specs.GrowthLaws.{more_runs}
@@ -65,3 +69,52 @@ end-at from (suc place) total (v ∷ w ∷ vs) last tiled = ap (λ ws. v ∷ ws)
 -- the last version ends at the last place, so one place later is one behind that
 pub end-grown : (total : ℕ) (versions : List PlanVersion) → 0 < length versions → AreTiled 0 (map span_of versions) total → with_changed (with_end (total + 1)) versions (length versions - 1) ≡ with_changed with_one_place versions (length versions - 1)
 end-grown total versions some tiled = end-at 0 (length versions - 1) total versions (omega arith) tiled
+
+-- ---- packages and versions at an index
+
+-- an element that is replaced by what it is changed to
+pub set-changed : {X : Type 0} (change : X → X) (xs : List X) (place other : ℕ) (y d : X) → place < length xs → place ≡ other → y ≡ change (get_or xs place d) → set xs place y ≡ with_changed change xs other
+set-changed change xs place other y d lt same e = subst (λ (n : ℕ). set xs place y ≡ with_changed change xs n) same (go xs place lt e)
+  where
+    go : (xs : List _) (place : ℕ) → place < length xs → y ≡ change (get_or xs place d) → set xs place y ≡ with_changed change xs place
+    go [] place lt e = absurd (omega arith)
+    go (x ∷ xs) zero lt e = ap (λ z. z ∷ xs) e
+    go (x ∷ xs) (suc place) lt e = ap (λ zs. x ∷ zs) (go xs place (omega arith) e)
+
+pub get-within : {X : Type 0} (xs : List X) (place : ℕ) (P : X → Type 0) → IsSomeAnd (slice_get xs place) P → place < length xs
+get-within [] place P there = absurd there
+get-within (x ∷ xs) zero P there = omega arith
+get-within (x ∷ xs) (suc place) P there = omega (arith, get-within xs place P there)
+
+pub get-at : {X : Type 0} (xs : List X) (place : ℕ) (d : X) (P : X → Type 0) → IsSomeAnd (slice_get xs place) P → P (get_or xs place d)
+get-at [] place d P there = absurd there
+get-at (x ∷ xs) zero d P there = there
+get-at (x ∷ xs) (suc place) d P there = get-at xs place d P there
+
+pub get-set : {X : Type 0} (xs : List X) (place : ℕ) (y : X) (P : X → Type 0) → place < length xs → P y → IsSomeAnd (slice_get (set xs place y) place) P
+get-set [] place y P lt p = absurd (omega arith)
+get-set (x ∷ xs) zero y P lt p = p
+get-set (x ∷ xs) (suc place) y P lt p = get-set xs place y P (omega arith) p
+
+-- how many runs the package at an index has
+pub count-is : (packages : List PlanPackage) (place : ℕ) (d : PlanPackage) → place < length packages → length (runs_in (get_or packages place d).runs) ≡ count_at (map plan_package_view packages) place
+count-is [] place d lt = absurd (omega arith)
+count-is (k ∷ ks) zero d lt = refl
+count-is (k ∷ ks) (suc place) d lt = count-is ks place d (omega arith)
+
+-- a package with other runs is the same but for these
+with-runs : PackageView → List PackageRun → PackageView
+with-runs k runs = record k { runs = runs }
+
+pub package-with : (k l : PlanPackage) (runs : Runs) (more : List PackageRun) → k ≡ l → runs_in runs ≡ runs_in k.runs ++ more
+    → plan_package_view (record k { runs = runs }) ≡ record (plan_package_view l) { runs = (plan_package_view l).runs ++ more }
+unfolding with-runs
+package-with k l runs more e f = ap (with-runs (plan_package_view k)) f ∙ ap (λ (m : PlanPackage). record (plan_package_view m) { runs = (plan_package_view m).runs ++ more }) e
+
+pub package-same : (k l : PlanPackage) (runs : Runs) → k ≡ l → runs_in runs ≡ runs_in k.runs → plan_package_view (record k { runs = runs }) ≡ plan_package_view l
+unfolding with-runs
+package-same k l runs e f = ap (with-runs (plan_package_view k)) f ∙ ap plan_package_view e
+
+pub value-ok : {T E : Type 0} (P : Type 0) (r : Result T E) → IsOk r → OnOk r P → P
+value-ok P (Ok x) is p = p
+value-ok P (Err e) is p = absurd (false≢true is)

@@ -15,9 +15,9 @@ ghost use Rattle.hack_plan.specs.Commands.{name_in, ranked_command, slot_target}
 ghost use Rattle.hack_plan.specs.Lines.{command_in, listed_text};
 ghost use Rattle.hack_plan.specs.Plans.{counts_in, AreRunsOfPackages};
 
+use crate::additions::{add_run, end_last, reserve_run};
 pub use crate::commands::toolchain;
 pub use crate::line::RunLine;
-use crate::additions::{add_run, end_last, reserve_run};
 use crate::parts::{CommandParts, PlanPackage, PlanVersion};
 use crate::places::{Places, PlacesFault, PlanEntry};
 use crate::prepared::prepared;
@@ -74,7 +74,7 @@ impl Plan {
         ensures value { result ≡ length self.now.entries }
         ensures short { length self.now.entries < 2 ^ 32 }
 
-        // Each place's run is one of its package's.
+        // Each place has a run that there is.
         ensures runs { AreRunsOfPackages self.now.packages self.now.entries }
     {
         self.places.len()
