@@ -11,7 +11,7 @@ mod CommandJoins
 mod Ready
 mod Shown
 mod Within
-mod GrowingPlans
+pub mod GrowingPlans
 pub mod PieceLemmas
 mod PieceReading
 mod PieceTexts

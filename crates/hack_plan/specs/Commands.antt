@@ -30,6 +30,10 @@ abbrev pub targets_in : CallView → Option Version → ℕ → List (List ℕ)
 targets_in c version slot = if is_split (length c.targets) c.cargo_minor version
     then take 1 (drop slot c.targets) else c.targets
 
+-- how many slots a version has: one for each target where cargo takes one at a time
+abbrev pub slots_in : CallView → Option Version → ℕ
+slots_in c version = if is_split (length c.targets) c.cargo_minor version then length c.targets else 1
+
 -- the target of a slot that has one of its own
 abbrev pub slot_target : CallView → Option Version → ℕ → Option (List ℕ)
 slot_target c version slot = if is_split (length c.targets) c.cargo_minor version

@@ -13,7 +13,7 @@ ghost use Rattle.hack_plan.specs.Inputs.{is_split};
 ghost use Rattle.hack_plan.specs.Commands.{targets_in, target_pair, run_words};
 ghost use Rattle.hack_plan.specs.Commands.{candidate_names_at, call_command};
 ghost use Rattle.hack_plan.specs.Commands.{HasCollected, cleaned_words, clean_command};
-ghost use Rattle.hack_plan.specs.Commands.{lockfile_command, slot_target};
+ghost use Rattle.hack_plan.specs.Commands.{lockfile_command, slot_target, slots_in};
 
 use crate::parts::{CommandParts, PlanPackage};
 use crate::runs::Run;
@@ -105,6 +105,17 @@ impl CommandParts {
             Some(version) => version.minor,
         };
         !self.targets.is_empty() && minor < 64
+    }
+
+    /// How many slots a version has: one for each target where cargo takes one at a time.
+    pub(crate) fn slots(&self, version: Option<Version>) -> usize
+        ensures { result ≡ slots_in (call_view self.now) version }
+    {
+        if self.is_split(version) {
+            self.targets.len()
+        } else {
+            1
+        }
     }
 
     /// The target of a slot that has one of its own.

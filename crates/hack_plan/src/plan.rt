@@ -11,7 +11,7 @@ ghost use Rattle.hack_plan.specs.View.{call_view, plan_package_view};
 ghost use Rattle.hack_plan.specs.Commands.{HasCollected, command_of_entry, clean_command};
 ghost use Rattle.hack_plan.specs.Commands.{lockfile_command};
 ghost use Rattle.hack_plan.specs.Commands.{chosen_package_at};
-ghost use Rattle.hack_plan.specs.Commands.{name_in, ranked_command, slot_target};
+ghost use Rattle.hack_plan.specs.Commands.{name_in, ranked_command, slot_target, slots_in};
 ghost use Rattle.hack_plan.specs.Lines.{command_in, listed_text};
 ghost use Rattle.hack_plan.specs.Plans.{counts_in, AreRunsOfPackages};
 
@@ -246,6 +246,13 @@ impl Plan {
         self.words.slot_target(version, slot)
     }
 
+    /// How many slots there are without a version.
+    pub fn slots(&self) -> usize
+        ensures { result ≡ slots_in self.now.call None }
+    {
+        self.words.slots(None)
+    }
+
     /// The current folder; messages show paths relative to it.
     pub fn dir(&self) -> &str
         ensures { result.now ≡ self.now.call.dir }
@@ -269,7 +276,7 @@ impl Plan {
 }
 
 impl Plan {
-    ghost use Rattle.std.specs.Prelude.{◌⊎◌, IfErr, []};
+    ghost use Rattle.std.specs.Prelude.{◌⊎◌, ◌∷◌, IfErr, []};
     ghost use Rattle.hack_plan.specs.Inputs.{AreVersionsOf};
     ghost use Rattle.hack_plan.specs.Spans.{AreSpans, versions_of};
     ghost use Rattle.hack_plan.specs.Entries.{ArePlaces, HasTooMany};
@@ -290,6 +297,35 @@ impl Plan {
             versions: Vec::new(alloc),
             places: Places::empty(alloc),
         }
+    }
+
+    /// The plan of these packages without a place, to which a search adds runs. Its single version is
+    /// none.
+    pub fn bare(
+        alloc: Global,
+        words: CommandParts,
+        packages: Vec<PlanPackage>,
+    ) -> Result<Plan, AllocError>
+        ensures call { IfOk result (λ plan. plan.call ≡ call_view words) }
+        ensures packages { IfOk result (λ plan. plan.packages
+            ≡ map plan_package_view packages.items) }
+        ensures entries { IfOk result (λ plan. plan.entries ≡ []) }
+        ensures spans { IfOk result (λ plan. map span_of plan.versions
+            ≡ record { version = None; first = 0; end = 0 } ∷ []) }
+    {
+        let mut versions = Vec::with_capacity(alloc, 1)?;
+        versions.push(PlanVersion {
+            version: None,
+            preparations: Vec::new(alloc),
+            first: 0,
+            end: 0,
+        })?;
+        Ok(Plan {
+            words,
+            packages,
+            versions,
+            places: Places::empty(alloc),
+        })
     }
 
     /// The plan of an input with these packages and versions.

@@ -17,8 +17,8 @@ use Rattle.hack_base.specs.Notes.{Note, note_of}
 use Rattle.hack_base.specs.declared.notice.Notice.{Notice}
 use Rattle.hack_versions.specs.declared.version.Version.{Version}
 use Rattle.hack_planner.specs.Calls.{IsInputOf, IsPackageOf, table_fault}
-use Rattle.hack_planner.specs.CallPlan.{IsCause, run_counts}
-use Rattle.hack_planner.specs.Internal.{SaysFault, SaysPackagesUnknown, SaysRangeRefused}
+use Rattle.hack_planner.specs.CallPlan.{IsCause, IsPackagesCause, run_counts}
+use Rattle.hack_planner.specs.Internal.{SaysFault, SaysRangeRefused}
 use Rattle.hack_planner.specs.InternalFaultConversions.{of_places}
 use Rattle.hack_planner.specs.declared.fault.PlanFault.{PlanFault}
 use Rattle.hack_planner.specs.declared.fault.PlanFault.TheVariants as fault
@@ -83,7 +83,7 @@ all-told old features range left n1 n2 n3 of_features of_left e1 e2 e3 told_feat
     ∙ ap (λ l. map note_of old ++ (l ++ (map note_of range ++ of_left))) told_features
 
 -- what is wrong with the tables of the chosen packages is a cause
-pub table-cause : (cx : ContextRecord) (ids : List ℕ) (e : PlanFault) → AreChosen cx ids → (e ≡ fault.Memory) ⊎ SaysFault (table_fault cx ids) e → (e ≡ fault.Memory) ⊎ SaysPackagesUnknown cx e
+pub table-cause : (cx : ContextRecord) (ids : List ℕ) (e : PlanFault) → AreChosen cx ids → (e ≡ fault.Memory) ⊎ SaysFault (table_fault cx ids) e → (e ≡ fault.Memory) ⊎ IsPackagesCause cx e
 table-cause cx ids fault.Memory chosen h = inl refl
 table-cause cx ids (fault.Stable text) chosen (inl m) = absurd (cc)
 table-cause cx ids (fault.Stable text) chosen (inr bad) = absurd bad

@@ -12,7 +12,8 @@ use Rattle.hack_versions.specs.declared.version.Version.{Version}
 use Rattle.hack_versions.specs.declared.version.VersionFault.{VersionFault}
 use Rattle.hack_versions.specs.declared.version.VersionFault.TheVariants as version
 use Rattle.hack_planner.specs.Calls.{HasBadOwn}
-use Rattle.hack_planner.specs.Internal.{IsOwnFault, SaysPackagesUnknown, SaysRangeRefused}
+use Rattle.hack_planner.specs.CallPlan.{IsPackagesCause}
+use Rattle.hack_planner.specs.Internal.{IsOwnFault, SaysRangeRefused}
 use Rattle.hack_planner.specs.InternalFaultConversions.{of_packages, of_version, of_range}
 use Rattle.hack_planner.specs.declared.fault.PlanFault.TheVariants as fault
 
@@ -25,7 +26,7 @@ version-turned cx ids (version.BadNumber part) (inr bad) = inr bad
 version-turned cx ids (version.OpenInclusive start) (inl e) = absurd (cc)
 version-turned cx ids (version.OpenInclusive start) (inr bad) = inr bad
 
-pub packages-turned : (cx : ContextRecord) (e : PackagesFault) → (e ≡ packages.Memory) ⊎ IsChoiceFault cx e → (of_packages e ≡ fault.Memory) ⊎ SaysPackagesUnknown cx (of_packages e)
+pub packages-turned : (cx : ContextRecord) (e : PackagesFault) → (e ≡ packages.Memory) ⊎ IsChoiceFault cx e → (of_packages e ≡ fault.Memory) ⊎ IsPackagesCause cx (of_packages e)
 packages-turned cx packages.Memory h = inl refl
 packages-turned cx (packages.Unmatched spec) (inl e) = absurd (cc)
 packages-turned cx (packages.Unmatched spec) (inr bad) = inr bad

@@ -131,6 +131,18 @@ pub record IsTooWide (cx : ContextRecord) (latest : Option Version) (name : Name
   pub of_call : IsInputOf cx ids input
   pub wide : HasNoSample cx (IsUsed cx input latest) ids name tally
 
+-- the causes to refuse the chosen packages: their choice, or a table of rules
+abbrev pub IsPackagesCause : ContextRecord → PlanFault → Type 0
+IsPackagesCause cx fault.Memory = ⊥
+IsPackagesCause cx (fault.Stable text) = ⊥
+IsPackagesCause cx (fault.Packages e) = IsChoiceFault cx e
+IsPackagesCause cx (fault.PackageRules field name) = HasTableFault cx (Some (string_bytes name), string_bytes field)
+IsPackagesCause cx (fault.WorkspaceRules field) = HasTableFault cx (None, string_bytes field)
+IsPackagesCause cx (fault.Version e) = ⊥
+IsPackagesCause cx (fault.Range e) = ⊥
+IsPackagesCause cx (fault.TooManyQuestions name tally) = ⊥
+IsPackagesCause cx fault.TooManyRuns = ⊥
+
 -- the causes to refuse a call with a subcommand, where `stable` is this version
 abbrev pub IsCause : ContextRecord → Option Version → PlanFault → Type 0
 IsCause cx latest fault.Memory = ⊥

@@ -1,13 +1,12 @@
 -- What only private functions of the crate promise each other.
 use Rattle.std.specs.Prelude.{Option, None, Some, ℕ, List, true, Contains, IsTrue, IsSome, string_bytes, ◌≡◌, ◌≤◌, length}
 use Rattle.hack_load.specs.Contexts.{ContextRecord}
-use Rattle.hack_planner.specs.ContextMembers.{IsChoiceFault}
 use Rattle.hack_versions.specs.declared.version.Version.{Version}
 use Rattle.hack_plan.specs.Inputs.{IsVersionsFault}
 use Rattle.hack_plan.specs.declared.versions.PlanInput.{PlanInput}
 use Rattle.hack_planner.specs.declared.fault.PlanFault.{PlanFault}
 use Rattle.hack_planner.specs.declared.fault.PlanFault.TheVariants as fault
-use Rattle.hack_planner.specs.Calls.{HasBadOwn, HasNoSampleAt, HasTableFault}
+use Rattle.hack_planner.specs.Calls.{HasBadOwn, HasNoSampleAt}
 use Rattle.hack_planner.specs.RulesFor.{TableFault}
 use Rattle.hack_planner.specs.declared.fault.RunsFault.{RunsFault}
 use Rattle.hack_planner.specs.declared.fault.RunsFault.TheVariants as runs
@@ -17,18 +16,6 @@ use Rattle.hack_planner.specs.PackageRules.{PackageRulesRecord}
 use Rattle.hack_features.specs.View.{asked_in}
 use Rattle.hack_features.specs.Sets.{IsListing}
 use Rattle.hack_features.specs.Rules.{Choice, IsListed}
-
--- the error says that the packages aren't known, or what is wrong with their tables
-abbrev pub SaysPackagesUnknown : ContextRecord → PlanFault → Type 0
-SaysPackagesUnknown cx fault.Memory = ⊥
-SaysPackagesUnknown cx (fault.Stable text) = ⊥
-SaysPackagesUnknown cx (fault.Packages e) = IsChoiceFault cx e
-SaysPackagesUnknown cx (fault.PackageRules field name) = HasTableFault cx (Some (string_bytes name), string_bytes field)
-SaysPackagesUnknown cx (fault.WorkspaceRules field) = HasTableFault cx (None, string_bytes field)
-SaysPackagesUnknown cx (fault.Version e) = ⊥
-SaysPackagesUnknown cx (fault.Range e) = ⊥
-SaysPackagesUnknown cx (fault.TooManyQuestions name tally) = ⊥
-SaysPackagesUnknown cx fault.TooManyRuns = ⊥
 
 -- the error says that the range is refused
 abbrev pub SaysRangeRefused : PlanInput → Option Version → PlanFault → Type 0

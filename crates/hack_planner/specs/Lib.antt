@@ -15,6 +15,7 @@ pub mod Calls
 pub mod CoveredSets
 pub mod InternalUses
 pub mod CallPlan
+pub mod Searched
 pub mod InternalLeastPlaces
 pub mod Powersets
 pub mod Samples

@@ -238,7 +238,7 @@ pub(crate) fn is_bare(features: &[Feature]) -> bool
 }
 
 /// The candidates of a package: what its sets are made of.
-pub(crate) fn candidates(
+pub fn candidates(
     alloc: Global,
     asked: &PackageRules,
     features: &Features,

@@ -80,7 +80,7 @@ pub(crate) fn found_among(
 }
 
 /// References to all features.
-fn all_of<'a>(alloc: Global, features: &'a [Feature]) -> Result<Vec<&'a Feature>, AllocError>
+pub fn all_of<'a>(alloc: Global, features: &'a [Feature]) -> Result<Vec<&'a Feature>, AllocError>
     ensures { IfOk result (λ all. candidates_of all.items ≡ groups_of features.now) }
 {
     let mut all = Vec::with_capacity(alloc, features.len())?;
@@ -91,7 +91,7 @@ fn all_of<'a>(alloc: Global, features: &'a [Feature]) -> Result<Vec<&'a Feature>
 }
 
 /// The rules of the package; `all` has references to all its candidates.
-fn rules_of<'a>(
+pub fn rules_of<'a>(
     alloc: Global,
     asked: &'a PackageRules,
     pkg: &'a Package,
@@ -175,7 +175,7 @@ fn takes_all(asked: &PackageRules) -> bool
 }
 
 /// The options that decide, together with its sets, which runs a package has.
-fn options(asked: &PackageRules, features: &Features) -> RunOptions
+pub fn options(asked: &PackageRules, features: &Features) -> RunOptions
     ensures { result ≡ options_of (rules_in asked.now) features.now }
 {
     RunOptions {

@@ -18,6 +18,7 @@ pub mod package_rules;
 pub mod packages;
 pub mod plan;
 mod plan_notes;
+pub mod searched;
 mod tables;
 mod uses;
 mod words;

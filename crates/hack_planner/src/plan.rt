@@ -13,8 +13,7 @@ ghost use Rattle.hack_plan.specs.View.{call_view};
 ghost use Rattle.hack_planner.specs.Calls.{IsInputOf, HasBadOwn, call_of, table_fault};
 ghost use Rattle.hack_planner.specs.CoveredSets.{AreCovered};
 ghost use Rattle.hack_planner.specs.CallPlan.{IsPlan, IsCause, IsPlanOf, IsCauseOf};
-ghost use Rattle.hack_planner.specs.Internal.{SaysPackagesUnknown};
-ghost use Rattle.hack_planner.specs.CallPlan.{IsSureCause, IsSureCauseOf};
+ghost use Rattle.hack_planner.specs.CallPlan.{IsPackagesCause, IsSureCause, IsSureCauseOf};
 ghost use Rattle.hack_planner.specs.Internal.{SaysRangeRefused};
 ghost use Rattle.hack_planner.specs.Powersets.{HavePowersets};
 ghost use Rattle.hack_planner.specs.Samples.{HaveSamples, ArePatternsHeld};
@@ -143,7 +142,10 @@ fn plan_by(
 }
 
 /// The chosen packages, of whose tables of rules none has a fault.
-fn chosen_list(alloc: Global, cx: &Context) -> Result<(PackageList, Vec<Notice>), PlanFault>
+pub(crate) fn chosen_list(
+    alloc: Global,
+    cx: &Context,
+) -> Result<(PackageList, Vec<Notice>), PlanFault>
     ensures ok { IfOk result (λ answer. AreChosen (context_view cx.now)
         (map place_at answer.0.ids.items)) }
     ensures notes { IfOk result (λ answer. AreChoiceNotes (context_view cx.now)
@@ -156,7 +158,7 @@ fn chosen_list(alloc: Global, cx: &Context) -> Result<(PackageList, Vec<Notice>)
     ensures never { IfOk result (λ _. (e : PackagesFault)
         → ¬ IsChoiceFault (context_view cx.now) e) }
     ensures err { IfErr result (λ e. (e ≡ PlanFault.Memory)
-        ⊎ SaysPackagesUnknown (context_view cx.now) e) }
+        ⊎ IsPackagesCause (context_view cx.now) e) }
 {
     match determine_package_list(alloc, cx) {
         Ok(answer) => match check_tables(alloc, cx, answer.0.ids.as_slice()) {
