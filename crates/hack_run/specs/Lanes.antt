@@ -1,5 +1,5 @@
 -- What happened to the commands of runs that go side by side.
-use Rattle.std.specs.Prelude.{ℕ, ◌≡◌, ◌⊎◌, List, [], Option, None, Result, false, true}
+use Rattle.std.specs.Prelude.{ℕ, ◌≡◌, ◌⊎◌, List, [], MatchBool, Option, None, Result, false, true}
 use Rattle.std.specs.Option.{unwrap_or}
 use Rattle.std.proofs.Common.{Global, String}
 use Rattle.hack_base.specs.Names.{Name}
@@ -18,7 +18,7 @@ use Rattle.hack_run.specs.Handed.{IsHandedAsAsked, is_search}
 use Rattle.hack_session.specs.Histories.{Course}
 use Rattle.hack_starts.specs.Events.{Event}
 use Rattle.hack_lanes.specs.Lanes.{Scene, Goes}
-use Rattle.hack_side.specs.Turns.{RunsAll}
+use Rattle.hack_side.specs.Turns.{RunsAll, RunsSerially}
 
 -- the lanes before anything was started, of which so many run at once
 abbrev pub scene_at : {S : Type 0} → ℕ → S → Scene S
@@ -29,14 +29,15 @@ scene_at width s = record {
 }
 
 -- one history of a context's plan, made with this answer on stable's version, was performed by the
--- rules of lanes
+-- rules of lanes; in a search nothing was started ahead
 pub record RunsOne {S : Type 0} (did : List Event → S → S → Type 0) (cx : ContextRecord)
     (stable : Result (Option Version) (String Global)) (rustup : Name) (old new : Scene S) : Type 0 where
   pub course : Course
   pub notes : List Note
   pub planned : IsPlanOf cx.args.subcommand stable cx rustup course.plan notes
   pub handed : IsHandedAsAsked false (is_search false cx.args) cx.args course
-  pub ran : RunsAll did cx.args.partition course.plan course.handed old new
+  pub ran : MatchBool (is_search false cx.args) (RunsSerially did course.handed old new)
+      (RunsAll did cx.args.partition course.plan course.handed old new)
 
 -- One history was performed in as many lanes as the arguments ask for, from fresh ones on; and then
 -- all that was started and not told was ended.

@@ -16,13 +16,14 @@ use hack_base::writes::Sink;
 use hack_lanes::turns::Turns;
 use hack_load::context::Context;
 use hack_msrv::found::Found;
-use hack_msrv::judge::Judge;
 use hack_msrv::search::find_versions;
 use hack_plan::plan::Plan;
 use hack_planner::fault::PlanFault;
 use hack_planner::plan::plan_of;
 use hack_process::process::Caller;
 use hack_session::session::{Lines, Lister, Runner, Session, Starter, drive_plan};
+use hack_side::judge::Judge;
+use hack_side::serial::Serial;
 use hack_side::side::Side;
 use hack_versions::version::Version;
 use std::alloc::Global;
@@ -132,6 +133,14 @@ impl<C: Caller, O: Sink, E: Sink> Teller for Starter<'_, C, O, E> {
 
 impl<L: Turns, O: Sink, E: Sink> Teller for Side<'_, L, O, E> {
     ghost told = { λ notes a b. (b.piece ≡ a.piece) × TellsNotes notes a.starter b.starter };
+
+    fn tell(&mut self, notices: &[Notice]) {
+        self.starter.tell(notices);
+    }
+}
+
+impl<L: Turns, O: Sink, E: Sink> Teller for Serial<'_, L, O, E> {
+    ghost told = { λ notes a b. TellsNotes notes a.starter b.starter };
 
     fn tell(&mut self, notices: &[Notice]) {
         self.starter.tell(notices);

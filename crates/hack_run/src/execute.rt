@@ -25,6 +25,7 @@ use hack_plan::plan::Plan;
 use hack_planner::fault::PlanFault;
 use hack_process::process::ProcessFault;
 use hack_session::session::{Handed, History, Outcome, Session, Starter, Step};
+use hack_side::serial::Serial;
 use hack_side::side::Side;
 use hack_starts::starts::Starts;
 use hack_term::term::{LogGroup, Term};
@@ -169,8 +170,8 @@ fn drive_in_lanes<L: Turns, O: Write, E: Write>(
     Ok(session)
 }
 
-/// Has a starter whose programs are called in lanes search for the least versions, and reports what
-/// was found, unless the search was broken off.
+/// Has a starter whose programs are called in lanes, one after another, search for the least versions,
+/// and reports what was found, unless the search was broken off.
 fn search_in_lanes<L: Turns, O: Write, E: Write>(
     alloc: Global,
     cx: &Context,
@@ -199,12 +200,9 @@ fn search_in_lanes<L: Turns, O: Write, E: Write>(
     let (log_group, _) = manner(cx.args());
     let mut starter = Starter::new(alloc, lanes, term, out, err, fault);
     starter.set_manner(log_group, false);
-    let mut side = Side {
-        starter,
-        piece: cx.args().partition,
-    };
-    let (plan, found) = search_context(alloc, cx, rustup, stable, &mut side)?;
-    let refused = side.starter.refused > 0;
+    let mut serial = Serial { starter };
+    let (plan, found) = search_context(alloc, cx, rustup, stable, &mut serial)?;
+    let refused = serial.starter.refused > 0;
     settle(alloc, cx, &plan, &found, refused, fault, term, err);
     Ok(())
 }

@@ -1,11 +1,11 @@
 use Rattle.std.proofs.Common.{◌≡◌, ap, false, subst, sym, ◌∙◌}
-use Rattle.std.specs.Prelude.{Option}
+use Rattle.std.specs.Prelude.{Bool, MatchBool, Option}
 use Rattle.hack_plan.specs.declared.partition.Partition.{Partition}
 use Rattle.hack_term.specs.declared.term.Term.{Term}
 use Rattle.hack_words.specs.declared.cli.args.Args.{Args}
 use Rattle.hack_load.specs.ContextView.{context_view}
 use Rattle.hack_lanes.specs.Views.{scene_of}
-use Rattle.hack_side.specs.Turns.{RunsAll}
+use Rattle.hack_side.specs.Turns.{RunsAll, RunsSerially}
 use Rattle.hack_run.specs.Worlds.{host_of}
 use Rattle.hack_run.proofs.RunLemmas.{handed_piece, runs_one, runs_some}
 use Rattle.hack_session.proofs.StepLemmas.{has_performed, passed_or_told}
@@ -68,6 +68,7 @@ returns-clause-lanes g c =
       notes = c.in_ok-session.ensures.ran.0;
       planned = c.in_ok-session.ensures.ran.2;
       handed = handed_piece false cx.args session c.requires.piece c.in_ok-session.ensures.headline.driven;
-      ran = subst (λ (p : Option Partition). RunsAll g.L.Turns.did p session.plan session.handed (g.L.Turns.scene c.args.lanes.now) (g.L.Turns.scene last.caller.now)) (told.0 ∙ ap (λ (a : Args). a.partition) c.args-3.ensures)
-          (subst (λ s. RunsAll g.L.Turns.did mid.piece session.plan session.handed s (g.L.Turns.scene last.caller.now)) (ap g.L.Turns.scene (told.1.3 ∙ ap (λ s. s.caller.now) made ∙ c.new-starter.ensures.caller.1)) ran.2);
+      ran = subst (λ (b : Bool). MatchBool b (RunsSerially g.L.Turns.did session.handed (g.L.Turns.scene c.args.lanes.now) (g.L.Turns.scene last.caller.now)) (RunsAll g.L.Turns.did cx.args.partition session.plan session.handed (g.L.Turns.scene c.args.lanes.now) (g.L.Turns.scene last.caller.now))) (sym c.requires.piece)
+          (subst (λ (p : Option Partition). RunsAll g.L.Turns.did p session.plan session.handed (g.L.Turns.scene c.args.lanes.now) (g.L.Turns.scene last.caller.now)) (told.0 ∙ ap (λ (a : Args). a.partition) c.args-3.ensures)
+          (subst (λ s. RunsAll g.L.Turns.did mid.piece session.plan session.handed s (g.L.Turns.scene last.caller.now)) (ap g.L.Turns.scene (told.1.3 ∙ ap (λ s. s.caller.now) made ∙ c.new-starter.ensures.caller.1)) ran.2));
     })

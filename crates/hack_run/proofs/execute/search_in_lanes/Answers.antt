@@ -1,14 +1,12 @@
 use Rattle.std.proofs.Common.{◌≡◌, ◌⊎◌, [], ap, false, inl, inr, refl, subst, sym, ◌∙◌}
-use Rattle.std.specs.Prelude.{All, Contains, List, Option}
-use Rattle.hack_plan.specs.declared.partition.Partition.{Partition}
+use Rattle.std.specs.Prelude.{All, Bool, Contains, List, MatchBool}
 use Rattle.hack_session.specs.Histories.{Course, HasPassed}
 use Rattle.hack_term.specs.declared.term.Term.{Term}
-use Rattle.hack_words.specs.declared.cli.args.Args.{Args}
 use Rattle.hack_load.specs.ContextView.{context_view}
 use Rattle.hack_msrv.specs.Searches.{handed_in_all}
 use Rattle.hack_msrv.specs.declared.found.Found.{Found}
 use Rattle.hack_msrv.specs.declared.found.Found.TheVariants.{Broken}
-use Rattle.hack_side.specs.Turns.{RunsAll}
+use Rattle.hack_side.specs.Turns.{RunsAll, RunsSerially}
 use Rattle.hack_run.specs.Findings.{HasLeast}
 use Rattle.hack_run.specs.Warnings.{have_warning}
 use Rattle.hack_run.specs.Worlds.{host_of}
@@ -28,10 +26,10 @@ returns-clause-done g c = λ none quiet t.
     let course : Course = record { plan = plan; schedule = []; handed = handed; keep_going = false } in
     let notes = c.in_ok-plan.ensures.ran.0 in
     let mid = c.in_ok-plan.ensures.ran.1.starter in
-    let told = c.in_ok-plan.ensures.ran.3.1 in
+    let told = c.in_ok-plan.ensures.ran.3 in
     let last = c.search_context.new.runner.starter in
     let made = c.set_manner.ensures in
-    let ran = searched.whole.3 in
+    let ran = searched.whole.2 in
     let calls = g.L.Caller.calls in
     let lanes_is = c.lanes-2-1.given.1 (sym c.new-starter.ensures.caller.0 ∙ ap (λ s. s.caller.ghost_name) (sym made) ∙ told.0 ∙ ran.0) in
     let out_is = c.out-2-1.given.1 (sym c.new-starter.ensures.out.0 ∙ ap (λ s. s.out.ghost_name) (sym made) ∙ told.7 ∙ ran.3) in
@@ -63,10 +61,10 @@ returns-clause-made g c = λ t.
     let course : Course = record { plan = plan; schedule = []; handed = handed; keep_going = false } in
     let notes = c.in_ok-plan.ensures.ran.0 in
     let mid = c.in_ok-plan.ensures.ran.1.starter in
-    let told = c.in_ok-plan.ensures.ran.3.1 in
+    let told = c.in_ok-plan.ensures.ran.3 in
     let last = c.search_context.new.runner.starter in
     let made = c.set_manner.ensures in
-    let ran = searched.whole.3 in
+    let ran = searched.whole.2 in
     let calls = g.L.Caller.calls in
     let lanes_is = c.lanes-2-1.given.1 (sym c.new-starter.ensures.caller.0 ∙ ap (λ s. s.caller.ghost_name) (sym made) ∙ told.0 ∙ ran.0) in
     let out_is = c.out-2-1.given.1 (sym c.new-starter.ensures.out.0 ∙ ap (λ s. s.out.ghost_name) (sym made) ∙ told.7 ∙ ran.3) in
@@ -85,19 +83,18 @@ returns-clause-lanes g c =
     let course : Course = record { plan = plan; schedule = []; handed = handed; keep_going = false } in
     let notes = c.in_ok-plan.ensures.ran.0 in
     let mid = c.in_ok-plan.ensures.ran.1.starter in
-    let told = c.in_ok-plan.ensures.ran.3.1 in
+    let told = c.in_ok-plan.ensures.ran.3 in
     let last = c.search_context.new.runner.starter in
     let made = c.set_manner.ensures in
-    let ran = searched.whole.3 in
+    let ran = searched.whole.2 in
     let calls = g.L.Caller.calls in
     let lanes_is = c.lanes-2-1.given.1 (sym c.new-starter.ensures.caller.0 ∙ ap (λ s. s.caller.ghost_name) (sym made) ∙ told.0 ∙ ran.0) in
     let out_is = c.out-2-1.given.1 (sym c.new-starter.ensures.out.0 ∙ ap (λ s. s.out.ghost_name) (sym made) ∙ told.7 ∙ ran.3) in
-    let side = c.in_ok-plan.ensures.ran.1 in
     rw lanes_is (record {
       course = course;
       notes = notes;
       planned = c.in_ok-plan.ensures.ran.2;
       handed = handed_search false cx.args course c.requires.search (record { searches = searched.searches; found = c.in_ok-plan.found.items; such = searched.say; steps = refl; end = searched.end; least = λ e. unended e });
-      ran = subst (λ (p : Option Partition). RunsAll g.L.Turns.did p plan handed (g.L.Turns.scene c.args.lanes.now) (g.L.Turns.scene last.caller.now)) (c.in_ok-plan.ensures.ran.3.0 ∙ ap (λ (a : Args). a.partition) c.args-3.ensures)
-          (subst (λ s. RunsAll g.L.Turns.did side.piece plan handed s (g.L.Turns.scene last.caller.now)) (ap g.L.Turns.scene (told.3 ∙ ap (λ s. s.caller.now) made ∙ c.new-starter.ensures.caller.1)) searched.whole.2);
+      ran = subst (λ (b : Bool). MatchBool b (RunsSerially g.L.Turns.did handed (g.L.Turns.scene c.args.lanes.now) (g.L.Turns.scene last.caller.now)) (RunsAll g.L.Turns.did cx.args.partition plan handed (g.L.Turns.scene c.args.lanes.now) (g.L.Turns.scene last.caller.now))) (sym c.requires.search)
+          (subst (λ s. RunsSerially g.L.Turns.did handed s (g.L.Turns.scene last.caller.now)) (ap g.L.Turns.scene (told.3 ∙ ap (λ s. s.caller.now) made ∙ c.new-starter.ensures.caller.1)) searched.whole.1);
     })

@@ -1,0 +1,124 @@
+-- What it takes to build one set.
+use Rattle.std.specs.Prelude.{ℕ, ◌≡◌, ◌≢◌, ◌⊎◌, ◌≤◌, ◌<◌, ◌+◌, ◌-◌, Bool, true, false, List, zero, suc, [], ◌∷◌, ◌++◌, All, AllPairs, Contains, Option, Some, Result, Ok, Err, length, map}
+use Rattle.std.proofs.Common.{refl, sym, ap, ◌∙◌, subst, inl, inr, arith, get_or}
+use Rattle.std.proofs.lemmas.List.{append-nil, map-append}
+use Rattle.std.proofs.lemmas.List.Elements.{All-cons, All-nil, Contains-append_right}
+use Rattle.hack_base.proofs.Members.{Contains-head}
+use Rattle.hack_conflicts.specs.Runs.{Run as Asked}
+use Rattle.hack_conflicts.specs.declared.tried.Outcome.{Outcome}
+use Rattle.hack_conflicts.specs.declared.tried.Outcome.TheVariants.{Broken, Failed, Passed}
+use Rattle.hack_plan.proofs.GrowingPlans.{runs-grown}
+use Rattle.hack_plan.specs.Growth.{with_changed, with_one_place, with_one_run, with_run}
+use Rattle.hack_plan.specs.Runs.{PackageRun}
+use Rattle.hack_plan.specs.View.{PlanView}
+use Rattle.hack_session.specs.declared.step.Handed.{Handed}
+use Rattle.hack_culprits.specs.Built.{Answers, AreBuilt, AreDistinct, AreHanded, Explains, IsAsked, IsBuilt, IsRunFor, Made, Tells, run_for, step_at, steps_from}
+use Rattle.hack_culprits.specs.Internal.{BuildsOne, IsReady, KeepsWhy, is_broken, kept_of, made_in, outcome_of, told_of}
+use Rattle.hack_culprits.specs.declared.aim.Aim.{Aim}
+use Rattle.hack_culprits.specs.declared.built.Built.{Built}
+use Rattle.hack_culprits.specs.declared.fault.CulpritsFault.{CulpritsFault}
+use Rattle.hack_culprits.specs.declared.fault.CulpritsFault.TheVariants as fault
+
+length-changed : {X : Type 0} (change : X → X) (xs : List X) (place : ℕ) → length (with_changed change xs place) ≡ length xs
+length-changed change [] place = refl
+length-changed change (x ∷ xs) zero = refl
+length-changed change (x ∷ xs) (suc place) = ap (λ n. n + 1) (length-changed change xs place)
+
+-- one run more can be added again
+pub still_ready : (aim : Aim) (run : PackageRun) (plan : PlanView) → IsReady aim plan → IsReady aim (with_run aim.slot aim.member run plan)
+still_ready aim run plan ready = record {
+  grows = ready.grows;
+  version = subst (λ n. 0 < n) (sym (length-changed with_one_place plan.versions (length plan.versions - 1))) ready.version;
+  member = subst (λ n. aim.member < n) (sym (length-changed (with_one_run run) plan.packages aim.member)) ready.member;
+  runs = runs-grown run aim.slot aim.member plan.packages plan.entries ready.member ready.runs;
+  order = ready.order;
+}
+
+-- nothing was built, since memory was refused or the plan is full
+pub nothing_built : {R : Type 0} (ran : PlanView → List Handed → R → R → Type 0) (ended : R → Bool) (aim : Aim) (set : List Bool) (why : CulpritsFault) (built : List Made) (plan : PlanView) (a : R)
+    → ((made : List Made) → Explains why made) → IsReady aim plan → BuildsOne ran ended aim set (Err why) built built plan plan a a
+nothing_built ran ended aim set why built plan a explained ready = record {
+  ready = ready;
+  built = record {
+    added = [];
+    made = record {
+      built = sym (append-nil built);
+      plan = refl;
+      distinct = λ apart. apart;
+      each = All-cons (IsBuilt aim built) (record { set = set; outcome = Broken }) [] (inr refl) (All-nil (IsBuilt aim built));
+      needed = All-nil (IsAsked aim (record { set = set; outcome = Broken } ∷ []));
+      few = omega arith;
+    };
+    handed = refl;
+  };
+  kept = λ first. explained built;
+}
+
+told-outcome : (o : Outcome) → outcome_of (told_of o) ≡ o
+told-outcome Passed = refl
+told-outcome Failed = refl
+told-outcome Broken = refl
+
+told-kept : (o : Outcome) (run : PackageRun) (made : List Made) → Contains made (record { run = run; outcome = o }) → (first : Option CulpritsFault) → KeepsWhy (is_broken (outcome_of (told_of o))) made first (kept_of (told_of o) first)
+told-kept Passed run made there first = refl
+told-kept Failed run made there first = refl
+told-kept Broken run made there first = (record { run = run; outcome = Broken }, there, refl)
+
+-- what stands for the set was built before
+pub built_before : {R : Type 0} (ran : PlanView → List Handed → R → R → Type 0) (ended : R → Bool) (aim : Aim) (set : List Bool) (run : PackageRun) (o : Outcome) (built : List Made) (plan : PlanView) (a : R)
+    → IsRunFor aim set run → Contains built (record { run = run; outcome = o }) → IsReady aim plan → BuildsOne ran ended aim set (told_of o) built built plan plan a a
+built_before ran ended aim set run o built plan a fits there ready =
+    let m : Made = record { run = run; outcome = o } in
+    let one : Asked = record { set = set; outcome = outcome_of (told_of o) } in
+    record {
+      ready = ready;
+      built = record {
+        added = [];
+        made = record {
+          built = sym (append-nil built);
+          plan = refl;
+          distinct = λ apart. apart;
+          each = All-cons (IsBuilt aim built) one [] (inl (m, there, record { fits = fits; told = sym (told-outcome o) })) (All-nil (IsBuilt aim built));
+          needed = All-nil (IsAsked aim (one ∷ []));
+          few = omega arith;
+        };
+        handed = refl;
+      };
+      kept = told-kept o run built there;
+    }
+
+pairs-push : {X : Type 0} (P : X → X → Type 0) (xs : List X) (y : X) → AllPairs P xs → All (λ x. P x y) xs → AllPairs P (xs ++ y ∷ [])
+pairs-push P xs y apart all = search (rules, lists)
+
+-- the run was added to the plan, handed out, and ended so
+pub built_now : {R : Type 0} (ran : PlanView → List Handed → R → R → Type 0) (ended : R → Bool) (aim : Aim) (set : List Bool) (run : PackageRun) (o : Outcome) (built after : List Made) (old new : PlanView) (a b : R)
+    → IsRunFor aim set run → All (λ m. m.run ≢ run) built → after ≡ built ++ record { run = run; outcome = o } ∷ [] → new ≡ with_run aim.slot aim.member run old
+    → ran new (step_at (length old.entries) (record { run = run; outcome = o }) ∷ []) a b → Tells (ended b) o → IsReady aim old → BuildsOne ran ended aim set (told_of o) built after old new a b
+built_now ran ended aim set run o built after old new a b fits fresh is grown did tells ready =
+    let m : Made = record { run = run; outcome = o } in
+    let one : Asked = record { set = set; outcome = outcome_of (told_of o) } in
+    let answers : Answers aim one m = record { fits = fits; told = sym (told-outcome o) } in
+    let there : Contains after m = subst (λ (l : List Made). Contains l m) (sym is) (Contains-append_right built (m ∷ []) m (Contains-head m [])) in
+    record {
+      ready = subst (IsReady aim) (sym grown) (still_ready aim run old ready);
+      built = record {
+        added = m ∷ [];
+        made = record {
+          built = is;
+          plan = grown;
+          distinct = λ apart. subst AreDistinct (sym is) (pairs-push (λ (earlier later : Made). later.run ≢ earlier.run) built m apart (λ k d lt e. fresh k d lt (sym e)));
+          each = All-cons (IsBuilt aim after) one [] (inl (m, there, answers)) (All-nil (IsBuilt aim after));
+          needed = All-cons (IsAsked aim (one ∷ [])) m [] (one, Contains-head one [], answers) (All-nil (IsAsked aim (one ∷ [])));
+          few = omega arith;
+        };
+        handed = (b, did, tells, refl);
+      };
+      kept = told-kept o run after there;
+    }
+
+-- the steps of runs, one after the other
+pub handed_ran : {R : Type 0} (ran : PlanView → List Handed → R → R → Type 0) (ended : R → Bool) → ((plan : PlanView) (a : R) → ran plan [] a a)
+    → ((plan : PlanView) (steps more : List Handed) (a b c : R) → ran plan steps a b → ran plan more b c → ran plan (steps ++ more) a c)
+    → (plan : PlanView) (place : ℕ) (made : List Made) (a b : R) → AreHanded ran ended plan place made a b → ran plan (steps_from place made) a b
+handed_ran {R} ran ended none more plan place [] a b h = subst (λ (s : R). ran plan [] a s) (sym h) (none plan a)
+handed_ran ran ended none more plan place (m ∷ made) a b h = more plan (step_at place m ∷ []) (steps_from (place + 1) made) a h.0 b h.1 (handed_ran ran ended none more plan (place + 1) made h.0 b h.3)

@@ -1,0 +1,4 @@
+pub mod Built
+pub mod Internal
+pub mod InternalView
+pub mod JoinedBuilds
