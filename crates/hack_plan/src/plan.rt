@@ -395,12 +395,13 @@ impl Plan {
         }
         let place = self.places.len();
         let rank = reserve_run(&mut self.packages, member)?;
-        self.places.add(PlanEntry {
+        let entry = PlanEntry {
+            package: Some(member),
             version: None,
             slot,
-            package: Some(member),
             rank,
-        })?;
+        };
+        self.places.add(entry)?;
         // What follows takes no memory, so nothing is left half done.
         add_run(&mut self.packages, member, run);
         end_last(&mut self.versions, place + 1);

@@ -1,5 +1,5 @@
 -- Runs on a plan that has grown since: what they did is what they would do on the grown plan.
-use Rattle.std.specs.Prelude.{ℕ, ◌≡◌, Bool, true, false, All, List, [], ◌∷◌, codes, length, Option, Some, None, IsSomeAnd, Result, slice_get, if◌then◌else◌}
+use Rattle.std.specs.Prelude.{ℕ, ◌≡◌, ◌+◌, Bool, true, false, All, List, [], ◌∷◌, codes, length, Option, Some, None, IsSomeAnd, Result, slice_get, if◌then◌else◌}
 use Rattle.std.proofs.Common.{refl, sym, ap, ◌∙◌, subst, arith}
 use Rattle.std.proofs.lemmas.Bool.{false≢true}
 use Rattle.std.proofs.lemmas.List.Elements.{All-tail}
@@ -64,5 +64,5 @@ module _ (old new : PlanView) (grown : IsGrown old new) (grows : old.call.grows 
     done_grown (h ∷ steps) a b are did = (
       did.0,
       (did.1.0, did.1.1, performed-grown h.step did.1.0 a.scene did.1.1 (are 0 h (omega arith)) did.1.2, did.1.3),
-      done_grown steps did.0 b (All-tail _ h steps are) did.2,
+      done_grown steps did.0 b (All-tail (λ (x : Handed). is_run x.step ≡ true) h steps are) did.2,
     )

@@ -1,6 +1,6 @@
 //! The steps of a plan, performed by commands.
 
-ghost use Rattle.std.specs.Prelude.{◌≡◌, ◌<◌, IfOk, IsSomeAnd, None, length};
+ghost use Rattle.std.specs.Prelude.{◌≡◌, ◌<◌, ◌^◌, IfOk, IsSomeAnd, None, length};
 ghost use Rattle.std.specs.Prelude.{option_map, slice_get, string_bytes};
 ghost use Rattle.hack_process.specs.Commands.{command_of};
 ghost use Rattle.hack_plan.specs.Commands.{clean_command, command_of_entry, name_in};
@@ -256,12 +256,14 @@ fn status(
 
 /// The number of all places; none where places are added while the plan is run.
 fn total_of(plan: &Plan) -> Option<usize>
-    ensures { result ≡ shown_total plan.now }
+    ensures value { result ≡ shown_total plan.now }
+    ensures short { length plan.now.entries < 2 ^ 32 }
 {
+    let total = plan.len();
     if plan.grows() {
         return None;
     }
-    Some(plan.len())
+    Some(total)
 }
 
 /// Returns the package's name to show: none under `--verbose`, where commands are shown in full.

@@ -14,5 +14,5 @@ returns c =
     let P : List ℕ → Type 0 = λ bs. IfOk c.format.result (λ s. string_bytes s ≡ bs) in
     subst P (ap (λ (x : List ℕ). status_text c.args.verb.now x (option_map (λ n. n.now) c.told_name.result) (c.args.place + 1) c.total_of-total.result) text
     ∙ ap (λ (x : Option (List ℕ)). status_text c.args.verb.now (text_of c.args.verbose c.args.plan.now.call.dir (command_of_entry c.args.plan.now c.args.run.now.entry)) x (c.args.place + 1) c.total_of-total.result) name
-    ∙ ap (λ (x : Option ℕ). status_text c.args.verb.now (text_of c.args.verbose c.args.plan.now.call.dir (command_of_entry c.args.plan.now c.args.run.now.entry)) (told_name c.args.verbose (name_in (chosen_package_at c.args.plan.now.packages c.args.run.now.entry.package))) (c.args.place + 1) x) c.total_of-total.ensures)
+    ∙ ap (λ (x : Option ℕ). status_text c.args.verb.now (text_of c.args.verbose c.args.plan.now.call.dir (command_of_entry c.args.plan.now c.args.run.now.entry)) (told_name c.args.verbose (name_in (chosen_package_at c.args.plan.now.packages c.args.run.now.entry.package))) (c.args.place + 1) x) c.total_of-total.ensures.value)
     c.format.ensures.ok
