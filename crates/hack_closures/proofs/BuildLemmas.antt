@@ -1,38 +1,38 @@
 -- What is built for a set that the search may choose.
-use Rattle.std.proofs.Common.{◌≡◌, ◌≢◌, ℕ, ◌<◌, ◌≤◌, ◌+◌, List, [], ◌∷◌, ◌++◌, map, length, get_or, refl, sym, ap, ◌∙◌, subst, arith, Bool, true, false, cond, inl, inr, ◌⊎◌, ◌↔◌, All, Contains, IsTrue, Option, None, Some}
+use Rattle.std.proofs.Common.{◌≡◌, ℕ, ◌<◌, List, [], ◌∷◌, length, get_or, refl, sym, ap, ◌∙◌, subst, arith, Bool, true, false, inl, inr, ◌⊎◌, Contains, IsTrue, Option, None, Some}
 use Rattle.std.specs.List.{list_any}
 use Rattle.std.proofs.Math.Logic.{∥∥₁_map, ∥∥₁_elim}
-use Rattle.std.proofs.lemmas.Bool.{false≢true, cases_eq, cases_Bool}
+use Rattle.std.proofs.lemmas.Bool.{false≢true, cases_lt, cases_Bool}
 use Rattle.std.proofs.lemmas.List.{get_or_default}
-use Rattle.std.proofs.lemmas.List.Elements.{All-contains, All-from_get_or, Contains-get_or}
+use Rattle.std.proofs.lemmas.List.Elements.{All-contains, Contains-get_or}
 use Rattle.hack_base.proofs.Members.{Contains-nil}
 use Rattle.hack_base.proofs.Passes.{all_pass, any_passes}
 use Rattle.hack_base.specs.Names.{Name}
 use Rattle.hack_conflicts.specs.Sets.{Has, mark, rows_of}
-use Rattle.hack_conflicts.specs.Rules.{IsPreorder, IsChoice, IsClosed, HasOneOf, HasAbove, Meets, size_of, enables, row_of}
+use Rattle.hack_conflicts.specs.Rules.{IsPreorder, IsChoice, HasOneOf, Meets, size_of, enables}
 use Rattle.hack_conflicts.specs.declared.rules.Rules.{Rules as SearchRules}
 use Rattle.hack_features.specs.FeatureMap.{Reaches}
 use Rattle.hack_features.specs.Sets.{IsSelection, IsWithin}
 use Rattle.hack_features.specs.Rules.{Choice, names_at, CandidateReaches, IsExclusive, IsRequired, IsWanted, IsEnabledBy, EnableTheSame, IsFirstCover}
 use Rattle.hack_features.specs.Samples.{IsOn}
-use Rattle.hack_features.specs.Tables.{is_required, bit}
+use Rattle.hack_features.specs.Tables.{bit}
 use Rattle.hack_features.proofs.CoverLemmas.{required_same}
-use Rattle.hack_features.proofs.Decided.{had, bool_told, never}
+use Rattle.hack_features.proofs.Decided.{Told, had, bool_told}
 use Rattle.hack_features.proofs.MemberLemmas.{both_told}
-use Rattle.hack_closures.specs.Closures.{AreAlone, HasCandidate, StandsFor, TurnsOn, candidate_at}
+use Rattle.hack_closures.specs.Closures.{AreAlone, StandsFor, candidate_at}
 use Rattle.hack_closures.specs.Internal.{AreRows, AreGreatest, IsTold, candidates_of}
 use Rattle.hack_closures.proofs.PairLemmas.{all_apart}
-use Rattle.hack_closures.proofs.MemberLemmas.{position_of, candidates_from, candidates_to, candidates_selection}
+use Rattle.hack_closures.proofs.MemberLemmas.{candidates_from, candidates_to, candidates_selection}
 use Rattle.hack_closures.proofs.TurnLemmas.{by_member, some_member, enabled_through, on_told}
-use Rattle.hack_closures.proofs.OrderLemmas.{kind, low, last_low, target, candidates, order, enabling}
-use Rattle.hack_closures.proofs.RowLemmas.{marked, marked_at, needed_rows, needed_serving}
+use Rattle.hack_closures.proofs.OrderLemmas.{kind, last_low, candidates, order, enabling}
+use Rattle.hack_closures.proofs.RowLemmas.{marked, marked_at, needed_serving}
 
 within_none : (depth : Option ℕ) (s : List ℕ) → depth ≡ None → IsWithin depth s
 within_none None s e = tt
 within_none (Some most) s e = absurd (let z : Some most ≡ None = e in cc)
 
 -- the candidates of the greatest members of a set without the position of all features
-module _ (c : Choice) (alone : List ℕ) (r : SearchRules) (a : AreAlone c alone) (s left : List Bool)
+module _ (c : Choice) (alone : List ℕ) (r : SearchRules) (s left : List Bool)
     (chosen : IsChoice r s) (low_s : (x : ℕ) → Has s x → x < length alone) (g : AreGreatest r s left)
     (on : (x y : ℕ) → x < length alone → y < length alone → IsTrue (enables r x y) → IsOn c (candidate_at alone x ∷ []) (candidate_at alone y)) where
   abbrev whole : List ℕ
@@ -81,7 +81,7 @@ module _ (c : Choice) (alone : List ℕ) (r : SearchRules) (a : AreAlone c alone
     );
   }
 
-  module _ (with_empty all : Bool) (h : AreRows c alone with_empty all r) (bare : IsTrue all → c.exclusive ≡ []) (free : c.depth ≡ None) where
+  module _ (with_empty all : Bool) (a : AreAlone c alone) (h : AreRows c alone with_empty all r) (bare : IsTrue all → c.exclusive ≡ []) (free : c.depth ≡ None) where
     -- two kept candidates that reach one group are one
     one_of_group : (k : ℕ) → k < length c.exclusive → (all ≡ true) ⊎ (all ≡ false) → (x y : ℕ) → Has left x → Has left y → CandidateReaches c (get_or c.exclusive k []) (candidate_at alone x) → CandidateReaches c (get_or c.exclusive k []) (candidate_at alone y) → x ≡ y
     one_of_group k lt (inl e) x y hx hy rx ry = absurd (let none : length c.exclusive ≡ 0 = ap length (bare e) in omega (arith, lt))
@@ -156,6 +156,53 @@ module _ (c : Choice) (alone : List ℕ) (with_empty all : Bool) (r : SearchRule
   all_same x = both_told (mark s x) (enables r (length alone) x) (all_from x) (λ e. chosen.closed.whole (length alone) x has e)
 
 -- what follows from what closures are told of
+never : IsProp ⊥
+never a b = absurd a
+
+low_told : (i n : ℕ) → Told (i < n)
+low_told i n = elim (cases_lt i n) [ inl lt ↦ inl lt | inr le ↦ inr (λ lt. omega arith) ]
+
 module _ (c : Choice) (alone : List ℕ) (all : Bool) (r : SearchRules) (told : ∥ IsTold c alone all r ∥₁) where
-  pub told_on : (x y : ℕ) → x < length alone → y < length alone → IsTrue (enables r x y) → IsOn c (candidate_at alone x ∷ []) (candidate_at alone y)
+  pub told_order : IsPreorder r
+  told_order = record {
+    reflexive = λ x lt. had (bool_told (enables r x x)) (∥∥₁_map told (λ k. (order c alone all r k.rows.enabled).reflexive x lt));
+    below = λ x y e. had (low_told y (size_of r)) (∥∥₁_map told (λ k. (order c alone all r k.rows.enabled).below x y e));
+    transitive = λ x y z e f. had (bool_told (enables r x z)) (∥∥₁_map told (λ k. (order c alone all r k.rows.enabled).transitive x y z e f));
+  }
+
+  pub told_selection : IsSelection (length c.candidates) alone
+  told_selection = record {
+    increasing = λ i j d lt le. had (low_told (get_or alone i d) (get_or alone j d)) (∥∥₁_map told (λ k. k.are_alone.selection.increasing i j d lt le));
+    below = λ i d lt. had (low_told (get_or alone i d) (length c.candidates)) (∥∥₁_map told (λ k. k.are_alone.selection.below i d lt));
+  }
+
+  told_on : (x y : ℕ) → x < length alone → y < length alone → IsTrue (enables r x y) → IsOn c (candidate_at alone x ∷ []) (candidate_at alone y)
   told_on x y lx ly e = had (on_told c (candidate_at alone x ∷ []) (candidate_at alone y)) (∥∥₁_map told (λ k. ((candidates c alone all r k.rows.enabled x y lx ly).0 e).on))
+
+  module _ (s : List Bool) (chosen : IsChoice r s) where
+    -- a set with the position of all features
+    pub told_all : IsTrue all → Has s (length alone) → (x : ℕ) → mark s x ≡ enables r (length alone) x
+    told_all is has x =
+        let same = ∥∥₁_map told (λ k. all_same c alone k.with_empty all r k.rows s chosen is has x) in
+        both_told (mark s x) (enables r (length alone) x)
+        (λ e. had (bool_told (enables r (length alone) x)) (∥∥₁_map same (λ f. sym f ∙ e)))
+        (λ e. had (bool_told (mark s x)) (∥∥₁_map same (λ f. f ∙ e)))
+
+    -- one without it
+    module _ (plain : IsTrue all → ¬ Has s (length alone)) where
+      low_set : (x : ℕ) → Has s x → x < length alone
+      low_set x has = had (low_told x (length alone)) (∥∥₁_map told (λ k.
+          elim (kind c alone all r k.rows.enabled x (chosen.closed.below x has)) [
+            | inl lt ↦ lt
+            | inr w ↦ absurd (plain w.1 (subst (Has s) w.0 has))
+          ]))
+
+      pub told_last : ¬ Has s (length alone)
+      told_last has = let lt : length alone < length alone = low_set (length alone) has in omega arith
+
+      pub told_stands : (left : List Bool) → AreGreatest r s left → (t : List ℕ) → IsFirstCover c (candidates_of alone left) t → StandsFor c alone s t
+      told_stands left g t cover = stands c alone r s left chosen low_set g told_on t cover
+
+      pub told_empty : (left : List Bool) → AreGreatest r s left → ¬ IsWanted c (candidates_of alone left) → (x : ℕ) → ¬ Has s x
+      told_empty left g unwanted x has =
+          ∥∥₁_elim told never (λ k. unwanted (kept_wanted c alone r s left chosen low_set g told_on k.with_empty all k.are_alone k.rows k.bare k.depth x has))

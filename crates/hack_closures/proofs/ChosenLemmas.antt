@@ -1,26 +1,27 @@
 -- The sets that the search may choose: what listed sets turn on, the empty set, what all features turn on.
-use Rattle.std.proofs.Common.{◌≡◌, ◌≢◌, ℕ, ◌<◌, ◌≤◌, ◌+◌, List, [], ◌∷◌, ◌++◌, map, length, get_or, refl, sym, ap, ◌∙◌, subst, arith, Bool, true, false, cond, inl, inr, ◌⊎◌, ◌↔◌, All, Contains, IsTrue}
+use Rattle.std.proofs.Common.{◌≡◌, ◌≢◌, ℕ, ◌<◌, List, [], ◌∷◌, length, get_or, refl, sym, ap, ◌∙◌, subst, arith, Bool, true, false, inl, inr, ◌⊎◌, ◌↔◌, Contains, IsTrue}
+use Rattle.std.specs.Prelude.{◌==◌}
 use Rattle.std.specs.List.{list_any}
-use Rattle.std.proofs.lemmas.Bool.{false≢true, cases_eq, cases_Bool}
-use Rattle.std.proofs.lemmas.List.{length-map, get_or_default}
+use Rattle.std.proofs.lemmas.Bool.{false≢true, cases_eq, cases_Bool, eqb-true, eq-eqb}
+use Rattle.std.proofs.lemmas.List.{get_or_default}
 use Rattle.std.proofs.lemmas.List.Elements.{All-contains, Contains-get_or}
 use Rattle.hack_base.proofs.Members.{Contains-nil, Contains-cons_cases, Contains-head, Contains-tail}
-use Rattle.hack_base.proofs.Passes.{all_pass, each_passes, some_passes, any_passes}
+use Rattle.hack_base.proofs.Passes.{all_pass, each_passes, some_passes}
 use Rattle.hack_base.specs.Names.{Name}
 use Rattle.hack_conflicts.specs.Sets.{Has, mark, rows_of}
-use Rattle.hack_conflicts.specs.Rules.{IsPreorder, IsChoice, IsClosed, IsExclusive as IsSearchExclusive, HasOneOf, HasAbove, Meets, IsRequired as IsSearchRequired, size_of, enables, row_of}
+use Rattle.hack_conflicts.specs.Rules.{IsPreorder, IsChoice, IsClosed, IsExclusive as IsSearchExclusive, HasOneOf, HasAbove, Meets, IsRequired as IsSearchRequired, enables, row_of}
 use Rattle.hack_conflicts.specs.declared.rules.Rules.{Rules as SearchRules}
 use Rattle.hack_features.specs.FeatureMap.{Reaches}
-use Rattle.hack_features.specs.Sets.{IsSelection, Pairwise}
-use Rattle.hack_features.specs.Rules.{Choice, names_at, names_in, CandidateReaches, IsExclusive, IsRequired, IsWanted}
-use Rattle.hack_features.specs.Tables.{is_required, bit}
+use Rattle.hack_features.specs.Sets.{IsSelection}
+use Rattle.hack_features.specs.Rules.{Choice, CandidateReaches, IsRequired, IsWanted}
+use Rattle.hack_features.specs.Tables.{bit}
 use Rattle.hack_features.proofs.Listing.{selection_none}
 use Rattle.hack_closures.specs.Closures.{AreAlone, AreChosen, IsClosureOf, TurnsOn, candidate_at}
-use Rattle.hack_closures.specs.Internal.{AreRows, AreServing, AreNeeded, IsPair}
+use Rattle.hack_closures.specs.Internal.{AreRows, IsPair}
 use Rattle.hack_closures.proofs.PairLemmas.{one_alone, not_two}
-use Rattle.hack_closures.proofs.MemberLemmas.{has_below, has_none, position_of, candidate_in, union}
+use Rattle.hack_closures.proofs.MemberLemmas.{has_none, position_of, union}
 use Rattle.hack_closures.proofs.TurnLemmas.{turns_itself, turns_through}
-use Rattle.hack_closures.proofs.OrderLemmas.{size, low, last_low, target, candidates, order, kind}
+use Rattle.hack_closures.proofs.OrderLemmas.{low, target, candidates, order}
 use Rattle.hack_closures.proofs.RowLemmas.{marked, every, marked_at, marked_last, every_at, every_last, needed_rows, needed_from, needed_serving, needed_every}
 
 -- all of two positions that are one
@@ -44,8 +45,7 @@ module _ (c : Choice) (alone : List ℕ) (with_empty all : Bool) (r : SearchRule
       let rest = closure t (λ q there. have q (Contains-tail p t q there)) in
       let at = position_of alone p (have p (Contains-head p t)) in
       let row : List Bool = row_of r at.0 in
-      let both = union row rest.0 in
-      (
+      let both = union row rest.0 in (
         both.0,
         λ x. (
           λ has. elim ((both.1 x).0 has) [
@@ -105,7 +105,7 @@ module _ (c : Choice) (alone : List ℕ) (with_empty all : Bool) (r : SearchRule
         ]
 
     exclusive_by : (all ≡ true) ⊎ (all ≡ false) → IsSearchExclusive r s
-    exclusive_by (inl e) k d lt x y hx hy gx gy =
+    exclusive_by (inl e) = λ k d lt x y hx hy gx gy.
         let pair = (h.excluding.pairs e).only k d lt in
         let row : List Bool = get_or (rows_of r.exclusive.items) k d in
         let lx = ((is x).0 hx).0 in
@@ -114,7 +114,7 @@ module _ (c : Choice) (alone : List ℕ) (with_empty all : Bool) (r : SearchRule
         let second : y ≡ pair.0 = same_of_pair pair.0 m y row pair.3 gy (λ q. (let z : y ≡ m = q in omega arith)) in
         let itself = up.reflexive x (low c alone all r h.enabled x lx) in
         (x, hx, itself, subst (λ z. IsTrue (enables r x z)) (first ∙ sym second) itself)
-    exclusive_by (inr e) k d lt =
+    exclusive_by (inr e) = λ k d lt.
         let groups = h.excluding.groups e in
         let l : k < length c.exclusive = (let n = groups.count in omega (arith, lt)) in
         one_of_group k l (get_or (rows_of r.exclusive.items) k d) (λ y ly has. ((groups.each k l).each y ly).0 (subst (λ row. Has row y) (get_or_default (rows_of r.exclusive.items) k d [] lt) has))
@@ -205,3 +205,18 @@ module _ (c : Choice) (alone : List ℕ) (with_empty all : Bool) (r : SearchRule
             | inr v ↦ (m, subst (λ row. Has row m) v.1 (every_last alone all is), itself)
           ];
     }
+
+-- where there is a position of all features
+
+length_none : {X : Type 0} (xs : List X) → length xs ≡ 0 → xs ≡ []
+length_none [] e = refl
+length_none (x ∷ xs) e = absurd (omega arith)
+
+pub all_asked : {X : Type 0} (asked all : Bool) (n : ℕ) (groups : List X) → n ≡ length groups → asked ≡ true → all ≡ (n == 0) → IsTrue all ↔ (IsTrue asked × (groups ≡ []))
+all_asked asked all n groups count e is = (
+  λ t. (e, length_none groups (sym count ∙ eqb-true n 0 (sym is ∙ t))),
+  λ w. is ∙ eq-eqb n 0 (count ∙ ap length w.1),
+)
+
+pub all_unasked : {X : Type 0} (asked all : Bool) (groups : List X) → asked ≡ false → all ≡ false → IsTrue all ↔ (IsTrue asked × (groups ≡ []))
+all_unasked asked all groups e is = (λ t. absurd (false≢true (sym is ∙ t)), λ w. absurd (false≢true (sym e ∙ w.0)))

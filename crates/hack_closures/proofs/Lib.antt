@@ -5,3 +5,4 @@ pub mod OrderLemmas
 pub mod RowLemmas
 pub mod ChosenLemmas
 pub mod BuildLemmas
+pub mod StepLemmas

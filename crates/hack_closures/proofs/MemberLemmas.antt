@@ -1,12 +1,12 @@
 -- The candidates of a set's positions, and sets of marks.
-use Rattle.std.proofs.Common.{◌≡◌, ◌≢◌, ℕ, zero, suc, ◌<◌, ◌≤◌, ◌+◌, List, [], ◌∷◌, ◌++◌, length, get_or, refl, sym, ap, ◌∙◌, subst, arith, Bool, true, false, cond, inl, inr, ◌⊎◌, ◌↔◌, All, Contains, IsTrue}
+use Rattle.std.proofs.Common.{◌≡◌, ℕ, zero, suc, ◌<◌, List, [], ◌∷◌, length, refl, sym, ◌∙◌, arith, Bool, true, false, inl, inr, ◌⊎◌, ◌↔◌, All, Contains}
 use Rattle.std.specs.Prelude.{AllPairs, ◌||◌}
 use Rattle.std.proofs.lemmas.Bool.{false≢true, cases_lt, or_cases}
 use Rattle.std.proofs.lemmas.List.{get_or_past, get_or_default}
 use Rattle.std.proofs.lemmas.List.Elements.{All-nil, All-cons, All-head, All-tail, Contains-get_or}
 use Rattle.std.proofs.lemmas.List.Kept.{AllPairs-cons}
 use Rattle.hack_base.proofs.Members.{Contains-nil, Contains-cons_cases, Contains-head, Contains-tail}
-use Rattle.hack_conflicts.specs.Sets.{Has, mark}
+use Rattle.hack_conflicts.specs.Sets.{Has}
 use Rattle.hack_features.specs.Sets.{IsSelection}
 use Rattle.hack_closures.specs.Closures.{candidate_at, HasCandidate}
 use Rattle.hack_closures.specs.Internal.{candidates_of}

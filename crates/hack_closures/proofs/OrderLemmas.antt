@@ -1,12 +1,11 @@
 -- What the rows of what positions enable say.
-use Rattle.std.proofs.Common.{◌≡◌, ◌≢◌, ℕ, ◌<◌, ◌≤◌, ◌+◌, List, [], ◌∷◌, length, get_or, refl, sym, ap, ◌∙◌, subst, arith, Bool, true, false, cond, inl, inr, ◌⊎◌, ◌↔◌, All, Contains, IsTrue}
+use Rattle.std.proofs.Common.{◌≡◌, ℕ, ◌<◌, ◌≤◌, ◌+◌, List, [], length, refl, sym, ap, ◌∙◌, subst, arith, Bool, true, false, cond, inl, inr, ◌⊎◌, ◌↔◌, IsTrue}
 use Rattle.std.proofs.lemmas.Bool.{false≢true, cases_lt}
 use Rattle.std.proofs.lemmas.List.{get_or_past, length-map}
-use Rattle.hack_conflicts.specs.Sets.{Has, mark, rows_of}
+use Rattle.hack_conflicts.specs.Sets.{mark, rows_of}
 use Rattle.hack_conflicts.specs.Rules.{IsPreorder, size_of, enables, row_of}
 use Rattle.hack_conflicts.specs.declared.rules.Rules.{Rules as SearchRules}
 use Rattle.hack_features.specs.Rules.{Choice}
-use Rattle.hack_features.specs.Settings.{IsOnWithAll}
 use Rattle.hack_closures.specs.Closures.{AreEnabling, TurnsOn, candidate_at}
 use Rattle.hack_closures.specs.Internal.{AreEnabledRows}
 use Rattle.hack_closures.proofs.MemberLemmas.{has_below}

@@ -1,5 +1,5 @@
 -- Candidates that turn each other on.
-use Rattle.std.proofs.Common.{◌≡◌, ℕ, List, [], ◌∷◌, get_or, sym, subst, inl, inr, All, Contains, ◌↔◌}
+use Rattle.std.proofs.Common.{ℕ, List, [], ◌∷◌, get_or, sym, subst, inl, inr, Contains}
 use Rattle.std.proofs.lemmas.List.Elements.{All-contains, Contains-get_or}
 use Rattle.hack_base.proofs.Members.{Contains-nil, Contains-cons_cases, Contains-head}
 use Rattle.hack_base.specs.Names.{Name}
@@ -31,7 +31,7 @@ module _ (c : Choice) where
 
   -- what a set enables a member enables
   pub some_member : (s : List ℕ) (y : Name) → IsEnabledBy c s y → (p : ℕ) × Contains s p × IsEnabledBy c (p ∷ []) y
-  some_member s y e = let w = member_of c s e.0 e.1 in (w.0, w.1, e.0, to_one w.0 e.0 w.2, e.2)
+  some_member s y e = let w = member_of c s e.0 e.1 in (w.0, w.1, (e.0, to_one w.0 e.0 w.2, e.2))
 
   -- what a candidate enables that is turned on by another the other enables
   pub enabled_through : (p q : ℕ) (y : Name) → IsOn c (p ∷ []) q → IsEnabledBy c (q ∷ []) y → IsEnabledBy c (p ∷ []) y

@@ -1,15 +1,15 @@
 -- What only private functions of the crate promise each other.
-use Rattle.std.specs.Prelude.{◌≡◌, ◌≢◌, ◌<◌, ◌+◌, ◌++◌, ℕ, List, [], ◌∷◌, map, length, Bool, true, false, cond, IsTrue, All, Contains, ◌↔◌, ◌⊎◌, Option, None, replicate}
+use Rattle.std.specs.Prelude.{◌≡◌, ◌<◌, ◌+◌, ◌++◌, ℕ, List, [], ◌∷◌, map, length, Bool, true, false, cond, IsTrue, All, Contains, ◌↔◌, ◌⊎◌, None, replicate}
 use Rattle.std.specs.List.{slice_index_or}
 use Rattle.hack_base.specs.Names.{Name}
 use Rattle.hack_conflicts.specs.Sets.{Has, mark, rows_of, IsWithin}
-use Rattle.hack_conflicts.specs.Rules.{IsPreorder, IsChoice, size_of, enables, Meets, HasOneOf}
+use Rattle.hack_conflicts.specs.Rules.{enables}
 use Rattle.hack_conflicts.specs.declared.rules.Rules.{Rules as SearchRules}
 use Rattle.hack_features.specs.Sets.{IsSelection}
 use Rattle.hack_features.specs.Rules.{Choice, CandidateReaches, IsRequired}
 use Rattle.hack_features.specs.Settings.{IsOnWithAll}
 use Rattle.hack_features.specs.Tables.{is_required}
-use Rattle.hack_closures.specs.Closures.{AreAlone, AreEnabling, TurnsOn, candidate_at}
+use Rattle.hack_closures.specs.Closures.{AreAlone, TurnsOn, candidate_at}
 
 -- the candidates of the set's positions
 abbrev pub candidates_of : List ℕ → List Bool → List ℕ

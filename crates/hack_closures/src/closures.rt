@@ -52,7 +52,7 @@ fn search_rules(
 }
 
 impl<'a> Closures<'a> {
-    ghost use Rattle.std.specs.Prelude.{◌×◌, ◌↔◌, ◌≤◌, ℕ, [], List, Bool, None, IsTrue, MatchOption};
+    ghost use Rattle.std.specs.Prelude.{◌↔◌, ◌≤◌, ℕ, [], List, Bool, None, IsTrue, MatchOption};
     ghost use Rattle.hack_conflicts.specs.Sets.{Has};
     ghost use Rattle.hack_conflicts.specs.Rules.{IsChoice, row_of};
     ghost use Rattle.hack_features.specs.Rules.{IsRequired};

@@ -1,10 +1,11 @@
 //! What each position enables.
 
-ghost use Rattle.std.specs.Prelude.{◌≡◌, ◌<◌, ◌↔◌, [], length, All, IfOk, IsTrue};
+ghost use Rattle.std.specs.Prelude.{◌≡◌, ◌<◌, ◌↔◌, [], ◌∷◌, length, All, IfOk, IsTrue};
 ghost use Rattle.hack_conflicts.specs.Sets.{rows_of};
 ghost use Rattle.hack_features.specs.Rules.{CandidateReaches};
 ghost use Rattle.hack_features.specs.View.{choice_of, size_of};
-ghost use Rattle.hack_closures.specs.Closures.{AreAlone};
+ghost use Rattle.hack_features.specs.Settings.{AreSettings};
+ghost use Rattle.hack_closures.specs.Closures.{AreAlone, TurnsOn};
 ghost use Rattle.hack_closures.specs.Internal.{AreTurnedOn, AreAllTurnedOn, AreOnWithAll};
 ghost use Rattle.hack_closures.specs.Internal.{AreEnabledRows};
 
@@ -41,6 +42,16 @@ fn reaches_as(rules: &Rules, p: usize, q: usize) -> bool
     true
 }
 
+/// Whether candidate `p` turns candidate `q` on. `settings` says which candidates are on with `p`.
+fn turns_on(rules: &Rules, settings: &[bool], p: usize, q: usize) -> bool
+    requires first { p < size_of rules.now }
+    requires second { q < size_of rules.now }
+    requires settings { AreSettings (choice_of rules.now) (p ∷ []) settings.now }
+    ensures { IsTrue result ↔ TurnsOn (choice_of rules.now) p q }
+{
+    has(settings, q) && reaches_as(rules, p, q)
+}
+
 /// Whether candidate `p` turns on each of these candidates.
 fn turned_on(
     alloc: Global,
@@ -55,7 +66,7 @@ fn turned_on(
     let settings = rules.settings(alloc, &[p])?;
     let mut row = Vec::new(alloc);
     for q in alone {
-        row.push(has(settings.as_slice(), *q) && reaches_as(rules, p, *q))?;
+        row.push(turns_on(rules, settings.as_slice(), p, *q))?;
     }
     Ok(row)
 }

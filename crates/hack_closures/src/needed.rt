@@ -12,12 +12,7 @@ use std::alloc::{AllocError, Global};
 
 /// The marks of these candidates in a row that has one for each candidate, and one of all features,
 /// if `all`.
-fn serving(
-    alloc: Global,
-    row: &[bool],
-    alone: &[usize],
-    all: bool,
-) -> Result<Vec<bool>, AllocError>
+fn serving(alloc: Global, row: &[bool], alone: &[usize], all: bool) -> Result<Vec<bool>, AllocError>
     ensures { IfOk result (λ marks. marks.items
         ≡ map (mark row.now) alone.now ++ cond all (true ∷ []) []) }
 {
