@@ -31,6 +31,7 @@ use crate::tell::tell_all;
 use hack_files::fs::{Files, FsFault};
 use hack_files::restore::Manager;
 use hack_load::context::{Answers, Context};
+use hack_planner::looks::long_looks;
 use hack_prepare::manifest::{PrepareFault, finish, prepare};
 use hack_starts::starts::Starts;
 use hack_term::term::Term;
@@ -226,8 +227,19 @@ fn run_plan<C: Starts, O: Write, E: Write>(
         ⊎ RunsInLanes C.did (context_view cx.now) stable
         (string_bytes host.old.env.now.rustup) host.old.caller.now host.new.caller.now) }
 {
+    tell_looks(host.alloc, cx, host.term, host.err);
     if cx.args().print_command_list {
         return print_list(cx, stable, host);
     }
     execute(cx, stable, host)
+}
+
+/// Says beforehand which looks for samples will take long. A line for which memory is refused is left
+/// out.
+fn tell_looks<E: Write>(alloc: Global, cx: &Context, term: &Term, err: &mut E) {
+    if let Ok(looks) = long_looks(alloc, cx) {
+        for text in &looks {
+            let _ = term.info(text.as_str(), err);
+        }
+    }
 }
