@@ -1,21 +1,14 @@
 -- The colouring that is asked for where a command line can't be parsed.
-use Rattle.std.proofs.Common.{◌≡◌, ◌≢◌, ℕ, List, Option, Some, None, MatchOption, refl, sym, subst}
+use Rattle.std.proofs.Common.{◌≡◌, ℕ, List, Option, Some, None, MatchOption, refl, sym, subst}
 use Rattle.hack_rules.specs.Faults.{ArgumentFault as WrongCut}
-use Rattle.hack_rules.specs.UseReading.{ReadsUsesThen, End, Prints, Fails}
+use Rattle.hack_rules.specs.UseReading.{ReadsUsesThen, Prints, Fails}
 use Rattle.hack_rules.specs.Uses.{Use}
-use Rattle.hack_rules.specs.AskedFields.{coloring_asked}
 use Rattle.hack_rules.specs.declared.uses.behavior.WorkspaceBehavior.{WorkspaceBehavior}
 use Rattle.hack_rules.specs.declared.uses.cut.Print.{Print as Question}
 use Rattle.hack_rules.specs.CliFaults.{Fault, Cut}
-use Rattle.hack_term.specs.declared.term.Coloring.{Coloring}
 use Rattle.hack_term.specs.declared.term.Coloring.TheVariants.{Auto}
 use Rattle.hack_words.specs.AskedColoring.{AsksColoring, ColorsFrom}
-use Rattle.hack_words.specs.Start.{Start, Refuses, Cuts, start_of}
-
--- where the start is refused
-pub start-colors : (term_color : Option (List ℕ)) (start : Start) (Q : Type 0) (o : Option Fault) → MatchOption o Q (λ told. start ≡ Refuses told) → MatchOption o Q (λ told. ColorsFrom term_color start Auto)
-start-colors term_color start Q (Some told) h = subst (λ (s : Start). ColorsFrom term_color s Auto) (sym h) refl
-start-colors term_color start Q None h = h
+use Rattle.hack_words.specs.Start.{Start, Cuts, start_of}
 
 -- where an argument can't be cut
 pub cut-colors : (term_color : Option (List ℕ)) (words : List (List ℕ)) (behavior : WorkspaceBehavior) (cut trailing : List (List ℕ)) (Q : Type 0) (o : Option Fault) → start_of words ≡ Cuts behavior cut trailing
@@ -27,13 +20,3 @@ cut-colors term_color words behavior cut trailing Q None begun h = h
 pub question-colors : (term_color : Option (List ℕ)) (words : List (List ℕ)) (behavior : WorkspaceBehavior) (cut trailing : List (List ℕ)) (us : List Use) (print : Question) → start_of words ≡ Cuts behavior cut trailing
     → ReadsUsesThen cut us (Prints print) → AsksColoring term_color words Auto
 question-colors term_color words behavior cut trailing us print begun h = subst (λ (s : Start). ColorsFrom term_color s Auto) (sym begun) (us, Prints print, h, refl)
-
--- where all is parsed, the uses say it
-pub uses-color : (term_color : Option (List ℕ)) (words : List (List ℕ)) (behavior : WorkspaceBehavior) (cut trailing : List (List ℕ)) (us : List Use) (coloring : Coloring) → start_of words ≡ Cuts behavior cut trailing
-    → ReadsUsesThen cut us End → coloring ≡ coloring_asked term_color us → AsksColoring term_color words coloring
-uses-color term_color words behavior cut trailing us coloring begun h is = subst (λ (s : Start). ColorsFrom term_color s coloring) (sym begun) (us, End, h, is)
-
--- an error that isn't that memory was refused
-pub not-starved : (P Q : Type 0) (o : Option Fault) → (Q → ⊥) → MatchOption o Q (λ told. P) → P
-not-starved P Q (Some told) other h = h
-not-starved P Q None other h = absurd (other h)

@@ -1,6 +1,6 @@
 //! How a command line asks for lines to be coloured, also where it is refused.
 
-ghost use Rattle.std.specs.Prelude.{◌≡◌, IfErr, IfOk, MatchOption};
+ghost use Rattle.std.specs.Prelude.{◌≡◌, ◌≢◌, IfErr, IfOk, MatchOption, false};
 ghost use Rattle.hack_base.specs.Names.{names_of, optional_text, optional_text_ref};
 ghost use Rattle.hack_rules.specs.AskedFields.{coloring_asked as asked_by};
 ghost use Rattle.hack_rules.specs.CliFaults.{fault_of};
@@ -19,17 +19,26 @@ use std::alloc::{AllocError, Global};
 /// The colouring that these arguments ask for, else the environment. It is that of errors too, of
 /// all rules behind the one on colours. `Auto` where an earlier rule is broken or that one, and where
 /// the arguments ask for a text.
-pub fn coloring_asked(
-    alloc: Global,
-    words: &[String],
-    env: &Env,
-) -> Result<Coloring, AllocError>
+pub fn coloring_asked(alloc: Global, words: &[String], env: &Env) -> Result<Coloring, AllocError>
     ensures { IfOk result (AsksColoring (optional_text env.now.term_color) (names_of words.now)) }
 {
     match coloring_of(alloc, words, env) {
         Ok(coloring) => Ok(coloring),
-        Err(CliFault::Memory) => Err(AllocError),
-        Err(_) => Ok(Coloring::Auto),
+        Err(fault) => {
+            if is_memory(&fault) {
+                return Err(AllocError);
+            }
+            Ok(Coloring::Auto)
+        }
+    }
+}
+
+fn is_memory(fault: &CliFault) -> bool
+    ensures { result ≡ false → fault.now ≢ CliFault.Memory }
+{
+    match fault {
+        CliFault::Memory => true,
+        _ => false,
     }
 }
 
