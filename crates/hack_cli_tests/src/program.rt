@@ -239,3 +239,52 @@ fn calls_of_the_program(rt: HostRuntime) -> Result<(), Wrong> {
         "#,
     )
 }
+
+#[test]
+fn colors_of_refusals(rt: HostRuntime) -> Result<(), Wrong> {
+    hold(
+        rt.alloc(),
+        &mut Calls {},
+        "
+            > terminal TERM=xterm : cargo-hack hack check --depth 2
+            | \x1b[0m\x1b[1m\x1b[31merror\x1b[0m\x1b[1m:\x1b[0m --depth can only be used together with --feature-powerset
+            | 0 calls, 0 locks, status 1
+            > terminal TERM=xterm : cargo-hack hack check --color never --depth 2
+            | error: --depth can only be used together with --feature-powerset
+            | 0 calls, 0 locks, status 1
+            > terminal TERM=xterm CARGO_TERM_COLOR=never : cargo-hack hack check --depth 2
+            | error: --depth can only be used together with --feature-powerset
+            | 0 calls, 0 locks, status 1
+            > : cargo-hack hack check --color=always --depth 2
+            | \x1b[0m\x1b[1m\x1b[31merror\x1b[0m\x1b[1m:\x1b[0m --depth can only be used together with --feature-powerset
+            | 0 calls, 0 locks, status 1
+            > CARGO_TERM_COLOR=always : cargo-hack hack check --depth 2
+            | \x1b[0m\x1b[1m\x1b[31merror\x1b[0m\x1b[1m:\x1b[0m --depth can only be used together with --feature-powerset
+            | 0 calls, 0 locks, status 1
+            > CARGO_TERM_COLOR=always : cargo-hack hack check --depth 2 --color never
+            | error: --depth can only be used together with --feature-powerset
+            | 0 calls, 0 locks, status 1
+            > CARGO_TERM_COLOR=always : cargo-hack hack check --depth 2 --color auto
+            | error: --depth can only be used together with --feature-powerset
+            | 0 calls, 0 locks, status 1
+            > : cargo-hack hack check --depth 2 -- --color always
+            | error: --depth can only be used together with --feature-powerset
+            | 0 calls, 0 locks, status 1
+            > : cargo-hack hack check --color always --find-rust-version
+            | \x1b[0m\x1b[1m\x1b[31merror\x1b[0m\x1b[1m:\x1b[0m --find-rust-version can only be used together with --version-range
+            | 0 calls, 0 locks, status 1
+            > terminal TERM=xterm CARGO_TERM_COLOR=never : cargo-hack hack check --color x
+            | \x1b[0m\x1b[1m\x1b[31merror\x1b[0m\x1b[1m:\x1b[0m argument for --color must be auto, always, or never, but found `x`
+            | 0 calls, 0 locks, status 1
+            > CARGO_TERM_COLOR=x : cargo-hack hack check
+            | error: CARGO_TERM_COLOR must be auto, always, or never, but found `x`
+            | 0 calls, 0 locks, status 1
+            > terminal TERM=xterm : cargo-hack hack check --color never --depth
+            | \x1b[0m\x1b[1m\x1b[31merror\x1b[0m\x1b[1m:\x1b[0m missing argument for option '--depth'
+            | 0 calls, 0 locks, status 1
+            > : cargo-hack check --color always
+            | error: expected subcommand 'hack', found argument 'check'
+            | 0 calls, 0 locks, status 1
+        ",
+    )
+}

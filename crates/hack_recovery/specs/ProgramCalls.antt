@@ -1,10 +1,11 @@
 -- How a call of the program goes, from what the system tells of it.
 use Rattle.std.specs.Prelude.{◌≡◌, ℕ, Bool, true, List, Option, Ok, Err}
 use Rattle.std.specs.declared.io.traits.Write.{Ghosts as Writing}
-use Rattle.hack_base.specs.Names.{Name, names_of}
+use Rattle.hack_base.specs.Names.{Name, names_of, optional_text}
 use Rattle.hack_base.specs.Writes.{AppendsFront}
 use Rattle.hack_files.specs.declared.fs.Files.{Ghosts as Filing}
 use Rattle.hack_process.specs.declared.caller.Caller.{Ghosts as Calling}
+use Rattle.hack_run.specs.CallTrace.{colored_by}
 use Rattle.hack_run.specs.Worlds.{files_view}
 use Rattle.hack_start.specs.Started.{GivesStart, SetsColoring, auto_coloring_of, start_fault_text}
 use Rattle.hack_start.specs.SystemView.{SystemView}
@@ -13,6 +14,7 @@ use Rattle.hack_start.specs.declared.started.Started.{Started}
 use Rattle.hack_term.specs.Lines.{IsExitStatus, error_line}
 use Rattle.hack_term.specs.declared.term.Coloring.{Coloring}
 use Rattle.hack_term.specs.declared.term.Term.{Term}
+use Rattle.hack_words.specs.AskedColoring.{AsksColoring}
 use Rattle.hack_recovery.specs.CallCourses.{IsCallCourse}
 use Rattle.hack_recovery.specs.GuardEvents.{GuardsView}
 use Rattle.hack_recovery.specs.LockEvents.{LocksView}
@@ -50,16 +52,18 @@ scene_on term scene = record scene { host = record scene.host { term = term } }
 abbrev pub colored : Coloring → Term → Term
 colored coloring term = record term { coloring = coloring }
 
--- Arguments and environment were read, and the call was performed with them. Or an error says why
+-- Arguments and environment were read, and the call was performed with them, on a terminal that is
+-- coloured as they ask, and as it was where they ask for nothing. Or an error says why
 -- they could not be read, a front of its line was written after what was written to `err` before,
 -- and nothing else was done.
 pub data IsProgramCall (informs tells whole locked talks records watched : Type 0) (real : Name → Name) (system : SystemView)
     (is_terminal : Bool) (err_before err_after : Option (List ℕ)) (old new : Scene) (status : ℕ) : Type 0 where
-  performed : (started : Started) (coloring : Coloring) → GivesStart informs system (Ok started)
+  performed : (started : Started) (coloring asked : Coloring) → GivesStart informs system (Ok started)
       → (informs → SetsColoring (auto_coloring_of is_terminal system) old.host.term.coloring coloring (Ok started))
+      → AsksColoring (optional_text started.env.term_color) (names_of started.words.items) asked
       → IsExitStatus started.env.deny_warnings new.host.term status
       → IsCallCourse tells whole locked talks records watched real (names_of started.words.items) started.env
-      (scene_on (colored coloring old.host.term) old) new
+      (scene_on (colored (colored_by asked coloring) old.host.term) old) new
       → IsProgramCall informs tells whole locked talks records watched real system is_terminal err_before err_after old new status
   unread : (fault : StartFault) (coloring : Coloring) → GivesStart informs system (Err fault)
       → (informs → SetsColoring (auto_coloring_of is_terminal system) old.host.term.coloring coloring (Err fault))

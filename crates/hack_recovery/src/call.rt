@@ -1,6 +1,8 @@
 //! A call of the program, from what the system tells of it.
 
-ghost use Rattle.hack_recovery.specs.ProgramCalls.{IsProgramCall, IsSameOutside, scene_outside};
+ghost use Rattle.std.specs.Prelude.{◌≡◌};
+ghost use Rattle.hack_recovery.specs.ProgramCalls.{IsProgramCall, IsSameOutside, colored, scene_outside};
+ghost use Rattle.hack_run.specs.CallTrace.{colored_by};
 
 use crate::guards::Guards;
 use crate::keepers::Keepers;
@@ -9,10 +11,11 @@ use crate::perform::perform;
 use hack_files::fs::Files;
 use hack_process::process::Caller;
 use hack_run::host::Host;
-use hack_start::started::Started;
+use hack_start::started::{StartFault, Started};
 use hack_start::system::System;
 use hack_starts::starts::Starts;
-use hack_term::term::Term;
+use hack_term::term::{Coloring, Term};
+use hack_words::cli::coloring_asked;
 use std::alloc::Global;
 use std::io::Write;
 
@@ -33,7 +36,8 @@ pub struct Outside<'a, C: Caller, O: Write, E: Write> {
 
 /// Performs the call whose arguments and environment the system tells, as `perform` does, and
 /// returns its exit status, the files and the lockfiles. Where these can't be read, that is
-/// reported, and nothing else is done.
+/// reported, and nothing else is done. All lines are coloured as the arguments ask, else the
+/// environment; so is the error of a command line that breaks a rule behind the one on colours.
 pub fn call<S: System, F: Files, L: Files, K: Locks, G: Guards, C: Starts, O: Write, E: Write>(
     alloc: Global,
     system: &S,
@@ -60,6 +64,13 @@ pub fn call<S: System, F: Files, L: Files, K: Locks, G: Guards, C: Starts, O: Wr
             return (1, files, lockfiles);
         }
     };
+    match coloring_asked(alloc, &words, &env) {
+        Ok(asked) => color(asked, outside.term),
+        Err(_) => {
+            let _ = outside.term.error(StartFault::Memory.text(), outside.err);
+            return (1, files, lockfiles);
+        }
+    }
     let mut host = Host::new(
         alloc,
         &env,
@@ -69,4 +80,13 @@ pub fn call<S: System, F: Files, L: Files, K: Locks, G: Guards, C: Starts, O: Wr
         outside.err,
     );
     perform(&words, files, lockfiles, keepers, &mut host)
+}
+
+/// Colours lines as is asked. Under `auto` they stay as they are.
+fn color(asked: Coloring, term: &mut Term)
+    ensures { term.new ≡ colored (colored_by asked term.old.coloring) term.old }
+{
+    if asked != Coloring::Auto {
+        term.coloring = asked;
+    }
 }

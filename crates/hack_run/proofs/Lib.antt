@@ -7,6 +7,7 @@ mod JournalLemmas
 mod LoadingLemmas
 pub mod ReadingLemmas
 mod LaneLemmas
+mod RefusalLemmas
 mod RunLemmas
 mod FindingLemmas
 mod ToldLemmas

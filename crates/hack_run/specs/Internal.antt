@@ -1,5 +1,5 @@
 -- What only private functions of the crate promise each other.
-use Rattle.std.specs.Prelude.{ℕ, ◌≡◌, ◌≢◌, ◌⊎◌, ◌||◌, [], IfSome, Bool, false, true, List, Option, Result, Some, None, Ok, Err, string_bytes, All, filter}
+use Rattle.std.specs.Prelude.{ℕ, ◌≡◌, ◌≢◌, ◌⊎◌, ◌||◌, [], IfErr, IfSome, Bool, false, true, List, Option, Result, Some, None, Ok, Err, string_bytes, All, filter}
 use Rattle.std.specs.Io.KnownBytes.{Keeps, Appends, append_known}
 use Rattle.std.proofs.Common.{Global, String}
 use Rattle.hack_base.specs.Names.{Name}
@@ -18,6 +18,8 @@ use Rattle.hack_session.specs.declared.step.Handed.{Handed}
 use Rattle.hack_base.specs.Notes.{Note}
 use Rattle.hack_versions.specs.declared.version.Version.{Version}
 use Rattle.hack_run.specs.Worlds.{HostView, World, host_view}
+use Rattle.hack_run.specs.declared.fault.RunFault.{RunFault}
+use Rattle.hack_run.specs.declared.fault.RunFault.TheVariants as fault
 use Rattle.hack_run.specs.declared.host.Host.{Host}
 use Rattle.std.specs.declared.io.traits.Write.{Ghosts as Writing}
 use Rattle.hack_process.specs.declared.caller.Caller.{Ghosts as Calling}
@@ -122,3 +124,15 @@ pub record EditsAndPerforms (tells : Type 0) (args : Args) (answers : Answers) (
   pub lockfile : tells → before.needs_restore ≡ true → edits_in cx ≡ true
       → IfSome (new.files.held (wanted_in cx).lockfile) (λ _.
       is_kept (registered_files now) (wanted_in cx).lockfile ≡ true)
+
+-- the command line is refused, or memory is: no other line stands before that of such an error
+abbrev pub is_refusal : RunFault → Bool
+is_refusal fault.Memory = true
+is_refusal (fault.Words refused) = true
+is_refusal other = false
+
+-- only that was found, and nothing reported yet
+abbrev pub IsUntoldRefusal : {T C O E : Type 0} → Writing E → Result T RunFault → Host C O E → Host C O E → Type 0
+IsUntoldRefusal e came old new =
+    IfErr came (λ fault. is_refusal fault ≡ true) × (new.term.now ≡ old.term.now)
+    × (e.contents new.err.now ≡ e.contents old.err.now)

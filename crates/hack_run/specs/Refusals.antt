@@ -1,8 +1,11 @@
 -- Command lines that are refused whatever rustup answers.
-use Rattle.std.specs.Prelude.{◌≡◌, List, string_bytes, true}
+use Rattle.std.specs.Prelude.{◌≡◌, ℕ, List, Option, string_bytes, true}
 use Rattle.hack_base.specs.Names.{Name}
+use Rattle.hack_base.specs.Writes.{AppendsFront}
 use Rattle.hack_process.specs.Calls.{MayAdd}
 use Rattle.hack_rules.specs.CliFaults.{Fault}
+use Rattle.hack_term.specs.Lines.{error_line}
+use Rattle.hack_term.specs.declared.term.Coloring.{Coloring}
 use Rattle.hack_versions.specs.declared.rustup.Rustup.{Rustup}
 use Rattle.hack_words.specs.ParseAnswers.{around_of}
 use Rattle.hack_words.specs.CommandLine.{ComesTo, Faulty}
@@ -17,3 +20,7 @@ AreRefused env words = (rustup : Rustup) → (told : Fault) × ComesTo (around_o
 -- an error was reported, and nothing was called, or just rustup for its version
 abbrev pub ReportsRefusal : Type 0 → Env → HostView → HostView → Type 0
 ReportsRefusal talks env old new = (new.term.error ≡ true) × (talks → MayAdd (rustup_asked (string_bytes env.rustup)) old.calls new.calls)
+
+-- the line of an error was written, or a front of it, and nothing else; it is coloured so
+abbrev pub WritesError : Coloring → Option (List ℕ) → Option (List ℕ) → Type 0
+WritesError coloring before after = (text : List ℕ) × AppendsFront before after (error_line coloring text)

@@ -16,7 +16,8 @@ ghost use Rattle.hack_run.specs.Lanes.{IsLaneCall, ObeysInLanes};
 ghost use Rattle.hack_run.specs.Questions.{rustup_asked};
 ghost use Rattle.hack_run.specs.Readings.{IsEarlyReadingOrRefusal};
 ghost use Rattle.hack_run.specs.TemporaryEdits.{BringsBack, ComesBack, IsClean, RestoresEdits};
-ghost use Rattle.hack_run.specs.Refusals.{AreRefused, ReportsRefusal};
+ghost use Rattle.hack_run.specs.Internal.{IsUntoldRefusal};
+ghost use Rattle.hack_run.specs.Refusals.{AreRefused, ReportsRefusal, WritesError};
 ghost use Rattle.hack_run.specs.Worlds.{IsSameHost, files_view, host_view, world_of};
 ghost use Rattle.hack_term.specs.Lines.{IsExitStatus};
 
@@ -58,6 +59,12 @@ pub fn run<F: Files, C: Starts, O: Write, E: Write>(
     ensures refused { AreRefused host.old.env.now (names_of words.now)
         → ReportsRefusal C.tells host.old.env.now
         (host_view C.Caller O.Write host.old) (host_view C.Caller O.Write host.new) }
+
+    // And the line of that error is all that is written to `err`, coloured as the terminal is, for
+    // which `coloring_asked` says what the command line asks for.
+    ensures told { AreRefused host.old.env.now (names_of words.now)
+        → WritesError host.old.term.now.coloring
+        (E.contents host.old.err.now) (E.contents host.new.err.now) }
 
     // Where no error was reported, what the command line asks for was done: the calls end with
     // those of the whole schedule of the plan, which follows from what this call asked and read, or
@@ -127,6 +134,8 @@ fn read<F: Files, C: Starts, O: Write, E: Write>(
     ensures refused { AreRefused host.old.env.now (names_of words.now) → IsErr result
         × (C.tells → MayAdd (rustup_asked (string_bytes host.old.env.now.rustup))
         (C.calls host.old.caller.now) (C.calls host.new.caller.now)) }
+    ensures told { AreRefused host.old.env.now (names_of words.now)
+        → IsUntoldRefusal E.Write result host.old host.new }
     ensures done { OnOk result (host.new.term.now.error ≡ false → C.tells
         → IsCallTrace true F.tells (names_of words.now) host.old.env.now
         (world_of F.Files C.Caller O.Write files.old host.old)

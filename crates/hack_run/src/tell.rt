@@ -1,7 +1,9 @@
 //! Errors and notices for the user. An error of writing them is ignored.
 
-ghost use Rattle.std.specs.Prelude.{◌≡◌, OnErr, OnOk, map, true};
+ghost use Rattle.std.specs.Prelude.{◌≡◌, IfErr, None, OnErr, OnOk, map, true};
 ghost use Rattle.hack_base.specs.Notes.{note_of};
+ghost use Rattle.hack_run.specs.Internal.{is_refusal};
+ghost use Rattle.hack_run.specs.Refusals.{WritesError};
 ghost use Rattle.hack_run.specs.Warnings.{after_notes};
 
 use crate::fault::RunFault;
@@ -36,7 +38,9 @@ pub(crate) fn tell<E: Write>(
     term: &mut Term,
     err: &mut E,
 )
-    ensures { term.new ≡ record term.old { error = true } }
+    ensures noted { term.new ≡ record term.old { error = true } }
+    ensures line { is_refusal fault.now ≡ true → WritesError term.old.coloring
+        (E.contents err.old) (E.contents err.new) }
 {
     if let Some(line) = advice(fault, env) {
         let _ = term.info(line, err);
@@ -53,7 +57,9 @@ pub(crate) fn tell<E: Write>(
 
 /// What the user can do: install or choose another program where one couldn't be started, or ask
 /// for fewer runs where there are too many.
-fn advice(fault: &RunFault, env: &Env) -> Option<&'static str> {
+fn advice(fault: &RunFault, env: &Env) -> Option<&'static str>
+    ensures { is_refusal fault.now ≡ true → result ≡ None }
+{
     if let Some(command) = unstarted(fault) {
         return Some(choice(command, env));
     }
@@ -76,7 +82,9 @@ fn choice(command: &str, env: &Env) -> &'static str {
 }
 
 /// The command that couldn't be started, where that is the error.
-fn unstarted(fault: &RunFault) -> Option<&str> {
+fn unstarted(fault: &RunFault) -> Option<&str>
+    ensures { is_refusal fault.now ≡ true → result ≡ None }
+{
     match fault {
         RunFault::Process(fault) => command_of(fault),
         RunFault::Context(ContextFault::Process(fault)) => command_of(fault),
@@ -102,6 +110,8 @@ pub(crate) fn tell_end<E: Write>(
 )
     ensures ok { OnOk came (term.new ≡ term.old) }
     ensures err { OnErr came (term.new.error ≡ true) }
+    ensures line { IfErr came (λ fault. is_refusal fault ≡ true → WritesError term.old.coloring
+        (E.contents err.old) (E.contents err.new)) }
 {
     match came {
         Ok(()) => (),

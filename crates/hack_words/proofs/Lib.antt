@@ -1,2 +1,3 @@
 pub mod AnswerLemmas
+mod ColoringLemmas
 mod StartLemmas

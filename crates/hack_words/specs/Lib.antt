@@ -1,5 +1,6 @@
 pub mod ParseAnswers
 pub mod ArgsView
+pub mod AskedColoring
 pub mod CommandLine
 pub mod EnvView
 pub mod RustupView

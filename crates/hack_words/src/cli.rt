@@ -1,6 +1,7 @@
 //! The command line of `cargo hack`, parsed into `Args`.
 
 mod args;
+mod coloring;
 mod env;
 mod laws;
 mod notes;
@@ -8,6 +9,7 @@ mod parse;
 mod start;
 
 pub use args::Args;
+pub use coloring::coloring_asked;
 pub use env::Env;
 pub use hack_features::Feature;
 pub use hack_options::{Help, Opt};

@@ -190,7 +190,7 @@ fn text_of(alloc: Global, print: Print) -> Result<String, AllocError>
 }
 
 /// All parsed uses of options, or what parsing ends with instead.
-fn cut(alloc: Global, words: Vec<String>) -> Result<Cuts, CliFault>
+pub(crate) fn cut(alloc: Global, words: Vec<String>) -> Result<Cuts, CliFault>
     ensures { GivesCuts result (map string_bytes words.items) }
 {
     Ok(all_uses(alloc, words)?)

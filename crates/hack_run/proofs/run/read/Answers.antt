@@ -18,6 +18,12 @@ returns-in-Accepted-clause-refused g c = λ refused.
     let told = refused after.rustup in
     absurd (answers-never (around_of c.args.host.now.env.now after.rustup) (names_of c.args.words.now) c.in-Accepted.parsed (map note_of c.in-Accepted.notices.items) after.read told.0 told.1)
 
+pub returns-in-Accepted-clause-told : goal.returns-in-Accepted-clause-told
+returns-in-Accepted-clause-told g c = λ refused.
+    let after = rw c.in-Accepted.is at c.in_ok-parsed.ensures.read in
+    let told = refused after.rustup in
+    absurd (answers-never (around_of c.args.host.now.env.now after.rustup) (names_of c.args.words.now) c.in-Accepted.parsed (map note_of c.in-Accepted.notices.items) after.read told.0 told.1)
+
 pub returns-in-Accepted-clause-done : goal.returns-in-Accepted-clause-done
 returns-in-Accepted-clause-done g c =
     let after = rw c.in-Accepted.is at c.in_ok-parsed.ensures.read in

@@ -1,15 +1,26 @@
-use Rattle.std.proofs.Common.{true, false}
+use Rattle.std.proofs.Common.{true, false, subst, ℕ, List, Option}
 use Rattle.hack_base.specs.Names.{names_of}
 use Rattle.hack_run.specs.TemporaryEdits.{IsClean, RestoresEdits}
 use Rattle.hack_run.specs.CallChanges.{IsChangeTrace}
 use Rattle.hack_run.specs.CallTrace.{IsCallTrace}
 use Rattle.hack_run.specs.Worlds.{files_view, host_view, world_of}
 use Rattle.hack_term.specs.declared.term.Term.{Term}
+use Rattle.hack_run.specs.Refusals.{WritesError}
+use Rattle.hack_run.proofs.RefusalLemmas.{refusal_told}
 use Rattle.hack_run.proofs.TraceLemmas.{call_moved, comes, told_fault, unended}
 use Rattle.hack_run.proofs.run.run.Goals as goal
 
 pub returns-clause-refused : goal.returns-clause-refused
 returns-clause-refused g c = λ refused. let h = c.read-came.ensures.refused refused in (told_fault c.read-came.result c.tell_end.new.term c.tell_end.ensures.err h.0, h.1)
+
+pub returns-clause-told : goal.returns-clause-told
+returns-clause-told g c = λ refused.
+    let contents = g.E.Write.contents in
+    let quiet = c.read-came.ensures.told refused in
+    let after = contents c.tell_end.new.err in
+    subst (λ (t : Term). WritesError t.coloring (contents c.args.host.now.err.now) after) quiet.1
+    (subst (λ (before : Option (List ℕ)). WritesError c.read-came.new.host.term.now.coloring before after) quiet.2
+    (refusal_told (WritesError c.read-came.new.host.term.now.coloring (contents c.read-came.new.host.err.now) after) c.read-came.result (c.read-came.ensures.refused refused).0 quiet.0 c.tell_end.ensures.line))
 
 pub returns-clause-done : goal.returns-clause-done
 returns-clause-done g c =
