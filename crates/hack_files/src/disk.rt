@@ -30,6 +30,8 @@ use std::{fs, io, rt};
 pub struct Disk<R: rt::Files + AllocGlobal + Drop> {
     rt: R,
     failures: u64,
+    /// The error of the last call that failed.
+    reason: Option<io::Error>,
 }
 
 // A new file, with its name, and the path in the same folder that it will be renamed to.
@@ -204,14 +206,19 @@ fn remove_file<R: rt::Files>(rt: &R, path: &str) -> io::Result<()> {
     }
 }
 
-// Counts a failed outcome, and says whether memory was refused or the device failed.
-fn count_outcome<T: Drop>(outcome: io::Result<T>, failures: &mut u64) -> Result<T, FileFault>
+// Counts a failed outcome, keeps its error, and says whether memory was refused or the device failed.
+fn count_outcome<T: Drop>(
+    outcome: io::Result<T>,
+    failures: &mut u64,
+    reason: &mut Option<io::Error>,
+) -> Result<T, FileFault>
     ensures { CountsFailedCall failures.old failures.new result }
 {
     match outcome {
         Ok(value) => Ok(value),
         Err(e) => {
             count_failure(failures);
+            *reason = Some(e);
             if e.kind() == ErrorKind::OutOfMemory {
                 return Err(FileFault::Memory);
             }
@@ -225,7 +232,11 @@ impl<R: rt::Files + AllocGlobal + Drop> Disk<R> {
     pub fn new(rt: R) -> Self
         ensures { result.failures ≡ 0 }
     {
-        Disk { rt, failures: 0 }
+        Disk {
+            rt,
+            failures: 0,
+            reason: None,
+        }
     }
 }
 
@@ -256,26 +267,46 @@ impl<R: rt::Files + AllocGlobal + Drop> Files for Disk<R> {
     ghost failed = { λ files. files.failures };
 
     fn read(&mut self, alloc: Global, path: &str) -> Result<Vec<u8>, FileFault> {
-        count_outcome(read_file(&self.rt, alloc, path), &mut self.failures)
+        count_outcome(
+            read_file(&self.rt, alloc, path),
+            &mut self.failures,
+            &mut self.reason,
+        )
     }
 
     fn write(&mut self, path: &str, bytes: &[u8]) -> Result<(), FileFault> {
-        count_outcome(write_file(&self.rt, path, bytes), &mut self.failures)
+        count_outcome(
+            write_file(&self.rt, path, bytes),
+            &mut self.failures,
+            &mut self.reason,
+        )
     }
 
     fn overwrite(&mut self, path: &str, bytes: &[u8]) -> Result<(), FileFault> {
-        count_outcome(overwrite_file(&self.rt, path, bytes), &mut self.failures)
+        count_outcome(
+            overwrite_file(&self.rt, path, bytes),
+            &mut self.failures,
+            &mut self.reason,
+        )
     }
 
     fn exists(&mut self, path: &str) -> Result<bool, FileFault> {
-        count_outcome(exists(&self.rt, path), &mut self.failures)
+        count_outcome(exists(&self.rt, path), &mut self.failures, &mut self.reason)
     }
 
     fn remove(&mut self, path: &str) -> Result<(), FileFault> {
-        count_outcome(remove_file(&self.rt, path), &mut self.failures)
+        count_outcome(
+            remove_file(&self.rt, path),
+            &mut self.failures,
+            &mut self.reason,
+        )
     }
 
     fn failures(&self) -> u64 {
         self.failures
+    }
+
+    fn reason(&self) -> Option<io::Error> {
+        self.reason
     }
 }

@@ -133,6 +133,10 @@ impl<F: Files> Files for FailingFiles<F> {
     fn failures(&self) -> u64 {
         self.failures
     }
+
+    fn reason(&self) -> Option<io::Error> {
+        self.inner.reason()
+    }
 }
 
 /// A writer that passes each write on to another, but for one write, which fails: the first write

@@ -13,6 +13,7 @@ pub use crate::disk::Disk;
 pub use crate::failing::{FailingFiles, FailingWriter};
 pub use crate::memory::{MemoryFiles, Step};
 use std::alloc::{AllocError, Global};
+use std::io;
 use thiserror::Error;
 
 /// Why a call of a `Files` failed.
@@ -129,6 +130,11 @@ pub trait Files {
     /// How many calls have failed.
     fn failures(&self) -> u64
         ensures { result ≡ failed self.now };
+
+    /// Why the last call that failed did so, as the system says it; none where it doesn't.
+    fn reason(&self) -> Option<io::Error> {
+        None
+    }
 }
 
 /// Why a file can't be read or written. Each value but `Memory` has the path.

@@ -8,6 +8,7 @@ ghost use Rattle.hack_journal.specs.LockfilesApart.{is_lockfile, apart, KeepsLoc
 
 use hack_files::fs::{FileFault, Files, counted};
 use std::alloc::Global;
+use std::io;
 
 /// Files whose lockfiles are those of `B`, and all others those of `A`. Each call goes to one of
 /// the two alone, by its path.
@@ -152,5 +153,9 @@ impl<A: Files, B: Files> Files for Apart<A, B> {
 
     fn failures(&self) -> u64 {
         self.failures
+    }
+
+    fn reason(&self) -> Option<io::Error> {
+        self.files.reason().or(self.lockfiles.reason())
     }
 }

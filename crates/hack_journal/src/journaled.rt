@@ -28,6 +28,7 @@ use crate::place::{Place, relative};
 use crate::unkept::Unkept;
 use hack_files::fs::{FileFault, Files, count_failure, counted};
 use std::alloc::Global;
+use std::io;
 
 /// Files over other files, with a journal. The journal is none of the files: paths that begin with
 /// its own hold nothing, and can't be read, written or removed.
@@ -489,5 +490,9 @@ impl<F: Files, U: Unkept> Files for Journaled<F, U> {
 
     fn failures(&self) -> u64 {
         self.failures
+    }
+
+    fn reason(&self) -> Option<io::Error> {
+        self.files.reason()
     }
 }

@@ -1,6 +1,8 @@
 //! The errors that end a call.
 
+use hack_files::fs::FsFault;
 use hack_load::context::ContextFault;
+use hack_metadata::metadata::AskFault;
 use hack_planner::fault::PlanFault;
 use hack_prepare::manifest::PrepareFault;
 use hack_process::process::ProcessFault;
@@ -34,6 +36,25 @@ pub(crate) enum RunFault {
     /// A text couldn't be written.
     #[error("failed to write to standard output")]
     Unprinted,
+}
+
+impl RunFault {
+    /// Whether a file couldn't be read or written.
+    pub fn is_of_file(&self) -> bool {
+        match self {
+            RunFault::Context(ContextFault::Files(fault)) => is_of_device(fault),
+            RunFault::Context(ContextFault::Asked(AskFault::Files(fault))) => is_of_device(fault),
+            RunFault::Manifests(PrepareFault::Files(fault)) => is_of_device(fault),
+            _ => false,
+        }
+    }
+}
+
+fn is_of_device(fault: &FsFault) -> bool {
+    match fault {
+        FsFault::Read(_) | FsFault::Write(_) => true,
+        FsFault::NotText(_) | FsFault::Memory => false,
+    }
 }
 
 impl From<AllocError> for RunFault {

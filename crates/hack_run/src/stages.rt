@@ -81,8 +81,29 @@ pub(crate) fn perform<F: Files, C: Starts, O: Write, E: Write>(
         &mut manager,
     );
     let came = follow(args, answers, files, &mut manager, host);
+    tell_reason(host.alloc, &came, files, host.term, host.err);
     finish(manager, files, host.term, host.err);
     came
+}
+
+/// Says why a file couldn't be read or written, in the words of the system, where that ended the call. A
+/// line for which memory is refused is left out.
+fn tell_reason<F: Files, E: Write>(
+    alloc: Global,
+    came: &Result<(), RunFault>,
+    files: &F,
+    term: &Term,
+    err: &mut E,
+) {
+    let Err(fault) = came else { return };
+    if !fault.is_of_file() {
+        return;
+    }
+    if let Some(reason) = files.reason()
+        && let Ok(text) = format!(in alloc; "{reason}")
+    {
+        let _ = term.info(text.as_str(), err);
+    }
 }
 
 /// Performs a call, given the answers to its questions.
