@@ -8,7 +8,7 @@ use Rattle.std.proofs.lemmas.List.Elements.{All-push, Contains-push, Contains-ap
 use Rattle.hack_base.proofs.Members.{lt_or_same}
 use Rattle.hack_base.proofs.Steps.{row-pushed}
 use Rattle.hack_conflicts.specs.Sets.{Has, mark, rows_of, IsWithin}
-use Rattle.hack_conflicts.specs.Rules.{IsPreorder, enables}
+use Rattle.hack_conflicts.specs.Rules.{IsPreorder, IsClosed, enables}
 use Rattle.hack_conflicts.specs.declared.rules.Rules.{Rules as SearchRules}
 use Rattle.hack_features.specs.Rules.{Choice}
 use Rattle.hack_closures.specs.Closures.{candidate_at}
@@ -70,14 +70,14 @@ unset_to s p q ne h = get_or-set_other s p q false false ne ∙ h
 -- what is left of a set after one more turn of the pass
 pub record Left (r : SearchRules) (s left : List Bool) (place : ℕ) : Type 0 where
   pub within : IsWithin left s
-  pub above : (x : ℕ) → Has s x → (z : ℕ) × Has left z × IsTrue (enables r z x)
+  pub above : IsClosed r s → (x : ℕ) → Has s x → (z : ℕ) × Has left z × IsTrue (enables r z x)
   pub apart : (x y : ℕ) → place ≤ x → Has left x → Has left y → IsTrue (enables r y x) → y ≡ x
 
 pub left_out : (r : SearchRules) (s left : List Bool) (place : ℕ) → IsPreorder r → place < length left → Left r s left (place + 1) → (y : ℕ) × (y ≢ place) × Has left y × IsTrue (enables r y place) → Left r s (set left place false) place
 left_out r s left place up lt h w = record {
   within = λ p has. h.within p (unset_from left place p lt has).1;
-  above = λ x has.
-      let z = h.above x has in
+  above = λ whole x has.
+      let z = h.above whole x has in
       elim (cases_eq z.0 place) [
         | inl e ↦ (w.0, unset_to left place w.0 w.1 w.2, up.transitive w.0 place x w.3 (subst (λ v. IsTrue (enables r v x)) e z.2))
         | inr ne ↦ (z.0, unset_to left place z.0 ne z.1, z.2)

@@ -37,9 +37,9 @@ pub(crate) fn greatest(
     rules: &SearchRules,
     set: &[bool],
 ) -> Result<Vec<bool>, AllocError>
-    requires order { IsPreorder rules.now }
-    requires closed { IsClosed rules.now set.now }
-    ensures { IfOk result (λ left. AreGreatest rules.now set.now left.items) }
+    requires { IsPreorder rules.now }
+    ensures { IfOk result (λ left. IsClosed rules.now set.now
+        → AreGreatest rules.now set.now left.items) }
 {
     let mut left = Vec::from_slice(alloc, set)?;
     let mut place = left.len();

@@ -21,7 +21,7 @@ loop-place-preserved-then-has_above c =
       apart = λ x y le. c.loop-place.invariant.apart x y (omega arith);
     } in
     let other : (y : ℕ) × (y ≢ place) × Has left y × IsTrue (enables r y place) = subst (λ l. (y : ℕ) × (y ≢ place) × Has l y × IsTrue (enables r y place)) c.as_slice.ensures.value c.if-has_above.ensures in
-    let after = left_out r s left place c.requires.order lt before other in
+    let after = left_out r s left place c.requires lt before other in
     record {
       small = omega (arith, length-set left place false);
       within = after.within;

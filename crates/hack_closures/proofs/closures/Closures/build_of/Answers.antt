@@ -17,14 +17,14 @@ last_mark : (k : Closures) (s : List Bool) (n : ℕ) (b : Bool) → n ≡ k.alon
 last_mark k s n b e h = let same : n ≡ length (alone_in k) = omega (arith, k.alone.ok.0) in h ∙ ap (mark s) same
 
 pub returns-then-has : goal.returns-then-has
-returns-then-has c =
+returns-then-has c = λ may.
     let k = c.args.self.now in
     let s : List Bool = c.args.set.now in
     let has : Has s (length (alone_in k)) = sym (last_mark k s c.len.result c.has.result c.len.ensures c.has.ensures) ∙ c.if-has.true in
-    (c.if-self.true, told_all (choice_in k) (alone_in k) (has_all k) (search_of k) k.told s c.requires c.if-self.true has)
+    (c.if-self.true, told_all (choice_in k) (alone_in k) (has_all k) (search_of k) k.told s may c.if-self.true has)
 
-pub greatest-requires-clause-order : goal.greatest-requires-clause-order
-greatest-requires-clause-order c = let k = c.args.self.now in told_order (choice_in k) (alone_in k) (has_all k) (search_of k) k.told
+pub greatest-requires : goal.greatest-requires
+greatest-requires c = let k = c.args.self.now in told_order (choice_in k) (alone_in k) (has_all k) (search_of k) k.told
 
 pub covering-requires : goal.covering-requires
 covering-requires c =
@@ -36,7 +36,7 @@ covering-requires c =
     subst (λ m. IsSelection m c.as_slice-3.result.now) (length-candidates_of k.rules.now.given.features.now) (subst (IsSelection n) is sel)
 
 pub returns-in-Some : goal.returns-in-Some
-returns-in-Some c =
+returns-in-Some c = λ may.
     let k = c.args.self.now in
     let s : List Bool = c.args.set.now in
     let plain : IsTrue (has_all k) → ¬ Has s (length (alone_in k)) = λ t has. elim c.else-self.branch [
@@ -44,16 +44,16 @@ returns-in-Some c =
       | else-self-via-else-self w ↦ false≢true (sym w.if-self.false ∙ t)
     ] in
     let left : List Bool = c.in_ok-kept.kept.items in
-    let g : AreGreatest (search_of k) s left = c.in_ok-kept.ensures in
+    let g : AreGreatest (search_of k) s left = c.in_ok-kept.ensures may.closed in
     let is : c.as_slice-3.result.now ≡ candidates_of (alone_in k) left =
     c.as_slice-3.ensures.value ∙ c.in_ok-candidates.ensures ∙ ap (λ l. candidates_of l c.as_slice-2.result.now) c.as_slice.ensures.value ∙ ap (candidates_of (alone_in k)) c.as_slice-2.ensures.value in
     let cover = rw c.in-Some.is at c.in_ok-listed.ensures in (
-      told_last (choice_in k) (alone_in k) (has_all k) (search_of k) k.told s c.requires plain,
-      told_stands (choice_in k) (alone_in k) (has_all k) (search_of k) k.told s c.requires plain left g c.in-Some.listed.items (subst (λ l. IsFirstCover (choice_in k) l c.in-Some.listed.items) is cover.1),
+      told_last (choice_in k) (alone_in k) (has_all k) (search_of k) k.told s may plain,
+      told_stands (choice_in k) (alone_in k) (has_all k) (search_of k) k.told s may plain left g c.in-Some.listed.items (subst (λ l. IsFirstCover (choice_in k) l c.in-Some.listed.items) is cover.1),
     )
 
 pub returns : goal.returns
-returns c =
+returns c = λ may.
     let k = c.args.self.now in
     let s : List Bool = c.args.set.now in
     let plain : IsTrue (has_all k) → ¬ Has s (length (alone_in k)) = λ t has. elim c.else-self.branch [
@@ -61,8 +61,8 @@ returns c =
       | else-self-via-else-self w ↦ false≢true (sym w.if-self.false ∙ t)
     ] in
     let left : List Bool = c.in_ok-kept.kept.items in
-    let g : AreGreatest (search_of k) s left = c.in_ok-kept.ensures in
+    let g : AreGreatest (search_of k) s left = c.in_ok-kept.ensures may.closed in
     let is : c.as_slice-3.result.now ≡ candidates_of (alone_in k) left =
     c.as_slice-3.ensures.value ∙ c.in_ok-candidates.ensures ∙ ap (λ l. candidates_of l c.as_slice-2.result.now) c.as_slice.ensures.value ∙ ap (candidates_of (alone_in k)) c.as_slice-2.ensures.value in
     let unwanted = rw c.in-None.is at c.in_ok-listed.ensures in
-    told_empty (choice_in k) (alone_in k) (has_all k) (search_of k) k.told s c.requires plain left g (subst (λ l. ¬ IsWanted (choice_in k) l) is unwanted)
+    told_empty (choice_in k) (alone_in k) (has_all k) (search_of k) k.told s may plain left g (subst (λ l. ¬ IsWanted (choice_in k) l) is unwanted)
