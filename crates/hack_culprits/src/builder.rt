@@ -43,10 +43,6 @@ impl<R: Judge> Builder<'_, R> {
             (made_in self.old.aim.plain self.new.built.items)
             self.old.plan.now self.new.plan.now self.old.runner.now self.new.runner.now }
     {
-        if !self.aim.closures.search.is_choice(set) {
-            // A search asks for no such set.
-            return Err(CulpritsFault::Memory);
-        }
         let build = self.aim.closures.build_of(self.alloc, set)?;
         match outcome_of(self.built.as_slice(), &build) {
             Some(outcome) => told(outcome),
