@@ -5,4 +5,5 @@ mod disk;
 mod failing;
 pub mod fs;
 mod memory;
+pub mod reason;
 pub mod restore;

@@ -12,6 +12,7 @@ use crate::fault::CallFault;
 use crate::strangers::first_stranger;
 use hack_base::paths::under;
 use hack_files::fs::Files;
+use hack_files::reason::{is_of_device, tell_reason};
 use hack_journal::journal::Entry;
 use hack_journal::place::Place;
 use hack_journal::recover::{RecoverFault, recover};
@@ -48,7 +49,10 @@ pub(crate) fn restore<F: Files, E: Write>(
             }
             None => bring_back(alloc, dir, place, files, term, err),
         },
-        Err(fault) => tell_fault(alloc, fault, term, err),
+        Err(fault) => {
+            tell_reason_of(alloc, &fault, files, term, err);
+            tell_fault(alloc, fault, term, err)
+        }
     }
 }
 
@@ -96,7 +100,10 @@ fn bring_back<F: Files, E: Write>(
 {
     match recover(alloc, files, place) {
         Ok(paths) => tell_all(alloc, dir, &paths, term, err),
-        Err(fault) => tell_fault(alloc, fault, term, err),
+        Err(fault) => {
+            tell_reason_of(alloc, &fault, files, term, err);
+            tell_fault(alloc, fault, term, err)
+        }
     }
 }
 
@@ -153,6 +160,20 @@ fn tell_fault<E: Write>(
     let text = format!(in alloc; "{fault}")?;
     let _ = term.error(&text, err);
     Ok(false)
+}
+
+/// Says why a file couldn't be read or written, where that is the fault.
+fn tell_reason_of<F: Files, E: Write>(
+    alloc: Global,
+    fault: &RecoverFault,
+    files: &F,
+    term: &Term,
+    err: &mut E,
+) {
+    match fault {
+        RecoverFault::Files(fault) if is_of_device(fault) => tell_reason(alloc, files, term, err),
+        _ => {}
+    }
 }
 
 fn is_refusal(fault: &RecoverFault) -> bool {

@@ -1,6 +1,6 @@
 //! The errors that end a call.
 
-use hack_files::fs::FsFault;
+use hack_files::reason::is_of_device;
 use hack_load::context::ContextFault;
 use hack_metadata::metadata::AskFault;
 use hack_planner::fault::PlanFault;
@@ -47,13 +47,6 @@ impl RunFault {
             RunFault::Manifests(PrepareFault::Files(fault)) => is_of_device(fault),
             _ => false,
         }
-    }
-}
-
-fn is_of_device(fault: &FsFault) -> bool {
-    match fault {
-        FsFault::Read(_) | FsFault::Write(_) => true,
-        FsFault::NotText(_) | FsFault::Memory => false,
     }
 }
 

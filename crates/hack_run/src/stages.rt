@@ -29,6 +29,7 @@ use crate::host::Host;
 use crate::print_list::print_list;
 use crate::tell::tell_all;
 use hack_files::fs::{Files, FsFault};
+use hack_files::reason::tell_reason;
 use hack_files::restore::Manager;
 use hack_load::context::{Answers, Context};
 use hack_planner::looks::long_looks;
@@ -81,28 +82,22 @@ pub(crate) fn perform<F: Files, C: Starts, O: Write, E: Write>(
         &mut manager,
     );
     let came = follow(args, answers, files, &mut manager, host);
-    tell_reason(host.alloc, &came, files, host.term, host.err);
+    tell_reason_of(host.alloc, &came, files, host.term, host.err);
     finish(manager, files, host.term, host.err);
     came
 }
 
-/// Says why a file couldn't be read or written, in the words of the system, where that ended the call. A
-/// line for which memory is refused is left out.
-fn tell_reason<F: Files, E: Write>(
+/// Says why a file couldn't be read or written, where that ended the call.
+fn tell_reason_of<F: Files, E: Write>(
     alloc: Global,
     came: &Result<(), RunFault>,
     files: &F,
     term: &Term,
     err: &mut E,
 ) {
-    let Err(fault) = came else { return };
-    if !fault.is_of_file() {
-        return;
-    }
-    if let Some(reason) = files.reason()
-        && let Ok(text) = format!(in alloc; "{reason}")
-    {
-        let _ = term.info(text.as_str(), err);
+    match came {
+        Err(fault) if fault.is_of_file() => tell_reason(alloc, files, term, err),
+        _ => {}
     }
 }
 

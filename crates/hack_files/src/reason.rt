@@ -1,0 +1,24 @@
+//! Why a file couldn't be read or written, for the user.
+
+use crate::fs::{Files, FsFault};
+use hack_term::term::Term;
+use std::alloc::Global;
+use std::io::Write;
+
+/// Whether the device failed, so that the files may say why.
+pub fn is_of_device(fault: &FsFault) -> bool {
+    match fault {
+        FsFault::Read(_) | FsFault::Write(_) => true,
+        FsFault::NotText(_) | FsFault::Memory => false,
+    }
+}
+
+/// Prints why the last call of these files that failed did so, in the words of the system. A line for
+/// which memory is refused, or that can't be written, is left out.
+pub fn tell_reason<F: Files, E: Write>(alloc: Global, files: &F, term: &Term, err: &mut E) {
+    if let Some(reason) = files.reason()
+        && let Ok(text) = format!(in alloc; "{reason}")
+    {
+        let _ = term.info(text.as_str(), err);
+    }
+}
