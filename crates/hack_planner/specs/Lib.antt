@@ -15,7 +15,6 @@ pub mod Calls
 pub mod CoveredSets
 pub mod InternalUses
 pub mod CallPlan
-pub mod Searched
 pub mod InternalLeastPlaces
 pub mod Powersets
 pub mod Samples

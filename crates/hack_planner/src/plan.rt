@@ -142,7 +142,7 @@ fn plan_by(
 }
 
 /// The chosen packages, of whose tables of rules none has a fault.
-pub(crate) fn chosen_list(
+pub fn chosen_list(
     alloc: Global,
     cx: &Context,
 ) -> Result<(PackageList, Vec<Notice>), PlanFault>

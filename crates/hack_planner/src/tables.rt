@@ -29,7 +29,7 @@ use hack_words::cli::Args;
 use std::alloc::{AllocError, Global};
 
 /// The notices on the features of a package with these rules, and on those that its own table has.
-pub(crate) fn notes_of(
+pub fn notes_of(
     alloc: Global,
     args: &Args,
     asked: &PackageRules,

@@ -17,7 +17,7 @@ use std::alloc::{AllocError, Global};
 
 /// The path of a package's manifest as a command is given it, relative to the folder if it lies in
 /// it; none where commands get none.
-pub(crate) fn given_path(
+pub fn given_path(
     alloc: Global,
     bare: bool,
     dir: &str,
@@ -51,7 +51,7 @@ fn current(cx: &Context) -> Option<&Package>
 }
 
 /// What all commands of the call have in common. `rustup` is the program to run as rustup.
-pub(crate) fn call_words(
+pub fn call_words(
     alloc: Global,
     cx: &Context,
     rustup: &str,
