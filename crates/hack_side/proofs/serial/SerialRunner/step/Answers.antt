@@ -1,6 +1,6 @@
 use Rattle.std.proofs.Common.{◌≡◌, [], ◌∷◌, None, refl, sym, ap, ◌∙◌}
 use Rattle.hack_lanes.specs.Lanes.{Scene, Turn}
-use Rattle.hack_side.specs.Turns.{IsSerial}
+use Rattle.hack_side.specs.Turns.{IsAtTurn, IsSerial}
 use Rattle.hack_side.proofs.StepLemmas.{does_turned, ran_step}
 use Rattle.hack_side.proofs.serial.SerialRunner.step.Goals as goal
 
@@ -13,7 +13,7 @@ returns g c =
     let mid = c.take_turn.new.self in
     let went = g.met.L.Turns.goes mid new.caller.now ran.8 in
     let is_turn : (scene mid).turn ≡ record { place = None; offers = []; width = (scene old.caller.now).turn.width } = ap (λ (s : Scene g.L.Turns.Below). s.turn) c.take_turn.ensures.scene in
-    let is_at = (c.take_turn.ensures.scene ∙ ap (λ (t : Turn). record (scene old.caller.now) { turn = t }) (sym is_turn), ap (λ (t : Turn). t.width) is_turn) in
+    let is_at : IsAtTurn (scene old.caller.now) (scene mid) = (c.take_turn.ensures.scene ∙ ap (λ (t : Turn). record (scene old.caller.now) { turn = t }) (sym is_turn), ap (λ (t : Turn). t.width) is_turn) in
     let serial : IsSerial (scene mid).turn = (ap (λ (t : Turn). t.place) is_turn, ap (λ (t : Turn). t.offers) is_turn) in (
       g.L.Turns.stays_more old.caller.now new.caller.now c.take_turn-2.new.self (g.L.Turns.stays_more old.caller.now mid new.caller.now c.take_turn.ensures.stays went.0) c.take_turn-2.ensures.stays,
       (
