@@ -1,7 +1,8 @@
 -- What it takes to build one set.
-use Rattle.std.specs.Prelude.{ℕ, ◌≡◌, ◌≢◌, ◌⊎◌, ◌≤◌, ◌<◌, ◌+◌, ◌-◌, Bool, true, false, List, zero, suc, [], ◌∷◌, ◌++◌, All, AllPairs, Contains, Option, Some, Result, Ok, Err, length, map}
+use Rattle.std.specs.Prelude.{ℕ, ◌≡◌, ◌≢◌, ◌⊎◌, ◌≤◌, ◌<◌, ◌+◌, ◌-◌, ◌||◌, Bool, true, false, List, zero, suc, [], ◌∷◌, ◌++◌, All, AllPairs, Contains, IsErrAnd, Option, Some, Result, Ok, Err, length, map}
 use Rattle.std.proofs.Common.{refl, sym, ap, ◌∙◌, subst, inl, inr, arith, get_or}
 use Rattle.std.proofs.lemmas.List.{append-nil, map-append}
+use Rattle.std.proofs.lemmas.List.Quantifiers.{all_pairs_push}
 use Rattle.std.proofs.lemmas.List.Elements.{All-cons, All-nil, Contains-append_right}
 use Rattle.hack_base.proofs.Members.{Contains-head}
 use Rattle.hack_conflicts.specs.Runs.{Run as Asked}
@@ -11,9 +12,11 @@ use Rattle.hack_plan.proofs.GrowingPlans.{runs-grown}
 use Rattle.hack_plan.specs.Growth.{with_changed, with_one_place, with_one_run, with_run}
 use Rattle.hack_plan.specs.Runs.{PackageRun}
 use Rattle.hack_plan.specs.View.{PlanView}
+use Rattle.hack_plan.specs.declared.places.PlacesFault.{PlacesFault}
+use Rattle.hack_plan.specs.declared.places.PlacesFault.TheVariants as places
 use Rattle.hack_session.specs.declared.step.Handed.{Handed}
-use Rattle.hack_culprits.specs.Built.{Answers, AreBuilt, AreDistinct, AreHanded, Explains, IsAsked, IsBuilt, IsRunFor, Made, Tells, run_for, step_at, steps_from}
-use Rattle.hack_culprits.specs.Internal.{BuildsOne, IsReady, KeepsWhy, is_broken, kept_of, made_in, outcome_of, told_of}
+use Rattle.hack_culprits.specs.Built.{Answers, AreBuilt, AreDistinct, AreHanded, Explains, IsAsked, IsBuilt, IsRunFor, Made, Tells, run_for, fault_of, step_at, steps_from}
+use Rattle.hack_culprits.specs.Internal.{Builds, BuildsOne, IsReady, KeepsWhy, is_broken, kept_of, made_in, outcome_of, told_of}
 use Rattle.hack_culprits.specs.declared.aim.Aim.{Aim}
 use Rattle.hack_culprits.specs.declared.built.Built.{Built}
 use Rattle.hack_culprits.specs.declared.fault.CulpritsFault.{CulpritsFault}
@@ -22,7 +25,7 @@ use Rattle.hack_culprits.specs.declared.fault.CulpritsFault.TheVariants as fault
 length-changed : {X : Type 0} (change : X → X) (xs : List X) (place : ℕ) → length (with_changed change xs place) ≡ length xs
 length-changed change [] place = refl
 length-changed change (x ∷ xs) zero = refl
-length-changed change (x ∷ xs) (suc place) = ap (λ n. n + 1) (length-changed change xs place)
+length-changed change (x ∷ xs) (suc place) = ap suc (length-changed change xs place)
 
 -- one run more can be added again
 pub still_ready : (aim : Aim) (run : PackageRun) (plan : PlanView) → IsReady aim plan → IsReady aim (with_run aim.slot aim.member run plan)
@@ -53,6 +56,33 @@ nothing_built ran ended aim set why built plan a explained ready = record {
   };
   kept = λ first. explained built;
 }
+
+-- the same, by what came of it
+pub refused_build : {R : Type 0} (ran : PlanView → List Handed → R → R → Type 0) (ended : R → Bool) (aim : Aim) (set : List Bool) (came : Result Outcome CulpritsFault) (before after : List Made) (old new : PlanView) (a : R)
+    → IsErrAnd came (λ why. why ≡ fault.Memory) → after ≡ before → new ≡ old → IsReady aim old → BuildsOne ran ended aim set came before after old new a a
+refused_build ran ended aim set (Ok o) before after old new a refused same stays ready = absurd refused
+refused_build ran ended aim set (Err why) before after old new a refused same stays ready =
+    subst (λ (w : CulpritsFault). BuildsOne ran ended aim set (Err w) before after old new a a) (sym refused)
+    (subst (λ (l : List Made). BuildsOne ran ended aim set (Err fault.Memory) before l old new a a) (sym same)
+    (subst (λ (p : PlanView). BuildsOne ran ended aim set (Err fault.Memory) before before old p a a) (sym stays)
+    (nothing_built ran ended aim set fault.Memory before old a (λ made. tt) ready)))
+
+explained-growth : (why : PlacesFault) (made : List Made) → Explains (fault_of why) made
+explained-growth places.Memory made = tt
+explained-growth places.TooManyRuns made = tt
+
+-- a plan that can't grow
+pub refused_growth : {R : Type 0} (ran : PlanView → List Handed → R → R → Type 0) (ended : R → Bool) (aim : Aim) (set : List Bool) (came : Result Outcome CulpritsFault) (given : PlacesFault) (before after : List Made) (old new : PlanView) (a : R)
+    → IsErrAnd came (λ why. why ≡ fault_of given) → after ≡ before → new ≡ old → IsReady aim old → BuildsOne ran ended aim set came before after old new a a
+refused_growth ran ended aim set (Ok o) given before after old new a refused same stays ready = absurd refused
+refused_growth ran ended aim set (Err why) given before after old new a refused same stays ready =
+    subst (λ (w : CulpritsFault). BuildsOne ran ended aim set (Err w) before after old new a a) (sym refused)
+    (subst (λ (l : List Made). BuildsOne ran ended aim set (Err (fault_of given)) before l old new a a) (sym same)
+    (subst (λ (p : PlanView). BuildsOne ran ended aim set (Err (fault_of given)) before before old p a a) (sym stays)
+    (nothing_built ran ended aim set (fault_of given) before old a (explained-growth given) ready)))
+
+pub made_push : (plain : Bool) (built items : List Built) (b : Built) → items ≡ built ++ b ∷ [] → made_in plain items ≡ made_in plain built ++ record { run = run_for plain b.build; outcome = b.outcome } ∷ []
+made_push plain built items b is = ap (made_in plain) is ∙ map-append (λ (b : Built). record { run = run_for plain b.build; outcome = b.outcome }) built (b ∷ [])
 
 told-outcome : (o : Outcome) → outcome_of (told_of o) ≡ o
 told-outcome Passed = refl
@@ -87,9 +117,6 @@ built_before ran ended aim set run o built plan a fits there ready =
       kept = told-kept o run built there;
     }
 
-pairs-push : {X : Type 0} (P : X → X → Type 0) (xs : List X) (y : X) → AllPairs P xs → All (λ x. P x y) xs → AllPairs P (xs ++ y ∷ [])
-pairs-push P xs y apart all = search (rules, lists)
-
 -- the run was added to the plan, handed out, and ended so
 pub built_now : {R : Type 0} (ran : PlanView → List Handed → R → R → Type 0) (ended : R → Bool) (aim : Aim) (set : List Bool) (run : PackageRun) (o : Outcome) (built after : List Made) (old new : PlanView) (a b : R)
     → IsRunFor aim set run → All (λ m. m.run ≢ run) built → after ≡ built ++ record { run = run; outcome = o } ∷ [] → new ≡ with_run aim.slot aim.member run old
@@ -106,7 +133,7 @@ built_now ran ended aim set run o built after old new a b fits fresh is grown di
         made = record {
           built = is;
           plan = grown;
-          distinct = λ apart. subst AreDistinct (sym is) (pairs-push (λ (earlier later : Made). later.run ≢ earlier.run) built m apart (λ k d lt e. fresh k d lt (sym e)));
+          distinct = λ apart. subst AreDistinct (sym is) (all_pairs_push (λ (earlier later : Made). later.run ≢ earlier.run) built m apart (λ k d lt e. fresh k d lt (sym e)));
           each = All-cons (IsBuilt aim after) one [] (inl (m, there, answers)) (All-nil (IsBuilt aim after));
           needed = All-cons (IsAsked aim (one ∷ [])) m [] (one, Contains-head one [], answers) (All-nil (IsAsked aim (one ∷ [])));
           few = omega arith;
@@ -122,3 +149,17 @@ pub handed_ran : {R : Type 0} (ran : PlanView → List Handed → R → R → Ty
     → (plan : PlanView) (place : ℕ) (made : List Made) (a b : R) → AreHanded ran ended plan place made a b → ran plan (steps_from place made) a b
 handed_ran {R} ran ended none more plan place [] a b h = subst (λ (s : R). ran plan [] a s) (sym h) (none plan a)
 handed_ran ran ended none more plan place (m ∷ made) a b h = more plan (step_at place m ∷ []) (steps_from (place + 1) made) a h.0 b h.1 (handed_ran ran ended none more plan (place + 1) made h.0 b h.3)
+
+or-false : (b : Bool) → b || false ≡ b
+or-false true = refl
+or-false false = refl
+
+-- one set was built, and why it was broken is kept
+pub built_alone : {R : Type 0} (ran : PlanView → List Handed → R → R → Type 0) (ended : R → Bool) (aim : Aim) (set : List Bool) (came : Result Outcome CulpritsFault) (before after : List Made) (why now : Option CulpritsFault) (old new : PlanView) (a b : R)
+    → BuildsOne ran ended aim set came before after old new a b → now ≡ kept_of came why → Builds ran ended aim (record { set = set; outcome = outcome_of came } ∷ []) before after why now old new a b
+built_alone ran ended aim set came before after why now old new a b one kept = record {
+  ready = one.ready;
+  built = one.built;
+  kept = subst (λ (broken : Bool). KeepsWhy broken after why now) (sym (or-false (is_broken (outcome_of came))))
+      (subst (λ (o : Option CulpritsFault). KeepsWhy (is_broken (outcome_of came)) after why o) (sym kept) (one.kept why));
+}

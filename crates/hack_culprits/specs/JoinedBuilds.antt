@@ -12,6 +12,7 @@ use Rattle.hack_plan.specs.GrowthLaws.{grown_by_run, grown_refl, grown_trans}
 use Rattle.hack_plan.specs.Plans.{AreRunsOfPackages}
 use Rattle.hack_plan.specs.View.{PlanView}
 use Rattle.hack_session.specs.GrownSteps.{AreRuns}
+use Rattle.hack_session.specs.StepEffects.{is_run}
 use Rattle.hack_session.specs.declared.step.Handed.{Handed}
 use Rattle.hack_culprits.specs.Built.{Answers, AreBuilt, AreDistinct, AreHanded, Explains, IsAsked, IsBuilt, Made, step_at, with_made}
 use Rattle.hack_culprits.specs.Internal.{Builds, IsReady, KeepsWhy, MayBuild, has_broken, is_broken}
@@ -57,7 +58,7 @@ module _ {R : Type 0} (ran : PlanView → List Handed → R → R → Type 0) (e
   handed-grown law old new grown grows runs place [] a b h = h
   handed-grown law old new grown grows runs place (m ∷ made) a b h = (
     h.0,
-    law old new (step_at place m ∷ []) a h.0 grown grows runs (All-cons _ (step_at place m) [] refl (All-nil _)) h.1,
+    law old new (step_at place m ∷ []) a h.0 grown grows runs (All-cons (λ (h : Handed). is_run h.step ≡ true) (step_at place m) [] refl (All-nil (λ (h : Handed). is_run h.step ≡ true))) h.1,
     h.2,
     handed-grown law old new grown grows runs (place + 1) made h.0 b h.3,
   )

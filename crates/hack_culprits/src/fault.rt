@@ -19,6 +19,7 @@ pub enum CulpritsFault {
 }
 
 impl From<AllocError> for CulpritsFault {
+    ghost use Rattle.std.specs.Prelude.{◌≡◌};
     ghost use Rattle.hack_culprits.specs.declared.fault.CulpritsFault.TheVariants.{Memory};
 
     ghost from_gives = { λ _ e. e ≡ Memory };
@@ -29,6 +30,7 @@ impl From<AllocError> for CulpritsFault {
 }
 
 impl<T: Drop> From<AllocFailed<T>> for CulpritsFault {
+    ghost use Rattle.std.specs.Prelude.{◌≡◌};
     ghost use Rattle.hack_culprits.specs.declared.fault.CulpritsFault.TheVariants.{Memory};
 
     ghost from_gives = { λ _ e. e ≡ Memory };
