@@ -213,7 +213,7 @@ impl<'a> Rules<'a> {
         ensures { (s : List ℕ) → IsSelection (size_of self.now) s
             → IsTrue (is_required (rows_of result.now) s) ↔ IsRequired (choice_of self.now) s }
     {
-        self.serves()
+        self.tables.serves.as_slice()
     }
 
     /// How many exclusion groups there are that aren't lifted.

@@ -9,5 +9,5 @@ use Rattle.hack_features.proofs.rules.Rules.serving.Goals as goal
 pub returns : goal.returns
 returns c s sel =
     let r = c.args.self.now in
-    subst (λ rows. IsTrue (is_required (rows_of rows) s) ↔ IsRequired (choice_of r) s) (sym c.serves.ensures)
+    subst (λ rows. IsTrue (is_required (rows_of rows) s) ↔ IsRequired (choice_of r) s) (sym c.as_slice.ensures.value)
     (required_iff_whole r (tables_of r) s sel)
