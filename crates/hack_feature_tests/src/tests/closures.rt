@@ -1,5 +1,5 @@
-//! The rules of a search for conflicts, made from the rules of a choice. The words `empty` and `all`
-//! ask for the empty set and for a position of all features.
+//! The rules of a search for conflicts, made from the rules of a choice. The words `empty` and
+//! `all` ask for the empty set and for a position of all features.
 //!
 //! - `rows`: each position, its candidate, and what it enables; then the rows of positions that
 //!   exclude each other, and those of which a set needs one.
