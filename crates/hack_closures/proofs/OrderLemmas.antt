@@ -26,10 +26,6 @@ module _ (c : Choice) (alone : List ℕ) (all : Bool) (r : SearchRules) (h : Are
   pub kind : (x : ℕ) → x < size_of r → Kind x
   kind x lt = kind_by all x (let s = size in omega arith)
 
-  above_by : (b : Bool) → length alone + cond b 1 0 ≤ length alone + 1
-  above_by true = omega arith
-  above_by false = omega arith
-
   pub low : (x : ℕ) → x < length alone → x < size_of r
   low x lt = let s = size in omega arith
 

@@ -30,9 +30,6 @@ length_pushed rows row n e = ap length (rows_push rows row) ∙ length-append (r
 
 -- one more candidate of a set
 
-candidates_zero : (s : List Bool) → candidates_of [] s ≡ []
-candidates_zero s = refl
-
 pub candidates_more : (alone : List ℕ) (s : List Bool) (x : ℕ) → x < length alone → candidates_of (take (suc x) alone) s ≡ candidates_of (take x alone) s ++ cond (mark s x) (get_or alone x 0 ∷ []) []
 candidates_more [] s x lt = absurd (omega arith)
 candidates_more (a ∷ alone) [] zero lt = refl

@@ -88,7 +88,8 @@ fn all_turned_on(
     Ok(rows)
 }
 
-/// Whether each of these candidates is on with all features, and a mark for all features themselves.
+/// Whether each of these candidates is on with all features, and a mark for all features
+/// themselves.
 fn on_with_all(alloc: Global, rules: &Rules, alone: &[usize]) -> Result<Vec<bool>, AllocError>
     requires { All (λ q. q < size_of rules.now) alone.now }
     ensures { IfOk result (λ row. AreOnWithAll (choice_of rules.now) alone.now row.items) }

@@ -66,9 +66,9 @@ fn pairs(alloc: Global, row: &[bool], last: usize) -> Result<Vec<Vec<bool>>, All
     Ok(rows)
 }
 
-/// Which positions exclude each other: those whose candidates reach an exclusion group. Where there is
-/// a position of all features, there is no such group, and that position excludes all that it doesn't
-/// enable.
+/// Which positions exclude each other: those whose candidates reach an exclusion group. Where there
+/// is a position of all features, there is no such group, and that position excludes all that it
+/// doesn't enable.
 pub(crate) fn excluding(
     alloc: Global,
     rules: &Rules,

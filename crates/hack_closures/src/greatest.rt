@@ -30,8 +30,8 @@ fn has_above(rules: &SearchRules, set: &[bool], x: usize) -> bool
     false
 }
 
-/// What is left of the set after a pass over its members, the greatest position first. The pass takes
-/// a member out if another one that is left at that point enables it.
+/// What is left of the set after a pass over its members, the greatest position first. The pass
+/// takes a member out if another one that is left at that point enables it.
 pub(crate) fn greatest(
     alloc: Global,
     rules: &SearchRules,

@@ -1,6 +1,7 @@
 //! The tests, each in the module of what it tests.
 
 mod calls;
+mod closures;
 mod command_lists;
 mod comparison;
 mod given;

@@ -18,7 +18,7 @@ use hack_holds::{Ask, Wrong, hold};
 use std::alloc::{AllocError, Global};
 
 /// The set of these positions below `n`.
-fn set_of(alloc: Global, n: usize, positions: &[usize]) -> Result<Vec<bool>, AllocError> {
+pub fn set_of(alloc: Global, n: usize, positions: &[usize]) -> Result<Vec<bool>, AllocError> {
     let mut set = Vec::new(alloc);
     for p in 0..n {
         set.push(positions.contains(&p))?;
@@ -27,7 +27,7 @@ fn set_of(alloc: Global, n: usize, positions: &[usize]) -> Result<Vec<bool>, All
 }
 
 /// The sets of a text, none where it is empty.
-fn sets_of(alloc: Global, n: usize, text: &str) -> Result<Vec<Vec<bool>>, AllocError> {
+pub fn sets_of(alloc: Global, n: usize, text: &str) -> Result<Vec<Vec<bool>>, AllocError> {
     let mut sets = Vec::new(alloc);
     for word in text.split(';') {
         if !word.is_empty() {
@@ -74,7 +74,7 @@ fn builder_of(alloc: Global, n: usize, question: &str) -> Result<Scripted, Alloc
     })
 }
 
-fn push_set(text: &mut String, alloc: Global, set: &[bool]) -> Result<(), AllocError> {
+pub fn push_set(text: &mut String, alloc: Global, set: &[bool]) -> Result<(), AllocError> {
     let mut positions = Vec::new(alloc);
     for (p, has) in set.iter().enumerate() {
         if *has {
