@@ -1,11 +1,12 @@
 -- What it takes to build one set.
-use Rattle.std.specs.Prelude.{ℕ, ◌≡◌, ◌≢◌, ◌⊎◌, ◌≤◌, ◌<◌, ◌+◌, ◌-◌, ◌||◌, Bool, true, false, List, zero, suc, [], ◌∷◌, ◌++◌, All, AllPairs, Contains, IsErrAnd, Option, Some, Result, Ok, Err, length, map}
+use Rattle.std.specs.Prelude.{ℕ, ◌≡◌, ◌≢◌, ◌⊎◌, ◌≤◌, ◌<◌, ◌+◌, ◌-◌, ◌||◌, Bool, true, false, List, zero, suc, [], ◌∷◌, ◌++◌, All, AllPairs, Contains, IsErrAnd, IsSomeAnd, Option, None, Some, unwrap_or, Result, Ok, Err, length, map}
 use Rattle.std.proofs.Common.{refl, sym, ap, ◌∙◌, subst, inl, inr, arith, get_or}
 use Rattle.std.proofs.lemmas.List.{append-nil, map-append}
 use Rattle.std.proofs.lemmas.List.Quantifiers.{all_pairs_push}
 use Rattle.std.proofs.lemmas.List.Elements.{All-cons, All-nil, Contains-append_right}
 use Rattle.hack_base.proofs.Members.{Contains-head}
-use Rattle.hack_conflicts.specs.Runs.{Run as Asked}
+use Rattle.hack_closures.specs.View.{search_of}
+use Rattle.hack_conflicts.specs.Runs.{Finding, IsCourse, IsFinding, Run as Asked}
 use Rattle.hack_conflicts.specs.declared.tried.Outcome.{Outcome}
 use Rattle.hack_conflicts.specs.declared.tried.Outcome.TheVariants.{Broken, Failed, Passed}
 use Rattle.hack_plan.proofs.GrowingPlans.{runs-grown}
@@ -15,8 +16,8 @@ use Rattle.hack_plan.specs.View.{PlanView}
 use Rattle.hack_plan.specs.declared.places.PlacesFault.{PlacesFault}
 use Rattle.hack_plan.specs.declared.places.PlacesFault.TheVariants as places
 use Rattle.hack_session.specs.declared.step.Handed.{Handed}
-use Rattle.hack_culprits.specs.Built.{Answers, AreBuilt, AreDistinct, AreHanded, Explains, IsAsked, IsBuilt, IsRunFor, Made, Tells, run_for, fault_of, step_at, steps_from}
-use Rattle.hack_culprits.specs.Internal.{Builds, BuildsOne, IsReady, KeepsWhy, is_broken, kept_of, made_in, outcome_of, told_of}
+use Rattle.hack_culprits.specs.Built.{Answers, AreBuilt, AreDistinct, AreHanded, AreMade, Explains, IsAsked, IsBuilt, IsCutShort, IsRunFor, Made, RanHunt, Tells, run_for, fault_of, step_at, steps_from}
+use Rattle.hack_culprits.specs.Internal.{Builds, BuildsOne, IsReady, KeepsWhy, has_broken, is_broken, kept_of, made_in, outcome_of, told_of}
 use Rattle.hack_culprits.specs.declared.aim.Aim.{Aim}
 use Rattle.hack_culprits.specs.declared.built.Built.{Built}
 use Rattle.hack_culprits.specs.declared.fault.CulpritsFault.{CulpritsFault}
@@ -163,3 +164,54 @@ built_alone ran ended aim set came before after why now old new a b one kept = r
   kept = subst (λ (broken : Bool). KeepsWhy broken after why now) (sym (or-false (is_broken (outcome_of came))))
       (subst (λ (o : Option CulpritsFault). KeepsWhy (is_broken (outcome_of came)) after why o) (sym kept) (one.kept why));
 }
+
+-- ---- whole searches
+
+-- what was built after nothing is what was added
+pub from_nothing : (aim : Aim) (asked : List Asked) (before after added : List Made) (old new : PlanView) → before ≡ [] → AreMade aim asked before after added old new → AreMade aim asked [] added added old new
+from_nothing aim asked before after added old new none made =
+    let is : after ≡ added = made.built ∙ ap (λ (l : List Made). l ++ added) none in
+    record {
+      built = refl;
+      plan = made.plan;
+      distinct = λ apart. subst AreDistinct is (made.distinct (subst AreDistinct (sym none) apart));
+      each = subst (λ (l : List Made). All (IsBuilt aim l) asked) is made.each;
+      needed = made.needed;
+      few = made.few;
+    }
+
+explained-or : (o : Option CulpritsFault) (made : List Made) → IsSomeAnd o (λ why. Explains why made) → Explains (unwrap_or o fault.Memory) made
+explained-or None made h = absurd h
+explained-or (Some why) made h = h
+
+-- what is kept explains why a search was cut short
+pub cause_kept : (broken : Bool) (made : List Made) (now : Option CulpritsFault) → KeepsWhy broken made None now → Explains (unwrap_or now fault.Memory) made
+cause_kept true made now kept = explained-or now made kept
+cause_kept false made now kept = subst (λ (o : Option CulpritsFault). Explains (unwrap_or o fault.Memory) made) (sym kept) tt
+
+module _ {R : Type 0} (ran : PlanView → List Handed → R → R → Type 0) (ended : R → Bool) (none : (plan : PlanView) (a : R) → ran plan [] a a)
+    (more : (plan : PlanView) (steps more : List Handed) (a b c : R) → ran plan steps a b → ran plan more b c → ran plan (steps ++ more) a c) where
+  -- a search that came to its end
+  pub ran_hunt : (aim : Aim) (most : Option ℕ) (f : Finding) (before after : List Made) (why now : Option CulpritsFault) (old new : PlanView) (a b : R)
+      → before ≡ [] → Builds ran ended aim f.runs before after why now old new a b → IsFinding (search_of aim.closures.now) most f → RanHunt ran ended aim most f old new a b
+  ran_hunt aim most f before after why now old new a b nothing builds found = record {
+    made = builds.built.added;
+    hunt = record { built = from_nothing aim f.runs before after builds.built.added old new nothing builds.built.made; found = found };
+    handed = builds.built.handed;
+    whole = handed_ran ran ended none more new (length old.entries) builds.built.added a b builds.built.handed;
+  }
+
+  -- a search that was cut short
+  pub cut_hunt : (aim : Aim) (most : Option ℕ) (asked : List Asked) (before after : List Made) (now : Option CulpritsFault) (why : CulpritsFault) (old new : PlanView) (a b : R)
+      → before ≡ [] → IsCourse (search_of aim.closures.now) most asked → Builds ran ended aim asked before after None now old new a b → (Explains (unwrap_or now fault.Memory) after → Explains why after) → IsCutShort ran ended aim most why old new a b
+  cut_hunt aim most asked before after now why old new a b nothing course builds explains =
+      let is : after ≡ builds.built.added = builds.built.made.built ∙ ap (λ (l : List Made). l ++ builds.built.added) nothing in
+      record {
+        asked = asked;
+        made = builds.built.added;
+        course = course;
+        built = from_nothing aim asked before after builds.built.added old new nothing builds.built.made;
+        handed = builds.built.handed;
+        whole = handed_ran ran ended none more new (length old.entries) builds.built.added a b builds.built.handed;
+        cause = subst (Explains why) is (explains (cause_kept (has_broken asked) after now builds.kept));
+      }

@@ -27,7 +27,7 @@ pub(crate) struct Builder<'a, R: Judge> {
     pub plan: &'a mut Plan,
     pub runner: &'a mut R,
     /// What was built for the package and the slot so far.
-    pub built: Vec<Built>,
+    pub built: &'a mut Vec<Built>,
     /// Why the last set wasn't built, or its run cut short.
     pub fault: Option<CulpritsFault>,
 }
@@ -39,8 +39,8 @@ impl<R: Judge> Builder<'_, R> {
         ensures built { IsReady self.old.aim self.old.plan.now
             → IsChoice (search_of self.old.aim.closures.now) set.now
             → BuildsOne R.ran R.ended self.old.aim set.now result
-            (made_in self.old.aim.plain self.old.built.items)
-            (made_in self.old.aim.plain self.new.built.items)
+            (made_in self.old.aim.plain self.old.built.now.items)
+            (made_in self.old.aim.plain self.new.built.now.items)
             self.old.plan.now self.new.plan.now self.old.runner.now self.new.runner.now }
     {
         let build = self.aim.closures.build_of(self.alloc, set)?;
@@ -56,10 +56,10 @@ impl<R: Judge> Builder<'_, R> {
         ensures built { (set : List Bool) → IsReady self.old.aim self.old.plan.now
             → IsRunFor self.old.aim set (run_for self.old.aim.plain build)
             → All (λ m. m.run ≢ run_for self.old.aim.plain build)
-            (made_in self.old.aim.plain self.old.built.items)
+            (made_in self.old.aim.plain self.old.built.now.items)
             → BuildsOne R.ran R.ended self.old.aim set result
-            (made_in self.old.aim.plain self.old.built.items)
-            (made_in self.old.aim.plain self.new.built.items)
+            (made_in self.old.aim.plain self.old.built.now.items)
+            (made_in self.old.aim.plain self.new.built.now.items)
             self.old.plan.now self.new.plan.now self.old.runner.now self.new.runner.now }
     {
         if !self.can_grow() {
@@ -120,15 +120,15 @@ impl<R: Judge> Builds for Builder<'_, R> {
 
     ghost ran = { λ asked a b. (a.runner.ghost_name ≡ b.runner.ghost_name)
         × (a.plan.ghost_name ≡ b.plan.ghost_name) × (b.aim ≡ a.aim)
-        × MayBuild R.ran R.ended a.aim asked (made_in a.aim.plain a.built.items)
-        (made_in a.aim.plain b.built.items) a.fault b.fault a.plan.now b.plan.now a.runner.now
+        × MayBuild R.ran R.ended a.aim asked (made_in a.aim.plain a.built.now.items)
+        (made_in a.aim.plain b.built.now.items) a.fault b.fault a.plan.now b.plan.now a.runner.now
         b.runner.now };
 
     ghost ran_none = { λ a. (
       refl,
       refl,
       refl,
-      builds_none R.ran R.ended a.aim (made_in a.aim.plain a.built.items) a.fault a.plan.now
+      builds_none R.ran R.ended a.aim (made_in a.aim.plain a.built.now.items) a.fault a.plan.now
           a.runner.now,
     ) };
 
@@ -137,11 +137,11 @@ impl<R: Judge> Builds for Builder<'_, R> {
       p.1 ∙ q.1,
       q.2 ∙ p.2,
       builds_more R.ran R.ended R.ran_grown a.aim asked more
-          (made_in a.aim.plain a.built.items) (made_in a.aim.plain b.built.items)
-          (made_in a.aim.plain c.built.items) a.fault b.fault c.fault a.plan.now b.plan.now
+          (made_in a.aim.plain a.built.now.items) (made_in a.aim.plain b.built.now.items)
+          (made_in a.aim.plain c.built.now.items) a.fault b.fault c.fault a.plan.now b.plan.now
           c.plan.now a.runner.now b.runner.now c.runner.now p.3
-          (subst (λ aim. MayBuild R.ran R.ended aim more (made_in aim.plain b.built.items)
-          (made_in aim.plain c.built.items) b.fault c.fault b.plan.now c.plan.now b.runner.now
+          (subst (λ aim. MayBuild R.ran R.ended aim more (made_in aim.plain b.built.now.items)
+          (made_in aim.plain c.built.now.items) b.fault c.fault b.plan.now c.plan.now b.runner.now
           c.runner.now) p.2 q.3),
     ) };
 

@@ -45,12 +45,15 @@ pub fn find_culprits<R: Judge>(
     ensures fault { IfErr result (λ fault. IsCutShort R.ran R.ended aim.entry most_runs fault
         plan.old plan.new runner.old runner.new) }
 {
+    // This call promises that the run of each place is one of its package's.
+    let _ = plan.len();
+    let mut built = Vec::new(alloc);
     let mut builder = Builder {
         alloc,
         aim,
         plan,
         runner,
-        built: Vec::new(alloc),
+        built: &mut built,
         fault: None,
     };
     match find_conflicts(alloc, &aim.closures.search, most_runs, &mut builder) {

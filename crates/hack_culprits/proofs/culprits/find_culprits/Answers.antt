@@ -1,18 +1,41 @@
-use Rattle.std.proofs.Common.{rules, ◌≡◌, ◌<◌, [], IfErr, IfOk, List, length, true, ℕ, ◌+◌, ◌-◌, ◌*◌, ◌≤◌, ◌/◌, ◌%◌, Bool, false, nat_eq, nat_lt, ◌∷◌, ◌++◌, slice_index_or, slice_set, bit_and, bit_or, Fits, w8, w32, w64, Bor, MutBor}
-use Rattle.hack_closures.specs.View.{search_of}
-use Rattle.hack_conflicts.specs.Rules.{IsPreorder}
+use Rattle.std.proofs.Common.{ap, subst, sym}
 use Rattle.hack_conflicts.specs.Runs.{finding_of}
-use Rattle.hack_culprits.specs.Built.{IsCutShort, RanHunt}
+use Rattle.hack_culprits.specs.Built.{Explains}
+use Rattle.hack_culprits.specs.Internal.{IsReady, made_in}
+use Rattle.hack_culprits.specs.declared.fault.CulpritsFault.{CulpritsFault}
+use Rattle.hack_culprits.proofs.BuildLemmas.{cut_hunt, ran_hunt}
 use Rattle.hack_culprits.proofs.culprits.find_culprits.Goals as goal
 
--- src/culprits.rt:47:1
 pub returns-in-Ok-clause-found : goal.returns-in-Ok-clause-found
-returns-in-Ok-clause-found g c = ?
+returns-in-Ok-clause-found g c =
+    let aim = c.args.aim in
+    let last = c.find_conflicts.new.builder in
+    let ran = c.in-Ok.ensures.ran in
+    let found = c.in-Ok.ensures.found in
+    let ready : IsReady aim c.args.plan.now = record { grows = c.requires.grows; version = c.requires.version; member = c.requires.member; runs = c.len.ensures.runs; order = c.requires.order } in
+    rw (c.in-Ok.plan-1-own.given.1 ran.1, c.in-Ok.runner-1-own.given.1 ran.0)
+    (ran_hunt g.R.Runner.ran g.R.Judge.ended g.met.R.Runner.ran_none g.met.R.Runner.ran_more aim c.args.most_runs (finding_of c.in-Ok.found) (made_in aim.plain c.new-built.result.items) (made_in aim.plain last.built.now.items) _ last.fault c.args.plan.now last.plan.now
+    c.args.runner.now last.runner.now (ap (made_in aim.plain) c.new-built.ensures.items) (ran.3 ready found.course.chosen) found)
 
--- src/culprits.rt:47:1
 pub returns-in-Err-Memory-clause-fault : goal.returns-in-Err-Memory-clause-fault
-returns-in-Err-Memory-clause-fault g c = ?
+returns-in-Err-Memory-clause-fault g c =
+    let aim = c.args.aim in
+    let last = c.find_conflicts.new.builder in
+    let cut = c.in-Err-Memory.ensures.fault in
+    let ran = cut.1 in
+    let ready : IsReady aim c.args.plan.now = record { grows = c.requires.grows; version = c.requires.version; member = c.requires.member; runs = c.len.ensures.runs; order = c.requires.order } in
+    rw (c.plan-in-Err-Memory-1.given.1 ran.1, c.runner-in-Err-Memory-1.given.1 ran.0)
+    (cut_hunt g.R.Runner.ran g.R.Judge.ended g.met.R.Runner.ran_none g.met.R.Runner.ran_more aim c.args.most_runs cut.0 (made_in aim.plain c.new-built.result.items) (made_in aim.plain last.built.now.items) last.fault _ c.args.plan.now last.plan.now
+    c.args.runner.now last.runner.now (ap (made_in aim.plain) c.new-built.ensures.items) cut.2 (ran.3 ready cut.2.chosen) (λ explained. tt))
 
--- src/culprits.rt:25:1
 pub returns-clause-fault : goal.returns-clause-fault
-returns-clause-fault g c = ?
+returns-clause-fault g c =
+    let aim = c.args.aim in
+    let last = c.find_conflicts.new.builder in
+    let cut = c.in-Err-Broken.ensures.fault in
+    let ran = cut.1 in
+    let ready : IsReady aim c.args.plan.now = record { grows = c.requires.grows; version = c.requires.version; member = c.requires.member; runs = c.len.ensures.runs; order = c.requires.order } in
+    let after = made_in aim.plain last.built.now.items in
+    rw (c.plan-in-Err-Broken-1.given.1 ran.1, c.runner-in-Err-Broken-1.given.1 ran.0)
+    (cut_hunt g.R.Runner.ran g.R.Judge.ended g.met.R.Runner.ran_none g.met.R.Runner.ran_more aim c.args.most_runs cut.0 (made_in aim.plain c.new-built.result.items) after last.fault c.unwrap_or.result c.args.plan.now last.plan.now
+    c.args.runner.now last.runner.now (ap (made_in aim.plain) c.new-built.ensures.items) cut.2 (ran.3 ready cut.2.chosen) (λ explained. subst (λ (why : CulpritsFault). Explains why after) (sym c.unwrap_or.ensures) explained))
