@@ -1,4 +1,4 @@
-use Rattle.std.proofs.Common.{◌≡◌, ◌∙◌, ◌&&◌, sym, ap, subst, Bool}
+use Rattle.std.proofs.Common.{◌∙◌, ◌&&◌, sym, ap, subst, Bool}
 use Rattle.std.specs.Prelude.{MatchBool}
 use Rattle.std.specs.List.{list_all}
 use Rattle.hack_samples.specs.Samples.{RowShows}
