@@ -144,8 +144,8 @@ def patterns(settings, strength):
 
 def suspects(outcomes, strength):
     """The patterns of at most so many candidates that a failed run shows and no passed run does, those alone of which no
-    smaller part is one too: the shorter ones first, then by place, off before on. An outcome is a run's settings, and
-    whether it failed."""
+    smaller part is one too: first those that most failed runs show, then the shorter ones, then by place, off before on.
+    An outcome is a run's settings, and whether it failed."""
     shown = {failed: set() for failed in (False, True)}
     for settings, failed in outcomes:
         shown[failed] |= patterns(settings, strength)
@@ -153,7 +153,8 @@ def suspects(outcomes, strength):
     minimal = [
         it for it in found if not any(part in found for size in range(len(it)) for part in itertools.combinations(it, size))
     ]
-    return sorted(minimal, key=lambda it: (len(it), it))
+    uses = {it: sum(failed and set(it) <= set(enumerate(settings)) for settings, failed in outcomes) for it in minimal}
+    return sorted(minimal, key=lambda it: (-uses[it], len(it), it))
 
 
 # ---- Words, which are a list of uses of options.
@@ -755,9 +756,10 @@ def who(showing, failed):
     return "the one failed run has" if failed == 1 else f"all {failed} failed runs have"
 
 
-def told_of_suspects(plan, ranks, failing):
+def told_of_suspects(plan, ranks, failing, scope):
     """What is told after these places were run, where these commands fail: of each version, slot and package in turn,
-    since the runs of each are one after the other; and of one strength after the other, where packages have their own."""
+    since the runs of each are one after the other; and of one strength after the other, where packages have their own.
+    The scope is what a heading says of the runs that were looked at."""
     outcomes, told, strengths = {}, [], strengths_of(plan)
     for rank in (it for it in ranks if strengths[plan.places[it][2]] is not None):
         outcome = plan.settings(plan.places[rank]), plan.own_line(rank) in failing
@@ -775,7 +777,7 @@ def told_of_suspects(plan, ranks, failing):
         if found not in ([], [()]):
             where = own + (f" on 1.{version}" if version else "")
             where += f" for {slot[0]}" if plan.is_split(version) else ""
-            told.append(f"info: in {where} {who(failed - missed, failed)} one of these, and no passed run does:")
+            told.append(f"info: in {where} {who(failed - missed, failed)} one of these, and no passed run does{scope}:")
             told += [f"info:     {it}" for it in lines[:20]]
             told += [f"info:     and {len(lines) - 20} more"] if len(lines) > 20 else []
         if missed:
@@ -791,10 +793,12 @@ def fault_of_suspects(program, plan, words, rng):
     kind, number = rng.choice(["block", "turn"]), rng.randint(1, count)
     failing = commands_to_fail(rng, plan)
     write(plan.workspace["failing"], "".join(it.split(" ", 1)[1] for it in sorted(failing)))
-    words = ["--partition", f"{number}/{count}", "--partition-kind", kind] + [it for it in words if it != LISTED]
+    is_piece = count > 1 or rng.random() < 0.5
+    piece = ["--partition", f"{number}/{count}", "--partition-kind", kind] if is_piece else []
+    words = piece + [it for it in words if it != LISTED]
     ran = call(program, plan.workspace, ["--keep-going"] * ("--keep-going" not in words) + words)
     ranks = plan.ranks(kind, number, count)
-    wanted = told_of_suspects(plan, ranks, failing)
+    wanted = told_of_suspects(plan, ranks, failing, ", of this piece's runs alone" if is_piece else "")
     found = [it for it in ran.stderr.splitlines() if TOLD.match(it)]
     status = int(any(plan.own_line(it) in failing for it in ranks))
     if (ran.returncode, found) == (status, wanted):

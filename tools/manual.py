@@ -202,8 +202,9 @@ def cargo_hack_page(found):
             ".fi",
             ".PP",
             roff("Here each failed run has both features on, and each passed run lacks one of them. A line says how many failed runs"),
-            roff("show no suspect, where there are some; a greater NUM may find what they have. At most twenty are shown. Nothing is"),
-            roff("said of a package of which all runs failed."),
+            roff("show no suspect, where there are some; a greater NUM may find what they have. At most twenty are shown, those"),
+            roff("first that most failed runs show. Nothing is said of a package of which all runs failed. With --partition only the"),
+            roff("runs of the piece count."),
         ]),
         ("ENVIRONMENT", items((f"\\fB{roff(name)}\\fP", [text]) for name, text in ENVIRONMENT)),
         ("FILES", items([("\\fB.git/cargo\\-hack\\-journal\\fP, \\fB.cargo\\-hack\\-journal\\fP", [

@@ -24,7 +24,7 @@ pub(crate) fn explain<E: Write>(
         if let Some(strength) = *strength {
             if !told.contains(&strength) {
                 told.push(strength)?;
-                explain_at(alloc, session, &strengths, strength, term, err)?;
+                explain_at(alloc, cx, session, &strengths, strength, term, err)?;
             }
         }
     }
@@ -34,6 +34,7 @@ pub(crate) fn explain<E: Write>(
 /// Does so for the packages of this strength.
 fn explain_at<E: Write>(
     alloc: Global,
+    cx: &Context,
     session: &Session,
     strengths: &[Option<usize>],
     strength: usize,
@@ -46,7 +47,7 @@ fn explain_at<E: Write>(
             explained.push(one)?;
         }
     }
-    for notice in &suspect_notes(alloc, session.plan(), &explained)? {
+    for notice in &suspect_notes(alloc, session.plan(), cx.args().partition, &explained)? {
         let _ = term.info(notice.text.as_str(), err);
     }
     Ok(())

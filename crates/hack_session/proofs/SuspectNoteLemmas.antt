@@ -9,7 +9,8 @@ use Rattle.hack_plan.specs.View.{PlanView}
 use Rattle.hack_session.specs.declared.suspects.Explained.{Explained}
 use Rattle.hack_session.specs.Suspects.{explained_view}
 use Rattle.std.proofs.Common.{true, false}
-use Rattle.std.specs.Prelude.{nat_eq, nat_lt}
+use Rattle.std.specs.Prelude.{nat_eq, nat_lt, Option}
+use Rattle.hack_plan.specs.declared.partition.Partition.{Partition}
 use Rattle.std.specs.Fmt.{decimal}
 use Rattle.std.proofs.Common.{arith}
 use Rattle.std.proofs.lemmas.Bool.Decides.{nat_tests}
@@ -25,10 +26,10 @@ pub adds-then : {X : Type 0} (old mid new xs ys : List X) → mid ≡ old ++ xs 
 adds-then old mid new xs ys p q = q ∙ ap (λ l. l ++ ys) p ∙ append_assoc old xs ys
 
 -- the notes on one more part
-pub notes-more : (plan : PlanView) (xs : List Explained) (i : ℕ) (x : Explained) (old new : List Note) → i < length xs → x ≡ get_or xs i x → new ≡ old ++ suspect_notes_on plan (explained_view x) → old ≡ flat_map (suspect_notes_on plan) (map explained_view (take i xs))
-    → new ≡ flat_map (suspect_notes_on plan) (map explained_view (take (i + 1) xs))
-notes-more plan xs i x old new lt is adds before =
-    let f = suspect_notes_on plan in
+pub notes-more : (plan : PlanView) (piece : Option Partition) (xs : List Explained) (i : ℕ) (x : Explained) (old new : List Note) → i < length xs → x ≡ get_or xs i x → new ≡ old ++ suspect_notes_on plan piece (explained_view x) → old ≡ flat_map (suspect_notes_on plan piece) (map explained_view (take i xs))
+    → new ≡ flat_map (suspect_notes_on plan piece) (map explained_view (take (i + 1) xs))
+notes-more plan piece xs i x old new lt is adds before =
+    let f = suspect_notes_on plan piece in
     let front = map explained_view (take i xs) in
     adds ∙ ap (λ l. l ++ f (explained_view x)) before
     ∙ sym (ap (flat_map f) (map_more explained_view xs i x lt ∙ ap (λ y. front ++ explained_view y ∷ []) (sym is)) ∙ flat_map-append f front (explained_view x ∷ []) ∙ ap (λ l. flat_map f front ++ l) (append-nil (f (explained_view x))))

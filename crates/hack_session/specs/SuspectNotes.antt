@@ -8,6 +8,7 @@ use Rattle.hack_versions.specs.declared.version.Version.{Version}
 use Rattle.hack_versions.specs.VersionTexts.{version_text}
 use Rattle.hack_plan.specs.View.{PackageView, PlanView}
 use Rattle.hack_plan.specs.Commands.{name_in, slot_target}
+use Rattle.hack_plan.specs.declared.partition.Partition.{Partition}
 use Rattle.hack_samples.specs.declared.sets.Setting.{Setting}
 use Rattle.hack_session.specs.declared.suspects.Part.{Part}
 use Rattle.hack_session.specs.Suspects.{ExplainedView}
@@ -46,9 +47,14 @@ who_text showing failed =
     if nat_lt showing failed then decimal showing ++ (codes " of " ++ (decimal failed ++ (codes " failed runs " ++ have_text showing)))
     else if nat_eq failed 1 then codes "the one failed run has" else codes "all " ++ (decimal failed ++ codes " failed runs have")
 
+-- of which runs a heading speaks, where a piece of the plan was run
+abbrev pub piece_text : Option Partition → List ℕ
+piece_text None = []
+piece_text (Some piece) = codes ", of this piece's runs alone"
+
 -- the heading of the suspects
-abbrev pub heading_text : PlanView → ExplainedView → List ℕ
-heading_text plan e = place_text plan e.part ++ (codes " " ++ (who_text e.showing e.failed ++ codes " one of these, and no passed run does:"))
+abbrev pub heading_text : PlanView → Option Partition → ExplainedView → List ℕ
+heading_text plan piece e = place_text plan e.part ++ (codes " " ++ (who_text e.showing e.failed ++ (codes " one of these, and no passed run does" ++ (piece_text piece ++ codes ":"))))
 
 -- how many failed runs show no suspect
 abbrev pub missed_text : ℕ → List ℕ
@@ -98,18 +104,18 @@ suspect_lines candidates found =
 
 -- the lines under a heading: none where no suspect has a setting, since then all of the part's runs
 -- failed or there is no suspect
-abbrev pub headed_lines : PlanView → ExplainedView → List (List Setting) → List Note
-headed_lines plan e found = if list_any has_setting found then info (heading_text plan e) ∷ suspect_lines (package_candidates (slice_get plan.packages e.part.package)) found else []
+abbrev pub headed_lines : PlanView → Option Partition → ExplainedView → List (List Setting) → List Note
+headed_lines plan piece e found = if list_any has_setting found then info (heading_text plan piece e) ∷ suspect_lines (package_candidates (slice_get plan.packages e.part.package)) found else []
 
 -- the line on the failed runs that show no suspect, where there are some
 abbrev pub missed_lines : ExplainedView → List Note
 missed_lines e = if nat_lt e.showing e.failed then info (missed_text (e.failed - e.showing) ++ lacking_text e.strength) ∷ [] else []
 
 -- the notices on a part's suspects
-abbrev pub notes_of : PlanView → ExplainedView → Option (List (List Setting)) → List Note
-notes_of plan e None = info (too_many_text plan e.part) ∷ []
-notes_of plan e (Some found) = headed_lines plan e found ++ missed_lines e
+abbrev pub notes_of : PlanView → Option Partition → ExplainedView → Option (List (List Setting)) → List Note
+notes_of plan piece e None = info (too_many_text plan e.part) ∷ []
+notes_of plan piece e (Some found) = headed_lines plan piece e found ++ missed_lines e
 
--- the notices on a part that is explained
-abbrev pub suspect_notes_on : PlanView → ExplainedView → List Note
-suspect_notes_on plan e = notes_of plan e e.suspects
+-- the notices on a part that is explained, where just these runs of the plan are told
+abbrev pub suspect_notes_on : PlanView → Option Partition → ExplainedView → List Note
+suspect_notes_on plan piece e = notes_of plan piece e e.suspects

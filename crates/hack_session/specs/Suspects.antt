@@ -5,8 +5,9 @@ use Rattle.hack_plan.specs.declared.places.PlanEntry.{PlanEntry}
 use Rattle.hack_plan.specs.View.{PackageView, PlanView}
 use Rattle.hack_samples.specs.Sets.{rows_of}
 use Rattle.hack_samples.specs.declared.sets.Setting.{Setting}
-use Rattle.hack_suspects.specs.Suspects.{RunOutcome as Run_outcome, AreSuspects, choices}
+use Rattle.hack_suspects.specs.Suspects.{RunOutcome as Run_outcome, choices}
 use Rattle.hack_suspects.specs.Counts.{Fails, FailsWith, IsNumberOf}
+use Rattle.hack_suspects.specs.Uses.{AreSuspectsByUse}
 use Rattle.hack_session.specs.declared.step.Step.{Step}
 use Rattle.hack_session.specs.declared.step.Step.TheVariants.{Prepare, Skip, Run}
 use Rattle.hack_session.specs.declared.step.Outcome.{Outcome}
@@ -87,10 +88,10 @@ part_explained e = e.part
 abbrev pub most_patterns : ℕ
 most_patterns = 1000000000
 
--- these are all the suspects, and none are listed just where there are too many patterns to look at
+-- these are all the suspects, in order of use, and none are listed just where there are too many patterns to look at
 abbrev pub AreFound : List Run_outcome → ℕ → ℕ → Option (List (List Setting)) → Type 0
 AreFound outcomes n strength None = most_patterns < length outcomes * choices n strength
-AreFound outcomes n strength (Some found) = AreSuspects outcomes n strength found × (length outcomes * choices n strength ≤ most_patterns)
+AreFound outcomes n strength (Some found) = AreSuspectsByUse outcomes n strength found × (length outcomes * choices n strength ≤ most_patterns)
 
 -- the part is explained by what came of its runs; a failed run counts just where it shows a suspect
 pub record IsExplained (plan : PlanView) (handed : List Handed) (strength : ℕ) (e : ExplainedView) : Type 0 where

@@ -14,13 +14,15 @@ ghost use Rattle.hack_session.specs.Suspects.{explained_view};
 ghost use Rattle.hack_session.specs.SuspectNotes.{ending, for_target_text, has_setting, have_text};
 ghost use Rattle.hack_session.specs.SuspectNotes.{headed_lines, heading_text, info, lacking_text};
 ghost use Rattle.hack_session.specs.SuspectNotes.{missed_lines, missed_text, more_text, most_lines};
-ghost use Rattle.hack_session.specs.SuspectNotes.{package_candidates, place_text, setting_text};
+ghost use Rattle.hack_session.specs.SuspectNotes.{package_candidates, piece_text, place_text};
+ghost use Rattle.hack_session.specs.SuspectNotes.{setting_text};
 ghost use Rattle.hack_session.specs.SuspectNotes.{state_text, suspect_notes_on, suspect_text};
 ghost use Rattle.hack_session.specs.SuspectNotes.{too_many_text, version_words, who_text};
 
 use crate::suspects::{Explained, Part};
 use hack_base::notice::{Notice, NoticeKind};
 use hack_features::Feature;
+use hack_plan::partition::Partition;
 use hack_plan::plan::Plan;
 use hack_samples::Setting;
 use hack_versions::version::Version;
@@ -32,18 +34,19 @@ const MOST_LINES: usize = 20;
 /// Returns the notices on the patterns that explain failed runs: for each part with such patterns a
 /// heading, a line for each of the first twenty, and one that counts the others. A further line
 /// counts the failed runs that none explains. A part with too many patterns to look at has a line
-/// that says so.
+/// that says so. Where a piece was run, headings say that they speak of its runs alone.
 pub fn suspect_notes(
     alloc: Global,
     plan: &Plan,
+    piece: Option<Partition>,
     explained: &[Explained],
 ) -> Result<Vec<Notice>, AllocError>
     ensures { IfOk result (λ notices. map note_of notices.items
-        ≡ flat_map (suspect_notes_on plan.now) (map explained_view explained.now)) }
+        ≡ flat_map (suspect_notes_on plan.now piece) (map explained_view explained.now)) }
 {
     let mut notices = Vec::new(alloc);
     for one in explained {
-        add_notes(alloc, plan, one, &mut notices)?;
+        add_notes(alloc, plan, piece, one, &mut notices)?;
     }
     Ok(notices)
 }
@@ -52,15 +55,16 @@ pub fn suspect_notes(
 fn add_notes(
     alloc: Global,
     plan: &Plan,
+    piece: Option<Partition>,
     one: &Explained,
     notices: &mut Vec<Notice>,
 ) -> Result<(), AllocError>
     ensures { OnOk result (AddsNotes notices.old notices.new
-        (suspect_notes_on plan.now (explained_view one.now))) }
+        (suspect_notes_on plan.now piece (explained_view one.now))) }
 {
     match &one.suspects {
         Some(found) => {
-            add_found(alloc, plan, one, found.as_slice(), notices)?;
+            add_found(alloc, plan, piece, one, found.as_slice(), notices)?;
             add_missed(alloc, one, notices)
         }
         None => add_info(notices, too_many_text(alloc, plan, one.part)?),
@@ -71,17 +75,18 @@ fn add_notes(
 fn add_found(
     alloc: Global,
     plan: &Plan,
+    piece: Option<Partition>,
     one: &Explained,
     found: &[Vec<Setting>],
     notices: &mut Vec<Notice>,
 ) -> Result<(), AllocError>
     ensures { OnOk result (AddsNotes notices.old notices.new
-        (headed_lines plan.now (explained_view one.now) (rows_of found.now))) }
+        (headed_lines plan.now piece (explained_view one.now) (rows_of found.now))) }
 {
     if !has_setting(found) {
         return Ok(());
     }
-    add_info(notices, heading_text(alloc, plan, one)?)?;
+    add_info(notices, heading_text(alloc, plan, piece, one)?)?;
     let candidates = candidates_in(plan, one.part.package);
     add_suspects(alloc, candidates, first_ones(found), notices)?;
     add_more(alloc, found.len(), notices)
@@ -166,13 +171,29 @@ fn add_info(notices: &mut Vec<Notice>, text: String) -> Result<(), AllocError>
 }
 
 /// Returns the heading of a part's suspects.
-fn heading_text(alloc: Global, plan: &Plan, one: &Explained) -> Result<String, AllocError>
+fn heading_text(
+    alloc: Global,
+    plan: &Plan,
+    piece: Option<Partition>,
+    one: &Explained,
+) -> Result<String, AllocError>
     ensures { IfOk result (λ text. string_bytes text
-        ≡ heading_text plan.now (explained_view one.now)) }
+        ≡ heading_text plan.now piece (explained_view one.now)) }
 {
     let place = place_text(alloc, plan, one.part)?;
     let who = who_text(alloc, one.showing, one.failed)?;
-    format!(in alloc; "{place} {who} one of these, and no passed run does:")
+    let scope = piece_text(piece);
+    format!(in alloc; "{place} {who} one of these, and no passed run does{scope}:")
+}
+
+/// Of which runs a heading speaks, where a piece of the plan was run.
+fn piece_text(piece: Option<Partition>) -> &'static str
+    ensures { result.now ≡ piece_text piece }
+{
+    match piece {
+        Some(_) => ", of this piece's runs alone",
+        None => "",
+    }
 }
 
 /// Which of the failed runs show a suspect.

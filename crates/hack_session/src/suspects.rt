@@ -8,6 +8,7 @@ ghost use Rattle.std.specs.List.{slice_index_or};
 ghost use Rattle.hack_samples.specs.Sets.{rows_of};
 ghost use Rattle.hack_suspects.specs.Counts.{Fails, FailsWith, IsNumberOf};
 ghost use Rattle.hack_suspects.specs.Suspects.{outcomes_of};
+ghost use Rattle.hack_suspects.specs.Uses.{AreInOrderOfUse};
 ghost use Rattle.hack_session.specs.Suspects.{AreExplained, AreFound, AreOutcomes};
 ghost use Rattle.hack_session.specs.Internal.{AddsOnce};
 ghost use Rattle.hack_session.specs.Suspects.{FailsBefore, HasFailedRun, IsExplained};
@@ -20,7 +21,9 @@ use crate::step::{Handed, Outcome, Step};
 use hack_plan::places::PlanEntry;
 use hack_plan::plan::Plan;
 use hack_samples::Setting;
-use hack_suspects::{Outcome as RunOutcome, SuspectFault, count_failed, count_showing};
+use hack_suspects::{
+    Outcome as RunOutcome, SuspectFault, count_failed, count_showing, sort_by_use,
+};
 use hack_versions::version::Version;
 use std::alloc::{AllocError, Global};
 
@@ -48,7 +51,8 @@ pub struct Explained {
     pub failed: usize,
     /// How many of these show a suspect.
     pub showing: usize,
-    /// The suspects; none where there are too many patterns to look at.
+    /// The suspects, those that most failed runs show first; none where there are too many patterns
+    /// to look at.
     pub suspects: Option<Vec<Vec<Setting>>>,
 }
 
@@ -210,10 +214,23 @@ fn look(
         (option_map (λ patterns. rows_of patterns.items) found)) }
 {
     match hack_suspects::suspects(alloc, outcomes, candidates, strength, MOST_PATTERNS) {
-        Ok(found) => Ok(Some(found)),
+        Ok(found) => Ok(Some(by_use(alloc, outcomes, found)?)),
         Err(SuspectFault::Memory) => Err(AllocError),
         Err(SuspectFault::TooManyPatterns) => Ok(None),
     }
+}
+
+/// The suspects in the order of use.
+fn by_use(
+    alloc: Global,
+    outcomes: &[RunOutcome],
+    mut found: Vec<Vec<Setting>>,
+) -> Result<Vec<Vec<Setting>>, AllocError>
+    ensures { IfOk result (λ sorted. AreInOrderOfUse (outcomes_of outcomes.now)
+        (rows_of found.items) (rows_of sorted.items)) }
+{
+    sort_by_use(alloc, outcomes, found.as_mut_slice())?;
+    Ok(found)
 }
 
 /// What came of the runs of a part.

@@ -3,3 +3,4 @@ pub mod ChoiceLemmas
 pub mod SuspectLemmas
 pub mod FaultLemmas
 pub mod CountLemmas
+pub mod UseLemmas

@@ -11,7 +11,9 @@ mod counts;
 mod laws;
 mod patterns;
 pub mod suspect;
+mod uses;
 
 pub use counts::{count_failed, count_showing};
 pub use laws::{finds_faults, suspects_tell_the_failed};
 pub use suspect::{Outcome, SuspectFault, suspects};
+pub use uses::sort_by_use;

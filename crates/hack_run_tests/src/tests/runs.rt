@@ -40,8 +40,9 @@ fn a_failed_run(rt: HostRuntime) -> Result<(), Wrong> {
     )
 }
 
-// With a strength the report is followed by what only failed runs have, how many of them have it,
-// and how many have nothing of the kind; where all failed, by nothing.
+// With a strength the report is followed by what only failed runs have, first what most of them
+// have, how many of them have it, and how many have nothing of the kind; where all failed, by
+// nothing.
 #[test]
 fn what_failed_runs_have_in_common(rt: HostRuntime) -> Result<(), Wrong> {
     on(
@@ -94,8 +95,29 @@ fn what_failed_runs_have_in_common(rt: HostRuntime) -> Result<(), Wrong> {
             |         `cargo check --manifest-path Cargo.toml --no-default-features --features c`
             |
             | info: in p all 2 failed runs have one of these, and no passed run does:
-            | info:     c on
             | info:     a off, b off
+            | info:     c on
+            | status 1
+
+            > err: hack check --feature-powerset --strength 2 --keep-going --mutually-exclusive-features a,b,c --partition 1/2; features a b c; fails 101 cargo check --manifest-path Cargo.toml --no-default-features
+            | err
+            | info: running `cargo check --no-default-features` on p (1/4)
+            | error: process didn't exit successfully: `cargo check --manifest-path Cargo.toml --no-default-features` (exit status: 101)
+            |
+            | info: running `cargo check --no-default-features --features c` on p (2/4)
+            |
+            | info: skipping `cargo check --no-default-features --features a` on p (3/4)
+            |
+            | info: skipping `cargo check --no-default-features --features b` on p (4/4)
+            |
+            | error: failed to run 1 commands
+            |
+            | failed commands:
+            |     p:
+            |         `cargo check --manifest-path Cargo.toml --no-default-features`
+            |
+            | info: in p the one failed run has one of these, and no passed run does, of this piece's runs alone:
+            | info:     c off
             | status 1
 
             > err: hack check --feature-powerset --strength 2 --keep-going --mutually-exclusive-features a,b,c,d; features a b c d; fails 101 cargo check --manifest-path Cargo.toml --no-default-features; fails 101 cargo check --manifest-path Cargo.toml --no-default-features --features d
