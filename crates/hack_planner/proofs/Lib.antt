@@ -23,3 +23,4 @@ mod OnceLemmas
 mod NeverLemmas
 mod PlanSampleLemmas
 mod LeastPlaceLemmas
+mod PatternCountLemmas

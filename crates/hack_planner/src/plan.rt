@@ -142,10 +142,7 @@ fn plan_by(
 }
 
 /// The chosen packages, of whose tables of rules none has a fault.
-pub fn chosen_list(
-    alloc: Global,
-    cx: &Context,
-) -> Result<(PackageList, Vec<Notice>), PlanFault>
+pub fn chosen_list(alloc: Global, cx: &Context) -> Result<(PackageList, Vec<Notice>), PlanFault>
     ensures ok { IfOk result (λ answer. AreChosen (context_view cx.now)
         (map place_at answer.0.ids.items)) }
     ensures notes { IfOk result (λ answer. AreChoiceNotes (context_view cx.now)

@@ -51,11 +51,7 @@ fn current(cx: &Context) -> Option<&Package>
 }
 
 /// What all commands of the call have in common. `rustup` is the program to run as rustup.
-pub fn call_words(
-    alloc: Global,
-    cx: &Context,
-    rustup: &str,
-) -> Result<CommandParts, AllocError>
+pub fn call_words(alloc: Global, cx: &Context, rustup: &str) -> Result<CommandParts, AllocError>
     ensures { IfOk result (λ words. call_view words ≡ call_of (context_view cx.now) rustup.now) }
 {
     let args = cx.args();
