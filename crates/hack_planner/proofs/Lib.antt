@@ -24,3 +24,4 @@ mod NeverLemmas
 mod PlanSampleLemmas
 mod LeastPlaceLemmas
 mod PatternCountLemmas
+mod LookLemmas
