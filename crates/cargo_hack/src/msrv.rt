@@ -2,6 +2,6 @@
 
 pub use hack_bisect::{Least, Tries, find_least};
 pub use hack_msrv::found::Found;
-pub use hack_msrv::judge::Judge;
 pub use hack_msrv::search::find_versions;
 pub use hack_msrv::trial::Came;
+pub use hack_side::judge::Judge;

@@ -52,24 +52,24 @@ made_places slot member (m ∷ xs) plan =
 
 module _ {R : Type 0} (ran : PlanView → List Handed → R → R → Type 0) (ended : R → Bool) where
   -- steps on a plan are steps on what it has grown to
-  handed-grown : ((old new : PlanView) (steps : List Handed) (x y : R) → IsGrown old new → old.call.grows ≡ true → AreRunsOfPackages old.packages old.entries → AreRuns steps → ran old steps x y → ran new steps x y)
+  pub handed_grown : ((old new : PlanView) (steps : List Handed) (x y : R) → IsGrown old new → old.call.grows ≡ true → AreRunsOfPackages old.packages old.entries → AreRuns steps → ran old steps x y → ran new steps x y)
       → (old new : PlanView) → IsGrown old new → old.call.grows ≡ true → AreRunsOfPackages old.packages old.entries
       → (place : ℕ) (made : List Made) (a b : R) → AreHanded ran ended old place made a b → AreHanded ran ended new place made a b
-  handed-grown law old new grown grows runs place [] a b h = h
-  handed-grown law old new grown grows runs place (m ∷ made) a b h = (
+  handed_grown law old new grown grows runs place [] a b h = h
+  handed_grown law old new grown grows runs place (m ∷ made) a b h = (
     h.0,
     law old new (step_at place m ∷ []) a h.0 grown grows runs (All-cons (λ (h : Handed). is_run h.step ≡ true) (step_at place m) [] refl (All-nil (λ (h : Handed). is_run h.step ≡ true))) h.1,
     h.2,
-    handed-grown law old new grown grows runs (place + 1) made h.0 b h.3,
+    handed_grown law old new grown grows runs (place + 1) made h.0 b h.3,
   )
 
-  handed-append : (plan : PlanView) (place : ℕ) (xs ys : List Made) (a b c : R) → AreHanded ran ended plan place xs a b → AreHanded ran ended plan (place + length xs) ys b c → AreHanded ran ended plan place (xs ++ ys) a c
-  handed-append plan place [] ys a b c p q =
+  pub handed_append : (plan : PlanView) (place : ℕ) (xs ys : List Made) (a b c : R) → AreHanded ran ended plan place xs a b → AreHanded ran ended plan (place + length xs) ys b c → AreHanded ran ended plan place (xs ++ ys) a c
+  handed_append plan place [] ys a b c p q =
       let here : place + 0 ≡ place = omega arith in
       subst (λ (n : ℕ). AreHanded ran ended plan n ys a c) here (subst (λ (s : R). AreHanded ran ended plan (place + 0) ys s c) p q)
-  handed-append plan place (m ∷ xs) ys a b c p q =
+  handed_append plan place (m ∷ xs) ys a b c p q =
       let there : place + length (m ∷ xs) ≡ place + 1 + length xs = omega arith in
-      (p.0, p.1, p.2, handed-append plan (place + 1) xs ys p.0 b c p.3 (subst (λ (n : ℕ). AreHanded ran ended plan n ys b c) there q))
+      (p.0, p.1, p.2, handed_append plan (place + 1) xs ys p.0 b c p.3 (subst (λ (n : ℕ). AreHanded ran ended plan n ys b c) there q))
 
 -- ---- sets
 
@@ -153,7 +153,7 @@ builds_more {R} ran ended law aim asked more first mid last why then now old bet
               (all-weaker (IsAsked aim more) (IsAsked aim (asked ++ more)) ys (asked-right aim asked more) two.needed);
           few = let x = one.few in let y = two.few in omega (arith, x, y, length-append xs ys, length-append asked more);
         };
-        handed = handed-append ran ended new (length old.entries) xs ys a b c (handed-grown ran ended law between new grown f.ready.grows f.ready.runs (length old.entries) xs a b f.built.handed)
+        handed = handed_append ran ended new (length old.entries) xs ys a b c (handed_grown ran ended law between new grown f.ready.grows f.ready.runs (length old.entries) xs a b f.built.handed)
             (subst (λ (n : ℕ). AreHanded ran ended new n ys b c) places r.built.handed);
       };
       kept = subst (λ (b : Bool). KeepsWhy b last why now) (sym (broken-append asked more))
