@@ -23,17 +23,17 @@ use Rattle.hack_culprits.specs.declared.built.Built.{Built}
 use Rattle.hack_culprits.specs.declared.fault.CulpritsFault.{CulpritsFault}
 use Rattle.hack_culprits.specs.declared.fault.CulpritsFault.TheVariants as fault
 
-length-changed : {X : Type 0} (change : X → X) (xs : List X) (place : ℕ) → length (with_changed change xs place) ≡ length xs
-length-changed change [] place = refl
-length-changed change (x ∷ xs) zero = refl
-length-changed change (x ∷ xs) (suc place) = ap suc (length-changed change xs place)
+pub length_changed : {X : Type 0} (change : X → X) (xs : List X) (place : ℕ) → length (with_changed change xs place) ≡ length xs
+length_changed change [] place = refl
+length_changed change (x ∷ xs) zero = refl
+length_changed change (x ∷ xs) (suc place) = ap suc (length_changed change xs place)
 
 -- one run more can be added again
 pub still_ready : (aim : Aim) (run : PackageRun) (plan : PlanView) → IsReady aim plan → IsReady aim (with_run aim.slot aim.member run plan)
 still_ready aim run plan ready = record {
   grows = ready.grows;
-  version = subst (λ n. 0 < n) (sym (length-changed with_one_place plan.versions (length plan.versions - 1))) ready.version;
-  member = subst (λ n. aim.member < n) (sym (length-changed (with_one_run run) plan.packages aim.member)) ready.member;
+  version = subst (λ n. 0 < n) (sym (length_changed with_one_place plan.versions (length plan.versions - 1))) ready.version;
+  member = subst (λ n. aim.member < n) (sym (length_changed (with_one_run run) plan.packages aim.member)) ready.member;
   runs = runs-grown run aim.slot aim.member plan.packages plan.entries ready.member ready.runs;
   order = ready.order;
 }
