@@ -1,0 +1,3 @@
+pub mod Hunts
+pub mod Searched
+pub mod SpotView
