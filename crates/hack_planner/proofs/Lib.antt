@@ -23,3 +23,5 @@ mod OnceLemmas
 mod NeverLemmas
 mod PlanSampleLemmas
 mod LeastPlaceLemmas
+mod PatternCountLemmas
+mod LookLemmas

@@ -20,3 +20,5 @@ pub mod Powersets
 pub mod Samples
 pub mod InternalFaultConversions
 pub mod Internal
+pub mod PatternCounts
+pub mod Looks
