@@ -1,5 +1,5 @@
 -- The input of a plan, from what was loaded.
-use Rattle.std.specs.Prelude.{ℕ, ◌≡◌, ◌↔◌, ◌⊎◌, ◌++◌, List, [], ◌∷◌, Bool, true, Option, Some, None, length, Contains, IsSomeAnd, IsTrue, MatchOption, map, option_and_then, option_map, slice_get, string_bytes, if◌then◌else◌}
+use Rattle.std.specs.Prelude.{ℕ, ◌≡◌, ◌↔◌, ◌⊎◌, ◌++◌, List, [], ◌∷◌, Bool, true, false, Option, Some, None, length, Contains, IsSomeAnd, IsTrue, MatchOption, map, option_and_then, option_map, slice_get, string_bytes, if◌then◌else◌}
 use Rattle.std.specs.List.{AllZip, flat_map, range_with_len}
 use Rattle.std.specs.Option.{option_map_or}
 use Rattle.hack_base.specs.Names.{Name, names_of}

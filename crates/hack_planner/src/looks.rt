@@ -20,8 +20,8 @@ use hack_metadata::metadata::PackageId;
 use std::alloc::{AllocError, Global};
 
 /// Returns a text for each package that the call runs on, in order, whose sample is looked for
-/// long: its rules have a strength, and there are more than a million patterns of exactly so many of
-/// its candidates, each on or off. There is none where it isn't known which packages these are.
+/// long: its rules have a strength, and there are more than a million patterns of exactly so many
+/// of its candidates, each on or off. There is none where it isn't known which packages these are.
 pub fn long_looks(alloc: Global, cx: &Context) -> Result<Vec<String>, AllocError>
     ensures { IfOk result (λ texts.
         AreLongLooks (context_view cx.now) (map string_bytes texts.items)) }

@@ -3,7 +3,7 @@
 //! its minor version, `stable` and the error of asking for its version, or a `piece` of the plan.
 
 use crate::tests::given::{Given, context_of, reason};
-use crate::tests::packages::{package_names, package_runs};
+use crate::tests::packages::{looks, package_names, package_runs};
 use crate::tests::plans::{commands, counts, last, piece, runs, sets, versions};
 use hack_base::notice::Notice;
 use hack_holds::{Ask, Wrong, hold};
@@ -18,6 +18,8 @@ use std::alloc::{AllocError, Global};
 pub enum Show {
     /// The packages that it runs on, and the notices.
     Packages,
+    /// The packages whose samples are looked for long.
+    Looks,
     /// The runs of each member, as one of several packages, and the notices.
     EachOfSeveral,
     /// The same, as the only package.
@@ -111,6 +113,7 @@ fn answered(
 ) -> Result<String, AllocError> {
     match show {
         Show::Packages => return package_names(alloc, cx),
+        Show::Looks => return looks(alloc, cx),
         Show::EachOfSeveral => return package_runs(alloc, cx, false),
         Show::EachAlone => return package_runs(alloc, cx, true),
         _ => {}

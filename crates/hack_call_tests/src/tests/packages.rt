@@ -12,6 +12,7 @@ use hack_plan::runs::Run;
 use hack_planner::determine::{determine_kind, determine_package_list};
 use hack_planner::fault::RunsFault;
 use hack_planner::kind::{Kind, PackageRuns};
+use hack_planner::looks::long_looks;
 use hack_planner::packages::PackageList;
 use std::alloc::{AllocError, Global};
 
@@ -40,6 +41,15 @@ fn listed(
     push_names(&mut text, metadata, list)?;
     push_notices(&mut text, notices)?;
     Ok(text)
+}
+
+/// The texts on the packages whose samples are looked for long, or `none`.
+pub fn looks(alloc: Global, cx: &Context) -> Result<String, AllocError> {
+    let texts = long_looks(alloc, cx)?;
+    if texts.is_empty() {
+        return String::from_str(alloc, "none");
+    }
+    texts.join(alloc, "\n")
 }
 
 /// The packages that a call runs on, and the notices.

@@ -1,3 +1,0 @@
-pub mod Hunts
-pub mod Searched
-pub mod SpotView

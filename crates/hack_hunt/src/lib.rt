@@ -1,9 +1,0 @@
-//! The search for conflicts of a call: for each chosen package and slot the least sets of features that
-//! fail, and the greatest that pass.
-#![tactic(auto)]
-
-pub mod hunt;
-mod one;
-pub mod plan;
-mod rules;
-pub mod spots;
