@@ -4,9 +4,10 @@
 usage: tests/broken_streams.py CARGO_HACK POWERSET_LIST
 
 Standard output is a full disk or a closed pipe, standard error a full disk; cargo is missing, is killed, prints what is
-no text or never ends; a toolchain or a lockfile can't be made, also where runs go on. Each call has to end within
-a minute by no signal, with the status and the last line that are wanted, after no other commands than these, and the
-workspace holds its bytes afterwards. The last line is `N passed, M failed`; the status is 1 where one failed.
+no text or never ends; a toolchain or a lockfile can't be made, also where runs go on; a manifest or the journal can't be read.
+Each call has to end within a minute by no signal, with the status and the last line that are wanted (and, where a file can't
+be read, the line before, with the system's words), after no other commands than these, and the workspace holds its bytes
+afterwards. The last line is `N passed, M failed`; the status is 1 where one failed.
 """
 import os
 import resource
@@ -67,6 +68,22 @@ CALLS = {
     "a toolchain that isn't there": ("toolchain", RANGE, 1, ENDED, "(exit status: 5)", 0),
 }
 
+# What can't be read, for root neither: whether a folder is there or nothing, and the line before the error.
+UNREAD = {
+    "a folder": (True, "info: Is a directory (os error 21)"),
+    "missing": (False, "info: No such file or directory (os error 2)"),
+}
+# The calls of which a manifest can't be read: the arguments.
+READS = {
+    "a run": EACH,
+    "a list": LIST,
+    "a call that edits": [*EACH, "--no-dev-deps"],
+    "a call whose edits stay": [*EACH, "--remove-dev-deps"],
+}
+# Those whose journal is a folder.
+JOURNAL = ".cargo-hack-journal"
+FOLLOWS = {"a run": EACH, "a call that edits": [*EACH, "--no-dev-deps"], "restoring": ["--restore"]}
+
 MEMORY = 1 << 30
 
 
@@ -83,7 +100,7 @@ def closed_pipe():
 
 
 def call(program, words, folder, odd, **more):
-    """What a call ends with, and the last line that it prints."""
+    """What a call ends with, and the lines that it prints."""
     cargo = "/nowhere/cargo" if odd == "missing" else f"{folder}/tools/cargo"
     environment = {"PATH": os.environ["PATH"], "CARGO": cargo, "CARGO_HACK_RUSTUP": f"{folder}/tools/cargo", "ODD": odd}
     full = os.open("/dev/full", os.O_WRONLY)
@@ -95,8 +112,7 @@ def call(program, words, folder, odd, **more):
     os.close(full)
     if out not in (full, subprocess.DEVNULL):
         os.close(out)
-    told = (ended.stderr or b"").decode().splitlines()
-    return ended.returncode, next((it for it in reversed(told) if it), "")
+    return ended.returncode, [it for it in (ended.stderr or b"").decode().splitlines() if it]
 
 
 def runs_begun(folder):
@@ -122,7 +138,8 @@ def fault_of(program, folder, row):
     with open(f"{folder}/tools/cargo.asked", "w", encoding="utf-8"):
         pass
     more = {"preexec_fn": limited} if odd == "endless" else {}
-    found, last = call(program, ["hack", *words], folder, odd, stdin=subprocess.DEVNULL, **more)
+    found, told = call(program, ["hack", *words], folder, odd, stdin=subprocess.DEVNULL, **more)
+    last = told[-1] if told else ""
     if found != status:
         return f"status {found}, its last line is {last!r}"
     if not last.startswith(begins.replace("{cargo}", f"{folder}/tools/cargo")) or not last.endswith(ends):
@@ -136,10 +153,52 @@ def fault_of(program, folder, row):
     return None
 
 
+def fault_of_unread(program, folder, name, is_folder, reason, words):
+    """What is wrong with a call that can't read this file of the workspace, if something is."""
+    path = f"{folder}/w/{name}"
+    write_files(f"{folder}/w")
+    with open(f"{folder}/tools/cargo.asked", "w", encoding="utf-8"):
+        pass
+    if os.path.exists(path):
+        os.remove(path)
+    if is_folder:
+        os.mkdir(path)
+    before = held(f"{folder}/w")
+    found, told = call(program, ["hack", *words], folder, "", stdin=subprocess.DEVNULL)
+    after = held(f"{folder}/w")
+    if is_folder:
+        os.rmdir(path)
+    if found != 1 or told[-2:] != [reason, f"error: failed to read from file `{path}`"]:
+        return f"status {found}, it tells {told}"
+    if runs_begun(folder) != 0:
+        return f"{runs_begun(folder)} runs were begun"
+    return None if before == after else f"the workspace holds {after}, and not {before}"
+
+
+def held(workspace):
+    """What each file of the workspace holds; none for a folder."""
+    found = {}
+    for place, folders, names in os.walk(workspace):
+        found.update({os.path.relpath(os.path.join(place, it), workspace): None for it in folders})
+        for name in names:
+            with open(os.path.join(place, name), encoding="utf-8") as it:
+                found[os.path.relpath(os.path.join(place, name), workspace)] = it.read()
+    return found
+
+
+def unread(program, folder):
+    """What is wrong with each call that can't read a file, if something is."""
+    for kind, (is_folder, reason) in UNREAD.items():
+        for name, words in READS.items():
+            yield f"{name}, a manifest is {kind}", fault_of_unread(program, folder, "p/Cargo.toml", is_folder, reason, words)
+    for name, words in FOLLOWS.items():
+        yield f"{name}, the journal is a folder", fault_of_unread(program, folder, JOURNAL, *UNREAD["a folder"], words)
+
+
 def fault_of_list(program, folder):
     """What is wrong with powerset-list on a closed pipe, if something is."""
     found = call(program, [], folder, "closed", input=b'{"a":[],"b":[]}')
-    return None if found == (1, UNWRITTEN) else f"it ended with {found}"
+    return None if found == (1, [UNWRITTEN]) else f"it ended with {found}"
 
 
 def main():
@@ -151,6 +210,7 @@ def main():
         folder = os.path.realpath(folder)
         lay_out(folder)
         faults = {name: fault_of(programs[0], folder, row) for name, row in CALLS.items()}
+        faults.update(unread(programs[0], folder))
         faults["powerset-list to a closed pipe"] = fault_of_list(programs[1], folder)
     for name, fault in faults.items():
         if fault:

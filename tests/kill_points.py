@@ -428,7 +428,7 @@ def lockfile_of_cargo(place):
 
 
 def full_disk(place):
-    """A manifest that can't be written, as on a full disk: that is told once, by the error of the call."""
+    """A manifest that can't be written, as on a full disk: that is told once, by the error of the call, and before it why."""
     place.lay_out()
     path = f"{place.workspace}/p/Cargo.toml"
     rewrite(path, read(path) + "# more than the limit of the size of a file\n" * 100)
@@ -441,7 +441,9 @@ def full_disk(place):
         status, told = place.call(EDITS)
     finally:
         place.program = program
-    must(status == 1 and told.count(f"failed to write to file `{path}`") == told.count("error: ") == 1, f"status {status}: {told}")
+    error = f"error: failed to write to file `{path}`"
+    must(status == 1 and told.count(error) == told.count("error: ") == 1, f"status {status}: {told}")
+    must(f"info: File too large (os error 27)\n{error}" in told, f"before the error it doesn't say why: {told}")
     place.as_before()
 
 

@@ -18,6 +18,8 @@ from small_workspace import write  # noqa: E402
 VERSION = "cargo 1.90.0\nrelease: 1.90.0\nhost: h\n"
 RUN = "check --manifest-path Cargo.toml"
 SET = f"{RUN} --no-default-features --features"
+TWENTY = " ".join("abcdefghijklmnopqrst")
+EMPTY = "error: specified version range `1.61..=1.60` is empty\n"
 ENDED = f"error: process didn't exit successfully: `{{cargo}} {SET} a` (exit status: 101)\n"
 REPORT = f"\nerror: failed to run 1 commands\n\nfailed commands:\n    p:\n        `{{cargo}} {SET} a`\n\n"
 
@@ -100,6 +102,31 @@ CALLS = {
         "::group::running `rustup toolchain add 1.60 --no-self-update`\n::endgroup::\n"
         "::group::running `rustup run 1.60 cargo check` on p (1/1)\n::endgroup::\n",
         f"run 1.60 cargo --version\ntoolchain add 1.60 --no-self-update\nrun 1.60 cargo {RUN}\n",
+    ),
+    # (of 6 of 20 features there are 38,760 * 64 patterns, and of 5 of them 15,504 * 32; the range is refused before a look)
+    "a look that would be long": (
+        (TWENTY, "", ""),
+        "check --feature-powerset --strength 6 --version-range 1.61..=1.60",
+        1,
+        "info: looking for a sample of `p`: 20 features at strength 6\n" + EMPTY,
+        "",
+        "",
+    ),
+    "the same, in a list": (
+        (TWENTY, "", ""),
+        "check --feature-powerset --strength 6 --version-range 1.61..=1.60 --print-command-list",
+        1,
+        "info: looking for a sample of `p`: 20 features at strength 6\n" + EMPTY,
+        "",
+        "",
+    ),
+    "one that would be short": (
+        (TWENTY, "", ""),
+        "check --feature-powerset --strength 5 --version-range 1.61..=1.60",
+        1,
+        EMPTY,
+        "",
+        "",
     ),
 }
 
