@@ -1,9 +1,12 @@
-use Rattle.std.proofs.Common.{◌≡◌, ◌∙◌, ap, refl, subst, ℕ, List, true}
-use Rattle.hack_base.specs.Names.{names_of}
+use Rattle.std.proofs.Common.{◌≡◌, ◌∙◌, ap, inl, refl, subst, ℕ, List, true}
+use Rattle.hack_base.specs.Names.{Name, names_of, optional_text}
 use Rattle.hack_base.specs.Writes.{AppendsFront}
+use Rattle.hack_run.specs.CallTrace.{colored_by}
 use Rattle.hack_run.specs.Worlds.{files_view}
+use Rattle.hack_start.specs.declared.started.StartFault.TheVariants.{Memory}
 use Rattle.hack_term.specs.Lines.{IsExitStatus, error_line}
 use Rattle.hack_term.specs.declared.term.Term.{Term}
+use Rattle.hack_words.specs.AskedColoring.{AsksColoring}
 use Rattle.hack_words.specs.declared.cli.env.Env.{Env}
 use Rattle.hack_recovery.specs.Scenes.{Scene}
 use Rattle.hack_recovery.specs.ProgramCalls.{colored, scene_on, scene_outside}
@@ -19,15 +22,26 @@ returns-in-Err-clause-goes g c =
     (subst (λ (text : List ℕ). AppendsFront (g.E.Write.contents c.args.outside.now.err.now) (g.E.Write.contents c.error.new.out) (error_line coloring text)) c.text.ensures c.error.ensures.front)
     (ap (λ (t : Term). scene_on t old) c.error.ensures.noted) refl
 
+pub returns-in-Err-coloring_asked-clause-goes : goal.returns-in-Err-coloring_asked-clause-goes
+returns-in-Err-coloring_asked-clause-goes g c =
+    let coloring = c.of-came.new.coloring in
+    let old = scene_outside g.F.Files g.L.Files g.C.Caller g.O.Write c.args.files c.args.lockfiles (g.K.Locks.shown c.args.keepers.now.locks) (g.G.Guards.shown c.args.keepers.now.guards) c.args.outside.now in
+    unread Memory coloring tt (λ i. inl (c.in-Ok.ensures.coloring i))
+    (subst (λ (text : List ℕ). AppendsFront (g.E.Write.contents c.args.outside.now.err.now) (g.E.Write.contents c.error-in-Err-coloring_asked.new.out) (error_line coloring text)) c.text-in-Err-coloring_asked.ensures c.error-in-Err-coloring_asked.ensures.front)
+    (ap (λ (t : Term). scene_on t old) c.error-in-Err-coloring_asked.ensures.noted) refl
+
 pub returns-clause-goes : goal.returns-clause-goes
 returns-clause-goes g c =
     let coloring = c.of-came.new.coloring in
+    let asked = c.in-Ok-coloring_asked.asked in
+    let words = names_of c.in-Ok.started.words.items in
     let calls = g.C.Caller.calls in
     let contents = g.O.Write.contents in
     let host = c.new-host.result in
     let outside = c.args.outside.now in
-    performed c.in-Ok.started coloring c.in-Ok.ensures.started c.in-Ok.ensures.coloring
+    performed c.in-Ok.started coloring asked c.in-Ok.ensures.started c.in-Ok.ensures.coloring
+    (subst (λ (ws : List Name). AsksColoring (optional_text c.in-Ok.started.env.term_color) ws asked) (ap names_of c.deref.ensures.value) c.in-Ok-coloring_asked.ensures)
     (subst (λ (e : Env). IsExitStatus e.deny_warnings c.perform.new.host.term.now c.perform.result.0) c.new-host.ensures.env c.perform.ensures.status)
-    (course-known g.F.Files.tells g.F.Files.whole g.L.Files.tells g.C.Caller.tells g.K.Locks.tells g.G.Guards.tells (g.K.Locks.real c.args.keepers.now.locks) (names_of c.deref.result.now) (names_of c.in-Ok.started.words.items) host.env.now c.in-Ok.started.env
-    (files_view g.F.Files c.args.files) (g.L.Files.bytes_at c.args.lockfiles) (g.K.Locks.shown c.args.keepers.now.locks) (g.G.Guards.shown c.args.keepers.now.guards) (calls host.caller.now) (calls outside.caller.now) (contents host.out.now) (contents outside.out.now) host.term.now (colored coloring outside.term.now)
-    _ (ap names_of c.deref.ensures.value) c.new-host.ensures.env (ap calls c.new-host.ensures.caller.1) (ap contents c.new-host.ensures.out.1) c.new-host.ensures.term.1 c.perform.ensures.goes)
+    (course-known g.F.Files.tells g.F.Files.whole g.L.Files.tells g.C.Caller.tells g.K.Locks.tells g.G.Guards.tells (g.K.Locks.real c.args.keepers.now.locks) (names_of c.deref-2.result.now) words host.env.now c.in-Ok.started.env
+    (files_view g.F.Files c.args.files) (g.L.Files.bytes_at c.args.lockfiles) (g.K.Locks.shown c.args.keepers.now.locks) (g.G.Guards.shown c.args.keepers.now.guards) (calls host.caller.now) (calls outside.caller.now) (contents host.out.now) (contents outside.out.now) host.term.now (colored (colored_by asked coloring) outside.term.now)
+    _ (ap names_of c.deref-2.ensures.value) c.new-host.ensures.env (ap calls c.new-host.ensures.caller.1) (ap contents c.new-host.ensures.out.1) (c.new-host.ensures.term.1 ∙ c.color.ensures) c.perform.ensures.goes)
