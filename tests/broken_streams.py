@@ -16,6 +16,7 @@ import sys
 import tempfile
 
 sys.dont_write_bytecode = True
+from killed_calls import tree  # noqa: E402
 from small_workspace import FILES, stand_in, write, write_files  # noqa: E402
 
 # The stand-in for cargo and rustup: it notes its arguments, answers from files, and fails as the variable ODD says.
@@ -135,8 +136,7 @@ def fault_of(program, folder, row):
     """What is wrong with a call, if something is."""
     odd, words, status, begins, ends, begun = row
     write_files(f"{folder}/w")
-    with open(f"{folder}/tools/cargo.asked", "w", encoding="utf-8"):
-        pass
+    write(f"{folder}/tools/cargo.asked", "")
     more = {"preexec_fn": limited} if odd == "endless" else {}
     found, told = call(program, ["hack", *words], folder, odd, stdin=subprocess.DEVNULL, **more)
     last = told[-1] if told else ""
@@ -157,8 +157,7 @@ def fault_of_unread(program, folder, name, is_folder, reason, words):
     """What is wrong with a call that can't read this file of the workspace, if something is."""
     path = f"{folder}/w/{name}"
     write_files(f"{folder}/w")
-    with open(f"{folder}/tools/cargo.asked", "w", encoding="utf-8"):
-        pass
+    write(f"{folder}/tools/cargo.asked", "")
     if os.path.exists(path):
         os.remove(path)
     if is_folder:
@@ -176,14 +175,8 @@ def fault_of_unread(program, folder, name, is_folder, reason, words):
 
 
 def held(workspace):
-    """What each file of the workspace holds; none for a folder."""
-    found = {}
-    for place, folders, names in os.walk(workspace):
-        found.update({os.path.relpath(os.path.join(place, it), workspace): None for it in folders})
-        for name in names:
-            with open(os.path.join(place, name), encoding="utf-8") as it:
-                found[os.path.relpath(os.path.join(place, name), workspace)] = it.read()
-    return found
+    """Each file of the workspace, as `tree` tells it, and its folders."""
+    return tree(workspace), sorted(place for place, _, _ in os.walk(workspace))
 
 
 def unread(program, folder):
