@@ -1,3 +1,4 @@
+pub mod OpenLemmas
 pub mod SetLemmas
 pub mod RuleLemmas
 pub mod KnownLemmas

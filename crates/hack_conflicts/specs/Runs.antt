@@ -1,5 +1,6 @@
 -- Builds that were tried, and what is found by them.
-use Rattle.std.specs.Prelude.{◌≡◌, ◌≢◌, ◌≤◌, ◌+◌, ◌*◌, ◌↔◌, ℕ, List, map, length, Bool, false, cond, IsTrue, All, AllPairs, Contains, ◌⊎◌, Option, IfSome, MatchOption}
+use Rattle.std.specs.Prelude.{◌≡◌, ◌≢◌, ◌<◌, ◌≤◌, ◌+◌, ◌*◌, ◌↔◌, ℕ, List, [], map, length, Bool, false, cond, IsTrue, All, AllPairs, Contains, ◌⊎◌, Option, IfSome, MatchOption}
+use Rattle.std.specs.List.{slice_index_or}
 use Rattle.hack_conflicts.specs.Sets.{Has, IsWithin, IsInside, HasInside, AreApart, rows_of}
 use Rattle.hack_conflicts.specs.Rules.{IsChoice, IsPlain, size_of}
 use Rattle.hack_conflicts.specs.declared.rules.Rules.{Rules}
@@ -15,9 +16,13 @@ pub record Run : Type 0 where
   pub set : List Bool
   pub outcome : Outcome
 
+-- the run that is recorded
+abbrev pub run_of : Tried → Run
+run_of one = record { set = one.set.items; outcome = one.outcome }
+
 -- the runs that are recorded
 abbrev pub runs_in : List Tried → List Run
-runs_in tried = map (λ one. record { set = one.set.items; outcome = one.outcome }) tried
+runs_in tried = map run_of tried
 
 -- a build with the set was tried, and failed
 abbrev pub HasFailed : List Run → List Bool → Type 0
@@ -56,6 +61,18 @@ IsLeast r runs set = (x : ℕ) → Has set x → Needs r runs set x
 -- each set that failed has a conflict inside it
 abbrev pub AreBlamed : List Run → List (List Bool) → Type 0
 AreBlamed runs conflicts = (s : List Bool) → HasFailed runs s → HasInside conflicts s
+
+-- the run failed, and no conflict lies inside its set
+abbrev pub IsClear : List (List Bool) → Run → Type 0
+IsClear conflicts run = (run.outcome ≡ Failed) × ¬ HasInside conflicts run.set
+
+-- where the run failed, a conflict lies inside its set
+abbrev pub IsToldOf : List (List Bool) → Run → Type 0
+IsToldOf conflicts run = run.outcome ≡ Failed → HasInside conflicts run.set
+
+-- the run at this place failed, and no conflict lies inside its set
+abbrev pub IsOpen : List Run → List (List Bool) → ℕ → Type 0
+IsOpen runs conflicts place = (place < length runs) × IsClear conflicts (slice_index_or runs place (record { set = []; outcome = Broken }))
 
 -- a set that failed has no conflict inside it and isn't known to be least, and each set that failed
 -- has a conflict inside it or this set

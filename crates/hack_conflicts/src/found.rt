@@ -1,10 +1,11 @@
 //! Finds the least sets that fail and the greatest that pass.
 
 ghost use Rattle.std.specs.Prelude.{◌≡◌, ◌≤◌, ◌++◌, ◌+◌, ◌*◌, List, Bool, false, IsTrue, IfOk, IfErr};
-ghost use Rattle.std.specs.Prelude.{length};
+ghost use Rattle.std.specs.Prelude.{MatchBool, length};
 ghost use Rattle.hack_conflicts.specs.Sets.{rows_of};
 ghost use Rattle.hack_conflicts.specs.Rules.{IsPreorder, IsChoice, IsPlain, size_of};
-ghost use Rattle.hack_conflicts.specs.Runs.{Run, runs_in, IsCourse, IsFaultOf, IsFinding, finding_of};
+ghost use Rattle.hack_conflicts.specs.Runs.{Run, run_of, runs_in, IsCourse, IsFaultOf, IsFinding};
+ghost use Rattle.hack_conflicts.specs.Runs.{IsClear, IsToldOf, finding_of};
 ghost use Rattle.hack_conflicts.specs.Internal.{IsSound, IsSteady, IsSettled, IsCutOff, IsGoing};
 ghost use Rattle.hack_conflicts.specs.Internal.{worth, told};
 ghost use Rattle.hack_conflicts.specs.Internal.{conflicts_of, passing_of, AreOthers};
@@ -15,7 +16,8 @@ use crate::greatest::other_sets;
 use crate::known::Known;
 use crate::rules::Rules;
 use crate::search::search_all;
-use crate::tried::Tried;
+use crate::sets::has_inside;
+use crate::tried::{Outcome, Tried};
 use std::alloc::{AllocError, Global};
 
 /// What a search has found. A set has a mark for each position, and a position past its last mark
@@ -31,6 +33,38 @@ pub struct Found {
     pub runs: Vec<Tried>,
     /// Whether each set that may be chosen has a conflict inside it, or lies inside a passing set.
     pub complete: bool,
+}
+
+impl Found {
+    ghost use Rattle.std.specs.Prelude.{MatchOption};
+    ghost use Rattle.hack_conflicts.specs.Runs.{AreBlamed, IsOpen};
+
+    /// The last run that failed though no conflict lies inside its set, as an index into the runs.
+    /// Only a search that isn't complete has one.
+    pub fn unfinished(&self) -> Option<usize>
+        ensures { MatchOption result
+            (AreBlamed (runs_in self.now.runs.items) (rows_of self.now.conflicts.items))
+            (IsOpen (runs_in self.now.runs.items) (rows_of self.now.conflicts.items)) }
+    {
+        let mut last = None;
+        for place in 0..self.runs.len() {
+            if is_clear(self.conflicts.as_slice(), &self.runs[place]) {
+                last = Some(place);
+            }
+        }
+        last
+    }
+}
+
+/// Whether a run failed, and no conflict lies inside its set.
+fn is_clear(conflicts: &[Vec<bool>], one: &Tried) -> bool
+    ensures { MatchBool result (IsClear (rows_of conflicts.now) (run_of one.now))
+        (IsToldOf (rows_of conflicts.now) (run_of one.now)) }
+{
+    match one.outcome {
+        Outcome::Failed => !has_inside(conflicts, one.set.as_slice()),
+        Outcome::Passed | Outcome::Broken => false,
+    }
 }
 
 /// Searches, as far as so many runs allow, and returns whether all sets are settled.

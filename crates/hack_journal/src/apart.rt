@@ -17,6 +17,8 @@ pub struct Apart<A: Files, B: Files> {
     pub files: A,
     pub lockfiles: B,
     failures: u64,
+    /// Whether the last call went to the lockfiles.
+    is_at_lockfiles: bool,
 }
 
 /// Returns whether a path is a lockfile's: its last part is `Cargo.lock`.
@@ -37,6 +39,7 @@ impl<A: Files, B: Files> Apart<A, B> {
             files,
             lockfiles,
             failures: 0,
+            is_at_lockfiles: false,
         }
     }
 }
@@ -100,8 +103,10 @@ impl<A: Files, B: Files> Files for Apart<A, B> {
         ensures one { GoesToOne path.now self.old self.new }
     {
         let outcome = if is_lockfile(path) {
+            self.is_at_lockfiles = true;
             self.lockfiles.read(alloc, path)
         } else {
+            self.is_at_lockfiles = false;
             self.files.read(alloc, path)
         };
         counted(&mut self.failures, outcome)
@@ -115,8 +120,10 @@ impl<A: Files, B: Files> Files for Apart<A, B> {
         ensures one { GoesToOne path.now self.old self.new }
     {
         let outcome = if is_lockfile(path) {
+            self.is_at_lockfiles = true;
             self.lockfiles.write(path, bytes)
         } else {
+            self.is_at_lockfiles = false;
             self.files.write(path, bytes)
         };
         counted(&mut self.failures, outcome)
@@ -129,8 +136,10 @@ impl<A: Files, B: Files> Files for Apart<A, B> {
         ensures one { GoesToOne path.now self.old self.new }
     {
         let outcome = if is_lockfile(path) {
+            self.is_at_lockfiles = true;
             self.lockfiles.exists(path)
         } else {
+            self.is_at_lockfiles = false;
             self.files.exists(path)
         };
         counted(&mut self.failures, outcome)
@@ -144,8 +153,10 @@ impl<A: Files, B: Files> Files for Apart<A, B> {
         ensures one { GoesToOne path.now self.old self.new }
     {
         let outcome = if is_lockfile(path) {
+            self.is_at_lockfiles = true;
             self.lockfiles.remove(path)
         } else {
+            self.is_at_lockfiles = false;
             self.files.remove(path)
         };
         counted(&mut self.failures, outcome)
@@ -155,7 +166,11 @@ impl<A: Files, B: Files> Files for Apart<A, B> {
         self.failures
     }
 
+    /// That of the files to which the last call went, if they have one.
     fn reason(&self) -> Option<io::Error> {
+        if self.is_at_lockfiles {
+            return self.lockfiles.reason().or(self.files.reason());
+        }
         self.files.reason().or(self.lockfiles.reason())
     }
 }

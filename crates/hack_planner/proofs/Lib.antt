@@ -10,8 +10,8 @@ pub mod SampleLemmas
 pub mod SetLemmas
 pub mod LeastLemmas
 mod UseLemmas
-mod ChosenLemmas
-mod NoteLemmas
+pub mod ChosenLemmas
+pub mod NoteLemmas
 mod FaultLemmas
 mod PlanLemmas
 mod PowersetLemmas

@@ -1,0 +1,4 @@
+mod RuleLemmas
+mod SetLemmas
+pub mod HuntLemmas
+pub mod SpotLemmas

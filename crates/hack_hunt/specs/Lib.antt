@@ -1,0 +1,4 @@
+pub mod Hunts
+pub mod Searched
+pub mod SpotView
+pub mod Internal
