@@ -62,6 +62,8 @@ long_option-name opt.Restore = refl
 long_option-name opt.PackageRules = refl
 long_option-name opt.Parallel = refl
 long_option-name opt.FindRustVersion = refl
+long_option-name opt.FindConflicts = refl
+long_option-name opt.MostRuns = refl
 
 pub short_option-letter : (o : Opt) → IfSome (entry_of o).letter (λ c. short_option c ≡ Some o)
 short_option-letter opt.Package = refl
@@ -114,6 +116,8 @@ short_option-letter opt.Restore = tt
 short_option-letter opt.PackageRules = tt
 short_option-letter opt.Parallel = tt
 short_option-letter opt.FindRustVersion = tt
+short_option-letter opt.FindConflicts = tt
+short_option-letter opt.MostRuns = tt
 
 -- ---- an option that is found has the name, or the letter
 

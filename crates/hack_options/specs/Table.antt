@@ -89,6 +89,8 @@ entry_of opt.Restore = flag (codes "restore")
 entry_of opt.PackageRules = flag (codes "package-rules")
 entry_of opt.Parallel = once (codes "parallel") Value (codes "<NUM>")
 entry_of opt.FindRustVersion = flag (codes "find-rust-version")
+entry_of opt.FindConflicts = flag (codes "find-conflicts")
+entry_of opt.MostRuns = once (codes "most-runs") Value (codes "<NUM>")
 
 -- the option that an alias means
 abbrev pub meaning_of : Opt → Opt

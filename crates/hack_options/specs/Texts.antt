@@ -27,7 +27,7 @@ shown_with_alias o = shown_option o
 abbrev pub help_value_of : Opt → List ℕ
 help_value_of o = (entry_of o).value
 
--- whether the help has a row for the option: two of Cargo, and six of ours, have none
+-- whether the help has a row for the option: two of Cargo, and eight of ours, have none
 abbrev pub is_told : Opt → Bool
 is_told opt.NoDefaultFeatures = false
 is_told opt.AllFeatures = false
@@ -37,6 +37,8 @@ is_told opt.Restore = false
 is_told opt.PackageRules = false
 is_told opt.Parallel = false
 is_told opt.FindRustVersion = false
+is_told opt.FindConflicts = false
+is_told opt.MostRuns = false
 is_told o = true
 
 -- whether a row of the help has exactly this option's name

@@ -67,6 +67,8 @@ pub enum Opt {
     PackageRules,
     Parallel,
     FindRustVersion,
+    FindConflicts,
+    MostRuns,
 }
 
 /// The option as messages name it. `--workspace-behavior` is shown with `cargo`, the only value

@@ -56,7 +56,7 @@ pub enum Kind {
 }
 
 /// All options, in the order of the help; those that the help doesn't show come last.
-pub const ALL: [Opt; 50] = [
+pub const ALL: [Opt; 52] = [
     Opt::Package,
     Opt::All,
     Opt::Workspace,
@@ -107,6 +107,8 @@ pub const ALL: [Opt; 50] = [
     Opt::PackageRules,
     Opt::Parallel,
     Opt::FindRustVersion,
+    Opt::FindConflicts,
+    Opt::MostRuns,
 ];
 
 impl Row {
@@ -202,6 +204,8 @@ fn syntax(option: Opt) -> Row
         Opt::PackageRules => flag("package-rules"),
         Opt::Parallel => once("parallel", Kind::Value, "<NUM>"),
         Opt::FindRustVersion => flag("find-rust-version"),
+        Opt::FindConflicts => flag("find-conflicts"),
+        Opt::MostRuns => once("most-runs", Kind::Value, "<NUM>"),
     }
 }
 
@@ -377,7 +381,9 @@ fn help_text(option: Opt) -> Option<HelpText>
         | Opt::Restore
         | Opt::PackageRules
         | Opt::Parallel
-        | Opt::FindRustVersion => None,
+        | Opt::FindRustVersion
+        | Opt::FindConflicts
+        | Opt::MostRuns => None,
     }
 }
 

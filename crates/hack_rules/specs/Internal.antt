@@ -1,8 +1,10 @@
 -- What only private functions of the crate promise each other.
-use Rattle.std.specs.Prelude.{◌≡◌, List, Some, String, map, string_bytes, [], ◌∷◌, Result, Ok, Err, IfSome}
+use Rattle.std.specs.Prelude.{◌≡◌, ℕ, List, Option, None, Some, String, map, string_bytes, [], ◌∷◌, Result, Ok, Err, IfSome}
+use Rattle.hack_base.specs.Numbers.{number_of}
 use Rattle.hack_features.specs.declared.feature.Feature.{Feature}
 use Rattle.hack_features.specs.Feature.{group_of}
 use Rattle.hack_rules.specs.CliLists.{Lift, lift_of}
+use Rattle.hack_rules.specs.LateRules.{number_within}
 use Rattle.std.specs.BTreeSet.{insert_key}
 use Rattle.std.specs.String.{string_cmp}
 use Rattle.hack_lexopt.specs.Cuts.{LeftArguments}
@@ -16,6 +18,11 @@ use Rattle.hack_rules.specs.UseReading.{End, Fails, Met, Prints, Reading}
 -- the package and the group of a lift
 abbrev pub lift_in : {Y : Type 0} → String Y × Feature → Lift
 lift_in pair = record { owner = string_bytes pair.0; group = group_of pair.1 }
+
+-- the number that a text is, not greater than another where there is one
+abbrev pub number_up_to : Option ℕ → List ℕ → Option ℕ
+number_up_to None = number_of 64
+number_up_to (Some most) = number_within most
 
 -- these are the lifts that the texts are read as, one for each
 abbrev pub AreReadAs : {Y Z : Type 0} → List (String Y) → List (String Z × Feature) → Type 0

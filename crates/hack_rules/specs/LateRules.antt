@@ -18,20 +18,15 @@ use Rattle.hack_rules.specs.CliFaults.{Clash, Fault, LiftForm, LiftGroup, LogGro
 use Rattle.hack_rules.specs.CliLists.{lift_of, lifts_one_of}
 use Rattle.hack_rules.specs.Rules.{fault_if, first_of, needs, clash}
 
--- the error of a text that the option takes as a number from 1 of so many bits
-abbrev pub unless_counted : Opt → ℕ → List ℕ → Option Fault
-unless_counted option bits text =
-    option_map_or (λ n. fault_if (n == 0) (Zero option)) (number_of bits text) (Some (Number text))
+-- the error of a text that the option takes as a number but 0, if it is read as one
+abbrev pub unless_counted : Opt → (List ℕ → Option ℕ) → List ℕ → Option Fault
+unless_counted option read text =
+    option_map_or (λ n. fault_if (n == 0) (Zero option)) (read text) (Some (Number text))
 
 -- the number that a text is, where it isn't greater than another
 abbrev pub number_within : ℕ → List ℕ → Option ℕ
 number_within most text =
     option_and_then (λ n. if nat_lt most n then None else Some n) (number_of 64 text)
-
--- the error of a text that the option takes as a number from 1 to another
-abbrev pub unless_within : Opt → ℕ → List ℕ → Option Fault
-unless_within option most text =
-    option_map_or (λ n. fault_if (n == 0) (Zero option)) (number_within most text) (Some (Number text))
 
 -- the rules on ranges; where rustup's minor version is known, it must be new enough
 abbrev pub range_rules : Option ℕ → List Use → List (Option Fault)
@@ -42,7 +37,7 @@ range_rules rustup us =
     ∷ from_value opt.VersionRange (λ text. option_map Range (result_err (range_of text))) us
     ∷ needs opt.VersionStep beside.VersionRange us
     ∷ needs opt.CleanPerVersion beside.VersionRange us
-    ∷ from_value opt.VersionStep (unless_counted opt.VersionStep 16) us
+    ∷ from_value opt.VersionStep (unless_counted opt.VersionStep (number_of 16)) us
     ∷ []
 
 -- values of --allow-together must have its form, and the names of one of these groups
@@ -70,7 +65,7 @@ restore_rule behavior trailing us =
 -- run
 abbrev pub parallel_rules : List Use → List (Option Fault)
 parallel_rules us =
-    from_value opt.Parallel (unless_within opt.Parallel 256) us
+    from_value opt.Parallel (unless_counted opt.Parallel (number_within 256)) us
     ∷ clash opt.Parallel opt.PrintCommandList us
     ∷ clash opt.Parallel opt.CleanPerRun us
     ∷ []
@@ -85,14 +80,31 @@ version_search_rules behavior us =
     ∷ clash opt.FindRustVersion opt.KeepGoing us
     ∷ fault_if (is_cargo behavior && is_given opt.FindRustVersion us)
     (Clash opt.FindRustVersion opt.WorkspaceBehavior)
+    ∷ clash opt.FindRustVersion opt.FindConflicts us
     ∷ clash opt.FindRustVersion opt.RustVersion us
     ∷ clash opt.FindRustVersion opt.Parallel us
     ∷ []
 
+-- the rules on a search for conflicts: it needs a powerset, chooses sets of it by itself, and runs
+-- them one after another, at most so many
+abbrev pub conflict_search_rules : List Use → List (Option Fault)
+conflict_search_rules us =
+    needs opt.FindConflicts beside.Powerset us
+    ∷ clash opt.FindConflicts opt.Depth us
+    ∷ clash opt.FindConflicts opt.Strength us
+    ∷ clash opt.FindConflicts opt.Partition us
+    ∷ clash opt.FindConflicts opt.PrintCommandList us
+    ∷ clash opt.FindConflicts opt.VersionRange us
+    ∷ clash opt.FindConflicts opt.RustVersion us
+    ∷ clash opt.FindConflicts opt.Parallel us
+    ∷ needs opt.MostRuns beside.FindConflicts us
+    ∷ from_value opt.MostRuns (unless_counted opt.MostRuns (number_of 64)) us
+    ∷ []
+
 -- the rules that are checked after the one on a missing subcommand, given the exclusive groups, who
 -- handles workspaces, and the arguments after --: on ranges, the log group, pieces, lifted groups,
--- the strength of a sample, --restore, the rules of packages, runs side by side, and the search for
--- the least version
+-- the strength of a sample, --restore, the rules of packages, runs side by side, and the searches for
+-- the least version and for conflicts
 abbrev pub rules_after : Option ℕ → List (List (List ℕ)) → WorkspaceBehavior → List (List ℕ) → List Use → List (Option Fault)
 rules_after rustup exclusive behavior trailing us =
     first_of (range_rules rustup us)
@@ -103,9 +115,10 @@ rules_after rustup exclusive behavior trailing us =
     ∷ needs opt.AllowTogether beside.MutuallyExclusive us
     ∷ lift_rule exclusive (values_given opt.AllowTogether us)
     ∷ needs opt.Strength beside.Powerset us
-    ∷ from_value opt.Strength (unless_counted opt.Strength 64) us
+    ∷ from_value opt.Strength (unless_counted opt.Strength (number_of 64)) us
     ∷ restore_rule behavior trailing us
     ∷ needs opt.PackageRules beside.EachOrPowerset us
     ∷ first_of (parallel_rules us)
     ∷ first_of (version_search_rules behavior us)
+    ∷ first_of (conflict_search_rules us)
     ∷ []

@@ -14,8 +14,8 @@ use Rattle.hack_rules.specs.CliLists.{lift_of}
 use Rattle.std.specs.List.{filter_map}
 use Rattle.hack_rules.specs.declared.late.Late.{Late}
 
--- what uses of options ask for about versions, log groups, pieces, lifted groups, samples and runs side
--- by side
+-- what uses of options ask for about versions, log groups, pieces, lifted groups, samples, runs side by
+-- side and the search for conflicts
 pub record IsLate (github_actions : Bool) (us : List Use) (late : Late) : Type 0 where
   pub range : late.versions.range ≡ range_asked us
   pub old : late.versions.is_old ≡ is_old_asked us
@@ -28,3 +28,4 @@ pub record IsLate (github_actions : Bool) (us : List Use) (late : Late) : Type 0
   pub lifts : AreLifts (filter_map lift_of (values_given opt.AllowTogether us)) late.lifts.items
   pub strength : late.strength ≡ from_value opt.Strength (number_of 64) us
   pub parallel : late.parallel ≡ from_value opt.Parallel (number_within 256) us
+  pub most_runs : late.most_runs ≡ from_value opt.MostRuns (number_of 64) us

@@ -36,6 +36,7 @@ has_beside beside.Powerset us = is_given opt.FeaturePowerset us
 has_beside beside.VersionRange us = is_given opt.VersionRange us || is_given opt.RustVersion us
 has_beside beside.Partition us = is_given opt.Partition us
 has_beside beside.MutuallyExclusive us = is_given opt.MutuallyExclusiveFeatures us
+has_beside beside.FindConflicts us = is_given opt.FindConflicts us
 
 -- the error of an option that counts, where none of those counts that it needs
 abbrev pub needs : Opt → Beside → List Use → Option Fault

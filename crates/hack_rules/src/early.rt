@@ -130,7 +130,7 @@ fn beside_each(lists: &Lists, uses: &[Use]) -> Result<(), CliFault>
 }
 
 /// Refuses the option where `--feature-powerset` isn't given.
-fn needs_powerset(option: Opt, uses: &[Use]) -> Result<(), CliFault>
+pub(crate) fn needs_powerset(option: Opt, uses: &[Use]) -> Result<(), CliFault>
     ensures { Checks result (fault_if
         (is_given option (views uses.now) && not (is_given Opt.FeaturePowerset (views uses.now)))
         (Needs option Beside.Powerset)) }

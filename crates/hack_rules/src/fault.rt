@@ -24,6 +24,7 @@ pub enum Beside {
     VersionRange,
     Partition,
     MutuallyExclusive,
+    FindConflicts,
 }
 
 impl fmt::Display for Beside {
@@ -35,6 +36,7 @@ impl fmt::Display for Beside {
             Beside::VersionRange => "--version-range",
             Beside::Partition => "--partition",
             Beside::MutuallyExclusive => "--mutually-exclusive-features",
+            Beside::FindConflicts => "--find-conflicts",
         })
     }
 }

@@ -1,6 +1,6 @@
 //! The rules that are checked after the one on a missing subcommand: on ranges of versions, log
 //! groups, pieces of a plan, lifted groups, the strength of a sample, `--restore`,
-//! `--package-rules`, runs side by side and the search for the least version.
+//! `--package-rules`, runs side by side, and the searches for the least version and for conflicts.
 
 ghost use Rattle.std.specs.Prelude.{◌≡◌, ◌&&◌, [], ◌∷◌, false, IfOk, IfSome};
 ghost use Rattle.std.specs.Prelude.{option_map, option_and_then, nat_lt};
@@ -22,14 +22,15 @@ ghost use Rattle.hack_rules.specs.CliFaults.{Checks, Clash, LogGroup as WrongLog
 ghost use Rattle.hack_rules.specs.CliFaults.{Partition as WrongPiece, PartitionKind as WrongKind};
 ghost use Rattle.hack_rules.specs.LateView.{IsLate};
 ghost use Rattle.hack_rules.specs.Rules.{fault_if, first_of, has_beside, needs as needs_rule};
-ghost use Rattle.hack_rules.specs.LateRules.{number_within, unless_counted, unless_within};
+ghost use Rattle.hack_rules.specs.Internal.{number_up_to};
+ghost use Rattle.hack_rules.specs.LateRules.{number_within, unless_counted};
 ghost use Rattle.hack_rules.specs.LateRules.{parallel_rules, range_rules, rules_after};
-ghost use Rattle.hack_rules.specs.LateRules.{version_search_rules};
+ghost use Rattle.hack_rules.specs.LateRules.{conflict_search_rules, version_search_rules};
 ghost use Rattle.hack_rules.specs.Behavior.{is_cargo};
 ghost use Rattle.hack_rules.specs.LateRules.{is_beside_restore as beside_restore, restore_rule};
 
 use crate::checks::{clash, needs};
-use crate::early::is_each;
+use crate::early::{is_each, needs_powerset};
 use crate::fault::{Beside, CliFault};
 use crate::uses::{OwnedFlag, Use, WorkspaceBehavior, given, value};
 use crate::{named, values};
@@ -42,6 +43,9 @@ use std::alloc::Global;
 
 /// The first minor version of rustup that can run what a range asks for.
 const LEAST_RUSTUP: u32 = 23;
+
+/// How many runs go side by side at most.
+const MOST_PARALLEL: usize = 256;
 
 /// Refuses the option where rustup is known to be too old for it.
 fn new_rustup(option: Opt, rustup: Option<u32>, uses: &[Use]) -> Result<(), CliFault>
@@ -91,7 +95,7 @@ fn said_range(alloc: Global, uses: &[Use]) -> Result<Option<(VersionRange, bool)
 /// The step between versions.
 fn step(alloc: Global, uses: &[Use]) -> Result<u16, CliFault>
     ensures rule { Checks result (from_value Opt.VersionStep
-        (unless_counted Opt.VersionStep 16) (views uses.now)) }
+        (unless_counted Opt.VersionStep (number_of 16)) (views uses.now)) }
     ensures value { IfOk result (λ step.
         step ≡ unwrap_or (from_value Opt.VersionStep (number_of 16) (views uses.now)) 1) }
 {
@@ -207,15 +211,21 @@ fn partition(alloc: Global, uses: &[Use]) -> Result<Option<Partition>, CliFault>
     }
 }
 
-/// The strength of a sample.
-fn strength(alloc: Global, uses: &[Use]) -> Result<Option<usize>, CliFault>
-    ensures rule { Checks result (from_value Opt.Strength
-        (unless_counted Opt.Strength 64) (views uses.now)) }
-    ensures value { IfOk result (λ strength.
-        strength ≡ from_value Opt.Strength (number_of 64) (views uses.now)) }
+/// What an option counts, where it is given: a number that isn't 0, and not greater than `most`,
+/// where that is given.
+fn counted(
+    alloc: Global,
+    option: Opt,
+    most: Option<usize>,
+    uses: &[Use],
+) -> Result<Option<usize>, CliFault>
+    ensures rule { Checks result (from_value option
+        (unless_counted option (number_up_to most)) (views uses.now)) }
+    ensures value { IfOk result (λ n.
+        n ≡ from_value option (number_up_to most) (views uses.now)) }
 {
-    match value(Opt::Strength, uses) {
-        Some(text) => Ok(Some(values::strength(alloc, text.as_str())?)),
+    match value(option, uses) {
+        Some(text) => Ok(Some(values::counted(alloc, option, most, text.as_str())?)),
         None => Ok(None),
     }
 }
@@ -257,26 +267,13 @@ fn restore_alone(
     Ok(())
 }
 
-/// How many runs go side by side, where it is said.
-fn width(alloc: Global, uses: &[Use]) -> Result<Option<usize>, CliFault>
-    ensures rule { Checks result (from_value Opt.Parallel
-        (unless_within Opt.Parallel 256) (views uses.now)) }
-    ensures value { IfOk result (λ width.
-        width ≡ from_value Opt.Parallel (number_within 256) (views uses.now)) }
-{
-    match value(Opt::Parallel, uses) {
-        Some(text) => Ok(Some(values::parallel(alloc, text.as_str())?)),
-        None => Ok(None),
-    }
-}
-
 /// The rules on runs side by side.
 fn parallel(alloc: Global, uses: &[Use]) -> Result<Option<usize>, CliFault>
     ensures rules { Checks result (first_of (parallel_rules (views uses.now))) }
     ensures value { IfOk result (λ width.
         width ≡ from_value Opt.Parallel (number_within 256) (views uses.now)) }
 {
-    let width = width(alloc, uses)?;
+    let width = counted(alloc, Opt::Parallel, Some(MOST_PARALLEL), uses)?;
     clash(Opt::Parallel, Opt::PrintCommandList, uses)?;
     clash(Opt::Parallel, Opt::CleanPerRun, uses)?;
     Ok(width)
@@ -311,8 +308,30 @@ fn version_search(behavior: WorkspaceBehavior, uses: &[Use]) -> Result<(), CliFa
     clash(option, Opt::PrintCommandList, uses)?;
     clash(option, Opt::KeepGoing, uses)?;
     apart_from_cargo(behavior, option, uses)?;
+    clash(option, Opt::FindConflicts, uses)?;
     clash(option, Opt::RustVersion, uses)?;
     clash(option, Opt::Parallel, uses)
+}
+
+/// The rules on a search for conflicts, and how many runs it may have.
+fn conflict_search(alloc: Global, uses: &[Use]) -> Result<Option<usize>, CliFault>
+    ensures rules { Checks result (first_of (conflict_search_rules (views uses.now))) }
+    ensures value { IfOk result (λ most.
+        most ≡ from_value Opt.MostRuns (number_of 64) (views uses.now)) }
+{
+    let option = Opt::FindConflicts;
+    needs_powerset(option, uses)?;
+    clash(option, Opt::Depth, uses)?;
+    clash(option, Opt::Strength, uses)?;
+    clash(option, Opt::Partition, uses)?;
+    clash(option, Opt::PrintCommandList, uses)?;
+    clash(option, Opt::VersionRange, uses)?;
+    clash(option, Opt::RustVersion, uses)?;
+    clash(option, Opt::Parallel, uses)?;
+    let option = Opt::MostRuns;
+    let there = given(Opt::FindConflicts, uses);
+    needs(given(option, uses), option, Beside::FindConflicts, there)?;
+    counted(alloc, option, None, uses)
 }
 
 /// What these rules read while they check.
@@ -326,6 +345,8 @@ pub struct Late {
     pub strength: Option<usize>,
     /// From 1 to 256.
     pub parallel: Option<usize>,
+    /// At least 1.
+    pub most_runs: Option<usize>,
 }
 
 /// Checks the rules after the one on a missing subcommand, and returns what they read. `rustup` is
@@ -356,10 +377,8 @@ pub fn check(
         there,
     )?;
     let lifts = named::lifts(alloc, exclusive, uses)?;
-    let option = Opt::Strength;
-    let there = given(Opt::FeaturePowerset, uses);
-    needs(given(option, uses), option, Beside::Powerset, there)?;
-    let strength = strength(alloc, uses)?;
+    needs_powerset(Opt::Strength, uses)?;
+    let strength = counted(alloc, Opt::Strength, None, uses)?;
     restore_alone(behavior, trailing, uses)?;
     let option = Opt::PackageRules;
     needs(
@@ -370,6 +389,7 @@ pub fn check(
     )?;
     let parallel = parallel(alloc, uses)?;
     version_search(behavior, uses)?;
+    let most_runs = conflict_search(alloc, uses)?;
     Ok(Late {
         versions,
         log_group,
@@ -377,5 +397,6 @@ pub fn check(
         lifts,
         strength,
         parallel,
+        most_runs,
     })
 }

@@ -3,16 +3,14 @@
 ghost use Rattle.std.specs.Prelude.{◌≡◌, IfOk, Some};
 ghost use Rattle.std.specs.Option.{is_none};
 ghost use Rattle.hack_rules.specs.CliFaults.{Checks, Number};
-ghost use Rattle.hack_rules.specs.LateRules.{number_within, unless_counted, unless_within};
+ghost use Rattle.hack_rules.specs.Internal.{number_up_to};
+ghost use Rattle.hack_rules.specs.LateRules.{unless_counted};
 ghost use Rattle.hack_rules.specs.Rules.{fault_if};
 ghost use Rattle.hack_base.specs.Numbers.{number_of};
 
 use crate::fault::CliFault;
 use hack_options::Opt;
 use std::alloc::Global;
-
-/// How many runs go side by side at most.
-const MOST_PARALLEL: usize = 256;
 
 fn whole(text: &str) -> Option<usize>
     ensures { result ≡ number_of 64 text.now }
@@ -26,12 +24,12 @@ fn short(text: &str) -> Option<u16>
     text.parse::<u16>().ok()
 }
 
-fn few(text: &str) -> Option<usize>
-    ensures { result ≡ number_within 256 text.now }
+fn up_to(most: Option<usize>, text: &str) -> Option<usize>
+    ensures { result ≡ number_up_to most text.now }
 {
-    match whole(text) {
-        Some(number) if number <= MOST_PARALLEL => Some(number),
-        _ => None,
+    match (whole(text), most) {
+        (Some(number), Some(most)) if number > most => None,
+        (number, _) => number,
     }
 }
 
@@ -52,7 +50,7 @@ pub fn depth(alloc: Global, text: &str) -> Result<usize, CliFault>
 /// A step between minor versions.
 pub fn step(alloc: Global, text: &str) -> Result<u16, CliFault>
     ensures value { IfOk result (λ n. number_of 16 text.now ≡ Some n) }
-    ensures checks { Checks result (unless_counted Opt.VersionStep 16 text.now) }
+    ensures checks { Checks result (unless_counted Opt.VersionStep (number_of 16) text.now) }
 {
     match short(text) {
         Some(0) => Err(CliFault::Zero {
@@ -65,31 +63,18 @@ pub fn step(alloc: Global, text: &str) -> Result<u16, CliFault>
     }
 }
 
-/// The strength of a sample.
-pub fn strength(alloc: Global, text: &str) -> Result<usize, CliFault>
-    ensures value { IfOk result (λ n. number_of 64 text.now ≡ Some n) }
-    ensures checks { Checks result (unless_counted Opt.Strength 64 text.now) }
+/// What an option counts: a number that isn't 0, and not greater than `most`, where that is given.
+pub fn counted(
+    alloc: Global,
+    option: Opt,
+    most: Option<usize>,
+    text: &str,
+) -> Result<usize, CliFault>
+    ensures value { IfOk result (λ n. number_up_to most text.now ≡ Some n) }
+    ensures checks { Checks result (unless_counted option (number_up_to most) text.now) }
 {
-    match whole(text) {
-        Some(strength) if strength > 0 => Ok(strength),
-        Some(_) => Err(CliFault::Zero {
-            option: Opt::Strength,
-        }),
-        None => Err(CliFault::Number {
-            found: String::from_str(alloc, text)?,
-        }),
-    }
-}
-
-/// How many runs go side by side.
-pub fn parallel(alloc: Global, text: &str) -> Result<usize, CliFault>
-    ensures value { IfOk result (λ n. number_within 256 text.now ≡ Some n) }
-    ensures checks { Checks result (unless_within Opt.Parallel 256 text.now) }
-{
-    match few(text) {
-        Some(0) => Err(CliFault::Zero {
-            option: Opt::Parallel,
-        }),
+    match up_to(most, text) {
+        Some(0) => Err(CliFault::Zero { option }),
         Some(number) => Ok(number),
         None => Err(CliFault::Number {
             found: String::from_str(alloc, text)?,

@@ -1,3 +1,4 @@
 pub mod AnswerLemmas
+mod AskedLemmas
 mod ColoringLemmas
 mod StartLemmas

@@ -34,6 +34,7 @@ pub record HasFlags (us : List Use) (args : Args) : Type 0 where
   pub restore : args.restore ≡ is_given opt.Restore us
   pub package_rules : args.package_rules ≡ is_given opt.PackageRules us
   pub find_rust_version : args.find_rust_version ≡ is_given opt.FindRustVersion us
+  pub find_conflicts : args.find_conflicts ≡ is_given opt.FindConflicts us
   pub no_private : args.no_private ≡ is_given opt.NoPrivate us
   pub ignore_private : args.ignore_private ≡ (is_given opt.IgnorePrivate us || is_given opt.NoPrivate us)
   pub ignore_unknown_features : args.ignore_unknown_features ≡ is_given opt.IgnoreUnknownFeatures us
@@ -90,3 +91,4 @@ pub record IsAsked (term_color : Option (List ℕ)) (github_actions : Bool) (beh
       args.allow_together.items
   pub strength : args.strength ≡ from_value opt.Strength (number_of 64) us
   pub parallel : args.parallel ≡ from_value opt.Parallel (number_within 256) us
+  pub most_runs : args.most_runs ≡ from_value opt.MostRuns (number_of 64) us

@@ -47,6 +47,7 @@ pub record Carries (read : Read) (args : Args) : Type 0 where
   pub allow_together : args.allow_together ≡ read.late.lifts
   pub strength : args.strength ≡ read.late.strength
   pub parallel : args.parallel ≡ read.late.parallel
+  pub most_runs : args.most_runs ≡ read.late.most_runs
 
 -- the same, from the code's record
 abbrev pub around_in : Surroundings → Around

@@ -73,6 +73,11 @@ pub struct Args {
     /// In place of all versions of the range a few are tried, to find the least on which all runs
     /// pass.
     pub find_rust_version: bool,
+    /// In place of all sets of a powerset a few are run, to find those that fail though no part of them
+    /// does.
+    pub find_conflicts: bool,
+    /// How many runs such a search may have: at least 1, `None` as many as it takes.
+    pub most_runs: Option<usize>,
     pub log_group: LogGroup,
     pub workspace_behavior: WorkspaceBehavior,
     pub coloring: Coloring,
@@ -261,6 +266,8 @@ impl Args {
             restore: given(Opt::Restore, uses),
             package_rules: given(Opt::PackageRules, uses),
             find_rust_version: given(Opt::FindRustVersion, uses),
+            find_conflicts: given(Opt::FindConflicts, uses),
+            most_runs: late.most_runs,
             no_private: given(Opt::NoPrivate, uses),
             ignore_private: ignores_private(uses),
             ignore_unknown_features: given(Opt::IgnoreUnknownFeatures, uses),

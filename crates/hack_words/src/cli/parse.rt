@@ -1,13 +1,13 @@
 //! A command line into arguments, or the first error.
 
-ghost use Rattle.std.specs.Prelude.{◌≡◌, ◌++◌, ◌&&◌, IfOk, IfErr, MatchOption, OnOk, map};
+ghost use Rattle.std.specs.Prelude.{◌≡◌, ◌++◌, ◌&&◌, IfOk, IfErr, MatchOption, map};
 ghost use Rattle.std.specs.Prelude.{string_bytes};
 ghost use Rattle.hack_base.specs.Names.{names_of};
 ghost use Rattle.hack_rules.specs.PassedWords.{leading_of};
 ghost use Rattle.hack_rules.specs.Rules.{counts, has_beside};
 ghost use Rattle.hack_rules.specs.Uses.{is_given, views};
 ghost use Rattle.hack_rules.specs.Values.{value_given};
-ghost use Rattle.hack_base.specs.Notes.{note_of, AddsNotes};
+ghost use Rattle.hack_base.specs.Notes.{note_of};
 ghost use Rattle.hack_words.specs.ParseAnswers.{IsText};
 ghost use Rattle.hack_words.specs.Internal.{Judges, IsJudged, IsPrinted};
 ghost use Rattle.hack_words.specs.ParseAnswers.{AnswersCommandLine};
@@ -16,6 +16,7 @@ ghost use Rattle.hack_words.specs.Internal.{GivesCuts, around_in};
 ghost use Rattle.hack_rules.specs.AskedFields.{is_old_asked};
 ghost use Rattle.hack_words.specs.CommandLine.{ComesFrom, ComesTo, Faulty, outcome_of};
 ghost use Rattle.hack_words.specs.CommandLine.{editing_notes, old_notes, rustup_notes};
+ghost use Rattle.hack_words.specs.CommandLine.{unknown_notes};
 ghost use Rattle.hack_rules.specs.CliFaults.{fault_of};
 ghost use Rattle.hack_rules.specs.ListsView.{AreListsOf};
 ghost use Rattle.hack_words.specs.StartView.{start_in};
@@ -110,27 +111,6 @@ fn keep_rules(
     })
 }
 
-/// Adds the remaining notices on an accepted command line.
-fn tell(
-    alloc: Global,
-    notices: &mut Vec<Notice>,
-    is_old: bool,
-    uses: &[Use],
-    rustup: &Rustup,
-) -> Result<(), AllocError>
-    requires { is_old ≡ is_old_asked (views uses.now) }
-    ensures { OnOk result (AddsNotes notices.old notices.new
-        (rustup_notes (has_beside Beside.VersionRange (views uses.now)) (unknown_of rustup.now)
-        ++ old_notes (is_old_asked (views uses.now)) (value_given Opt.VersionRange (views uses.now))
-        ++ editing_notes (is_given Opt.NoDevDeps (views uses.now))
-        (is_given Opt.NoPrivate (views uses.now)))) }
-{
-    tell_rustup(alloc, notices, is_ranged(uses), rustup)?;
-    tell_old(alloc, notices, is_old, value(Opt::VersionRange, uses))?;
-    let no_private = given(Opt::NoPrivate, uses);
-    tell_edits(alloc, notices, given(Opt::NoDevDeps, uses), no_private)
-}
-
 /// Whether unknown features are to be ignored where they can't be.
 fn ignores_in_vain(lists: &Lists, uses: &[Use]) -> bool
     requires { AreListsOf (views uses.now) lists.now }
@@ -138,6 +118,41 @@ fn ignores_in_vain(lists: &Lists, uses: &[Use]) -> bool
         && counts Opt.IncludeFeatures (views uses.now)) }
 {
     given(Opt::IgnoreUnknownFeatures, uses) && has_some(lists.include_features.as_slice())
+}
+
+/// The notices on a command line that asks for cargo's commands.
+fn first_notices(alloc: Global, lists: &Lists, uses: &[Use]) -> Result<Vec<Notice>, AllocError>
+    requires { AreListsOf (views uses.now) lists.now }
+    ensures { IfOk result (λ notices. map note_of notices.items
+        ≡ unknown_notes (views uses.now)) }
+{
+    let mut notices = Vec::new(alloc);
+    tell_unknown(alloc, &mut notices, ignores_in_vain(lists, uses))?;
+    Ok(notices)
+}
+
+/// The notices on an accepted command line.
+fn all_notices(
+    alloc: Global,
+    lists: &Lists,
+    is_old: bool,
+    uses: &[Use],
+    rustup: &Rustup,
+) -> Result<Vec<Notice>, AllocError>
+    requires listed { AreListsOf (views uses.now) lists.now }
+    requires old { is_old ≡ is_old_asked (views uses.now) }
+    ensures { IfOk result (λ notices. map note_of notices.items ≡ unknown_notes (views uses.now)
+        ++ rustup_notes (has_beside Beside.VersionRange (views uses.now)) (unknown_of rustup.now)
+        ++ old_notes (is_old_asked (views uses.now)) (value_given Opt.VersionRange (views uses.now))
+        ++ editing_notes (is_given Opt.NoDevDeps (views uses.now))
+        (is_given Opt.NoPrivate (views uses.now))) }
+{
+    let mut notices = first_notices(alloc, lists, uses)?;
+    tell_rustup(alloc, &mut notices, is_ranged(uses), rustup)?;
+    tell_old(alloc, &mut notices, is_old, value(Opt::VersionRange, uses))?;
+    let no_private = given(Opt::NoPrivate, uses);
+    tell_edits(alloc, &mut notices, given(Opt::NoDevDeps, uses), no_private)?;
+    Ok(notices)
 }
 
 /// The outcome of uses of options.
@@ -162,18 +177,11 @@ fn judge_uses(
         trailing,
     };
     let Checked { early, late } = keep_rules(alloc, around, &call, uses)?;
-    let mut notices = Vec::new(alloc);
-    tell_unknown(alloc, &mut notices, ignores_in_vain(&early.lists, uses))?;
     let Some(late) = late else {
-        return Ok((Parsed::List, notices));
+        return Ok((Parsed::List, first_notices(alloc, &early.lists, uses)?));
     };
-    tell(
-        alloc,
-        &mut notices,
-        late.versions.is_old,
-        uses,
-        around.rustup,
-    )?;
+    let is_old = late.versions.is_old;
+    let notices = all_notices(alloc, &early.lists, is_old, uses, around.rustup)?;
     let read = Read { call, early, late };
     Ok((Parsed::Args(Args::of(alloc, read, uses)?), notices))
 }
