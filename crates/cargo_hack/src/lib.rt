@@ -3,6 +3,7 @@
 //! crate.
 #![tactic(auto)]
 
+pub mod conflicts;
 pub mod features;
 pub mod journal;
 pub mod manifest;

@@ -18,6 +18,7 @@ use crate::places::Places;
 use crate::restore::tell_restored;
 use hack_base::paths::under;
 use hack_files::fs::{FileFault, Files};
+use hack_files::reason::tell_reason;
 use hack_journal::contents::look;
 use hack_journal::entries::same;
 use hack_process::process::Caller;
@@ -26,12 +27,14 @@ use hack_term::term::Term;
 use std::alloc::Global;
 use std::io::Write;
 
-/// Copies the lockfile, if there is one.
-pub(crate) fn keep_copy<F: Files, L: Files>(
+/// Copies the lockfile, if there is one. Where that can't be done, the system's reason is reported.
+pub(crate) fn keep_copy<F: Files, L: Files, E: Write>(
     alloc: Global,
     places: &Places,
     files: &mut F,
     lockfiles: &mut L,
+    term: &Term,
+    err: &mut E,
 ) -> Result<(), CallFault>
     ensures copied { OnOk result (F.tells → L.tells
         → F.bytes_at files.new (string_bytes places.now.copy)
@@ -52,16 +55,26 @@ pub(crate) fn keep_copy<F: Files, L: Files>(
         Ok(None) => Ok(()),
         Ok(Some(bytes)) => match files.write(places.copy.as_str(), &bytes) {
             Ok(()) => Ok(()),
-            Err(fault) => Err(copy_fault(fault)),
+            Err(fault) => Err(copy_fault(alloc, fault, files, term, err)),
         },
-        Err(fault) => Err(copy_fault(fault)),
+        Err(fault) => Err(copy_fault(alloc, fault, lockfiles, term, err)),
     }
 }
 
-fn copy_fault(fault: FileFault) -> CallFault {
+/// Reports why these files failed, and returns why the call isn't performed.
+fn copy_fault<F: Files, E: Write>(
+    alloc: Global,
+    fault: FileFault,
+    files: &F,
+    term: &Term,
+    err: &mut E,
+) -> CallFault {
     match fault {
         FileFault::Memory => CallFault::Memory,
-        FileFault::Device => CallFault::NoCopy,
+        FileFault::Device => {
+            tell_reason(alloc, files, term, err);
+            CallFault::NoCopy
+        }
     }
 }
 
@@ -112,6 +125,7 @@ pub(crate) fn settle<F: Files, L: Files, C: Caller, O: Write, E: Write>(
             host.alloc,
             places.copy.as_str(),
             fault,
+            files,
             host.term,
             host.err,
         ),
@@ -147,7 +161,7 @@ fn give_back<L: Files, C: Caller, O: Write, E: Write>(
     let path = places.lockfile.as_str();
     let is_back = match holds(host.alloc, path, bytes, lockfiles) {
         Ok(is_back) => is_back,
-        Err(fault) => return tell_fault(host.alloc, path, fault, host.term, host.err),
+        Err(fault) => return tell_fault(host.alloc, path, fault, lockfiles, host.term, host.err),
     };
     match lockfiles.write(path, bytes) {
         Ok(()) if is_back => Ok(true),
@@ -155,7 +169,7 @@ fn give_back<L: Files, C: Caller, O: Write, E: Write>(
             let dir = host.env.current_dir.as_str();
             tell_restored(host.alloc, dir, path, host.term, host.err)
         }
-        Err(fault) => tell_fault(host.alloc, path, fault, host.term, host.err),
+        Err(fault) => tell_fault(host.alloc, path, fault, lockfiles, host.term, host.err),
     }
 }
 
@@ -183,7 +197,7 @@ fn leave<L: Files, C: Caller, O: Write, E: Write>(
             let _ = host.term.info(&text, host.err);
             Ok(true)
         }
-        Err(fault) => tell_fault(host.alloc, path, fault, host.term, host.err),
+        Err(fault) => tell_fault(host.alloc, path, fault, lockfiles, host.term, host.err),
     }
 }
 
@@ -221,15 +235,16 @@ fn drop_copy<F: Files, E: Write>(
     let copy = places.copy.as_str();
     match files.remove(copy) {
         Ok(()) => Ok(true),
-        Err(fault) => tell_fault(alloc, copy, fault, term, err),
+        Err(fault) => tell_fault(alloc, copy, fault, files, term, err),
     }
 }
 
-/// Reports that a file can't be read or written.
-fn tell_fault<E: Write>(
+/// Reports that one of these files can't be read or written, and why.
+fn tell_fault<F: Files, E: Write>(
     alloc: Global,
     path: &str,
     fault: FileFault,
+    files: &F,
     term: &mut Term,
     err: &mut E,
 ) -> Result<bool, CallFault>
@@ -239,6 +254,7 @@ fn tell_fault<E: Write>(
     match fault {
         FileFault::Memory => Err(CallFault::Memory),
         FileFault::Device => {
+            tell_reason(alloc, files, term, err);
             let text = format!(in alloc; "failed to read or write file `{path}`")?;
             let _ = term.error(&text, err);
             Ok(false)

@@ -311,7 +311,14 @@ fn copied<F: Files, L: Files, C: Starts, O: Write, E: Write>(
 {
     let mut files = files;
     let mut lockfiles = lockfiles;
-    match keep_copy(host.alloc, &begun.places, &mut files, &mut lockfiles) {
+    match keep_copy(
+        host.alloc,
+        &begun.places,
+        &mut files,
+        &mut lockfiles,
+        host.term,
+        host.err,
+    ) {
         Ok(()) => over_journal(words, begun, files, lockfiles, host),
         Err(fault) => (report(fault, host.term, host.err), files, lockfiles),
     }

@@ -15,6 +15,7 @@ ghost use Rattle.hack_term.specs.Lines.{IsExitStatus};
 
 use crate::asked::Asked;
 use hack_files::fs::Files;
+use hack_files::reason::tell_reason;
 use hack_run::host::Host;
 use hack_run::run::run;
 use hack_starts::starts::Starts;
@@ -47,6 +48,7 @@ pub(crate) fn blindly<F: Files, C: Starts, O: Write, E: Write>(
         (scene_by (files_view F.Files files.new) lockfiles locks guards
         (host_view C.Caller O.Write host.new)) }
 {
+    tell_reason(host.alloc, files, host.term, host.err);
     if asked.edits.is_change() {
         refuse(host.alloc, path, host.term, host.err);
         return 1;
@@ -59,7 +61,7 @@ pub(crate) fn blindly<F: Files, C: Starts, O: Write, E: Write>(
 fn refuse<E: Write>(alloc: Global, path: &str, term: &mut Term, err: &mut E)
     ensures { term.new ≡ record term.old { error = true } }
 {
-    match format!(in alloc; "failed to read file `{path}`") {
+    match format!(in alloc; "failed to read from file `{path}`") {
         Ok(text) => {
             let _ = term.error(&text, err);
         }
@@ -74,7 +76,7 @@ fn warn<E: Write>(alloc: Global, path: &str, term: &mut Term, err: &mut E)
     ensures { term.new ≡ record term.old { warn = true } }
 {
     match format!(in alloc;
-        "failed to read file `{path}`: edits of an interrupted call may stand"
+        "failed to read from file `{path}`: edits of an interrupted call may stand"
     ) {
         Ok(text) => {
             let _ = term.warn(&text, err);

@@ -1,8 +1,16 @@
--- What a search that wasn't broken off, and whose reports were told, says.
-use Rattle.std.proofs.Common.{◌≡◌, ◌≢◌, ◌∙◌, ◌+◌, ◌<◌, ◌≤◌, ◌++◌, ◌∷◌, [], ℕ, Bool, true, false, List, All, Contains, arith, get_or, length, take, refl, subst, sym}
+-- What searches that weren't broken off, and whose reports were told, say.
+use Rattle.std.proofs.Common.{◌≡◌, ◌≢◌, ◌∙◌, ◌+◌, ◌<◌, ◌≤◌, ◌++◌, ◌∷◌, [], ℕ, Bool, true, false, List, Result, Err, All, Contains, arith, ap, get_or, inl, inr, length, take, refl, subst, sym}
 use Rattle.std.specs.Prelude.{◌||◌}
 use Rattle.std.proofs.lemmas.List.{get_or-take, length-take, take_more}
-use Rattle.std.proofs.lemmas.List.Elements.{All-append, All-cons, All-contains, All-nil}
+use Rattle.std.proofs.lemmas.List.Elements.{All-append, All-cons, All-contains, All-head, All-nil, All-tail}
+use Rattle.hack_base.proofs.Members.{Contains-cons_cases, Contains-nil}
+use Rattle.hack_conflicts.specs.declared.tried.Outcome.{Outcome}
+use Rattle.hack_conflicts.specs.declared.tried.Outcome.TheVariants.{Passed as RunPassed, Failed as RunFailed, Broken as RunBroken}
+use Rattle.hack_culprits.specs.Built.{Explains, Made, step_at, step_outcome, steps_from}
+use Rattle.hack_culprits.specs.declared.fault.CulpritsFault.{CulpritsFault}
+use Rattle.hack_culprits.specs.declared.fault.CulpritsFault.TheVariants.{Ended}
+use Rattle.hack_hunt.specs.Hunts.{EndsSo, Spot}
+use Rattle.hack_hunt.specs.declared.hunt.Hunted.{Hunted}
 use Rattle.hack_msrv.specs.Searches.{AreSearches, AreUnbroken, handed_in_all}
 use Rattle.hack_msrv.specs.Trials.{Trial}
 use Rattle.hack_msrv.specs.declared.found.Found.{Found}
@@ -11,6 +19,7 @@ use Rattle.hack_msrv.proofs.SearchLemmas.{broken_fails}
 use Rattle.hack_plan.specs.View.{PlanView}
 use Rattle.hack_session.specs.Histories.{HasPassed}
 use Rattle.hack_session.specs.declared.step.Handed.{Handed}
+use Rattle.hack_session.specs.declared.step.Outcome.TheVariants as step
 use Rattle.hack_run.specs.Findings.{HasLeast, IsSpared}
 
 -- one element more
@@ -45,3 +54,25 @@ pub warned_later : (notes warned last now : Bool) → last ≡ (notes || warned)
 warned_later true warned last true is stays = refl
 warned_later false warned last true is stays = refl
 warned_later notes warned last false is stays = sym (sym is ∙ stays refl)
+
+-- ---- searches for conflicts
+
+-- a step that passed is of no broken run
+unbroken : (outcome : Outcome) → outcome ≡ RunBroken → step_outcome outcome ≡ step.Passed → ⊥
+unbroken RunPassed broken passed = cc
+unbroken RunFailed broken passed = cc
+unbroken RunBroken broken passed = cc
+
+broken-built : (place : ℕ) (built : List Made) (m : Made) → Contains built m → m.outcome ≡ RunBroken → All HasPassed (steps_from place built) → ⊥
+broken-built place [] m has broken all = absurd (Contains-nil m has)
+broken-built place (x ∷ built) m has broken all =
+    elim (Contains-cons_cases x built m has) [
+      | inl same ↦ unbroken x.outcome (ap (λ (m : Made). m.outcome) same ∙ broken) (All-head HasPassed (step_at place x) (steps_from (place + 1) built) all)
+      | inr more ↦ broken-built (place + 1) built m more broken (All-tail HasPassed (step_at place x) (steps_from (place + 1) built) all)
+    ]
+
+-- where each step passed, no search was broken off
+pub not_cut : (place : ℕ) (came : Result (List Hunted) CulpritsFault) (left : List Spot) (hunted : List Hunted) (built : List Made) → EndsSo came left hunted built → came ≡ Err Ended → All HasPassed (steps_from place built) → ⊥
+not_cut place came left hunted built end is all =
+    let broken : Explains Ended built = subst (λ (c : Result (List Hunted) CulpritsFault). EndsSo c left hunted built) is end in
+    broken-built place built broken.0 broken.1 broken.2 all

@@ -9,6 +9,7 @@ pub mod ReadingLemmas
 mod LaneLemmas
 mod RefusalLemmas
 mod RunLemmas
+mod StartedLemmas
 mod FindingLemmas
 mod ToldLemmas
 mod TraceLemmas

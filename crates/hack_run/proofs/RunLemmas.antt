@@ -1,6 +1,6 @@
 -- One history of a plan: its calls, and what a list writes.
 use Rattle.std.proofs.Common.{◌≡◌, ◌⊎◌, inl, inr, refl, arith, ap, zero, suc, Result, Ok, Err, OnOk, ℕ, Global, String, List, [], ◌∷◌, ◌++◌, map, filter, All, Bool, Option, Some, None, IsSome, ◌∙◌, sym, subst, append-nil, append_assoc, if◌then◌else◌, true, false}
-use Rattle.std.specs.Prelude.{◌≤◌, ◌<◌, ◌^◌, ◌||◌, nat_lt}
+use Rattle.std.specs.Prelude.{MatchBool, ◌≤◌, ◌<◌, ◌^◌, ◌||◌, nat_lt}
 use Rattle.std.specs.List.{flat_map}
 use Rattle.std.specs.Io.KnownBytes.{Appends, Keeps, append_known}
 use Rattle.std.proofs.KnownBytes.{Appends-kept, Appends-nil, Appends-trans}
@@ -29,13 +29,14 @@ use Rattle.hack_load.specs.Contexts.{ContextRecord}
 use Rattle.hack_versions.specs.declared.version.Version.{Version}
 use Rattle.hack_base.specs.Notes.{Note}
 use Rattle.hack_planner.proofs.Performing.{performable}
-use Rattle.hack_planner.specs.CallPlan.{IsPlanOf}
+use Rattle.hack_planner.specs.CallPlan.{IsPerformableOf, IsPlanOf}
 use Rattle.hack_run.specs.CallTrace.{PerformsOne, WritesText}
 use Rattle.hack_session.specs.Handouts.{IsDriven}
 use Rattle.hack_words.specs.declared.cli.args.Args.{Args}
-use Rattle.hack_run.specs.Handed.{IsHandedAsAsked, IsSearchedOut, is_search}
+use Rattle.hack_run.specs.Handed.{IsHandedAsAsked, IsHuntedOut, IsPlannedAsAsked, IsSearchedOut, is_search}
 use Rattle.hack_run.specs.InternalExtensions.{Extends}
 use Rattle.hack_run.specs.Internal.{HandsOverAtMostOne, ListsOver, PerformsAtMostOne, host_writing}
+use Rattle.hack_run.specs.Started.{MakesStarted}
 use Rattle.hack_run.specs.Warnings.{Warned}
 use Rattle.hack_run.proofs.TraceLemmas.{all_shown, one_told, unended}
 use Rattle.hack_run.specs.Worlds.{HostView}
@@ -170,11 +171,11 @@ list_ends (Ok v) refused none short flushed quiet tells cx stable rustup warned 
       cut = d.cut;
       planned = d.planned;
       later = d.later;
-      handed = d.handed;
       calls = d.calls;
       wrote = wrote_end old.out (append_known mid.out gathered) out (flat_map (lines_written d.course.plan) d.course.handed)
           (subst (λ (x : Option (List ℕ)). WritesText true true x (append_known mid.out gathered) (flat_map (lines_written d.course.plan) d.course.handed)) start d.wrote) (kept came.3);
       passed = d.passed;
+      started = d.started;
       uncut = d.uncut;
       unreported = d.unreported;
       warns = d.warns;
@@ -206,9 +207,9 @@ list_shows cx stable rustup old mid begun gathered left out empty made kept grow
       cut = one.cut;
       planned = one.planned;
       later = one.later;
-      handed = one.handed;
       calls = one.calls;
       wrote = shown (flat_map (lines_written one.course.plan) one.course.handed) one.wrote;
+      started = λ e. unended e;
       uncut = λ e. unended e;
       passed = λ e. unended e;
       unreported = one.unreported;
@@ -238,11 +239,11 @@ handed_makes whole had has Told Ran cx stable rustup a b (inr l) w calls refused
       course = l.course;
       notes = l.notes;
       cut = did.cut;
-      planned = performable cx.args.subcommand stable cx rustup l.course.plan l.notes l.planned;
+      planned = (performable cx.args.subcommand stable cx rustup l.course.plan l.notes l.planned, l.driven);
       later = false;
-      handed = l.driven;
       calls = subst (λ (cs : List Call). MakesCalls (λ made. PerformsAll l.course.plan steps made did.cut) cs (calls b)) (told l.notes a l.mid l.told) (record { made = did.made; grown = did.grown; such = did.performed });
       wrote = all_shown false had has (flat_map (lines_written l.course.plan) l.course.handed) (l.wrote w);
+      started = λ e. unended e;
       uncut = λ e. unended e;
       passed = λ e. unended e;
       unreported = λ u. refl;
@@ -263,13 +264,45 @@ none_cut plan (h ∷ steps) calls cut all p =
 whole_count : (cut before now : ℕ) → GrowsBy cut before now → before ≡ 0 → now ≡ 0 → cut ≡ 0
 whole_count cut before now grows first last = let e = grows (omega (arith, first)) in omega (arith, e, first, last)
 
--- the chosen piece's steps, where no search is asked for
-pub handed_piece : (done : Bool) (args : Args) (course : Course) → args.find_rust_version ≡ false → IsDriven args.partition args.keep_going course → IsHandedAsAsked done (is_search false args) args course
-handed_piece done args course off driven = subst (λ (b : Bool). IsHandedAsAsked done b args course) (sym off) driven
+-- what is handed out, where no search for conflicts is asked for
+planned-apart : (IsPlan : PlanView → List Note → Type 0) (done : Bool) (cx : ContextRecord) (rustup : Name) (course : Course) (notes : List Note) → cx.args.find_conflicts ≡ false
+    → IsPlan course.plan notes → IsHandedAsAsked done cx.args.find_rust_version cx.args course → IsPlannedAsAsked IsPlan done false cx rustup course notes
+planned-apart IsPlan done cx rustup course notes off plan handed =
+    subst (λ (b : Bool). MatchBool b (IsHuntedOut done cx rustup course notes) (IsPlan course.plan notes × IsHandedAsAsked done (b || cx.args.find_rust_version) cx.args course)) (sym off) (plan, handed)
 
--- a search's steps, where one is asked for
-pub handed_search : (done : Bool) (args : Args) (course : Course) → args.find_rust_version ≡ true → IsSearchedOut done course.plan course.handed → IsHandedAsAsked done (is_search false args) args course
-handed_search done args course on out = subst (λ (b : Bool). IsHandedAsAsked done b args course) (sym on) out
+-- the chosen piece's steps, where no search is asked for
+pub planned_piece : (IsPlan : PlanView → List Note → Type 0) (done : Bool) (cx : ContextRecord) (rustup : Name) (course : Course) (notes : List Note) → cx.args.find_conflicts ≡ false → cx.args.find_rust_version ≡ false
+    → IsPlan course.plan notes → IsDriven cx.args.partition cx.args.keep_going course → IsPlannedAsAsked IsPlan done false cx rustup course notes
+planned_piece IsPlan done cx rustup course notes apart off plan driven =
+    planned-apart IsPlan done cx rustup course notes apart plan (subst (λ (b : Bool). IsHandedAsAsked done b cx.args course) (sym off) driven)
+
+-- a search's steps, where one for versions is asked for
+pub planned_search : (IsPlan : PlanView → List Note → Type 0) (done : Bool) (cx : ContextRecord) (rustup : Name) (course : Course) (notes : List Note) → cx.args.find_conflicts ≡ false → cx.args.find_rust_version ≡ true
+    → IsPlan course.plan notes → IsSearchedOut done course.plan course.handed → IsPlannedAsAsked IsPlan done false cx rustup course notes
+planned_search IsPlan done cx rustup course notes apart on plan out =
+    planned-apart IsPlan done cx rustup course notes apart plan (subst (λ (b : Bool). IsHandedAsAsked done b cx.args course) (sym on) out)
+
+-- ... where one for conflicts is
+pub planned_hunt : (IsPlan : PlanView → List Note → Type 0) (done : Bool) (cx : ContextRecord) (rustup : Name) (course : Course) (notes : List Note) → cx.args.find_conflicts ≡ true
+    → IsHuntedOut done cx rustup course notes → IsPlannedAsAsked IsPlan done false cx rustup course notes
+planned_hunt IsPlan done cx rustup course notes on out =
+    subst (λ (b : Bool). MatchBool b (IsHuntedOut done cx rustup course notes) (IsPlan course.plan notes × IsHandedAsAsked done (b || cx.args.find_rust_version) cx.args course)) (sym on) out
+
+planned-by : (b : Bool) (X P Q H : Type 0) → (P → Q) → MatchBool b X (P × H) → MatchBool b X (Q × H)
+planned-by true X P Q H f x = x
+planned-by false X P Q H f p = (f p.0, p.1)
+
+-- no search is asked for
+pub unsearched : (args : Args) → args.find_conflicts ≡ false → args.find_rust_version ≡ false → is_search false args ≡ false
+unsearched args apart off = ap (λ b. b || args.find_rust_version) apart ∙ off
+
+-- one for versions is asked for
+pub searched : (args : Args) → args.find_conflicts ≡ false → args.find_rust_version ≡ true → is_search false args ≡ true
+searched args apart on = ap (λ b. b || args.find_rust_version) apart ∙ on
+
+-- one for conflicts is asked for
+pub hunted : (args : Args) → args.find_conflicts ≡ true → is_search false args ≡ true
+hunted args on = ap (λ b. b || args.find_rust_version) on
 
 calls_from : (course : Course) (mid old new : List Call) (before now : ℕ) → mid ≡ old → (h : HasPerformed course.plan course.handed mid new before now) → MakesCalls (λ made. PerformsAll course.plan course.handed made h.cut) old new
 calls_from course mid old new before now same h =
@@ -277,54 +310,67 @@ calls_from course mid old new before now same h =
 
 -- one history of a plan, each step of which passed where no error was reported
 pub runs_one : (cx : ContextRecord) (stable : Result (Option Version) (String Global)) (rustup : Name) (course : Course) (notes : List Note) (old new : HostView) (mid : List Call) (before now : ℕ) (term : Term) (fault : Option ProcessFault) → mid ≡ old.calls
-    → IsPlanOf cx.args.subcommand stable cx rustup course.plan notes → cx.args.find_rust_version ≡ false → IsDriven cx.args.partition cx.args.keep_going course → HasPerformed course.plan course.handed mid new.calls before now
-    → (All HasPassed course.handed ⊎ HasTold term.error fault) → Warned notes old.term.warn new.term.warn → fault ≡ None → term.error ≡ false → PerformsOne true false cx stable rustup old.term.warn old new
-runs_one cx stable rustup course notes old new mid before now term fault same planned off driven performed told warned none quiet = record {
+    → IsPlanOf cx.args.subcommand stable cx rustup course.plan notes → cx.args.find_conflicts ≡ false → cx.args.find_rust_version ≡ false → IsDriven cx.args.partition cx.args.keep_going course → HasPerformed course.plan course.handed mid new.calls before now
+    → (All HasPassed course.handed → MakesStarted mid new.calls) → (All HasPassed course.handed ⊎ HasTold term.error fault) → Warned notes old.term.warn new.term.warn → fault ≡ None → term.error ≡ false → PerformsOne true false cx stable rustup old.term.warn old new
+runs_one cx stable rustup course notes old new mid before now term fault same planned apart off driven performed started told warned none quiet = record {
   course = course;
   notes = notes;
   cut = performed.cut;
-  planned = performable cx.args.subcommand stable cx rustup course.plan notes planned;
+  planned = planned_piece (IsPerformableOf cx.args.subcommand stable cx rustup) true cx rustup course notes apart off (performable cx.args.subcommand stable cx rustup course.plan notes planned) driven;
   later = false;
-  handed = handed_piece true cx.args course off driven;
   calls = calls_from course mid old.calls new.calls before now same performed;
   wrote = tt;
+  started = λ e. subst (λ (calls : List Call). MakesStarted calls new.calls) same (started (all_passed course.handed term fault told none quiet));
   uncut = λ e. none_cut course.plan course.handed performed.made performed.cut (all_passed course.handed term fault told none quiet) performed.performed;
   passed = λ e u. all_passed course.handed term fault told none quiet;
   unreported = λ u. refl;
   warns = λ e. warned;
 }
 
--- one search, where no error was reported
-pub searches_one : (cx : ContextRecord) (stable : Result (Option Version) (String Global)) (rustup : Name) (course : Course) (notes : List Note) (later : Bool) (old new : HostView) (mid : List Call) (before now : ℕ) → mid ≡ old.calls
-    → IsPlanOf cx.args.subcommand stable cx rustup course.plan notes → cx.args.find_rust_version ≡ true → IsSearchedOut true course.plan course.handed → HasPerformed course.plan course.handed mid new.calls before now
+some_search : (cx : ContextRecord) (stable : Result (Option Version) (String Global)) (rustup : Name) (course : Course) (notes : List Note) (later : Bool) (old new : HostView) (mid : List Call) (before now : ℕ) → mid ≡ old.calls
+    → IsPlannedAsAsked (IsPerformableOf cx.args.subcommand stable cx rustup) true false cx rustup course notes → is_search false cx.args ≡ true → HasPerformed course.plan course.handed mid new.calls before now → MakesStarted mid new.calls
     → before ≡ 0 → now ≡ 0 → Warned notes (later || old.term.warn) new.term.warn → PerformsOne true false cx stable rustup old.term.warn old new
-searches_one cx stable rustup course notes later old new mid before now same planned on out performed first last warned = record {
+some_search cx stable rustup course notes later old new mid before now same planned on performed started first last warned = record {
   course = course;
   notes = notes;
   cut = performed.cut;
   later = later;
-  planned = performable cx.args.subcommand stable cx rustup course.plan notes planned;
-  handed = handed_search true cx.args course on out;
+  planned = planned;
   calls = calls_from course mid old.calls new.calls before now same performed;
   wrote = tt;
+  started = λ e. subst (λ (calls : List Call). MakesStarted calls new.calls) same started;
   uncut = λ e. whole_count performed.cut before now performed.counted first last;
   passed = λ e off. absurd (true≢false (sym on ∙ off));
   unreported = λ off. absurd (true≢false (sym on ∙ off));
   warns = λ e. warned;
 }
 
--- the same, whatever came of its steps
+-- one search for conflicts, where no error was reported
+pub hunts_one : (cx : ContextRecord) (stable : Result (Option Version) (String Global)) (rustup : Name) (course : Course) (notes : List Note) (later : Bool) (old new : HostView) (mid : List Call) (before now : ℕ) → mid ≡ old.calls
+    → cx.args.find_conflicts ≡ true → IsHuntedOut true cx rustup course notes → HasPerformed course.plan course.handed mid new.calls before now → MakesStarted mid new.calls
+    → before ≡ 0 → now ≡ 0 → Warned notes (later || old.term.warn) new.term.warn → PerformsOne true false cx stable rustup old.term.warn old new
+hunts_one cx stable rustup course notes later old new mid before now same on out performed started first last warned =
+    some_search cx stable rustup course notes later old new mid before now same (planned_hunt (IsPerformableOf cx.args.subcommand stable cx rustup) true cx rustup course notes on out) (hunted cx.args on) performed started first last warned
+
+-- one search for versions, where no error was reported
+pub searches_one : (cx : ContextRecord) (stable : Result (Option Version) (String Global)) (rustup : Name) (course : Course) (notes : List Note) (later : Bool) (old new : HostView) (mid : List Call) (before now : ℕ) → mid ≡ old.calls
+    → IsPlanOf cx.args.subcommand stable cx rustup course.plan notes → cx.args.find_conflicts ≡ false → cx.args.find_rust_version ≡ true → IsSearchedOut true course.plan course.handed → HasPerformed course.plan course.handed mid new.calls before now → MakesStarted mid new.calls
+    → before ≡ 0 → now ≡ 0 → Warned notes (later || old.term.warn) new.term.warn → PerformsOne true false cx stable rustup old.term.warn old new
+searches_one cx stable rustup course notes later old new mid before now same planned apart on out performed started first last warned =
+    some_search cx stable rustup course notes later old new mid before now same (planned_search (IsPerformableOf cx.args.subcommand stable cx rustup) true cx rustup course notes apart on (performable cx.args.subcommand stable cx rustup course.plan notes planned) out) (searched cx.args apart on) performed started first last warned
+
+-- what was handed out, whatever came of its steps
 pub runs_some : (cx : ContextRecord) (stable : Result (Option Version) (String Global)) (rustup : Name) (course : Course) (notes : List Note) (old new : HostView) (mid : List Call) (before now : ℕ) → mid ≡ old.calls
-    → IsPlanOf cx.args.subcommand stable cx rustup course.plan notes → IsHandedAsAsked false (is_search false cx.args) cx.args course → HasPerformed course.plan course.handed mid new.calls before now → PerformsAtMostOne false cx stable rustup old new
-runs_some cx stable rustup course notes old new mid before now same planned handed performed = inr (record {
+    → IsPlannedAsAsked (IsPlanOf cx.args.subcommand stable cx rustup) false false cx rustup course notes → HasPerformed course.plan course.handed mid new.calls before now → PerformsAtMostOne false cx stable rustup old new
+runs_some cx stable rustup course notes old new mid before now same planned performed = inr (record {
   course = course;
   notes = notes;
   cut = performed.cut;
-  planned = performable cx.args.subcommand stable cx rustup course.plan notes planned;
+  planned = planned-by cx.args.find_conflicts (IsHuntedOut false cx rustup course notes) _ _ (IsHandedAsAsked false (is_search false cx.args) cx.args course) (performable cx.args.subcommand stable cx rustup course.plan notes) planned;
   later = false;
-  handed = handed;
   calls = calls_from course mid old.calls new.calls before now same performed;
   wrote = tt;
+  started = λ e. unended e;
   uncut = λ e. unended e;
   passed = λ e. unended e;
   unreported = λ u. refl;
@@ -338,17 +384,17 @@ performed_to plan handed old new other before now same h = subst (λ (calls : Li
 -- a list that was handed over, each step of which passed or was listed where no error was reported
 pub lists_one : {R : Type 0} (had has : Option (List ℕ)) (Told : List Note → R → R → Type 0) (Ran : PlanView → List Handed → R → R → Type 0) (cx : ContextRecord) (stable : Result (Option Version) (String Global)) (rustup : Name) (a b : R) (l : ListsOver (Unit {0}) had has Told Ran cx stable rustup a b)
     → (calls : R → List Call) (before now : ℕ) (was term : Term) (fault : Option ProcessFault) → calls l.over.mid ≡ calls a → HasPerformed l.over.course.plan (filter is_sent l.over.course.handed) (calls l.over.mid) (calls b) before now
-    → (All HasPassed (filter is_sent l.over.course.handed) ⊎ HasTold term.error fault) → Warned l.over.notes was.warn term.warn → fault ≡ None → term.error ≡ false
+    → (All HasPassed (filter is_sent l.over.course.handed) → MakesStarted (calls l.over.mid) (calls b)) → (All HasPassed (filter is_sent l.over.course.handed) ⊎ HasTold term.error fault) → Warned l.over.notes was.warn term.warn → fault ≡ None → term.error ≡ false
     → PerformsOne true true cx stable rustup was.warn (record { calls = calls a; out = had; term = was }) (record { calls = calls b; out = has; term = term })
-lists_one had has Told Ran cx stable rustup a b l calls before now was term fault same performed told warned none quiet = record {
+lists_one had has Told Ran cx stable rustup a b l calls before now was term fault same performed started told warned none quiet = record {
   course = l.over.course;
   notes = l.over.notes;
   cut = performed.cut;
-  planned = performable cx.args.subcommand stable cx rustup l.over.course.plan l.over.notes l.over.planned;
+  planned = (performable cx.args.subcommand stable cx rustup l.over.course.plan l.over.notes l.over.planned, l.over.driven);
   later = false;
-  handed = l.over.driven;
   calls = subst (λ (cs : List Call). MakesCalls (λ made. PerformsAll l.over.course.plan (filter is_sent l.over.course.handed) made performed.cut) cs (calls b)) same (record { made = performed.made; grown = performed.grown; such = performed.performed });
   wrote = all_shown true had has (flat_map (lines_written l.over.course.plan) l.over.course.handed) (l.over.wrote tt);
+  started = λ e. subst (λ (cs : List Call). MakesStarted cs (calls b)) same (started (all_passed (filter is_sent l.over.course.handed) term fault told none quiet));
   uncut = λ e. none_cut l.over.course.plan (filter is_sent l.over.course.handed) performed.made performed.cut (all_passed (filter is_sent l.over.course.handed) term fault told none quiet) performed.performed;
   passed = λ e u. all_handed l.over.course.handed (all_passed (filter is_sent l.over.course.handed) term fault told none quiet) l.listed;
   unreported = λ u. refl;

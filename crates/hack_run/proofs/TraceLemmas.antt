@@ -79,9 +79,9 @@ one_told done listing cx stable rustup warned old new was now same h = record {
   cut = h.cut;
   planned = h.planned;
   later = h.later;
-  handed = h.handed;
   calls = h.calls;
   wrote = h.wrote;
+  started = h.started;
   uncut = h.uncut;
   passed = h.passed;
   unreported = h.unreported;
@@ -92,7 +92,7 @@ one_told done listing cx stable rustup warned old new was now same h = record {
 pub one_made : (listing : Bool) (cx : ContextRecord) (stable : Result (Option Version) (String Global)) (rustup : Name) (warned other : Bool) (old new : HostView) (was now : Term)
     → PerformsOne false listing cx stable rustup warned old new → PerformsOne false listing cx stable rustup other (record old { term = was }) (record new { term = now })
 one_made listing cx stable rustup warned other old new was now h =
-    record { course = h.course; notes = h.notes; cut = h.cut; later = h.later; planned = h.planned; handed = h.handed; calls = h.calls; wrote = h.wrote; uncut = λ e. unended e; passed = λ e. unended e; unreported = h.unreported; warns = λ e. unended e }
+    record { course = h.course; notes = h.notes; cut = h.cut; later = h.later; planned = h.planned; calls = h.calls; wrote = h.wrote; started = λ e. unended e; uncut = λ e. unended e; passed = λ e. unended e; unreported = h.unreported; warns = λ e. unended e }
 
 pub plan_told : (done : Bool) (cx : ContextRecord) (rustup : Name) (warned : Bool) (old new : HostView) (was now : Term) → (done ≡ true → now.warn ≡ new.term.warn)
     → PerformsPlan done cx rustup warned old new → PerformsPlan done cx rustup warned (record old { term = was }) (record new { term = now })

@@ -31,9 +31,10 @@ use Rattle.hack_words.specs.declared.cli.args.Args.{Args}
 use Rattle.hack_words.specs.declared.cli.env.Env.{Env}
 use Rattle.hack_words.specs.declared.cli.parse.Parsed.{Parsed}
 use Rattle.hack_words.specs.declared.cli.parse.Parsed.TheVariants as parsed
-use Rattle.hack_run.specs.Handed.{IsHandedAsAsked, is_search}
+use Rattle.hack_run.specs.Handed.{IsPlannedAsAsked, is_search}
 use Rattle.hack_run.specs.Loading.{AreLoaded}
 use Rattle.hack_run.specs.Questions.{AsksRustup, AsksStable, MayAskStable, NeedsAnswer, rustup_asked}
+use Rattle.hack_run.specs.Started.{MakesStarted}
 use Rattle.hack_run.specs.Warnings.{Warned, have_warning}
 use Rattle.hack_run.specs.Worlds.{HostView, World, host_at, world_at}
 
@@ -47,12 +48,12 @@ WritesText true true had has text = Appends had has text
 WritesText false true had has text = AppendsFront had has text
 WritesText done false had has text = Unit {0}
 
--- One history of a context's plan, made with this answer on stable's version, was handed out. Its
--- steps made just these calls, one after the other, of a list those that aren't listed, which wrote
--- the lines of the steps that passed. At the end of a call none was cut short for want of memory, and
--- each step passed, unless it was a search's;
--- and a warning is noted just where one was before, or where a notice of the plan counts as one, or a
--- search reported one.
+-- One history of a context's plan, made with this answer on stable's version, was handed out, or that of
+-- a search. Its steps made just these calls, one after the other, of a list those that aren't listed,
+-- which wrote the lines of the steps that passed. At the end of a call each command whose output isn't
+-- captured was started, none was cut short for want of memory, and each step passed, unless it was a
+-- search's; and a warning is noted just where one was before, or where a notice of the plan counts as
+-- one, or a search reported one.
 pub record PerformsOne (done listing : Bool) (cx : ContextRecord)
     (stable : Result (Option Version) (String Global)) (rustup : Name) (warned : Bool)
     (old new : HostView) : Type 0 where
@@ -60,11 +61,11 @@ pub record PerformsOne (done listing : Bool) (cx : ContextRecord)
   pub notes : List Note
   pub cut : ℕ
   pub later : Bool
-  pub planned : IsPerformableOf cx.args.subcommand stable cx rustup course.plan notes
-  pub handed : IsHandedAsAsked done (is_search listing cx.args) cx.args course
+  pub planned : IsPlannedAsAsked (IsPerformableOf cx.args.subcommand stable cx rustup) done listing cx rustup course notes
   pub calls : MakesCalls (λ made.
       PerformsAll course.plan (if listing then filter is_sent course.handed else course.handed) made cut) old.calls new.calls
   pub wrote : WritesText done listing old.out new.out (flat_map (lines_written course.plan) course.handed)
+  pub started : done ≡ true → MakesStarted old.calls new.calls
   pub uncut : done ≡ true → cut ≡ 0
   pub passed : done ≡ true → is_search listing cx.args ≡ false → All HasPassed course.handed
   pub unreported : is_search listing cx.args ≡ false → later ≡ false

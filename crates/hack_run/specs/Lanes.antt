@@ -14,7 +14,7 @@ use Rattle.hack_words.specs.declared.cli.parse.Parsed.{Parsed}
 use Rattle.hack_words.specs.declared.cli.parse.Parsed.TheVariants as parsed
 use Rattle.hack_load.specs.Contexts.{ContextRecord}
 use Rattle.hack_planner.specs.CallPlan.{IsPlanOf}
-use Rattle.hack_run.specs.Handed.{IsHandedAsAsked, is_search}
+use Rattle.hack_run.specs.Handed.{IsPlannedAsAsked, is_search}
 use Rattle.hack_session.specs.Histories.{Course}
 use Rattle.hack_starts.specs.Events.{Event}
 use Rattle.hack_lanes.specs.Lanes.{Scene, Goes}
@@ -34,8 +34,7 @@ pub record RunsOne {S : Type 0} (did : List Event → S → S → Type 0) (cx : 
     (stable : Result (Option Version) (String Global)) (rustup : Name) (old new : Scene S) : Type 0 where
   pub course : Course
   pub notes : List Note
-  pub planned : IsPlanOf cx.args.subcommand stable cx rustup course.plan notes
-  pub handed : IsHandedAsAsked false (is_search false cx.args) cx.args course
+  pub planned : IsPlannedAsAsked (IsPlanOf cx.args.subcommand stable cx rustup) false false cx rustup course notes
   pub ran : MatchBool (is_search false cx.args) (RunsSerially did course.handed old new)
       (RunsAll did cx.args.partition course.plan course.handed old new)
 

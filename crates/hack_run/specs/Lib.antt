@@ -2,6 +2,7 @@ pub mod Headline
 pub mod Journals
 pub mod Findings
 pub mod Handed
+pub mod Started
 pub mod CallTrace
 pub mod CallChanges
 pub mod Questions

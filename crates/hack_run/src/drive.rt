@@ -1,7 +1,11 @@
-//! What a call runs: the plan of what is loaded, handed out to a runner, or searched by one.
+//! What a call runs: the plan of what is loaded, handed out to a runner, or searched by one; or what
+//! a search for conflicts builds.
 
-ghost use Rattle.std.specs.Prelude.{◌≡◌, ◌⊎◌, IfErr, IfOk, List, map};
-ghost use Rattle.hack_planner.specs.CallPlan.{IsCauseOf, IsPlanOf, IsSureCauseOf};
+ghost use Rattle.std.specs.Prelude.{ℕ, ◌≡◌, ◌⊎◌, IfErr, IfOk, IsSome, List, None, map};
+ghost use Rattle.hack_planner.specs.CallPlan.{IsCauseOf, IsPackagesCause, IsPlanOf, IsSureCauseOf};
+ghost use Rattle.hack_hunt.specs.Hunts.{RanHunts, came_of, spots_of};
+ghost use Rattle.hack_hunt.specs.Searched.{IsSearchPlanOf};
+ghost use Rattle.hack_plan.specs.Commands.{slots_in};
 ghost use Rattle.hack_load.specs.ContextView.{context_view};
 ghost use Rattle.hack_plan.specs.View.{PlanView};
 ghost use Rattle.hack_base.specs.Notes.{Note, note_of};
@@ -13,6 +17,9 @@ ghost use Rattle.hack_run.specs.Warnings.{TellsNotes};
 use crate::tell::tell_all;
 use hack_base::notice::Notice;
 use hack_base::writes::Sink;
+use hack_culprits::fault::CulpritsFault;
+use hack_hunt::hunt::{Hunted, hunt_all};
+use hack_hunt::plan::{SearchPlan, search_plan_of};
 use hack_lanes::turns::Turns;
 use hack_load::context::Context;
 use hack_msrv::found::Found;
@@ -121,6 +128,51 @@ pub fn search_context<R: Teller + Judge>(
     runner.tell(notices.as_slice());
     let found = find_versions(alloc, &plan, runner)?;
     Ok((plan, found))
+}
+
+/// What came of a search for conflicts.
+#[derive(Drop)]
+pub struct Hunt {
+    /// The plan, with all that was built.
+    pub plan: Plan,
+    /// What was found, package after package for each slot; or why a search was cut short.
+    pub found: Result<Vec<Hunted>, CulpritsFault>,
+}
+
+/// Prints the notices of a search for conflicts, and searches among the sets of each chosen package,
+/// for each slot. `rustup` is as for `drive_context`.
+pub fn hunt_context<R: Teller + Judge>(
+    alloc: Global,
+    cx: &Context,
+    rustup: &str,
+    runner: &mut R,
+) -> Result<Hunt, PlanFault>
+    // The plan begins with the chosen packages without runs. The runner printed just its notices. Each
+    // package was then searched in each slot, one after another, by its rules; the plan grew by just
+    // the runs that the searches built, and these were handed out, in order.
+    ensures ran { IfOk result (λ hunt. (notes : List Note) × (mid : R) × (ids : List ℕ)
+        × (start : PlanView) × IsSearchPlanOf (context_view cx.now).args.subcommand
+        (context_view cx.now) rustup.now start ids notes
+        × R.told notes runner.old mid
+        × RanHunts R.ran R.ended (context_view cx.now) (context_view cx.now).args.most_runs
+        (spots_of ids (slots_in start.call None)) (came_of hunt.found) start hunt.plan
+        mid runner.new) }
+
+    // A refused call handed out nothing.
+    ensures err { IfErr result (λ e. (e ≡ PlanFault.Memory)
+        ⊎ (IsSome (context_view cx.now).args.subcommand
+        × IsPackagesCause (context_view cx.now) e)) }
+    ensures refused { IfErr result (λ e. runner.new ≡ runner.old) }
+{
+    let SearchPlan {
+        mut plan,
+        ids,
+        notices,
+    } = search_plan_of(alloc, cx, rustup)?;
+    runner.tell(notices.as_slice());
+    let most_runs = cx.args().most_runs;
+    let found = hunt_all(alloc, cx, ids.as_slice(), most_runs, &mut plan, runner);
+    Ok(Hunt { plan, found })
 }
 
 impl<C: Caller, O: Sink, E: Sink> Teller for Starter<'_, C, O, E> {

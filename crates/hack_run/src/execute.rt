@@ -12,6 +12,7 @@ ghost use Rattle.hack_run.specs.Lanes.{MayRunInLanes, RunsInLanes, RunsOne};
 ghost use Rattle.hack_run.specs.Questions.{IsAnswered};
 ghost use Rattle.hack_run.specs.Worlds.{IsSameHost, host_of};
 
+use crate::conflict_search::hunt_in_lanes;
 use crate::drive::{drive_context, search_context};
 use crate::explain::explain;
 use crate::fault::RunFault;
@@ -35,7 +36,7 @@ use std::alloc::{AllocError, Global};
 use std::io::Write;
 
 /// Performs the chosen piece of a context's plan, and reports the runs that failed; or searches for
-/// the least versions, and reports these.
+/// the least versions or for conflicts, and reports these.
 pub(crate) fn execute<C: Starts, O: Write, E: Write>(
     cx: &Context,
     stable: Result<Option<Version>, String>,
@@ -125,6 +126,10 @@ fn hand_out<L: Turns, O: Write, E: Write>(
     ensures stays { L.stays lanes.old lanes.new }
     ensures refused { OnErr result (lanes.new ≡ lanes.old) }
 {
+    if cx.args().find_conflicts {
+        hunt_in_lanes(alloc, cx, rustup, lanes, term, out, err, fault)?;
+        return Ok(None);
+    }
     if cx.args().find_rust_version {
         search_in_lanes(alloc, cx, rustup, stable, lanes, term, out, err, fault)?;
         return Ok(None);
@@ -146,6 +151,7 @@ fn drive_in_lanes<L: Turns, O: Write, E: Write>(
     fault: &mut Option<ProcessFault>,
 ) -> Result<Session, PlanFault>
     requires answered { IsAnswered (context_view cx.now).args stable }
+    requires apart { (context_view cx.now).args.find_conflicts ≡ false }
     requires piece { (context_view cx.now).args.find_rust_version ≡ false }
     ensures done { OnOk result (fault.new ≡ None → term.new.error ≡ false → L.tells
         → PerformsOne true false (context_view cx.now) stable rustup.now term.old.warn
@@ -184,6 +190,7 @@ fn search_in_lanes<L: Turns, O: Write, E: Write>(
     fault: &mut Option<ProcessFault>,
 ) -> Result<(), PlanFault>
     requires answered { IsAnswered (context_view cx.now).args stable }
+    requires apart { (context_view cx.now).args.find_conflicts ≡ false }
     requires search { (context_view cx.now).args.find_rust_version ≡ true }
     ensures done { OnOk result (fault.new ≡ None → term.new.error ≡ false → L.tells
         → PerformsOne true false (context_view cx.now) stable rustup.now term.old.warn
@@ -270,7 +277,7 @@ fn target_folder(alloc: Global, cx: &Context) -> Result<String, AllocError> {
 }
 
 /// How a starter prints, and whether it goes on after a failed run.
-fn manner(args: &Args) -> (LogGroup, bool)
+pub(crate) fn manner(args: &Args) -> (LogGroup, bool)
     ensures { result ≡ (args.now.log_group, args.now.keep_going) }
 {
     (args.log_group, args.keep_going)

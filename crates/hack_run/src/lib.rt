@@ -2,6 +2,8 @@
 #![tactic(auto)]
 
 mod ask;
+mod conflict_lines;
+mod conflict_search;
 pub mod drive;
 mod execute;
 mod explain;

@@ -1,7 +1,7 @@
 //! Calls of `cargo hack`, as a user of the library makes them: with a caller and files in memory,
 //! so that no cargo runs and nothing is built. Standard input has what cargo reports of the
 //! workspace, on one line, and each manifest after a line `== PATH`. With arguments, these are the
-//! call that is made; else there are three calls on the workspace in `examples`. Prints each call,
+//! call that is made; else there are four calls on the workspace in `examples`. Prints each call,
 //! its messages, and its list. The bench times such calls.
 #![tactic(auto)]
 
@@ -13,16 +13,20 @@ use cargo_hack::term::{Coloring, Term};
 use std::alloc::{AllocError, Global};
 use std::{env, io};
 
-/// The command lines of the three calls.
-const CALLS: [&str; 3] = [
+/// The command lines of the four calls.
+const CALLS: [&str; 4] = [
     "hack check --feature-powerset --print-command-list --ignore-private --depth 2",
     "hack check --each-feature --exclude-all-features --partition 2/2",
     "hack test --feature-powerset --package-rules --keep-going",
+    "hack test --feature-powerset --package-rules --find-conflicts",
 ];
 
-/// A command that cargo fails: these two features don't build together.
-const FAILING: &str =
-    "cargo test --manifest-path codec/Cargo.toml --no-default-features --features compact,trace";
+/// The commands that cargo fails: two features don't build together.
+const FAILING: [&str; 3] = [
+    "cargo test --manifest-path codec/Cargo.toml --no-default-features --features compact,trace",
+    "cargo test --manifest-path codec/Cargo.toml --no-default-features --features binary,compact,trace",
+    "cargo test --manifest-path codec/Cargo.toml --no-default-features --features compact,json,trace",
+];
 
 /// A caller that answers like a cargo that reported this of the workspace.
 fn caller(alloc: Global, told: &str) -> Result<FakeCaller, AllocError> {
@@ -37,7 +41,9 @@ fn caller(alloc: Global, told: &str) -> Result<FakeCaller, AllocError> {
     ] {
         caller.answer(line, End::Status(0), answer.as_bytes(), b"")?;
     }
-    caller.answer(FAILING, End::Status(101), b"", b"")?;
+    for line in FAILING {
+        caller.answer(line, End::Status(101), b"", b"")?;
+    }
     Ok(caller)
 }
 

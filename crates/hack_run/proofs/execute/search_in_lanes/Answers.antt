@@ -11,8 +11,10 @@ use Rattle.hack_run.specs.Findings.{HasLeast}
 use Rattle.hack_run.specs.Warnings.{have_warning}
 use Rattle.hack_run.specs.Worlds.{host_of}
 use Rattle.hack_run.proofs.FindingLemmas.{not_broken, warned_later}
-use Rattle.hack_run.proofs.RunLemmas.{all_passed, handed_search, runs_some, searches_one, unrefused}
+use Rattle.hack_planner.specs.CallPlan.{IsPlanOf}
+use Rattle.hack_run.proofs.RunLemmas.{all_passed, planned_search, runs_some, searched as searched_by, searches_one, unrefused}
 use Rattle.hack_run.proofs.TraceLemmas.{unended}
+use Rattle.hack_run.proofs.StartedLemmas.{searches_by, trial_stopping, whole_least}
 use Rattle.hack_session.proofs.StepLemmas.{has_performed, passed_or_told}
 use Rattle.hack_run.proofs.ToldLemmas.{warned_run}
 use Rattle.hack_run.proofs.execute.search_in_lanes.Goals as goal
@@ -45,11 +47,18 @@ returns-clause-done g c = λ none quiet t.
           (all_passed handed last.term.now last.fault.now (passed_or_told g.L.Caller.tells _ _ plan handed _ _ ran.8) (sym fault_is ∙ broken.0) silent))
       | inr least ↦ subst (λ (l : List Found). All HasLeast l) c.deref.ensures.value least
     ] in
+    let zero = told.4 ∙ ap (λ s. s.refused) made ∙ c.new-starter.ensures.refused in
+    let stops : c.in_ok-plan.ensures.ran.1.starter.keep_going ≡ false = told.10 ∙ ap (λ s. s.keep_going) made in
+    let started = searches_by (λ s. calls s.starter.caller.now) (λ s. (s.starter.refused ≡ 0) × (s.starter.keep_going ≡ false)) searched
+    (λ plan steps handed came a b fine did is whole.
+    let one = trial_stopping g.L.Caller.tells t _ _ plan handed _ _ did.2.8 steps came fine.1 fine.0 is whole in
+    (one.0, (one.1, sym did.2.5 ∙ fine.1)))
+    (zero, stops) (whole_least c.in_ok-plan.found.items least) in
     rw (lanes_is, out_is)
     (searches_one cx c.args.stable c.args.rustup.now course notes now.warn (host_of g.L.Caller g.O.Write c.args.lanes.now c.args.out.now c.args.term.now) (host_of g.L.Caller g.O.Write last.caller.now last.out.now now)
-    (calls mid.caller.now) mid.refused last.refused (ap calls (told.3 ∙ ap (λ s. s.caller.now) made ∙ c.new-starter.ensures.caller.1)) c.in_ok-plan.ensures.ran.2 c.requires.search
+    (calls mid.caller.now) mid.refused last.refused (ap calls (told.3 ∙ ap (λ s. s.caller.now) made ∙ c.new-starter.ensures.caller.1)) c.in_ok-plan.ensures.ran.2 c.requires.apart c.requires.search
     (record { searches = searched.searches; found = c.in_ok-plan.found.items; such = searched.say; steps = refl; end = searched.end; least = λ e. least })
-    (has_performed g.L.Caller.tells _ _ plan handed _ _ ran.8 t) (told.4 ∙ ap (λ s. s.refused) made ∙ c.new-starter.ensures.refused) (unrefused last.refused settled.0)
+    (has_performed g.L.Caller.tells _ _ plan handed _ _ ran.8 t) started.0 (told.4 ∙ ap (λ s. s.refused) made ∙ c.new-starter.ensures.refused) (unrefused last.refused settled.0)
     (warned_later (have_warning notes) c.args.term.now.warn last.term.now.warn now.warn warned stays))
 
 pub returns-clause-made : goal.returns-clause-made
@@ -70,8 +79,8 @@ returns-clause-made g c = λ t.
     let out_is = c.out-2-1.given.1 (sym c.new-starter.ensures.out.0 ∙ ap (λ s. s.out.ghost_name) (sym made) ∙ told.7 ∙ ran.3) in
     rw (lanes_is, out_is)
     (runs_some cx c.args.stable c.args.rustup.now course notes (host_of g.L.Caller g.O.Write c.args.lanes.now c.args.out.now c.args.term.now) (host_of g.L.Caller g.O.Write last.caller.now last.out.now c.settle.new.term)
-    (calls mid.caller.now) mid.refused last.refused (ap calls (told.3 ∙ ap (λ s. s.caller.now) made ∙ c.new-starter.ensures.caller.1)) c.in_ok-plan.ensures.ran.2
-    (handed_search false cx.args course c.requires.search (record { searches = searched.searches; found = c.in_ok-plan.found.items; such = searched.say; steps = refl; end = searched.end; least = λ e. unended e }))
+    (calls mid.caller.now) mid.refused last.refused (ap calls (told.3 ∙ ap (λ s. s.caller.now) made ∙ c.new-starter.ensures.caller.1))
+    (planned_search (IsPlanOf cx.args.subcommand c.args.stable cx c.args.rustup.now) false cx c.args.rustup.now course notes c.requires.apart c.requires.search c.in_ok-plan.ensures.ran.2 (record { searches = searched.searches; found = c.in_ok-plan.found.items; such = searched.say; steps = refl; end = searched.end; least = λ e. unended e }))
     (has_performed g.L.Caller.tells _ _ plan handed _ _ ran.8 t))
 
 pub returns-clause-lanes : goal.returns-clause-lanes
@@ -93,8 +102,7 @@ returns-clause-lanes g c =
     rw lanes_is (record {
       course = course;
       notes = notes;
-      planned = c.in_ok-plan.ensures.ran.2;
-      handed = handed_search false cx.args course c.requires.search (record { searches = searched.searches; found = c.in_ok-plan.found.items; such = searched.say; steps = refl; end = searched.end; least = λ e. unended e });
-      ran = subst (λ (b : Bool). MatchBool b (RunsSerially g.L.Turns.did handed (g.L.Turns.scene c.args.lanes.now) (g.L.Turns.scene last.caller.now)) (RunsAll g.L.Turns.did cx.args.partition plan handed (g.L.Turns.scene c.args.lanes.now) (g.L.Turns.scene last.caller.now))) (sym c.requires.search)
+      planned = planned_search (IsPlanOf cx.args.subcommand c.args.stable cx c.args.rustup.now) false cx c.args.rustup.now course notes c.requires.apart c.requires.search c.in_ok-plan.ensures.ran.2 (record { searches = searched.searches; found = c.in_ok-plan.found.items; such = searched.say; steps = refl; end = searched.end; least = λ e. unended e });
+      ran = subst (λ (b : Bool). MatchBool b (RunsSerially g.L.Turns.did handed (g.L.Turns.scene c.args.lanes.now) (g.L.Turns.scene last.caller.now)) (RunsAll g.L.Turns.did cx.args.partition plan handed (g.L.Turns.scene c.args.lanes.now) (g.L.Turns.scene last.caller.now))) (sym (searched_by cx.args c.requires.apart c.requires.search))
           (subst (λ s. RunsSerially g.L.Turns.did handed s (g.L.Turns.scene last.caller.now)) (ap g.L.Turns.scene (told.3 ∙ ap (λ s. s.caller.now) made ∙ c.new-starter.ensures.caller.1)) searched.whole.1);
     })

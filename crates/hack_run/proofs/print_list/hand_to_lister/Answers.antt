@@ -4,6 +4,7 @@ use Rattle.hack_load.specs.ContextView.{context_view}
 use Rattle.hack_run.specs.Worlds.{HostView}
 use Rattle.hack_run.proofs.RunLemmas.{handed_makes, lists_one}
 use Rattle.hack_session.specs.ListLines.{is_sent}
+use Rattle.hack_run.proofs.StartedLemmas.{all_started}
 use Rattle.hack_session.proofs.StepLemmas.{has_performed, passed_or_told}
 use Rattle.hack_run.proofs.ToldLemmas.{warned_run}
 use Rattle.hack_run.proofs.print_list.hand_to_lister.Goals as goal
@@ -29,7 +30,7 @@ returns-clause-done g c = λ ok none short quiet t.
     let gathered_is = c.gathered-1.given.1 (sym c.gather_on-lines.ensures.gathered.0 ∙ stays.1) in
     rw (gathered_is, sym c.gather_on-lines.ensures.out.1, sym c.gather_on-lines.ensures.gathered.1, sym (ap (λ s. s.caller.now) c.set_manner.ensures ∙ c.new-starter.ensures.caller.1), sym c.as_str-rustup.ensures.value)
     (lists_one before.out after.out _ _ cx c.args.stable _ _ last list (λ s. calls s.caller.now) l.mid.refused last.refused c.args.host.now.term.now last.term.now last.fault.now
-    (ap calls l.told.3) (has_performed g.C.Caller.tells _ _ l.course.plan (filter is_sent l.course.handed) _ _ l.ran.9 t)
+    (ap calls l.told.3) (has_performed g.C.Caller.tells _ _ l.course.plan (filter is_sent l.course.handed) _ _ l.ran.9 t) (λ all. (all_started g.C.Caller.tells t _ _ l.course.plan (filter is_sent l.course.handed) _ _ all l.ran.9).0)
     (passed_or_told g.C.Caller.tells _ _ l.course.plan (filter is_sent l.course.handed) _ _ l.ran.9) (warned_run c.args.host.now.term.now c.set_manner.new.self.term.now l.mid.term.now last.term.now l.notes (ap (λ s. s.term.now) made ∙ c.new-starter.ensures.term.1) l.told.6 (ap (λ s. s.warn) l.ran.7)) (sym fault_is ∙ none) quiet)
 
 pub returns-clause-made : goal.returns-clause-made

@@ -1,0 +1,116 @@
+use Rattle.std.proofs.Common.{◌≡◌, ◌⊎◌, Ok, [], ap, false, inl, inr, length, refl, subst, sym, true, ◌∙◌}
+use Rattle.std.specs.Prelude.{All, Bool, List, MatchBool, None, Result}
+use Rattle.hack_plan.specs.Commands.{slots_in}
+use Rattle.hack_culprits.specs.Built.{steps_from}
+use Rattle.hack_culprits.specs.declared.fault.CulpritsFault.{CulpritsFault}
+use Rattle.hack_hunt.specs.Hunts.{AreHunted, came_of, spots_of}
+use Rattle.hack_hunt.specs.declared.hunt.Hunted.{Hunted}
+use Rattle.hack_session.specs.Histories.{Course, HasPassed}
+use Rattle.hack_term.specs.declared.term.Term.{Term}
+use Rattle.hack_load.specs.ContextView.{context_view}
+use Rattle.hack_planner.specs.CallPlan.{IsPlanOf}
+use Rattle.hack_side.specs.Turns.{RunsAll, RunsSerially}
+use Rattle.hack_run.specs.Handed.{HasNoConflict, IsHuntedOut}
+use Rattle.hack_run.specs.Warnings.{have_warning}
+use Rattle.hack_run.specs.Worlds.{host_of}
+use Rattle.hack_run.proofs.FindingLemmas.{not_cut, warned_later}
+use Rattle.hack_run.proofs.RunLemmas.{all_passed, hunted, hunts_one, planned_hunt, runs_some, unrefused}
+use Rattle.hack_run.proofs.TraceLemmas.{unended}
+use Rattle.hack_run.proofs.StartedLemmas.{builds_by, trial_stopping, whole_hunts}
+use Rattle.hack_session.proofs.StepLemmas.{has_performed, passed_or_told}
+use Rattle.hack_run.proofs.ToldLemmas.{warned_run}
+use Rattle.hack_run.proofs.conflict_search.hunt_in_lanes.Goals as goal
+
+pub returns-clause-done : goal.returns-clause-done
+returns-clause-done g c = λ none quiet t stable.
+    let cx = context_view c.args.cx.now in
+    let hunt = c.in_ok-hunt.hunt in
+    let course-of = c.in_ok-hunt.ensures.ran in
+    let notes = course-of.0 in
+    let mid = course-of.1.starter in
+    let start = course-of.3 in
+    let told = course-of.5 in
+    let hunts = course-of.6 in
+    let handed = steps_from (length start.entries) hunts.built in
+    let course : Course = record { plan = hunt.plan; schedule = []; handed = handed; keep_going = false } in
+    let last = c.hunt_context.new.runner.starter in
+    let made = c.set_manner.ensures in
+    let ran = hunts.whole.2 in
+    let calls = g.L.Caller.calls in
+    let lanes_is = c.lanes-2-1.given.1 (sym c.new-starter.ensures.caller.0 ∙ ap (λ s. s.caller.ghost_name) (sym made) ∙ told.0 ∙ ran.0) in
+    let out_is = c.out-2-1.given.1 (sym c.new-starter.ensures.out.0 ∙ ap (λ s. s.out.ghost_name) (sym made) ∙ told.7 ∙ ran.3) in
+    let term_is = c.term-2-1.given.1 (sym c.new-starter.ensures.term.0 ∙ ap (λ s. s.term.ghost_name) (sym made) ∙ told.1 ∙ ran.1) in
+    let fault_is = c.fault-2-1.given.1 (sym c.new-starter.ensures.fault.0 ∙ ap (λ s. s.fault.ghost_name) (sym made) ∙ told.2 ∙ ran.2) in
+    let now = c.settle.new.term in
+    let settled = c.settle.ensures.ends none quiet in
+    let silent = subst (λ (term : Term). term.error ≡ false) term_is (c.settle.ensures.error quiet) in
+    let stays = subst (λ (term : Term). now.warn ≡ false → term.warn ≡ false) term_is c.settle.ensures.warn in
+    let warned = warned_run c.args.term.now c.set_manner.new.self.term.now mid.term.now last.term.now notes (ap (λ s. s.term.now) made ∙ c.new-starter.ensures.term.1) told.6 (ap (λ s. s.warn) ran.7) in
+    let found : (found : List Hunted) × (came_of hunt.found ≡ Ok found) × All HasNoConflict found = elim settled.1 [
+      | inl broken ↦ absurd (not_cut (length start.entries) (came_of hunt.found) hunts.hunts.left hunts.hunts.hunted hunts.built hunts.hunts.end broken.1
+          (all_passed handed last.term.now last.fault.now (passed_or_told g.L.Caller.tells _ _ hunt.plan handed _ _ ran.8) (sym fault_is ∙ broken.0) silent))
+      | inr one ↦ one
+    ] in
+    let zero = told.4 ∙ ap (λ s. s.refused) made ∙ c.new-starter.ensures.refused in
+    let stops : course-of.1.starter.keep_going ≡ false = told.10 ∙ ap (λ s. s.keep_going) made in
+    let whole = whole_hunts cx cx.args.most_runs _ found.0 hunts.built start hunt.plan (subst (λ (came : Result (List Hunted) CulpritsFault). AreHunted cx cx.args.most_runs (spots_of course-of.2 (slots_in start.call None)) came hunts.built start hunt.plan) found.1 hunts.hunts) in
+    let started = builds_by (λ s. calls s.starter.caller.now) (λ s. (s.starter.refused ≡ 0) × (s.starter.keep_going ≡ false)) hunts
+    (λ plan steps handed came a b fine did is whole.
+    let one = trial_stopping g.L.Caller.tells t _ _ plan handed _ _ did.2.8 steps came fine.1 fine.0 is whole in
+    (one.0, (one.1, sym did.2.5 ∙ fine.1)))
+    (zero, stops) whole in
+    rw (lanes_is, out_is)
+    (hunts_one cx stable c.args.rustup.now course notes now.warn (host_of g.L.Caller g.O.Write c.args.lanes.now c.args.out.now c.args.term.now) (host_of g.L.Caller g.O.Write last.caller.now last.out.now now)
+    (calls mid.caller.now) mid.refused last.refused (ap calls (told.3 ∙ ap (λ s. s.caller.now) made ∙ c.new-starter.ensures.caller.1)) c.requires
+    (record { ids = course-of.2; start = start; begun = course-of.4; came = came_of hunt.found; built = hunts.built; hunts = hunts.hunts; steps = refl; found = λ e. found })
+    (has_performed g.L.Caller.tells _ _ hunt.plan handed _ _ ran.8 t) started.0 (told.4 ∙ ap (λ s. s.refused) made ∙ c.new-starter.ensures.refused) (unrefused last.refused settled.0)
+    (warned_later (have_warning notes) c.args.term.now.warn last.term.now.warn now.warn warned stays))
+
+pub returns-clause-made : goal.returns-clause-made
+returns-clause-made g c = λ t stable.
+    let cx = context_view c.args.cx.now in
+    let hunt = c.in_ok-hunt.hunt in
+    let course-of = c.in_ok-hunt.ensures.ran in
+    let notes = course-of.0 in
+    let mid = course-of.1.starter in
+    let start = course-of.3 in
+    let told = course-of.5 in
+    let hunts = course-of.6 in
+    let handed = steps_from (length start.entries) hunts.built in
+    let course : Course = record { plan = hunt.plan; schedule = []; handed = handed; keep_going = false } in
+    let last = c.hunt_context.new.runner.starter in
+    let made = c.set_manner.ensures in
+    let ran = hunts.whole.2 in
+    let calls = g.L.Caller.calls in
+    let lanes_is = c.lanes-2-1.given.1 (sym c.new-starter.ensures.caller.0 ∙ ap (λ s. s.caller.ghost_name) (sym made) ∙ told.0 ∙ ran.0) in
+    let out_is = c.out-2-1.given.1 (sym c.new-starter.ensures.out.0 ∙ ap (λ s. s.out.ghost_name) (sym made) ∙ told.7 ∙ ran.3) in
+    rw (lanes_is, out_is)
+    (runs_some cx stable c.args.rustup.now course notes (host_of g.L.Caller g.O.Write c.args.lanes.now c.args.out.now c.args.term.now) (host_of g.L.Caller g.O.Write last.caller.now last.out.now c.settle.new.term)
+    (calls mid.caller.now) mid.refused last.refused (ap calls (told.3 ∙ ap (λ s. s.caller.now) made ∙ c.new-starter.ensures.caller.1))
+    (planned_hunt (IsPlanOf cx.args.subcommand stable cx c.args.rustup.now) false cx c.args.rustup.now course notes c.requires
+    (record { ids = course-of.2; start = start; begun = course-of.4; came = came_of hunt.found; built = hunts.built; hunts = hunts.hunts; steps = refl; found = λ e. unended e }))
+    (has_performed g.L.Caller.tells _ _ hunt.plan handed _ _ ran.8 t))
+
+pub returns-clause-lanes : goal.returns-clause-lanes
+returns-clause-lanes g c = λ stable.
+    let cx = context_view c.args.cx.now in
+    let hunt = c.in_ok-hunt.hunt in
+    let course-of = c.in_ok-hunt.ensures.ran in
+    let notes = course-of.0 in
+    let start = course-of.3 in
+    let told = course-of.5 in
+    let hunts = course-of.6 in
+    let handed = steps_from (length start.entries) hunts.built in
+    let course : Course = record { plan = hunt.plan; schedule = []; handed = handed; keep_going = false } in
+    let last = c.hunt_context.new.runner.starter in
+    let made = c.set_manner.ensures in
+    let ran = hunts.whole.2 in
+    let lanes_is = c.lanes-2-1.given.1 (sym c.new-starter.ensures.caller.0 ∙ ap (λ s. s.caller.ghost_name) (sym made) ∙ told.0 ∙ ran.0) in
+    rw lanes_is (record {
+      course = course;
+      notes = notes;
+      planned = planned_hunt (IsPlanOf cx.args.subcommand stable cx c.args.rustup.now) false cx c.args.rustup.now course notes c.requires
+          (record { ids = course-of.2; start = start; begun = course-of.4; came = came_of hunt.found; built = hunts.built; hunts = hunts.hunts; steps = refl; found = λ e. unended e });
+      ran = subst (λ (b : Bool). MatchBool b (RunsSerially g.L.Turns.did handed (g.L.Turns.scene c.args.lanes.now) (g.L.Turns.scene last.caller.now)) (RunsAll g.L.Turns.did cx.args.partition hunt.plan handed (g.L.Turns.scene c.args.lanes.now) (g.L.Turns.scene last.caller.now))) (sym (hunted cx.args c.requires))
+          (subst (λ s. RunsSerially g.L.Turns.did handed s (g.L.Turns.scene last.caller.now)) (ap g.L.Turns.scene (told.3 ∙ ap (λ s. s.caller.now) made ∙ c.new-starter.ensures.caller.1)) hunts.whole.1);
+    })
