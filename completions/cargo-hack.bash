@@ -10,7 +10,7 @@ _cargo_hack_subcommands() {
 
 # Completes a call whose arguments begin at word $1.
 _cargo_hack_arguments() {
-    local with_value=' -p --package --exclude --manifest-path -F --features --skip --exclude-features --depth --group-features --target --mutually-exclusive-features --allow-together --at-least-one-of --include-features --version-range --version-step --partition --partition-kind --log-group --color --strength --parallel '
+    local with_value=' -p --package --exclude --manifest-path -F --features --skip --exclude-features --depth --group-features --target --mutually-exclusive-features --allow-together --at-least-one-of --include-features --version-range --version-step --partition --partition-kind --log-group --color --strength --parallel --most-runs '
     local words=() it word option= subcommand= glued= offered
     # `--color=never` comes as three words where `=` is among the word breaks. Here it is one.
     for it in "${COMP_WORDS[@]:$1:COMP_CWORD-$1+1}"; do
@@ -43,7 +43,7 @@ _cargo_hack_arguments() {
 
     case $option in
         '')
-            offered="-p -F -v -h -V --package --all --workspace --exclude --manifest-path --locked --features --each-feature --feature-powerset --optional-deps --skip --exclude-features --exclude-no-default-features --exclude-all-features --depth --group-features --target --mutually-exclusive-features --allow-together --at-least-one-of --include-features --no-dev-deps --remove-dev-deps --no-private --ignore-private --ignore-unknown-features --rust-version --version-range --version-step --clean-per-run --clean-per-version --keep-going --partition --partition-kind --log-group --workspace-behavior=cargo --print-command-list --no-manifest-path --verbose --color --help --version --no-default-features --all-features --include-deps-features --strength --restore --package-rules --parallel --find-rust-version"
+            offered="-p -F -v -h -V --package --all --workspace --exclude --manifest-path --locked --features --each-feature --feature-powerset --optional-deps --skip --exclude-features --exclude-no-default-features --exclude-all-features --depth --group-features --target --mutually-exclusive-features --allow-together --at-least-one-of --include-features --no-dev-deps --remove-dev-deps --no-private --ignore-private --ignore-unknown-features --rust-version --version-range --version-step --clean-per-run --clean-per-version --keep-going --partition --partition-kind --log-group --workspace-behavior=cargo --print-command-list --no-manifest-path --verbose --color --help --version --no-default-features --all-features --include-deps-features --strength --restore --package-rules --parallel --find-rust-version --find-conflicts --most-runs"
             [[ $subcommand || $word == -* ]] || offered+=" $(_cargo_hack_subcommands)"
             mapfile -t COMPREPLY < <(compgen -W "$offered" -- "$word") ;;
         --manifest-path)

@@ -22,7 +22,7 @@ function __cargo_hack_wants_subcommand
     for it in $words
         if test $is_value = 1
             set is_value 0
-        else if contains -- $it -p --package --exclude --manifest-path -F --features --skip --exclude-features --depth --group-features --target --mutually-exclusive-features --allow-together --at-least-one-of --include-features --version-range --version-step --partition --partition-kind --log-group --color --strength --parallel
+        else if contains -- $it -p --package --exclude --manifest-path -F --features --skip --exclude-features --depth --group-features --target --mutually-exclusive-features --allow-together --at-least-one-of --include-features --version-range --version-step --partition --partition-kind --log-group --color --strength --parallel --most-runs
             set is_value 1
         else if not string match -q -- '-*' $it
             return 1
@@ -89,3 +89,5 @@ complete -c cargo -c cargo-hack -n __cargo_hack_arguments -l restore -d 'Bring b
 complete -c cargo -c cargo-hack -n __cargo_hack_arguments -l package-rules -d 'Run each package also by the rules that its manifest and the workspace\'s have'
 complete -c cargo -c cargo-hack -n __cargo_hack_arguments -l parallel -x -d 'Run up to NUM commands at once, from 1 to 256, in the order and with the outcomes of one by one'
 complete -c cargo -c cargo-hack -n __cargo_hack_arguments -l find-rust-version -d 'Find the least version of Rust on which all runs of a package pass, by few runs'
+complete -c cargo -c cargo-hack -n __cargo_hack_arguments -l find-conflicts -d 'Find the least sets of features that fail, and how many greatest ones pass, by few runs of the powerset'
+complete -c cargo -c cargo-hack -n __cargo_hack_arguments -l most-runs -x -d 'Run at most NUM sets to find conflicts, of all packages together'

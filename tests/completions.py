@@ -56,6 +56,7 @@ ROWS = [
     # Other values: nothing.
     *((f"cargo hack {it} *", f"hack {it}") for it in ("-p", "--package", "--exclude", "-F", "--features", "--depth", "--skip")),
     *((f"cargo hack {it} *", f"hack {it}") for it in ("--target", "--version-range", "--strength", "--partition", "--parallel")),
+    ("cargo hack --most-runs *", "hack --most-runs"),
     ("cargo hack --package b*", "hack --package b"),
     ("cargo hack --features=b*", "hack --features=b"),
     # Subcommands: behind options, and none behind another one.
@@ -69,6 +70,8 @@ ROWS = [
     # Options.
     ("cargo hack --stren*", "hack --strength"),
     ("cargo hack check --restor*", "hack check --restore"),
+    ("cargo hack --find-*", "hack --find-conflicts --find-rust-version"),
+    ("cargo hack check --most*", "hack check --most-runs"),
     ("cargo hack --each*", "hack --each-feature"),
     ("cargo hack test -- --each*", "hack test -- --each"),
     # With a toolchain, and by the program's own name.

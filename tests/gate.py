@@ -30,6 +30,7 @@ SCRIPTS = [
     ["tests/whole_calls.py", built("cargo_hack_program"), built("stand_cargo"), built("stand_rustup")],
     ["tests/parallel_runs.py", built("cargo_hack_program")],
     ["tests/version_search.py", built("cargo_hack_program"), "--cases", "50"],
+    ["tests/conflict_search.py", built("cargo_hack_program"), "--cases", "40"],
     ["tests/dist_archive.py", built("cargo_hack_program"), built("powerset_list")],
     ["tests/real_cargo.py", built("cargo_hack_program")],
     ["tests/refused_memory.py", "--every", "5", built("cargo_hack_program"), built("powerset_list")],

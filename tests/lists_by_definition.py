@@ -429,11 +429,9 @@ def pool(workspace, package):
     return normal, optional, deps
 
 
-def runs_of(workspace, asked, package, sample):
-    """The runs of a package: `plain`, `all`, `none`, or a set. `sample` picks of the listed sets those of the package's
-    sample."""
+def choice_of(workspace, asked, package, rules):
+    """What the sets of a package are chosen from, and the text of each candidate."""
     normal, optional, deps = pool(workspace, package)
-    rules = Rules(workspace, asked, package)
     singles = asked.include
     if not singles:
         singles = normal + [it for it in optional if rules.asks_for(it)]
@@ -447,19 +445,27 @@ def runs_of(workspace, asked, package, sample):
             for group in rules.groups
             if not asked.has("--ignore-unknown-features") or all(name in known for name in group)
         ]
+    names = [names for _, names in candidates]
+    return Choice(package["record"], names, rules.depth, rules.required, rules.exclusive), [text for text, _ in candidates]
+
+
+def runs_of(workspace, asked, package, sample):
+    """The runs of a package: `plain`, `all`, `none`, or a set. `sample` picks of the listed sets those of the package's
+    sample."""
+    normal, optional, _ = pool(workspace, package)
+    rules = Rules(workspace, asked, package)
+    choice, texts = choice_of(workspace, asked, package, rules)
 
     def with_texts(sets):
-        return [Set(it, [candidates[place][0] for place in it]) for it in sets]
+        return [Set(it, [texts[place] for place in it]) for it in sets]
 
     if asked.has("--feature-powerset"):
-        names = [names for _, names in candidates]
-        choice = Choice(package["record"], names, rules.depth, rules.required, rules.exclusive)
         sets = with_texts(choice.listed())
         if rules.strength is not None:
             sets = sample(choice, sets, rules.strength)
         keeps_all = bool(optional) and not (rules.asks_for_all() and rules.depth is None)
     elif asked.has("--each-feature"):
-        sets = with_texts((place,) for place in range(len(candidates)))
+        sets = with_texts((place,) for place in range(len(texts)))
         keeps_all = bool(optional) or len(normal) > 1
     else:
         return ["plain"]

@@ -165,6 +165,8 @@ def held(folder):
 
 
 RUN_FAULT = re.compile(r"error: (process didn't exit successfully|could not execute process)")
+# What a search for conflicts reports of a package.
+FOUND = re.compile(r"\w+: in \S+( for \S+)? (these features fail|each .*allowed set|\d+ sets passed|the search isn't complete)")
 
 
 def end_fault(status, err, may_warn):
@@ -175,13 +177,16 @@ def end_fault(status, err, may_warn):
         return f"status {status}"
     text = re.sub(r"\x1b\[[0-9;]*m", "", err.decode(errors="replace"))
     told = [it for it in text.split("\n") if re.match("(error|warning|info): ", it)]
+    is_warned = may_warn and any(it.startswith("warning: ") for it in told)
+    has_found = any(FOUND.match(it) and it.startswith("error: ") for it in told)
+    told = [it for it in told if not FOUND.match(it)]
     errors = [it for it in told if it.startswith("error: ")]
     if "error: out of memory" in errors:
         return "out of memory"
     if status == 0:
-        return "status 0 with an error" if errors else None
+        return "status 0 with an error" if errors or has_found else None
     if not errors:
-        return None if may_warn and any(it.startswith("warning: ") for it in told) else "status 1 without an error"
+        return None if is_warned or has_found else "status 1 without an error"
     report = re.fullmatch(r"error: failed to run (\d+) commands", errors[-1])
     behind = told[len(told) - told[::-1].index(errors[-1]):]
     # Manifests come back after the report, and before any other error.

@@ -10,7 +10,7 @@ FLAGS = [
     "--ignore-private", "--ignore-unknown-features", "--rust-version", "--clean-per-run", "--clean-per-version",
     "--keep-going", "--no-manifest-path", "--locked", "-v", "--verbose", "--all-features", "--no-default-features",
     "--print-command-list", "--workspace-behavior=cargo", "--workspace-behavior", "--tests", "--test=x",
-    "--all-targets", "--package-rules",
+    "--all-targets", "--package-rules", "--find-conflicts",
     "-vvv", "-nq", "-n=3", "-j4", "-ab=c", "-vh", "-qF", "-p", "-F", "-h", "--help", "-V", "--version", "--list",
     "--each-features", "--no-dev-dep", "--include-dep-features", "--skip-no-default-features",
     "--ignore-non-exist-features",
@@ -39,6 +39,7 @@ VALUED = {
                     "+1/+2"],
     "--partition-kind": ["block", "turn", "", "x"],
     "--strength": ["0", "1", "2", "x", "", "18446744073709551615", "18446744073709551616"],
+    "--most-runs": ["0", "1", "3", "x", "", "18446744073709551615", "18446744073709551616"],
     "--log-group": ["none", "github-actions", "x", ""],
     "--color": ["never", "always", "auto", "x", ""],
     "--target": ["b", "a", "", "a,b"],
@@ -99,6 +100,8 @@ def edit_words(rng):
         words.append(rng.choice(["--each-feature", "--feature-powerset"]))
     if rng.random() < 0.3:
         words.append("--print-command-list")
+    elif words[-1] == "--feature-powerset" and rng.random() < 0.5:
+        words.append("--find-conflicts")
     return ["hack"] + ["check"] * ("--remove-dev-deps" not in words or rng.random() < 0.7) + words
 
 

@@ -2,7 +2,8 @@
 """Runs `cargo hack` with the machine's own cargo on a copy of examples/workspace, and compares commands, status, status
 lines and report with what is written here; calls that edit manifests have to leave every file as it was, byte for byte.
 
-Searches for the least version run the one cargo as each version, through a script in place of rustup that fails old ones.
+Searches for the least version run the one cargo as each version, through a script in place of rustup that fails old ones;
+those for conflicts have to find the two pairs of features that don't build together.
 
 In repositories, `cargo package` under `--no-dev-deps` has to pack the bytes that it packs alone from manifests without
 development dependencies, and a call that is interrupted while cargo compiles has to leave all as it was within a second.
@@ -303,6 +304,51 @@ def search_fault(program, temporary, words, status, wanted):
         return changes(before, held(folder)) or difference(wanted, lines)
 
 
+# ---- Searches for conflicts.
+
+CONFLICTS = ["check", "--feature-powerset", "--find-conflicts"]
+TOGETHER = "error: in codec these features fail together, and no part of them that may be chosen fails:"
+OTHERS = "info: in codec each other allowed set lies inside one of 4 sets that passed"
+
+# What is asked, the features of the library's runs in order, the runs behind them, and the report.
+PAIRS = {
+    "conflicts of the library": (
+        CONFLICTS + ["--package", "codec"],
+        # All of them fail, and are made smaller; then all but one of the first conflict are, and these are tried in pairs.
+        ["binary,compact,default,trace", "", "default,trace", "compact,default,trace", "compact", "compact,json,trace",
+         "compact,trace", "binary,default,trace", "binary", "binary,json,trace", "binary,trace", "binary,json", "compact,default",
+         "binary,compact"],
+        [],
+        [TOGETHER, "    binary,json", "    compact,trace", OTHERS],
+    ),
+    "conflicts by its rules, and those of the tool": (
+        CONFLICTS + ["--workspace", "--package-rules"],
+        ["compact,json,trace", "", "json,trace", "compact", "compact,trace", "compact,json", "binary,trace", "binary,compact"],
+        ["info: running `cargo check --all-features` on tool (9)"],
+        [TOGETHER, "    compact,trace", OTHERS, "info: in tool each allowed set lies inside one of 1 sets that passed"],
+    ),
+    "as many runs as are allowed": (
+        CONFLICTS + ["--package", "codec", "--package-rules", "--most-runs", "5", "--no-dev-deps"],
+        ["compact,json,trace", "", "json,trace", "compact", "compact,trace"],
+        [],
+        [TOGETHER, "    compact,trace", "info: in codec 2 sets passed so far",
+         "warning: in codec the search isn't complete, since --most-runs ended it: other sets may fail"],
+    ),
+}
+
+
+def conflicts_fault(program, folder, words, sets, more, report):
+    """What is wrong with a search that finds conflicts, if something is."""
+    before = held(folder)
+    done = call(program, folder, words)
+    if done.returncode != 1:
+        return f"status {done.returncode}"
+    wanted = [it.rsplit("/", 1)[0] + ")" for it in lines(0, [(it, "codec") for it in sets])] + more
+    told = [it for it in done.stderr.splitlines() if it.startswith("info: running ")]
+    last = done.stderr.splitlines()[-len(report):]
+    return changes(before, held(folder)) or difference(wanted, told) or difference(report, last)
+
+
 # ---- In repositories.
 
 DEV = '\n[dev-dependencies]\n{0} = {{ path = "{1}" }}\n'
@@ -426,7 +472,7 @@ def main():
         "a package at the top of a repository": lambda folder: package_fault(program, folder, True),
         "a call that is interrupted": lambda folder: interrupted_fault(program, folder),
     }
-    checks, skipped = len(CALLS) + len(EDITS) + len(SEARCHES) + len(in_repositories) + 4, 0
+    checks, skipped = len(CALLS) + len(EDITS) + len(SEARCHES) + len(PAIRS) + len(in_repositories) + 4, 0
     heed_signals()
     if not has_cargo():
         print(f"no cargo and rustc that answer here: {checks} calls skipped")
@@ -454,6 +500,8 @@ def main():
             tell(name, edit_fault(program, folder, words, status, wanted))
         for name, row in SEARCHES.items():
             tell(name, search_fault(program, temporary, *row))
+        for name, row in PAIRS.items():
+            tell(name, conflicts_fault(program, folder, *row))
         sampled = call(program, folder, SAMPLE)
         tell("a sample", difference(SUSPECTS, sampled.stderr.splitlines()[-len(SUSPECTS):]))
         listed = call(program, folder, SETS + ["--print-command-list"])

@@ -84,6 +84,9 @@ CALLS = {
     "development dependencies left out": ["check", "--each-feature", "--workspace", "--no-dev-deps", "--keep-going", "-v"],
     "private members left out": ["check", "--workspace", "--no-private"],
     "a search for the least version": ["check", "-p", "p", "--find-rust-version", "--version-range", "1.60..=1.63"],
+    "a search for conflicts": ["check", "--workspace", "--feature-powerset", "--find-conflicts", "--exclude-features", "a"],
+    "one that finds none": ["check", "--workspace", "--feature-powerset", "--find-conflicts", "-v"]
+    + ["--exclude-features", "b", "--mutually-exclusive-features", "a,c"],
 }
 
 # Tables of rules in the manifests, the first with names that no package has.

@@ -69,9 +69,7 @@ class Tools:
         line of the shell instead, which is run."""
         for tool in ("cargo", "rustup"):
             write(f"{self.folder}/{tool}", self.text, 0o755)
-        does = [f"{number}:*) {what};;" for number, what in fails.numbers.items()]
-        does += [f"*:{shlex.quote(line)}) exit 101;;" for line in sorted(fails.lines)]
-        write(f"{self.folder}/fails", "\n".join(['case "$n:$*" in', *does, "esac", "exit 0", ""]))
+        write(f"{self.folder}/fails", "\n".join(['case "$n:$*" in', *fails.cases(), "esac", "exit 0", ""]))
         write(f"{self.folder}/number", "0\n")
         write(f"{self.folder}/calls", "")
         variables = {"PATH": os.environ["PATH"], "CARGO": f"{self.folder}/cargo", "CARGO_HACK_RUSTUP": f"{self.folder}/rustup"}
@@ -91,6 +89,11 @@ class Fails:
     def behind(self, count):
         """The same, where the numbers begin behind so many commands."""
         return Fails(self.lines, {number + count: what for number, what in self.numbers.items()})
+
+    def cases(self):
+        """What the script does at a command's number and arguments."""
+        does = [f"{number}:*) {what};;" for number, what in self.numbers.items()]
+        return does + [f"*:{shlex.quote(line)}) exit 101;;" for line in sorted(self.lines)]
 
     def has(self, number, line):
         return number in self.numbers or line in self.lines
@@ -319,7 +322,7 @@ def readable(what):
 # ---- Calls whose trials and last lines are written here.
 
 VALUED = ("--version-range", "--version-step", "--target", "--depth", "--features", "--exclude-features", "--package",
-          "--exclude")
+          "--exclude", "--include-features", "--group-features", "--mutually-exclusive-features", "--at-least-one-of")
 
 
 def uses_of(text):

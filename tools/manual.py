@@ -71,6 +71,28 @@ HIDDEN = [
             " --keep-going, --workspace-behavior=cargo or --parallel flag.",
         ],
     ),
+    (
+        "--find-conflicts",
+        [
+            "Find the least sets of features that fail, and how many greatest ones pass, by few runs of the powerset.",
+            "First all features are on, and then each run is chosen by those before. A set that fails is made smaller, until no"
+            " allowed part of it fails: it is a conflict. No set is run that holds a failed one, or lies inside one that passed."
+            " The sets are of any size: with --package-rules no depth and no strength counts.",
+            "At the end an error names the conflicts of each package, and a line says how many greatest sets passed, with --verbose"
+            " also which. Each other allowed set lies inside one of these.",
+            "This flag can only be used together with --feature-powerset flag, and not with --depth, --strength, --partition,"
+            " --print-command-list, --version-range, --rust-version or --parallel flag.",
+        ],
+    ),
+    (
+        "--most-runs <NUM>",
+        [
+            "Run at most NUM sets to find conflicts, of all packages together.",
+            "A search that needs more ends there: it warns, and says what it knows so far. A set that failed, and would have been"
+            " made smaller, is an error.",
+            "This flag can only be used together with --find-conflicts flag.",
+        ],
+    ),
 ]
 
 # What the help leaves out of an option's paragraphs.
@@ -218,6 +240,7 @@ def cargo_hack_page(found):
             ("\\fBcargo hack test \\-\\-feature\\-powerset \\-\\-depth 2\\fP", ["Test each set of at most two features."]),
             ("\\fBcargo hack check \\-\\-version\\-range 1.60..\\fP", ["Check with each minor version of Rust from 1.60 on."]),
             ("\\fBcargo hack check \\-\\-feature\\-powerset \\-\\-partition 1/4\\fP", ["Run the first of four pieces."]),
+            ("\\fBcargo hack check \\-\\-feature\\-powerset \\-\\-find\\-conflicts\\fP", ["Find features that don't build together."]),
         ])),
         ("SEE ALSO", ["\\fBcargo\\fP(1), \\fBpowerset\\-list\\fP(1)"]),
     ])

@@ -88,7 +88,7 @@ fn options_by_name(rt: HostRuntime) -> Result<(), Wrong> {
         rt.alloc(),
         "
             > all by name
-            | 50
+            | 52
             > long:
             | none
             > long: al
@@ -175,6 +175,10 @@ fn rows(rt: HostRuntime) -> Result<(), Wrong> {
             | Parallel parallel Value once
             > row: find-rust-version
             | FindRustVersion find-rust-version Flag once
+            > row: find-conflicts
+            | FindConflicts find-conflicts Flag once
+            > row: most-runs
+            | MostRuns most-runs Value once
             > row: workspace-behavior
             | WorkspaceBehavior workspace-behavior Refused often
             > row: help
@@ -212,8 +216,12 @@ fn options_in_messages(rt: HostRuntime) -> Result<(), Wrong> {
 | --parallel|--parallel|no
 > find-rust-version
 | --find-rust-version|--find-rust-version|no
+> find-conflicts
+| --find-conflicts|--find-conflicts|no
+> most-runs
+| --most-runs|--most-runs|no
 ",
-        "0 of 11 are wrong",
+        "0 of 13 are wrong",
     )
 }
 

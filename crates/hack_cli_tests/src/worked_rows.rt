@@ -356,6 +356,23 @@ const LATE: &str = r"[words] There is a subcommand, or a list is asked for.
 | --find-rust-version can only be used together with --version-range
 > hack check --version-range 1.60.. --find-rust-version --keep-going
 | --find-rust-version may not be used together with --keep-going
+> hack check --version-range 1.60.. --feature-powerset --find-rust-version --find-conflicts
+| --find-rust-version may not be used together with --find-conflicts
+[words] Conflicts.
+> hack check --feature-powerset --find-conflicts --most-runs 20 --keep-going
+| args
+> hack check --each-feature --find-conflicts
+| --find-conflicts can only be used together with --feature-powerset
+> hack check --feature-powerset --find-conflicts --depth 2
+| --find-conflicts may not be used together with --depth
+> hack check --feature-powerset --find-conflicts --parallel 2
+| --find-conflicts may not be used together with --parallel
+> hack check --feature-powerset --most-runs 20
+| --most-runs can only be used together with --find-conflicts
+> hack check --feature-powerset --find-conflicts --most-runs x
+| invalid number `x`
+> hack check --feature-powerset --find-conflicts --most-runs 0
+| --most-runs cannot be zero
 [words] Notices.
 > hack check --each-feature --ignore-unknown-features --include-features a
 | args
@@ -367,5 +384,5 @@ const LATE: &str = r"[words] There is a subcommand, or a list is asked for.
 
 #[test]
 fn rules_behind_the_subcommand(rt: HostRuntime) -> Result<(), Wrong> {
-    checked(rt.alloc(), LATE, "0 of 45 are wrong")
+    checked(rt.alloc(), LATE, "0 of 53 are wrong")
 }

@@ -1,6 +1,7 @@
 //! The tests, each beside what answers its questions, and what they share.
 
 mod asked;
+mod conflicts;
 mod edits;
 mod failing;
 mod faults;

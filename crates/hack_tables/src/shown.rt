@@ -139,6 +139,9 @@ fn show_numbers(alloc: Global, fields: &mut Fields, args: &Args) -> Result<(), A
     if let Some(parallel) = args.parallel {
         fields.text("parallel", format!(in alloc; "{parallel}")?.as_str())?;
     }
+    if let Some(most) = args.most_runs {
+        fields.text("most_runs", format!(in alloc; "{most}")?.as_str())?;
+    }
     if let Some(piece) = args.partition {
         let text = format!(in alloc; "{}/{}", piece.piece, piece.count)?;
         fields.text("partition", text.as_str())?;
@@ -179,6 +182,7 @@ fn show_flags(fields: &mut Fields, args: &Args) -> Result<(), AllocError> {
         (args.restore, "restore"),
         (args.package_rules, "package_rules"),
         (args.find_rust_version, "find_rust_version"),
+        (args.find_conflicts, "find_conflicts"),
         (args.no_private, "no_private"),
         (args.ignore_private, "ignore_private"),
         (args.ignore_unknown_features, "ignore_unknown_features"),

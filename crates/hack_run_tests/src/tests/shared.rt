@@ -3,7 +3,7 @@
 
 use std::alloc::{AllocError, Global};
 
-static SHARED: [(&str, &str); 18] = [
+static SHARED: [(&str, &str); 20] = [
     // Arguments.
     (
         "+ no subcommand",
@@ -61,6 +61,16 @@ file: /w/p/Cargo.toml
 | [package]
 file: /w/q/Cargo.toml
 | [package]",
+    ),
+    (
+        "+ twenty features",
+        r#"members p /w/Cargo.toml
+features a b c d e f g h i j k l m n o p q r s t
+file: /w/Cargo.toml
+| [package]
+| name = "p"
+| [features]
++ features"#,
     ),
     // Preparations of toolchains.
     (
@@ -120,6 +130,25 @@ file: /w/q/Cargo.toml
 | info: running `cargo check --all-features` on p (1/3)
 |
 | info: running `cargo check --no-default-features --features a` on p (2/3)",
+    ),
+    (
+        "+ search for a,b",
+        "| asked
+| cargo check --manifest-path Cargo.toml --no-default-features --features a,b
+| cargo check --manifest-path Cargo.toml --no-default-features
+| cargo check --manifest-path Cargo.toml --no-default-features --features b
+| cargo check --manifest-path Cargo.toml --no-default-features --features a
+| err
+| info: running `cargo check --no-default-features --features a,b` on p (1)
+|
+| info: running `cargo check --no-default-features` on p (2)
+|
+| info: running `cargo check --no-default-features --features b` on p (3)
+|
+| info: running `cargo check --no-default-features --features a` on p (4)
+| error: in p these features fail together, and no part of them that may be chosen fails:
+|     a,b
+| info: in p each other allowed set lies inside one of 2 sets that passed",
     ),
     (
         "+ report of a",

@@ -67,6 +67,23 @@ fn push_errors(text: &mut String, alloc: Global, bytes: &[u8]) -> Result<(), All
     Ok(())
 }
 
+/// How many calls were made after the questions.
+fn push_count(text: &mut String, alloc: Global, caller: &FakeCaller) -> Result<(), AllocError> {
+    let count = caller.made().len().saturating_sub(ASKED.lines().count());
+    text.push_str(format!(in alloc; "{count} runs\n")?.as_str())
+}
+
+/// The lines but for those on runs.
+fn push_report(text: &mut String, alloc: Global, bytes: &[u8]) -> Result<(), AllocError> {
+    let written = String::from_utf8_lossy(alloc, bytes)?;
+    for line in written.as_str().lines() {
+        if !line.is_empty() && !line.starts_with("info: running ") {
+            push_all(text, &[line, "\n"])?;
+        }
+    }
+    Ok(())
+}
+
 /// Whether the last change of a path left it as this step did.
 fn is_back(steps: &[Step], first: &Step) -> bool {
     let mut is_back = false;
@@ -88,8 +105,9 @@ fn push_left(text: &mut String, steps: &[Step], first: usize) -> Result<(), Allo
     Ok(())
 }
 
-/// A section: `calls`, `err` and `out`, the `errors` among the lines of `err`, the `changes` of
-/// files, and the paths that are `left` with contents that differ from those at first.
+/// A section: `calls`, or how many runs they `count`, `err` and `out`, the `errors` among the lines of
+/// `err`, or its `report`, the `changes` of files, and the paths that are `left` with contents that
+/// differ from those at first.
 fn push_section(
     text: &mut String,
     alloc: Global,
@@ -102,6 +120,8 @@ fn push_section(
         "err" => push_bytes(text, alloc, "err\n", scene.err.as_slice()),
         "out" => push_bytes(text, alloc, "out\n", scene.out.inner().as_slice()),
         "errors" => push_errors(text, alloc, scene.err.as_slice()),
+        "count" => push_count(text, alloc, &scene.caller),
+        "report" => push_report(text, alloc, scene.err.as_slice()),
         "changes" => push_changes(text, alloc, steps, scene.first, steps.len()),
         "left" => push_left(text, steps, scene.first),
         _ => text.push_str("no such section\n"),
