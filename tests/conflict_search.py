@@ -432,6 +432,14 @@ ROWS = {
     "nothing fails": Row("p:a,b,c", "", "", 1, 0, each("p")),
     "nothing fails, and which set passed": Row("p:a,b,c", "--verbose", "", 1, 0, each("p", 1, "a,b,c")),
     "no feature": Row("p", "--verbose", "", 1, 0, each("p", 1, "no feature at all")),
+    "no set that is allowed, and so a plain run": Row(
+        "p:a,x,y", "--verbose --include-features a --at-least-one-of x,y", "", 1, 0, each("p", 1, "no feature at all")),
+    "no set of the included features, and the plain run fails": Row(
+        "p:a,b", "--include-features a,b --group-features a,b --mutually-exclusive-features a,b", "p:", 1, 1,
+        fail("p", "no feature at all")),
+    "a group that excludes itself, and so a plain run": Row(
+        "p", "--verbose --group-features a,b --mutually-exclusive-features a,b", "", 1, 0,
+        each("p", 1, "no feature at all")),
     "no feature, and it fails": Row("p", "", "p:", 1, 1, fail("p", "no feature at all")),
     "all fail": Row("p:a,b", "", "p:", 2, 1, fail("p", "no feature at all")),
     "one of three": Row("p:a,b,c", "--verbose", "p:b", 8, 1, fail("p", "b") + others("p", 1, "a,c")),
