@@ -1,6 +1,6 @@
 -- What it takes to build one set.
-use Rattle.std.specs.Prelude.{ℕ, ◌≡◌, ◌≢◌, ◌⊎◌, ◌≤◌, ◌<◌, ◌+◌, ◌-◌, ◌||◌, Bool, true, false, List, zero, suc, [], ◌∷◌, ◌++◌, All, AllPairs, Contains, IsErrAnd, IsSomeAnd, Option, None, Some, unwrap_or, Result, Ok, Err, length, map}
-use Rattle.std.proofs.Common.{refl, sym, ap, ◌∙◌, subst, inl, inr, arith, get_or}
+use Rattle.std.specs.Prelude.{ℕ, ◌≡◌, ◌≢◌, ◌<◌, ◌+◌, ◌-◌, ◌||◌, Bool, true, false, List, zero, suc, [], ◌∷◌, ◌++◌, All, Contains, IsErrAnd, IsSomeAnd, Option, None, Some, unwrap_or, Result, Ok, Err, length}
+use Rattle.std.proofs.Common.{refl, sym, ap, ◌∙◌, subst, inl, inr, arith}
 use Rattle.std.proofs.lemmas.List.{append-nil, map-append}
 use Rattle.std.proofs.lemmas.List.Quantifiers.{all_pairs_push}
 use Rattle.std.proofs.lemmas.List.Elements.{All-cons, All-nil, Contains-append_right}
@@ -16,7 +16,7 @@ use Rattle.hack_plan.specs.View.{PlanView}
 use Rattle.hack_plan.specs.declared.places.PlacesFault.{PlacesFault}
 use Rattle.hack_plan.specs.declared.places.PlacesFault.TheVariants as places
 use Rattle.hack_session.specs.declared.step.Handed.{Handed}
-use Rattle.hack_culprits.specs.Built.{Answers, AreBuilt, AreDistinct, AreHanded, AreMade, Explains, IsAsked, IsBuilt, IsCutShort, IsRunFor, Made, RanHunt, Tells, run_for, fault_of, step_at, steps_from}
+use Rattle.hack_culprits.specs.Built.{Answers, AreDistinct, AreHanded, AreMade, Explains, IsAsked, IsBuilt, IsCutShort, IsRunFor, Made, RanHunt, Tells, run_for, fault_of, step_at, steps_from}
 use Rattle.hack_culprits.specs.Internal.{Builds, BuildsOne, IsReady, KeepsWhy, has_broken, is_broken, kept_of, made_in, outcome_of, told_of}
 use Rattle.hack_culprits.specs.declared.aim.Aim.{Aim}
 use Rattle.hack_culprits.specs.declared.built.Built.{Built}
@@ -31,10 +31,12 @@ length_changed change (x ∷ xs) (suc place) = ap suc (length_changed change xs 
 -- one run more can be added again
 pub still_ready : (aim : Aim) (run : PackageRun) (plan : PlanView) → IsReady aim plan → IsReady aim (with_run aim.slot aim.member run plan)
 still_ready aim run plan ready = record {
-  grows = ready.grows;
-  version = subst (λ n. 0 < n) (sym (length_changed with_one_place plan.versions (length plan.versions - 1))) ready.version;
-  member = subst (λ n. aim.member < n) (sym (length_changed (with_one_run run) plan.packages aim.member)) ready.member;
-  runs = runs-grown run aim.slot aim.member plan.packages plan.entries ready.member ready.runs;
+  room = record {
+    grows = ready.room.grows;
+    version = subst (λ n. 0 < n) (sym (length_changed with_one_place plan.versions (length plan.versions - 1))) ready.room.version;
+    member = subst (λ n. aim.member < n) (sym (length_changed (with_one_run run) plan.packages aim.member)) ready.room.member;
+  };
+  runs = runs-grown run aim.slot aim.member plan.packages plan.entries ready.room.member ready.runs;
   order = ready.order;
 }
 

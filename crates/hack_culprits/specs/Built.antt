@@ -1,11 +1,9 @@
 -- What a search builds: the sets that it asks for, the runs that stand for them, and their places.
-use Rattle.std.specs.Prelude.{ℕ, ◌≡◌, ◌≢◌, ◌⊎◌, ◌≤◌, ◌+◌, Bool, true, false, List, [], ◌∷◌, ◌++◌, All, AllPairs, Contains, Option, length, if◌then◌else◌}
+use Rattle.std.specs.Prelude.{ℕ, ◌≡◌, ◌≢◌, ◌⊎◌, ◌≤◌, ◌<◌, ◌+◌, Bool, true, false, List, [], ◌∷◌, ◌++◌, All, AllPairs, Contains, Option, length, if◌then◌else◌}
 use Rattle.hack_closures.specs.Closures.{IsBuildFor}
 use Rattle.hack_closures.specs.View.{alone_in, choice_in, has_all, search_of}
 use Rattle.hack_closures.specs.declared.build.Build.{Build}
 use Rattle.hack_closures.specs.declared.build.Build.TheVariants as build
-use Rattle.hack_closures.specs.declared.closures.Closures.{Closures}
-use Rattle.hack_conflicts.specs.Rules.{IsChoice}
 use Rattle.hack_conflicts.specs.Runs.{Finding, IsCourse, IsFinding, Run as Asked}
 use Rattle.hack_conflicts.specs.declared.tried.Outcome.{Outcome}
 use Rattle.hack_conflicts.specs.declared.tried.Outcome.TheVariants.{Passed, Failed, Broken}
@@ -106,6 +104,12 @@ pub record AreBuilt {R : Type 0} (ran : PlanView → List Handed → R → R →
   pub made : AreMade aim asked before after added old new
   pub handed : AreHanded ran ended new (length old.entries) added a b
 
+-- runs of the package with this index can be added to the plan
+pub record HasRoom (index : ℕ) (plan : PlanView) : Type 0 where
+  pub grows : plan.call.grows ≡ true
+  pub version : 0 < length plan.versions
+  pub member : index < length plan.packages
+
 -- why a run wasn't added to a plan
 abbrev pub fault_of : PlacesFault → CulpritsFault
 fault_of places.Memory = fault.Memory
@@ -132,7 +136,7 @@ pub record RanHunt {R : Type 0} (ran : PlanView → List Handed → R → R → 
   pub whole : ran new (steps_from (length old.entries) made) a b
 
 -- The search was cut short: what was built until then was asked for by such a search. Where the call
--- is at its end, the last run that was built is broken.
+-- is at its end, a run that was built is broken.
 pub record IsCutShort {R : Type 0} (ran : PlanView → List Handed → R → R → Type 0) (ended : R → Bool) (aim : Aim)
     (most : Option ℕ) (why : CulpritsFault) (old new : PlanView) (a b : R) : Type 0 where
   pub asked : List Asked

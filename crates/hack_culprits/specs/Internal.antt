@@ -1,5 +1,5 @@
 -- What only private functions of the crate promise each other.
-use Rattle.std.specs.Prelude.{ℕ, ◌≡◌, ◌<◌, ◌⊎◌, Bool, true, false, List, [], ◌∷◌, All, IsSomeAnd, MatchBool, Option, Some, Result, Ok, Err, length, map}
+use Rattle.std.specs.Prelude.{◌≡◌, Bool, true, false, List, [], ◌∷◌, All, IsSomeAnd, MatchBool, Option, Some, Result, Ok, Err, map}
 use Rattle.std.specs.List.{list_any}
 use Rattle.hack_closures.specs.View.{search_of}
 use Rattle.hack_conflicts.specs.Rules.{IsChoice, IsPreorder}
@@ -9,7 +9,7 @@ use Rattle.hack_conflicts.specs.declared.tried.Outcome.TheVariants.{Broken, Fail
 use Rattle.hack_plan.specs.Plans.{AreRunsOfPackages}
 use Rattle.hack_plan.specs.View.{PlanView}
 use Rattle.hack_session.specs.declared.step.Handed.{Handed}
-use Rattle.hack_culprits.specs.Built.{AreBuilt, Explains, Made, run_for}
+use Rattle.hack_culprits.specs.Built.{AreBuilt, Explains, HasRoom, Made, run_for}
 use Rattle.hack_culprits.specs.declared.aim.Aim.{Aim}
 use Rattle.hack_culprits.specs.declared.built.Built.{Built}
 use Rattle.hack_culprits.specs.declared.fault.CulpritsFault.{CulpritsFault}
@@ -19,11 +19,9 @@ use Rattle.hack_culprits.specs.declared.fault.CulpritsFault.TheVariants.{Ended}
 abbrev pub made_in : Bool → List Built → List Made
 made_in plain built = map (λ b. record { run = run_for plain b.build; outcome = b.outcome }) built
 
--- runs of the package can be added to the plan
+-- runs of the package can be added to the plan, and its sets searched
 pub record IsReady (aim : Aim) (plan : PlanView) : Type 0 where
-  pub grows : plan.call.grows ≡ true
-  pub version : 0 < length plan.versions
-  pub member : aim.member < length plan.packages
+  pub room : HasRoom aim.member plan
   pub runs : AreRunsOfPackages plan.packages plan.entries
   pub order : IsPreorder (search_of aim.closures.now)
 

@@ -1,6 +1,5 @@
 -- Sets that were built, one after the other.
-use Rattle.std.specs.Prelude.{ℕ, ◌≡◌, ◌⊎◌, ◌≤◌, ◌<◌, ◌+◌, ◌||◌, Bool, true, false, List, [], ◌∷◌, ◌++◌, All, Contains, IsSomeAnd, MatchBool, Option, Some, None, length}
-use Rattle.std.specs.List.{list_any}
+use Rattle.std.specs.Prelude.{ℕ, ◌≡◌, ◌+◌, ◌||◌, Bool, true, false, List, [], ◌∷◌, ◌++◌, All, IsSomeAnd, Option, Some, None, length}
 use Rattle.std.proofs.Common.{refl, sym, ap, ◌∙◌, subst, inl, inr, arith, get_or}
 use Rattle.std.proofs.lemmas.List.{append_assoc, append-nil, length-append}
 use Rattle.std.proofs.lemmas.List.Elements.{All-append, All-cons, All-contains, All-nil, Contains-append_left, Contains-append_right, Contains-get_or}
@@ -14,8 +13,8 @@ use Rattle.hack_plan.specs.View.{PlanView}
 use Rattle.hack_session.specs.GrownSteps.{AreRuns}
 use Rattle.hack_session.specs.StepEffects.{is_run}
 use Rattle.hack_session.specs.declared.step.Handed.{Handed}
-use Rattle.hack_culprits.specs.Built.{Answers, AreBuilt, AreDistinct, AreHanded, Explains, IsAsked, IsBuilt, Made, step_at, with_made}
-use Rattle.hack_culprits.specs.Internal.{Builds, IsReady, KeepsWhy, MayBuild, has_broken, is_broken}
+use Rattle.hack_culprits.specs.Built.{AreHanded, Explains, IsAsked, IsBuilt, Made, step_at, with_made}
+use Rattle.hack_culprits.specs.Internal.{KeepsWhy, MayBuild, has_broken, is_broken}
 use Rattle.hack_culprits.specs.declared.aim.Aim.{Aim}
 use Rattle.hack_culprits.specs.declared.fault.CulpritsFault.{CulpritsFault}
 use Rattle.hack_culprits.specs.declared.fault.CulpritsFault.TheVariants as fault
@@ -153,7 +152,7 @@ builds_more {R} ran ended law aim asked more first mid last why then now old bet
               (all-weaker (IsAsked aim more) (IsAsked aim (asked ++ more)) ys (asked-right aim asked more) two.needed);
           few = let x = one.few in let y = two.few in omega (arith, x, y, length-append xs ys, length-append asked more);
         };
-        handed = handed_append ran ended new (length old.entries) xs ys a b c (handed_grown ran ended law between new grown f.ready.grows f.ready.runs (length old.entries) xs a b f.built.handed)
+        handed = handed_append ran ended new (length old.entries) xs ys a b c (handed_grown ran ended law between new grown f.ready.room.grows f.ready.runs (length old.entries) xs a b f.built.handed)
             (subst (λ (n : ℕ). AreHanded ran ended new n ys b c) places r.built.handed);
       };
       kept = subst (λ (b : Bool). KeepsWhy b last why now) (sym (broken-append asked more))

@@ -1,10 +1,10 @@
 //! The search for the conflicts of one package.
 
-ghost use Rattle.std.specs.Prelude.{◌≡◌, ◌<◌, [], IfErr, IfOk, List, length, true};
+ghost use Rattle.std.specs.Prelude.{◌≡◌, [], IfErr, IfOk, List};
 ghost use Rattle.hack_closures.specs.View.{search_of};
 ghost use Rattle.hack_conflicts.specs.Rules.{IsPreorder};
 ghost use Rattle.hack_conflicts.specs.Runs.{finding_of};
-ghost use Rattle.hack_culprits.specs.Built.{IsCutShort, RanHunt};
+ghost use Rattle.hack_culprits.specs.Built.{HasRoom, IsCutShort, RanHunt};
 
 use crate::aim::Aim;
 use crate::builder::Builder;
@@ -29,9 +29,7 @@ pub fn find_culprits<R: Judge>(
     plan: &mut Plan,
     runner: &mut R,
 ) -> Result<Found, CulpritsFault>
-    requires grows { plan.old.call.grows ≡ true }
-    requires version { 0 < length plan.old.versions }
-    requires member { aim.member < length plan.old.packages }
+    requires room { HasRoom aim.member plan.old }
     requires order { IsPreorder (search_of aim.closures.now) }
 
     // The plan grew by the runs that were built, each once, and these were handed out, in order. Each

@@ -31,7 +31,7 @@ use Rattle.hack_metadata.specs.Records.{PackageRecord}
 use Rattle.hack_metadata.specs.declared.metadata.Package.{Package}
 use Rattle.hack_plan.specs.Runs.{is_plain}
 use Rattle.hack_plan.specs.declared.runs.RunOptions.{RunOptions}
-use Rattle.hack_planner.specs.Kinds.{package_choice}
+use Rattle.hack_planner.specs.Kinds.{options_of, package_choice}
 use Rattle.hack_planner.specs.PackageRules.{PackageRulesRecord, rules_in}
 use Rattle.hack_planner.specs.declared.package_rules.PackageRules.{PackageRules}
 use Rattle.hack_planner.proofs.CandidateLemmas.{none-lifted}
@@ -101,6 +101,12 @@ plain_as o c true flag none (s ∷ sets) listing =
     absurd (none s here.0 here.1)
 plain_as o c false flag some [] listing = absurd (omega (arith, ((listing.exact some.0).1 (some.1, some.2)).1))
 plain_as o c false flag some (s ∷ sets) listing = sym (ap (λ (b : Bool). b && ((o.normal == 0) && (o.optional == 0) || o.included)) (some-set s sets (length (s ∷ sets) == 0) refl))
+
+-- whether a package has just a plain run, by a choice that is its own
+pub own_plain : (r : PackageRulesRecord) (p : PackageRecord) (f : Features) (c : Choice) → c ≡ package_choice r p f → (b plain : Bool)
+    → ((sets : List (List ℕ)) → IsListing (length c.candidates) (IsListed c) sets → b ≡ is_plain (options_of r f) sets) → b ≡ plain → IsPlainAs r p f plain
+own_plain r p f c own b plain says same =
+    subst (IsPlainAs r p f) same (subst (λ (c : Choice). (sets : List (List ℕ)) → IsListing (length c.candidates) (IsListed c) sets → b ≡ is_plain (options_of r f) sets) own says)
 
 -- the choice of a plain run
 pub bare_choice : (asked : PackageRules) (p : Package) (f : Features) (exclusive : List Feature) → exclusive ≡ asked.exclusive.items → (rules_in asked).depth ≡ None

@@ -1,12 +1,11 @@
 //! The search of one package, for one slot.
 
-ghost use Rattle.std.specs.Prelude.{◌≡◌, ◌<◌, All, Contains, IfErr, IfOk, None, Option};
-ghost use Rattle.std.specs.Prelude.{length, true, ℕ};
+ghost use Rattle.std.specs.Prelude.{◌≡◌, All, Contains, IfErr, IfOk, None, Option, true, ℕ};
 ghost use Rattle.hack_closures.specs.View.{search_of};
 ghost use Rattle.hack_conflicts.specs.Rules.{IsChoice, IsPreorder};
 ghost use Rattle.hack_conflicts.specs.Runs.{Finding, IsFinding, finding_of};
 ghost use Rattle.hack_conflicts.specs.Sets.{rows_of};
-ghost use Rattle.hack_culprits.specs.Built.{IsCutShort, RanHunt};
+ghost use Rattle.hack_culprits.specs.Built.{HasRoom, IsCutShort, RanHunt};
 ghost use Rattle.hack_features.specs.Feature.{groups_of};
 ghost use Rattle.hack_features.specs.View.{choice_of};
 ghost use Rattle.hack_load.specs.ContextView.{context_view};
@@ -50,9 +49,7 @@ pub(crate) fn hunt_one<R: Judge>(
     runner: &mut R,
 ) -> Result<Hunted, CulpritsFault>
     requires id { Contains (context_view cx.now).metadata.workspace_members spot.id.index }
-    requires grows { plan.old.call.grows ≡ true }
-    requires version { 0 < length plan.old.versions }
-    requires member { spot.member < length plan.old.packages }
+    requires room { HasRoom spot.member plan.old }
     ensures hunted { IfOk result (λ hunted. RanHuntAt R.ran R.ended (context_view cx.now)
         (spot_view spot) most_runs hunted plan.old plan.new runner.old runner.new) }
     ensures fault { IfErr result (λ why. EndsAt R.ran R.ended (context_view cx.now)
@@ -91,9 +88,7 @@ fn hunt_rules<R: Judge>(
 ) -> Result<Hunted, CulpritsFault>
     requires depth { (rules_in asked.now).depth ≡ None }
     requires known { groups_of candidates.now ≡ are_candidates (rules_in asked.now) features.now }
-    requires grows { plan.old.call.grows ≡ true }
-    requires version { 0 < length plan.old.versions }
-    requires member { spot.member < length plan.old.packages }
+    requires room { HasRoom spot.member plan.old }
     ensures hunted { IfOk result (λ hunted. RanSearched R.ran R.ended (rules_in asked.now)
         (package_view pkg.now) features.now (spot_view spot) most_runs hunted
         plan.old plan.new runner.old runner.new) }
@@ -124,9 +119,7 @@ fn hunt_plain<R: Judge>(
     runner: &mut R,
 ) -> Result<Hunted, CulpritsFault>
     requires depth { (rules_in asked.now).depth ≡ None }
-    requires grows { plan.old.call.grows ≡ true }
-    requires version { 0 < length plan.old.versions }
-    requires member { spot.member < length plan.old.packages }
+    requires room { HasRoom spot.member plan.old }
     ensures hunted { (features : Loaded) → IfOk result (λ hunted. RanAmong R.ran R.ended
         (searched true (package_choice (rules_in asked.now) (package_view pkg.now) features)) ends
         (spot_view spot) most_runs hunted plan.old plan.new runner.old runner.new) }
@@ -150,9 +143,7 @@ fn hunt_among<R: Judge>(
     runner: &mut R,
 ) -> Result<Hunted, CulpritsFault>
     requires depth { (choice_of rules.now).depth ≡ None }
-    requires grows { plan.old.call.grows ≡ true }
-    requires version { 0 < length plan.old.versions }
-    requires member { spot.member < length plan.old.packages }
+    requires room { HasRoom spot.member plan.old }
     ensures hunted { IfOk result (λ hunted. RanAmong R.ran R.ended (choice_of rules.now) ends
         (spot_view spot) most_runs hunted plan.old plan.new runner.old runner.new) }
     ensures fault { IfErr result (λ why. EndsAmong R.ran R.ended (choice_of rules.now) ends
@@ -176,9 +167,7 @@ fn hunt_aim<R: Judge>(
     plan: &mut Plan,
     runner: &mut R,
 ) -> Result<Hunted, CulpritsFault>
-    requires grows { plan.old.call.grows ≡ true }
-    requires version { 0 < length plan.old.versions }
-    requires member { aim.member < length plan.old.packages }
+    requires room { HasRoom aim.member plan.old }
     requires order { IsPreorder (search_of aim.closures.now) }
     ensures hunted { IfOk result (λ hunted. (finding : Finding)
         × RanHunt R.ran R.ended aim.entry most_runs finding plan.old plan.new

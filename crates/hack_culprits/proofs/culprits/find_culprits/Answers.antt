@@ -12,7 +12,7 @@ returns-in-Ok-clause-found g c =
     let last = c.find_conflicts.new.builder in
     let ran = c.in-Ok.ensures.ran in
     let found = c.in-Ok.ensures.found in
-    let ready : IsReady aim c.args.plan.now = record { grows = c.requires.grows; version = c.requires.version; member = c.requires.member; runs = c.len.ensures.runs; order = c.requires.order } in
+    let ready : IsReady aim c.args.plan.now = record { room = c.requires.room; runs = c.len.ensures.runs; order = c.requires.order } in
     rw (c.in-Ok.plan-1-own.given.1 ran.1, c.in-Ok.runner-1-own.given.1 ran.0)
     (ran_hunt g.R.Runner.ran g.R.Judge.ended g.met.R.Runner.ran_none g.met.R.Runner.ran_more aim c.args.most_runs (finding_of c.in-Ok.found) (made_in aim.plain c.new-built.result.items) (made_in aim.plain last.built.now.items) _ last.fault c.args.plan.now last.plan.now
     c.args.runner.now last.runner.now (ap (made_in aim.plain) c.new-built.ensures.items) (ran.3 ready found.course.chosen) found)
@@ -23,7 +23,7 @@ returns-in-Err-Memory-clause-fault g c =
     let last = c.find_conflicts.new.builder in
     let cut = c.in-Err-Memory.ensures.fault in
     let ran = cut.1 in
-    let ready : IsReady aim c.args.plan.now = record { grows = c.requires.grows; version = c.requires.version; member = c.requires.member; runs = c.len.ensures.runs; order = c.requires.order } in
+    let ready : IsReady aim c.args.plan.now = record { room = c.requires.room; runs = c.len.ensures.runs; order = c.requires.order } in
     rw (c.plan-in-Err-Memory-1.given.1 ran.1, c.runner-in-Err-Memory-1.given.1 ran.0)
     (cut_hunt g.R.Runner.ran g.R.Judge.ended g.met.R.Runner.ran_none g.met.R.Runner.ran_more aim c.args.most_runs cut.0 (made_in aim.plain c.new-built.result.items) (made_in aim.plain last.built.now.items) last.fault _ c.args.plan.now last.plan.now
     c.args.runner.now last.runner.now (ap (made_in aim.plain) c.new-built.ensures.items) cut.2 (ran.3 ready cut.2.chosen) (λ explained. tt))
@@ -34,7 +34,7 @@ returns-clause-fault g c =
     let last = c.find_conflicts.new.builder in
     let cut = c.in-Err-Broken.ensures.fault in
     let ran = cut.1 in
-    let ready : IsReady aim c.args.plan.now = record { grows = c.requires.grows; version = c.requires.version; member = c.requires.member; runs = c.len.ensures.runs; order = c.requires.order } in
+    let ready : IsReady aim c.args.plan.now = record { room = c.requires.room; runs = c.len.ensures.runs; order = c.requires.order } in
     let after = made_in aim.plain last.built.now.items in
     rw (c.plan-in-Err-Broken-1.given.1 ran.1, c.runner-in-Err-Broken-1.given.1 ran.0)
     (cut_hunt g.R.Runner.ran g.R.Judge.ended g.met.R.Runner.ran_none g.met.R.Runner.ran_more aim c.args.most_runs cut.0 (made_in aim.plain c.new-built.result.items) after last.fault c.unwrap_or.result c.args.plan.now last.plan.now

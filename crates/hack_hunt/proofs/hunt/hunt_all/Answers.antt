@@ -31,15 +31,19 @@ pub hunt_one-requires-clause-id : goal.hunt_one-requires-clause-id
 hunt_one-requires-clause-id g c =
     id_known (context_view c.args.cx.now).metadata.workspace_members c.args.ids.now c.deref-spot-items.result.now c.slots.result c.loop-spot.spot-index c.requires.ids (ap (map spot_view) c.deref-spot-items.ensures.value ∙ c.in_ok-spots.ensures) c.loop-spot-test.true
 
-pub hunt_one-requires-clause-member : goal.hunt_one-requires-clause-member
-hunt_one-requires-clause-member g c =
+pub hunt_one-requires-clause-room : goal.hunt_one-requires-clause-room
+hunt_one-requires-clause-room g c =
     let ids = map place_at c.args.ids.now in
     let spots = c.deref-spot-items.result.now in
     let k = c.loop-spot.spot-index in
     let all = subst (All (IsOf ids)) (sym (ap (map spot_view) c.deref-spot-items.ensures.value ∙ c.in_ok-spots.ensures)) (spots_known ids c.slots.result) in
     let known = all k (spot_view no_spot) (omega (arith, c.loop-spot-test.true, length-map spots spot_view)) in
     let here = subst (IsOf ids) (get_or-map spot_view spots k no_spot (spot_view no_spot) c.loop-spot-test.true) known in
-    omega (arith, here.member, length-map c.args.ids.now place_at, c.loop-spot.invariant.can.members)
+    record {
+      grows = c.loop-spot.invariant.can.grows;
+      version = c.loop-spot.invariant.can.version;
+      member = omega (arith, here.member, length-map c.args.ids.now place_at, c.loop-spot.invariant.can.members);
+    }
 
 pub returns-in_err-one : goal.returns-in_err-one
 returns-in_err-one g c =

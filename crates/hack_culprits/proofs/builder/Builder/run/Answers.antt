@@ -1,7 +1,5 @@
-use Rattle.std.proofs.Common.{◌≡◌, ◌++◌, ◌∷◌, [], List, ap, refl, rules, subst, sym, ◌∙◌}
+use Rattle.std.proofs.Common.{◌≡◌, ◌++◌, ◌∷◌, [], ap, refl, rules, subst, sym, ◌∙◌}
 use Rattle.hack_plan.specs.Growth.{with_run}
-use Rattle.hack_plan.specs.View.{PlanView}
-use Rattle.hack_session.specs.declared.step.Handed.{Handed}
 use Rattle.hack_culprits.specs.Built.{run_for, step_at}
 use Rattle.hack_culprits.specs.Internal.{BuildsOne, made_in}
 use Rattle.hack_culprits.specs.declared.built.Built.{Built}
