@@ -33,6 +33,7 @@ fn call_here(rt: &HostRuntime) -> u8 {
         out: &mut out,
         err: &mut err,
         is_terminal,
+        fails: false,
     };
     let mut keepers = Keepers::new(FolderLocks::new(rt), ShellGuards::new(rt));
     let (status, _, _) = call(

@@ -111,6 +111,7 @@ impl Ask for Calls {
             out: &mut out,
             err: &mut err,
             is_terminal,
+            fails: false,
         };
         let (status, _, _) = call(
             alloc,

@@ -16,7 +16,7 @@ use Rattle.hack_options.specs.declared.opt.Opt.TheVariants as opt
 use Rattle.hack_rules.specs.Uses.{Use, is_given}
 use Rattle.hack_rules.specs.declared.uses.behavior.WorkspaceBehavior.{WorkspaceBehavior}
 use Rattle.hack_words.specs.ParseAnswers.{around_of}
-use Rattle.hack_words.specs.CommandLine.{Around, ComesFrom, ComesTo, Faulty, IsEnd, Listing, CommandLineOutcome, Parsed}
+use Rattle.hack_words.specs.CommandLine.{Around, ComesFrom, ComesTo, Faulty, IsEnd, Listing, Parsed}
 use Rattle.hack_words.specs.Start.{Cuts, Refuses, Start, start_of}
 use Rattle.hack_words.specs.declared.cli.env.Env.{Env}
 use Rattle.hack_words.specs.declared.cli.parse.Parsed.TheVariants as answer

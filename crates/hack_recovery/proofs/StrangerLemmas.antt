@@ -1,5 +1,5 @@
 -- What journals name.
-use Rattle.std.proofs.Common.{◌≡◌, ◌∙◌, ℕ, List, [], ap, refl, subst, sym}
+use Rattle.std.proofs.Common.{◌≡◌, ◌∙◌, ℕ, [], ap, refl, subst, sym}
 use Rattle.std.specs.Prelude.{Option, Some, None, option_and_then}
 use Rattle.hack_files.specs.Files.{Contents}
 use Rattle.hack_journal.proofs.RowLemmas.{file_zero, row_of, row_only, same_count}

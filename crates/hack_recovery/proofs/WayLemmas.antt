@@ -1,5 +1,5 @@
 -- The ways of a call, step by step.
-use Rattle.std.proofs.Common.{◌≡◌, ◌∙◌, refl, sym, true, false, Bool, IsTrue}
+use Rattle.std.proofs.Common.{◌≡◌, refl, true, false, Bool, IsTrue}
 use Rattle.std.specs.Prelude.{◌≢◌, ◌↔◌, IfErr, IfOk, Ok, Err, Result}
 use Rattle.hack_term.specs.declared.term.Term.{Term}
 use Rattle.hack_recovery.specs.declared.fault.CallFault.{CallFault}

@@ -1,5 +1,5 @@
 -- The ways that a call can go.
-use Rattle.std.specs.Prelude.{◌≡◌, ◌≢◌, ◌⊎◌, ◌≤◌, ℕ, Bool, true, false, IsSome, List, None, Ok, Err, Option, Result, is_some, string_bytes}
+use Rattle.std.specs.Prelude.{◌≡◌, ◌⊎◌, ◌≤◌, ℕ, Bool, true, false, IsSome, List, None, Ok, Err, Option, Result, string_bytes}
 use Rattle.hack_base.specs.Counters.{GrowsBy}
 use Rattle.hack_base.specs.Names.{Name}
 use Rattle.hack_files.specs.Files.{Contents, KeepsAll, KeepsOthers, MakesOrNot, removes}
@@ -9,8 +9,7 @@ use Rattle.hack_run.specs.Journals.{contents_seen, files_seen, world_seen}
 use Rattle.hack_run.specs.CallTrace.{IsCallTrace}
 use Rattle.hack_run.specs.TemporaryEdits.{BringsBack, IsClean, RestoresEdits}
 use Rattle.hack_run.specs.Refusals.{AreRefused, ReportsRefusal}
-use Rattle.hack_run.specs.Worlds.{FilesView}
-use Rattle.hack_term.specs.Lines.{IsExitStatus}
+use Rattle.hack_run.specs.Worlds.{FilesView, IsStatus}
 use Rattle.hack_term.specs.declared.term.Term.{Term}
 use Rattle.hack_words.specs.declared.cli.env.Env.{Env}
 use Rattle.hack_recovery.specs.declared.admit.Way.{Way}
@@ -137,7 +136,7 @@ pub data CopiesAndRuns (tells whole locked talks : Type 0) (words : List Name) (
 pub data IsJournaledCall (tells whole locked talks watched : Type 0) (words : List Name) (env : Env) (places : PlacesAt) (old new : Scene) : Type 0 where
   performed : (came : Bool) (status : ℕ) (guards last : GuardsView) (ran : Scene) → (watched → guards ≡ after_start places.folder came old.guards)
       → CopiesAndRuns tells whole locked talks words env places (record old { guards = guards }) ran
-      → IsExitStatus env.deny_warnings ran.host.term status → (watched → last ≡ after_leave status guards) → new ≡ record ran { guards = last }
+      → IsStatus env.deny_warnings ran.host status → (watched → last ≡ after_leave status guards) → new ≡ record ran { guards = last }
       → IsJournaledCall tells whole locked talks watched words env places old new
   unwatched : (guards : GuardsView) → (watched → guards ≡ old.guards) → new ≡ record (scene_with old.files new.host.term old) { guards = guards } → IsFailed new
       → IsJournaledCall tells whole locked talks watched words env places old new

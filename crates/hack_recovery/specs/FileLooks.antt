@@ -1,5 +1,5 @@
 -- Files that are only looked at.
-use Rattle.std.specs.Prelude.{◌≡◌, ◌⊎◌, [], ℕ, Result, Ok, Err}
+use Rattle.std.specs.Prelude.{◌⊎◌, [], ℕ, Result, Ok, Err}
 use Rattle.hack_files.specs.Files.{KeepsAll, Makes}
 use Rattle.hack_base.specs.Counters.{GrowsBy}
 use Rattle.hack_run.specs.Worlds.{FilesView}

@@ -1,5 +1,5 @@
 -- Where the journal of a workspace lies.
-use Rattle.std.specs.Prelude.{ℕ, ◌++◌, ◌==◌, ◌&&◌, ◌||◌, ◌<◌, Bool, not, List, Option, Some, None, bytes_eq, codes, length, map, nat_lt, option_map, if◌then◌else◌}
+use Rattle.std.specs.Prelude.{ℕ, ◌++◌, ◌==◌, ◌&&◌, ◌||◌, Bool, not, Option, Some, None, bytes_eq, codes, length, map, nat_lt, option_map, if◌then◌else◌}
 use Rattle.std.specs.List.{list_all}
 use Rattle.hack_base.specs.Names.{Name}
 use Rattle.hack_base.specs.PathTexts.{is_slash, join_of, under_of}

@@ -6,12 +6,12 @@ use Rattle.hack_base.specs.Writes.{AppendsFront}
 use Rattle.hack_files.specs.declared.fs.Files.{Ghosts as Filing}
 use Rattle.hack_process.specs.declared.caller.Caller.{Ghosts as Calling}
 use Rattle.hack_run.specs.CallTrace.{colored_by}
-use Rattle.hack_run.specs.Worlds.{files_view}
+use Rattle.hack_run.specs.Worlds.{IsStatus, files_view}
 use Rattle.hack_start.specs.Started.{GivesStart, SetsColoring, auto_coloring_of, start_fault_text}
 use Rattle.hack_start.specs.SystemView.{SystemView}
 use Rattle.hack_start.specs.declared.started.StartFault.{StartFault}
 use Rattle.hack_start.specs.declared.started.Started.{Started}
-use Rattle.hack_term.specs.Lines.{IsExitStatus, error_line}
+use Rattle.hack_term.specs.Lines.{error_line}
 use Rattle.hack_term.specs.declared.term.Coloring.{Coloring}
 use Rattle.hack_term.specs.declared.term.Term.{Term}
 use Rattle.hack_words.specs.AskedColoring.{AsksColoring}
@@ -33,6 +33,7 @@ scene_outside f l c o files lockfiles locks guards outside = record {
     calls = c.calls outside.caller.now;
     out = o.contents outside.out.now;
     term = outside.term.now;
+    fails = outside.fails;
   };
 }
 
@@ -61,7 +62,7 @@ pub data IsProgramCall (informs tells whole locked talks records watched : Type 
   performed : (started : Started) (coloring asked : Coloring) → GivesStart informs system (Ok started)
       → (informs → SetsColoring (auto_coloring_of is_terminal system) old.host.term.coloring coloring (Ok started))
       → AsksColoring (optional_text started.env.term_color) (names_of started.words.items) asked
-      → IsExitStatus started.env.deny_warnings new.host.term status
+      → IsStatus started.env.deny_warnings new.host status
       → IsCallCourse tells whole locked talks records watched real (names_of started.words.items) started.env
       (scene_on (colored (colored_by asked coloring) old.host.term) old) new
       → IsProgramCall informs tells whole locked talks records watched real system is_terminal err_before err_after old new status

@@ -1,5 +1,5 @@
 -- What a call sees and changes.
-use Rattle.std.specs.Prelude.{◌≡◌, true, List}
+use Rattle.std.specs.Prelude.{◌≡◌, true}
 use Rattle.std.specs.declared.io.traits.Write.{Ghosts as Writing}
 use Rattle.hack_files.specs.Files.{Contents}
 use Rattle.hack_files.specs.declared.fs.Files.{Ghosts as Filing}
@@ -34,20 +34,22 @@ world_in scene = record { files = scene.files; host = scene.host }
 abbrev pub scene_with : FilesView → Term → Scene → Scene
 scene_with files term scene = record scene { files = files; host = record scene.host { term = term } }
 
--- nothing was called or printed, and no lock or guard came or went
+-- nothing was called, printed or searched, and no lock or guard came or went
 pub record IsQuiet (old new : Scene) : Type 0 where
   pub calls : new.host.calls ≡ old.host.calls
   pub out : new.host.out ≡ old.host.out
+  pub fails : new.host.fails ≡ old.host.fails
   pub locks : new.locks ≡ old.locks
   pub guards : new.guards ≡ old.guards
 
--- files were looked at, and a lock may have been taken: nothing was changed, called or printed
+-- files were looked at, and a lock may have been taken: nothing was changed, called, printed or searched
 pub record Untouched (tells whole : Type 0) (old new : Scene) : Type 0 where
   pub files : Unchanged tells whole old.files new.files
   pub lockfiles : new.lockfiles ≡ old.lockfiles
   pub guards : new.guards ≡ old.guards
   pub calls : new.host.calls ≡ old.host.calls
   pub out : new.host.out ≡ old.host.out
+  pub fails : new.host.fails ≡ old.host.fails
 
 -- an error was reported
 abbrev pub IsFailed : Scene → Type 0

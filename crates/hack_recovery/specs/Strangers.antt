@@ -1,5 +1,5 @@
 -- Journals that no call wrote: they name a file that no call edits.
-use Rattle.std.specs.Prelude.{◌≡◌, ◌&&◌, Bool, false, List, [], ◌∷◌, Option, Some, None, All, codes, if◌then◌else◌, is_some, nat_eq}
+use Rattle.std.specs.Prelude.{◌≡◌, ◌&&◌, Bool, List, [], ◌∷◌, Option, Some, None, codes, if◌then◌else◌, is_some, nat_eq}
 use Rattle.std.specs.List.{ends_with}
 use Rattle.hack_base.specs.Names.{Name}
 use Rattle.hack_files.specs.Files.{Contents}

@@ -32,6 +32,8 @@ pub struct Outside<'a, C: Caller, O: Write, E: Write> {
     pub err: &'a mut E,
     /// Whether messages go to a terminal.
     pub is_terminal: bool,
+    /// Whether a search found what fails, as in a `Host`.
+    pub fails: bool,
 }
 
 /// Performs the call whose arguments and environment the system tells, as `perform` does, and
@@ -79,7 +81,10 @@ pub fn call<S: System, F: Files, L: Files, K: Locks, G: Guards, C: Starts, O: Wr
         outside.out,
         outside.err,
     );
-    perform(&words, files, lockfiles, keepers, &mut host)
+    host.fails = outside.fails;
+    let ended = perform(&words, files, lockfiles, keepers, &mut host);
+    outside.fails = host.fails;
+    ended
 }
 
 /// Colours lines as is asked. Under `auto` they stay as they are.

@@ -15,8 +15,7 @@ ghost use Rattle.hack_recovery.specs.PlacesView.{places_view};
 ghost use Rattle.hack_recovery.specs.Restoring.{TakesBack};
 ghost use Rattle.hack_recovery.specs.Scenes.{scene_by, scene_of};
 ghost use Rattle.hack_run.specs.Readings.{IsEarlyReading};
-ghost use Rattle.hack_run.specs.Worlds.{IsSameHost, files_view, host_view};
-ghost use Rattle.hack_term.specs.Lines.{IsExitStatus};
+ghost use Rattle.hack_run.specs.Worlds.{IsSameHost, IsStatus, files_view, host_view};
 
 use crate::admit::{Way, admit};
 use crate::asked::Edits;
@@ -55,7 +54,8 @@ pub fn perform<F: Files, L: Files, K: Locks, G: Guards, C: Starts, O: Write, E: 
     host: &mut Host<'_, C, O, E>,
 ) -> (u8, F, L)
     ensures host { IsSameHost host.old host.new }
-    ensures status { IsExitStatus host.old.env.now.deny_warnings host.new.term.now result.0 }
+    ensures status { IsStatus host.old.env.now.deny_warnings
+        (host_view C.Caller O.Write host.new) result.0 }
     ensures goes { IsCallCourse F.tells F.whole L.tells C.tells K.tells G.tells
         (K.real keepers.old.locks) (names_of words.now) host.old.env.now
         (scene_of F.Files L.Files C.Caller O.Write files lockfiles
@@ -110,7 +110,8 @@ fn plainly<F: Files, C: Starts, O: Write, E: Write>(
 ) -> u8
     requires { IfSome begun.reading (IsEarlyReading host.old.env.now (names_of words.now)) }
     ensures host { IsSameHost host.old host.new }
-    ensures status { IsExitStatus host.old.env.now.deny_warnings host.new.term.now result }
+    ensures status { IsStatus host.old.env.now.deny_warnings
+        (host_view C.Caller O.Write host.new) result }
     ensures restores { is_restore begun.edits ≡ true
         → (files.new ≡ files.old) × (host_view C.Caller O.Write host.new
         ≡ host_view C.Caller O.Write host.old) }
@@ -126,7 +127,7 @@ fn plainly<F: Files, C: Starts, O: Write, E: Write>(
         if !host.env.by_guard {
             tell_unrestored(begun.is_left, host.term, host.err);
         }
-        return host.term.status(host.env.deny_warnings);
+        return host.status();
     }
     run(words, begun.reading, files, host)
 }
@@ -154,7 +155,8 @@ fn guarded<F: Files, L: Files, K: Locks, G: Guards, C: Starts, O: Write, E: Writ
         (IsEarlyReading host.old.env.now (names_of words.now)) }
     requires place { spot_of begun.place ≡ spot_of begun.places.place }
     ensures host { IsSameHost host.old host.new }
-    ensures status { IsExitStatus host.old.env.now.deny_warnings host.new.term.now result.0 }
+    ensures status { IsStatus host.old.env.now.deny_warnings
+        (host_view C.Caller O.Write host.new) result.0 }
     ensures goes { IsLockedCourse F.tells F.whole L.tells C.tells K.tells G.tells
         (names_of words.now) host.old.env.now begun.edits (places_view begun.places)
         (scene_of F.Files L.Files C.Caller O.Write files lockfiles
@@ -227,7 +229,8 @@ fn go_on<F: Files, L: Files, K: Locks, G: Guards, C: Starts, O: Write, E: Write>
         (IsEarlyReading host.old.env.now (names_of words.now)) }
     requires place { spot_of begun.place ≡ spot_of begun.places.place }
     ensures host { IsSameHost host.old host.new }
-    ensures status { IsExitStatus host.old.env.now.deny_warnings host.new.term.now result.0 }
+    ensures status { IsStatus host.old.env.now.deny_warnings
+        (host_view C.Caller O.Write host.new) result.0 }
     ensures goes { Continues F.tells F.whole L.tells C.tells K.tells G.tells
         (names_of words.now) host.old.env.now begun.edits (places_view begun.places)
         (scene_of F.Files L.Files C.Caller O.Write files lockfiles
@@ -248,7 +251,7 @@ fn go_on<F: Files, L: Files, K: Locks, G: Guards, C: Starts, O: Write, E: Write>
         }
         Edits::Back => journaled(words, begun, files, lockfiles, &mut keepers.guards, host),
         Edits::Restore => {
-            let status = host.term.status(host.env.deny_warnings);
+            let status = host.status();
             (status, files, lockfiles)
         }
     }
@@ -267,7 +270,8 @@ fn journaled<F: Files, L: Files, G: Guards, C: Starts, O: Write, E: Write>(
         (IsEarlyReading host.old.env.now (names_of words.now)) }
     requires place { spot_of begun.place ≡ spot_of begun.places.place }
     ensures host { IsSameHost host.old host.new }
-    ensures status { IsExitStatus host.old.env.now.deny_warnings host.new.term.now result.0 }
+    ensures status { IsStatus host.old.env.now.deny_warnings
+        (host_view C.Caller O.Write host.new) result.0 }
     ensures goes { (locks : LocksView) → IsJournaledCall F.tells F.whole L.tells C.tells G.tells
         (names_of words.now) host.old.env.now (places_view begun.places)
         (scene_of F.Files L.Files C.Caller O.Write files lockfiles locks
@@ -302,7 +306,8 @@ fn copied<F: Files, L: Files, C: Starts, O: Write, E: Write>(
         (IsEarlyReading host.old.env.now (names_of words.now)) }
     requires place { spot_of begun.place ≡ spot_of begun.places.place }
     ensures host { IsSameHost host.old host.new }
-    ensures status { IsExitStatus host.old.env.now.deny_warnings host.new.term.now result.0 }
+    ensures status { IsStatus host.old.env.now.deny_warnings
+        (host_view C.Caller O.Write host.new) result.0 }
     ensures goes { (locks : LocksView) (guards : GuardsView) → CopiesAndRuns
         F.tells F.whole L.tells C.tells
         (names_of words.now) host.old.env.now (places_view begun.places)
@@ -347,14 +352,14 @@ fn over_journal<F: Files, L: Files, C: Starts, O: Write, E: Write>(
         (IsEarlyReading host.old.env.now (names_of words.now)) }
     requires place { spot_of begun.place ≡ spot_of begun.places.place }
     ensures host { IsSameHost host.old host.new }
-    ensures status { IsExitStatus host.old.env.now.deny_warnings host.new.term.now result.0 }
+    ensures status { IsStatus host.old.env.now.deny_warnings
+        (host_view C.Caller O.Write host.new) result.0 }
     ensures goes { (locks : LocksView) (guards : GuardsView) → RunsOverJournal
         F.tells F.whole L.tells C.tells
         (names_of words.now) host.old.env.now (places_view begun.places)
         (scene_of F.Files L.Files C.Caller O.Write files lockfiles locks guards host.old)
         (scene_of F.Files L.Files C.Caller O.Write result.1 result.2 locks guards host.new) }
 {
-    let env = host.env;
     let Begun {
         places,
         place,
@@ -366,7 +371,7 @@ fn over_journal<F: Files, L: Files, C: Starts, O: Write, E: Write>(
     );
     let mut files = files;
     close(host.alloc, &places, &mut files, host.term, host.err);
-    (host.term.status(env.deny_warnings), files, lockfiles)
+    (host.status(), files, lockfiles)
 }
 
 /// Warns where a journal stays, or may; where none does, the lockfile's copy is removed, and one that

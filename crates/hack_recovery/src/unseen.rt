@@ -10,8 +10,7 @@ ghost use Rattle.hack_recovery.specs.GuardEvents.{GuardsView};
 ghost use Rattle.hack_recovery.specs.LockEvents.{LocksView};
 ghost use Rattle.hack_recovery.specs.Scenes.{scene_by, scene_with};
 ghost use Rattle.hack_run.specs.Readings.{IsEarlyReading};
-ghost use Rattle.hack_run.specs.Worlds.{IsSameHost, files_view, host_view};
-ghost use Rattle.hack_term.specs.Lines.{IsExitStatus};
+ghost use Rattle.hack_run.specs.Worlds.{IsSameHost, IsStatus, files_view, host_view};
 
 use crate::asked::Asked;
 use hack_files::fs::Files;
@@ -35,7 +34,8 @@ pub(crate) fn blindly<F: Files, C: Starts, O: Write, E: Write>(
 ) -> u8
     requires { IfSome asked.reading (IsEarlyReading host.old.env.now (names_of words.now)) }
     ensures host { IsSameHost host.old host.new }
-    ensures status { IsExitStatus host.old.env.now.deny_warnings host.new.term.now result }
+    ensures status { IsStatus host.old.env.now.deny_warnings
+        (host_view C.Caller O.Write host.new) result }
     ensures refused { is_change asked.edits ≡ true → (files.new ≡ files.old)
         × (host_view C.Caller O.Write host.new ≡ record (host_view C.Caller O.Write host.old)
         { term = record host.old.term.now { error = true } }) }
@@ -51,7 +51,7 @@ pub(crate) fn blindly<F: Files, C: Starts, O: Write, E: Write>(
     tell_reason(host.alloc, files, host.term, host.err);
     if asked.edits.is_change() {
         refuse(host.alloc, path, host.term, host.err);
-        return 1;
+        return host.status();
     }
     warn(host.alloc, path, host.term, host.err);
     run(words, asked.reading, files, host)

@@ -1,5 +1,5 @@
 -- The headline, put together from the plan and its session.
-use Rattle.std.proofs.Common.{◌≡◌, ap, sym, subst, List, ℕ, Option, None, Some, Result, Ok, Err, true, IsSome, Global, String, length}
+use Rattle.std.proofs.Common.{◌≡◌, ap, sym, subst, List, Option, None, Some, Result, Ok, Err, true, IsSome, Global, String, length}
 use Rattle.hack_planner.specs.CallPlan.{HasRunsOf, IsPlanOf}
 use Rattle.hack_planner.specs.Powersets.{HavePowersets}
 use Rattle.hack_planner.specs.Samples.{HaveSamples, ArePatternsHeld}

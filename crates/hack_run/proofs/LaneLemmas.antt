@@ -1,5 +1,5 @@
 -- Runs side by side, from the first step to the end of what is left.
-use Rattle.std.proofs.Common.{◌≡◌, ℕ, List, [], ◌++◌, Option, inl, inr, refl, sym, ◌∙◌, ap, subst, append-nil}
+use Rattle.std.proofs.Common.{◌≡◌, List, [], ◌++◌, Option, inl, inr, refl, ◌∙◌, ap, subst, append-nil}
 use Rattle.hack_process.specs.Calls.{Call}
 use Rattle.std.specs.Prelude.{◌⊎◌, Result, Ok, Err, OnOk, true}
 use Rattle.std.specs.Option.{unwrap_or}

@@ -1,5 +1,5 @@
 -- What a call asked while it loaded, whichever error ended that.
-use Rattle.std.proofs.Common.{◌≡◌, ◌≢◌, ◌⊎◌, inl, inr, refl, sym, subst, ap, ℕ, List, Option, Some, None, Result, Ok, Err, Global, String, string_bytes, true}
+use Rattle.std.proofs.Common.{◌≡◌, inl, inr, refl, sym, subst, ap, ℕ, List, Option, Some, None, Result, Ok, Err, Global, String, string_bytes, true}
 use Rattle.std.specs.Prelude.{MatchResult, option_and_then}
 use Rattle.std.specs.Result.{is_err, result_ok, result_unwrap_or}
 use Rattle.hack_base.specs.Names.{Name}
@@ -9,16 +9,12 @@ use Rattle.hack_process.specs.CargoTexts.{host_of, release_part}
 use Rattle.hack_process.specs.CommandTexts.{Command}
 use Rattle.hack_process.specs.Commands.{asked_of}
 use Rattle.hack_process.specs.Faults.{fault_text}
-use Rattle.hack_process.specs.declared.fault.ProcessFault.{ProcessFault}
 use Rattle.hack_versions.proofs.RangeLemmas.{version-same}
 use Rattle.hack_versions.proofs.TextLemmas.{no-version_fault}
 use Rattle.hack_versions.specs.ToolTexts.{IsAnswerFault, IsRelease, TellsRelease}
-use Rattle.hack_versions.specs.VersionTexts.{IsVersionText}
 use Rattle.hack_versions.specs.declared.rustup.VersionTextFault.{VersionTextFault}
 use Rattle.hack_versions.specs.declared.rustup.VersionTextFault.TheVariants as text
 use Rattle.hack_versions.specs.declared.version.Version.{Version}
-use Rattle.hack_manifest.specs.declared.manifest.Manifest.{Manifest}
-use Rattle.hack_metadata.specs.MetadataView.{metadata_view}
 use Rattle.hack_metadata.specs.QuestionCalls.{MayAsk, QuestionEndsWith, Stage, StopsQuestion}
 use Rattle.hack_metadata.specs.Requests.{Question, question}
 use Rattle.hack_metadata.specs.declared.ask.fault.AskFault.{AskFault}

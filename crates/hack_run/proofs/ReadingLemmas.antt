@@ -1,5 +1,5 @@
 -- A reading of refused words is some refusal of them.
-use Rattle.std.proofs.Common.{◌≡◌, ◌⊎◌, inl, inr, IfSome, List, Option, None, Some, MatchOption}
+use Rattle.std.proofs.Common.{◌⊎◌, inl, inr, IfSome, List, Option, None, Some, MatchOption}
 use Rattle.hack_base.specs.Names.{Name}
 use Rattle.hack_rules.specs.CliFaults.{Fault, fault_of}
 use Rattle.hack_versions.specs.declared.rustup.Rustup.TheVariants.{Unasked}

@@ -1,5 +1,5 @@
 -- One history of a plan: its calls, and what a list writes.
-use Rattle.std.proofs.Common.{◌≡◌, ◌⊎◌, inl, inr, refl, arith, ap, zero, suc, Result, Ok, Err, OnOk, ℕ, Global, String, List, [], ◌∷◌, ◌++◌, map, filter, All, Bool, Option, Some, None, IsSome, ◌∙◌, sym, subst, append-nil, append_assoc, if◌then◌else◌, true, false}
+use Rattle.std.proofs.Common.{◌≡◌, ◌⊎◌, inl, inr, refl, arith, ap, zero, suc, Result, Ok, Err, OnOk, ℕ, Global, String, List, [], ◌∷◌, ◌++◌, filter, All, Bool, Option, Some, None, IsSome, ◌∙◌, sym, subst, append-nil, append_assoc, if◌then◌else◌, true, false}
 use Rattle.std.specs.Prelude.{MatchBool, ◌≤◌, ◌<◌, ◌^◌, ◌||◌, nat_lt}
 use Rattle.std.specs.List.{flat_map}
 use Rattle.std.specs.Io.KnownBytes.{Appends, Keeps, append_known}
@@ -169,6 +169,7 @@ list_ends (Ok v) refused none short flushed quiet tells cx stable rustup warned 
       course = d.course;
       notes = d.notes;
       cut = d.cut;
+      fails = d.fails;
       planned = d.planned;
       later = d.later;
       calls = d.calls;
@@ -178,6 +179,7 @@ list_ends (Ok v) refused none short flushed quiet tells cx stable rustup warned 
       started = d.started;
       uncut = d.uncut;
       unreported = d.unreported;
+      noted = d.noted;
       warns = d.warns;
     }
 
@@ -205,6 +207,7 @@ list_shows cx stable rustup old mid begun gathered left out empty made kept grow
       course = one.course;
       notes = one.notes;
       cut = one.cut;
+      fails = one.fails;
       planned = one.planned;
       later = one.later;
       calls = one.calls;
@@ -213,6 +216,7 @@ list_shows cx stable rustup old mid begun gathered left out empty made kept grow
       uncut = λ e. unended e;
       passed = λ e. unended e;
       unreported = one.unreported;
+      noted = λ e. unended e;
       warns = λ e. unended e;
     })
 
@@ -227,19 +231,20 @@ handed_keeps whole had has Told Ran cx stable rustup a b (inr l) name told ran =
 -- a list that was handed over to a runner whose steps make just their calls
 pub handed_makes : {R : Type 0} (whole : Type 0) (had has : Option (List ℕ)) (Told : List Note → R → R → Type 0) (Ran : PlanView → List Handed → R → R → Type 0) (cx : ContextRecord) (stable : Result (Option Version) (String Global)) (rustup : Name) (a b : R)
     → HandsOverAtMostOne whole had has Told Ran cx stable rustup a b → whole
-    → (calls : R → List Call) (refused : R → ℕ) (was now : Term) → ((notes : List Note) (x y : R) → Told notes x y → calls y ≡ calls x)
+    → (calls : R → List Call) (refused : R → ℕ) (was now : Term) (fails : Bool) → ((notes : List Note) (x y : R) → Told notes x y → calls y ≡ calls x)
     → ((plan : PlanView) (steps : List Handed) (x y : R) → Ran plan steps x y → HasPerformed plan steps (calls x) (calls y) (refused x) (refused y))
-    → PerformsAtMostOne true cx stable rustup (record { calls = calls a; out = had; term = was }) (record { calls = calls b; out = has; term = now })
-handed_makes whole had has Told Ran cx stable rustup a b (inl (inl same, kept)) w calls refused was now told ran = inl (ap calls same, all_shown false had has [] (kept_nothing had has kept))
-handed_makes whole had has Told Ran cx stable rustup a b (inl (inr some, kept)) w calls refused was now told ran = inl (told some.0 a b some.1, all_shown false had has [] (kept_nothing had has kept))
-handed_makes whole had has Told Ran cx stable rustup a b (inr l) w calls refused was now told ran =
+    → PerformsAtMostOne true cx stable rustup (record { calls = calls a; out = had; term = was; fails = fails }) (record { calls = calls b; out = has; term = now; fails = fails })
+handed_makes whole had has Told Ran cx stable rustup a b (inl (inl same, kept)) w calls refused was now fails told ran = inl (ap calls same, all_shown false had has [] (kept_nothing had has kept))
+handed_makes whole had has Told Ran cx stable rustup a b (inl (inr some, kept)) w calls refused was now fails told ran = inl (told some.0 a b some.1, all_shown false had has [] (kept_nothing had has kept))
+handed_makes whole had has Told Ran cx stable rustup a b (inr l) w calls refused was now fails told ran =
     let steps = filter is_sent l.course.handed in
     let did = ran l.course.plan steps l.mid b l.ran in
     inr (record {
       course = l.course;
       notes = l.notes;
       cut = did.cut;
-      planned = (performable cx.args.subcommand stable cx rustup l.course.plan l.notes l.planned, l.driven);
+      fails = false;
+      planned = (performable cx.args.subcommand stable cx rustup l.course.plan l.notes l.planned, (l.driven, refl));
       later = false;
       calls = subst (λ (cs : List Call). MakesCalls (λ made. PerformsAll l.course.plan steps made did.cut) cs (calls b)) (told l.notes a l.mid l.told) (record { made = did.made; grown = did.grown; such = did.performed });
       wrote = all_shown false had has (flat_map (lines_written l.course.plan) l.course.handed) (l.wrote w);
@@ -247,6 +252,7 @@ handed_makes whole had has Told Ran cx stable rustup a b (inr l) w calls refused
       uncut = λ e. unended e;
       passed = λ e. unended e;
       unreported = λ u. refl;
+      noted = λ e. unended e;
       warns = λ e. unended e;
     })
 
@@ -265,28 +271,28 @@ whole_count : (cut before now : ℕ) → GrowsBy cut before now → before ≡ 0
 whole_count cut before now grows first last = let e = grows (omega (arith, first)) in omega (arith, e, first, last)
 
 -- what is handed out, where no search for conflicts is asked for
-planned-apart : (IsPlan : PlanView → List Note → Type 0) (done : Bool) (cx : ContextRecord) (rustup : Name) (course : Course) (notes : List Note) → cx.args.find_conflicts ≡ false
-    → IsPlan course.plan notes → IsHandedAsAsked done cx.args.find_rust_version cx.args course → IsPlannedAsAsked IsPlan done false cx rustup course notes
-planned-apart IsPlan done cx rustup course notes off plan handed =
-    subst (λ (b : Bool). MatchBool b (IsHuntedOut done cx rustup course notes) (IsPlan course.plan notes × IsHandedAsAsked done (b || cx.args.find_rust_version) cx.args course)) (sym off) (plan, handed)
+planned-apart : (IsPlan : PlanView → List Note → Type 0) (done : Bool) (cx : ContextRecord) (rustup : Name) (course : Course) (notes : List Note) (fails warns : Bool) → cx.args.find_conflicts ≡ false
+    → IsPlan course.plan notes → IsHandedAsAsked done cx.args.find_rust_version cx.args course fails → IsPlannedAsAsked IsPlan done false cx rustup course notes fails warns
+planned-apart IsPlan done cx rustup course notes fails warns off plan handed =
+    subst (λ (b : Bool). MatchBool b (IsHuntedOut done cx rustup course notes fails warns) (IsPlan course.plan notes × IsHandedAsAsked done (b || cx.args.find_rust_version) cx.args course fails)) (sym off) (plan, handed)
 
 -- the chosen piece's steps, where no search is asked for
 pub planned_piece : (IsPlan : PlanView → List Note → Type 0) (done : Bool) (cx : ContextRecord) (rustup : Name) (course : Course) (notes : List Note) → cx.args.find_conflicts ≡ false → cx.args.find_rust_version ≡ false
-    → IsPlan course.plan notes → IsDriven cx.args.partition cx.args.keep_going course → IsPlannedAsAsked IsPlan done false cx rustup course notes
+    → IsPlan course.plan notes → IsDriven cx.args.partition cx.args.keep_going course → IsPlannedAsAsked IsPlan done false cx rustup course notes false false
 planned_piece IsPlan done cx rustup course notes apart off plan driven =
-    planned-apart IsPlan done cx rustup course notes apart plan (subst (λ (b : Bool). IsHandedAsAsked done b cx.args course) (sym off) driven)
+    planned-apart IsPlan done cx rustup course notes false false apart plan (subst (λ (b : Bool). IsHandedAsAsked done b cx.args course false) (sym off) (driven, refl))
 
 -- a search's steps, where one for versions is asked for
-pub planned_search : (IsPlan : PlanView → List Note → Type 0) (done : Bool) (cx : ContextRecord) (rustup : Name) (course : Course) (notes : List Note) → cx.args.find_conflicts ≡ false → cx.args.find_rust_version ≡ true
-    → IsPlan course.plan notes → IsSearchedOut done course.plan course.handed → IsPlannedAsAsked IsPlan done false cx rustup course notes
-planned_search IsPlan done cx rustup course notes apart on plan out =
-    planned-apart IsPlan done cx rustup course notes apart plan (subst (λ (b : Bool). IsHandedAsAsked done b cx.args course) (sym on) out)
+pub planned_search : (IsPlan : PlanView → List Note → Type 0) (done : Bool) (cx : ContextRecord) (rustup : Name) (course : Course) (notes : List Note) (fails warns : Bool) → cx.args.find_conflicts ≡ false → cx.args.find_rust_version ≡ true
+    → IsPlan course.plan notes → IsSearchedOut done course.plan course.handed fails → IsPlannedAsAsked IsPlan done false cx rustup course notes fails warns
+planned_search IsPlan done cx rustup course notes fails warns apart on plan out =
+    planned-apart IsPlan done cx rustup course notes fails warns apart plan (subst (λ (b : Bool). IsHandedAsAsked done b cx.args course fails) (sym on) out)
 
 -- ... where one for conflicts is
-pub planned_hunt : (IsPlan : PlanView → List Note → Type 0) (done : Bool) (cx : ContextRecord) (rustup : Name) (course : Course) (notes : List Note) → cx.args.find_conflicts ≡ true
-    → IsHuntedOut done cx rustup course notes → IsPlannedAsAsked IsPlan done false cx rustup course notes
-planned_hunt IsPlan done cx rustup course notes on out =
-    subst (λ (b : Bool). MatchBool b (IsHuntedOut done cx rustup course notes) (IsPlan course.plan notes × IsHandedAsAsked done (b || cx.args.find_rust_version) cx.args course)) (sym on) out
+pub planned_hunt : (IsPlan : PlanView → List Note → Type 0) (done : Bool) (cx : ContextRecord) (rustup : Name) (course : Course) (notes : List Note) (fails warns : Bool) → cx.args.find_conflicts ≡ true
+    → IsHuntedOut done cx rustup course notes fails warns → IsPlannedAsAsked IsPlan done false cx rustup course notes fails warns
+planned_hunt IsPlan done cx rustup course notes fails warns on out =
+    subst (λ (b : Bool). MatchBool b (IsHuntedOut done cx rustup course notes fails warns) (IsPlan course.plan notes × IsHandedAsAsked done (b || cx.args.find_rust_version) cx.args course fails)) (sym on) out
 
 planned-by : (b : Bool) (X P Q H : Type 0) → (P → Q) → MatchBool b X (P × H) → MatchBool b X (Q × H)
 planned-by true X P Q H f x = x
@@ -311,11 +317,12 @@ calls_from course mid old new before now same h =
 -- one history of a plan, each step of which passed where no error was reported
 pub runs_one : (cx : ContextRecord) (stable : Result (Option Version) (String Global)) (rustup : Name) (course : Course) (notes : List Note) (old new : HostView) (mid : List Call) (before now : ℕ) (term : Term) (fault : Option ProcessFault) → mid ≡ old.calls
     → IsPlanOf cx.args.subcommand stable cx rustup course.plan notes → cx.args.find_conflicts ≡ false → cx.args.find_rust_version ≡ false → IsDriven cx.args.partition cx.args.keep_going course → HasPerformed course.plan course.handed mid new.calls before now
-    → (All HasPassed course.handed → MakesStarted mid new.calls) → (All HasPassed course.handed ⊎ HasTold term.error fault) → Warned notes old.term.warn new.term.warn → fault ≡ None → term.error ≡ false → PerformsOne true false cx stable rustup old.term.warn old new
-runs_one cx stable rustup course notes old new mid before now term fault same planned apart off driven performed started told warned none quiet = record {
+    → (All HasPassed course.handed → MakesStarted mid new.calls) → (All HasPassed course.handed ⊎ HasTold term.error fault) → Warned notes old.term.warn new.term.warn → new.fails ≡ old.fails → fault ≡ None → term.error ≡ false → PerformsOne true false cx stable rustup old.term.warn old new
+runs_one cx stable rustup course notes old new mid before now term fault same planned apart off driven performed started told warned kept none quiet = record {
   course = course;
   notes = notes;
   cut = performed.cut;
+  fails = false;
   planned = planned_piece (IsPerformableOf cx.args.subcommand stable cx rustup) true cx rustup course notes apart off (performable cx.args.subcommand stable cx rustup course.plan notes planned) driven;
   later = false;
   calls = calls_from course mid old.calls new.calls before now same performed;
@@ -324,16 +331,18 @@ runs_one cx stable rustup course notes old new mid before now term fault same pl
   uncut = λ e. none_cut course.plan course.handed performed.made performed.cut (all_passed course.handed term fault told none quiet) performed.performed;
   passed = λ e u. all_passed course.handed term fault told none quiet;
   unreported = λ u. refl;
+  noted = λ e. kept;
   warns = λ e. warned;
 }
 
-some_search : (cx : ContextRecord) (stable : Result (Option Version) (String Global)) (rustup : Name) (course : Course) (notes : List Note) (later : Bool) (old new : HostView) (mid : List Call) (before now : ℕ) → mid ≡ old.calls
-    → IsPlannedAsAsked (IsPerformableOf cx.args.subcommand stable cx rustup) true false cx rustup course notes → is_search false cx.args ≡ true → HasPerformed course.plan course.handed mid new.calls before now → MakesStarted mid new.calls
-    → before ≡ 0 → now ≡ 0 → Warned notes (later || old.term.warn) new.term.warn → PerformsOne true false cx stable rustup old.term.warn old new
-some_search cx stable rustup course notes later old new mid before now same planned on performed started first last warned = record {
+some_search : (cx : ContextRecord) (stable : Result (Option Version) (String Global)) (rustup : Name) (course : Course) (notes : List Note) (fails later : Bool) (old new : HostView) (mid : List Call) (before now : ℕ) → mid ≡ old.calls
+    → IsPlannedAsAsked (IsPerformableOf cx.args.subcommand stable cx rustup) true false cx rustup course notes fails later → is_search false cx.args ≡ true → HasPerformed course.plan course.handed mid new.calls before now → MakesStarted mid new.calls
+    → before ≡ 0 → now ≡ 0 → new.fails ≡ (fails || old.fails) → Warned notes (later || old.term.warn) new.term.warn → PerformsOne true false cx stable rustup old.term.warn old new
+some_search cx stable rustup course notes fails later old new mid before now same planned on performed started first last kept warned = record {
   course = course;
   notes = notes;
   cut = performed.cut;
+  fails = fails;
   later = later;
   planned = planned;
   calls = calls_from course mid old.calls new.calls before now same performed;
@@ -342,31 +351,33 @@ some_search cx stable rustup course notes later old new mid before now same plan
   uncut = λ e. whole_count performed.cut before now performed.counted first last;
   passed = λ e off. absurd (true≢false (sym on ∙ off));
   unreported = λ off. absurd (true≢false (sym on ∙ off));
+  noted = λ e. kept;
   warns = λ e. warned;
 }
 
 -- one search for conflicts, where no error was reported
-pub hunts_one : (cx : ContextRecord) (stable : Result (Option Version) (String Global)) (rustup : Name) (course : Course) (notes : List Note) (later : Bool) (old new : HostView) (mid : List Call) (before now : ℕ) → mid ≡ old.calls
-    → cx.args.find_conflicts ≡ true → IsHuntedOut true cx rustup course notes → HasPerformed course.plan course.handed mid new.calls before now → MakesStarted mid new.calls
-    → before ≡ 0 → now ≡ 0 → Warned notes (later || old.term.warn) new.term.warn → PerformsOne true false cx stable rustup old.term.warn old new
-hunts_one cx stable rustup course notes later old new mid before now same on out performed started first last warned =
-    some_search cx stable rustup course notes later old new mid before now same (planned_hunt (IsPerformableOf cx.args.subcommand stable cx rustup) true cx rustup course notes on out) (hunted cx.args on) performed started first last warned
+pub hunts_one : (cx : ContextRecord) (stable : Result (Option Version) (String Global)) (rustup : Name) (course : Course) (notes : List Note) (fails later : Bool) (old new : HostView) (mid : List Call) (before now : ℕ) → mid ≡ old.calls
+    → cx.args.find_conflicts ≡ true → IsHuntedOut true cx rustup course notes fails later → HasPerformed course.plan course.handed mid new.calls before now → MakesStarted mid new.calls
+    → before ≡ 0 → now ≡ 0 → new.fails ≡ (fails || old.fails) → Warned notes (later || old.term.warn) new.term.warn → PerformsOne true false cx stable rustup old.term.warn old new
+hunts_one cx stable rustup course notes fails later old new mid before now same on out performed started first last kept warned =
+    some_search cx stable rustup course notes fails later old new mid before now same (planned_hunt (IsPerformableOf cx.args.subcommand stable cx rustup) true cx rustup course notes fails later on out) (hunted cx.args on) performed started first last kept warned
 
 -- one search for versions, where no error was reported
-pub searches_one : (cx : ContextRecord) (stable : Result (Option Version) (String Global)) (rustup : Name) (course : Course) (notes : List Note) (later : Bool) (old new : HostView) (mid : List Call) (before now : ℕ) → mid ≡ old.calls
-    → IsPlanOf cx.args.subcommand stable cx rustup course.plan notes → cx.args.find_conflicts ≡ false → cx.args.find_rust_version ≡ true → IsSearchedOut true course.plan course.handed → HasPerformed course.plan course.handed mid new.calls before now → MakesStarted mid new.calls
-    → before ≡ 0 → now ≡ 0 → Warned notes (later || old.term.warn) new.term.warn → PerformsOne true false cx stable rustup old.term.warn old new
-searches_one cx stable rustup course notes later old new mid before now same planned apart on out performed started first last warned =
-    some_search cx stable rustup course notes later old new mid before now same (planned_search (IsPerformableOf cx.args.subcommand stable cx rustup) true cx rustup course notes apart on (performable cx.args.subcommand stable cx rustup course.plan notes planned) out) (searched cx.args apart on) performed started first last warned
+pub searches_one : (cx : ContextRecord) (stable : Result (Option Version) (String Global)) (rustup : Name) (course : Course) (notes : List Note) (fails later : Bool) (old new : HostView) (mid : List Call) (before now : ℕ) → mid ≡ old.calls
+    → IsPlanOf cx.args.subcommand stable cx rustup course.plan notes → cx.args.find_conflicts ≡ false → cx.args.find_rust_version ≡ true → IsSearchedOut true course.plan course.handed fails → HasPerformed course.plan course.handed mid new.calls before now → MakesStarted mid new.calls
+    → before ≡ 0 → now ≡ 0 → new.fails ≡ (fails || old.fails) → Warned notes (later || old.term.warn) new.term.warn → PerformsOne true false cx stable rustup old.term.warn old new
+searches_one cx stable rustup course notes fails later old new mid before now same planned apart on out performed started first last kept warned =
+    some_search cx stable rustup course notes fails later old new mid before now same (planned_search (IsPerformableOf cx.args.subcommand stable cx rustup) true cx rustup course notes fails later apart on (performable cx.args.subcommand stable cx rustup course.plan notes planned) out) (searched cx.args apart on) performed started first last kept warned
 
 -- what was handed out, whatever came of its steps
 pub runs_some : (cx : ContextRecord) (stable : Result (Option Version) (String Global)) (rustup : Name) (course : Course) (notes : List Note) (old new : HostView) (mid : List Call) (before now : ℕ) → mid ≡ old.calls
-    → IsPlannedAsAsked (IsPlanOf cx.args.subcommand stable cx rustup) false false cx rustup course notes → HasPerformed course.plan course.handed mid new.calls before now → PerformsAtMostOne false cx stable rustup old new
+    → IsPlannedAsAsked (IsPlanOf cx.args.subcommand stable cx rustup) false false cx rustup course notes false false → HasPerformed course.plan course.handed mid new.calls before now → PerformsAtMostOne false cx stable rustup old new
 runs_some cx stable rustup course notes old new mid before now same planned performed = inr (record {
   course = course;
   notes = notes;
   cut = performed.cut;
-  planned = planned-by cx.args.find_conflicts (IsHuntedOut false cx rustup course notes) _ _ (IsHandedAsAsked false (is_search false cx.args) cx.args course) (performable cx.args.subcommand stable cx rustup course.plan notes) planned;
+  fails = false;
+  planned = planned-by cx.args.find_conflicts (IsHuntedOut false cx rustup course notes false false) _ _ (IsHandedAsAsked false (is_search false cx.args) cx.args course false) (performable cx.args.subcommand stable cx rustup course.plan notes) planned;
   later = false;
   calls = calls_from course mid old.calls new.calls before now same performed;
   wrote = tt;
@@ -374,6 +385,7 @@ runs_some cx stable rustup course notes old new mid before now same planned perf
   uncut = λ e. unended e;
   passed = λ e. unended e;
   unreported = λ u. refl;
+  noted = λ e. unended e;
   warns = λ e. unended e;
 })
 
@@ -383,14 +395,15 @@ performed_to plan handed old new other before now same h = subst (λ (calls : Li
 
 -- a list that was handed over, each step of which passed or was listed where no error was reported
 pub lists_one : {R : Type 0} (had has : Option (List ℕ)) (Told : List Note → R → R → Type 0) (Ran : PlanView → List Handed → R → R → Type 0) (cx : ContextRecord) (stable : Result (Option Version) (String Global)) (rustup : Name) (a b : R) (l : ListsOver (Unit {0}) had has Told Ran cx stable rustup a b)
-    → (calls : R → List Call) (before now : ℕ) (was term : Term) (fault : Option ProcessFault) → calls l.over.mid ≡ calls a → HasPerformed l.over.course.plan (filter is_sent l.over.course.handed) (calls l.over.mid) (calls b) before now
+    → (calls : R → List Call) (before now : ℕ) (was term : Term) (fails : Bool) (fault : Option ProcessFault) → calls l.over.mid ≡ calls a → HasPerformed l.over.course.plan (filter is_sent l.over.course.handed) (calls l.over.mid) (calls b) before now
     → (All HasPassed (filter is_sent l.over.course.handed) → MakesStarted (calls l.over.mid) (calls b)) → (All HasPassed (filter is_sent l.over.course.handed) ⊎ HasTold term.error fault) → Warned l.over.notes was.warn term.warn → fault ≡ None → term.error ≡ false
-    → PerformsOne true true cx stable rustup was.warn (record { calls = calls a; out = had; term = was }) (record { calls = calls b; out = has; term = term })
-lists_one had has Told Ran cx stable rustup a b l calls before now was term fault same performed started told warned none quiet = record {
+    → PerformsOne true true cx stable rustup was.warn (record { calls = calls a; out = had; term = was; fails = fails }) (record { calls = calls b; out = has; term = term; fails = fails })
+lists_one had has Told Ran cx stable rustup a b l calls before now was term fails fault same performed started told warned none quiet = record {
   course = l.over.course;
   notes = l.over.notes;
   cut = performed.cut;
-  planned = (performable cx.args.subcommand stable cx rustup l.over.course.plan l.over.notes l.over.planned, l.over.driven);
+  fails = false;
+  planned = (performable cx.args.subcommand stable cx rustup l.over.course.plan l.over.notes l.over.planned, (l.over.driven, refl));
   later = false;
   calls = subst (λ (cs : List Call). MakesCalls (λ made. PerformsAll l.over.course.plan (filter is_sent l.over.course.handed) made performed.cut) cs (calls b)) same (record { made = performed.made; grown = performed.grown; such = performed.performed });
   wrote = all_shown true had has (flat_map (lines_written l.over.course.plan) l.over.course.handed) (l.over.wrote tt);
@@ -398,6 +411,7 @@ lists_one had has Told Ran cx stable rustup a b l calls before now was term faul
   uncut = λ e. none_cut l.over.course.plan (filter is_sent l.over.course.handed) performed.made performed.cut (all_passed (filter is_sent l.over.course.handed) term fault told none quiet) performed.performed;
   passed = λ e u. all_handed l.over.course.handed (all_passed (filter is_sent l.over.course.handed) term fault told none quiet) l.listed;
   unreported = λ u. refl;
+  noted = λ e. refl;
   warns = λ e. warned;
 }
 

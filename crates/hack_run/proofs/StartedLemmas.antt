@@ -1,14 +1,14 @@
 -- Which commands were started, by what came of their steps.
-use Rattle.std.specs.Prelude.{ℕ, ◌≡◌, ◌≢◌, ◌⊎◌, ◌+◌, ◌^◌, ◌<◌, ◌||◌, Bool, true, false, List, [], ◌∷◌, ◌++◌, All, Contains, IsSomeAnd, MatchBool, Option, None, Some, Result, Ok, Err, if◌then◌else◌, length, map, nat_lt, not, slice_get}
+use Rattle.std.specs.Prelude.{ℕ, ◌≡◌, ◌≢◌, ◌+◌, ◌^◌, ◌<◌, ◌||◌, Bool, true, false, List, [], ◌∷◌, ◌++◌, All, IsSomeAnd, Option, None, Some, Result, Ok, Err, length, map, nat_lt, not, slice_get}
 use Rattle.std.specs.List.{AllZip, flat_map}
-use Rattle.std.proofs.Common.{refl, sym, ap, ◌∙◌, subst, inl, inr, arith, get_or}
+use Rattle.std.proofs.Common.{refl, sym, ap, ◌∙◌, subst, inl, inr, arith}
 use Rattle.std.proofs.lemmas.List.{append_assoc, append-nil}
 use Rattle.std.proofs.lemmas.Bool.{lt-ltb}
 use Rattle.std.proofs.lemmas.List.Elements.{All-append, All-cons, All-contains, All-head, All-nil, All-tail}
-use Rattle.hack_process.specs.Calls.{Answer, Asked as Question, Call, IsFailure, IsSuccess}
-use Rattle.hack_process.specs.Faults.{GotAnswer, IsFault, ReportsAnswer}
+use Rattle.hack_process.specs.Calls.{Answer, Asked as Question, Call, IsSuccess}
+use Rattle.hack_process.specs.Faults.{GotAnswer, ReportsAnswer}
 use Rattle.hack_process.specs.declared.caller.End.{End}
-use Rattle.hack_process.specs.declared.caller.End.TheVariants.{Status, Signal, NeverStarted}
+use Rattle.hack_process.specs.declared.caller.End.TheVariants.{Status, NeverStarted}
 use Rattle.hack_process.specs.declared.fault.ProcessFault.{ProcessFault}
 use Rattle.hack_process.specs.declared.fault.ProcessFault.TheVariants.{Memory, EmptyProgram, NeverExecuted, NotText, Failed as ByFailure}
 use Rattle.hack_plan.specs.Commands.{clean_command}
@@ -28,20 +28,19 @@ use Rattle.hack_msrv.specs.declared.found.Found.TheVariants.{Untried, Least, Now
 use Rattle.hack_msrv.specs.declared.trial.Came.{Came}
 use Rattle.hack_msrv.specs.declared.trial.Came.TheVariants.{Passed as TrialPassed, Failed as TrialFailed, Broken}
 use Rattle.hack_session.specs.Histories.{HasPassed, passed_step}
-use Rattle.hack_session.specs.StepCalls.{MakesCalls, number_at}
-use Rattle.hack_session.specs.StepEffects.{AnswersFault, Does, DoesAll, DoesTask, DoesTasks, Ends, EnsuresToolchain, Performed, Runs, Scene, cleaning_task, State, Task, TellsMemory, TriesFirst, is_run}
+use Rattle.hack_session.specs.StepCalls.{number_at}
+use Rattle.hack_session.specs.StepEffects.{Does, DoesAll, DoesTask, DoesTasks, EnsuresToolchain, Performed, Runs, Scene, cleaning_task, State, Task, TriesFirst}
 use Rattle.hack_session.specs.StepOutput.{Manner}
 use Rattle.hack_session.specs.declared.step.Handed.{Handed}
 use Rattle.hack_session.specs.declared.step.Outcome.TheVariants.{Passed, Failed}
 use Rattle.hack_session.specs.declared.step.Step.{Step}
 use Rattle.hack_session.specs.declared.step.Step.TheVariants.{Prepare, Skip, Run}
-use Rattle.hack_side.specs.Ends.{has_ended, is_end, is_failure}
+use Rattle.hack_side.specs.Ends.{has_ended, is_failure}
 use Rattle.hack_versions.specs.declared.version.Version.{Version}
 use Rattle.hack_culprits.specs.declared.fault.CulpritsFault.{CulpritsFault}
 use Rattle.hack_hunt.specs.Hunts.{AreHunted, AreHunts, IsBegun, IsHuntAt, RanHunts, Spot, left_of}
 use Rattle.hack_hunt.specs.declared.hunt.Hunted.{Hunted}
 use Rattle.hack_load.specs.Contexts.{ContextRecord}
-use Rattle.hack_run.specs.Findings.{HasLeast}
 use Rattle.hack_run.specs.Started.{MakesStarted, WasStarted}
 
 -- ---- calls
@@ -246,10 +245,6 @@ module _ {R : Type 0} (ran : PlanView → List Handed → R → R → Type 0) (e
       let one = one-built plan place m a h.0 fine (All-head (λ (m : Made). m.outcome ≢ build.Broken) m made whole) h.1 h.2 in
       let rest = builds_started plan (place + 1) made h.0 b one.1 (All-tail (λ (m : Made). m.outcome ≢ build.Broken) m made whole) h.3 in
       (more_made (calls a) (calls h.0) (calls b) one.0 rest.0, rest.1)
-
--- where each package has a least version, or no run, no search was broken off
-pub whole_least : (found : List Found) → All HasLeast found → AreUnbroken found
-whole_least found all = λ k d lt e. subst HasLeast e (all k d lt)
 
 -- a completed search built no broken run
 hunt-whole : (cx : ContextRecord) (spot : Spot) (most : Option ℕ) (h : Hunted) (made : List Made) (old new : PlanView) → IsHuntAt cx spot most h made old new → All (λ (m : Made). m.outcome ≢ build.Broken) made

@@ -1,5 +1,5 @@
 -- What a call did, put together from its stages.
-use Rattle.std.proofs.Common.{◌≡◌, ◌⊎◌, inl, inr, refl, sym, subst, ◌∙◌, ap, string_bytes, ℕ, Bool, true, false, List, [], ◌++◌, append-nil, Some, None, Option, Result, Ok, Err, OnOk, OnErr, IsErr, IsTrue, Global, String}
+use Rattle.std.proofs.Common.{◌≡◌, ◌⊎◌, inl, inr, refl, sym, subst, ◌∙◌, ap, string_bytes, ℕ, Bool, true, false, List, [], append-nil, None, Option, Result, Ok, Err, OnOk, OnErr, IsErr, IsTrue, Global, String}
 use Rattle.std.specs.Prelude.{◌||◌}
 use Rattle.std.specs.Result.{is_err}
 use Rattle.std.specs.Io.KnownBytes.{Appends}
@@ -77,6 +77,7 @@ one_told done listing cx stable rustup warned old new was now same h = record {
   course = h.course;
   notes = h.notes;
   cut = h.cut;
+  fails = h.fails;
   planned = h.planned;
   later = h.later;
   calls = h.calls;
@@ -85,6 +86,7 @@ one_told done listing cx stable rustup warned old new was now same h = record {
   uncut = h.uncut;
   passed = h.passed;
   unreported = h.unreported;
+  noted = h.noted;
   warns = λ d. subst (λ (b : Bool). Warned h.notes (h.later || warned) b) (sym (same d)) (h.warns d);
 }
 
@@ -92,7 +94,7 @@ one_told done listing cx stable rustup warned old new was now same h = record {
 pub one_made : (listing : Bool) (cx : ContextRecord) (stable : Result (Option Version) (String Global)) (rustup : Name) (warned other : Bool) (old new : HostView) (was now : Term)
     → PerformsOne false listing cx stable rustup warned old new → PerformsOne false listing cx stable rustup other (record old { term = was }) (record new { term = now })
 one_made listing cx stable rustup warned other old new was now h =
-    record { course = h.course; notes = h.notes; cut = h.cut; later = h.later; planned = h.planned; calls = h.calls; wrote = h.wrote; started = λ e. unended e; uncut = λ e. unended e; passed = λ e. unended e; unreported = h.unreported; warns = λ e. unended e }
+    record { course = h.course; notes = h.notes; cut = h.cut; fails = h.fails; later = h.later; planned = h.planned; calls = h.calls; wrote = h.wrote; started = λ e. unended e; uncut = λ e. unended e; passed = λ e. unended e; unreported = h.unreported; noted = λ e. unended e; warns = λ e. unended e }
 
 pub plan_told : (done : Bool) (cx : ContextRecord) (rustup : Name) (warned : Bool) (old new : HostView) (was now : Term) → (done ≡ true → now.warn ≡ new.term.warn)
     → PerformsPlan done cx rustup warned old new → PerformsPlan done cx rustup warned (record old { term = was }) (record new { term = now })
@@ -231,11 +233,11 @@ obeys_done tells told quiet r args answer env warned old new was is same perform
 
 -- a text was printed, and nothing is warned of
 pub prints : {T E : Type 0} (tells told quiet : Type 0) (r : Result T E) (answer : Parsed) (text : String Global) (notes : List Note) (env : Env) (old new : World) → answer ≡ parsed.Print text
-    → new.host.calls ≡ old.host.calls → new.host.term.warn ≡ old.host.term.warn → OnOk r (Appends old.host.out new.host.out (string_bytes text))
+    → new.host.calls ≡ old.host.calls → new.host.term.warn ≡ old.host.term.warn → new.host.fails ≡ old.host.fails → OnOk r (Appends old.host.out new.host.out (string_bytes text))
     → OnOk r (quiet → tells → Obeys true told answer env (warned_by answer notes old.host.term.warn) old new)
-prints tells told quiet r answer text notes env old new is calls same wrote =
+prints tells told quiet r answer text notes env old new is calls same kept wrote =
     subst (λ (a : Parsed). OnOk r (quiet → tells → Obeys true told a env (warned_by a notes old.host.term.warn) old new)) (sym is)
-    (on_ok (Appends old.host.out new.host.out (string_bytes text)) (quiet → tells → Obeys true told (parsed.Print text) env old.host.term.warn old new) r (λ w q t. (calls, all_shown true old.host.out new.host.out (string_bytes text) w, λ d. same)) wrote)
+    (on_ok (Appends old.host.out new.host.out (string_bytes text)) (quiet → tells → Obeys true told (parsed.Print text) env old.host.term.warn old new) r (λ w q t. (calls, all_shown true old.host.out new.host.out (string_bytes text) w, λ d. (same, kept))) wrote)
 
 pub prints_made : (told : Type 0) (answer : Parsed) (text : String Global) (env : Env) (warned : Bool) (old new : World) → answer ≡ parsed.Print text → new.host.calls ≡ old.host.calls → AppendsFront old.host.out new.host.out (string_bytes text)
     → Obeys false told answer env warned old new
@@ -243,13 +245,13 @@ prints_made told answer text env warned old new is calls front =
     subst (λ (a : Parsed). Obeys false told a env warned old new) (sym is) (calls, front, λ e. unended e)
 
 -- cargo listed its commands, and nothing more is warned of
-pub lists : {T E : Type 0} (tells told quiet : Type 0) (r : Result T E) (answer : Parsed) (env : Env) (warned : Bool) (old new : World) → answer ≡ parsed.List → new.host.term.warn ≡ warned → new.host.out ≡ old.host.out
+pub lists : {T E : Type 0} (tells told quiet : Type 0) (r : Result T E) (answer : Parsed) (env : Env) (warned : Bool) (old new : World) → answer ≡ parsed.List → new.host.term.warn ≡ warned → new.host.fails ≡ old.host.fails → new.host.out ≡ old.host.out
     → OnOk r (tells → GotAnswer (λ answer. IsSuccess answer.end) (listing_asked (string_bytes env.cargo)) old.host.calls new.host.calls)
     → OnOk r (quiet → tells → Obeys true told answer env warned old new)
-lists tells told quiet r answer env warned old new is same out listed =
+lists tells told quiet r answer env warned old new is same kept out listed =
     subst (λ (a : Parsed). OnOk r (quiet → tells → Obeys true told a env warned old new)) (sym is)
     (on_ok (tells → GotAnswer (λ answer. IsSuccess answer.end) (listing_asked (string_bytes env.cargo)) old.host.calls new.host.calls) (quiet → tells → Obeys true told parsed.List env warned old new) r
-    (λ f q t. let got = f t in (inr (got.0, got.2), out, λ d. (same, got))) listed)
+    (λ f q t. let got = f t in (inr (got.0, got.2), out, λ d. (same, kept, got))) listed)
 
 pub lists_made : (told : Type 0) (answer : Parsed) (env : Env) (warned : Bool) (old new : World) → answer ≡ parsed.List → new.host.out ≡ old.host.out → MayAdd (listing_asked (string_bytes env.cargo)) old.host.calls new.host.calls
     → Obeys false told answer env warned old new
@@ -270,8 +272,8 @@ done tells told quiet r words env old new mid rustup answer notes may needed rea
 obeys_moved : (done : Bool) (T : Type 0) (answer : Parsed) (env : Env) (warned : Bool) (old new : World) (later : FilesView) (now : Term) → (done ≡ true → T → KeepsAll new.files.held later.held) → (done ≡ true → now.warn ≡ new.host.term.warn)
     → Obeys done T answer env warned old new → Obeys done T answer env warned old (record { files = later; host = record new.host { term = now } })
 obeys_moved done T (parsed.Args args) env warned old new later now held same h = loads_moved done T args env warned old new later old.host.term now held same h
-obeys_moved done T (parsed.Print text) env warned old new later now held same h = (h.0, h.1, λ d. same d ∙ h.2 d)
-obeys_moved done T parsed.List env warned old new later now held same h = (h.0, h.1, λ d. let w = h.2 d in (same d ∙ w.0, w.1))
+obeys_moved done T (parsed.Print text) env warned old new later now held same h = (h.0, h.1, λ d. (same d ∙ (h.2 d).0, (h.2 d).1))
+obeys_moved done T parsed.List env warned old new later now held same h = (h.0, h.1, λ d. let w = h.2 d in (same d ∙ w.0, w.1, w.2))
 
 pub call_moved : (done : Bool) (T : Type 0) (words : List Name) (env : Env) (old new : World) (later : FilesView) (now : Term) → (done ≡ true → T → KeepsAll new.files.held later.held) → (done ≡ true → now.warn ≡ new.host.term.warn)
     → IsCallTrace done T words env old new → IsCallTrace done T words env old (record { files = later; host = record new.host { term = now } })

@@ -52,16 +52,17 @@ WritesText done false had has text = Unit {0}
 -- a search. Its steps made just these calls, one after the other, of a list those that aren't listed,
 -- which wrote the lines of the steps that passed. At the end of a call each command whose output isn't
 -- captured was started, none was cut short for want of memory, and each step passed, unless it was a
--- search's; and a warning is noted just where one was before, or where a notice of the plan counts as
--- one, or a search reported one.
+-- search's; it is noted that something fails just where that was so before, or a search found it; and a
+-- warning just where one was before, or where a notice of the plan counts as one, or a search warned.
 pub record PerformsOne (done listing : Bool) (cx : ContextRecord)
     (stable : Result (Option Version) (String Global)) (rustup : Name) (warned : Bool)
     (old new : HostView) : Type 0 where
   pub course : Course
   pub notes : List Note
   pub cut : ℕ
+  pub fails : Bool
   pub later : Bool
-  pub planned : IsPlannedAsAsked (IsPerformableOf cx.args.subcommand stable cx rustup) done listing cx rustup course notes
+  pub planned : IsPlannedAsAsked (IsPerformableOf cx.args.subcommand stable cx rustup) done listing cx rustup course notes fails later
   pub calls : MakesCalls (λ made.
       PerformsAll course.plan (if listing then filter is_sent course.handed else course.handed) made cut) old.calls new.calls
   pub wrote : WritesText done listing old.out new.out (flat_map (lines_written course.plan) course.handed)
@@ -69,6 +70,7 @@ pub record PerformsOne (done listing : Bool) (cx : ContextRecord)
   pub uncut : done ≡ true → cut ≡ 0
   pub passed : done ≡ true → is_search listing cx.args ≡ false → All HasPassed course.handed
   pub unreported : is_search listing cx.args ≡ false → later ≡ false
+  pub noted : done ≡ true → new.fails ≡ (fails || old.fails)
   pub warns : done ≡ true → Warned notes (later || warned) new.term.warn
 
 -- stable's version was asked for, only where the range needs it, and then an error ended the call;
@@ -107,18 +109,18 @@ abbrev pub listing_asked : Name → Asked
 listing_asked cargo = asked_of false (plain_command cargo [] (codes "--list" ∷ []))
 
 -- What a command line asks for: the plan was performed, or a text was printed, or cargo called for
--- its commands, which are all there at the end of the call, without a further warning.
+-- its commands, which are all there at the end of the call, without a further warning or finding.
 abbrev pub Obeys : Bool → Type 0 → Parsed → Env → Bool → World → World → Type 0
 Obeys done tells (parsed.Args args) env warned old new =
     LoadsAndPerforms done tells args env warned old new
 Obeys done tells (parsed.Print text) env warned old new =
     (new.host.calls ≡ old.host.calls)
     × WritesText done true old.host.out new.host.out (string_bytes text)
-    × (done ≡ true → new.host.term.warn ≡ warned)
+    × (done ≡ true → (new.host.term.warn ≡ warned) × (new.host.fails ≡ old.host.fails))
 Obeys done tells parsed.List env warned old new =
     MayAdd (listing_asked (string_bytes env.cargo)) old.host.calls new.host.calls
     × (new.host.out ≡ old.host.out)
-    × (done ≡ true → (new.host.term.warn ≡ warned) × GotAnswer (λ answer. IsSuccess answer.end)
+    × (done ≡ true → (new.host.term.warn ≡ warned) × (new.host.fails ≡ old.host.fails) × GotAnswer (λ answer. IsSuccess answer.end)
     (listing_asked (string_bytes env.cargo)) old.host.calls new.host.calls)
 
 -- whether a warning is noted after the command line's notices; a text is printed without them

@@ -1,6 +1,7 @@
 -- What a call hands out: the chosen piece of its plan, the trials of a search for versions, or what a
 -- search for conflicts built.
-use Rattle.std.specs.Prelude.{ℕ, ◌≡◌, ◌&&◌, ◌||◌, [], All, Bool, List, MatchBool, None, Ok, Result, length, not, true}
+use Rattle.std.specs.Prelude.{ℕ, ◌≡◌, ◌&&◌, ◌||◌, Bool, List, MatchBool, None, Ok, Result, length, not, false, true}
+use Rattle.std.specs.List.{list_any}
 use Rattle.hack_base.specs.Names.{Name}
 use Rattle.hack_base.specs.Notes.{Note}
 use Rattle.hack_culprits.specs.Built.{Made, steps_from}
@@ -9,7 +10,7 @@ use Rattle.hack_hunt.specs.Hunts.{AreHunted, spots_of}
 use Rattle.hack_hunt.specs.Searched.{IsSearchPlanOf}
 use Rattle.hack_hunt.specs.declared.hunt.Hunted.{Hunted}
 use Rattle.hack_load.specs.Contexts.{ContextRecord}
-use Rattle.hack_msrv.specs.Searches.{AreSearches, IsEnd, handed_in_all}
+use Rattle.hack_msrv.specs.Searches.{AreSearches, AreUnbroken, IsEnd, handed_in_all}
 use Rattle.hack_msrv.specs.Trials.{Trial}
 use Rattle.hack_msrv.specs.declared.found.Found.{Found}
 use Rattle.hack_plan.specs.Commands.{slots_in}
@@ -18,7 +19,7 @@ use Rattle.hack_session.specs.Handouts.{IsDriven}
 use Rattle.hack_session.specs.Histories.{Course}
 use Rattle.hack_session.specs.declared.step.Handed.{Handed}
 use Rattle.hack_words.specs.declared.cli.args.Args.{Args}
-use Rattle.hack_run.specs.Findings.{HasLeast}
+use Rattle.hack_run.specs.Findings.{has_conflict, is_failing, is_open}
 
 -- the arguments ask for a search for conflicts, where they don't ask for a list
 abbrev pub is_hunt : Bool → Args → Bool
@@ -29,23 +30,20 @@ abbrev pub is_search : Bool → Args → Bool
 is_search listing args = not listing && (args.find_conflicts || args.find_rust_version)
 
 -- The steps are those of a search for the least version of each package of the plan, which says what
--- was found of each. At the end of a call each package with a run has a least version.
-pub record IsSearchedOut (done : Bool) (plan : PlanView) (handed : List Handed) : Type 0 where
+-- was found of each. At the end of a call none was broken off, and it fails where a greatest version did.
+pub record IsSearchedOut (done : Bool) (plan : PlanView) (handed : List Handed) (fails : Bool) : Type 0 where
   pub searches : List (List Trial)
   pub found : List Found
   pub such : AreSearches plan 0 searches found
   pub steps : handed ≡ handed_in_all searches
   pub end : IsEnd plan found
-  pub least : done ≡ true → All HasLeast found
-
--- no set of the package's features fails, so far as is known
-abbrev pub HasNoConflict : Hunted → Type 0
-HasNoConflict hunted = (hunted.conflicts.items ≡ []) × (hunted.unfinished ≡ None)
+  pub told : done ≡ true → AreUnbroken found × (fails ≡ list_any is_failing found)
 
 -- The plan began with the chosen packages without runs, and grew by what searches for conflicts built,
 -- of each package in each slot, at most so many runs as the arguments allow; just these runs were handed
--- out. At the end of a call all searches came to their end, and found no conflict.
-pub record IsHuntedOut (done : Bool) (cx : ContextRecord) (rustup : Name) (course : Course) (notes : List Note) : Type 0 where
+-- out. At the end of a call all searches came to their end; it fails where a set did, and warns where not
+-- all sets are decided.
+pub record IsHuntedOut (done : Bool) (cx : ContextRecord) (rustup : Name) (course : Course) (notes : List Note) (fails warns : Bool) : Type 0 where
   pub ids : List ℕ
   pub start : PlanView
   pub begun : IsSearchPlanOf cx.args.subcommand cx rustup start ids notes
@@ -53,16 +51,17 @@ pub record IsHuntedOut (done : Bool) (cx : ContextRecord) (rustup : Name) (cours
   pub built : List Made
   pub hunts : AreHunted cx cx.args.most_runs (spots_of ids (slots_in start.call None)) came built start course.plan
   pub steps : course.handed ≡ steps_from (length start.entries) built
-  pub found : done ≡ true → (hunted : List Hunted) × (came ≡ Ok hunted) × All HasNoConflict hunted
+  pub told : done ≡ true → (hunted : List Hunted) × (came ≡ Ok hunted)
+      × (fails ≡ list_any has_conflict hunted) × (warns ≡ list_any is_open hunted)
 
 -- one history of the chosen piece was handed out; or a search's trials, where the arguments ask for that
-abbrev pub IsHandedAsAsked : Bool → Bool → Args → Course → Type 0
-IsHandedAsAsked done searching args course =
-    MatchBool searching (IsSearchedOut done course.plan course.handed) (IsDriven args.partition args.keep_going course)
+abbrev pub IsHandedAsAsked : Bool → Bool → Args → Course → Bool → Type 0
+IsHandedAsAsked done searching args course fails =
+    MatchBool searching (IsSearchedOut done course.plan course.handed fails) (IsDriven args.partition args.keep_going course × (fails ≡ false))
 
 -- What was handed out comes from a plan that is one of the context's; or, where the arguments ask for a
 -- search for conflicts, from one that grew.
-abbrev pub IsPlannedAsAsked : (PlanView → List Note → Type 0) → Bool → Bool → ContextRecord → Name → Course → List Note → Type 0
-IsPlannedAsAsked IsPlan done listing cx rustup course notes =
-    MatchBool (is_hunt listing cx.args) (IsHuntedOut done cx rustup course notes)
-    (IsPlan course.plan notes × IsHandedAsAsked done (is_search listing cx.args) cx.args course)
+abbrev pub IsPlannedAsAsked : (PlanView → List Note → Type 0) → Bool → Bool → ContextRecord → Name → Course → List Note → Bool → Bool → Type 0
+IsPlannedAsAsked IsPlan done listing cx rustup course notes fails warns =
+    MatchBool (is_hunt listing cx.args) (IsHuntedOut done cx rustup course notes fails warns)
+    (IsPlan course.plan notes × IsHandedAsAsked done (is_search listing cx.args) cx.args course fails)

@@ -24,6 +24,10 @@ use Rattle.hack_run.specs.declared.host.Host.{Host}
 use Rattle.std.specs.declared.io.traits.Write.{Ghosts as Writing}
 use Rattle.hack_process.specs.declared.caller.Caller.{Ghosts as Calling}
 use Rattle.hack_run.specs.CallTrace.{PerformsOne, PerformsPlan, WritesText}
+use Rattle.hack_run.specs.Findings.{has_conflict, is_failing, is_open}
+use Rattle.hack_hunt.specs.declared.hunt.Hunted.{Hunted}
+use Rattle.hack_msrv.specs.Searches.{AreUnbroken}
+use Rattle.hack_msrv.specs.declared.found.Found.{Found}
 use Rattle.hack_process.specs.Calls.{Call}
 use Rattle.hack_versions.specs.ToolTexts.{rustup_part}
 use Rattle.hack_versions.specs.declared.rustup.Rustup.{Rustup}
@@ -36,12 +40,31 @@ use Rattle.hack_words.specs.declared.cli.env.Env.{Env}
 use Rattle.hack_run.specs.Questions.{AsksRustup}
 use Rattle.hack_run.specs.declared.reading.Reading.{Reading}
 use Rattle.hack_words.specs.CommandLine.{Around}
-use Rattle.std.specs.List.{flat_map}
+use Rattle.std.specs.List.{flat_map, list_any}
 use Rattle.hack_planner.specs.CallPlan.{IsPlanOf}
 use Rattle.hack_session.specs.Histories.{Course}
 use Rattle.hack_session.specs.ListLines.{is_sent, lines_written}
 use Rattle.hack_session.specs.Internal.{IsListedStep}
 use Rattle.hack_session.specs.Handouts.{IsDriven}
+
+-- what searches found is reported: whether a set fails is kept, and a warning noted where not all sets
+-- are decided
+pub record Reports (found : List Hunted) (had has warned warn : Bool) : Type 0 where
+  pub fails : Bool
+  pub warns : Bool
+  pub failing : fails ≡ list_any has_conflict found
+  pub undecided : warns ≡ list_any is_open found
+  pub kept : has ≡ (had || fails)
+  pub noted : warn ≡ (warned || warns)
+
+-- the same of searches for the least version, none of which was broken off: a line may warn
+pub record ReportsFound (found : List Found) (had has warned warn : Bool) : Type 0 where
+  pub fails : Bool
+  pub warns : Bool
+  pub whole : AreUnbroken found
+  pub failing : fails ≡ list_any is_failing found
+  pub kept : has ≡ (had || fails)
+  pub noted : warn ≡ (warned || warns)
 
 -- one history was performed, or nothing was called and nothing listed
 abbrev pub PerformsAtMostOne : Bool → ContextRecord → Result (Option Version) (String Global) → Name → HostView → HostView → Type 0

@@ -1,5 +1,5 @@
 -- What happened to the commands of runs that go side by side.
-use Rattle.std.specs.Prelude.{ℕ, ◌≡◌, ◌⊎◌, List, [], MatchBool, Option, None, Result, false, true}
+use Rattle.std.specs.Prelude.{ℕ, ◌≡◌, ◌⊎◌, Bool, List, [], MatchBool, Option, None, Result, false, true}
 use Rattle.std.specs.Option.{unwrap_or}
 use Rattle.std.proofs.Common.{Global, String}
 use Rattle.hack_base.specs.Names.{Name}
@@ -34,7 +34,9 @@ pub record RunsOne {S : Type 0} (did : List Event → S → S → Type 0) (cx : 
     (stable : Result (Option Version) (String Global)) (rustup : Name) (old new : Scene S) : Type 0 where
   pub course : Course
   pub notes : List Note
-  pub planned : IsPlannedAsAsked (IsPlanOf cx.args.subcommand stable cx rustup) false false cx rustup course notes
+  pub fails : Bool
+  pub warns : Bool
+  pub planned : IsPlannedAsAsked (IsPlanOf cx.args.subcommand stable cx rustup) false false cx rustup course notes fails warns
   pub ran : MatchBool (is_search false cx.args) (RunsSerially did course.handed old new)
       (RunsAll did cx.args.partition course.plan course.handed old new)
 

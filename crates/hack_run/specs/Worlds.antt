@@ -1,10 +1,11 @@
 -- What a call reaches, as plain data.
-use Rattle.std.specs.Prelude.{◌≡◌, ℕ, List, Option}
+use Rattle.std.specs.Prelude.{◌≡◌, ◌||◌, ℕ, Bool, List, Option}
 use Rattle.std.specs.declared.io.traits.Write.{Ghosts as Writing}
 use Rattle.hack_files.specs.Files.{Change, Contents}
 use Rattle.hack_files.specs.declared.fs.Files.{Ghosts as Filing}
 use Rattle.hack_process.specs.Calls.{Call}
 use Rattle.hack_process.specs.declared.caller.Caller.{Ghosts as Calling}
+use Rattle.hack_term.specs.Lines.{IsExitStatus}
 use Rattle.hack_term.specs.declared.term.Term.{Term}
 use Rattle.hack_run.specs.declared.host.Host.{Host}
 
@@ -14,11 +15,13 @@ pub record FilesView : Type 0 where
   pub trace : List Change
   pub failed : ℕ
 
--- a host: the programs called so far, what was printed, where that is known, and the terminal
+-- a host: the programs called so far, what was printed, where that is known, the terminal, and whether
+-- a search found what fails
 pub record HostView : Type 0 where
   pub calls : List Call
   pub out : Option (List ℕ)
   pub term : Term
+  pub fails : Bool
 
 -- all that a call sees and changes
 pub record World : Type 0 where
@@ -29,11 +32,11 @@ abbrev pub files_view : {F : Type 0} → Filing F → F → FilesView
 files_view f files = record { held = f.bytes_at files; trace = f.trace files; failed = f.failed files }
 
 abbrev pub host_view : {C O E : Type 0} → Calling C → Writing O → Host C O E → HostView
-host_view c o host = record { calls = c.calls host.caller.now; out = o.contents host.out.now; term = host.term.now }
+host_view c o host = record { calls = c.calls host.caller.now; out = o.contents host.out.now; term = host.term.now; fails = host.fails }
 
--- a host of a caller, an output and a terminal
-abbrev pub host_of : {C O : Type 0} → Calling C → Writing O → C → O → Term → HostView
-host_of c o caller out term = record { calls = c.calls caller; out = o.contents out; term = term }
+-- a host of a caller, an output, a terminal, and whether a search found what fails
+abbrev pub host_of : {C O : Type 0} → Calling C → Writing O → C → O → Term → Bool → HostView
+host_of c o caller out term fails = record { calls = c.calls caller; out = o.contents out; term = term; fails = fails }
 
 abbrev pub world_of : {F C O E : Type 0} → Filing F → Calling C → Writing O → F → Host C O E → World
 world_of f c o files host = record { files = files_view f files; host = host_view c o host }
@@ -44,6 +47,11 @@ host_at calls host = record host { calls = calls }
 
 abbrev pub world_at : List Call → World → World
 world_at calls world = record world { host = host_at calls world.host }
+
+-- the exit status of a call: 1 where an error was reported, a search found what fails, or a warning was
+-- reported that is to count as an error; else 0
+abbrev pub IsStatus : Bool → HostView → ℕ → Type 0
+IsStatus deny_warnings host status = IsExitStatus deny_warnings (record host.term { error = host.fails || host.term.error }) status
 
 -- a host is handed on: each of its references is still the same, and so is its environment
 pub record IsSameHost {C O E : Type 0} (old new : Host C O E) : Type 0 where

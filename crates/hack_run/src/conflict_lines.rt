@@ -1,7 +1,7 @@
 //! What a search for conflicts found, as lines for the user.
 
 ghost use Rattle.std.specs.Prelude.{◌≡◌, [], All, None, OnOk, false};
-ghost use Rattle.hack_run.specs.Handed.{HasNoConflict};
+ghost use Rattle.hack_run.specs.Findings.{HasNoConflict};
 
 use hack_base::copies::push_copies;
 use hack_closures::Build;
@@ -12,7 +12,8 @@ use hack_term::term::Term;
 use std::alloc::{AllocError, Global};
 use std::io::Write;
 
-/// Reports what was found of each package and slot, in order: its conflicts as an error.
+/// Reports what was found of each package and slot, in order: its conflicts as an error. `term` is
+/// that of these lines alone.
 pub(crate) fn tell_hunted<E: Write>(
     alloc: Global,
     cx: &Context,

@@ -1,13 +1,15 @@
 //! The runs of a plan, and the report of those that failed.
 
-ghost use Rattle.std.specs.Prelude.{◌≡◌, ◌⊎◌, All, Contains, MatchBool, None, OnErr, OnOk, false};
+ghost use Rattle.std.specs.Prelude.{◌≡◌, ◌⊎◌, Bool, Contains, MatchBool, None, OnErr, OnOk, false};
 ghost use Rattle.std.specs.Prelude.{string_bytes, true};
+ghost use Rattle.std.specs.List.{list_any};
 ghost use Rattle.std.specs.Option.{unwrap_or};
 ghost use Rattle.hack_load.specs.ContextView.{context_view};
 ghost use Rattle.hack_msrv.specs.Searches.{AreUnbroken};
 ghost use Rattle.hack_run.specs.CallTrace.{PerformsOne};
-ghost use Rattle.hack_run.specs.Findings.{HasLeast};
+ghost use Rattle.hack_run.specs.Findings.{is_failing as has_failed};
 ghost use Rattle.hack_run.specs.Internal.{MayPerformItsPlan, PerformsAtMostOne, PerformsItsPlan};
+ghost use Rattle.hack_run.specs.Internal.{ReportsFound};
 ghost use Rattle.hack_run.specs.Lanes.{MayRunInLanes, RunsInLanes, RunsOne};
 ghost use Rattle.hack_run.specs.Questions.{IsAnswered};
 ghost use Rattle.hack_run.specs.Worlds.{IsSameHost, host_of};
@@ -18,6 +20,7 @@ use crate::explain::explain;
 use crate::fault::RunFault;
 use crate::findings::tell_found;
 use crate::host::Host;
+use crate::tell::{cut_off, fail};
 use hack_lanes::lanes::{Lanes, Window};
 use hack_lanes::turns::Turns;
 use hack_load::context::Context;
@@ -95,7 +98,16 @@ fn hand_to_starter<C: Starts, O: Write, E: Write>(
         window: &mut window,
     };
     let session = hand_out(
-        host.alloc, cx, rustup, stable, &mut lanes, host.term, host.out, host.err, fault,
+        host.alloc,
+        cx,
+        rustup,
+        stable,
+        &mut lanes,
+        host.term,
+        host.out,
+        host.err,
+        fault,
+        &mut host.fails,
     )?;
     window.clear(host.alloc, host.caller);
     Ok(session)
@@ -112,26 +124,29 @@ fn hand_out<L: Turns, O: Write, E: Write>(
     out: &mut O,
     err: &mut E,
     fault: &mut Option<ProcessFault>,
+    fails: &mut bool,
 ) -> Result<Option<Session>, PlanFault>
     requires { IsAnswered (context_view cx.now).args stable }
     ensures done { OnOk result (fault.new ≡ None → term.new.error ≡ false → L.tells
         → PerformsOne true false (context_view cx.now) stable rustup.now term.old.warn
-        (host_of L.Caller O.Write lanes.old out.old term.old)
-        (host_of L.Caller O.Write lanes.new out.new term.new)) }
+        (host_of L.Caller O.Write lanes.old out.old term.old fails.old)
+        (host_of L.Caller O.Write lanes.new out.new term.new fails.new)) }
     ensures made { L.tells → PerformsAtMostOne false (context_view cx.now) stable rustup.now
-        (host_of L.Caller O.Write lanes.old out.old term.old)
-        (host_of L.Caller O.Write lanes.new out.new term.new) }
+        (host_of L.Caller O.Write lanes.old out.old term.old fails.old)
+        (host_of L.Caller O.Write lanes.new out.new term.new fails.new) }
     ensures lanes { OnOk result (RunsOne L.did (context_view cx.now) stable rustup.now
         (L.scene lanes.old) (L.scene lanes.new)) }
     ensures stays { L.stays lanes.old lanes.new }
     ensures refused { OnErr result (lanes.new ≡ lanes.old) }
 {
     if cx.args().find_conflicts {
-        hunt_in_lanes(alloc, cx, rustup, lanes, term, out, err, fault)?;
+        hunt_in_lanes(alloc, cx, rustup, lanes, term, out, err, fault, fails)?;
         return Ok(None);
     }
     if cx.args().find_rust_version {
-        search_in_lanes(alloc, cx, rustup, stable, lanes, term, out, err, fault)?;
+        search_in_lanes(
+            alloc, cx, rustup, stable, lanes, term, out, err, fault, fails,
+        )?;
         return Ok(None);
     }
     let session = drive_in_lanes(alloc, cx, rustup, stable, lanes, term, out, err, fault)?;
@@ -154,12 +169,12 @@ fn drive_in_lanes<L: Turns, O: Write, E: Write>(
     requires apart { (context_view cx.now).args.find_conflicts ≡ false }
     requires piece { (context_view cx.now).args.find_rust_version ≡ false }
     ensures done { OnOk result (fault.new ≡ None → term.new.error ≡ false → L.tells
-        → PerformsOne true false (context_view cx.now) stable rustup.now term.old.warn
-        (host_of L.Caller O.Write lanes.old out.old term.old)
-        (host_of L.Caller O.Write lanes.new out.new term.new)) }
-    ensures made { L.tells → PerformsAtMostOne false (context_view cx.now) stable rustup.now
-        (host_of L.Caller O.Write lanes.old out.old term.old)
-        (host_of L.Caller O.Write lanes.new out.new term.new) }
+        → (fails : Bool) → PerformsOne true false (context_view cx.now) stable rustup.now
+        term.old.warn (host_of L.Caller O.Write lanes.old out.old term.old fails)
+        (host_of L.Caller O.Write lanes.new out.new term.new fails)) }
+    ensures made { L.tells → (fails : Bool) → PerformsAtMostOne false (context_view cx.now) stable
+        rustup.now (host_of L.Caller O.Write lanes.old out.old term.old fails)
+        (host_of L.Caller O.Write lanes.new out.new term.new fails) }
     ensures lanes { OnOk result (RunsOne L.did (context_view cx.now) stable rustup.now
         (L.scene lanes.old) (L.scene lanes.new)) }
     ensures stays { L.stays lanes.old lanes.new }
@@ -188,17 +203,18 @@ fn search_in_lanes<L: Turns, O: Write, E: Write>(
     out: &mut O,
     err: &mut E,
     fault: &mut Option<ProcessFault>,
+    fails: &mut bool,
 ) -> Result<(), PlanFault>
     requires answered { IsAnswered (context_view cx.now).args stable }
     requires apart { (context_view cx.now).args.find_conflicts ≡ false }
     requires search { (context_view cx.now).args.find_rust_version ≡ true }
     ensures done { OnOk result (fault.new ≡ None → term.new.error ≡ false → L.tells
         → PerformsOne true false (context_view cx.now) stable rustup.now term.old.warn
-        (host_of L.Caller O.Write lanes.old out.old term.old)
-        (host_of L.Caller O.Write lanes.new out.new term.new)) }
+        (host_of L.Caller O.Write lanes.old out.old term.old fails.old)
+        (host_of L.Caller O.Write lanes.new out.new term.new fails.new)) }
     ensures made { L.tells → PerformsAtMostOne false (context_view cx.now) stable rustup.now
-        (host_of L.Caller O.Write lanes.old out.old term.old)
-        (host_of L.Caller O.Write lanes.new out.new term.new) }
+        (host_of L.Caller O.Write lanes.old out.old term.old fails.old)
+        (host_of L.Caller O.Write lanes.new out.new term.new fails.new) }
     ensures lanes { OnOk result (RunsOne L.did (context_view cx.now) stable rustup.now
         (L.scene lanes.old) (L.scene lanes.new)) }
     ensures stays { L.stays lanes.old lanes.new }
@@ -210,12 +226,13 @@ fn search_in_lanes<L: Turns, O: Write, E: Write>(
     let mut serial = Serial { starter };
     let (plan, found) = search_context(alloc, cx, rustup, stable, &mut serial)?;
     let refused = serial.starter.refused > 0;
-    settle(alloc, cx, &plan, &found, refused, fault, term, err);
+    settle(alloc, cx, &plan, &found, refused, fault, fails, term, err);
     Ok(())
 }
 
-/// Reports what a search found, unless it was broken off: then `fault` says why, or memory was
-/// refused, which is told already. Else a run that failed is no error of the call.
+/// Reports what a search found, and keeps whether a greatest version fails. Where the search was
+/// broken off, `fault` says why, or memory was refused, which is told already. Else a run that failed
+/// is no error of the call.
 fn settle<E: Write>(
     alloc: Global,
     cx: &Context,
@@ -223,26 +240,46 @@ fn settle<E: Write>(
     found: &[Found],
     refused: bool,
     fault: &mut Option<ProcessFault>,
+    fails: &mut bool,
     term: &mut Term,
     err: &mut E,
 )
     ensures error { term.new.error ≡ false → term.old.error ≡ false }
-    ensures warn { term.new.warn ≡ false → term.old.warn ≡ false }
     ensures ends { fault.new ≡ None → term.new.error ≡ false → (refused ≡ false)
-        × (((fault.old ≡ None) × Contains found.now Found.Broken) ⊎ All HasLeast found.now) }
+        × (((fault.old ≡ None) × Contains found.now Found.Broken)
+        ⊎ ReportsFound found.now fails.old fails.new term.old.warn term.new.warn) }
 {
     if refused {
-        // It was told at once. What is kept is the error of an earlier run.
-        *fault = None;
-        term.error = true;
-        return;
+        return cut_off(fault, term);
     }
     if is_broken(found) {
         return;
     }
     *fault = None;
-    if tell_found(alloc, cx, plan, found, term, err).is_err() {
-        let _ = term.error("out of memory", err);
+    let mut lines = Term::new(term.coloring, term.verbose);
+    match tell_found(alloc, cx, plan, found, &mut lines, err) {
+        Ok(()) => {
+            *fails |= some_fail(found);
+            term.warn |= lines.warn;
+        }
+        Err(_) => fail("out of memory", term, err),
+    }
+}
+
+/// Whether some package's greatest version fails.
+fn some_fail(found: &[Found]) -> bool
+    ensures { result ≡ list_any has_failed found.now }
+{
+    found.iter().any(|one| is_failing(*one))
+}
+
+/// Whether the package's greatest version fails.
+fn is_failing(found: Found) -> bool
+    ensures { result ≡ has_failed found }
+{
+    match found {
+        Found::Nowhere { .. } => true,
+        Found::Untried | Found::Least { .. } | Found::Broken => false,
     }
 }
 

@@ -12,7 +12,7 @@ use std::alloc::{AllocError, Global};
 use std::io::Write;
 
 /// Reports what was found of each package of the plan, in order: as an error where its greatest
-/// version fails.
+/// version fails. `term` is that of these lines alone.
 pub(crate) fn tell_found<E: Write>(
     alloc: Global,
     cx: &Context,

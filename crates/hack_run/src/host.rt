@@ -1,6 +1,7 @@
 //! What a call reaches of the world.
 
-ghost use Rattle.std.specs.Prelude.{◌≡◌};
+ghost use Rattle.std.specs.Prelude.{◌≡◌, false};
+ghost use Rattle.hack_run.specs.Worlds.{IsStatus, host_view};
 
 use hack_process::process::Caller;
 use hack_term::term::Term;
@@ -22,10 +23,13 @@ pub struct Host<'a, C: Caller, O: Write, E: Write> {
     pub out: &'a mut O,
     /// Where messages go.
     pub err: &'a mut E,
+    /// Whether a search found what fails: features that fail together, or a package whose greatest
+    /// version fails. That is no error of the call, but its exit status is 1.
+    pub fails: bool,
 }
 
 impl<'a, C: Caller, O: Write, E: Write> Host<'a, C, O, E> {
-    /// A host of these.
+    /// A host of these, for which nothing was searched yet.
     pub fn new(
         alloc: Global,
         env: &'a Env,
@@ -43,6 +47,7 @@ impl<'a, C: Caller, O: Write, E: Write> Host<'a, C, O, E> {
             × (result.out.now ≡ out.entry.now) }
         ensures err { (result.err.ghost_name ≡ err.entry.ghost_name)
             × (result.err.now ≡ err.entry.now) }
+        ensures fails { result.fails ≡ false }
     {
         Host {
             alloc,
@@ -51,6 +56,19 @@ impl<'a, C: Caller, O: Write, E: Write> Host<'a, C, O, E> {
             caller,
             out,
             err,
+            fails: false,
         }
+    }
+
+    /// The exit status: 1 where a search found what fails, after an error, or after a warning where
+    /// warnings are denied; else 0.
+    pub fn status(&self) -> u8
+        ensures { IsStatus self.now.env.now.deny_warnings
+            (host_view C.Caller O.Write self.now) result }
+    {
+        if self.fails {
+            return 1;
+        }
+        self.term.status(self.env.deny_warnings)
     }
 }

@@ -16,8 +16,7 @@ ghost use Rattle.hack_run.specs.CallTrace.{IsCallTrace};
 ghost use Rattle.hack_run.specs.Readings.{IsEarlyReadingOrRefusal};
 ghost use Rattle.hack_run.specs.TemporaryEdits.{BringsBack, RestoresEdits};
 ghost use Rattle.hack_run.specs.Refusals.{AreRefused, ReportsRefusal};
-ghost use Rattle.hack_run.specs.Worlds.{IsSameHost, host_view};
-ghost use Rattle.hack_term.specs.Lines.{IsExitStatus};
+ghost use Rattle.hack_run.specs.Worlds.{IsSameHost, IsStatus, host_view};
 
 use crate::host::Host;
 use crate::reading::Reading;
@@ -46,7 +45,8 @@ pub fn run_journaled<F: Files, L: Files, U: Unkept, C: Starts, O: Write, E: Writ
 ) -> (u8, F, L, u64, U)
     requires { IfSome reading (IsEarlyReadingOrRefusal host.old.env.now (names_of words.now)) }
     ensures host { IsSameHost host.old host.new }
-    ensures status { IsExitStatus host.old.env.now.deny_warnings host.new.term.now result.0 }
+    ensures status { IsStatus host.old.env.now.deny_warnings
+        (host_view C.Caller O.Write host.new) result.0 }
 
     // The clauses `refused`, `done` and `made` promise what those of `run` do; and where no error
     // was reported each path holds what it held, unless the command line asks for edits that stay.

@@ -18,8 +18,7 @@ ghost use Rattle.hack_run.specs.Readings.{IsEarlyReadingOrRefusal};
 ghost use Rattle.hack_run.specs.TemporaryEdits.{BringsBack, ComesBack, IsClean, RestoresEdits};
 ghost use Rattle.hack_run.specs.Internal.{IsUntoldRefusal};
 ghost use Rattle.hack_run.specs.Refusals.{AreRefused, ReportsRefusal, WritesError};
-ghost use Rattle.hack_run.specs.Worlds.{IsSameHost, files_view, host_view, world_of};
-ghost use Rattle.hack_term.specs.Lines.{IsExitStatus};
+ghost use Rattle.hack_run.specs.Worlds.{IsSameHost, IsStatus, files_view, host_view, world_of};
 
 use crate::fault::RunFault;
 use crate::host::Host;
@@ -49,7 +48,8 @@ pub fn run<F: Files, C: Starts, O: Write, E: Write>(
     // What is read already is what these arguments are read into before anything is asked.
     requires { IfSome reading (IsEarlyReadingOrRefusal host.old.env.now (names_of words.now)) }
     ensures host { IsSameHost host.old host.new }
-    ensures status { IsExitStatus host.old.env.now.deny_warnings host.new.term.now result }
+    ensures status { IsStatus host.old.env.now.deny_warnings
+        (host_view C.Caller O.Write host.new) result }
 
     // What each single call of the files keeps (`F.stays`) is kept by all of them together.
     ensures stays { F.stays files.old files.new }
@@ -68,9 +68,11 @@ pub fn run<F: Files, C: Starts, O: Write, E: Write>(
 
     // Where no error was reported, what the command line asks for was done: the calls end with
     // those of the whole schedule of the plan, which follows from what this call asked and read, or
-    // of a search's trials, which found a least version of each package with a run. A list wrote
-    // just the lines of that schedule. A warning is noted just where one was before, or
-    // where a notice on the command line, on what was loaded or on the plan counts as one. Under
+    // of searches that came to their end. It is noted that something fails just where that was so
+    // before, or a search found a set that fails, or a package's greatest version does. A list wrote
+    // just the lines of that schedule. A warning is noted just where one was before, or where a
+    // notice on the command line, on what was loaded or on the plan counts as one, or a search for
+    // conflicts isn't complete; after a search for versions there may be one besides. Under
     // `--remove-dev-deps` each manifest that is edited holds its edit, and all else what it held.
     ensures done { host.new.term.now.error ≡ false → C.tells
         → IsCallTrace true F.tells (names_of words.now) host.old.env.now
@@ -118,7 +120,7 @@ pub fn run<F: Files, C: Starts, O: Write, E: Write>(
     let env = host.env;
     let came = read(words, reading, files, host);
     tell_end(host.alloc, came, env, host.term, host.err);
-    host.term.status(env.deny_warnings)
+    host.status()
 }
 
 /// Reads the command line, unless it is read already, and does what it asks for.

@@ -251,8 +251,11 @@ fn run_plan<C: Starts, O: Write, E: Write>(
 }
 
 /// Says beforehand which looks for samples will take long. A line for which memory is refused is left
-/// out.
+/// out. A search for conflicts looks for none.
 fn tell_looks<E: Write>(alloc: Global, cx: &Context, term: &Term, err: &mut E) {
+    if cx.args().find_conflicts {
+        return;
+    }
     if let Ok(looks) = long_looks(alloc, cx) {
         for text in &looks {
             let _ = term.info(text.as_str(), err);

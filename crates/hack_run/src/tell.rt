@@ -127,3 +127,21 @@ pub(crate) fn tell_all<E: Sink>(notices: &[Notice], term: &mut Term, err: &mut E
         let _ = term.notice(notice, err);
     }
 }
+
+/// Reports what cut a search short.
+pub(crate) fn fail<E: Write>(text: &str, term: &mut Term, err: &mut E)
+    ensures error { term.new.error ≡ true }
+    ensures warn { term.new.warn ≡ term.old.warn }
+{
+    let _ = term.error(text, err);
+}
+
+/// Leaves a search in which memory was refused, which was told at once. What is kept then is the
+/// error of an earlier run, which is none of the call.
+pub(crate) fn cut_off(fault: &mut Option<ProcessFault>, term: &mut Term)
+    ensures fault { fault.new ≡ None }
+    ensures term { term.new ≡ record term.old { error = true } }
+{
+    *fault = None;
+    term.error = true;
+}

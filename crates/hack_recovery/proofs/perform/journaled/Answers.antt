@@ -2,6 +2,7 @@ use Rattle.std.proofs.Common.{ap, refl}
 use Rattle.hack_recovery.specs.CallCourses.IsJournaledCall.{performed, unwatched}
 use Rattle.hack_recovery.specs.Scenes.{Scene, scene_of}
 use Rattle.hack_term.specs.declared.term.Term.{Term}
+use Rattle.hack_recovery.proofs.CallLemmas.{failed_status}
 use Rattle.hack_recovery.proofs.perform.journaled.Goals as goal
 
 pub returns-in-Ok-clause-goes : goal.returns-in-Ok-clause-goes
@@ -12,3 +13,6 @@ returns-in-Ok-clause-goes g c = λ locks.
 
 pub returns-in-Err-clause-goes : goal.returns-in-Err-clause-goes
 returns-in-Err-clause-goes g c = λ locks. unwatched (g.G.Guards.shown c.start.new.self) c.in-Err.ensures.refused refl (ap (λ (k : Term). k.error) c.report.ensures.term)
+
+pub returns-in-Err-clause-status : goal.returns-in-Err-clause-status
+returns-in-Err-clause-status g c = failed_status _ _ c.report.new.term c.report.result c.report.ensures.status (ap (λ (k : Term). k.error) c.report.ensures.term)

@@ -1,6 +1,6 @@
 use Rattle.std.proofs.Common.{refl, subst}
 use Rattle.hack_base.specs.Names.{names_of}
-use Rattle.hack_journal.specs.Rows.{Spot, spot_of}
+use Rattle.hack_journal.specs.Rows.{Spot}
 use Rattle.hack_recovery.specs.CallCourses.{Journals}
 use Rattle.hack_recovery.specs.Scenes.{Scene, scene_of}
 use Rattle.hack_recovery.proofs.perform.over_journal.Goals as goal
@@ -19,7 +19,7 @@ returns-clause-goes g c = λ locks guards.
         others = c.close.ensures.others;
         made = c.close.ensures.made;
         lockfiles = refl;
-        quiet = record { calls = refl; out = refl; locks = refl; guards = refl };
+        quiet = record { calls = refl; out = refl; fails = refl; locks = refl; guards = refl };
         told = c.close.ensures.told;
       };
     }

@@ -1,4 +1,4 @@
-use Rattle.std.proofs.Common.{◌∙◌, true, ap, refl, string_bytes}
+use Rattle.std.proofs.Common.{◌∙◌, true, ap, refl}
 use Rattle.hack_base.specs.Names.{names_of, optional_text}
 use Rattle.hack_term.specs.declared.term.Term.{Term}
 use Rattle.hack_run.specs.Worlds.{FilesView, HostView, files_view, host_view}
@@ -7,7 +7,7 @@ use Rattle.hack_recovery.specs.PlacesView.{places_view}
 use Rattle.hack_recovery.specs.Scenes.{Scene, scene_by, scene_of, scene_with}
 use Rattle.hack_recovery.specs.CallCourses.{CannotSee}
 use Rattle.hack_recovery.specs.CallCourses.IsCallCourse.{turned_away, under_its_lock}
-use Rattle.hack_recovery.proofs.CallLemmas.{plain_course, unseen_course}
+use Rattle.hack_recovery.proofs.CallLemmas.{failed_status, plain_course, unseen_course}
 use Rattle.hack_recovery.proofs.perform.perform.Goals as goal
 
 pub returns-in-Ok-Plain-clause-goes : goal.returns-in-Ok-Plain-clause-goes
@@ -24,7 +24,7 @@ returns-in-Ok-Plain-clause-goes g c =
       begins = c.in-Ok.ensures.begun;
       admitted = rw (c.in-Ok-Plain.field-0-is, c.as_str-2.ensures.value) at c.in-Ok-Plain.ensures;
       counted = c.in-Ok.ensures.counted;
-      untouched = record { files = record { same = c.in-Ok.ensures.same; untraced = c.in-Ok.ensures.untraced }; lockfiles = refl; guards = refl; calls = refl; out = refl };
+      untouched = record { files = record { same = c.in-Ok.ensures.same; untraced = c.in-Ok.ensures.untraced }; lockfiles = refl; guards = refl; calls = refl; out = refl; fails = refl };
     })
     refl
     (λ on. ap (λ files. scene_by (files_view g.F.Files files) lockfiles locks guards (host_view g.C.Caller g.O.Write c.plainly-status.new.host)) (came.restores on).0
@@ -41,7 +41,7 @@ returns-in-Ok-Guarded-clause-goes g c =
       begins = c.in-Ok.ensures.begun;
       admitted = rw (c.in-Ok-Guarded.field-0-is, c.as_str-2.ensures.value) at c.in-Ok-Guarded.ensures;
       counted = c.in-Ok.ensures.counted;
-      untouched = record { files = record { same = c.in-Ok.ensures.same; untraced = c.in-Ok.ensures.untraced }; lockfiles = refl; guards = refl; calls = refl; out = refl };
+      untouched = record { files = record { same = c.in-Ok.ensures.same; untraced = c.in-Ok.ensures.untraced }; lockfiles = refl; guards = refl; calls = refl; out = refl; fails = refl };
     })
     refl c.guarded.ensures.goes
 
@@ -54,7 +54,7 @@ returns-in-Err-clause-goes g c =
       begins = c.in-Ok.ensures.begun;
       admitted = rw c.as_str-2.ensures.value at c.in-Err.ensures;
       counted = c.in-Ok.ensures.counted;
-      untouched = record { files = record { same = c.in-Ok.ensures.same; untraced = c.in-Ok.ensures.untraced }; lockfiles = refl; guards = refl; calls = refl; out = refl };
+      untouched = record { files = record { same = c.in-Ok.ensures.same; untraced = c.in-Ok.ensures.untraced }; lockfiles = refl; guards = refl; calls = refl; out = refl; fails = refl };
     })
     (ap (λ (k : Term). k.error) c.report.ensures.term)
 
@@ -73,7 +73,7 @@ returns-in-Err-Unseen-clause-goes g c =
       path = optional_text asked.manifest_path;
       asked = halted.1;
       failed = halted.0;
-      untouched = record { files = record { same = c.in-Err-Unseen.ensures.same; untraced = c.in-Err-Unseen.ensures.untraced }; lockfiles = refl; guards = refl; calls = refl; out = refl };
+      untouched = record { files = record { same = c.in-Err-Unseen.ensures.same; untraced = c.in-Err-Unseen.ensures.untraced }; lockfiles = refl; guards = refl; calls = refl; out = refl; fails = refl };
       locks = refl;
     } in
     unseen_course _ _ _ _ _ _ _ _ _ asked.edits old (scene_with seen (record term { error = true }) old) (scene_with seen (record term { warn = true }) old) _ (is_change asked.edits) refl
@@ -81,3 +81,6 @@ returns-in-Err-Unseen-clause-goes g c =
     (λ on. ap (λ files. scene_by (files_view g.F.Files files) lockfiles locks guards (host_view g.C.Caller g.O.Write c.blindly-status.new.host)) (came.refused on).0
     ∙ ap (λ (host : HostView). scene_by seen lockfiles locks guards host) (came.refused on).1)
     (λ off. came.runs off lockfiles locks guards)
+
+pub returns-in-Err-clause-status : goal.returns-in-Err-clause-status
+returns-in-Err-clause-status g c = failed_status _ _ c.report.new.term c.report.result c.report.ensures.status (ap (λ (k : Term). k.error) c.report.ensures.term)

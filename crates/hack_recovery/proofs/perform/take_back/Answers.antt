@@ -29,5 +29,5 @@ returns-clause-goes g c = λ locks guards.
       none = settled-by.none;
       apart = settled-by.apart;
       told = settled-by.told;
-      quiet = record { calls = ap (λ (h : HostView). h.calls) settled-by.view; out = ap (λ (h : HostView). h.out) settled-by.view; locks = refl; guards = refl };
+      quiet = record { calls = ap (λ (h : HostView). h.calls) settled-by.view; out = ap (λ (h : HostView). h.out) settled-by.view; fails = ap (λ (h : HostView). h.fails) settled-by.view; locks = refl; guards = refl };
     })

@@ -1,4 +1,4 @@
-use Rattle.std.proofs.Common.{◌≡◌, ◌∙◌, Some, None, ap, string_bytes, sym}
+use Rattle.std.proofs.Common.{◌∙◌, ap, sym}
 use Rattle.std.specs.Option.{option_map}
 use Rattle.hack_journal.specs.Journal.{edit_of}
 use Rattle.hack_journal.specs.Rows.{spot_of}

@@ -1,5 +1,5 @@
 use Rattle.std.proofs.Common.{◌≡◌, All, false, subst}
-use Rattle.hack_run.specs.Handed.{HasNoConflict}
+use Rattle.hack_run.specs.Findings.{HasNoConflict}
 use Rattle.hack_run.proofs.FindingLemmas.{all-more, all-whole}
 use Rattle.hack_run.proofs.conflict_lines.tell_hunted.Goals as goal
 

@@ -1,5 +1,5 @@
 use Rattle.std.proofs.Common.{◌≡◌, All, false, take}
-use Rattle.hack_run.specs.Handed.{HasNoConflict}
+use Rattle.hack_run.specs.Findings.{HasNoConflict}
 use Rattle.hack_run.proofs.conflict_lines.tell_hunted.Given as goal
 
 -- no package so far has a conflict, where no error was reported

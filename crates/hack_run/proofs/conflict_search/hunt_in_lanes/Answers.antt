@@ -1,16 +1,17 @@
-use Rattle.std.proofs.Common.{◌≡◌, ◌⊎◌, Ok, [], ap, false, inl, inr, length, refl, subst, sym, true, ◌∙◌}
-use Rattle.std.specs.Prelude.{All, Bool, List, MatchBool, None, Result}
+use Rattle.std.proofs.Math.Bool.{or_comm}
+use Rattle.std.proofs.Common.{◌≡◌, Ok, [], ap, false, inl, inr, length, refl, subst, sym, ◌∙◌}
+use Rattle.std.specs.Prelude.{Bool, List, MatchBool, None, Result}
 use Rattle.hack_plan.specs.Commands.{slots_in}
 use Rattle.hack_culprits.specs.Built.{steps_from}
 use Rattle.hack_culprits.specs.declared.fault.CulpritsFault.{CulpritsFault}
 use Rattle.hack_hunt.specs.Hunts.{AreHunted, came_of, spots_of}
 use Rattle.hack_hunt.specs.declared.hunt.Hunted.{Hunted}
-use Rattle.hack_session.specs.Histories.{Course, HasPassed}
+use Rattle.hack_session.specs.Histories.{Course}
 use Rattle.hack_term.specs.declared.term.Term.{Term}
 use Rattle.hack_load.specs.ContextView.{context_view}
 use Rattle.hack_planner.specs.CallPlan.{IsPlanOf}
 use Rattle.hack_side.specs.Turns.{RunsAll, RunsSerially}
-use Rattle.hack_run.specs.Handed.{HasNoConflict, IsHuntedOut}
+use Rattle.hack_run.specs.Internal.{Reports}
 use Rattle.hack_run.specs.Warnings.{have_warning}
 use Rattle.hack_run.specs.Worlds.{host_of}
 use Rattle.hack_run.proofs.FindingLemmas.{not_cut, warned_later}
@@ -44,13 +45,13 @@ returns-clause-done g c = λ none quiet t stable.
     let now = c.settle.new.term in
     let settled = c.settle.ensures.ends none quiet in
     let silent = subst (λ (term : Term). term.error ≡ false) term_is (c.settle.ensures.error quiet) in
-    let stays = subst (λ (term : Term). now.warn ≡ false → term.warn ≡ false) term_is c.settle.ensures.warn in
     let warned = warned_run c.args.term.now c.set_manner.new.self.term.now mid.term.now last.term.now notes (ap (λ s. s.term.now) made ∙ c.new-starter.ensures.term.1) told.6 (ap (λ s. s.warn) ran.7) in
-    let found : (found : List Hunted) × (came_of hunt.found ≡ Ok found) × All HasNoConflict found = elim settled.1 [
+    let found : (found : List Hunted) × (came_of hunt.found ≡ Ok found) × Reports found c.args.fails.now c.settle.new.fails last.term.now.warn now.warn = elim settled.1 [
       | inl broken ↦ absurd (not_cut (length start.entries) (came_of hunt.found) hunts.hunts.left hunts.hunts.hunted hunts.built hunts.hunts.end broken.1
           (all_passed handed last.term.now last.fault.now (passed_or_told g.L.Caller.tells _ _ hunt.plan handed _ _ ran.8) (sym fault_is ∙ broken.0) silent))
-      | inr one ↦ one
+      | inr one ↦ (one.0, one.1, subst (λ (term : Term). Reports one.0 c.args.fails.now c.settle.new.fails term.warn now.warn) term_is one.2)
     ] in
+    let report = found.2 in
     let zero = told.4 ∙ ap (λ s. s.refused) made ∙ c.new-starter.ensures.refused in
     let stops : course-of.1.starter.keep_going ≡ false = told.10 ∙ ap (λ s. s.keep_going) made in
     let whole = whole_hunts cx cx.args.most_runs _ found.0 hunts.built start hunt.plan (subst (λ (came : Result (List Hunted) CulpritsFault). AreHunted cx cx.args.most_runs (spots_of course-of.2 (slots_in start.call None)) came hunts.built start hunt.plan) found.1 hunts.hunts) in
@@ -60,11 +61,11 @@ returns-clause-done g c = λ none quiet t stable.
     (one.0, (one.1, sym did.2.5 ∙ fine.1)))
     (zero, stops) whole in
     rw (lanes_is, out_is)
-    (hunts_one cx stable c.args.rustup.now course notes now.warn (host_of g.L.Caller g.O.Write c.args.lanes.now c.args.out.now c.args.term.now) (host_of g.L.Caller g.O.Write last.caller.now last.out.now now)
+    (hunts_one cx stable c.args.rustup.now course notes report.fails report.warns (host_of g.L.Caller g.O.Write c.args.lanes.now c.args.out.now c.args.term.now c.args.fails.now) (host_of g.L.Caller g.O.Write last.caller.now last.out.now now c.settle.new.fails)
     (calls mid.caller.now) mid.refused last.refused (ap calls (told.3 ∙ ap (λ s. s.caller.now) made ∙ c.new-starter.ensures.caller.1)) c.requires
-    (record { ids = course-of.2; start = start; begun = course-of.4; came = came_of hunt.found; built = hunts.built; hunts = hunts.hunts; steps = refl; found = λ e. found })
+    (record { ids = course-of.2; start = start; begun = course-of.4; came = came_of hunt.found; built = hunts.built; hunts = hunts.hunts; steps = refl; told = λ e. (found.0, found.1, report.failing, report.undecided) })
     (has_performed g.L.Caller.tells _ _ hunt.plan handed _ _ ran.8 t) started.0 (told.4 ∙ ap (λ s. s.refused) made ∙ c.new-starter.ensures.refused) (unrefused last.refused settled.0)
-    (warned_later (have_warning notes) c.args.term.now.warn last.term.now.warn now.warn warned stays))
+    (report.kept ∙ or_comm c.args.fails.now report.fails) (warned_later (have_warning notes) c.args.term.now.warn last.term.now.warn report.warns now.warn warned report.noted))
 
 pub returns-clause-made : goal.returns-clause-made
 returns-clause-made g c = λ t stable.
@@ -85,10 +86,10 @@ returns-clause-made g c = λ t stable.
     let lanes_is = c.lanes-2-1.given.1 (sym c.new-starter.ensures.caller.0 ∙ ap (λ s. s.caller.ghost_name) (sym made) ∙ told.0 ∙ ran.0) in
     let out_is = c.out-2-1.given.1 (sym c.new-starter.ensures.out.0 ∙ ap (λ s. s.out.ghost_name) (sym made) ∙ told.7 ∙ ran.3) in
     rw (lanes_is, out_is)
-    (runs_some cx stable c.args.rustup.now course notes (host_of g.L.Caller g.O.Write c.args.lanes.now c.args.out.now c.args.term.now) (host_of g.L.Caller g.O.Write last.caller.now last.out.now c.settle.new.term)
+    (runs_some cx stable c.args.rustup.now course notes (host_of g.L.Caller g.O.Write c.args.lanes.now c.args.out.now c.args.term.now c.args.fails.now) (host_of g.L.Caller g.O.Write last.caller.now last.out.now c.settle.new.term c.settle.new.fails)
     (calls mid.caller.now) mid.refused last.refused (ap calls (told.3 ∙ ap (λ s. s.caller.now) made ∙ c.new-starter.ensures.caller.1))
-    (planned_hunt (IsPlanOf cx.args.subcommand stable cx c.args.rustup.now) false cx c.args.rustup.now course notes c.requires
-    (record { ids = course-of.2; start = start; begun = course-of.4; came = came_of hunt.found; built = hunts.built; hunts = hunts.hunts; steps = refl; found = λ e. unended e }))
+    (planned_hunt (IsPlanOf cx.args.subcommand stable cx c.args.rustup.now) false cx c.args.rustup.now course notes false false c.requires
+    (record { ids = course-of.2; start = start; begun = course-of.4; came = came_of hunt.found; built = hunts.built; hunts = hunts.hunts; steps = refl; told = λ e. unended e }))
     (has_performed g.L.Caller.tells _ _ hunt.plan handed _ _ ran.8 t))
 
 pub returns-clause-lanes : goal.returns-clause-lanes
@@ -109,8 +110,10 @@ returns-clause-lanes g c = λ stable.
     rw lanes_is (record {
       course = course;
       notes = notes;
-      planned = planned_hunt (IsPlanOf cx.args.subcommand stable cx c.args.rustup.now) false cx c.args.rustup.now course notes c.requires
-          (record { ids = course-of.2; start = start; begun = course-of.4; came = came_of hunt.found; built = hunts.built; hunts = hunts.hunts; steps = refl; found = λ e. unended e });
+      fails = false;
+      warns = false;
+      planned = planned_hunt (IsPlanOf cx.args.subcommand stable cx c.args.rustup.now) false cx c.args.rustup.now course notes false false c.requires
+          (record { ids = course-of.2; start = start; begun = course-of.4; came = came_of hunt.found; built = hunts.built; hunts = hunts.hunts; steps = refl; told = λ e. unended e });
       ran = subst (λ (b : Bool). MatchBool b (RunsSerially g.L.Turns.did handed (g.L.Turns.scene c.args.lanes.now) (g.L.Turns.scene last.caller.now)) (RunsAll g.L.Turns.did cx.args.partition hunt.plan handed (g.L.Turns.scene c.args.lanes.now) (g.L.Turns.scene last.caller.now))) (sym (hunted cx.args c.requires))
           (subst (λ s. RunsSerially g.L.Turns.did handed s (g.L.Turns.scene last.caller.now)) (ap g.L.Turns.scene (told.3 ∙ ap (λ s. s.caller.now) made ∙ c.new-starter.ensures.caller.1)) hunts.whole.1);
     })

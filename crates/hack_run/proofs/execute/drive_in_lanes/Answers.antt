@@ -1,10 +1,9 @@
-use Rattle.std.proofs.Common.{◌≡◌, ap, false, subst, sym, ◌∙◌}
+use Rattle.std.proofs.Common.{◌≡◌, ap, false, refl, subst, sym, ◌∙◌}
 use Rattle.std.specs.Prelude.{Bool, MatchBool, Option}
 use Rattle.hack_plan.specs.declared.partition.Partition.{Partition}
 use Rattle.hack_term.specs.declared.term.Term.{Term}
 use Rattle.hack_words.specs.declared.cli.args.Args.{Args}
 use Rattle.hack_load.specs.ContextView.{context_view}
-use Rattle.hack_lanes.specs.Views.{scene_of}
 use Rattle.hack_side.specs.Turns.{RunsAll, RunsSerially}
 use Rattle.hack_run.specs.Worlds.{host_of}
 use Rattle.hack_planner.specs.CallPlan.{IsPlanOf}
@@ -15,7 +14,7 @@ use Rattle.hack_run.proofs.ToldLemmas.{warned_run}
 use Rattle.hack_run.proofs.execute.drive_in_lanes.Goals as goal
 
 pub returns-clause-done : goal.returns-clause-done
-returns-clause-done g c = λ none quiet t.
+returns-clause-done g c = λ none quiet t fails.
     let cx = context_view c.args.cx.now in
     let calls = g.L.Caller.calls in
     let session = c.in_ok-session.session in
@@ -31,14 +30,14 @@ returns-clause-done g c = λ none quiet t.
     let fault_is = c.fault-1.given.1 (sym c.new-starter.ensures.fault.0 ∙ ap (λ s. s.fault.ghost_name) (sym made) ∙ told.2 ∙ ran.2) in
     let out_is = c.out-1.given.1 (sym c.new-starter.ensures.out.0 ∙ ap (λ s. s.out.ghost_name) (sym made) ∙ told.7 ∙ ran.3) in
     rw (lanes_is, term_is, out_is)
-    (runs_one cx c.args.stable c.args.rustup.now session notes (host_of g.L.Caller g.O.Write c.args.lanes.now c.args.out.now c.args.term.now) (host_of g.L.Caller g.O.Write last.caller.now last.out.now last.term.now) (calls mid.caller.now) mid.refused last.refused last.term.now last.fault.now
+    (runs_one cx c.args.stable c.args.rustup.now session notes (host_of g.L.Caller g.O.Write c.args.lanes.now c.args.out.now c.args.term.now fails) (host_of g.L.Caller g.O.Write last.caller.now last.out.now last.term.now fails) (calls mid.caller.now) mid.refused last.refused last.term.now last.fault.now
     (ap calls (told.3 ∙ ap (λ s. s.caller.now) made ∙ c.new-starter.ensures.caller.1)) c.in_ok-session.ensures.ran.2 c.requires.apart c.requires.piece headline.driven
     (has_performed g.L.Caller.tells _ _ session.plan session.handed _ _ ran.8 t) (λ all. (all_started g.L.Caller.tells t _ _ session.plan session.handed _ _ all ran.8).0) (passed_or_told g.L.Caller.tells _ _ session.plan session.handed _ _ ran.8)
-    (warned_run c.args.term.now c.set_manner.new.self.term.now mid.term.now last.term.now notes (ap (λ s. s.term.now) made ∙ c.new-starter.ensures.term.1) told.6 (ap (λ s. s.warn) ran.7)) (sym fault_is ∙ none)
+    (warned_run c.args.term.now c.set_manner.new.self.term.now mid.term.now last.term.now notes (ap (λ s. s.term.now) made ∙ c.new-starter.ensures.term.1) told.6 (ap (λ s. s.warn) ran.7)) refl (sym fault_is ∙ none)
     (subst (λ (term : Term). term.error ≡ false) term_is quiet))
 
 pub returns-clause-made : goal.returns-clause-made
-returns-clause-made g c = λ t.
+returns-clause-made g c = λ t fails.
     let cx = context_view c.args.cx.now in
     let calls = g.L.Caller.calls in
     let session = c.in_ok-session.session in
@@ -51,7 +50,7 @@ returns-clause-made g c = λ t.
     let term_is = c.term-1.given.1 (sym c.new-starter.ensures.term.0 ∙ ap (λ s. s.term.ghost_name) (sym made) ∙ told.1 ∙ ran.1) in
     let out_is = c.out-1.given.1 (sym c.new-starter.ensures.out.0 ∙ ap (λ s. s.out.ghost_name) (sym made) ∙ told.7 ∙ ran.3) in
     rw (lanes_is, term_is, out_is)
-    (runs_some cx c.args.stable c.args.rustup.now session c.in_ok-session.ensures.ran.0 (host_of g.L.Caller g.O.Write c.args.lanes.now c.args.out.now c.args.term.now) (host_of g.L.Caller g.O.Write last.caller.now last.out.now last.term.now) (calls mid.caller.now) mid.refused last.refused
+    (runs_some cx c.args.stable c.args.rustup.now session c.in_ok-session.ensures.ran.0 (host_of g.L.Caller g.O.Write c.args.lanes.now c.args.out.now c.args.term.now fails) (host_of g.L.Caller g.O.Write last.caller.now last.out.now last.term.now fails) (calls mid.caller.now) mid.refused last.refused
     (ap calls (told.3 ∙ ap (λ s. s.caller.now) made ∙ c.new-starter.ensures.caller.1)) (planned_piece (IsPlanOf cx.args.subcommand c.args.stable cx c.args.rustup.now) false cx c.args.rustup.now session c.in_ok-session.ensures.ran.0 c.requires.apart c.requires.piece c.in_ok-session.ensures.ran.2 c.in_ok-session.ensures.headline.driven)
     (has_performed g.L.Caller.tells _ _ session.plan session.handed _ _ ran.8 t))
 
@@ -68,6 +67,8 @@ returns-clause-lanes g c =
     rw lanes_is (record {
       course = session;
       notes = c.in_ok-session.ensures.ran.0;
+      fails = false;
+      warns = false;
       planned = planned_piece (IsPlanOf cx.args.subcommand c.args.stable cx c.args.rustup.now) false cx c.args.rustup.now session c.in_ok-session.ensures.ran.0 c.requires.apart c.requires.piece c.in_ok-session.ensures.ran.2 c.in_ok-session.ensures.headline.driven;
       ran = subst (λ (b : Bool). MatchBool b (RunsSerially g.L.Turns.did session.handed (g.L.Turns.scene c.args.lanes.now) (g.L.Turns.scene last.caller.now)) (RunsAll g.L.Turns.did cx.args.partition session.plan session.handed (g.L.Turns.scene c.args.lanes.now) (g.L.Turns.scene last.caller.now))) (sym (unsearched cx.args c.requires.apart c.requires.piece))
           (subst (λ (p : Option Partition). RunsAll g.L.Turns.did p session.plan session.handed (g.L.Turns.scene c.args.lanes.now) (g.L.Turns.scene last.caller.now)) (told.0 ∙ ap (λ (a : Args). a.partition) c.args-3.ensures)

@@ -18,7 +18,7 @@ returns-clause-done g c = λ none quiet t.
     let lanes = c.hand_out.new.lanes in
     let cleared = cleared_calls g.C.Caller.tells calls g.C.Starts.did g.met.C.Starts.did_calls (scene_of c.window-2-1.given.0 lanes.starts.now) (scene_of c.clear.new.self c.clear.new.starts) c.clear.ensures.goes t in
     subst (λ (made : List Call). PerformsOne true false (context_view c.args.cx.now) c.args.stable (string_bytes c.args.host.now.env.now.rustup) c.args.host.now.term.now.warn (host_view g.C.Caller g.O.Write c.args.host.now)
-    (record { calls = made; out = g.O.Write.contents c.hand_out.new.out; term = c.hand_out.new.term })) (sym cleared)
+    (record { calls = made; out = g.O.Write.contents c.hand_out.new.out; term = c.hand_out.new.term; fails = c.hand_out.new.fails })) (sym cleared)
     (rw c.as_str-rustup.ensures.value at c.in_ok-session.ensures.done none quiet t)
 
 pub returns-clause-made : goal.returns-clause-made
@@ -27,7 +27,7 @@ returns-clause-made g c = λ t.
     let lanes = c.hand_out.new.lanes in
     let cleared = cleared_calls g.C.Caller.tells calls g.C.Starts.did g.met.C.Starts.did_calls (scene_of c.window-2-1.given.0 lanes.starts.now) (scene_of c.clear.new.self c.clear.new.starts) c.clear.ensures.goes t in
     subst (λ (made : List Call). PerformsAtMostOne false (context_view c.args.cx.now) c.args.stable (string_bytes c.args.host.now.env.now.rustup) (host_view g.C.Caller g.O.Write c.args.host.now)
-    (record { calls = made; out = g.O.Write.contents c.hand_out.new.out; term = c.hand_out.new.term })) (sym cleared)
+    (record { calls = made; out = g.O.Write.contents c.hand_out.new.out; term = c.hand_out.new.term; fails = c.hand_out.new.fails })) (sym cleared)
     (rw c.as_str-rustup.ensures.value at c.in_ok-session.ensures.made t)
 
 pub returns-clause-ran : goal.returns-clause-ran

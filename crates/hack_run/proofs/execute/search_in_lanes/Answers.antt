@@ -1,20 +1,21 @@
-use Rattle.std.proofs.Common.{◌≡◌, ◌⊎◌, [], ap, false, inl, inr, refl, subst, sym, ◌∙◌}
-use Rattle.std.specs.Prelude.{All, Bool, Contains, List, MatchBool}
-use Rattle.hack_session.specs.Histories.{Course, HasPassed}
+use Rattle.std.proofs.Math.Bool.{or_comm}
+use Rattle.std.proofs.Common.{◌≡◌, [], ap, false, inl, inr, refl, subst, sym, ◌∙◌}
+use Rattle.std.specs.Prelude.{Bool, Contains, List, MatchBool}
+use Rattle.hack_session.specs.Histories.{Course}
 use Rattle.hack_term.specs.declared.term.Term.{Term}
 use Rattle.hack_load.specs.ContextView.{context_view}
 use Rattle.hack_msrv.specs.Searches.{handed_in_all}
 use Rattle.hack_msrv.specs.declared.found.Found.{Found}
 use Rattle.hack_msrv.specs.declared.found.Found.TheVariants.{Broken}
 use Rattle.hack_side.specs.Turns.{RunsAll, RunsSerially}
-use Rattle.hack_run.specs.Findings.{HasLeast}
+use Rattle.hack_run.specs.Internal.{ReportsFound}
 use Rattle.hack_run.specs.Warnings.{have_warning}
 use Rattle.hack_run.specs.Worlds.{host_of}
 use Rattle.hack_run.proofs.FindingLemmas.{not_broken, warned_later}
 use Rattle.hack_planner.specs.CallPlan.{IsPlanOf}
 use Rattle.hack_run.proofs.RunLemmas.{all_passed, planned_search, runs_some, searched as searched_by, searches_one, unrefused}
 use Rattle.hack_run.proofs.TraceLemmas.{unended}
-use Rattle.hack_run.proofs.StartedLemmas.{searches_by, trial_stopping, whole_least}
+use Rattle.hack_run.proofs.StartedLemmas.{searches_by, trial_stopping}
 use Rattle.hack_session.proofs.StepLemmas.{has_performed, passed_or_told}
 use Rattle.hack_run.proofs.ToldLemmas.{warned_run}
 use Rattle.hack_run.proofs.execute.search_in_lanes.Goals as goal
@@ -40,12 +41,12 @@ returns-clause-done g c = λ none quiet t.
     let now = c.settle.new.term in
     let settled = c.settle.ensures.ends none quiet in
     let silent = subst (λ (term : Term). term.error ≡ false) term_is (c.settle.ensures.error quiet) in
-    let stays = subst (λ (term : Term). now.warn ≡ false → term.warn ≡ false) term_is c.settle.ensures.warn in
     let warned = warned_run c.args.term.now c.set_manner.new.self.term.now mid.term.now last.term.now notes (ap (λ s. s.term.now) made ∙ c.new-starter.ensures.term.1) told.6 (ap (λ s. s.warn) ran.7) in
-    let least : All HasLeast c.in_ok-plan.found.items = elim settled.1 [
+    let report : ReportsFound c.in_ok-plan.found.items c.args.fails.now c.settle.new.fails last.term.now.warn now.warn = elim settled.1 [
       | inl broken ↦ absurd (not_broken plan searched.searches c.in_ok-plan.found.items searched.say (subst (λ (l : List Found). Contains l Broken) c.deref.ensures.value broken.1)
           (all_passed handed last.term.now last.fault.now (passed_or_told g.L.Caller.tells _ _ plan handed _ _ ran.8) (sym fault_is ∙ broken.0) silent))
-      | inr least ↦ subst (λ (l : List Found). All HasLeast l) c.deref.ensures.value least
+      | inr one ↦ subst (λ (l : List Found). ReportsFound l c.args.fails.now c.settle.new.fails last.term.now.warn now.warn) c.deref.ensures.value
+          (subst (λ (term : Term). ReportsFound c.deref.result.now c.args.fails.now c.settle.new.fails term.warn now.warn) term_is one)
     ] in
     let zero = told.4 ∙ ap (λ s. s.refused) made ∙ c.new-starter.ensures.refused in
     let stops : c.in_ok-plan.ensures.ran.1.starter.keep_going ≡ false = told.10 ∙ ap (λ s. s.keep_going) made in
@@ -53,13 +54,13 @@ returns-clause-done g c = λ none quiet t.
     (λ plan steps handed came a b fine did is whole.
     let one = trial_stopping g.L.Caller.tells t _ _ plan handed _ _ did.2.8 steps came fine.1 fine.0 is whole in
     (one.0, (one.1, sym did.2.5 ∙ fine.1)))
-    (zero, stops) (whole_least c.in_ok-plan.found.items least) in
+    (zero, stops) report.whole in
     rw (lanes_is, out_is)
-    (searches_one cx c.args.stable c.args.rustup.now course notes now.warn (host_of g.L.Caller g.O.Write c.args.lanes.now c.args.out.now c.args.term.now) (host_of g.L.Caller g.O.Write last.caller.now last.out.now now)
+    (searches_one cx c.args.stable c.args.rustup.now course notes report.fails report.warns (host_of g.L.Caller g.O.Write c.args.lanes.now c.args.out.now c.args.term.now c.args.fails.now) (host_of g.L.Caller g.O.Write last.caller.now last.out.now now c.settle.new.fails)
     (calls mid.caller.now) mid.refused last.refused (ap calls (told.3 ∙ ap (λ s. s.caller.now) made ∙ c.new-starter.ensures.caller.1)) c.in_ok-plan.ensures.ran.2 c.requires.apart c.requires.search
-    (record { searches = searched.searches; found = c.in_ok-plan.found.items; such = searched.say; steps = refl; end = searched.end; least = λ e. least })
+    (record { searches = searched.searches; found = c.in_ok-plan.found.items; such = searched.say; steps = refl; end = searched.end; told = λ e. (report.whole, report.failing) })
     (has_performed g.L.Caller.tells _ _ plan handed _ _ ran.8 t) started.0 (told.4 ∙ ap (λ s. s.refused) made ∙ c.new-starter.ensures.refused) (unrefused last.refused settled.0)
-    (warned_later (have_warning notes) c.args.term.now.warn last.term.now.warn now.warn warned stays))
+    (report.kept ∙ or_comm c.args.fails.now report.fails) (warned_later (have_warning notes) c.args.term.now.warn last.term.now.warn report.warns now.warn warned report.noted))
 
 pub returns-clause-made : goal.returns-clause-made
 returns-clause-made g c = λ t.
@@ -78,9 +79,9 @@ returns-clause-made g c = λ t.
     let lanes_is = c.lanes-2-1.given.1 (sym c.new-starter.ensures.caller.0 ∙ ap (λ s. s.caller.ghost_name) (sym made) ∙ told.0 ∙ ran.0) in
     let out_is = c.out-2-1.given.1 (sym c.new-starter.ensures.out.0 ∙ ap (λ s. s.out.ghost_name) (sym made) ∙ told.7 ∙ ran.3) in
     rw (lanes_is, out_is)
-    (runs_some cx c.args.stable c.args.rustup.now course notes (host_of g.L.Caller g.O.Write c.args.lanes.now c.args.out.now c.args.term.now) (host_of g.L.Caller g.O.Write last.caller.now last.out.now c.settle.new.term)
+    (runs_some cx c.args.stable c.args.rustup.now course notes (host_of g.L.Caller g.O.Write c.args.lanes.now c.args.out.now c.args.term.now c.args.fails.now) (host_of g.L.Caller g.O.Write last.caller.now last.out.now c.settle.new.term c.settle.new.fails)
     (calls mid.caller.now) mid.refused last.refused (ap calls (told.3 ∙ ap (λ s. s.caller.now) made ∙ c.new-starter.ensures.caller.1))
-    (planned_search (IsPlanOf cx.args.subcommand c.args.stable cx c.args.rustup.now) false cx c.args.rustup.now course notes c.requires.apart c.requires.search c.in_ok-plan.ensures.ran.2 (record { searches = searched.searches; found = c.in_ok-plan.found.items; such = searched.say; steps = refl; end = searched.end; least = λ e. unended e }))
+    (planned_search (IsPlanOf cx.args.subcommand c.args.stable cx c.args.rustup.now) false cx c.args.rustup.now course notes false false c.requires.apart c.requires.search c.in_ok-plan.ensures.ran.2 (record { searches = searched.searches; found = c.in_ok-plan.found.items; such = searched.say; steps = refl; end = searched.end; told = λ e. unended e }))
     (has_performed g.L.Caller.tells _ _ plan handed _ _ ran.8 t))
 
 pub returns-clause-lanes : goal.returns-clause-lanes
@@ -102,7 +103,9 @@ returns-clause-lanes g c =
     rw lanes_is (record {
       course = course;
       notes = notes;
-      planned = planned_search (IsPlanOf cx.args.subcommand c.args.stable cx c.args.rustup.now) false cx c.args.rustup.now course notes c.requires.apart c.requires.search c.in_ok-plan.ensures.ran.2 (record { searches = searched.searches; found = c.in_ok-plan.found.items; such = searched.say; steps = refl; end = searched.end; least = λ e. unended e });
+      fails = false;
+      warns = false;
+      planned = planned_search (IsPlanOf cx.args.subcommand c.args.stable cx c.args.rustup.now) false cx c.args.rustup.now course notes false false c.requires.apart c.requires.search c.in_ok-plan.ensures.ran.2 (record { searches = searched.searches; found = c.in_ok-plan.found.items; such = searched.say; steps = refl; end = searched.end; told = λ e. unended e });
       ran = subst (λ (b : Bool). MatchBool b (RunsSerially g.L.Turns.did handed (g.L.Turns.scene c.args.lanes.now) (g.L.Turns.scene last.caller.now)) (RunsAll g.L.Turns.did cx.args.partition plan handed (g.L.Turns.scene c.args.lanes.now) (g.L.Turns.scene last.caller.now))) (sym (searched_by cx.args c.requires.apart c.requires.search))
           (subst (λ s. RunsSerially g.L.Turns.did handed s (g.L.Turns.scene last.caller.now)) (ap g.L.Turns.scene (told.3 ∙ ap (λ s. s.caller.now) made ∙ c.new-starter.ensures.caller.1)) searched.whole.1);
     })

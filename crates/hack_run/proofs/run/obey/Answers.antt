@@ -32,7 +32,7 @@ pub returns-in-Print-clause-done : goal.returns-in-Print-clause-done
 returns-in-Print-clause-done g c =
     let first = world_of g.F.Files g.C.Caller g.O.Write c.args.files.now c.args.host.now in
     prints g.C.Caller.tells g.F.Files.tells (c.args.host.now.term.now.error ≡ false) c.print.result c.args.parsed c.in-Print.text (map note_of c.args.notices.now) c.args.host.now.env.now
-    first (record first { host = record first.host { out = g.O.Write.contents c.print.new.out } }) c.in-Print.is refl refl (rw c.as_str.ensures.value at c.print.ensures.all)
+    first (record first { host = record first.host { out = g.O.Write.contents c.print.new.out } }) c.in-Print.is refl refl refl (rw c.as_str.ensures.value at c.print.ensures.all)
 
 pub returns-in-Print-clause-made : goal.returns-in-Print-clause-made
 returns-in-Print-clause-made g c = λ t.
@@ -46,7 +46,7 @@ returns-in-List-clause-done g c =
     let first = world_of g.F.Files g.C.Caller g.O.Write c.args.files.now c.args.host.now in
     lists g.C.Caller.tells g.F.Files.tells (c.tell_all-in-List.new.term.error ≡ false) c.list_commands.result c.args.parsed c.args.host.now.env.now (warned_by c.args.parsed notes c.args.host.now.term.now.warn) first
     (record first { host = record first.host { calls = g.C.Caller.calls c.list_commands.new.caller; term = c.tell_all-in-List.new.term } }) c.in-List.is
-    (subst (λ (p : Parsed). c.tell_all-in-List.new.term.warn ≡ warned_by p notes c.args.host.now.term.now.warn) (sym c.in-List.is) (ap (λ (k : Term). k.warn) c.tell_all-in-List.ensures)) refl c.list_commands.ensures.done
+    (subst (λ (p : Parsed). c.tell_all-in-List.new.term.warn ≡ warned_by p notes c.args.host.now.term.now.warn) (sym c.in-List.is) (ap (λ (k : Term). k.warn) c.tell_all-in-List.ensures)) refl refl c.list_commands.ensures.done
 
 pub returns-in-List-clause-made : goal.returns-in-List-clause-made
 returns-in-List-clause-made g c = λ t.
