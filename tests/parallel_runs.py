@@ -21,6 +21,7 @@ import tempfile
 import time
 
 sys.dont_write_bytecode = True
+from killed_calls import heed_signals  # noqa: E402
 from small_workspace import write  # noqa: E402
 
 FEATURES = "abcdefgh"
@@ -320,6 +321,7 @@ def interrupted(program):
 def main():
     if len(sys.argv) != 2:
         sys.exit(__doc__)
+    heed_signals()
     program = os.path.realpath(sys.argv[1])
     checks = [(name, compared(program, name, *row)) for name, row in CALLS.items()]
     checks += [("gains", gains(program)), ("surroundings", surroundings(program)), ("interrupted", interrupted(program))]

@@ -100,6 +100,8 @@ fn fields_of_the_whole(rt: HostRuntime) -> Result<(), Wrong> {
             | failed to parse `workspace_members` field from metadata
             > 90 {"packages":[1],"workspace_members":["x"],"resolve":null,"workspace_root":"/w"}
             | failed to parse `packages` field from metadata
+            > 90 {"packages":[1],"workspace_members":[],"resolve":null,"workspace_root":"/w"}
+            | failed to parse `packages` field from metadata
             > 90 {"packages":{},"workspace_members":[],"resolve":null,"workspace_root":"/w"}
             | failed to parse `packages` field from metadata
             > 90 {"packages":[],"workspace_members":[],"resolve":"x","workspace_root":"/w"}

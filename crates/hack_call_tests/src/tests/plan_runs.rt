@@ -77,6 +77,11 @@ fn packages(rt: HostRuntime) -> Result<(), Wrong> {
             > check
             | 1
             | `cargo check` on p
+            > members p;q $ check --workspace --exclude z
+            | 2
+            | `cargo check` on p
+            | `cargo check` on q
+            | warning: excluded package(s) `z` not found in workspace `/w`
             > check --workspace --exclude z --exclude r
             | 2
             | `cargo check` on p

@@ -17,6 +17,12 @@ fn steps(rt: HostRuntime) -> Result<(), Wrong> {
             | 1.62 t2 2..4
             | 1.64 t3 4..6
             | : p1 p2 p1 p2 p1 p2
+            > members p1 1.60;p2 1.61 $ check --version-range ..=1.64 --version-step 2
+            | 1.60 t0 0..1
+            | 1.61 t1 1..2
+            | 1.62 t2 2..4
+            | 1.64 t3 4..6
+            | : p1 p2 p1 p2 p1 p2
             > check
             | none 0..2
             | : p1 p2

@@ -165,6 +165,13 @@ fn failures(rt: HostRuntime) -> Result<(), Wrong> {
             | err
             | info: running `rustup toolchain add 1.60 --no-self-update`
             | refused 0
+
+            > session: hack check --version-range 1.50..=1.55 --keep-going; fails 101 rustup run 1.50 cargo generate-lockfile --manifest-path Cargo.toml
+            | fault process didn't exit successfully: `rustup run 1.50 cargo generate-lockfile --manifest-path Cargo.toml` (exit status: 101)
+            | asked
+            | rustup run 1.50 cargo --version
+            | rustup run 1.50 cargo generate-lockfile --manifest-path Cargo.toml
+            | refused 0
         "#,
     )
 }
