@@ -66,7 +66,8 @@ HIDDEN = [
             "Find the least version of Rust on which all runs of a package pass, by few runs.",
             "The greatest version of the range is tried first, and then always the one in the middle of those left. A version is"
             " tried by the package's runs, until one fails. At the end a line for each package says its least version, which run"
-            " fails on the one before, and where its `rust-version` is another.",
+            " fails on the one before, and where its `rust-version` is another. No version below that is tried, and none that"
+            " --version-step leaves out.",
             "This flag can only be used together with --version-range flag, and not with --partition, --print-command-list,"
             " --keep-going, --workspace-behavior=cargo or --parallel flag.",
         ],
@@ -79,7 +80,11 @@ HIDDEN = [
             " allowed part of it fails: it is a conflict. No set is run that holds a failed one, or lies inside one that passed."
             " The sets are of any size: with --package-rules no depth and no strength counts.",
             "At the end an error names the conflicts of each package, and a line says how many greatest sets passed, with --verbose"
-            " also which. Each other allowed set lies inside one of these.",
+            " also which. Each allowed set without a conflict inside lies inside one of these.",
+            "So it is taken for granted that what fails still fails with more features: a feature that builds only beside another"
+            " isn't found, --each-feature finds it. A run counts as failed whatever the reason, also one that a signal ended. The"
+            " features of --features are on in each run, and not named. `no feature at all` means that the package fails without"
+            " features: where it needs some, say so by --at-least-one-of.",
             "This flag can only be used together with --feature-powerset flag, and not with --depth, --strength, --partition,"
             " --print-command-list, --version-range, --rust-version or --parallel flag.",
         ],
@@ -89,7 +94,7 @@ HIDDEN = [
         [
             "Run at most NUM sets to find conflicts, of all packages together.",
             "A search that needs more ends there: it warns, and says what it knows so far. A set that failed, and would have been"
-            " made smaller, is an error.",
+            " made smaller, is an error. A set whose run was built already counts too.",
             "This flag can only be used together with --find-conflicts flag.",
         ],
     ),
