@@ -52,6 +52,9 @@ refused_other a b path (Err e) old new is h = record { files = λ other. record 
 pub other_lockfile : (path q : List ℕ) → false ≡ is_lockfile path → IsTrue (is_lockfile q) → q ≢ path
 other_lockfile path q is lock same = false≢true (is ∙ sym (ap is_lockfile same) ∙ lock)
 
+pub other_file : (path q : List ℕ) → true ≡ is_lockfile path → ¬ IsTrue (is_lockfile q) → q ≢ path
+other_file path q is other same = other (ap is_lockfile same ∙ sym is)
+
 -- after calls that only looked, a call that the first of two counts counts
 pub counted_below : {T E : Type 0} (r : Result T E) (a b c x y : ℕ) → Grows a b → CountsFailedCall b c r → y ≡ x → IsCounted r a c x y
 counted_below (Ok v) a b c x y f g same = record { first = f.0 + 0; second = 0; one = grows_more f.0 0 a b c f.1 g; two = λ low. omega (arith, low, same); some = tt }

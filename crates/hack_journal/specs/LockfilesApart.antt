@@ -14,3 +14,7 @@ apart files lockfiles q = if is_lockfile q then lockfiles q else files q
 -- lockfiles hold what they held
 abbrev pub KeepsLockfiles : Contents → Contents → Type 0
 KeepsLockfiles old new = (q : List ℕ) → IsTrue (is_lockfile q) → new q ≡ old q
+
+-- all paths but lockfiles hold what they held
+abbrev pub KeepsOtherFiles : Contents → Contents → Type 0
+KeepsOtherFiles old new = (q : List ℕ) → ¬ IsTrue (is_lockfile q) → new q ≡ old q

@@ -5,6 +5,7 @@
 
 ghost use Rattle.std.specs.Prelude.{◌≡◌, ◌↔◌, [], None, Some, IfOk, OnOk, IsTrue, IsSome};
 ghost use Rattle.hack_journal.specs.LockfilesApart.{is_lockfile, apart, KeepsLockfiles};
+ghost use Rattle.hack_journal.specs.LockfilesApart.{KeepsOtherFiles};
 
 use hack_files::fs::{FileFault, Files, counted};
 use std::alloc::Global;
@@ -56,18 +57,20 @@ impl<A: Files, B: Files> Files for Apart<A, B> {
     // The order of changes across the two is not known.
     ghost whole = { ⊥ };
 
-    // What `A` holds at paths of lockfiles never changes, and only what failed in one of the two is
-    // counted.
+    // What `A` holds at paths of lockfiles never changes, nor what `B` holds at others, and only what
+    // failed in one of the two is counted.
     ghost stays = { λ a b. A.stays a.files b.files × B.stays a.lockfiles b.lockfiles
         × (A.tells → KeepsLockfiles (A.bytes_at a.files) (A.bytes_at b.files))
         × GrowsWithin (A.failed a.files) (A.failed b.files)
-        (B.failed a.lockfiles) (B.failed b.lockfiles) a.failures b.failures };
+        (B.failed a.lockfiles) (B.failed b.lockfiles) a.failures b.failures
+        × (B.tells → KeepsOtherFiles (B.bytes_at a.lockfiles) (B.bytes_at b.lockfiles)) };
 
     ghost stays_none = { λ a. (
       A.stays_none a.files,
       B.stays_none a.lockfiles,
       λ t q lock. refl,
       within_none (A.failed a.files) (B.failed a.lockfiles) a.failures,
+      λ t q other. refl,
     ) };
 
     ghost stays_more = { λ a b c f g. (
@@ -75,6 +78,7 @@ impl<A: Files, B: Files> Files for Apart<A, B> {
       B.stays_more a.lockfiles b.lockfiles c.lockfiles f.1 g.1,
       λ t q lock. g.2 t q lock ∙ f.2 t q lock,
       within_more _ _ _ _ _ _ _ _ _ f.3 g.3,
+      λ t q other. g.4 t q other ∙ f.4 t q other,
     ) };
 
     // Each of these paths was refused by those files that it goes to.
