@@ -10,7 +10,7 @@ use Rattle.hack_conflicts.specs.Runs.{Finding, IsCourse, IsFinding, Run as Asked
 use Rattle.hack_conflicts.specs.declared.tried.Outcome.{Outcome}
 use Rattle.hack_conflicts.specs.declared.tried.Outcome.TheVariants.{Broken, Failed, Passed}
 use Rattle.hack_plan.proofs.GrowingPlans.{runs-grown}
-use Rattle.hack_plan.specs.Growth.{with_changed, with_one_place, with_one_run, with_run}
+use Rattle.hack_plan.specs.Growth.{RefusesRun, with_changed, with_one_place, with_one_run, with_run}
 use Rattle.hack_plan.specs.Runs.{PackageRun}
 use Rattle.hack_plan.specs.View.{PlanView}
 use Rattle.hack_plan.specs.declared.places.PlacesFault.{PlacesFault}
@@ -42,7 +42,7 @@ still_ready aim run plan ready = record {
 
 -- nothing was built, since memory was refused or the plan is full
 pub nothing_built : {R : Type 0} (ran : PlanView → List Handed → R → R → Type 0) (ended : R → Bool) (aim : Aim) (set : List Bool) (why : CulpritsFault) (built : List Made) (plan : PlanView) (a : R)
-    → ((made : List Made) → Explains why made) → IsReady aim plan → BuildsOne ran ended aim set (Err why) built built plan plan a a
+    → Explains why built plan → IsReady aim plan → BuildsOne ran ended aim set (Err why) built built plan plan a a
 nothing_built ran ended aim set why built plan a explained ready = record {
   ready = ready;
   built = record {
@@ -57,7 +57,7 @@ nothing_built ran ended aim set why built plan a explained ready = record {
     };
     handed = refl;
   };
-  kept = λ first. explained built;
+  kept = λ first. explained;
 }
 
 -- the same, by what came of it
@@ -68,21 +68,22 @@ refused_build ran ended aim set (Err why) before after old new a refused same st
     subst (λ (w : CulpritsFault). BuildsOne ran ended aim set (Err w) before after old new a a) (sym refused)
     (subst (λ (l : List Made). BuildsOne ran ended aim set (Err fault.Memory) before l old new a a) (sym same)
     (subst (λ (p : PlanView). BuildsOne ran ended aim set (Err fault.Memory) before before old p a a) (sym stays)
-    (nothing_built ran ended aim set fault.Memory before old a (λ made. tt) ready)))
+    (nothing_built ran ended aim set fault.Memory before old a tt ready)))
 
-explained-growth : (why : PlacesFault) (made : List Made) → Explains (fault_of why) made
-explained-growth places.Memory made = tt
-explained-growth places.TooManyRuns made = tt
+explained-growth : (why : PlacesFault) (made : List Made) (plan : PlanView) → RefusesRun plan.entries why → Explains (fault_of why) made plan
+explained-growth places.Memory made plan refused = tt
+explained-growth places.TooManyRuns made plan (inl full) = let is = full.0 in omega (arith, is)
+explained-growth places.TooManyRuns made plan (inr other) = let e = other.1 in absurd cc
 
 -- a plan that can't grow
 pub refused_growth : {R : Type 0} (ran : PlanView → List Handed → R → R → Type 0) (ended : R → Bool) (aim : Aim) (set : List Bool) (came : Result Outcome CulpritsFault) (given : PlacesFault) (before after : List Made) (old new : PlanView) (a : R)
-    → IsErrAnd came (λ why. why ≡ fault_of given) → after ≡ before → new ≡ old → IsReady aim old → BuildsOne ran ended aim set came before after old new a a
-refused_growth ran ended aim set (Ok o) given before after old new a refused same stays ready = absurd refused
-refused_growth ran ended aim set (Err why) given before after old new a refused same stays ready =
+    → IsErrAnd came (λ why. why ≡ fault_of given) → after ≡ before → new ≡ old → RefusesRun old.entries given → IsReady aim old → BuildsOne ran ended aim set came before after old new a a
+refused_growth ran ended aim set (Ok o) given before after old new a refused same stays cause ready = absurd refused
+refused_growth ran ended aim set (Err why) given before after old new a refused same stays cause ready =
     subst (λ (w : CulpritsFault). BuildsOne ran ended aim set (Err w) before after old new a a) (sym refused)
     (subst (λ (l : List Made). BuildsOne ran ended aim set (Err (fault_of given)) before l old new a a) (sym same)
     (subst (λ (p : PlanView). BuildsOne ran ended aim set (Err (fault_of given)) before before old p a a) (sym stays)
-    (nothing_built ran ended aim set (fault_of given) before old a (explained-growth given) ready)))
+    (nothing_built ran ended aim set (fault_of given) before old a (explained-growth given before old cause) ready)))
 
 pub made_push : (plain : Bool) (built items : List Built) (b : Built) → items ≡ built ++ b ∷ [] → made_in plain items ≡ made_in plain built ++ record { run = run_for plain b.build; outcome = b.outcome } ∷ []
 made_push plain built items b is = ap (made_in plain) is ∙ map-append (λ (b : Built). record { run = run_for plain b.build; outcome = b.outcome }) built (b ∷ [])
@@ -92,10 +93,10 @@ told-outcome Passed = refl
 told-outcome Failed = refl
 told-outcome Broken = refl
 
-told-kept : (o : Outcome) (run : PackageRun) (made : List Made) → Contains made (record { run = run; outcome = o }) → (first : Option CulpritsFault) → KeepsWhy (is_broken (outcome_of (told_of o))) made first (kept_of (told_of o) first)
-told-kept Passed run made there first = refl
-told-kept Failed run made there first = refl
-told-kept Broken run made there first = (record { run = run; outcome = Broken }, there, refl)
+told-kept : (o : Outcome) (run : PackageRun) (made : List Made) (plan : PlanView) → Contains made (record { run = run; outcome = o }) → (first : Option CulpritsFault) → KeepsWhy (is_broken (outcome_of (told_of o))) made plan first (kept_of (told_of o) first)
+told-kept Passed run made plan there first = refl
+told-kept Failed run made plan there first = refl
+told-kept Broken run made plan there first = (record { run = run; outcome = Broken }, there, refl)
 
 -- what stands for the set was built before
 pub built_before : {R : Type 0} (ran : PlanView → List Handed → R → R → Type 0) (ended : R → Bool) (aim : Aim) (set : List Bool) (run : PackageRun) (o : Outcome) (built : List Made) (plan : PlanView) (a : R)
@@ -117,7 +118,7 @@ built_before ran ended aim set run o built plan a fits there ready =
         };
         handed = refl;
       };
-      kept = told-kept o run built there;
+      kept = told-kept o run built plan there;
     }
 
 -- the run was added to the plan, handed out, and ended so
@@ -143,7 +144,7 @@ built_now ran ended aim set run o built after old new a b fits fresh is grown di
         };
         handed = (b, did, tells, refl);
       };
-      kept = told-kept o run after there;
+      kept = told-kept o run after new there;
     }
 
 -- the steps of runs, one after the other
@@ -163,8 +164,8 @@ pub built_alone : {R : Type 0} (ran : PlanView → List Handed → R → R → T
 built_alone ran ended aim set came before after why now old new a b one kept = record {
   ready = one.ready;
   built = one.built;
-  kept = subst (λ (broken : Bool). KeepsWhy broken after why now) (sym (or-false (is_broken (outcome_of came))))
-      (subst (λ (o : Option CulpritsFault). KeepsWhy (is_broken (outcome_of came)) after why o) (sym kept) (one.kept why));
+  kept = subst (λ (broken : Bool). KeepsWhy broken after new why now) (sym (or-false (is_broken (outcome_of came))))
+      (subst (λ (o : Option CulpritsFault). KeepsWhy (is_broken (outcome_of came)) after new why o) (sym kept) (one.kept why));
 }
 
 -- ---- whole searches
@@ -182,14 +183,14 @@ from_nothing aim asked before after added old new none made =
       few = made.few;
     }
 
-explained-or : (o : Option CulpritsFault) (made : List Made) → IsSomeAnd o (λ why. Explains why made) → Explains (unwrap_or o fault.Memory) made
-explained-or None made h = absurd h
-explained-or (Some why) made h = h
+explained-or : (o : Option CulpritsFault) (made : List Made) (plan : PlanView) → IsSomeAnd o (λ why. Explains why made plan) → Explains (unwrap_or o fault.Memory) made plan
+explained-or None made plan h = absurd h
+explained-or (Some why) made plan h = h
 
 -- what is kept explains why a search was cut short
-pub cause_kept : (broken : Bool) (made : List Made) (now : Option CulpritsFault) → KeepsWhy broken made None now → Explains (unwrap_or now fault.Memory) made
-cause_kept true made now kept = explained-or now made kept
-cause_kept false made now kept = subst (λ (o : Option CulpritsFault). Explains (unwrap_or o fault.Memory) made) (sym kept) tt
+pub cause_kept : (broken : Bool) (made : List Made) (plan : PlanView) (now : Option CulpritsFault) → KeepsWhy broken made plan None now → Explains (unwrap_or now fault.Memory) made plan
+cause_kept true made plan now kept = explained-or now made plan kept
+cause_kept false made plan now kept = subst (λ (o : Option CulpritsFault). Explains (unwrap_or o fault.Memory) made plan) (sym kept) tt
 
 module _ {R : Type 0} (ran : PlanView → List Handed → R → R → Type 0) (ended : R → Bool) (none : (plan : PlanView) (a : R) → ran plan [] a a)
     (more : (plan : PlanView) (steps more : List Handed) (a b c : R) → ran plan steps a b → ran plan more b c → ran plan (steps ++ more) a c) where
@@ -205,7 +206,7 @@ module _ {R : Type 0} (ran : PlanView → List Handed → R → R → Type 0) (e
 
   -- a search that was cut short
   pub cut_hunt : (aim : Aim) (most : Option ℕ) (asked : List Asked) (before after : List Made) (now : Option CulpritsFault) (why : CulpritsFault) (old new : PlanView) (a b : R)
-      → before ≡ [] → IsCourse (search_of aim.closures.now) most asked → Builds ran ended aim asked before after None now old new a b → (Explains (unwrap_or now fault.Memory) after → Explains why after) → IsCutShort ran ended aim most why old new a b
+      → before ≡ [] → IsCourse (search_of aim.closures.now) most asked → Builds ran ended aim asked before after None now old new a b → (Explains (unwrap_or now fault.Memory) after new → Explains why after new) → IsCutShort ran ended aim most why old new a b
   cut_hunt aim most asked before after now why old new a b nothing course builds explains =
       let is : after ≡ builds.built.added = builds.built.made.built ∙ ap (λ (l : List Made). l ++ builds.built.added) nothing in
       record {
@@ -215,5 +216,5 @@ module _ {R : Type 0} (ran : PlanView → List Handed → R → R → Type 0) (e
         built = from_nothing aim asked before after builds.built.added old new nothing builds.built.made;
         handed = builds.built.handed;
         whole = handed_ran ran ended none more new (length old.entries) builds.built.added a b builds.built.handed;
-        cause = subst (Explains why) is (explains (cause_kept (has_broken asked) after now builds.kept));
+        cause = subst (λ (l : List Made). Explains why l new) is (explains (cause_kept (has_broken asked) after new now builds.kept));
       }

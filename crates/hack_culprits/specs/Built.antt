@@ -115,10 +115,12 @@ abbrev pub fault_of : PlacesFault → CulpritsFault
 fault_of places.Memory = fault.Memory
 fault_of places.TooManyRuns = fault.TooManyRuns
 
--- the call is at its end where a run is broken
-abbrev pub Explains : CulpritsFault → List Made → Type 0
-Explains fault.Ended made = (m : Made) × Contains made m × (m.outcome ≡ Broken)
-Explains why made = Unit {0}
+-- why a search was cut short: the call is at its end only where a run is broken, and a plan that can't grow
+-- has as many places as a plan may have
+abbrev pub Explains : CulpritsFault → List Made → PlanView → Type 0
+Explains fault.Ended made plan = (m : Made) × Contains made m × (m.outcome ≡ Broken)
+Explains fault.TooManyRuns made plan = 4294967295 ≤ length plan.entries
+Explains fault.Memory made plan = Unit {0}
 
 -- A package's sets were searched, for a slot: the plan grew by the runs that were built, each once. Each
 -- set that the search asked for has its run among them, and each of them was built for such a set. What
@@ -136,7 +138,7 @@ pub record RanHunt {R : Type 0} (ran : PlanView → List Handed → R → R → 
   pub whole : ran new (steps_from (length old.entries) made) a b
 
 -- The search was cut short: what was built until then was asked for by such a search. Where the call
--- is at its end, a run that was built is broken.
+-- is at its end, a run that was built is broken; where the plan can't grow, it is full.
 pub record IsCutShort {R : Type 0} (ran : PlanView → List Handed → R → R → Type 0) (ended : R → Bool) (aim : Aim)
     (most : Option ℕ) (why : CulpritsFault) (old new : PlanView) (a b : R) : Type 0 where
   pub asked : List Asked
@@ -145,4 +147,4 @@ pub record IsCutShort {R : Type 0} (ran : PlanView → List Handed → R → R �
   pub built : AreMade aim asked [] made made old new
   pub handed : AreHanded ran ended new (length old.entries) made a b
   pub whole : ran new (steps_from (length old.entries) made) a b
-  pub cause : Explains why made
+  pub cause : Explains why made new

@@ -35,15 +35,15 @@ abbrev pub has_broken : List Asked → Bool
 has_broken asked = list_any (λ one. is_broken one.outcome) asked
 
 -- why a build was broken is kept, and nothing is kept where none was
-abbrev pub KeepsWhy : Bool → List Made → Option CulpritsFault → Option CulpritsFault → Type 0
-KeepsWhy broken made before after = MatchBool broken (IsSomeAnd after (λ why. Explains why made)) (after ≡ before)
+abbrev pub KeepsWhy : Bool → List Made → PlanView → Option CulpritsFault → Option CulpritsFault → Type 0
+KeepsWhy broken made plan before after = MatchBool broken (IsSomeAnd after (λ why. Explains why made plan)) (after ≡ before)
 
 -- these sets were built, and why one was broken is kept
 pub record Builds {R : Type 0} (ran : PlanView → List Handed → R → R → Type 0) (ended : R → Bool) (aim : Aim)
     (asked : List Asked) (before after : List Made) (why now : Option CulpritsFault) (old new : PlanView) (a b : R) : Type 0 where
   pub ready : IsReady aim new
   pub built : AreBuilt ran ended aim asked before after old new a b
-  pub kept : KeepsWhy (has_broken asked) after why now
+  pub kept : KeepsWhy (has_broken asked) after new why now
 
 -- the same, of sets that may be chosen, where runs of the package can be added to the plan
 abbrev pub MayBuild : {R : Type 0} → (PlanView → List Handed → R → R → Type 0) → (R → Bool) → Aim → List Asked → List Made → List Made → Option CulpritsFault → Option CulpritsFault → PlanView → PlanView → R → R → Type 0
@@ -71,4 +71,4 @@ pub record BuildsOne {R : Type 0} (ran : PlanView → List Handed → R → R �
     (set : List Bool) (came : Result Outcome CulpritsFault) (before after : List Made) (old new : PlanView) (a b : R) : Type 0 where
   pub ready : IsReady aim new
   pub built : AreBuilt ran ended aim (record { set = set; outcome = outcome_of came } ∷ []) before after old new a b
-  pub kept : (first : Option CulpritsFault) → KeepsWhy (is_broken (outcome_of came)) after first (kept_of came first)
+  pub kept : (first : Option CulpritsFault) → KeepsWhy (is_broken (outcome_of came)) after new first (kept_of came first)

@@ -1,5 +1,5 @@
 -- Sets that were built, one after the other.
-use Rattle.std.specs.Prelude.{ℕ, ◌≡◌, ◌+◌, ◌||◌, Bool, true, false, List, [], ◌∷◌, ◌++◌, All, IsSomeAnd, Option, Some, None, length}
+use Rattle.std.specs.Prelude.{ℕ, ◌≡◌, ◌≤◌, ◌+◌, ◌||◌, Bool, true, false, List, [], ◌∷◌, ◌++◌, All, IsSomeAnd, Option, Some, None, length}
 use Rattle.std.proofs.Common.{refl, sym, ap, ◌∙◌, subst, inl, inr, arith, get_or}
 use Rattle.std.proofs.lemmas.List.{append_assoc, append-nil, length-append}
 use Rattle.std.proofs.lemmas.List.Elements.{All-append, All-cons, All-contains, All-nil, Contains-append_left, Contains-append_right, Contains-get_or}
@@ -82,20 +82,21 @@ asked-left aim asked more m h = (h.0, Contains-append_left asked more h.0 h.1, h
 asked-right : (aim : Aim) (asked more : List Asked) (m : Made) → IsAsked aim more m → IsAsked aim (asked ++ more) m
 asked-right aim asked more m h = (h.0, Contains-append_right asked more h.0 h.1, h.2)
 
-explains-more : (why : CulpritsFault) (made added : List Made) → Explains why made → Explains why (made ++ added)
-explains-more fault.Ended made added h = (h.0, Contains-append_left made added h.0 h.1, h.2)
-explains-more fault.Memory made added h = tt
-explains-more fault.TooManyRuns made added h = tt
+explains-more : (why : CulpritsFault) (made added : List Made) (old new : PlanView) → length old.entries ≤ length new.entries → Explains why made old → Explains why (made ++ added) new
+explains-more fault.Ended made added old new grown h = (h.0, Contains-append_left made added h.0 h.1, h.2)
+explains-more fault.Memory made added old new grown h = tt
+explains-more fault.TooManyRuns made added old new grown h = omega (arith, grown, h)
 
-some-more : (why : Option CulpritsFault) (made added : List Made) → IsSomeAnd why (λ w. Explains w made) → IsSomeAnd why (λ w. Explains w (made ++ added))
-some-more None made added h = h
-some-more (Some why) made added h = explains-more why made added h
+some-more : (why : Option CulpritsFault) (made added : List Made) (old new : PlanView) → length old.entries ≤ length new.entries → IsSomeAnd why (λ w. Explains w made old) → IsSomeAnd why (λ w. Explains w (made ++ added) new)
+some-more None made added old new grown h = h
+some-more (Some why) made added old new grown h = explains-more why made added old new grown h
 
-kept-more : (left right : Bool) (made added : List Made) (before mid now : Option CulpritsFault) → KeepsWhy left made before mid → KeepsWhy right (made ++ added) mid now → KeepsWhy (left || right) (made ++ added) before now
-kept-more false false made added before mid now p q = q ∙ p
-kept-more false true made added before mid now p q = q
-kept-more true false made added before mid now p q = subst (λ (o : Option CulpritsFault). IsSomeAnd o (λ w. Explains w (made ++ added))) (sym q) (some-more mid made added p)
-kept-more true true made added before mid now p q = q
+kept-more : (left right : Bool) (made added : List Made) (old new : PlanView) (before mid now : Option CulpritsFault) → length old.entries ≤ length new.entries
+    → KeepsWhy left made old before mid → KeepsWhy right (made ++ added) new mid now → KeepsWhy (left || right) (made ++ added) new before now
+kept-more false false made added old new before mid now grown p q = q ∙ p
+kept-more false true made added old new before mid now grown p q = q
+kept-more true false made added old new before mid now grown p q = subst (λ (o : Option CulpritsFault). IsSomeAnd o (λ w. Explains w (made ++ added) new)) (sym q) (some-more mid made added old new grown p)
+kept-more true true made added old new before mid now grown p q = q
 
 or-assoc : (a b c : Bool) → (a || b) || c ≡ a || (b || c)
 or-assoc true b c = refl
@@ -138,6 +139,7 @@ builds_more {R} ran ended law aim asked more first mid last why then now old bet
     let two = r.built.made in
     let grown : IsGrown between new = subst (IsGrown between) (sym two.plan) (made_grows aim.slot aim.member ys between) in
     let places : length between.entries ≡ length old.entries + length xs = ap (λ (p : PlanView). length p.entries) one.plan ∙ made_places aim.slot aim.member xs old in
+    let longer : length between.entries ≤ length new.entries = let e = ap (λ (p : PlanView). length p.entries) two.plan ∙ made_places aim.slot aim.member ys between in omega (arith, e) in
     let last_is : last ≡ mid ++ ys = two.built in
     record {
       ready = r.ready;
@@ -155,7 +157,7 @@ builds_more {R} ran ended law aim asked more first mid last why then now old bet
         handed = handed_append ran ended new (length old.entries) xs ys a b c (handed_grown ran ended law between new grown f.ready.room.grows f.ready.runs (length old.entries) xs a b f.built.handed)
             (subst (λ (n : ℕ). AreHanded ran ended new n ys b c) places r.built.handed);
       };
-      kept = subst (λ (b : Bool). KeepsWhy b last why now) (sym (broken-append asked more))
-          (subst (λ (l : List Made). KeepsWhy (has_broken asked || has_broken more) l why now) (sym last_is)
-          (kept-more (has_broken asked) (has_broken more) mid ys why then now f.kept (subst (λ (l : List Made). KeepsWhy (has_broken more) l then now) last_is r.kept)));
+      kept = subst (λ (b : Bool). KeepsWhy b last new why now) (sym (broken-append asked more))
+          (subst (λ (l : List Made). KeepsWhy (has_broken asked || has_broken more) l new why now) (sym last_is)
+          (kept-more (has_broken asked) (has_broken more) mid ys between new why then now longer f.kept (subst (λ (l : List Made). KeepsWhy (has_broken more) l new then now) last_is r.kept)));
     }

@@ -67,10 +67,10 @@ hunts-more cx most (s ∷ spots) spot (x ∷ hunted) h [] m old mid new before o
 hunts-more cx most (s ∷ spots) spot (x ∷ hunted) h (y ∷ made) m old mid new before one = (before.0, before.1, hunts-more cx most spots spot hunted h made m before.0 mid new before.2 one)
 
 -- a broken run is among more runs too
-explains-more : (why : CulpritsFault) (first second : List Made) → Explains why second → Explains why (first ++ second)
-explains-more fault.Memory first second e = tt
-explains-more fault.TooManyRuns first second e = tt
-explains-more fault.Ended first second e = (e.0, Contains-append_right first second e.0 e.1, e.2)
+explains-more : (why : CulpritsFault) (first second : List Made) (plan : PlanView) → Explains why second plan → Explains why (first ++ second) plan
+explains-more fault.Memory first second plan e = tt
+explains-more fault.TooManyRuns first second plan e = e
+explains-more fault.Ended first second plan e = (e.0, Contains-append_right first second e.0 e.1, e.2)
 
 module _ {R : Type 0} (ran : PlanView → List Handed → R → R → Type 0) (ended : R → Bool) (none : (plan : PlanView) (a : R) → ran plan [] a a)
     (more : (plan : PlanView) (steps more : List Handed) (a b c : R) → ran plan steps a b → ran plan more b c → ran plan (steps ++ more) a c)
@@ -183,7 +183,7 @@ module _ {R : Type 0} (ran : PlanView → List Handed → R → R → Type 0) (e
           begun = cut.made;
           next = inr (spot, left, refl, record { aim = one.aim; of = one.of; asked = cut.asked; course = cut.course; built = cut.built });
           all = ap (λ l. l ++ cut.made) w.2;
-          end = explains-more why before.built cut.made cut.cause;
+          end = explains-more why before.built cut.made new cut.cause;
         };
         handed = handed;
         whole = handed_ran ran ended none more new (length old.entries) (before.built ++ cut.made) a c handed;

@@ -168,10 +168,10 @@ IsBegun cx most left made old new =
     ⊎ ((spot : Spot) × (more : List Spot) × (left ≡ spot ∷ more) × IsBegunAt cx spot (left_of most (length old.entries)) made old new)
 
 -- Searches that came to their end left no spot, and say what was found; where the call is at its end,
--- the run of one is broken.
-abbrev pub EndsSo : Result (List Hunted) CulpritsFault → List Spot → List Hunted → List Made → Type 0
-EndsSo (Ok found) left hunted built = (left ≡ []) × (hunted ≡ found)
-EndsSo (Err why) left hunted built = Explains why built
+-- the run of one is broken, and where the plan can't grow, it is full.
+abbrev pub EndsSo : Result (List Hunted) CulpritsFault → List Spot → List Hunted → List Made → PlanView → Type 0
+EndsSo (Ok found) left hunted built plan = (left ≡ []) × (hunted ≡ found)
+EndsSo (Err why) left hunted built plan = Explains why built plan
 
 -- What was built for these spots: by the searches of some, which came to their end, and by that of the
 -- next one, if it was begun.
@@ -186,7 +186,7 @@ pub record AreHunted (cx : ContextRecord) (most : Option ℕ) (spots : List Spot
   pub begun : List Made
   pub next : IsBegun cx most left begun mid new
   pub all : built ≡ flat_map (λ m. m) made ++ begun
-  pub end : EndsSo came left hunted built
+  pub end : EndsSo came left hunted built new
 
 -- these spots were searched, and what was built was handed out, in order
 pub record RanHunts {R : Type 0} (ran : PlanView → List Handed → R → R → Type 0) (ended : R → Bool) (cx : ContextRecord) (most : Option ℕ)

@@ -22,7 +22,7 @@ pub returns-in_err-place-clause-built : goal.returns-in_err-place-clause-built
 returns-in_err-place-clause-built g c = λ set ready fits fresh.
     let self = c.args.self.now in
     refused_growth g.R.Runner.ran g.R.Judge.ended self.aim set c.from_residual-in_err-place.result c.in_err-place.field-0.0 (made_in self.aim.plain self.built.now.items) (made_in self.aim.plain c.reserve.new.self.items) self.plan.now c.grow.new.self
-    self.runner.now c.from_residual-in_err-place.ensures.1 (ap (made_in self.aim.plain) c.reserve.ensures.items) c.in_err-place.ensures.same ready
+    self.runner.now c.from_residual-in_err-place.ensures.1 (ap (made_in self.aim.plain) c.reserve.ensures.items) c.in_err-place.ensures.same c.in_err-place.ensures.err ready
 
 pub returns-clause-built : goal.returns-clause-built
 returns-clause-built g c = λ set ready fits fresh.
