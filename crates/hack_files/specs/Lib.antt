@@ -3,3 +3,4 @@ pub mod Memory
 pub mod Faults
 pub mod Restore
 pub mod RefusalLaws
+pub mod View

@@ -7,7 +7,6 @@ pub mod PackageLemmas
 pub mod DepthLemmas
 pub mod RowLemmas
 pub mod SampleLemmas
-pub mod SetLemmas
 pub mod LeastLemmas
 mod UseLemmas
 pub mod ChosenLemmas

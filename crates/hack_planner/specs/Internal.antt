@@ -69,12 +69,6 @@ SaysNoSample cx id fault.TooManyRuns = ⊥
 abbrev pub HasRunsFault : ContextRecord → List Chosen → PlanFault → Type 0
 HasRunsFault cx chosen e = (one : Chosen) × Contains chosen one × IsTrue one.is_used × SaysNoSample cx one.id.index e
 
--- the listed sets are at least so many
-pub record ListsAtLeast (c : Choice) (n least : ℕ) : Type 0 where
-  pub sets : List (List ℕ)
-  pub listing : IsListing n (IsListed c) sets
-  pub enough : least ≤ length sets
-
 -- a sample is given up for want of memory, or after just as many questions as may be asked, which the tally tells
 abbrev pub IsGivenUp : ℕ → RunsFault → Type 0
 IsGivenUp asked runs.Memory = Unit {0}

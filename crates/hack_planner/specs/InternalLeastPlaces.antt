@@ -11,7 +11,7 @@ use Rattle.hack_plan.specs.View.{PackageView}
 use Rattle.hack_plan.specs.declared.versions.PlanInput.{PlanInput}
 use Rattle.hack_versions.specs.declared.version.Version.{Version}
 use Rattle.hack_planner.specs.PackageRules.{PackageRulesRecord}
-use Rattle.hack_planner.specs.Internal.{ListsAtLeast}
+use Rattle.hack_least.specs.Least.{ListsAtLeast}
 use Rattle.hack_planner.specs.InternalUses.{IsPlannedAs}
 use Rattle.hack_planner.specs.Kinds.{AreRuns}
 use Rattle.hack_planner.specs.declared.least_places.Limit.{Limit}

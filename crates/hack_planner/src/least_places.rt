@@ -10,9 +10,9 @@ ghost use Rattle.hack_plan.specs.Inputs.{AreVersionsOf};
 ghost use Rattle.hack_planner.specs.InternalLeastPlaces.{GivesAtLeast, IsOver};
 ghost use Rattle.hack_planner.specs.PackageRules.{rules_in};
 
-use crate::least_sets::least_listed;
 use crate::package_rules::PackageRules;
 use hack_features::Rules;
+use hack_least::least_listed;
 use hack_plan::places::{Places, PlacesFault};
 use hack_plan::versions::{PlanInput, Versions};
 use std::alloc::{AllocError, Global};

@@ -10,7 +10,6 @@ mod found;
 mod input;
 pub mod kind;
 mod least_places;
-mod least_sets;
 mod listing;
 pub mod looks;
 pub mod member;

@@ -1,9 +1,5 @@
-pub mod CountLemmas
-pub mod LookLemmas
 pub mod AskLemmas
-pub mod FolderLemmas
 pub mod WayLemmas
 pub mod BackLemmas
 mod CallLemmas
-mod RepositoryLemmas
 mod StrangerLemmas

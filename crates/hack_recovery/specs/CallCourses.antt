@@ -2,14 +2,18 @@
 use Rattle.std.specs.Prelude.{◌≡◌, ◌⊎◌, ◌≤◌, ℕ, Bool, true, false, IsSome, List, None, Ok, Err, Option, Result, string_bytes}
 use Rattle.hack_base.specs.Counters.{GrowsBy}
 use Rattle.hack_base.specs.Names.{Name}
-use Rattle.hack_files.specs.Files.{Contents, KeepsAll, KeepsOthers, MakesOrNot, removes}
+use Rattle.hack_files.specs.Files.{Contents, KeepsAll, KeepsAllBut, KeepsOthers, MakesOrNot, removes}
+use Rattle.hack_journal.specs.LockfilesApart.{KeepsOtherFiles}
 use Rattle.hack_journal.specs.Rows.{Spot}
 use Rattle.hack_journal.specs.SafeFiles.{StaysSafe}
-use Rattle.hack_run.specs.Journals.{contents_seen, files_seen, world_seen}
+use Rattle.hack_journaled.specs.Journals.{contents_seen, files_seen, world_seen}
+use Rattle.hack_run.specs.CallChanges.{IsChangeTrace}
 use Rattle.hack_run.specs.CallTrace.{IsCallTrace}
 use Rattle.hack_run.specs.TemporaryEdits.{BringsBack, IsClean, RestoresEdits}
 use Rattle.hack_run.specs.Refusals.{AreRefused, ReportsRefusal}
-use Rattle.hack_run.specs.Worlds.{FilesView, IsStatus}
+use Rattle.hack_files.specs.View.{FilesView}
+use Rattle.hack_files.specs.declared.fs.Files.{Ghosts as Filing}
+use Rattle.hack_run.specs.Worlds.{IsStatus}
 use Rattle.hack_term.specs.declared.term.Term.{Term}
 use Rattle.hack_words.specs.declared.cli.env.Env.{Env}
 use Rattle.hack_recovery.specs.declared.admit.Way.{Way}
@@ -19,8 +23,8 @@ use Rattle.hack_recovery.specs.declared.asked.Edits.TheVariants as edits
 use Rattle.hack_recovery.specs.declared.fault.CallFault.{CallFault}
 use Rattle.hack_recovery.specs.AskedEdits.{AsksForEdits, is_change, is_restore}
 use Rattle.hack_recovery.specs.Admission.{IsAdmitted}
-use Rattle.hack_recovery.specs.CallPlaces.{ArePlacesOf, PlacesAt, is_left}
-use Rattle.hack_recovery.specs.Folders.{start_at, workspace_from}
+use Rattle.hack_places.specs.CallPlaces.{ArePlacesOf, PlacesAt, is_left}
+use Rattle.hack_places.specs.Folders.{start_at, workspace_from}
 use Rattle.hack_recovery.specs.GuardEvents.{GuardsView, after_leave, after_start}
 use Rattle.hack_recovery.specs.LockEvents.{LocksView, after_release}
 use Rattle.hack_recovery.specs.Restoring.{KeepsCopy, TakesBack, journal_spot}
@@ -54,7 +58,7 @@ pub record DecidesHowToGoOn (tells whole records : Type 0) (real : Name → Name
   pub counted : GrowsBy 0 old.files.failed new.files.failed
 
 -- it is known what the call does to manifests, but not where its journal is, or whether an
--- interrupted call left one: a look at a file failed, and there was no other call of files
+-- interrupted call left one: one call of files failed, and nothing was changed
 pub record CannotSee (tells whole : Type 0) (words : List Name) (env : Env) (does : Edits) (old new : Scene) : Type 0 where
   pub path : Option Name
   pub asked : AsksForEdits env words does path
@@ -64,19 +68,29 @@ pub record CannotSee (tells whole : Type 0) (words : List Name) (env : Env) (doe
 
 -- ---- the call itself
 
--- the call was performed without a journal: it meets what `run` promises
-pub record PerformsUnjournaled (tells talks : Type 0) (words : List Name) (env : Env) (old new : Scene) : Type 0 where
+-- Writes or removals of these paths were refused by such files, one after the other. In code over any
+-- files nothing but calls that were refused shows that.
+pub record RefusesThese {F : Type 0} (f : Filing F) (paths : List Name) : Type 0 where
+  pub before : F
+  pub after : F
+  pub refused : f.refuses before after paths
+
+-- the call was performed without a journal: it meets what `run` promises of files, calls and reports; a path
+-- that doesn't hold what it held is one whose own write was refused
+pub record PerformsUnjournaled (refuses : List Name → Type 0) (tells whole talks : Type 0) (words : List Name) (env : Env) (old new : Scene) : Type 0 where
   pub refused : AreRefused env words → ReportsRefusal talks env old.host new.host
   pub done : new.host.term.error ≡ false → talks → IsCallTrace true tells words env (world_in old) (world_in new)
+  pub traced : new.host.term.error ≡ false → talks → whole → IsChangeTrace tells words env (world_in old) (world_in new)
   pub made : talks → IsCallTrace false tells words env (world_in old) (world_in new)
   pub back : RestoresEdits env words → tells → BringsBack old.files new.files
+  pub spoilt : RestoresEdits env words → KeepsAllBut refuses tells old.files.held new.files.held
   pub clean : new.host.term.error ≡ false → IsClean (RestoresEdits env words) tells old.files new.files
   pub lockfiles : new.lockfiles ≡ old.lockfiles
   pub locks : new.locks ≡ old.locks
   pub guards : new.guards ≡ old.guards
 
 -- the call was performed with a journal, and so many calls of files failed: it meets what
--- `run_journaled` promises
+-- `run_journaled` promises of these
 pub record Journals (tells whole locked talks : Type 0) (words : List Name) (env : Env) (spot : Spot) (failed : ℕ) (old new : Scene) : Type 0 where
   pub refused : AreRefused env words → ReportsRefusal talks env old.host new.host
   pub done : new.host.term.error ≡ false → talks → IsCallTrace true (tells × locked) words env
@@ -90,6 +104,7 @@ pub record Journals (tells whole locked talks : Type 0) (words : List Name) (env
   pub few : new.host.term.error ≡ false → failed ≤ 1
   pub gone : RestoresEdits env words → tells → whole → locked → failed ≡ 0 → old.files.held spot.journal ≡ None → new.files.held spot.journal ≡ None
   pub safe : tells → whole → old.files.held spot.journal ≡ None → StaysSafe spot old.files.held old.files.trace new.files.trace old.files.held new.files.held
+  pub others : locked → KeepsOtherFiles old.lockfiles new.lockfiles
   pub locks : new.locks ≡ old.locks
   pub guards : new.guards ≡ old.guards
 
@@ -98,11 +113,14 @@ abbrev pub Warns : Term → Term → Type 0
 Warns was now = (now ≡ record was { warn = true }) ⊎ (now ≡ record was { warn = true; error = true })
 
 -- after it no file is at the journal's path, and the lockfile's copy is gone; or one of them stays, or
--- a look at the journal failed, which is reported as a warning
+-- a look at the journal failed, which is reported as a warning, and so is memory that was refused for it,
+-- which is an error besides
 pub data IsJournalClosed (tells : Type 0) (places : PlacesAt) (old new : FilesView) (was now : Term) : Type 0 where
   gone : now ≡ was → GrowsBy 0 old.failed new.failed → (tells → old.held places.journal ≡ None) → (tells → new.held places.copy ≡ None) → IsJournalClosed tells places old new was now
   stays : Warns was now → GrowsBy 0 old.failed new.failed → (tells → IsSome (old.held places.journal)) → IsJournalClosed tells places old new was now
-  unseen : Warns was now → GrowsBy 0 old.failed new.failed ⊎ GrowsBy 1 old.failed new.failed → (tells → KeepsAll old.held new.held) → IsJournalClosed tells places old new was now
+  unseen : Warns was now → GrowsBy 1 old.failed new.failed → (tells → KeepsAll old.held new.held) → IsJournalClosed tells places old new was now
+  starved : now ≡ record was { warn = true; error = true } → GrowsBy 0 old.failed new.failed ⊎ GrowsBy 1 old.failed new.failed → (tells → KeepsAll old.held new.held)
+      → IsJournalClosed tells places old new was now
   copy_stays : Warns was now → GrowsBy 1 old.failed new.failed → (tells → old.held places.journal ≡ None) → IsJournalClosed tells places old new was now
 
 -- after it no other file than the lockfile's copy is changed, and what stays was reported
@@ -142,48 +160,48 @@ pub data IsJournaledCall (tells whole locked talks watched : Type 0) (words : Li
       → IsJournaledCall tells whole locked talks watched words env places old new
 
 -- how a call is performed under its own lock, by what it does to manifests
-pub data Continues (tells whole locked talks records watched : Type 0) (words : List Name) (env : Env) (does : Edits) (places : PlacesAt) (old new : Scene) : Type 0 where
+pub data Continues (refuses : List Name → Type 0) (tells whole locked talks records watched : Type 0) (words : List Name) (env : Env) (does : Edits) (places : PlacesAt) (old new : Scene) : Type 0 where
   -- nothing is to be edited: the lock is let go first, and there is no journal
-  unedited : (locks : LocksView) → does ≡ edits.None → (records → locks ≡ after_release old.locks) → PerformsUnjournaled tells talks words env (record old { locks = locks }) new
-      → Continues tells whole locked talks records watched words env does places old new
+  unedited : (locks : LocksView) → does ≡ edits.None → (records → locks ≡ after_release old.locks) → PerformsUnjournaled refuses tells whole talks words env (record old { locks = locks }) new
+      → Continues refuses tells whole locked talks records watched words env does places old new
   -- edits stay: there is no journal
-  good : does ≡ edits.Good → PerformsUnjournaled tells talks words env old new → Continues tells whole locked talks records watched words env does places old new
+  good : does ≡ edits.Good → PerformsUnjournaled refuses tells whole talks words env old new → Continues refuses tells whole locked talks records watched words env does places old new
   -- edits come back: there is a journal
-  journaled : does ≡ edits.Back → IsJournaledCall tells whole locked talks watched words env places old new → Continues tells whole locked talks records watched words env does places old new
+  journaled : does ≡ edits.Back → IsJournaledCall tells whole locked talks watched words env places old new → Continues refuses tells whole locked talks records watched words env does places old new
   -- what was left is restored: that is all
-  restored : does ≡ edits.Restore → new ≡ old → Continues tells whole locked talks records watched words env does places old new
+  restored : does ≡ edits.Restore → new ≡ old → Continues refuses tells whole locked talks records watched words env does places old new
 
 -- how a call goes under its own lock: what an interrupted call left is brought back before anything
 -- else is changed, and before anything is called
-pub data IsLockedCourse (tells whole locked talks records watched : Type 0) (words : List Name) (env : Env) (does : Edits) (places : PlacesAt) (old new : Scene) : Type 0 where
+pub data IsLockedCourse (refuses : List Name → Type 0) (tells whole locked talks records watched : Type 0) (words : List Name) (env : Env) (does : Edits) (places : PlacesAt) (old new : Scene) : Type 0 where
   -- that can't be brought back: the call ends
-  ended : TakesBack tells whole locked env.by_guard places old new (Ok false) → IsFailed new → IsLockedCourse tells whole locked talks records watched words env does places old new
+  ended : TakesBack tells whole locked env.by_guard places old new (Ok false) → IsFailed new → IsLockedCourse refuses tells whole locked talks records watched words env does places old new
   -- memory was refused meanwhile: the call ends
   cut_short : (at : Scene) (fault : CallFault) → TakesBack tells whole locked env.by_guard places old at (Err fault)
-      → new ≡ scene_with at.files new.host.term at → IsFailed new → IsLockedCourse tells whole locked talks records watched words env does places old new
+      → new ≡ scene_with at.files new.host.term at → IsFailed new → IsLockedCourse refuses tells whole locked talks records watched words env does places old new
   -- it is back: the call is performed
-  went_on : (at : Scene) → TakesBack tells whole locked env.by_guard places old at (Ok true) → Continues tells whole locked talks records watched words env does places at new
-      → IsLockedCourse tells whole locked talks records watched words env does places old new
+  went_on : (at : Scene) → TakesBack tells whole locked env.by_guard places old at (Ok true) → Continues refuses tells whole locked talks records watched words env does places at new
+      → IsLockedCourse refuses tells whole locked talks records watched words env does places old new
 
 -- how a call goes
-pub data IsCallCourse (tells whole locked talks records watched : Type 0) (real : Name → Name) (words : List Name) (env : Env) (old new : Scene) : Type 0 where
+pub data IsCallCourse (refuses : List Name → Type 0) (tells whole locked talks records watched : Type 0) (real : Name → Name) (words : List Name) (env : Env) (old new : Scene) : Type 0 where
   -- memory was refused before it began: nothing was changed or called
-  starved : Untouched tells whole old new → new.locks ≡ old.locks → IsFailed new → IsCallCourse tells whole locked talks records watched real words env old new
+  starved : Untouched tells whole old new → new.locks ≡ old.locks → IsFailed new → IsCallCourse refuses tells whole locked talks records watched real words env old new
   -- it isn't known whether an interrupted call left anything: a call that would change manifests ends
   -- with an error, and nothing was changed or called
-  blind : (does : Edits) → CannotSee tells whole words env does old new → is_change does ≡ true → IsFailed new → IsCallCourse tells whole locked talks records watched real words env old new
+  blind : (does : Edits) → CannotSee tells whole words env does old new → is_change does ≡ true → IsFailed new → IsCallCourse refuses tells whole locked talks records watched real words env old new
   -- any other is performed without a journal, after a warning
   warned : (does : Edits) (at : Scene) → CannotSee tells whole words env does old at → is_change does ≡ false → at.host.term ≡ record old.host.term { warn = true }
-      → PerformsUnjournaled tells talks words env at new → IsCallCourse tells whole locked talks records watched real words env old new
+      → PerformsUnjournaled refuses tells whole talks words env at new → IsCallCourse refuses tells whole locked talks records watched real words env old new
   -- another call has the lock, there is none, or memory was refused: nothing was changed or called
   turned_away : (does : Edits) (places : PlacesAt) (fault : CallFault) → DecidesHowToGoOn tells whole records real words env does places old new (Err fault) → IsFailed new
-      → IsCallCourse tells whole locked talks records watched real words env old new
+      → IsCallCourse refuses tells whole locked talks records watched real words env old new
   -- it is to restore, and nothing is left, or another call has the lock: nothing was changed or called
   unrestored : (does : Edits) (places : PlacesAt) → DecidesHowToGoOn tells whole records real words env does places old new (Ok Plain) → is_restore does ≡ true → new.host.term ≡ old.host.term
-      → IsCallCourse tells whole locked talks records watched real words env old new
+      → IsCallCourse refuses tells whole locked talks records watched real words env old new
   -- nothing is to be guarded, or nothing can be: the call is performed without a journal
   without_journal : (does : Edits) (places : PlacesAt) (at : Scene) → DecidesHowToGoOn tells whole records real words env does places old at (Ok Plain) → is_restore does ≡ false
-      → at.host.term ≡ old.host.term → PerformsUnjournaled tells talks words env at new → IsCallCourse tells whole locked talks records watched real words env old new
+      → at.host.term ≡ old.host.term → PerformsUnjournaled refuses tells whole talks words env at new → IsCallCourse refuses tells whole locked talks records watched real words env old new
   -- the lock is this call's
   under_its_lock : (does : Edits) (places : PlacesAt) (at : Scene) → DecidesHowToGoOn tells whole records real words env does places old at (Ok Guarded) → at.host.term ≡ old.host.term
-      → IsLockedCourse tells whole locked talks records watched words env does places at new → IsCallCourse tells whole locked talks records watched real words env old new
+      → IsLockedCourse refuses tells whole locked talks records watched words env does places at new → IsCallCourse refuses tells whole locked talks records watched real words env old new

@@ -1,11 +1,4 @@
 pub mod AskedEdits
-pub mod FileLooks
-pub mod Folders
-pub mod Repositories
-pub mod RepositoryView
-pub mod JournalPlaces
-pub mod CallPlaces
-pub mod PlacesView
 pub mod Strangers
 pub mod LockEvents
 pub mod MemoryLocks
@@ -17,5 +10,4 @@ pub mod Restoring
 pub mod Telling
 pub mod CallCourses
 pub mod ProgramCalls
-pub mod Internal
 pub mod InternalHalts

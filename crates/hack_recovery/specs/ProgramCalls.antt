@@ -6,7 +6,8 @@ use Rattle.hack_base.specs.Writes.{AppendsFront}
 use Rattle.hack_files.specs.declared.fs.Files.{Ghosts as Filing}
 use Rattle.hack_process.specs.declared.caller.Caller.{Ghosts as Calling}
 use Rattle.hack_run.specs.CallTrace.{colored_by}
-use Rattle.hack_run.specs.Worlds.{IsStatus, files_view}
+use Rattle.hack_files.specs.View.{files_view}
+use Rattle.hack_run.specs.Worlds.{IsStatus}
 use Rattle.hack_start.specs.Started.{GivesStart, SetsColoring, auto_coloring_of, start_fault_text}
 use Rattle.hack_start.specs.SystemView.{SystemView}
 use Rattle.hack_start.specs.declared.started.StartFault.{StartFault}
@@ -57,17 +58,17 @@ colored coloring term = record term { coloring = coloring }
 -- coloured as they ask, and as it was where they ask for nothing. Or an error says why
 -- they could not be read, a front of its line was written after what was written to `err` before,
 -- and nothing else was done.
-pub data IsProgramCall (informs tells whole locked talks records watched : Type 0) (real : Name → Name) (system : SystemView)
+pub data IsProgramCall (refuses : List Name → Type 0) (informs tells whole locked talks records watched : Type 0) (real : Name → Name) (system : SystemView)
     (is_terminal : Bool) (err_before err_after : Option (List ℕ)) (old new : Scene) (status : ℕ) : Type 0 where
   performed : (started : Started) (coloring asked : Coloring) → GivesStart informs system (Ok started)
       → (informs → SetsColoring (auto_coloring_of is_terminal system) old.host.term.coloring coloring (Ok started))
       → AsksColoring (optional_text started.env.term_color) (names_of started.words.items) asked
       → IsStatus started.env.deny_warnings new.host status
-      → IsCallCourse tells whole locked talks records watched real (names_of started.words.items) started.env
+      → IsCallCourse refuses tells whole locked talks records watched real (names_of started.words.items) started.env
       (scene_on (colored (colored_by asked coloring) old.host.term) old) new
-      → IsProgramCall informs tells whole locked talks records watched real system is_terminal err_before err_after old new status
+      → IsProgramCall refuses informs tells whole locked talks records watched real system is_terminal err_before err_after old new status
   unread : (fault : StartFault) (coloring : Coloring) → GivesStart informs system (Err fault)
       → (informs → SetsColoring (auto_coloring_of is_terminal system) old.host.term.coloring coloring (Err fault))
       → AppendsFront err_before err_after (error_line coloring (start_fault_text fault))
       → new ≡ scene_on (record (colored coloring old.host.term) { error = true }) old → status ≡ 1
-      → IsProgramCall informs tells whole locked talks records watched real system is_terminal err_before err_after old new status
+      → IsProgramCall refuses informs tells whole locked talks records watched real system is_terminal err_before err_after old new status

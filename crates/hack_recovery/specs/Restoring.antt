@@ -8,10 +8,10 @@ use Rattle.hack_journal.specs.Recovery.{CountsRecoverFault, IsJournalRefusal, Is
 use Rattle.hack_journal.specs.Rows.{Spot}
 use Rattle.hack_journal.specs.SafeFiles.{IsSafe, StaysSafe}
 use Rattle.hack_journal.specs.declared.recover.RecoverFault.{RecoverFault}
-use Rattle.hack_run.specs.Worlds.{FilesView}
+use Rattle.hack_files.specs.View.{FilesView}
 use Rattle.hack_term.specs.declared.term.Term.{Term}
-use Rattle.hack_recovery.specs.CallPlaces.{PlacesAt}
-use Rattle.hack_recovery.specs.FileLooks.{Unchanged}
+use Rattle.hack_places.specs.CallPlaces.{PlacesAt}
+use Rattle.hack_places.specs.FileLooks.{Unchanged}
 use Rattle.hack_recovery.specs.Scenes.{IsQuiet, Scene, scene_with}
 use Rattle.hack_recovery.specs.Strangers.{NamesNone, NamesStranger}
 use Rattle.hack_recovery.specs.Telling.{Tells}

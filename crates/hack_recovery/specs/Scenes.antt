@@ -4,10 +4,11 @@ use Rattle.std.specs.declared.io.traits.Write.{Ghosts as Writing}
 use Rattle.hack_files.specs.Files.{Contents}
 use Rattle.hack_files.specs.declared.fs.Files.{Ghosts as Filing}
 use Rattle.hack_process.specs.declared.caller.Caller.{Ghosts as Calling}
-use Rattle.hack_run.specs.Worlds.{FilesView, HostView, World, files_view, host_view}
+use Rattle.hack_files.specs.View.{FilesView, files_view}
+use Rattle.hack_run.specs.Worlds.{HostView, World, host_view}
 use Rattle.hack_run.specs.declared.host.Host.{Host}
 use Rattle.hack_term.specs.declared.term.Term.{Term}
-use Rattle.hack_recovery.specs.FileLooks.{Unchanged}
+use Rattle.hack_places.specs.FileLooks.{Unchanged}
 use Rattle.hack_recovery.specs.GuardEvents.{GuardsView}
 use Rattle.hack_recovery.specs.LockEvents.{LocksView}
 

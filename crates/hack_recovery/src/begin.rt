@@ -7,20 +7,20 @@ ghost use Rattle.hack_base.specs.Names.{names_of, optional_text};
 ghost use Rattle.hack_files.specs.Files.{KeepsAll, Makes};
 ghost use Rattle.hack_journal.specs.Rows.{spot_of};
 ghost use Rattle.hack_recovery.specs.CallCourses.{ArePlacesFound, Begins};
-ghost use Rattle.hack_recovery.specs.FileLooks.{AreLooksCounted};
+ghost use Rattle.hack_places.specs.FileLooks.{AreLooksCounted};
 ghost use Rattle.hack_recovery.specs.InternalHalts.{IsHalt};
-ghost use Rattle.hack_recovery.specs.PlacesView.{places_view};
+ghost use Rattle.hack_places.specs.PlacesView.{places_view};
 ghost use Rattle.hack_run.specs.Readings.{IsEarlyReading};
-ghost use Rattle.hack_run.specs.Worlds.{files_view};
+ghost use Rattle.hack_files.specs.View.{files_view};
 
 use crate::asked::{Asked, Edits};
 use crate::locks::Locks;
-use crate::look::LookFault;
-use crate::places::{Places, place_at};
-use crate::workspace::workspace;
 use hack_base::copies::text_in;
 use hack_files::fs::Files;
 use hack_journal::place::Place;
+use hack_places::look::LookFault;
+use hack_places::places::{Places, place_at};
+use hack_places::workspace::workspace;
 use hack_run::reading::Reading;
 use hack_words::cli::Env;
 use std::alloc::{AllocError, Global};
@@ -105,7 +105,7 @@ pub(crate) fn begin<F: Files, K: Locks>(
 }
 
 /// Looks where the journal is of a call that asks for this.
-#[tactic(auto, using(crate::proofs::CountLemmas::grows_then))]
+#[tactic(auto, using(hack_places::proofs::CountLemmas::grows_then))]
 fn find<F: Files, K: Locks>(
     alloc: Global,
     asked: &Asked,

@@ -1,6 +1,7 @@
 //! A call of the program, from what the system tells of it.
 
 ghost use Rattle.std.specs.Prelude.{◌≡◌};
+ghost use Rattle.hack_recovery.specs.CallCourses.{RefusesThese};
 ghost use Rattle.hack_recovery.specs.ProgramCalls.{IsProgramCall, IsSameOutside, colored, scene_outside};
 ghost use Rattle.hack_run.specs.CallTrace.{colored_by};
 
@@ -49,7 +50,7 @@ pub fn call<S: System, F: Files, L: Files, K: Locks, G: Guards, C: Starts, O: Wr
     outside: &mut Outside<'_, C, O, E>,
 ) -> (u8, F, L)
     ensures outside { IsSameOutside outside.old outside.new }
-    ensures goes { IsProgramCall S.tells F.tells F.whole L.tells C.tells K.tells G.tells
+    ensures goes { IsProgramCall (RefusesThese F.Files) S.tells F.tells F.whole L.tells C.tells K.tells G.tells
         (K.real keepers.old.locks) (S.shown system.now) outside.old.is_terminal
         (E.contents outside.old.err.now) (E.contents outside.new.err.now)
         (scene_outside F.Files L.Files C.Caller O.Write files lockfiles

@@ -1,6 +1,6 @@
 //! A whole call that restores first what an interrupted one left, and keeps a journal while it
-//! edits, under the eyes of a guard: which calls are journaled, where the journal lies, who may use
-//! it, and what it may tell.
+//! edits, under the eyes of a guard: which calls are journaled, who may use a journal, and what it
+//! may tell.
 #![tactic(auto)]
 
 pub mod admit;
@@ -9,15 +9,10 @@ mod begin;
 pub mod call;
 pub mod fault;
 pub mod guards;
-pub mod journal;
 pub mod keepers;
 mod lockfile;
 pub mod locks;
-pub mod look;
 pub mod perform;
-pub mod places;
-pub mod repository;
 mod restore;
 mod strangers;
 mod unseen;
-pub mod workspace;

@@ -14,13 +14,13 @@ ghost use Rattle.hack_recovery.specs.Telling.{Tells};
 ghost use Rattle.hack_run.specs.Worlds.{IsSameHost, host_view};
 
 use crate::fault::CallFault;
-use crate::places::Places;
 use crate::restore::tell_restored;
 use hack_base::paths::under;
 use hack_files::fs::{FileFault, Files};
 use hack_files::reason::tell_reason;
 use hack_journal::contents::look;
 use hack_journal::entries::same;
+use hack_places::places::Places;
 use hack_process::process::Caller;
 use hack_run::host::Host;
 use hack_term::term::Term;
@@ -80,7 +80,7 @@ fn copy_fault<F: Files, E: Write>(
 
 /// Gives the lockfile back what its copy has, where the guard calls, and removes the copy. Returns
 /// whether that is done; if not, an error was reported.
-#[tactic(auto, using(crate::proofs::CountLemmas::grows_then))]
+#[tactic(auto, using(hack_places::proofs::CountLemmas::grows_then))]
 pub(crate) fn settle<F: Files, L: Files, C: Caller, O: Write, E: Write>(
     places: &Places,
     files: &mut F,

@@ -8,14 +8,16 @@ ghost use Rattle.hack_journal.specs.Rows.{spot_of};
 ghost use Rattle.hack_recovery.specs.AskedEdits.{is_restore};
 ghost use Rattle.hack_recovery.specs.CallCourses.{Continues, IsCallCourse, IsJournalClosed};
 ghost use Rattle.hack_recovery.specs.CallCourses.{CopiesAndRuns, IsJournaledCall, IsLockedCourse};
-ghost use Rattle.hack_recovery.specs.CallCourses.{PerformsUnjournaled, RunsOverJournal, Warns};
+ghost use Rattle.hack_recovery.specs.CallCourses.{PerformsUnjournaled, RefusesThese};
+ghost use Rattle.hack_recovery.specs.CallCourses.{RunsOverJournal, Warns};
 ghost use Rattle.hack_recovery.specs.GuardEvents.{GuardsView};
 ghost use Rattle.hack_recovery.specs.LockEvents.{LocksView};
-ghost use Rattle.hack_recovery.specs.PlacesView.{places_view};
+ghost use Rattle.hack_places.specs.PlacesView.{places_view};
 ghost use Rattle.hack_recovery.specs.Restoring.{TakesBack};
 ghost use Rattle.hack_recovery.specs.Scenes.{scene_by, scene_of};
 ghost use Rattle.hack_run.specs.Readings.{IsEarlyReading};
-ghost use Rattle.hack_run.specs.Worlds.{IsSameHost, IsStatus, files_view, host_view};
+ghost use Rattle.hack_files.specs.View.{files_view};
+ghost use Rattle.hack_run.specs.Worlds.{IsSameHost, IsStatus, host_view};
 
 use crate::admit::{Way, admit};
 use crate::asked::Edits;
@@ -25,14 +27,14 @@ use crate::guards::Guards;
 use crate::keepers::Keepers;
 use crate::lockfile::{keep_copy, settle};
 use crate::locks::Locks;
-use crate::look::{LookFault, is_there};
-use crate::places::Places;
 use crate::restore::restore;
 use crate::unseen::blindly;
 use hack_files::fs::Files;
+use hack_journaled::journaled::run_journaled;
+use hack_places::look::{LookFault, is_there};
+use hack_places::places::Places;
 use hack_process::process::Caller;
 use hack_run::host::Host;
-use hack_run::journaled::run_journaled;
 use hack_run::reading::Reading;
 use hack_run::run::run;
 use hack_starts::starts::Starts;
@@ -56,7 +58,7 @@ pub fn perform<F: Files, L: Files, K: Locks, G: Guards, C: Starts, O: Write, E: 
     ensures host { IsSameHost host.old host.new }
     ensures status { IsStatus host.old.env.now.deny_warnings
         (host_view C.Caller O.Write host.new) result.0 }
-    ensures goes { IsCallCourse F.tells F.whole L.tells C.tells K.tells G.tells
+    ensures goes { IsCallCourse (RefusesThese F.Files) F.tells F.whole L.tells C.tells K.tells G.tells
         (K.real keepers.old.locks) (names_of words.now) host.old.env.now
         (scene_of F.Files L.Files C.Caller O.Write files lockfiles
         (K.shown keepers.old.locks) (G.shown keepers.old.guards) host.old)
@@ -67,7 +69,7 @@ pub fn perform<F: Files, L: Files, K: Locks, G: Guards, C: Starts, O: Write, E: 
     let begun = match begin(host.alloc, words, host.env, &mut files, &keepers.locks) {
         Ok(begun) => begun,
         Err(Halt::Memory) => {
-            let status = report(CallFault::Memory, host.term, host.err);
+            let status = report(CallFault::Memory, host);
             return (status, files, lockfiles);
         }
         Err(Halt::Unseen { asked, path }) => {
@@ -87,17 +89,21 @@ pub fn perform<F: Files, L: Files, K: Locks, G: Guards, C: Starts, O: Write, E: 
             (status, files, lockfiles)
         }
         Ok(Way::Guarded) => guarded(words, begun, files, lockfiles, keepers, host),
-        Err(fault) => (report(fault, host.term, host.err), files, lockfiles),
+        Err(fault) => (report(fault, host), files, lockfiles),
     }
 }
 
 /// Reports why the call isn't performed, and returns its exit status.
-pub(crate) fn report<E: Write>(fault: CallFault, term: &mut Term, err: &mut E) -> u8
-    ensures term { term.new ≡ record term.old { error = true } }
-    ensures status { result ≡ 1 }
+fn report<C: Caller, O: Write, E: Write>(fault: CallFault, host: &mut Host<'_, C, O, E>) -> u8
+    ensures host { IsSameHost host.old host.new }
+    ensures status { IsStatus host.old.env.now.deny_warnings
+        (host_view C.Caller O.Write host.new) result }
+    ensures view { host_view C.Caller O.Write host.new
+        ≡ record (host_view C.Caller O.Write host.old) { term = host.new.term.now } }
+    ensures error { host.new.term.now.error ≡ true }
 {
-    let _ = term.error(fault.text(), err);
-    1
+    let _ = host.term.error(fault.text(), host.err);
+    host.status()
 }
 
 /// Performs a call without a journal. Where it is to restore, there is nothing that it may.
@@ -116,7 +122,7 @@ fn plainly<F: Files, C: Starts, O: Write, E: Write>(
         → (files.new ≡ files.old) × (host_view C.Caller O.Write host.new
         ≡ host_view C.Caller O.Write host.old) }
     ensures runs { is_restore begun.edits ≡ false → (lockfiles : Contents) (locks : LocksView)
-        (guards : GuardsView) → PerformsUnjournaled F.tells C.tells
+        (guards : GuardsView) → PerformsUnjournaled (RefusesThese F.Files) F.tells F.whole C.tells
         (names_of words.now) host.old.env.now
         (scene_by (files_view F.Files files.old) lockfiles locks guards
         (host_view C.Caller O.Write host.old))
@@ -157,7 +163,7 @@ fn guarded<F: Files, L: Files, K: Locks, G: Guards, C: Starts, O: Write, E: Writ
     ensures host { IsSameHost host.old host.new }
     ensures status { IsStatus host.old.env.now.deny_warnings
         (host_view C.Caller O.Write host.new) result.0 }
-    ensures goes { IsLockedCourse F.tells F.whole L.tells C.tells K.tells G.tells
+    ensures goes { IsLockedCourse (RefusesThese F.Files) F.tells F.whole L.tells C.tells K.tells G.tells
         (names_of words.now) host.old.env.now begun.edits (places_view begun.places)
         (scene_of F.Files L.Files C.Caller O.Write files lockfiles
         (K.shown keepers.old.locks) (G.shown keepers.old.guards) host.old)
@@ -169,11 +175,11 @@ fn guarded<F: Files, L: Files, K: Locks, G: Guards, C: Starts, O: Write, E: Writ
     match take_back(&begun.places, &mut files, &mut lockfiles, host) {
         Ok(is_back) => {
             if !is_back {
-                return (1, files, lockfiles);
+                return (host.status(), files, lockfiles);
             }
             go_on(words, begun, files, lockfiles, keepers, host)
         }
-        Err(fault) => (report(fault, host.term, host.err), files, lockfiles),
+        Err(fault) => (report(fault, host), files, lockfiles),
     }
 }
 
@@ -231,7 +237,7 @@ fn go_on<F: Files, L: Files, K: Locks, G: Guards, C: Starts, O: Write, E: Write>
     ensures host { IsSameHost host.old host.new }
     ensures status { IsStatus host.old.env.now.deny_warnings
         (host_view C.Caller O.Write host.new) result.0 }
-    ensures goes { Continues F.tells F.whole L.tells C.tells K.tells G.tells
+    ensures goes { Continues (RefusesThese F.Files) F.tells F.whole L.tells C.tells K.tells G.tells
         (names_of words.now) host.old.env.now begun.edits (places_view begun.places)
         (scene_of F.Files L.Files C.Caller O.Write files lockfiles
         (K.shown keepers.old.locks) (G.shown keepers.old.guards) host.old)
@@ -286,11 +292,7 @@ fn journaled<F: Files, L: Files, G: Guards, C: Starts, O: Write, E: Write>(
             guards.leave(ended.0);
             ended
         }
-        Err(fault) => (
-            report(CallFault::from(fault), host.term, host.err),
-            files,
-            lockfiles,
-        ),
+        Err(fault) => (report(CallFault::from(fault), host), files, lockfiles),
     }
 }
 
@@ -325,7 +327,7 @@ fn copied<F: Files, L: Files, C: Starts, O: Write, E: Write>(
         host.err,
     ) {
         Ok(()) => over_journal(words, begun, files, lockfiles, host),
-        Err(fault) => (report(fault, host.term, host.err), files, lockfiles),
+        Err(fault) => (report(fault, host), files, lockfiles),
     }
 }
 

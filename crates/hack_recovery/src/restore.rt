@@ -6,7 +6,7 @@ ghost use Rattle.hack_journal.specs.Rows.{spot_of};
 ghost use Rattle.hack_recovery.specs.Restoring.{IsBroughtBack, Restores};
 ghost use Rattle.hack_recovery.specs.Strangers.{first_stranger};
 ghost use Rattle.hack_recovery.specs.Telling.{Tells};
-ghost use Rattle.hack_run.specs.Worlds.{files_view};
+ghost use Rattle.hack_files.specs.View.{files_view};
 
 use crate::fault::CallFault;
 use crate::strangers::first_stranger;

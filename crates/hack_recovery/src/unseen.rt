@@ -5,12 +5,13 @@ ghost use Rattle.std.specs.Prelude.{◌≡◌, IfSome, false, true};
 ghost use Rattle.hack_base.specs.Names.{names_of};
 ghost use Rattle.hack_files.specs.Files.{Contents};
 ghost use Rattle.hack_recovery.specs.AskedEdits.{is_change};
-ghost use Rattle.hack_recovery.specs.CallCourses.{PerformsUnjournaled};
+ghost use Rattle.hack_recovery.specs.CallCourses.{PerformsUnjournaled, RefusesThese};
 ghost use Rattle.hack_recovery.specs.GuardEvents.{GuardsView};
 ghost use Rattle.hack_recovery.specs.LockEvents.{LocksView};
 ghost use Rattle.hack_recovery.specs.Scenes.{scene_by, scene_with};
 ghost use Rattle.hack_run.specs.Readings.{IsEarlyReading};
-ghost use Rattle.hack_run.specs.Worlds.{IsSameHost, IsStatus, files_view, host_view};
+ghost use Rattle.hack_files.specs.View.{files_view};
+ghost use Rattle.hack_run.specs.Worlds.{IsSameHost, IsStatus, host_view};
 
 use crate::asked::Asked;
 use hack_files::fs::Files;
@@ -40,7 +41,7 @@ pub(crate) fn blindly<F: Files, C: Starts, O: Write, E: Write>(
         × (host_view C.Caller O.Write host.new ≡ record (host_view C.Caller O.Write host.old)
         { term = record host.old.term.now { error = true } }) }
     ensures runs { is_change asked.edits ≡ false → (lockfiles : Contents) (locks : LocksView)
-        (guards : GuardsView) → PerformsUnjournaled F.tells C.tells
+        (guards : GuardsView) → PerformsUnjournaled (RefusesThese F.Files) F.tells F.whole C.tells
         (names_of words.now) host.old.env.now
         (scene_with (files_view F.Files files.old) (record host.old.term.now { warn = true })
         (scene_by (files_view F.Files files.old) lockfiles locks guards

@@ -11,7 +11,7 @@ use Rattle.hack_files.proofs.RestoreLemmas.{grows_more}
 use Rattle.hack_files.proofs.SafeLemmas.{safe_back, safe_none}
 use Rattle.hack_load.specs.FilesAfterLoading.{LeavesFew}
 use Rattle.hack_run.specs.TemporaryEdits.{IsClean}
-use Rattle.hack_run.specs.Worlds.{FilesView}
+use Rattle.hack_files.specs.View.{FilesView}
 
 -- nothing is done to files
 pub leaves_none : (held : Contents) (n : ℕ) → LeavesFew (Unit {0}) held held n n

@@ -41,7 +41,8 @@ use Rattle.hack_run.specs.CallChanges.{AreChanges, IsChangeTrace, LoadsAndChange
 use Rattle.hack_run.specs.CallTrace.{PerformsPlan, warned_by}
 use Rattle.hack_run.specs.Internal.{EditsAndPerforms}
 use Rattle.hack_run.specs.Questions.{AsksRustup}
-use Rattle.hack_run.specs.Worlds.{FilesView, HostView, World, host_at, world_at}
+use Rattle.hack_files.specs.View.{FilesView}
+use Rattle.hack_run.specs.Worlds.{HostView, World, host_at, world_at}
 use Rattle.hack_run.proofs.BackLemmas.{none_told}
 use Rattle.hack_run.proofs.TraceLemmas.{on_ok, plan_told, quiet_before}
 

@@ -60,7 +60,7 @@ broken-built place (x ∷ built) m has broken all =
     ]
 
 -- where each step passed, no search was broken off
-pub not_cut : (place : ℕ) (came : Result (List Hunted) CulpritsFault) (left : List Spot) (hunted : List Hunted) (built : List Made) → EndsSo came left hunted built → came ≡ Err Ended → All HasPassed (steps_from place built) → ⊥
-not_cut place came left hunted built end is all =
-    let broken : Explains Ended built = subst (λ (c : Result (List Hunted) CulpritsFault). EndsSo c left hunted built) is end in
+pub not_cut : (place : ℕ) (came : Result (List Hunted) CulpritsFault) (left : List Spot) (hunted : List Hunted) (built : List Made) (plan : PlanView) → EndsSo came left hunted built plan → came ≡ Err Ended → All HasPassed (steps_from place built) → ⊥
+not_cut place came left hunted built plan end is all =
+    let broken : Explains Ended built plan = subst (λ (c : Result (List Hunted) CulpritsFault). EndsSo c left hunted built plan) is end in
     broken-built place built broken.0 broken.1 broken.2 all

@@ -1,7 +1,7 @@
 -- Runs side by side, from the first step to the end of what is left.
-use Rattle.std.proofs.Common.{◌≡◌, List, [], ◌++◌, Option, inl, inr, refl, ◌∙◌, ap, subst, append-nil}
+use Rattle.std.proofs.Common.{◌≡◌, List, [], ◌++◌, Option, inl, inr, refl, ◌∙◌, ap, subst, sym, append-nil}
 use Rattle.hack_process.specs.Calls.{Call}
-use Rattle.std.specs.Prelude.{◌⊎◌, Result, Ok, Err, OnOk, true}
+use Rattle.std.specs.Prelude.{◌⊎◌, Bool, Result, Ok, Err, OnOk, false, true}
 use Rattle.std.specs.Option.{unwrap_or}
 use Rattle.std.proofs.Common.{Global, String}
 use Rattle.hack_base.specs.Names.{Name}
@@ -18,7 +18,7 @@ use Rattle.hack_load.specs.Contexts.{ContextRecord}
 use Rattle.hack_load.specs.declared.answers.Answers.{Answers}
 use Rattle.hack_starts.specs.Events.{Event, calls_of}
 use Rattle.hack_lanes.specs.Lanes.{Goes, Scene, State, Turn}
-use Rattle.hack_run.specs.Lanes.{IsLaneCall, ObeysInLanes, PerformsInLanes, RunsInLanes, RunsOne, scene_at}
+use Rattle.hack_run.specs.Lanes.{IsLaneCall, MayRunInLanes, ObeysInLanes, PerformsInLanes, RunsInLanes, RunsOne, scene_at}
 
 -- ending what is left makes no call
 pub cleared_calls : {S : Type 0} (tells : Type 0) (calls : S → List Call) (did : List Event → S → S → Type 0)
@@ -46,22 +46,43 @@ ran_in_lanes {S} did cx stable rustup old a b c turn state starts one ended none
   now = refl;
 }
 
--- a context that was made for the arguments was performed in lanes, where it isn't listed
-pub follows_in_lanes : {S T E : Type 0} (did : List Event → S → S → Type 0) (course : S → S → Type 0) (r : Result T E) (args : Args) (answers : Answers) (cx : ContextRecord) (stable : Result (Option Version) (String Global)) (rustup : Name) (old before new : S)
-    → course old before → IsContextFrom args answers cx → OnOk r ((cx.args.print_command_list ≡ true) ⊎ RunsInLanes did cx stable rustup before new) → OnOk r (PerformsInLanes did course args old new)
-follows_in_lanes did course (Err e) args answers cx stable rustup old before new asked context h = tt
-follows_in_lanes did course (Ok v) args answers cx stable rustup old before new asked context (inl listed) = inl (subst (λ (a : Args). a.print_command_list ≡ true) context.2.args listed)
-follows_in_lanes did course (Ok v) args answers cx stable rustup old before new asked context (inr ran) = inr (cx, context.2.args, stable, rustup, before, asked, ran)
+module _ {S : Type 0} (did : List Event → S → S → Type 0) (course : S → S → Type 0) (more : (a b c : S) → course a b → course b c → course a c) where
+  -- a context that was made for the arguments was performed in lanes, or listed
+  pub follows_in_lanes : {T E : Type 0} (r : Result T E) (args : Args) (answers : Answers) (cx : ContextRecord) (stable : Result (Option Version) (String Global)) (rustup : Name) (old before new : S)
+      → course old before → IsContextFrom args answers cx → (cx.args.print_command_list ≡ true → course before new)
+      → OnOk r ((cx.args.print_command_list ≡ true) ⊎ RunsInLanes did cx stable rustup before new) → OnOk r (PerformsInLanes true did course args old new)
+  follows_in_lanes (Err e) args answers cx stable rustup old before new asked context lists h = tt
+  follows_in_lanes (Ok v) args answers cx stable rustup old before new asked context lists (inl listed) =
+      inl (more old before new asked (lists listed), inr (subst (λ (a : Args). a.print_command_list ≡ true) context.2.args listed))
+  follows_in_lanes (Ok v) args answers cx stable rustup old before new asked context lists (inr ran) = inr (cx, context.2.args, stable, rustup, before, asked, ran)
 
--- the same from a state before other calls
-pub asked_in_lanes : {S T E : Type 0} (did : List Event → S → S → Type 0) (course : S → S → Type 0) → ((a b c : S) → course a b → course b c → course a c) → (r : Result T E) (args : Args) (old mid new : S) → course old mid
-    → OnOk r (PerformsInLanes did course args mid new) → OnOk r (PerformsInLanes did course args old new)
-asked_in_lanes did course more (Err e) args old mid new asked h = tt
-asked_in_lanes did course more (Ok v) args old mid new asked (inl listed) = inl listed
-asked_in_lanes did course more (Ok v) args old mid new asked (inr p) = inr (p.0, p.1, p.2, p.3, p.4, more old mid p.4 asked p.5, p.6)
+  -- the same, where an error may have ended it
+  pub may_follow_in_lanes : (args : Args) (answers : Answers) (cx : ContextRecord) (stable : Result (Option Version) (String Global)) (rustup : Name) (old before new : S) (lists : Bool)
+      → cx.args.print_command_list ≡ lists → course old before → IsContextFrom args answers cx → (cx.args.print_command_list ≡ true → course before new)
+      → (cx.args.print_command_list ≡ false → MayRunInLanes did cx stable rustup before new) → PerformsInLanes false did course args old new
+  may_follow_in_lanes args answers cx stable rustup old before new true is asked context lists may = inl (more old before new asked (lists is), inl refl)
+  may_follow_in_lanes args answers cx stable rustup old before new false is asked context lists may =
+      elim (may is) [
+        | inl same ↦ inl (subst (course old) (sym same) asked, inl refl)
+        | inr ran ↦ inr (cx, context.2.args, stable, rustup, before, asked, ran)
+      ]
+
+  -- the same from a state before other calls
+  pub asked_in_lanes : (done : Bool) (args : Args) (old mid new : S) → course old mid → PerformsInLanes done did course args mid new → PerformsInLanes done did course args old new
+  asked_in_lanes done args old mid new asked (inl none) = inl (more old mid new asked none.0, none.1)
+  asked_in_lanes done args old mid new asked (inr p) = inr (p.0, p.1, p.2, p.3, p.4, more old mid p.4 asked p.5, p.6)
 
 -- a command line was read, and then obeyed in lanes
-pub reads_in_lanes : {S T E : Type 0} (did : List Event → S → S → Type 0) (course : S → S → Type 0) (r : Result T E) (words : List Name) (env : Env) (rustup : Rustup) (answer : Parsed) (notes : List Note) (old mid new : S) → course old mid
-    → IsAnswer (around_of env rustup) (ComesTo (around_of env rustup) words) answer notes → OnOk r (ObeysInLanes did course answer mid new) → OnOk r (IsLaneCall did course words env old new)
-reads_in_lanes did course (Err e) words env rustup answer notes old mid new asked read obeyed = tt
-reads_in_lanes did course (Ok v) words env rustup answer notes old mid new asked read obeyed = record { mid = mid; asked = asked; rustup = rustup; answer = answer; notes = notes; read = read; obeyed = obeyed }
+pub reads_in_lanes : {S : Type 0} (done : Bool) (did : List Event → S → S → Type 0) (course : S → S → Type 0) (words : List Name) (env : Env) (rustup : Rustup) (answer : Parsed) (notes : List Note) (old mid new : S) → course old mid
+    → IsAnswer (around_of env rustup) (ComesTo (around_of env rustup) words) answer notes → ObeysInLanes done did course answer mid new → IsLaneCall done did course words env old new
+reads_in_lanes done did course words env rustup answer notes old mid new asked read obeyed =
+    record { mid = mid; asked = asked; behind = inr (record { rustup = rustup; answer = answer; notes = notes; read = read; obeyed = obeyed }) }
+
+-- nothing was done after the command line was read, since an error ended the call
+pub unread_in_lanes : {S : Type 0} (did : List Event → S → S → Type 0) (course : S → S → Type 0) (words : List Name) (env : Env) (old new : S) → course old new → IsLaneCall false did course words env old new
+unread_in_lanes did course words env old new asked = record { mid = new; asked = asked; behind = inl (refl, refl) }
+
+-- what holds of a success holds of what follows from it
+pub on_success : {T E : Type 0} (P Q : Type 0) (r : Result T E) → (P → Q) → OnOk r P → OnOk r Q
+on_success P Q (Ok v) turn h = turn h
+on_success P Q (Err e) turn h = tt

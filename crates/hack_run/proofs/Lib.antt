@@ -2,8 +2,6 @@ mod BackLemmas
 pub mod CallLemmas
 mod ChangeLemmas
 mod GatherLemmas
-mod HeadlineLemmas
-mod JournalLemmas
 mod LoadingLemmas
 pub mod ReadingLemmas
 mod LaneLemmas
@@ -12,4 +10,4 @@ mod RunLemmas
 mod StartedLemmas
 mod FindingLemmas
 mod ToldLemmas
-mod TraceLemmas
+pub mod TraceLemmas

@@ -31,7 +31,7 @@ use Rattle.hack_load.specs.declared.fault.ContextFault.{ContextFault}
 use Rattle.hack_load.specs.declared.fault.ContextFault.TheVariants as faults
 use Rattle.hack_load.specs.declared.loaded.Loaded.{Loaded}
 use Rattle.hack_run.specs.Loading.{AnswersMetadata, AreLoaded, AsksFor, IsMinorIn, Loads, at_location, at_manifests, at_metadata}
-use Rattle.hack_run.specs.Warnings.{have_warning}
+use Rattle.hack_drive.specs.Warnings.{have_warning}
 use Rattle.hack_run.proofs.CallLemmas.{fault_may, in_vain, unnamed}
 
 -- an answer that can't be read has no release

@@ -37,7 +37,7 @@ use Rattle.hack_run.specs.Handed.{IsHandedAsAsked, IsHuntedOut, IsPlannedAsAsked
 use Rattle.hack_run.specs.InternalExtensions.{Extends}
 use Rattle.hack_run.specs.Internal.{HandsOverAtMostOne, ListsOver, PerformsAtMostOne, host_writing}
 use Rattle.hack_run.specs.Started.{MakesStarted}
-use Rattle.hack_run.specs.Warnings.{Warned}
+use Rattle.hack_drive.specs.Warnings.{Warned}
 use Rattle.hack_run.proofs.TraceLemmas.{all_shown, one_told, unended}
 use Rattle.hack_run.specs.Worlds.{HostView}
 use Rattle.hack_run.proofs.GatherLemmas.{known-none}
@@ -171,7 +171,7 @@ list_ends (Ok v) refused none short flushed quiet tells cx stable rustup warned 
       cut = d.cut;
       fails = d.fails;
       planned = d.planned;
-      later = d.later;
+      warns = d.warns;
       calls = d.calls;
       wrote = wrote_end old.out (append_known mid.out gathered) out (flat_map (lines_written d.course.plan) d.course.handed)
           (subst (λ (x : Option (List ℕ)). WritesText true true x (append_known mid.out gathered) (flat_map (lines_written d.course.plan) d.course.handed)) start d.wrote) (kept came.3);
@@ -180,7 +180,7 @@ list_ends (Ok v) refused none short flushed quiet tells cx stable rustup warned 
       uncut = d.uncut;
       unreported = d.unreported;
       noted = d.noted;
-      warns = d.warns;
+      counted = d.counted;
     }
 
 -- of a front that was written or gathered, what was written is a front, where the output only grew
@@ -209,7 +209,7 @@ list_shows cx stable rustup old mid begun gathered left out empty made kept grow
       cut = one.cut;
       fails = one.fails;
       planned = one.planned;
-      later = one.later;
+      warns = one.warns;
       calls = one.calls;
       wrote = shown (flat_map (lines_written one.course.plan) one.course.handed) one.wrote;
       started = λ e. unended e;
@@ -217,7 +217,7 @@ list_shows cx stable rustup old mid begun gathered left out empty made kept grow
       passed = λ e. unended e;
       unreported = one.unreported;
       noted = λ e. unended e;
-      warns = λ e. unended e;
+      counted = λ e. unended e;
     })
 
 -- what a runner keeps through notices and steps, it keeps where a list was handed over
@@ -227,6 +227,15 @@ pub handed_keeps : {R N : Type 0} (whole : Type 0) (had has : Option (List ℕ))
 handed_keeps whole had has Told Ran cx stable rustup a b (inl (inl same, kept)) name told ran = ap name (sym same)
 handed_keeps whole had has Told Ran cx stable rustup a b (inl (inr some, kept)) name told ran = told some.0 a b some.1
 handed_keeps whole had has Told Ran cx stable rustup a b (inr l) name told ran = told l.notes a l.mid l.told ∙ ran l.course.plan (filter is_sent l.course.handed) l.mid b l.ran
+
+-- a caller whose course the steps keep is in that course where a list was handed over
+pub handed_in_course : {R S : Type 0} (whole : Type 0) (had has : Option (List ℕ)) (Told : List Note → R → R → Type 0) (Ran : PlanView → List Handed → R → R → Type 0) (cx : ContextRecord) (stable : Result (Option Version) (String Global)) (rustup : Name) (a b : R)
+    → HandsOverAtMostOne whole had has Told Ran cx stable rustup a b → (state : R → S) (course : S → S → Type 0) → ((s : S) → course s s)
+    → ((notes : List Note) (x y : R) → Told notes x y → state y ≡ state x) → ((plan : PlanView) (steps : List Handed) (x y : R) → Ran plan steps x y → course (state x) (state y)) → course (state a) (state b)
+handed_in_course whole had has Told Ran cx stable rustup a b (inl (inl same, kept)) state course none told ran = subst (λ r. course (state a) (state r)) (sym same) (none (state a))
+handed_in_course whole had has Told Ran cx stable rustup a b (inl (inr some, kept)) state course none told ran = subst (course (state a)) (sym (told some.0 a b some.1)) (none (state a))
+handed_in_course whole had has Told Ran cx stable rustup a b (inr l) state course none told ran =
+    subst (λ s. course s (state b)) (told l.notes a l.mid l.told) (ran l.course.plan (filter is_sent l.course.handed) l.mid b l.ran)
 
 -- a list that was handed over to a runner whose steps make just their calls
 pub handed_makes : {R : Type 0} (whole : Type 0) (had has : Option (List ℕ)) (Told : List Note → R → R → Type 0) (Ran : PlanView → List Handed → R → R → Type 0) (cx : ContextRecord) (stable : Result (Option Version) (String Global)) (rustup : Name) (a b : R)
@@ -245,7 +254,7 @@ handed_makes whole had has Told Ran cx stable rustup a b (inr l) w calls refused
       cut = did.cut;
       fails = false;
       planned = (performable cx.args.subcommand stable cx rustup l.course.plan l.notes l.planned, (l.driven, refl));
-      later = false;
+      warns = false;
       calls = subst (λ (cs : List Call). MakesCalls (λ made. PerformsAll l.course.plan steps made did.cut) cs (calls b)) (told l.notes a l.mid l.told) (record { made = did.made; grown = did.grown; such = did.performed });
       wrote = all_shown false had has (flat_map (lines_written l.course.plan) l.course.handed) (l.wrote w);
       started = λ e. unended e;
@@ -253,7 +262,7 @@ handed_makes whole had has Told Ran cx stable rustup a b (inr l) w calls refused
       passed = λ e. unended e;
       unreported = λ u. refl;
       noted = λ e. unended e;
-      warns = λ e. unended e;
+      counted = λ e. unended e;
     })
 
 -- where each step passed, none was cut short
@@ -272,27 +281,27 @@ whole_count cut before now grows first last = let e = grows (omega (arith, first
 
 -- what is handed out, where no search for conflicts is asked for
 planned-apart : (IsPlan : PlanView → List Note → Type 0) (done : Bool) (cx : ContextRecord) (rustup : Name) (course : Course) (notes : List Note) (fails warns : Bool) → cx.args.find_conflicts ≡ false
-    → IsPlan course.plan notes → IsHandedAsAsked done cx.args.find_rust_version cx.args course fails → IsPlannedAsAsked IsPlan done false cx rustup course notes fails warns
+    → IsPlan course.plan notes → IsHandedAsAsked done cx.args.find_rust_version cx course fails warns → IsPlannedAsAsked IsPlan done false cx rustup course notes fails warns
 planned-apart IsPlan done cx rustup course notes fails warns off plan handed =
-    subst (λ (b : Bool). MatchBool b (IsHuntedOut done cx rustup course notes fails warns) (IsPlan course.plan notes × IsHandedAsAsked done (b || cx.args.find_rust_version) cx.args course fails)) (sym off) (plan, handed)
+    subst (λ (b : Bool). MatchBool b (IsHuntedOut done cx rustup course notes fails warns) (IsPlan course.plan notes × IsHandedAsAsked done (b || cx.args.find_rust_version) cx course fails warns)) (sym off) (plan, handed)
 
 -- the chosen piece's steps, where no search is asked for
 pub planned_piece : (IsPlan : PlanView → List Note → Type 0) (done : Bool) (cx : ContextRecord) (rustup : Name) (course : Course) (notes : List Note) → cx.args.find_conflicts ≡ false → cx.args.find_rust_version ≡ false
     → IsPlan course.plan notes → IsDriven cx.args.partition cx.args.keep_going course → IsPlannedAsAsked IsPlan done false cx rustup course notes false false
 planned_piece IsPlan done cx rustup course notes apart off plan driven =
-    planned-apart IsPlan done cx rustup course notes false false apart plan (subst (λ (b : Bool). IsHandedAsAsked done b cx.args course false) (sym off) (driven, refl))
+    planned-apart IsPlan done cx rustup course notes false false apart plan (subst (λ (b : Bool). IsHandedAsAsked done b cx course false false) (sym off) (driven, refl))
 
 -- a search's steps, where one for versions is asked for
 pub planned_search : (IsPlan : PlanView → List Note → Type 0) (done : Bool) (cx : ContextRecord) (rustup : Name) (course : Course) (notes : List Note) (fails warns : Bool) → cx.args.find_conflicts ≡ false → cx.args.find_rust_version ≡ true
-    → IsPlan course.plan notes → IsSearchedOut done course.plan course.handed fails → IsPlannedAsAsked IsPlan done false cx rustup course notes fails warns
+    → IsPlan course.plan notes → IsSearchedOut done cx course.plan course.handed fails warns → IsPlannedAsAsked IsPlan done false cx rustup course notes fails warns
 planned_search IsPlan done cx rustup course notes fails warns apart on plan out =
-    planned-apart IsPlan done cx rustup course notes fails warns apart plan (subst (λ (b : Bool). IsHandedAsAsked done b cx.args course fails) (sym on) out)
+    planned-apart IsPlan done cx rustup course notes fails warns apart plan (subst (λ (b : Bool). IsHandedAsAsked done b cx course fails warns) (sym on) out)
 
 -- ... where one for conflicts is
 pub planned_hunt : (IsPlan : PlanView → List Note → Type 0) (done : Bool) (cx : ContextRecord) (rustup : Name) (course : Course) (notes : List Note) (fails warns : Bool) → cx.args.find_conflicts ≡ true
     → IsHuntedOut done cx rustup course notes fails warns → IsPlannedAsAsked IsPlan done false cx rustup course notes fails warns
 planned_hunt IsPlan done cx rustup course notes fails warns on out =
-    subst (λ (b : Bool). MatchBool b (IsHuntedOut done cx rustup course notes fails warns) (IsPlan course.plan notes × IsHandedAsAsked done (b || cx.args.find_rust_version) cx.args course fails)) (sym on) out
+    subst (λ (b : Bool). MatchBool b (IsHuntedOut done cx rustup course notes fails warns) (IsPlan course.plan notes × IsHandedAsAsked done (b || cx.args.find_rust_version) cx course fails warns)) (sym on) out
 
 planned-by : (b : Bool) (X P Q H : Type 0) → (P → Q) → MatchBool b X (P × H) → MatchBool b X (Q × H)
 planned-by true X P Q H f x = x
@@ -324,7 +333,7 @@ runs_one cx stable rustup course notes old new mid before now term fault same pl
   cut = performed.cut;
   fails = false;
   planned = planned_piece (IsPerformableOf cx.args.subcommand stable cx rustup) true cx rustup course notes apart off (performable cx.args.subcommand stable cx rustup course.plan notes planned) driven;
-  later = false;
+  warns = false;
   calls = calls_from course mid old.calls new.calls before now same performed;
   wrote = tt;
   started = λ e. subst (λ (calls : List Call). MakesStarted calls new.calls) same (started (all_passed course.handed term fault told none quiet));
@@ -332,18 +341,18 @@ runs_one cx stable rustup course notes old new mid before now term fault same pl
   passed = λ e u. all_passed course.handed term fault told none quiet;
   unreported = λ u. refl;
   noted = λ e. kept;
-  warns = λ e. warned;
+  counted = λ e. warned;
 }
 
-some_search : (cx : ContextRecord) (stable : Result (Option Version) (String Global)) (rustup : Name) (course : Course) (notes : List Note) (fails later : Bool) (old new : HostView) (mid : List Call) (before now : ℕ) → mid ≡ old.calls
-    → IsPlannedAsAsked (IsPerformableOf cx.args.subcommand stable cx rustup) true false cx rustup course notes fails later → is_search false cx.args ≡ true → HasPerformed course.plan course.handed mid new.calls before now → MakesStarted mid new.calls
-    → before ≡ 0 → now ≡ 0 → new.fails ≡ (fails || old.fails) → Warned notes (later || old.term.warn) new.term.warn → PerformsOne true false cx stable rustup old.term.warn old new
-some_search cx stable rustup course notes fails later old new mid before now same planned on performed started first last kept warned = record {
+some_search : (cx : ContextRecord) (stable : Result (Option Version) (String Global)) (rustup : Name) (course : Course) (notes : List Note) (fails warns : Bool) (old new : HostView) (mid : List Call) (before now : ℕ) → mid ≡ old.calls
+    → IsPlannedAsAsked (IsPerformableOf cx.args.subcommand stable cx rustup) true false cx rustup course notes fails warns → is_search false cx.args ≡ true → HasPerformed course.plan course.handed mid new.calls before now → MakesStarted mid new.calls
+    → before ≡ 0 → now ≡ 0 → new.fails ≡ (fails || old.fails) → Warned notes (warns || old.term.warn) new.term.warn → PerformsOne true false cx stable rustup old.term.warn old new
+some_search cx stable rustup course notes fails warns old new mid before now same planned on performed started first last kept warned = record {
   course = course;
   notes = notes;
   cut = performed.cut;
   fails = fails;
-  later = later;
+  warns = warns;
   planned = planned;
   calls = calls_from course mid old.calls new.calls before now same performed;
   wrote = tt;
@@ -352,22 +361,22 @@ some_search cx stable rustup course notes fails later old new mid before now sam
   passed = λ e off. absurd (true≢false (sym on ∙ off));
   unreported = λ off. absurd (true≢false (sym on ∙ off));
   noted = λ e. kept;
-  warns = λ e. warned;
+  counted = λ e. warned;
 }
 
 -- one search for conflicts, where no error was reported
-pub hunts_one : (cx : ContextRecord) (stable : Result (Option Version) (String Global)) (rustup : Name) (course : Course) (notes : List Note) (fails later : Bool) (old new : HostView) (mid : List Call) (before now : ℕ) → mid ≡ old.calls
-    → cx.args.find_conflicts ≡ true → IsHuntedOut true cx rustup course notes fails later → HasPerformed course.plan course.handed mid new.calls before now → MakesStarted mid new.calls
-    → before ≡ 0 → now ≡ 0 → new.fails ≡ (fails || old.fails) → Warned notes (later || old.term.warn) new.term.warn → PerformsOne true false cx stable rustup old.term.warn old new
-hunts_one cx stable rustup course notes fails later old new mid before now same on out performed started first last kept warned =
-    some_search cx stable rustup course notes fails later old new mid before now same (planned_hunt (IsPerformableOf cx.args.subcommand stable cx rustup) true cx rustup course notes fails later on out) (hunted cx.args on) performed started first last kept warned
+pub hunts_one : (cx : ContextRecord) (stable : Result (Option Version) (String Global)) (rustup : Name) (course : Course) (notes : List Note) (fails warns : Bool) (old new : HostView) (mid : List Call) (before now : ℕ) → mid ≡ old.calls
+    → cx.args.find_conflicts ≡ true → IsHuntedOut true cx rustup course notes fails warns → HasPerformed course.plan course.handed mid new.calls before now → MakesStarted mid new.calls
+    → before ≡ 0 → now ≡ 0 → new.fails ≡ (fails || old.fails) → Warned notes (warns || old.term.warn) new.term.warn → PerformsOne true false cx stable rustup old.term.warn old new
+hunts_one cx stable rustup course notes fails warns old new mid before now same on out performed started first last kept warned =
+    some_search cx stable rustup course notes fails warns old new mid before now same (planned_hunt (IsPerformableOf cx.args.subcommand stable cx rustup) true cx rustup course notes fails warns on out) (hunted cx.args on) performed started first last kept warned
 
 -- one search for versions, where no error was reported
-pub searches_one : (cx : ContextRecord) (stable : Result (Option Version) (String Global)) (rustup : Name) (course : Course) (notes : List Note) (fails later : Bool) (old new : HostView) (mid : List Call) (before now : ℕ) → mid ≡ old.calls
-    → IsPlanOf cx.args.subcommand stable cx rustup course.plan notes → cx.args.find_conflicts ≡ false → cx.args.find_rust_version ≡ true → IsSearchedOut true course.plan course.handed fails → HasPerformed course.plan course.handed mid new.calls before now → MakesStarted mid new.calls
-    → before ≡ 0 → now ≡ 0 → new.fails ≡ (fails || old.fails) → Warned notes (later || old.term.warn) new.term.warn → PerformsOne true false cx stable rustup old.term.warn old new
-searches_one cx stable rustup course notes fails later old new mid before now same planned apart on out performed started first last kept warned =
-    some_search cx stable rustup course notes fails later old new mid before now same (planned_search (IsPerformableOf cx.args.subcommand stable cx rustup) true cx rustup course notes fails later apart on (performable cx.args.subcommand stable cx rustup course.plan notes planned) out) (searched cx.args apart on) performed started first last kept warned
+pub searches_one : (cx : ContextRecord) (stable : Result (Option Version) (String Global)) (rustup : Name) (course : Course) (notes : List Note) (fails warns : Bool) (old new : HostView) (mid : List Call) (before now : ℕ) → mid ≡ old.calls
+    → IsPlanOf cx.args.subcommand stable cx rustup course.plan notes → cx.args.find_conflicts ≡ false → cx.args.find_rust_version ≡ true → IsSearchedOut true cx course.plan course.handed fails warns → HasPerformed course.plan course.handed mid new.calls before now → MakesStarted mid new.calls
+    → before ≡ 0 → now ≡ 0 → new.fails ≡ (fails || old.fails) → Warned notes (warns || old.term.warn) new.term.warn → PerformsOne true false cx stable rustup old.term.warn old new
+searches_one cx stable rustup course notes fails warns old new mid before now same planned apart on out performed started first last kept warned =
+    some_search cx stable rustup course notes fails warns old new mid before now same (planned_search (IsPerformableOf cx.args.subcommand stable cx rustup) true cx rustup course notes fails warns apart on (performable cx.args.subcommand stable cx rustup course.plan notes planned) out) (searched cx.args apart on) performed started first last kept warned
 
 -- what was handed out, whatever came of its steps
 pub runs_some : (cx : ContextRecord) (stable : Result (Option Version) (String Global)) (rustup : Name) (course : Course) (notes : List Note) (old new : HostView) (mid : List Call) (before now : ℕ) → mid ≡ old.calls
@@ -377,8 +386,8 @@ runs_some cx stable rustup course notes old new mid before now same planned perf
   notes = notes;
   cut = performed.cut;
   fails = false;
-  planned = planned-by cx.args.find_conflicts (IsHuntedOut false cx rustup course notes false false) _ _ (IsHandedAsAsked false (is_search false cx.args) cx.args course false) (performable cx.args.subcommand stable cx rustup course.plan notes) planned;
-  later = false;
+  planned = planned-by cx.args.find_conflicts (IsHuntedOut false cx rustup course notes false false) _ _ (IsHandedAsAsked false (is_search false cx.args) cx course false false) (performable cx.args.subcommand stable cx rustup course.plan notes) planned;
+  warns = false;
   calls = calls_from course mid old.calls new.calls before now same performed;
   wrote = tt;
   started = λ e. unended e;
@@ -386,7 +395,7 @@ runs_some cx stable rustup course notes old new mid before now same planned perf
   passed = λ e. unended e;
   unreported = λ u. refl;
   noted = λ e. unended e;
-  warns = λ e. unended e;
+  counted = λ e. unended e;
 })
 
 -- the same to calls by another name
@@ -404,7 +413,7 @@ lists_one had has Told Ran cx stable rustup a b l calls before now was term fail
   cut = performed.cut;
   fails = false;
   planned = (performable cx.args.subcommand stable cx rustup l.over.course.plan l.over.notes l.over.planned, (l.over.driven, refl));
-  later = false;
+  warns = false;
   calls = subst (λ (cs : List Call). MakesCalls (λ made. PerformsAll l.over.course.plan (filter is_sent l.over.course.handed) made performed.cut) cs (calls b)) same (record { made = performed.made; grown = performed.grown; such = performed.performed });
   wrote = all_shown true had has (flat_map (lines_written l.over.course.plan) l.over.course.handed) (l.over.wrote tt);
   started = λ e. subst (λ (cs : List Call). MakesStarted cs (calls b)) same (started (all_passed (filter is_sent l.over.course.handed) term fault told none quiet));
@@ -412,7 +421,7 @@ lists_one had has Told Ran cx stable rustup a b l calls before now was term fail
   passed = λ e u. all_handed l.over.course.handed (all_passed (filter is_sent l.over.course.handed) term fault told none quiet) l.listed;
   unreported = λ u. refl;
   noted = λ e. refl;
-  warns = λ e. warned;
+  counted = λ e. warned;
 }
 
 -- whatever is noted afterwards, one history at most was performed

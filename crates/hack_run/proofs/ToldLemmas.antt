@@ -3,26 +3,14 @@ use Rattle.std.proofs.Common.{◌≡◌, ℕ, List, [], ◌∷◌, ◌++◌, Boo
 use Rattle.std.specs.Prelude.{◌||◌, ◌&&◌}
 use Rattle.std.specs.List.{flat_map}
 use Rattle.hack_base.specs.Notes.{Note, note_if}
-use Rattle.hack_base.specs.declared.notice.NoticeKind.{NoticeKind}
-use Rattle.hack_base.specs.declared.notice.NoticeKind.TheVariants.{Info, Warn, QuietWarn}
+use Rattle.hack_base.specs.declared.notice.NoticeKind.TheVariants.{Info}
 use Rattle.hack_load.specs.Contexts.{ContextRecord}
 use Rattle.hack_manifest.specs.LineRuns.{has_some}
 use Rattle.hack_prepare.specs.Prepared.{MemberManifest, Wanted, drops_at_root, gone_manifests, is_alone}
 use Rattle.hack_prepare.specs.PreparedView.{member_manifests_in, notes_in, wanted_in}
 use Rattle.hack_prepare.specs.EditNotes.{dev_note, edit_notes, member_notes, private_note, root_notes}
-use Rattle.hack_term.specs.Lines.{after_notice}
 use Rattle.hack_term.specs.declared.term.Term.{Term}
-use Rattle.hack_run.specs.Warnings.{Warned, after_notes, have_warning}
-
--- one notice more
-pub told_one : (term : Term) (note : Note) (notes : List Note) → after_notes (after_notice term note.kind) notes ≡ after_notes term (note ∷ notes)
-told_one term note notes = go note.kind (have_warning notes) refl
-  where
-    go : (kind : NoticeKind) (more : Bool) → have_warning notes ≡ more → after_notes (after_notice term kind) notes ≡ after_notes term (record { kind = kind; text = note.text } ∷ notes)
-    go Info more e = refl
-    go QuietWarn more e = refl
-    go Warn true e = rw e refl
-    go Warn false e = rw e refl
+use Rattle.hack_drive.specs.Warnings.{Warned, after_notes, have_warning}
 
 -- no notice on edits counts as a warning
 none_if : (b : Bool) (text : List ℕ) (rest : List Note) → have_warning (note_if b Info text ++ rest) ≡ have_warning rest

@@ -36,10 +36,12 @@ use Rattle.hack_words.specs.declared.cli.parse.Parsed.TheVariants as parsed
 use Rattle.hack_run.specs.CallTrace.{AfterLoading, IsCallTrace, LoadsAndPerforms, Obeys, PerformsOne, PerformsPlan, ReadsAndObeys, Stops, WritesText, listing_asked, warned_by}
 use Rattle.hack_run.specs.Internal.{PerformsAtMostOne}
 use Rattle.hack_run.specs.Loading.{AreLoaded}
-use Rattle.hack_run.specs.Questions.{AsksRustup, AsksStable, MayAskStable, NeedsAnswer, rustup_asked}
-use Rattle.hack_run.specs.Warnings.{Warned, after_notes, have_warning}
+use Rattle.hack_drive.specs.Answered.{NeedsAnswer}
+use Rattle.hack_run.specs.Questions.{AsksRustup, AsksStable, MayAskStable, rustup_asked}
+use Rattle.hack_drive.specs.Warnings.{Warned, after_notes, have_warning}
 use Rattle.std.proofs.KnownBytes.{Appends-nil}
-use Rattle.hack_run.specs.Worlds.{FilesView, HostView, World, host_at, world_at}
+use Rattle.hack_files.specs.View.{FilesView}
+use Rattle.hack_run.specs.Worlds.{HostView, World, host_at, world_at}
 
 -- calls that end with an error failed, or memory was refused
 pub fails : {T : Type 0} (tells : Type 0) (Ended : List Call → Outcome → Type 0) (Cut : List Call → Type 0) (old new : List Call) (r : Result T ProcessFault)
@@ -79,7 +81,7 @@ one_told done listing cx stable rustup warned old new was now same h = record {
   cut = h.cut;
   fails = h.fails;
   planned = h.planned;
-  later = h.later;
+  warns = h.warns;
   calls = h.calls;
   wrote = h.wrote;
   started = h.started;
@@ -87,14 +89,14 @@ one_told done listing cx stable rustup warned old new was now same h = record {
   passed = h.passed;
   unreported = h.unreported;
   noted = h.noted;
-  warns = λ d. subst (λ (b : Bool). Warned h.notes (h.later || warned) b) (sym (same d)) (h.warns d);
+  counted = λ d. subst (λ (b : Bool). Warned h.notes (h.warns || warned) b) (sym (same d)) (h.counted d);
 }
 
 -- ... nor whether a warning was noted before, where an error may have ended the call
 pub one_made : (listing : Bool) (cx : ContextRecord) (stable : Result (Option Version) (String Global)) (rustup : Name) (warned other : Bool) (old new : HostView) (was now : Term)
     → PerformsOne false listing cx stable rustup warned old new → PerformsOne false listing cx stable rustup other (record old { term = was }) (record new { term = now })
 one_made listing cx stable rustup warned other old new was now h =
-    record { course = h.course; notes = h.notes; cut = h.cut; fails = h.fails; later = h.later; planned = h.planned; calls = h.calls; wrote = h.wrote; started = λ e. unended e; uncut = λ e. unended e; passed = λ e. unended e; unreported = h.unreported; noted = λ e. unended e; warns = λ e. unended e }
+    record { course = h.course; notes = h.notes; cut = h.cut; fails = h.fails; warns = h.warns; planned = h.planned; calls = h.calls; wrote = h.wrote; started = λ e. unended e; uncut = λ e. unended e; passed = λ e. unended e; unreported = h.unreported; noted = λ e. unended e; counted = λ e. unended e }
 
 pub plan_told : (done : Bool) (cx : ContextRecord) (rustup : Name) (warned : Bool) (old new : HostView) (was now : Term) → (done ≡ true → now.warn ≡ new.term.warn)
     → PerformsPlan done cx rustup warned old new → PerformsPlan done cx rustup warned (record old { term = was }) (record new { term = now })

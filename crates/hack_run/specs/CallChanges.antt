@@ -21,7 +21,8 @@ use Rattle.hack_words.specs.declared.cli.parse.Parsed.{Parsed}
 use Rattle.hack_words.specs.declared.cli.parse.Parsed.TheVariants as parsed
 use Rattle.hack_run.specs.CallTrace.{PerformsPlan, warned_by}
 use Rattle.hack_run.specs.Questions.{AsksRustup}
-use Rattle.hack_run.specs.Worlds.{FilesView, World, host_at, world_at}
+use Rattle.hack_files.specs.View.{FilesView}
+use Rattle.hack_run.specs.Worlds.{World, host_at, world_at}
 
 -- Files are written back after these edits: each path once, with what it held before them. They are
 -- all that the edits changed, and the lockfile where manifests are edited, and no others than paths

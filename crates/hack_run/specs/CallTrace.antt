@@ -33,9 +33,10 @@ use Rattle.hack_words.specs.declared.cli.parse.Parsed.{Parsed}
 use Rattle.hack_words.specs.declared.cli.parse.Parsed.TheVariants as parsed
 use Rattle.hack_run.specs.Handed.{IsPlannedAsAsked, is_search}
 use Rattle.hack_run.specs.Loading.{AreLoaded}
-use Rattle.hack_run.specs.Questions.{AsksRustup, AsksStable, MayAskStable, NeedsAnswer, rustup_asked}
+use Rattle.hack_drive.specs.Answered.{NeedsAnswer}
+use Rattle.hack_run.specs.Questions.{AsksRustup, AsksStable, MayAskStable, rustup_asked}
 use Rattle.hack_run.specs.Started.{MakesStarted}
-use Rattle.hack_run.specs.Warnings.{Warned, have_warning}
+use Rattle.hack_drive.specs.Warnings.{Warned, have_warning}
 use Rattle.hack_run.specs.Worlds.{HostView, World, host_at, world_at}
 
 -- an error ended the call after these calls: nothing more was called, and nothing printed
@@ -61,17 +62,17 @@ pub record PerformsOne (done listing : Bool) (cx : ContextRecord)
   pub notes : List Note
   pub cut : ℕ
   pub fails : Bool
-  pub later : Bool
-  pub planned : IsPlannedAsAsked (IsPerformableOf cx.args.subcommand stable cx rustup) done listing cx rustup course notes fails later
+  pub warns : Bool
+  pub planned : IsPlannedAsAsked (IsPerformableOf cx.args.subcommand stable cx rustup) done listing cx rustup course notes fails warns
   pub calls : MakesCalls (λ made.
       PerformsAll course.plan (if listing then filter is_sent course.handed else course.handed) made cut) old.calls new.calls
   pub wrote : WritesText done listing old.out new.out (flat_map (lines_written course.plan) course.handed)
   pub started : done ≡ true → MakesStarted old.calls new.calls
   pub uncut : done ≡ true → cut ≡ 0
   pub passed : done ≡ true → is_search listing cx.args ≡ false → All HasPassed course.handed
-  pub unreported : is_search listing cx.args ≡ false → later ≡ false
+  pub unreported : is_search listing cx.args ≡ false → warns ≡ false
   pub noted : done ≡ true → new.fails ≡ (fails || old.fails)
-  pub warns : done ≡ true → Warned notes (later || warned) new.term.warn
+  pub counted : done ≡ true → Warned notes (warns || warned) new.term.warn
 
 -- stable's version was asked for, only where the range needs it, and then an error ended the call;
 -- or with the answer one history was performed

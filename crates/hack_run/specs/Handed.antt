@@ -19,7 +19,7 @@ use Rattle.hack_session.specs.Handouts.{IsDriven}
 use Rattle.hack_session.specs.Histories.{Course}
 use Rattle.hack_session.specs.declared.step.Handed.{Handed}
 use Rattle.hack_words.specs.declared.cli.args.Args.{Args}
-use Rattle.hack_run.specs.Findings.{has_conflict, is_failing, is_open}
+use Rattle.hack_report.specs.Findings.{has_conflict, is_failing, is_open, some_too_low}
 
 -- the arguments ask for a search for conflicts, where they don't ask for a list
 abbrev pub is_hunt : Bool → Args → Bool
@@ -30,14 +30,15 @@ abbrev pub is_search : Bool → Args → Bool
 is_search listing args = not listing && (args.find_conflicts || args.find_rust_version)
 
 -- The steps are those of a search for the least version of each package of the plan, which says what
--- was found of each. At the end of a call none was broken off, and it fails where a greatest version did.
-pub record IsSearchedOut (done : Bool) (plan : PlanView) (handed : List Handed) (fails : Bool) : Type 0 where
+-- was found of each. At the end of a call none was broken off; it fails where a greatest version did, and
+-- warns where a package doesn't keep its own `rust-version`.
+pub record IsSearchedOut (done : Bool) (cx : ContextRecord) (plan : PlanView) (handed : List Handed) (fails warns : Bool) : Type 0 where
   pub searches : List (List Trial)
   pub found : List Found
   pub such : AreSearches plan 0 searches found
   pub steps : handed ≡ handed_in_all searches
   pub end : IsEnd plan found
-  pub told : done ≡ true → AreUnbroken found × (fails ≡ list_any is_failing found)
+  pub told : done ≡ true → AreUnbroken found × (fails ≡ list_any is_failing found) × (warns ≡ some_too_low cx plan 0 found)
 
 -- The plan began with the chosen packages without runs, and grew by what searches for conflicts built,
 -- of each package in each slot, at most so many runs as the arguments allow; just these runs were handed
@@ -55,13 +56,13 @@ pub record IsHuntedOut (done : Bool) (cx : ContextRecord) (rustup : Name) (cours
       × (fails ≡ list_any has_conflict hunted) × (warns ≡ list_any is_open hunted)
 
 -- one history of the chosen piece was handed out; or a search's trials, where the arguments ask for that
-abbrev pub IsHandedAsAsked : Bool → Bool → Args → Course → Bool → Type 0
-IsHandedAsAsked done searching args course fails =
-    MatchBool searching (IsSearchedOut done course.plan course.handed fails) (IsDriven args.partition args.keep_going course × (fails ≡ false))
+abbrev pub IsHandedAsAsked : Bool → Bool → ContextRecord → Course → Bool → Bool → Type 0
+IsHandedAsAsked done searching cx course fails warns =
+    MatchBool searching (IsSearchedOut done cx course.plan course.handed fails warns) (IsDriven cx.args.partition cx.args.keep_going course × (fails ≡ false))
 
 -- What was handed out comes from a plan that is one of the context's; or, where the arguments ask for a
 -- search for conflicts, from one that grew.
 abbrev pub IsPlannedAsAsked : (PlanView → List Note → Type 0) → Bool → Bool → ContextRecord → Name → Course → List Note → Bool → Bool → Type 0
 IsPlannedAsAsked IsPlan done listing cx rustup course notes fails warns =
     MatchBool (is_hunt listing cx.args) (IsHuntedOut done cx rustup course notes fails warns)
-    (IsPlan course.plan notes × IsHandedAsAsked done (is_search listing cx.args) cx.args course fails)
+    (IsPlan course.plan notes × IsHandedAsAsked done (is_search listing cx.args) cx course fails warns)

@@ -24,7 +24,7 @@ use Rattle.hack_run.specs.declared.host.Host.{Host}
 use Rattle.std.specs.declared.io.traits.Write.{Ghosts as Writing}
 use Rattle.hack_process.specs.declared.caller.Caller.{Ghosts as Calling}
 use Rattle.hack_run.specs.CallTrace.{PerformsOne, PerformsPlan, WritesText}
-use Rattle.hack_run.specs.Findings.{has_conflict, is_failing, is_open}
+use Rattle.hack_report.specs.Findings.{has_conflict, is_failing, is_open, some_too_low}
 use Rattle.hack_hunt.specs.declared.hunt.Hunted.{Hunted}
 use Rattle.hack_msrv.specs.Searches.{AreUnbroken}
 use Rattle.hack_msrv.specs.declared.found.Found.{Found}
@@ -50,21 +50,15 @@ use Rattle.hack_session.specs.Handouts.{IsDriven}
 -- what searches found is reported: whether a set fails is kept, and a warning noted where not all sets
 -- are decided
 pub record Reports (found : List Hunted) (had has warned warn : Bool) : Type 0 where
-  pub fails : Bool
-  pub warns : Bool
-  pub failing : fails ≡ list_any has_conflict found
-  pub undecided : warns ≡ list_any is_open found
-  pub kept : has ≡ (had || fails)
-  pub noted : warn ≡ (warned || warns)
+  pub kept : has ≡ (had || list_any has_conflict found)
+  pub noted : warn ≡ (warned || list_any is_open found)
 
--- the same of searches for the least version, none of which was broken off: a line may warn
-pub record ReportsFound (found : List Found) (had has warned warn : Bool) : Type 0 where
-  pub fails : Bool
-  pub warns : Bool
+-- the same of searches for the least version, none of which was broken off: a warning is noted where a
+-- package doesn't keep its own `rust-version`
+pub record ReportsFound (cx : ContextRecord) (plan : PlanView) (found : List Found) (had has warned warn : Bool) : Type 0 where
   pub whole : AreUnbroken found
-  pub failing : fails ≡ list_any is_failing found
-  pub kept : has ≡ (had || fails)
-  pub noted : warn ≡ (warned || warns)
+  pub kept : has ≡ (had || list_any is_failing found)
+  pub noted : warn ≡ (warned || some_too_low cx plan 0 found)
 
 -- one history was performed, or nothing was called and nothing listed
 abbrev pub PerformsAtMostOne : Bool → ContextRecord → Result (Option Version) (String Global) → Name → HostView → HostView → Type 0

@@ -55,25 +55,30 @@ pub record RunsInLanes {S : Type 0} (did : List Event → S → S → Type 0) (c
 abbrev pub MayRunInLanes : {S : Type 0} → (List Event → S → S → Type 0) → ContextRecord → Result (Option Version) (String Global) → Name → S → S → Type 0
 MayRunInLanes did cx stable rustup old new = (new ≡ old) ⊎ RunsInLanes did cx stable rustup old new
 
--- a plan is listed; or after calls in the caller's course one that was made for the arguments was
--- performed in lanes
-abbrev pub PerformsInLanes : {S : Type 0} → (List Event → S → S → Type 0) → (S → S → Type 0) → Args → S → S → Type 0
-PerformsInLanes {S} did course args old new = (args.print_command_list ≡ true)
+-- Calls in the caller's course alone were made, where the plan is listed, or an error ended the call; or
+-- after such calls a plan that was made for the arguments was performed in lanes.
+abbrev pub PerformsInLanes : {S : Type 0} → Bool → (List Event → S → S → Type 0) → (S → S → Type 0) → Args → S → S → Type 0
+PerformsInLanes {S} done did course args old new =
+    (course old new × ((done ≡ false) ⊎ (args.print_command_list ≡ true)))
     ⊎ ((cx : ContextRecord) × (cx.args ≡ args) × (stable : Result (Option Version) (String Global))
     × (rustup : Name) × (before : S) × course old before × RunsInLanes did cx stable rustup before new)
 
 -- what a command line asks for was done in lanes, where it asks for runs
-abbrev pub ObeysInLanes : {S : Type 0} → (List Event → S → S → Type 0) → (S → S → Type 0) → Parsed → S → S → Type 0
-ObeysInLanes did course (parsed.Args args) old new = PerformsInLanes did course args old new
-ObeysInLanes did course answer old new = course old new
+abbrev pub ObeysInLanes : {S : Type 0} → Bool → (List Event → S → S → Type 0) → (S → S → Type 0) → Parsed → S → S → Type 0
+ObeysInLanes done did course (parsed.Args args) old new = PerformsInLanes done did course args old new
+ObeysInLanes done did course answer old new = course old new
 
--- a command line was read with what is known of rustup, after a call in the caller's course at most,
--- and what it asks for was done in lanes
-pub record IsLaneCall {S : Type 0} (did : List Event → S → S → Type 0) (course : S → S → Type 0) (words : List Name) (env : Env) (old new : S) : Type 0 where
-  pub mid : S
-  pub asked : course old mid
+-- a command line was read with what is known of rustup, and what it asks for was done in lanes
+pub record ReadsInLanes {S : Type 0} (done : Bool) (did : List Event → S → S → Type 0) (course : S → S → Type 0) (words : List Name) (env : Env) (mid new : S) : Type 0 where
   pub rustup : Rustup
   pub answer : Parsed
   pub notes : List Note
   pub read : IsAnswer (around_of env rustup) (ComesTo (around_of env rustup) words) answer notes
-  pub obeyed : ObeysInLanes did course answer mid new
+  pub obeyed : ObeysInLanes done did course answer mid new
+
+-- after a call in the caller's course at most, a command line was read and obeyed in lanes, or an error
+-- ended the call
+pub record IsLaneCall {S : Type 0} (done : Bool) (did : List Event → S → S → Type 0) (course : S → S → Type 0) (words : List Name) (env : Env) (old new : S) : Type 0 where
+  pub mid : S
+  pub asked : course old mid
+  pub behind : ((done ≡ false) × (new ≡ mid)) ⊎ ReadsInLanes done did course words env mid new

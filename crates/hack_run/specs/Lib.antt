@@ -1,6 +1,3 @@
-pub mod Headline
-pub mod Journals
-pub mod Findings
 pub mod Handed
 pub mod Started
 pub mod CallTrace
@@ -8,7 +5,6 @@ pub mod CallChanges
 pub mod Questions
 pub mod TemporaryEdits
 pub mod Loading
-pub mod Warnings
 pub mod Refusals
 pub mod Worlds
 pub mod Lanes

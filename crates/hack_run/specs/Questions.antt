@@ -1,5 +1,5 @@
 -- What rustup is asked before there is a plan.
-use Rattle.std.specs.Prelude.{◌≡◌, ◌≢◌, ◌⊎◌, ◌∷◌, [], Bool, List, Option, Some, None, Result, Ok, Err, IfOk, IfSome, IsSome, IsSomeAnd, codes, false, option_and_then, true}
+use Rattle.std.specs.Prelude.{◌≡◌, ◌≢◌, ◌⊎◌, ◌∷◌, [], Bool, List, Option, Some, None, Result, Ok, Err, codes, false, option_and_then, true}
 use Rattle.std.proofs.Common.{Global, String}
 use Rattle.hack_base.specs.Names.{Name}
 use Rattle.hack_metadata.specs.QuestionCalls.{ReadsOutput}
@@ -8,12 +8,10 @@ use Rattle.hack_process.specs.Calls.{Asked, Call, MayAdd}
 use Rattle.hack_process.specs.CargoTexts.{release_part}
 use Rattle.hack_process.specs.Commands.{asked_of, plain_command}
 use Rattle.hack_process.specs.CommandTexts.{Command}
-use Rattle.hack_versions.specs.RangeSteps.{NeedsStable}
 use Rattle.hack_versions.specs.ToolTexts.{TellsRelease, rustup_part}
 use Rattle.hack_versions.specs.declared.rustup.Rustup.{Rustup}
 use Rattle.hack_versions.specs.declared.rustup.Rustup.TheVariants.{Unasked}
 use Rattle.hack_versions.specs.declared.version.Version.{Version}
-use Rattle.hack_words.specs.declared.cli.args.Args.{Args}
 use Rattle.hack_words.specs.RustupView.{known_of}
 use Rattle.hack_session.specs.StepCalls.{BreaksInstall, Installs, MakesCalls}
 use Rattle.hack_session.specs.Toolchains.{addition_of, trial_of}
@@ -51,14 +49,6 @@ pub record TellsStable (rustup : Name) (v : Version) (old new : List Call) : Typ
   pub mid : List Call
   pub installed : InstallsStable rustup old mid
   pub read : ReadsStable rustup v mid new
-
--- there is a subcommand, and an end of the range is stable's version
-abbrev pub NeedsAnswer : Args → Type 0
-NeedsAnswer args = IsSome args.subcommand × IsSomeAnd args.version_range NeedsStable
-
--- where a range of versions needs it, stable's version is known, unless asking for it failed
-abbrev pub IsAnswered : Args → Result (Option Version) (String Global) → Type 0
-IsAnswered args stable = IsSome args.subcommand → IfSome args.version_range (λ range. NeedsStable range → IfOk stable (λ latest. IsSome latest))
 
 -- stable's version was asked for, or nothing was; of calls where asking failed nothing is said
 abbrev pub AsksStable : Name → Result (Option Version) (String Global) → List Call → List Call → Type 0

@@ -11,7 +11,7 @@ use Rattle.hack_words.specs.CommandLine.{ComesTo}
 use Rattle.hack_words.specs.declared.cli.env.Env.{Env}
 use Rattle.hack_words.specs.declared.cli.parse.Parsed.{Parsed}
 use Rattle.hack_words.specs.declared.cli.parse.Parsed.TheVariants as parsed
-use Rattle.hack_run.specs.Worlds.{FilesView}
+use Rattle.hack_files.specs.View.{FilesView}
 
 -- what the command line asks for isn't an edit that stays
 abbrev pub ComesBack : Parsed → Type 0

@@ -1,19 +1,13 @@
 -- What a call reaches, as plain data.
 use Rattle.std.specs.Prelude.{◌≡◌, ◌||◌, ℕ, Bool, List, Option}
 use Rattle.std.specs.declared.io.traits.Write.{Ghosts as Writing}
-use Rattle.hack_files.specs.Files.{Change, Contents}
+use Rattle.hack_files.specs.View.{FilesView, files_view}
 use Rattle.hack_files.specs.declared.fs.Files.{Ghosts as Filing}
 use Rattle.hack_process.specs.Calls.{Call}
 use Rattle.hack_process.specs.declared.caller.Caller.{Ghosts as Calling}
 use Rattle.hack_term.specs.Lines.{IsExitStatus}
 use Rattle.hack_term.specs.declared.term.Term.{Term}
 use Rattle.hack_run.specs.declared.host.Host.{Host}
-
--- files: what their paths hold, the changes so far, and how many of their calls failed
-pub record FilesView : Type 0 where
-  pub held : Contents
-  pub trace : List Change
-  pub failed : ℕ
 
 -- a host: the programs called so far, what was printed, where that is known, the terminal, and whether
 -- a search found what fails
@@ -27,9 +21,6 @@ pub record HostView : Type 0 where
 pub record World : Type 0 where
   pub files : FilesView
   pub host : HostView
-
-abbrev pub files_view : {F : Type 0} → Filing F → F → FilesView
-files_view f files = record { held = f.bytes_at files; trace = f.trace files; failed = f.failed files }
 
 abbrev pub host_view : {C O E : Type 0} → Calling C → Writing O → Host C O E → HostView
 host_view c o host = record { calls = c.calls host.caller.now; out = o.contents host.out.now; term = host.term.now; fails = host.fails }

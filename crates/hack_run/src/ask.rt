@@ -12,9 +12,10 @@ ghost use Rattle.hack_versions.specs.RangeSteps.{NeedsStable};
 ghost use Rattle.hack_versions.specs.ToolTexts.{TellsRelease};
 ghost use Rattle.hack_words.specs.Start.{wants_rustup as rustup_wanted};
 ghost use Rattle.hack_run.specs.Questions.{FailsStable, MayAskStable};
-ghost use Rattle.hack_run.specs.Questions.{AsksStable, InstallsStable, NeedsAnswer};
+ghost use Rattle.hack_drive.specs.Answered.{IsAnswered, NeedsAnswer};
+ghost use Rattle.hack_run.specs.Questions.{AsksStable, InstallsStable};
 ghost use Rattle.hack_run.specs.Internal.{IsLatest, IsUnknown, TellsMinor};
-ghost use Rattle.hack_run.specs.Questions.{AsksRustup, IsAnswered, ReadsStable};
+ghost use Rattle.hack_run.specs.Questions.{AsksRustup, ReadsStable};
 ghost use Rattle.hack_run.specs.Questions.{rustup_asked, rustup_command as asks_rustup};
 
 use hack_process::cargo::version;

@@ -2,29 +2,26 @@
 
 ghost use Rattle.std.specs.Prelude.{◌≡◌, ◌⊎◌, Err, List, None, Ok, OnErr, OnOk, Option, Result};
 ghost use Rattle.std.specs.Prelude.{String, false, true};
-ghost use Rattle.std.specs.List.{list_any};
 ghost use Rattle.std.proofs.Common.{Global as Heap};
 ghost use Rattle.hack_culprits.specs.declared.fault.CulpritsFault.TheVariants.{Ended};
 ghost use Rattle.hack_hunt.specs.Hunts.{came_of};
 ghost use Rattle.hack_hunt.specs.declared.hunt.Hunted.{Hunted as FoundSets};
 ghost use Rattle.hack_load.specs.ContextView.{context_view};
 ghost use Rattle.hack_run.specs.CallTrace.{PerformsOne};
-ghost use Rattle.hack_run.specs.Findings.{has_conflict, is_open as has_open};
 ghost use Rattle.hack_run.specs.Internal.{PerformsAtMostOne, Reports};
 ghost use Rattle.hack_run.specs.Lanes.{RunsOne};
 ghost use Rattle.hack_run.specs.Worlds.{host_of};
 ghost use Rattle.hack_versions.specs.declared.version.Version.{Version};
 
-use crate::conflict_lines::tell_hunted;
-use crate::drive::{Hunt, hunt_context};
-use crate::execute::manner;
+use crate::execute::{keep, manner};
 use crate::tell::{cut_off, fail};
 use hack_culprits::fault::CulpritsFault;
-use hack_hunt::hunt::Hunted;
+use hack_drive::drive::{Hunt, hunt_context};
 use hack_lanes::turns::Turns;
 use hack_load::context::Context;
 use hack_planner::fault::PlanFault;
 use hack_process::process::ProcessFault;
+use hack_report::conflict_lines::tell_hunted;
 use hack_session::session::Starter;
 use hack_side::serial::Serial;
 use hack_term::term::Term;
@@ -96,42 +93,21 @@ fn settle<E: Write>(
         Ok(found) => {
             *fault = None;
             let found = found.as_slice();
-            let mut lines = Term::new(term.coloring, term.verbose);
-            if tell_hunted(alloc, cx, &hunt.plan, found, &mut lines, err).is_err() {
-                return fail("out of memory", term, err);
-            }
-            *fails |= some_fail(found);
-            term.warn |= some_are_open(found);
+            let told = tell_hunted(alloc, cx, &hunt.plan, found, term.coloring, err);
+            keep(told, fails, term, err)
         }
         Err(CulpritsFault::Ended) => {}
-        Err(CulpritsFault::TooManyRuns) => {
+        Err(why) => {
             *fault = None;
-            fail("too many runs", term, err)
-        }
-        Err(CulpritsFault::Memory) => {
-            *fault = None;
-            fail("out of memory", term, err)
+            fail(reason_of(*why), term, err)
         }
     }
 }
 
-/// Whether some set of features is known to fail.
-fn some_fail(found: &[Hunted]) -> bool
-    ensures { result ≡ list_any has_conflict found.now }
-{
-    found.iter().any(|one| fails(one))
-}
-
-/// Whether some set of the package's features is known to fail.
-fn fails(found: &Hunted) -> bool
-    ensures { result ≡ has_conflict found.now }
-{
-    !found.conflicts.is_empty() || found.unfinished.is_some()
-}
-
-/// Whether not all sets are decided.
-fn some_are_open(found: &[Hunted]) -> bool
-    ensures { result ≡ list_any has_open found.now }
-{
-    found.iter().any(|one| !one.complete)
+/// Why a search was cut short, where no run has said so.
+fn reason_of(fault: CulpritsFault) -> &'static str {
+    match fault {
+        CulpritsFault::TooManyRuns => "too many runs",
+        CulpritsFault::Memory | CulpritsFault::Ended => "out of memory",
+    }
 }

@@ -1,26 +1,22 @@
 //! The runs of a plan, and the report of those that failed.
 
-ghost use Rattle.std.specs.Prelude.{◌≡◌, ◌⊎◌, Bool, Contains, MatchBool, None, OnErr, OnOk, false};
+ghost use Rattle.std.specs.Prelude.{◌≡◌, ◌⊎◌, ◌||◌, Bool, Contains, IfOk, IsOk, MatchBool, None, OnErr, OnOk, false};
 ghost use Rattle.std.specs.Prelude.{string_bytes, true};
-ghost use Rattle.std.specs.List.{list_any};
 ghost use Rattle.std.specs.Option.{unwrap_or};
 ghost use Rattle.hack_load.specs.ContextView.{context_view};
 ghost use Rattle.hack_msrv.specs.Searches.{AreUnbroken};
 ghost use Rattle.hack_run.specs.CallTrace.{PerformsOne};
-ghost use Rattle.hack_run.specs.Findings.{is_failing as has_failed};
 ghost use Rattle.hack_run.specs.Internal.{MayPerformItsPlan, PerformsAtMostOne, PerformsItsPlan};
 ghost use Rattle.hack_run.specs.Internal.{ReportsFound};
 ghost use Rattle.hack_run.specs.Lanes.{MayRunInLanes, RunsInLanes, RunsOne};
-ghost use Rattle.hack_run.specs.Questions.{IsAnswered};
+ghost use Rattle.hack_drive.specs.Answered.{IsAnswered};
 ghost use Rattle.hack_run.specs.Worlds.{IsSameHost, host_of};
 
 use crate::conflict_search::hunt_in_lanes;
-use crate::drive::{drive_context, search_context};
-use crate::explain::explain;
 use crate::fault::RunFault;
-use crate::findings::tell_found;
 use crate::host::Host;
 use crate::tell::{cut_off, fail};
+use hack_drive::drive::{drive_context, search_context};
 use hack_lanes::lanes::{Lanes, Window};
 use hack_lanes::turns::Turns;
 use hack_load::context::Context;
@@ -28,7 +24,10 @@ use hack_msrv::found::Found;
 use hack_plan::plan::Plan;
 use hack_planner::fault::PlanFault;
 use hack_process::process::ProcessFault;
-use hack_session::session::{Handed, History, Outcome, Session, Starter, Step};
+use hack_report::findings::tell_found;
+use hack_report::noted::Noted;
+use hack_report::report::report_all;
+use hack_session::session::{Session, Starter};
 use hack_side::serial::Serial;
 use hack_side::side::Side;
 use hack_starts::starts::Starts;
@@ -247,7 +246,8 @@ fn settle<E: Write>(
     ensures error { term.new.error ≡ false → term.old.error ≡ false }
     ensures ends { fault.new ≡ None → term.new.error ≡ false → (refused ≡ false)
         × (((fault.old ≡ None) × Contains found.now Found.Broken)
-        ⊎ ReportsFound found.now fails.old fails.new term.old.warn term.new.warn) }
+        ⊎ ReportsFound (context_view cx.now) plan.now found.now
+        fails.old fails.new term.old.warn term.new.warn) }
 {
     if refused {
         return cut_off(fault, term);
@@ -256,30 +256,33 @@ fn settle<E: Write>(
         return;
     }
     *fault = None;
-    let mut lines = Term::new(term.coloring, term.verbose);
-    match tell_found(alloc, cx, plan, found, &mut lines, err) {
-        Ok(()) => {
-            *fails |= some_fail(found);
-            term.warn |= lines.warn;
+    keep(
+        tell_found(alloc, cx, plan, found, term.coloring, err),
+        fails,
+        term,
+        err,
+    );
+}
+
+/// Keeps what the lines on a search noted.
+pub(crate) fn keep<E: Write>(
+    told: Result<Noted, AllocError>,
+    fails: &mut bool,
+    term: &mut Term,
+    err: &mut E,
+)
+    ensures error { term.new.error ≡ false → term.old.error ≡ false }
+    ensures kept { term.new.error ≡ false
+        → IfOk told (λ noted. (fails.new ≡ (fails.old || noted.fails))
+        × (term.new.warn ≡ (term.old.warn || noted.warns))) }
+    ensures told { term.new.error ≡ false → IsOk told }
+{
+    match told {
+        Ok(noted) => {
+            *fails |= noted.fails;
+            term.warn |= noted.warns;
         }
-        Err(_) => fail("out of memory", term, err),
-    }
-}
-
-/// Whether some package's greatest version fails.
-fn some_fail(found: &[Found]) -> bool
-    ensures { result ≡ list_any has_failed found.now }
-{
-    found.iter().any(|one| is_failing(*one))
-}
-
-/// Whether the package's greatest version fails.
-fn is_failing(found: Found) -> bool
-    ensures { result ≡ has_failed found }
-{
-    match found {
-        Found::Nowhere { .. } => true,
-        Found::Untried | Found::Least { .. } | Found::Broken => false,
+        Err(AllocError) => fail("out of memory", term, err),
     }
 }
 
@@ -318,68 +321,4 @@ pub(crate) fn manner(args: &Args) -> (LogGroup, bool)
     ensures { result ≡ (args.now.log_group, args.now.keep_going) }
 {
     (args.log_group, args.keep_going)
-}
-
-/// Reports the runs of a session that failed, and what only these have.
-fn report_all<E: Write>(
-    alloc: Global,
-    cx: &Context,
-    session: Option<&Session>,
-    term: &mut Term,
-    err: &mut E,
-) -> Result<(), AllocError>
-    ensures error { term.new.error ≡ false → term.old.error ≡ false }
-    ensures warn { term.new.warn ≡ term.old.warn }
-{
-    let Some(session) = session else {
-        return Ok(());
-    };
-    report(alloc, session, term, err)?;
-    if !cx.args().keep_going || is_unprepared(session.handed()) {
-        return Ok(());
-    }
-    explain(alloc, cx, session, term, err)
-}
-
-/// Reports the runs that failed, where runs go on after a failed one and each preparation passed.
-fn report<E: Write>(
-    alloc: Global,
-    session: &Session,
-    term: &mut Term,
-    err: &mut E,
-) -> Result<(), AllocError>
-    ensures error { term.new.error ≡ false → term.old.error ≡ false }
-    ensures warn { term.new.warn ≡ term.old.warn }
-{
-    if is_unprepared(session.handed()) {
-        return Ok(());
-    }
-    let report = session.report(alloc)?;
-    if report.count == 0 {
-        return Ok(());
-    }
-    let text = format!(in alloc; "{report}")?;
-    let _ = err.write_all(b"\n");
-    let _ = term.error(&text, err);
-    Ok(())
-}
-
-/// Returns whether a preparation failed.
-fn is_unprepared(handed: History<'_>) -> bool {
-    for one in handed {
-        if is_failed_preparation(one) {
-            return true;
-        }
-    }
-    false
-}
-
-fn is_failed_preparation(handed: Handed) -> bool {
-    match handed.outcome {
-        Outcome::Passed => false,
-        Outcome::Failed => match handed.step {
-            Step::Prepare(_) => true,
-            Step::Skip(_) | Step::Run(_) => false,
-        },
-    }
 }

@@ -2,16 +2,11 @@
 #![tactic(auto)]
 
 mod ask;
-mod conflict_lines;
 mod conflict_search;
-pub mod drive;
 mod execute;
-mod explain;
 mod fault;
-mod findings;
 mod gathered;
 pub mod host;
-pub mod journaled;
 mod print_list;
 pub mod reading;
 pub mod run;

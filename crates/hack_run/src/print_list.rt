@@ -7,13 +7,13 @@ ghost use Rattle.hack_run.specs.Internal.{HandsOverAtMostOne, ListsOver};
 ghost use Rattle.hack_run.specs.Internal.{MayPerformItsPlan, PerformsAtMostOne, PerformsItsPlan};
 ghost use Rattle.hack_run.specs.Internal.{host_writing};
 ghost use Rattle.hack_run.specs.InternalExtensions.{Extends};
-ghost use Rattle.hack_run.specs.Questions.{IsAnswered};
+ghost use Rattle.hack_drive.specs.Answered.{IsAnswered};
 ghost use Rattle.hack_run.specs.Worlds.{IsSameHost, host_view};
 
-use crate::drive::{Teller, drive_context};
 use crate::fault::RunFault;
 use crate::gathered::{gather_on, room, write_last};
 use crate::host::Host;
+use hack_drive::drive::{Teller, drive_context};
 use hack_load::context::Context;
 use hack_planner::fault::PlanFault;
 use hack_process::process::{Caller, ProcessFault};
@@ -50,6 +50,7 @@ pub(crate) fn print_list<C: Caller, O: Write, E: Write>(
         (context_view cx.now) stable host.old host.new) }
     ensures made { MayPerformItsPlan C.Caller O.Write true
         (context_view cx.now) stable host.old host.new }
+    ensures course { C.course host.old.caller.now host.new.caller.now }
 {
     let mut gathered = room(host.alloc)?;
     let came = hand_to_lister(cx, stable, &mut gathered, host);
@@ -76,6 +77,7 @@ fn hand_to_lister<C: Caller, O: Write, E: Write>(
         (string_bytes host.old.env.now.rustup)
         (host_writing gathered.old.items (host_view C.Caller O.Write host.old))
         (host_writing gathered.new.items (host_view C.Caller O.Write host.new)) }
+    ensures course { C.course host.old.caller.now host.new.caller.now }
     ensures grown { Extends (O.contents host.old.out.now) (O.contents host.new.out.now) }
 {
     let rustup = host.env.rustup.as_str();

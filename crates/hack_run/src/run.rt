@@ -18,15 +18,17 @@ ghost use Rattle.hack_run.specs.Readings.{IsEarlyReadingOrRefusal};
 ghost use Rattle.hack_run.specs.TemporaryEdits.{BringsBack, ComesBack, IsClean, RestoresEdits};
 ghost use Rattle.hack_run.specs.Internal.{IsUntoldRefusal};
 ghost use Rattle.hack_run.specs.Refusals.{AreRefused, ReportsRefusal, WritesError};
-ghost use Rattle.hack_run.specs.Worlds.{IsSameHost, IsStatus, files_view, host_view, world_of};
+ghost use Rattle.hack_files.specs.View.{files_view};
+ghost use Rattle.hack_run.specs.Worlds.{IsSameHost, IsStatus, host_view, world_of};
 
 use crate::fault::RunFault;
 use crate::host::Host;
 use crate::reading::{Reading, reading_of};
 use crate::stages::perform;
-use crate::tell::{tell_all, tell_end};
+use crate::tell::tell_end;
 use hack_base::notice::Notice;
 use hack_base::writes::write_front;
+use hack_drive::notices::tell_all;
 use hack_files::fs::Files;
 use hack_process::process::{Caller, ProcessBuilder, ProcessFault};
 use hack_starts::starts::Starts;
@@ -60,7 +62,7 @@ pub fn run<F: Files, C: Starts, O: Write, E: Write>(
         → ReportsRefusal C.tells host.old.env.now
         (host_view C.Caller O.Write host.old) (host_view C.Caller O.Write host.new) }
 
-    // And the line of that error is all that is written to `err`, coloured as the terminal is, for
+    // And the line of an error is all that is written to `err`, coloured as the terminal is, for
     // which `coloring_asked` says what the command line asks for.
     ensures told { AreRefused host.old.env.now (names_of words.now)
         → WritesError host.old.term.now.coloring
@@ -71,9 +73,10 @@ pub fn run<F: Files, C: Starts, O: Write, E: Write>(
     // of searches that came to their end. It is noted that something fails just where that was so
     // before, or a search found a set that fails, or a package's greatest version does. A list wrote
     // just the lines of that schedule. A warning is noted just where one was before, or where a
-    // notice on the command line, on what was loaded or on the plan counts as one, or a search for
-    // conflicts isn't complete; after a search for versions there may be one besides. Under
-    // `--remove-dev-deps` each manifest that is edited holds its edit, and all else what it held.
+    // notice on the command line, on what was loaded or on the plan counts as one, a search for
+    // conflicts isn't complete, or one for versions finds that a package with a `rust-version` fails
+    // before its least version. Under `--remove-dev-deps` each manifest that is edited holds its edit, and all
+    // else what it held.
     ensures done { host.new.term.now.error ≡ false → C.tells
         → IsCallTrace true F.tells (names_of words.now) host.old.env.now
         (world_of F.Files C.Caller O.Write files.old host.old)
@@ -88,7 +91,7 @@ pub fn run<F: Files, C: Starts, O: Write, E: Write>(
         (world_of F.Files C.Caller O.Write files.new host.new) }
 
     // Whatever comes of the call: after its questions the steps of one history of the plan, or of a
-    // search's trials, made just their calls, or no step made one; and a list printed nothing but the lines of the steps
+    // search, made just their calls, or no step made one; and a list printed nothing but the lines of the steps
     // that passed, in order, or the beginning of these lines.
     ensures made { C.tells → IsCallTrace false F.tells (names_of words.now) host.old.env.now
         (world_of F.Files C.Caller O.Write files.old host.old)
@@ -111,10 +114,14 @@ pub fn run<F: Files, C: Starts, O: Write, E: Write>(
         → IsClean (RestoresEdits host.old.env.now (names_of words.now)) F.tells
         (files_view F.Files files.old) (files_view F.Files files.new) }
 
-    // Where no error was reported, the runs of the call were performed side by side, by the rules
-    // of lanes, as many as `--parallel` asks for: their commands were started in order, each at
-    // most once, and told in order; and none that was started is left.
-    ensures lanes { host.new.term.now.error ≡ false → IsLaneCall C.did C.course
+    // Where no error was reported, runs of a plan were performed side by side, by the rules of lanes,
+    // as many as `--parallel` asks for: their commands were started in order, each at most once, and
+    // told in order; and none that was started is left.
+    ensures lanes { host.new.term.now.error ≡ false → IsLaneCall true C.did C.course
+        (names_of words.now) host.old.env.now host.old.caller.now host.new.caller.now }
+
+    // Whatever comes of the call: nothing else was started, and none is left.
+    ensures in_lanes { IsLaneCall false C.did C.course
         (names_of words.now) host.old.env.now host.old.caller.now host.new.caller.now }
 {
     let env = host.env;
@@ -157,8 +164,10 @@ fn read<F: Files, C: Starts, O: Write, E: Write>(
     ensures clean { OnOk result (host.new.term.now.error ≡ false
         → IsClean (RestoresEdits host.old.env.now (names_of words.now)) F.tells
         (files_view F.Files files.old) (files_view F.Files files.new)) }
-    ensures lanes { OnOk result (IsLaneCall C.did C.course (names_of words.now)
+    ensures lanes { OnOk result (IsLaneCall true C.did C.course (names_of words.now)
         host.old.env.now host.old.caller.now host.new.caller.now) }
+    ensures in_lanes { IsLaneCall false C.did C.course (names_of words.now)
+        host.old.env.now host.old.caller.now host.new.caller.now }
 {
     let env = host.env;
     match reading_of(
@@ -204,8 +213,10 @@ fn obey<F: Files, C: Starts, O: Write, E: Write>(
     ensures clean { OnOk result (host.new.term.now.error ≡ false
         → IsClean (ComesBack parsed) F.tells
         (files_view F.Files files.old) (files_view F.Files files.new)) }
-    ensures lanes { OnOk result (ObeysInLanes C.did C.course parsed host.old.caller.now
+    ensures lanes { OnOk result (ObeysInLanes true C.did C.course parsed host.old.caller.now
         host.new.caller.now) }
+    ensures in_lanes { ObeysInLanes false C.did C.course parsed host.old.caller.now
+        host.new.caller.now }
 {
     match parsed {
         Parsed::Args(args) => {

@@ -18,16 +18,17 @@ ghost use Rattle.hack_run.specs.CallTrace.{AfterLoading, LoadsAndPerforms};
 ghost use Rattle.hack_run.specs.Internal.{EditsAndPerforms, MayPerformItsPlan, PerformsItsPlan};
 ghost use Rattle.hack_run.specs.Lanes.{MayRunInLanes, PerformsInLanes, RunsInLanes};
 ghost use Rattle.hack_run.specs.TemporaryEdits.{BringsBack, IsClean};
-ghost use Rattle.hack_run.specs.Questions.{IsAnswered};
-ghost use Rattle.hack_run.specs.Warnings.{after_notes};
-ghost use Rattle.hack_run.specs.Worlds.{IsSameHost, files_view, world_of};
+ghost use Rattle.hack_drive.specs.Answered.{IsAnswered};
+ghost use Rattle.hack_drive.specs.Warnings.{after_notes};
+ghost use Rattle.hack_files.specs.View.{files_view};
+ghost use Rattle.hack_run.specs.Worlds.{IsSameHost, world_of};
 
 use crate::ask::stable_for;
 use crate::execute::execute;
 use crate::fault::RunFault;
 use crate::host::Host;
 use crate::print_list::print_list;
-use crate::tell::tell_all;
+use hack_drive::notices::tell_all;
 use hack_files::fs::{Files, FsFault};
 use hack_files::reason::tell_reason;
 use hack_files::restore::Manager;
@@ -69,8 +70,10 @@ pub(crate) fn perform<F: Files, C: Starts, O: Write, E: Write>(
     ensures clean { OnOk result (host.new.term.now.error ≡ false
         → IsClean (args.remove_dev_deps ≡ false) F.tells
         (files_view F.Files files.old) (files_view F.Files files.new)) }
-    ensures lanes { OnOk result (PerformsInLanes C.did C.course args host.old.caller.now
+    ensures lanes { OnOk result (PerformsInLanes true C.did C.course args host.old.caller.now
         host.new.caller.now) }
+    ensures in_lanes { PerformsInLanes false C.did C.course args host.old.caller.now
+        host.new.caller.now }
 {
     let mut manager = Manager::new(host.alloc, !args.remove_dev_deps);
     let answers = Answers::ask(
@@ -126,8 +129,10 @@ fn follow<F: Files, C: Starts, O: Write, E: Write>(
         (string_bytes host.old.env.now.rustup) host.old.term.now.warn
         (world_of F.Files C.Caller O.Write files.old host.old)
         (world_of F.Files C.Caller O.Write files.new host.new) }
-    ensures lanes { OnOk result (PerformsInLanes C.did C.course args host.old.caller.now
+    ensures lanes { OnOk result (PerformsInLanes true C.did C.course args host.old.caller.now
         host.new.caller.now) }
+    ensures in_lanes { PerformsInLanes false C.did C.course args host.old.caller.now
+        host.new.caller.now }
     ensures unkept { manager.old.needs_restore ≡ false
         → registered_files manager.new ≡ registered_files manager.old }
     ensures grows { Grows (F.failed files.old) (F.failed files.new) }
@@ -236,6 +241,8 @@ fn run_plan<C: Starts, O: Write, E: Write>(
     ensures made { MayPerformItsPlan C.Caller O.Write
         (context_view cx.now).args.print_command_list
         (context_view cx.now) stable host.old host.new }
+    ensures listed { (context_view cx.now).args.print_command_list ≡ true
+        → C.course host.old.caller.now host.new.caller.now }
     ensures lanes { (context_view cx.now).args.print_command_list ≡ false → MayRunInLanes C.did
         (context_view cx.now) stable (string_bytes host.old.env.now.rustup)
         host.old.caller.now host.new.caller.now }

@@ -1,14 +1,10 @@
-//! Errors and notices for the user. An error of writing them is ignored.
+//! Errors for the user. An error of writing them is ignored.
 
-ghost use Rattle.std.specs.Prelude.{◌≡◌, IfErr, None, OnErr, OnOk, map, true};
-ghost use Rattle.hack_base.specs.Notes.{note_of};
+ghost use Rattle.std.specs.Prelude.{◌≡◌, IfErr, None, OnErr, OnOk, true};
 ghost use Rattle.hack_run.specs.Internal.{is_refusal};
 ghost use Rattle.hack_run.specs.Refusals.{WritesError};
-ghost use Rattle.hack_run.specs.Warnings.{after_notes};
 
 use crate::fault::RunFault;
-use hack_base::notice::Notice;
-use hack_base::writes::Sink;
 use hack_load::context::ContextFault;
 use hack_load::metadata::AskFault;
 use hack_planner::fault::PlanFault;
@@ -116,15 +112,6 @@ pub(crate) fn tell_end<E: Write>(
     match came {
         Ok(()) => (),
         Err(fault) => tell(alloc, &fault, env, term, err),
-    }
-}
-
-/// Prints notices, and notes a warning where one of them counts as such.
-pub(crate) fn tell_all<E: Sink>(notices: &[Notice], term: &mut Term, err: &mut E)
-    ensures { term.new ≡ after_notes term.old (map note_of notices.now) }
-{
-    for notice in notices {
-        let _ = term.notice(notice, err);
     }
 }
 

@@ -9,7 +9,7 @@ use crate::tests::worlds::{ROOT, VIRTUAL};
 use hack_files::fs::{MemoryFiles, Step};
 use hack_holds::Wrong;
 use hack_journal::place::Place;
-use hack_run::journaled::run_journaled;
+use hack_journaled::journaled::run_journaled;
 use std::alloc::{AllocError, Global};
 
 /// The paths that were changed from an index on.

@@ -1,10 +1,10 @@
 use Rattle.std.proofs.Common.{◌≡◌, ◌∙◌, string_bytes, subst, sym}
 use Rattle.hack_base.specs.Names.{Name}
 use Rattle.hack_files.specs.Files.{Contents}
-use Rattle.hack_recovery.specs.CallPlaces.{ArePlacesOf, PlacesAt, is_left}
-use Rattle.hack_recovery.specs.JournalPlaces.{journal_of}
-use Rattle.hack_recovery.specs.PlacesView.{places_view}
-use Rattle.hack_recovery.proofs.LookLemmas.{seen_first}
+use Rattle.hack_places.specs.CallPlaces.{ArePlacesOf, PlacesAt, is_left}
+use Rattle.hack_places.specs.JournalPlaces.{journal_of}
+use Rattle.hack_places.specs.PlacesView.{places_view}
+use Rattle.hack_places.proofs.LookLemmas.{seen_first}
 use Rattle.hack_recovery.proofs.begin.find.Goals as goal
 
 pub returns-clause-found : goal.returns-clause-found

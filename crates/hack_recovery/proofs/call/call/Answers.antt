@@ -1,14 +1,14 @@
-use Rattle.std.proofs.Common.{◌≡◌, ◌∙◌, ap, inl, refl, subst, ℕ, List, true}
+use Rattle.std.proofs.Common.{◌∙◌, ap, inl, refl, subst, ℕ, List}
 use Rattle.hack_base.specs.Names.{Name, names_of, optional_text}
 use Rattle.hack_base.specs.Writes.{AppendsFront}
 use Rattle.hack_run.specs.CallTrace.{colored_by}
-use Rattle.hack_run.specs.Worlds.{IsStatus, files_view, host_view}
+use Rattle.hack_files.specs.View.{files_view}
+use Rattle.hack_run.specs.Worlds.{IsStatus, host_view}
 use Rattle.hack_start.specs.declared.started.StartFault.TheVariants.{Memory}
 use Rattle.hack_term.specs.Lines.{error_line}
 use Rattle.hack_term.specs.declared.term.Term.{Term}
 use Rattle.hack_words.specs.AskedColoring.{AsksColoring}
 use Rattle.hack_words.specs.declared.cli.env.Env.{Env}
-use Rattle.hack_recovery.specs.Scenes.{Scene}
 use Rattle.hack_recovery.specs.ProgramCalls.{colored, scene_on, scene_outside}
 use Rattle.hack_recovery.specs.ProgramCalls.IsProgramCall.{performed, unread}
 use Rattle.hack_recovery.proofs.CallLemmas.{course-known}
@@ -42,6 +42,6 @@ returns-clause-goes g c =
     performed c.in-Ok.started coloring asked c.in-Ok.ensures.started c.in-Ok.ensures.coloring
     (subst (λ (ws : List Name). AsksColoring (optional_text c.in-Ok.started.env.term_color) ws asked) (ap names_of c.deref.ensures.value) c.in-Ok-coloring_asked.ensures)
     (subst (λ (e : Env). IsStatus e.deny_warnings (host_view g.C.Caller g.O.Write c.perform-ended.new.host) c.perform-ended.result.0) c.new-host.ensures.env c.perform-ended.ensures.status)
-    (course-known g.F.Files.tells g.F.Files.whole g.L.Files.tells g.C.Caller.tells g.K.Locks.tells g.G.Guards.tells (g.K.Locks.real c.args.keepers.now.locks) (names_of c.deref-2.result.now) words host.env.now c.in-Ok.started.env
+    (course-known _ g.F.Files.tells g.F.Files.whole g.L.Files.tells g.C.Caller.tells g.K.Locks.tells g.G.Guards.tells (g.K.Locks.real c.args.keepers.now.locks) (names_of c.deref-2.result.now) words host.env.now c.in-Ok.started.env
     (files_view g.F.Files c.args.files) (g.L.Files.bytes_at c.args.lockfiles) (g.K.Locks.shown c.args.keepers.now.locks) (g.G.Guards.shown c.args.keepers.now.guards) (calls host.caller.now) (calls outside.caller.now) (contents host.out.now) (contents outside.out.now) host.term.now (colored (colored_by asked coloring) outside.term.now) outside.fails
     _ (ap names_of c.deref-2.ensures.value) c.new-host.ensures.env (ap calls c.new-host.ensures.caller.1) (ap contents c.new-host.ensures.out.1) (c.new-host.ensures.term.1 ∙ c.color.ensures) c.perform-ended.ensures.goes)

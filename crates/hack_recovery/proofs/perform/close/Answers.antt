@@ -1,7 +1,7 @@
 use Rattle.std.proofs.Common.{◌∙◌, sym}
 use Rattle.hack_recovery.specs.CallCourses.IsJournalClosed.{copy_stays}
-use Rattle.hack_recovery.proofs.CountLemmas.{failed_call, grows_then}
-use Rattle.hack_recovery.proofs.LookLemmas.{none_there}
+use Rattle.hack_places.proofs.CountLemmas.{failed_call, grows_then}
+use Rattle.hack_places.proofs.LookLemmas.{none_there}
 use Rattle.hack_recovery.proofs.perform.close.Goals as goal
 
 pub returns-then-is_err-clause-told : goal.returns-then-is_err-clause-told

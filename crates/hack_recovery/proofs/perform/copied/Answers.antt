@@ -1,8 +1,7 @@
 use Rattle.std.proofs.Common.{ap, refl}
 use Rattle.hack_recovery.specs.CallCourses.CopiesAndRuns.{copied, uncopied}
-use Rattle.hack_recovery.specs.Scenes.{Scene, scene_of}
-use Rattle.hack_term.specs.declared.term.Term.{Term}
-use Rattle.hack_recovery.proofs.CallLemmas.{failed_status}
+use Rattle.hack_recovery.specs.Scenes.{Scene, scene_by, scene_of}
+use Rattle.hack_run.specs.Worlds.{HostView}
 use Rattle.hack_recovery.proofs.perform.copied.Goals as goal
 
 pub returns-in-Ok-clause-goes : goal.returns-in-Ok-clause-goes
@@ -17,7 +16,4 @@ returns-in-Err-clause-goes g c = λ locks guards.
     let at : Scene = scene_of g.F.Files g.L.Files g.C.Caller g.O.Write c.keep_copy.new.files c.keep_copy.new.lockfiles locks guards c.args.host.now in
     uncopied at
     (record { copied = λ done. cc; counted = λ done. cc; others = c.in-Err.ensures.others; made = c.in-Err.ensures.made; same = c.in-Err.ensures.same; host = refl; quiet = record { calls = refl; out = refl; fails = refl; locks = refl; guards = refl } })
-    refl (ap (λ (k : Term). k.error) c.report.ensures.term)
-
-pub returns-in-Err-clause-status : goal.returns-in-Err-clause-status
-returns-in-Err-clause-status g c = failed_status _ _ c.report.new.term c.report.result c.report.ensures.status (ap (λ (k : Term). k.error) c.report.ensures.term)
+    (ap (λ (host : HostView). scene_by at.files at.lockfiles locks guards host) c.report.ensures.view) c.report.ensures.error

@@ -1,8 +1,7 @@
 use Rattle.std.proofs.Common.{ap, refl}
-use Rattle.hack_term.specs.declared.term.Term.{Term}
+use Rattle.hack_run.specs.Worlds.{HostView}
 use Rattle.hack_recovery.specs.CallCourses.IsLockedCourse.{cut_short, ended, went_on}
-use Rattle.hack_recovery.specs.Scenes.{Scene, scene_of}
-use Rattle.hack_recovery.proofs.CallLemmas.{failed_status}
+use Rattle.hack_recovery.specs.Scenes.{Scene, scene_by, scene_of}
 use Rattle.hack_recovery.proofs.perform.guarded.Goals as goal
 
 pub returns-then-not-is_back-clause-goes : goal.returns-then-not-is_back-clause-goes
@@ -23,10 +22,4 @@ returns-in-Err-clause-goes g c =
     let locks = g.K.Locks.shown c.args.keepers.now.locks in
     let guards = g.G.Guards.shown c.args.keepers.now.guards in
     let at : Scene = scene_of g.F.Files g.L.Files g.C.Caller g.O.Write c.take_back.new.files c.take_back.new.lockfiles locks guards c.take_back.new.host in
-    cut_short at c.in-Err.fault (c.in-Err.ensures.goes locks guards) refl (ap (λ (k : Term). k.error) c.report.ensures.term)
-
-pub returns-in-Err-clause-status : goal.returns-in-Err-clause-status
-returns-in-Err-clause-status g c = failed_status _ _ c.report.new.term c.report.result c.report.ensures.status (ap (λ (k : Term). k.error) c.report.ensures.term)
-
-pub returns-then-not-is_back-clause-status : goal.returns-then-not-is_back-clause-status
-returns-then-not-is_back-clause-status g c = failed_status _ _ c.take_back.new.host.term.now 1 refl ((rw c.if-not-is_back.true at c.in-Ok.ensures.stopped) refl)
+    cut_short at c.in-Err.fault (c.in-Err.ensures.goes locks guards) (ap (λ (host : HostView). scene_by at.files at.lockfiles locks guards host) c.report.ensures.view) c.report.ensures.error

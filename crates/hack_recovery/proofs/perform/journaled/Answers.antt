@@ -1,8 +1,8 @@
 use Rattle.std.proofs.Common.{ap, refl}
+use Rattle.hack_files.specs.View.{files_view}
+use Rattle.hack_run.specs.Worlds.{HostView}
 use Rattle.hack_recovery.specs.CallCourses.IsJournaledCall.{performed, unwatched}
-use Rattle.hack_recovery.specs.Scenes.{Scene, scene_of}
-use Rattle.hack_term.specs.declared.term.Term.{Term}
-use Rattle.hack_recovery.proofs.CallLemmas.{failed_status}
+use Rattle.hack_recovery.specs.Scenes.{Scene, scene_by, scene_of}
 use Rattle.hack_recovery.proofs.perform.journaled.Goals as goal
 
 pub returns-in-Ok-clause-goes : goal.returns-in-Ok-clause-goes
@@ -12,7 +12,5 @@ returns-in-Ok-clause-goes g c = λ locks.
     performed c.in-Ok.watches c.copied-ended.result.0 guards (g.G.Guards.shown c.leave.new.self) ran (rw c.as_str.ensures.value at c.in-Ok.ensures.started) (c.copied-ended.ensures.goes locks guards) c.copied-ended.ensures.status c.leave.ensures refl
 
 pub returns-in-Err-clause-goes : goal.returns-in-Err-clause-goes
-returns-in-Err-clause-goes g c = λ locks. unwatched (g.G.Guards.shown c.start.new.self) c.in-Err.ensures.refused refl (ap (λ (k : Term). k.error) c.report.ensures.term)
-
-pub returns-in-Err-clause-status : goal.returns-in-Err-clause-status
-returns-in-Err-clause-status g c = failed_status _ _ c.report.new.term c.report.result c.report.ensures.status (ap (λ (k : Term). k.error) c.report.ensures.term)
+returns-in-Err-clause-goes g c = λ locks. unwatched (g.G.Guards.shown c.start.new.self) c.in-Err.ensures.refused
+    (ap (λ (host : HostView). scene_by (files_view g.F.Files c.args.files) (g.L.Files.bytes_at c.args.lockfiles) locks (g.G.Guards.shown c.start.new.self) host) c.report.ensures.view) c.report.ensures.error

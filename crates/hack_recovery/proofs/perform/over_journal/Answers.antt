@@ -14,7 +14,7 @@ returns-clause-goes g c = λ locks guards.
       failed = c.run_journaled-files.result.3;
       last = last;
       journals = subst (λ (s : Spot). Journals g.F.Files.tells g.F.Files.whole g.L.Files.tells g.C.Caller.tells (names_of c.args.words.now) c.args.host.now.env.now s c.run_journaled-files.result.3 old last) c.requires.place
-          (record { refused = ran.refused; done = ran.done; made = ran.made; clean = ran.clean; back = ran.back; few = ran.few; gone = ran.gone; safe = ran.safe; locks = refl; guards = refl });
+          (record { refused = ran.refused; done = ran.done; made = ran.made; clean = ran.clean; back = ran.back; few = ran.few; gone = ran.gone; safe = ran.safe; others = ran.others; locks = refl; guards = refl });
       closes = record {
         others = c.close.ensures.others;
         made = c.close.ensures.made;

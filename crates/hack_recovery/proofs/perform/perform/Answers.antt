@@ -1,13 +1,14 @@
 use Rattle.std.proofs.Common.{◌∙◌, true, ap, refl}
 use Rattle.hack_base.specs.Names.{names_of, optional_text}
 use Rattle.hack_term.specs.declared.term.Term.{Term}
-use Rattle.hack_run.specs.Worlds.{FilesView, HostView, files_view, host_view}
+use Rattle.hack_files.specs.View.{FilesView, files_view}
+use Rattle.hack_run.specs.Worlds.{HostView, host_view}
 use Rattle.hack_recovery.specs.AskedEdits.{is_change, is_restore}
-use Rattle.hack_recovery.specs.PlacesView.{places_view}
+use Rattle.hack_places.specs.PlacesView.{places_view}
 use Rattle.hack_recovery.specs.Scenes.{Scene, scene_by, scene_of, scene_with}
 use Rattle.hack_recovery.specs.CallCourses.{CannotSee}
 use Rattle.hack_recovery.specs.CallCourses.IsCallCourse.{turned_away, under_its_lock}
-use Rattle.hack_recovery.proofs.CallLemmas.{failed_status, plain_course, unseen_course}
+use Rattle.hack_recovery.proofs.CallLemmas.{plain_course, unseen_course}
 use Rattle.hack_recovery.proofs.perform.perform.Goals as goal
 
 pub returns-in-Ok-Plain-clause-goes : goal.returns-in-Ok-Plain-clause-goes
@@ -18,7 +19,7 @@ returns-in-Ok-Plain-clause-goes g c =
     let locks = g.K.Locks.shown c.admit.new.locks in
     let guards = g.G.Guards.shown c.args.keepers.now.guards in
     let at : Scene = scene_of g.F.Files g.L.Files g.C.Caller g.O.Write c.begin.new.files c.args.lockfiles locks guards c.args.host.now in
-    plain_course _ _ _ _ _ _ _ _ _ begun.edits (places_view begun.places) _ at _ (is_restore begun.edits) refl
+    plain_course _ _ _ _ _ _ _ _ _ _ begun.edits (places_view begun.places) _ at _ (is_restore begun.edits) refl
     (record {
       left = begun.is_left;
       begins = c.in-Ok.ensures.begun;
@@ -54,9 +55,9 @@ returns-in-Err-clause-goes g c =
       begins = c.in-Ok.ensures.begun;
       admitted = rw c.as_str-2.ensures.value at c.in-Err.ensures;
       counted = c.in-Ok.ensures.counted;
-      untouched = record { files = record { same = c.in-Ok.ensures.same; untraced = c.in-Ok.ensures.untraced }; lockfiles = refl; guards = refl; calls = refl; out = refl; fails = refl };
+      untouched = record { files = record { same = c.in-Ok.ensures.same; untraced = c.in-Ok.ensures.untraced }; lockfiles = refl; guards = refl; calls = ap (λ (h : HostView). h.calls) c.report.ensures.view; out = ap (λ (h : HostView). h.out) c.report.ensures.view; fails = ap (λ (h : HostView). h.fails) c.report.ensures.view };
     })
-    (ap (λ (k : Term). k.error) c.report.ensures.term)
+    c.report.ensures.error
 
 pub returns-in-Err-Unseen-clause-goes : goal.returns-in-Err-Unseen-clause-goes
 returns-in-Err-Unseen-clause-goes g c =
@@ -76,11 +77,8 @@ returns-in-Err-Unseen-clause-goes g c =
       untouched = record { files = record { same = c.in-Err-Unseen.ensures.same; untraced = c.in-Err-Unseen.ensures.untraced }; lockfiles = refl; guards = refl; calls = refl; out = refl; fails = refl };
       locks = refl;
     } in
-    unseen_course _ _ _ _ _ _ _ _ _ asked.edits old (scene_with seen (record term { error = true }) old) (scene_with seen (record term { warn = true }) old) _ (is_change asked.edits) refl
+    unseen_course _ _ _ _ _ _ _ _ _ _ asked.edits old (scene_with seen (record term { error = true }) old) (scene_with seen (record term { warn = true }) old) _ (is_change asked.edits) refl
     (unseen (record term { error = true })) refl (unseen (record term { warn = true })) refl
     (λ on. ap (λ files. scene_by (files_view g.F.Files files) lockfiles locks guards (host_view g.C.Caller g.O.Write c.blindly-status.new.host)) (came.refused on).0
     ∙ ap (λ (host : HostView). scene_by seen lockfiles locks guards host) (came.refused on).1)
     (λ off. came.runs off lockfiles locks guards)
-
-pub returns-in-Err-clause-status : goal.returns-in-Err-clause-status
-returns-in-Err-clause-status g c = failed_status _ _ c.report.new.term c.report.result c.report.ensures.status (ap (λ (k : Term). k.error) c.report.ensures.term)

@@ -1,5 +1,6 @@
 use Rattle.std.proofs.Common.{ap, refl}
-use Rattle.hack_run.specs.Worlds.{HostView, files_view}
+use Rattle.hack_files.specs.View.{files_view}
+use Rattle.hack_run.specs.Worlds.{HostView}
 use Rattle.hack_recovery.specs.Restoring.TakesBack.{older_unrestored, settled, unrestored}
 use Rattle.hack_recovery.proofs.WayLemmas.{done_true, not_done}
 use Rattle.hack_recovery.proofs.perform.take_back.Goals as goal

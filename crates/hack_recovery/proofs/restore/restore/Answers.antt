@@ -2,7 +2,7 @@ use Rattle.std.proofs.Common.{◌∙◌, ap, sym}
 use Rattle.std.specs.Option.{option_map}
 use Rattle.hack_journal.specs.Journal.{edit_of}
 use Rattle.hack_journal.specs.Rows.{spot_of}
-use Rattle.hack_run.specs.Worlds.{FilesView, files_view}
+use Rattle.hack_files.specs.View.{FilesView, files_view}
 use Rattle.hack_recovery.specs.Restoring.Restores.{strange, trusted, unread}
 use Rattle.hack_recovery.proofs.StrangerLemmas.{none_named, one_named}
 use Rattle.hack_recovery.proofs.restore.restore.Goals as goal

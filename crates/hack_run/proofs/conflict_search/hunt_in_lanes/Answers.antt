@@ -1,6 +1,7 @@
 use Rattle.std.proofs.Math.Bool.{or_comm}
 use Rattle.std.proofs.Common.{◌≡◌, Ok, [], ap, false, inl, inr, length, refl, subst, sym, ◌∙◌}
 use Rattle.std.specs.Prelude.{Bool, List, MatchBool, None, Result}
+use Rattle.std.specs.List.{list_any}
 use Rattle.hack_plan.specs.Commands.{slots_in}
 use Rattle.hack_culprits.specs.Built.{steps_from}
 use Rattle.hack_culprits.specs.declared.fault.CulpritsFault.{CulpritsFault}
@@ -11,8 +12,9 @@ use Rattle.hack_term.specs.declared.term.Term.{Term}
 use Rattle.hack_load.specs.ContextView.{context_view}
 use Rattle.hack_planner.specs.CallPlan.{IsPlanOf}
 use Rattle.hack_side.specs.Turns.{RunsAll, RunsSerially}
+use Rattle.hack_report.specs.Findings.{has_conflict, is_open}
 use Rattle.hack_run.specs.Internal.{Reports}
-use Rattle.hack_run.specs.Warnings.{have_warning}
+use Rattle.hack_drive.specs.Warnings.{have_warning}
 use Rattle.hack_run.specs.Worlds.{host_of}
 use Rattle.hack_run.proofs.FindingLemmas.{not_cut, warned_later}
 use Rattle.hack_run.proofs.RunLemmas.{all_passed, hunted, hunts_one, planned_hunt, runs_some, unrefused}
@@ -47,11 +49,13 @@ returns-clause-done g c = λ none quiet t stable.
     let silent = subst (λ (term : Term). term.error ≡ false) term_is (c.settle.ensures.error quiet) in
     let warned = warned_run c.args.term.now c.set_manner.new.self.term.now mid.term.now last.term.now notes (ap (λ s. s.term.now) made ∙ c.new-starter.ensures.term.1) told.6 (ap (λ s. s.warn) ran.7) in
     let found : (found : List Hunted) × (came_of hunt.found ≡ Ok found) × Reports found c.args.fails.now c.settle.new.fails last.term.now.warn now.warn = elim settled.1 [
-      | inl broken ↦ absurd (not_cut (length start.entries) (came_of hunt.found) hunts.hunts.left hunts.hunts.hunted hunts.built hunts.hunts.end broken.1
+      | inl broken ↦ absurd (not_cut (length start.entries) (came_of hunt.found) hunts.hunts.left hunts.hunts.hunted hunts.built hunt.plan hunts.hunts.end broken.1
           (all_passed handed last.term.now last.fault.now (passed_or_told g.L.Caller.tells _ _ hunt.plan handed _ _ ran.8) (sym fault_is ∙ broken.0) silent))
       | inr one ↦ (one.0, one.1, subst (λ (term : Term). Reports one.0 c.args.fails.now c.settle.new.fails term.warn now.warn) term_is one.2)
     ] in
     let report = found.2 in
+    let fails = list_any has_conflict found.0 in
+    let warns = list_any is_open found.0 in
     let zero = told.4 ∙ ap (λ s. s.refused) made ∙ c.new-starter.ensures.refused in
     let stops : course-of.1.starter.keep_going ≡ false = told.10 ∙ ap (λ s. s.keep_going) made in
     let whole = whole_hunts cx cx.args.most_runs _ found.0 hunts.built start hunt.plan (subst (λ (came : Result (List Hunted) CulpritsFault). AreHunted cx cx.args.most_runs (spots_of course-of.2 (slots_in start.call None)) came hunts.built start hunt.plan) found.1 hunts.hunts) in
@@ -61,11 +65,11 @@ returns-clause-done g c = λ none quiet t stable.
     (one.0, (one.1, sym did.2.5 ∙ fine.1)))
     (zero, stops) whole in
     rw (lanes_is, out_is)
-    (hunts_one cx stable c.args.rustup.now course notes report.fails report.warns (host_of g.L.Caller g.O.Write c.args.lanes.now c.args.out.now c.args.term.now c.args.fails.now) (host_of g.L.Caller g.O.Write last.caller.now last.out.now now c.settle.new.fails)
+    (hunts_one cx stable c.args.rustup.now course notes fails warns (host_of g.L.Caller g.O.Write c.args.lanes.now c.args.out.now c.args.term.now c.args.fails.now) (host_of g.L.Caller g.O.Write last.caller.now last.out.now now c.settle.new.fails)
     (calls mid.caller.now) mid.refused last.refused (ap calls (told.3 ∙ ap (λ s. s.caller.now) made ∙ c.new-starter.ensures.caller.1)) c.requires
-    (record { ids = course-of.2; start = start; begun = course-of.4; came = came_of hunt.found; built = hunts.built; hunts = hunts.hunts; steps = refl; told = λ e. (found.0, found.1, report.failing, report.undecided) })
+    (record { ids = course-of.2; start = start; begun = course-of.4; came = came_of hunt.found; built = hunts.built; hunts = hunts.hunts; steps = refl; told = λ e. (found.0, found.1, refl, refl) })
     (has_performed g.L.Caller.tells _ _ hunt.plan handed _ _ ran.8 t) started.0 (told.4 ∙ ap (λ s. s.refused) made ∙ c.new-starter.ensures.refused) (unrefused last.refused settled.0)
-    (report.kept ∙ or_comm c.args.fails.now report.fails) (warned_later (have_warning notes) c.args.term.now.warn last.term.now.warn report.warns now.warn warned report.noted))
+    (report.kept ∙ or_comm c.args.fails.now fails) (warned_later (have_warning notes) c.args.term.now.warn last.term.now.warn warns now.warn warned report.noted))
 
 pub returns-clause-made : goal.returns-clause-made
 returns-clause-made g c = λ t stable.

@@ -1,6 +1,7 @@
 use Rattle.std.proofs.Math.Bool.{or_comm}
 use Rattle.std.proofs.Common.{◌≡◌, [], ap, false, inl, inr, refl, subst, sym, ◌∙◌}
 use Rattle.std.specs.Prelude.{Bool, Contains, List, MatchBool}
+use Rattle.std.specs.List.{list_any}
 use Rattle.hack_session.specs.Histories.{Course}
 use Rattle.hack_term.specs.declared.term.Term.{Term}
 use Rattle.hack_load.specs.ContextView.{context_view}
@@ -8,8 +9,9 @@ use Rattle.hack_msrv.specs.Searches.{handed_in_all}
 use Rattle.hack_msrv.specs.declared.found.Found.{Found}
 use Rattle.hack_msrv.specs.declared.found.Found.TheVariants.{Broken}
 use Rattle.hack_side.specs.Turns.{RunsAll, RunsSerially}
+use Rattle.hack_report.specs.Findings.{is_failing, some_too_low}
 use Rattle.hack_run.specs.Internal.{ReportsFound}
-use Rattle.hack_run.specs.Warnings.{have_warning}
+use Rattle.hack_drive.specs.Warnings.{have_warning}
 use Rattle.hack_run.specs.Worlds.{host_of}
 use Rattle.hack_run.proofs.FindingLemmas.{not_broken, warned_later}
 use Rattle.hack_planner.specs.CallPlan.{IsPlanOf}
@@ -42,12 +44,14 @@ returns-clause-done g c = λ none quiet t.
     let settled = c.settle.ensures.ends none quiet in
     let silent = subst (λ (term : Term). term.error ≡ false) term_is (c.settle.ensures.error quiet) in
     let warned = warned_run c.args.term.now c.set_manner.new.self.term.now mid.term.now last.term.now notes (ap (λ s. s.term.now) made ∙ c.new-starter.ensures.term.1) told.6 (ap (λ s. s.warn) ran.7) in
-    let report : ReportsFound c.in_ok-plan.found.items c.args.fails.now c.settle.new.fails last.term.now.warn now.warn = elim settled.1 [
+    let report : ReportsFound cx plan c.in_ok-plan.found.items c.args.fails.now c.settle.new.fails last.term.now.warn now.warn = elim settled.1 [
       | inl broken ↦ absurd (not_broken plan searched.searches c.in_ok-plan.found.items searched.say (subst (λ (l : List Found). Contains l Broken) c.deref.ensures.value broken.1)
           (all_passed handed last.term.now last.fault.now (passed_or_told g.L.Caller.tells _ _ plan handed _ _ ran.8) (sym fault_is ∙ broken.0) silent))
-      | inr one ↦ subst (λ (l : List Found). ReportsFound l c.args.fails.now c.settle.new.fails last.term.now.warn now.warn) c.deref.ensures.value
-          (subst (λ (term : Term). ReportsFound c.deref.result.now c.args.fails.now c.settle.new.fails term.warn now.warn) term_is one)
+      | inr one ↦ subst (λ (l : List Found). ReportsFound cx plan l c.args.fails.now c.settle.new.fails last.term.now.warn now.warn) c.deref.ensures.value
+          (subst (λ (term : Term). ReportsFound cx plan c.deref.result.now c.args.fails.now c.settle.new.fails term.warn now.warn) term_is one)
     ] in
+    let fails = list_any is_failing c.in_ok-plan.found.items in
+    let warns = some_too_low cx plan 0 c.in_ok-plan.found.items in
     let zero = told.4 ∙ ap (λ s. s.refused) made ∙ c.new-starter.ensures.refused in
     let stops : c.in_ok-plan.ensures.ran.1.starter.keep_going ≡ false = told.10 ∙ ap (λ s. s.keep_going) made in
     let started = searches_by (λ s. calls s.starter.caller.now) (λ s. (s.starter.refused ≡ 0) × (s.starter.keep_going ≡ false)) searched
@@ -56,11 +60,11 @@ returns-clause-done g c = λ none quiet t.
     (one.0, (one.1, sym did.2.5 ∙ fine.1)))
     (zero, stops) report.whole in
     rw (lanes_is, out_is)
-    (searches_one cx c.args.stable c.args.rustup.now course notes report.fails report.warns (host_of g.L.Caller g.O.Write c.args.lanes.now c.args.out.now c.args.term.now c.args.fails.now) (host_of g.L.Caller g.O.Write last.caller.now last.out.now now c.settle.new.fails)
+    (searches_one cx c.args.stable c.args.rustup.now course notes fails warns (host_of g.L.Caller g.O.Write c.args.lanes.now c.args.out.now c.args.term.now c.args.fails.now) (host_of g.L.Caller g.O.Write last.caller.now last.out.now now c.settle.new.fails)
     (calls mid.caller.now) mid.refused last.refused (ap calls (told.3 ∙ ap (λ s. s.caller.now) made ∙ c.new-starter.ensures.caller.1)) c.in_ok-plan.ensures.ran.2 c.requires.apart c.requires.search
-    (record { searches = searched.searches; found = c.in_ok-plan.found.items; such = searched.say; steps = refl; end = searched.end; told = λ e. (report.whole, report.failing) })
+    (record { searches = searched.searches; found = c.in_ok-plan.found.items; such = searched.say; steps = refl; end = searched.end; told = λ e. (report.whole, refl, refl) })
     (has_performed g.L.Caller.tells _ _ plan handed _ _ ran.8 t) started.0 (told.4 ∙ ap (λ s. s.refused) made ∙ c.new-starter.ensures.refused) (unrefused last.refused settled.0)
-    (report.kept ∙ or_comm c.args.fails.now report.fails) (warned_later (have_warning notes) c.args.term.now.warn last.term.now.warn report.warns now.warn warned report.noted))
+    (report.kept ∙ or_comm c.args.fails.now fails) (warned_later (have_warning notes) c.args.term.now.warn last.term.now.warn warns now.warn warned report.noted))
 
 pub returns-clause-made : goal.returns-clause-made
 returns-clause-made g c = λ t.

@@ -2,7 +2,7 @@ use Rattle.std.proofs.Common.{◌∙◌, ap, filter, sym}
 use Rattle.std.specs.Io.KnownBytes.{append_known}
 use Rattle.hack_load.specs.ContextView.{context_view}
 use Rattle.hack_run.specs.Worlds.{HostView}
-use Rattle.hack_run.proofs.RunLemmas.{handed_makes, lists_one}
+use Rattle.hack_run.proofs.RunLemmas.{handed_in_course, handed_makes, lists_one}
 use Rattle.hack_session.specs.ListLines.{is_sent}
 use Rattle.hack_run.proofs.StartedLemmas.{all_started}
 use Rattle.hack_session.proofs.StepLemmas.{has_performed, passed_or_told}
@@ -47,6 +47,11 @@ returns-clause-made g c = λ t.
     rw (gathered_is, sym c.gather_on-lines.ensures.out.1, sym c.gather_on-lines.ensures.gathered.1, sym (ap (λ s. s.caller.now) c.set_manner.ensures ∙ c.new-starter.ensures.caller.1), sym c.as_str-rustup.ensures.value)
     (handed_makes (Unit {0}) had has _ _ (context_view c.args.cx.now) c.args.stable c.as_str-rustup.result.now _ last c.list_over-refused.ensures.made tt (λ s. calls s.caller.now) (λ s. s.refused) c.args.host.now.term.now last.term.now c.args.host.now.fails
     (λ notes x y told. ap calls told.3) (λ plan steps x y ran. has_performed g.C.Caller.tells _ _ plan steps _ _ ran.9 t))
+
+pub returns-clause-course : goal.returns-clause-course
+returns-clause-course g c =
+    rw (sym (ap (λ s. s.caller.now) c.set_manner.ensures ∙ c.new-starter.ensures.caller.1))
+    (handed_in_course _ _ _ _ _ _ _ _ _ c.list_over-refused.new.runner c.list_over-refused.ensures.made (λ s. s.caller.now) g.C.Caller.course g.C.Caller.course_none (λ notes x y told. told.3) (λ plan steps x y ran. ran.8))
 
 pub returns-clause-grown : goal.returns-clause-grown
 returns-clause-grown g c =

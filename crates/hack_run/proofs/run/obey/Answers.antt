@@ -7,7 +7,8 @@ use Rattle.hack_words.specs.declared.cli.parse.Parsed.{Parsed}
 use Rattle.hack_words.specs.declared.cli.parse.Parsed.TheVariants as parsed
 use Rattle.hack_run.specs.TemporaryEdits.{ComesBack, IsClean}
 use Rattle.hack_run.specs.CallTrace.{warned_by}
-use Rattle.hack_run.specs.Worlds.{files_view, world_of}
+use Rattle.hack_files.specs.View.{files_view}
+use Rattle.hack_run.specs.Worlds.{world_of}
 use Rattle.hack_load.proofs.LeaveLemmas.{makes_none}
 use Rattle.hack_run.proofs.BackLemmas.{clean_rest}
 use Rattle.hack_run.proofs.ChangeLemmas.{obeys_changes, obeys_unloaded}
@@ -19,14 +20,14 @@ returns-in-Args-clause-done g c =
     let notes = map note_of c.args.notices.now in
     obeys_done g.C.Caller.tells g.F.Files.tells (c.perform.new.host.term.now.error ≡ false) c.perform.result c.in-Args.args c.args.parsed c.args.host.now.env.now (warned_by c.args.parsed notes c.args.host.now.term.now.warn)
     (world_of g.F.Files g.C.Caller g.O.Write c.args.files.now c.args.host.now) (world_of g.F.Files g.C.Caller g.O.Write c.perform.new.files c.perform.new.host) c.tell_all.new.term c.in-Args.is
-    (dressed c.args.host.now.term.now c.dress.new.term c.tell_all.new.term c.args.parsed c.in-Args.args notes c.in-Args.is c.dress.ensures.warn c.tell_all.ensures) c.perform.ensures.done
+    (dressed c.args.host.now.term.now c.dress.new.term c.tell_all.new.term c.args.parsed c.in-Args.args notes c.in-Args.is c.dress.ensures.warn c.tell_all.ensures.noted) c.perform.ensures.done
 
 pub returns-in-Args-clause-made : goal.returns-in-Args-clause-made
 returns-in-Args-clause-made g c = λ t.
     let notes = map note_of c.args.notices.now in
     obeys false g.F.Files.tells c.in-Args.args c.args.parsed c.args.host.now.env.now (warned_by c.args.parsed notes c.args.host.now.term.now.warn)
     (world_of g.F.Files g.C.Caller g.O.Write c.args.files.now c.args.host.now) (world_of g.F.Files g.C.Caller g.O.Write c.perform.new.files c.perform.new.host) c.tell_all.new.term c.in-Args.is
-    (dressed c.args.host.now.term.now c.dress.new.term c.tell_all.new.term c.args.parsed c.in-Args.args notes c.in-Args.is c.dress.ensures.warn c.tell_all.ensures) (c.perform.ensures.made t)
+    (dressed c.args.host.now.term.now c.dress.new.term c.tell_all.new.term c.args.parsed c.in-Args.args notes c.in-Args.is c.dress.ensures.warn c.tell_all.ensures.noted) (c.perform.ensures.made t)
 
 pub returns-in-Print-clause-done : goal.returns-in-Print-clause-done
 returns-in-Print-clause-done g c =
@@ -46,7 +47,7 @@ returns-in-List-clause-done g c =
     let first = world_of g.F.Files g.C.Caller g.O.Write c.args.files.now c.args.host.now in
     lists g.C.Caller.tells g.F.Files.tells (c.tell_all-in-List.new.term.error ≡ false) c.list_commands.result c.args.parsed c.args.host.now.env.now (warned_by c.args.parsed notes c.args.host.now.term.now.warn) first
     (record first { host = record first.host { calls = g.C.Caller.calls c.list_commands.new.caller; term = c.tell_all-in-List.new.term } }) c.in-List.is
-    (subst (λ (p : Parsed). c.tell_all-in-List.new.term.warn ≡ warned_by p notes c.args.host.now.term.now.warn) (sym c.in-List.is) (ap (λ (k : Term). k.warn) c.tell_all-in-List.ensures)) refl refl c.list_commands.ensures.done
+    (subst (λ (p : Parsed). c.tell_all-in-List.new.term.warn ≡ warned_by p notes c.args.host.now.term.now.warn) (sym c.in-List.is) (ap (λ (k : Term). k.warn) c.tell_all-in-List.ensures.noted)) refl refl c.list_commands.ensures.done
 
 pub returns-in-List-clause-made : goal.returns-in-List-clause-made
 returns-in-List-clause-made g c = λ t.
@@ -82,7 +83,7 @@ returns-in-Args-clause-traced g c =
     let notes = map note_of c.args.notices.now in
     obeys_changes g.C.Caller.tells g.F.Files.tells g.F.Files.whole (c.perform.new.host.term.now.error ≡ false) c.perform.result c.in-Args.args c.args.parsed c.args.host.now.env.now (warned_by c.args.parsed notes c.args.host.now.term.now.warn)
     (world_of g.F.Files g.C.Caller g.O.Write c.args.files.now c.args.host.now) (world_of g.F.Files g.C.Caller g.O.Write c.perform.new.files c.perform.new.host) c.tell_all.new.term c.in-Args.is
-    (dressed c.args.host.now.term.now c.dress.new.term c.tell_all.new.term c.args.parsed c.in-Args.args notes c.in-Args.is c.dress.ensures.warn c.tell_all.ensures) c.perform.ensures.traced
+    (dressed c.args.host.now.term.now c.dress.new.term c.tell_all.new.term c.args.parsed c.in-Args.args notes c.in-Args.is c.dress.ensures.warn c.tell_all.ensures.noted) c.perform.ensures.traced
 
 pub returns-in-Print-clause-traced : goal.returns-in-Print-clause-traced
 returns-in-Print-clause-traced g c =

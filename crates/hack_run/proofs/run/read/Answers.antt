@@ -1,15 +1,16 @@
-use Rattle.std.proofs.Common.{◌≡◌, ap, false, map}
+use Rattle.std.proofs.Common.{◌≡◌, ap, false, map, true}
 use Rattle.hack_base.specs.Names.{names_of}
 use Rattle.hack_base.specs.Notes.{note_of}
 use Rattle.hack_files.proofs.RefusalLemmas.{but_none}
 use Rattle.hack_words.proofs.AnswerLemmas.{answers-never}
 use Rattle.hack_words.specs.ParseAnswers.{around_of}
 use Rattle.hack_run.specs.TemporaryEdits.{ComesBack, RestoresEdits}
-use Rattle.hack_run.specs.Worlds.{files_view, world_of}
+use Rattle.hack_files.specs.View.{files_view}
+use Rattle.hack_run.specs.Worlds.{world_of}
 use Rattle.hack_run.proofs.BackLemmas.{clean_by}
 use Rattle.hack_run.proofs.ChangeLemmas.{traces}
 use Rattle.hack_run.proofs.TraceLemmas.{done}
-use Rattle.hack_run.proofs.LaneLemmas.{reads_in_lanes}
+use Rattle.hack_run.proofs.LaneLemmas.{on_success, reads_in_lanes, unread_in_lanes}
 use Rattle.hack_run.proofs.run.read.Goals as goal
 
 pub returns-in-Accepted-clause-refused : goal.returns-in-Accepted-clause-refused
@@ -58,5 +59,19 @@ returns-in_err-parsed-clause-spoilt g c = λ back. but_none (g.F.Files.refuses c
 pub returns-in-Accepted-clause-lanes : goal.returns-in-Accepted-clause-lanes
 returns-in-Accepted-clause-lanes g c =
     let after = rw c.in-Accepted.is at c.in_ok-parsed.ensures.read in
-    reads_in_lanes g.C.Starts.did g.C.Caller.course c.obey.result (names_of c.args.words.now) c.args.host.now.env.now after.rustup c.in-Accepted.parsed (map note_of c.in-Accepted.notices.items)
-    c.args.host.now.caller.now c.reading_of.new.caller c.obey.new.host.caller.now c.reading_of.ensures.course after.read c.obey.ensures.lanes
+    on_success _ _ c.obey.result
+    (reads_in_lanes true g.C.Starts.did g.C.Caller.course (names_of c.args.words.now) c.args.host.now.env.now after.rustup c.in-Accepted.parsed (map note_of c.in-Accepted.notices.items)
+    c.args.host.now.caller.now c.reading_of.new.caller c.obey.new.host.caller.now c.reading_of.ensures.course after.read)
+    c.obey.ensures.lanes
+
+pub returns-in-Accepted-clause-in_lanes : goal.returns-in-Accepted-clause-in_lanes
+returns-in-Accepted-clause-in_lanes g c =
+    let after = rw c.in-Accepted.is at c.in_ok-parsed.ensures.read in
+    reads_in_lanes false g.C.Starts.did g.C.Caller.course (names_of c.args.words.now) c.args.host.now.env.now after.rustup c.in-Accepted.parsed (map note_of c.in-Accepted.notices.items)
+    c.args.host.now.caller.now c.reading_of.new.caller c.obey.new.host.caller.now c.reading_of.ensures.course after.read c.obey.ensures.in_lanes
+
+pub returns-in-Refused-clause-in_lanes : goal.returns-in-Refused-clause-in_lanes
+returns-in-Refused-clause-in_lanes g c = unread_in_lanes g.C.Starts.did g.C.Caller.course (names_of c.args.words.now) c.args.host.now.env.now c.args.host.now.caller.now c.reading_of.new.caller c.reading_of.ensures.course
+
+pub returns-in_err-parsed-clause-in_lanes : goal.returns-in_err-parsed-clause-in_lanes
+returns-in_err-parsed-clause-in_lanes g c = unread_in_lanes g.C.Starts.did g.C.Caller.course (names_of c.args.words.now) c.args.host.now.env.now c.args.host.now.caller.now c.reading_of.new.caller c.reading_of.ensures.course

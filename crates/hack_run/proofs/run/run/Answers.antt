@@ -3,7 +3,8 @@ use Rattle.hack_base.specs.Names.{names_of}
 use Rattle.hack_run.specs.TemporaryEdits.{IsClean, RestoresEdits}
 use Rattle.hack_run.specs.CallChanges.{IsChangeTrace}
 use Rattle.hack_run.specs.CallTrace.{IsCallTrace}
-use Rattle.hack_run.specs.Worlds.{files_view, host_view, world_of}
+use Rattle.hack_files.specs.View.{files_view}
+use Rattle.hack_run.specs.Worlds.{host_view, world_of}
 use Rattle.hack_term.specs.declared.term.Term.{Term}
 use Rattle.hack_run.specs.Refusals.{WritesError}
 use Rattle.hack_run.proofs.RefusalLemmas.{refusal_told}

@@ -5,9 +5,9 @@ use Rattle.hack_load.specs.Answers.{IsLoaded}
 use Rattle.hack_load.specs.ContextView.{context_view}
 use Rattle.hack_prepare.proofs.HeldLemmas.{loaded-holds}
 use Rattle.hack_words.specs.declared.cli.args.Args.{Args}
-use Rattle.hack_run.specs.Questions.{NeedsAnswer}
+use Rattle.hack_drive.specs.Answered.{NeedsAnswer}
 use Rattle.hack_run.proofs.BackLemmas.{counted_ok}
-use Rattle.hack_run.proofs.LaneLemmas.{follows_in_lanes}
+use Rattle.hack_run.proofs.LaneLemmas.{follows_in_lanes, may_follow_in_lanes}
 use Rattle.hack_run.proofs.LoadingLemmas.{warns_unknown}
 use Rattle.hack_run.proofs.TraceLemmas.{follows, goes_on, plan_follows, shows_nothing, unended}
 use Rattle.hack_run.proofs.ChangeLemmas.{follows_changes}
@@ -95,5 +95,17 @@ returns-in_err-cx-clause-stays g c = g.F.Files.stays_none c.args.files.now
 
 pub returns-clause-lanes : goal.returns-clause-lanes
 returns-clause-lanes g c =
-    follows_in_lanes g.C.Starts.did g.C.Caller.course c.run_plan.result c.args.args c.args.answers (context_view c.in_ok-cx.cx) c.in_ok-stable.stable (string_bytes c.args.host.now.env.now.rustup) c.args.host.now.caller.now c.stable_for.new.caller c.run_plan.new.host.caller.now
-    c.in_ok-stable.ensures.course c.in_ok-cx.ensures.ok c.run_plan.ensures.ran
+    follows_in_lanes g.C.Starts.did g.C.Caller.course g.C.Caller.course_more c.run_plan.result c.args.args c.args.answers (context_view c.in_ok-cx.cx) c.in_ok-stable.stable (string_bytes c.args.host.now.env.now.rustup) c.args.host.now.caller.now c.stable_for.new.caller c.run_plan.new.host.caller.now
+    c.in_ok-stable.ensures.course c.in_ok-cx.ensures.ok c.run_plan.ensures.listed c.run_plan.ensures.ran
+
+pub returns-clause-in_lanes : goal.returns-clause-in_lanes
+returns-clause-in_lanes g c =
+    let cx = context_view c.in_ok-cx.cx in
+    may_follow_in_lanes g.C.Starts.did g.C.Caller.course g.C.Caller.course_more c.args.args c.args.answers cx c.in_ok-stable.stable (string_bytes c.args.host.now.env.now.rustup) c.args.host.now.caller.now c.stable_for.new.caller c.run_plan.new.host.caller.now
+    cx.args.print_command_list refl c.in_ok-stable.ensures.course c.in_ok-cx.ensures.ok c.run_plan.ensures.listed c.run_plan.ensures.lanes
+
+pub returns-in_err-cx-clause-in_lanes : goal.returns-in_err-cx-clause-in_lanes
+returns-in_err-cx-clause-in_lanes g c = inl (g.C.Caller.course_none _, inl refl)
+
+pub returns-in_err-edit-clause-in_lanes : goal.returns-in_err-edit-clause-in_lanes
+returns-in_err-edit-clause-in_lanes g c = inl (g.C.Caller.course_none _, inl refl)

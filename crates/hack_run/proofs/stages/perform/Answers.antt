@@ -1,15 +1,16 @@
-use Rattle.std.proofs.Common.{◌≡◌, ◌<◌, ◌∙◌, ap, false, inr}
+use Rattle.std.proofs.Common.{◌≡◌, ◌<◌, ◌∙◌, ap, false, inr, true}
 use Rattle.std.specs.Prelude.{IfOk, not}
 use Rattle.hack_load.specs.Answers.{IsLoaded}
 use Rattle.hack_files.specs.Restore.{registered_files}
 use Rattle.hack_files.proofs.RefusalLemmas.{but_restored, but_then}
 use Rattle.hack_run.proofs.BackLemmas.{brings_none, cleans, kept_none, leaves, safe_new, whole_keeps}
-use Rattle.hack_run.specs.Worlds.{files_view, host_view}
+use Rattle.hack_files.specs.View.{files_view}
+use Rattle.hack_run.specs.Worlds.{host_view}
 use Rattle.hack_term.specs.declared.term.Term.{Term}
 use Rattle.hack_run.proofs.ChangeLemmas.{changes}
 use Rattle.hack_run.proofs.LoadingLemmas.{loaded}
 use Rattle.hack_run.proofs.TraceLemmas.{made, performs}
-use Rattle.hack_run.proofs.LaneLemmas.{asked_in_lanes}
+use Rattle.hack_run.proofs.LaneLemmas.{asked_in_lanes, on_success}
 use Rattle.hack_run.proofs.stages.perform.Goals as goal
 
 pub returns-clause-done : goal.returns-clause-done
@@ -86,5 +87,10 @@ returns-clause-spoilt g c = λ kept.
 
 pub returns-clause-lanes : goal.returns-clause-lanes
 returns-clause-lanes g c =
-    asked_in_lanes g.C.Starts.did g.C.Caller.course g.C.Caller.course_more c.follow-came.result c.args.args c.args.host.now.caller.now c.ask-answers.new.caller c.follow-came.new.host.caller.now
-    c.ask-answers.ensures.course c.follow-came.ensures.lanes
+    on_success _ _ c.follow-came.result
+    (asked_in_lanes g.C.Starts.did g.C.Caller.course g.C.Caller.course_more true c.args.args c.args.host.now.caller.now c.ask-answers.new.caller c.follow-came.new.host.caller.now c.ask-answers.ensures.course)
+    c.follow-came.ensures.lanes
+
+pub returns-clause-in_lanes : goal.returns-clause-in_lanes
+returns-clause-in_lanes g c =
+    asked_in_lanes g.C.Starts.did g.C.Caller.course g.C.Caller.course_more false c.args.args c.args.host.now.caller.now c.ask-answers.new.caller c.follow-came.new.host.caller.now c.ask-answers.ensures.course c.follow-came.ensures.in_lanes

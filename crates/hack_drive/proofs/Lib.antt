@@ -1,0 +1,2 @@
+mod HeadlineLemmas
+pub mod NoteLemmas

@@ -1,0 +1,4 @@
+pub mod Answered
+pub mod Headline
+pub mod Shown
+pub mod Warnings

@@ -1,0 +1,91 @@
+-- What a call over files with a journal did, after the journal is removed.
+use Rattle.std.proofs.Common.{◌≡◌, ◌⊎◌, ◌∙◌, ◌+◌, ◌-◌, ◌^◌, min, inl, inr, ap, arith, refl, sym, ℕ, Bool, true, false, List, [], ◌∷◌, ◌++◌}
+use Rattle.std.proofs.lemmas.List.{length-append}
+use Rattle.std.proofs.lemmas.List.Elements.{Contains-append_left}
+use Rattle.std.specs.Prelude.{All}
+use Rattle.hack_base.specs.Counters.{GrowsBy}
+use Rattle.hack_files.specs.Files.{Contents, KeepsAll, KeepsAllBut}
+use Rattle.hack_files.specs.declared.fs.Files.{Ghosts as Filing}
+use Rattle.hack_journal.specs.LockfilesApart.{KeepsLockfiles, apart, is_lockfile}
+use Rattle.hack_journal.specs.Journal.{Edit}
+use Rattle.hack_journal.specs.SafeFiles.{AreBack, KeepFirst, without}
+use Rattle.hack_journal.specs.Refusing.{AreJust, GrowsWithin, HoldsByKind, IsRefused, IsRefusedOrUnkept}
+use Rattle.hack_journal.specs.RefusingLaws.{grows_more}
+use Rattle.hack_journal.specs.Rows.{KeepsBeside, is_of_journal}
+use Rattle.hack_journal.specs.declared.unkept.Unkept.{Ghosts as Noting}
+use Rattle.hack_journal.proofs.RowLemmas.{apart_from}
+use Rattle.hack_journal.proofs.SafeLemmas.{without_at, without_same}
+use Rattle.hack_load.specs.FilesAfterLoading.{LeavesFew}
+use Rattle.hack_journaled.specs.Journals.{IsAccounted, contents_seen}
+
+-- where the journal alone was changed the call sees the same, by the journal's first path too
+pub seen_same : (first j : List ℕ) (k : ℕ) (m n last lockfiles : Contents) → first ≡ j → KeepsBeside j k m n → last ≡ n → apart (without j m) lockfiles ≡ contents_seen first last lockfiles
+seen_same first j k m n last lockfiles named same is =
+    ap (λ c. apart c lockfiles) (sym (without_same j m n (λ q out. same q (λ i lt. apart_from j i q out)))) ∙ ap (λ c. apart (without j c) lockfiles) (sym is) ∙ ap (λ k. apart (without k last) lockfiles) (sym named)
+
+-- what is left of files where the removal of the journal may fail
+pub leaves_end : (a b c : Contents) (n m : ℕ) → b ≡ c → ((m ≡ n) ⊎ (m ≡ min (n + 1) (2 ^ 64 - 1))) → LeavesFew (Unit {0}) a b 0 n → LeavesFew (Unit {0}) a c 0 m
+leaves_end a b c n m same (inl none) left = record {
+  spoilt = left.spoilt;
+  failed = λ low. none ∙ left.failed low;
+  others = λ u q fine. ap (λ (x : Contents). x q) (sym same) ∙ left.others u q fine;
+}
+leaves_end a b c n m same (inr one) left = let long = length-append left.spoilt ([] ∷ []) in record {
+  spoilt = left.spoilt ++ [] ∷ [];
+  failed = λ low. omega (arith, long, one, left.failed low);
+  others = λ u q fine. ap (λ (x : Contents). x q) (sym same) ∙ left.others u q (λ bad. fine (Contains-append_left left.spoilt ([] ∷ []) q bad));
+}
+
+-- where no call failed, each path holds what it held
+pub leaves_nothing : (a b : Contents) (n : ℕ) → n ≡ 0 → LeavesFew (Unit {0}) a b 0 n → KeepsAll a b
+leaves_nothing a b n none left = λ q. left.others tt q (λ bad. absurd (omega (arith, none, left.failed (omega arith), bad.1)))
+
+-- a count that ends at 0 was 0
+pub none_before : (n m : ℕ) → m ≡ 0 → ((m ≡ n) ⊎ (m ≡ min (n + 1) (2 ^ 64 - 1))) → n ≡ 0
+none_before n m none (inl same) = omega (arith, none, same)
+none_before n m none (inr one) = absurd (omega (arith, none, one))
+
+-- a path that isn't set aside for the journal, where the call sees the same, and lockfiles are those of others
+same_path : (j : List ℕ) (first mid before now : Contents) → KeepsAll (apart (without j first) before) (apart (without j mid) now) → KeepsLockfiles (without j first) (without j mid) → (p : List ℕ) → is_of_journal j p ≡ false → mid p ≡ first p
+same_path j first mid before now all locks p ne = sym (without_at j mid p ne) ∙ go (is_lockfile p) refl ∙ without_at j first p ne
+  where
+    go : (b : Bool) → is_lockfile p ≡ b → without j mid p ≡ without j first p
+    go true is = locks p is
+    go false is = rw is at (all p)
+
+-- then each entry's path holds what it held at first
+pub entries_back : (j : List ℕ) (first mid before now : Contents) (es more : List Edit) → KeepFirst j first (es ++ more) → KeepsAll (apart (without j first) before) (apart (without j mid) now) → KeepsLockfiles (without j first) (without j mid) → AreBack es mid
+entries_back j first mid before now [] more keeps all locks = tt
+entries_back j first mid before now (e ∷ es) more keeps all locks = (same_path j first mid before now all locks e.path keeps.1 ∙ keeps.0, entries_back j first mid before now es more keeps.3 all locks)
+
+-- a count of calls over two counts, and that over two others, with one that failed at the end
+pub accounted : (f g h l m u v one two last : ℕ) → GrowsWithin f g u v 0 one → GrowsWithin 0 one l m 0 two → (k : ℕ) × GrowsBy k g h × GrowsBy k two last → IsAccounted f h l m u v last
+accounted f g h l m u v one two last below both end = record {
+  of_files = below.first + end.0;
+  of_lockfiles = both.second;
+  of_unkept = below.second;
+  files = grows_more below.first end.0 f g h below.one end.1;
+  lockfiles = both.two;
+  unkept = below.two;
+  most =
+      let first = below.sum (omega arith) in
+      let again = both.one (omega arith) in
+      let second = both.sum (omega arith) in
+      let third = end.2 (omega (arith, second)) in
+      omega (arith, first, again, second, third, below.most, both.most);
+}
+
+-- what was refused over a journal was refused below it, or couldn't be kept
+pub refused_once : {A F U L : Type 0} (a : Filing A) (f : Filing F) (u : Noting U) (l : Filing L) (path : List ℕ) → ((x y : A) (ps : List (List ℕ)) → a.refuses x y ps → All (IsRefusedOrUnkept f u) ps) → HoldsByKind (IsRefused a) (IsRefused l) path → HoldsByKind (IsRefusedOrUnkept f u) (IsRefused l) path
+refused_once a f u l path each r = record { files = λ other. let one = r.files other in each one.before one.after (path ∷ []) one.refused 0 path (omega arith); lockfiles = r.lockfiles }
+
+-- what is spoilt where the removal of the journal may fail
+pub spoilt_end : (P Q : List ℕ → Type 0) (tells : Type 0) (a b c : Contents) (n m : ℕ) → ((p : List ℕ) → P p → Q p) → (tells → b ≡ c) → ((m ≡ n) ⊎ (m ≡ min (n + 1) (2 ^ 64 - 1))) → KeepsAllBut (λ ps. AreJust P ps 0 n) tells a b → KeepsAllBut (λ ps. AreJust Q ps 0 m) tells a c
+spoilt_end P Q tells a b c n m turn same more h = record {
+  spoilt = h.spoilt;
+  refused = record {
+    each = λ k d lt. turn _ (h.refused.each k d lt);
+    failed = λ low. let was = h.refused.failed low in elim more [ inl is ↦ (omega (arith, was.0, is), omega (arith, was.1, is)) | inr one ↦ (omega (arith, was.0, was.1, one), omega (arith, was.1, one)) ];
+  };
+  others = λ t q fine. ap (λ (x : Contents). x q) (sym (same t)) ∙ h.others t q fine;
+}

@@ -1,0 +1,127 @@
+use Rattle.std.proofs.Common.{◌≡◌, ◌∙◌, ◌+◌, ap, length, [], true, false, arith, inl, inr, refl, string_bytes, subst, sym}
+use Rattle.hack_base.specs.Names.{names_of}
+use Rattle.hack_files.specs.Files.{Contents, KeepsAll}
+use Rattle.hack_journal.specs.FileCalls.{spot_in}
+use Rattle.hack_journal.specs.LockfilesApart.{apart}
+use Rattle.hack_journal.specs.Rows.{Spot}
+use Rattle.hack_journal.specs.SafeFiles.{without}
+use Rattle.hack_journal.specs.SafeLaws.{stays_join}
+use Rattle.hack_journaled.specs.Journals.{contents_seen, files_seen, world_seen}
+use Rattle.hack_files.specs.View.{FilesView}
+use Rattle.hack_run.specs.Worlds.{host_view}
+use Rattle.hack_journaled.proofs.JournalLemmas.{accounted, entries_back, leaves_end, leaves_nothing, none_before, refused_once, seen_same, spoilt_end}
+use Rattle.hack_run.proofs.TraceLemmas.{call_moved, keeps_same, unended}
+use Rattle.hack_journaled.proofs.journaled.run_journaled.Goals as goal
+
+pub returns-clause-done : goal.returns-clause-done
+returns-clause-done g c = λ quiet t.
+    let named : c.new.result.notes.journal ≡ string_bytes c.args.place.journal = ap (λ (s : Spot). s.journal) c.new.ensures.place in
+    let mid = c.run-status.new.files in
+    let bytes = g.F.Files.bytes_at in
+    let ran = rw c.new-files.ensures.files at c.run-status.ensures.stays in
+    let same : string_bytes c.args.place.journal ≡ mid.files.notes.journal = sym named ∙ ap (λ (s : Spot). s.journal) ran.0.0 in
+    let did = rw (c.new-files.ensures.files, c.new-files.ensures.lockfiles, c.new-files.ensures.failures, named, c.new.ensures.files) at (c.run-status.ensures.done quiet t) in
+    let seen : FilesView = record { held = apart (without mid.files.notes.journal (bytes mid.files.files)) (g.L.Files.bytes_at mid.lockfiles); trace = []; failed = mid.failures } in
+    let last = files_seen (string_bytes c.args.place.journal) (bytes c.into_inner-below.result.0) (g.L.Files.bytes_at mid.lockfiles) c.end_journal-failed.result in
+    call_moved true (g.F.Files.tells × g.L.Files.tells) (names_of c.args.words.now) c.args.host.now.env.now (world_seen (string_bytes c.args.place.journal) (bytes c.args.files) (g.L.Files.bytes_at c.args.lockfiles) 0 (host_view g.C.Caller g.O.Write c.args.host.now))
+    (record { files = seen; host = host_view g.C.Caller g.O.Write c.run-status.new.host }) last c.run-status.new.host.term.now
+    (λ d told. keeps_same seen.held last.held (seen_same (string_bytes c.args.place.journal) mid.files.notes.journal (length mid.files.notes.entries + 1) (bytes mid.files.files) (bytes c.end_journal-failed.new.files.files) (bytes c.into_inner-below.result.0) (g.L.Files.bytes_at mid.lockfiles) same (c.end_journal-failed.ensures.others told.0) (rw c.into_inner-below.ensures.files refl)))
+    (λ d. refl) did
+
+pub returns-clause-made : goal.returns-clause-made
+returns-clause-made g c = λ t.
+    let named : c.new.result.notes.journal ≡ string_bytes c.args.place.journal = ap (λ (s : Spot). s.journal) c.new.ensures.place in
+    let mid = c.run-status.new.files in
+    let bytes = g.F.Files.bytes_at in
+    let did = rw (c.new-files.ensures.files, c.new-files.ensures.lockfiles, c.new-files.ensures.failures, named, c.new.ensures.files) at (c.run-status.ensures.made t) in
+    let seen : FilesView = record { held = apart (without mid.files.notes.journal (bytes mid.files.files)) (g.L.Files.bytes_at mid.lockfiles); trace = []; failed = mid.failures } in
+    call_moved false (g.F.Files.tells × g.L.Files.tells) (names_of c.args.words.now) c.args.host.now.env.now (world_seen (string_bytes c.args.place.journal) (bytes c.args.files) (g.L.Files.bytes_at c.args.lockfiles) 0 (host_view g.C.Caller g.O.Write c.args.host.now))
+    (record { files = seen; host = host_view g.C.Caller g.O.Write c.run-status.new.host }) (files_seen (string_bytes c.args.place.journal) (bytes c.into_inner-below.result.0) (g.L.Files.bytes_at mid.lockfiles) c.end_journal-failed.result)
+    c.run-status.new.host.term.now (λ e. unended e) (λ e. unended e) did
+
+pub returns-clause-clean : goal.returns-clause-clean
+returns-clause-clean g c = λ quiet back files lockfiles.
+    let named : c.new.result.notes.journal ≡ string_bytes c.args.place.journal = ap (λ (s : Spot). s.journal) c.new.ensures.place in
+    let mid = c.run-status.new.files in
+    let bytes = g.F.Files.bytes_at in
+    let ran = rw c.new-files.ensures.files at c.run-status.ensures.stays in
+    let same : string_bytes c.args.place.journal ≡ mid.files.notes.journal = sym named ∙ ap (λ (s : Spot). s.journal) ran.0.0 in
+    let kept = rw (c.new-files.ensures.files, c.new-files.ensures.lockfiles, named, c.new.ensures.files) at ((c.run-status.ensures.clean quiet).1 back (files, lockfiles)) in
+    subst (λ (last : Contents). KeepsAll (contents_seen (string_bytes c.args.place.journal) (bytes c.args.files) (g.L.Files.bytes_at c.args.lockfiles)) last)
+    (seen_same (string_bytes c.args.place.journal) mid.files.notes.journal (length mid.files.notes.entries + 1) (bytes mid.files.files) (bytes c.end_journal-failed.new.files.files) (bytes c.into_inner-below.result.0) (g.L.Files.bytes_at mid.lockfiles) same (c.end_journal-failed.ensures.others files) (rw c.into_inner-below.ensures.files refl)) kept
+
+-- src/journaled.rt:19:1
+pub returns-clause-safe : goal.returns-clause-safe
+returns-clause-safe g c = λ tells whole absent.
+    let first = c.new.result in
+    let mid = c.run-status.new.files.files in
+    let last = c.end_journal-failed.new.files in
+    let trace = g.F.Files.trace in
+    let bytes = g.F.Files.bytes_at in
+    let ran = rw c.new-files.ensures.files at c.run-status.ensures.stays in
+    let both = stays_join (spot_in first) (spot_in mid) first.notes.entries mid.notes.entries last.notes.entries
+    (trace first.files) (trace mid.files) (trace last.files) (bytes first.files) (bytes mid.files) (bytes last.files)
+    ran.0.0 (ran.0.1 tells whole) (c.end_journal-failed.ensures.stays tells whole) (bytes c.args.files) (c.new.ensures.begun absent) in
+    let placed = rw c.new.ensures.place at both.0 in
+    let from = rw c.new.ensures.files at placed in
+    rw c.into_inner-below.ensures.files from
+
+pub returns-clause-back : goal.returns-clause-back
+returns-clause-back g c = λ back files lockfiles.
+    let named : c.new.result.notes.journal ≡ string_bytes c.args.place.journal = ap (λ (s : Spot). s.journal) c.new.ensures.place in
+    let mid = c.run-status.new.files in
+    let bytes = g.F.Files.bytes_at in
+    let ran = rw c.new-files.ensures.files at c.run-status.ensures.stays in
+    let same : string_bytes c.args.place.journal ≡ mid.files.notes.journal = sym named ∙ ap (λ (s : Spot). s.journal) ran.0.0 in
+    let left = rw (c.new-files.ensures.files, c.new-files.ensures.lockfiles, c.new-files.ensures.failures, named, c.new.ensures.files, sym c.failures-known.ensures) at (c.run-status.ensures.back back (files, lockfiles)) in
+    leaves_end (contents_seen (string_bytes c.args.place.journal) (bytes c.args.files) (g.L.Files.bytes_at c.args.lockfiles)) _ _ c.failures-known.result c.end_journal-failed.result
+    (seen_same (string_bytes c.args.place.journal) mid.files.notes.journal (length mid.files.notes.entries + 1) (bytes mid.files.files) (bytes c.end_journal-failed.new.files.files) (bytes c.into_inner-below.result.0) (g.L.Files.bytes_at mid.lockfiles) same (c.end_journal-failed.ensures.others files) (rw c.into_inner-below.ensures.files refl))
+    c.end_journal-failed.ensures.failed left
+
+pub returns-clause-few : goal.returns-clause-few
+returns-clause-few g c = λ quiet.
+    let none = (c.run-status.ensures.clean quiet).0 in
+    elim c.end_journal-failed.ensures.failed [
+      | inl same ↦ omega (arith, same, c.failures-known.ensures, c.new-files.ensures.failures, none (omega (arith, c.new-files.ensures.failures)))
+      | inr one ↦ omega (arith, one, c.failures-known.ensures, c.new-files.ensures.failures, none (omega (arith, c.new-files.ensures.failures)))
+    ]
+
+pub returns-clause-gone : goal.returns-clause-gone
+returns-clause-gone g c = λ back tells whole lockfiles none absent.
+    let first = c.new.result in
+    let begun : c.new.result.notes.journal ≡ string_bytes c.args.place.journal = ap (λ (s : Spot). s.journal) c.new.ensures.place in
+    let mid = c.run-status.new.files in
+    let bytes = g.F.Files.bytes_at in
+    let j = string_bytes c.args.place.journal in
+    let ran = rw c.new-files.ensures.files at c.run-status.ensures.stays in
+    let kept = (ran.0.1 tells whole (bytes c.args.files) (c.new.ensures.begun absent)).1 in
+    let left = rw (c.new-files.ensures.files, c.new-files.ensures.lockfiles, c.new-files.ensures.failures, begun, c.new.ensures.files, sym c.failures-known.ensures) at (c.run-status.ensures.back back (tells, lockfiles)) in
+    let named : mid.files.notes.journal ≡ j = sym (ap (λ (s : Spot). s.journal) ran.0.0) ∙ begun in
+    let all = leaves_nothing _ _ c.failures-known.result (none_before c.failures-known.result c.end_journal-failed.result none c.end_journal-failed.ensures.failed) left in
+    let is_back = entries_back j (bytes c.args.files) (bytes mid.files.files) (g.L.Files.bytes_at c.args.lockfiles) (g.L.Files.bytes_at mid.lockfiles) mid.files.notes.entries kept.more
+    (rw begun at kept.keeps) (rw named at all) (rw (c.new.ensures.files, begun, named) at (ran.2 tells)) in
+    rw (c.into_inner-below.ensures.files, sym named) (c.end_journal-failed.ensures.gone none tells is_back)
+
+pub returns-clause-stays : goal.returns-clause-stays
+returns-clause-stays g c =
+    let ran = rw (c.new-files.ensures.files, c.new-files.ensures.lockfiles, c.new.ensures.files) at c.run-status.ensures.stays in
+    (rw c.into_inner-below.ensures.files (g.F.Files.stays_more _ _ _ ran.0.2 c.end_journal-failed.ensures.handed), ran.1)
+
+pub returns-clause-spoilt : goal.returns-clause-spoilt
+returns-clause-spoilt g c = λ back.
+    let named : c.new.result.notes.journal ≡ string_bytes c.args.place.journal = ap (λ (s : Spot). s.journal) c.new.ensures.place in
+    let mid = c.run-status.new.files in
+    let bytes = g.F.Files.bytes_at in
+    let ran = rw c.new-files.ensures.files at c.run-status.ensures.stays in
+    let same : string_bytes c.args.place.journal ≡ mid.files.notes.journal = sym named ∙ ap (λ (s : Spot). s.journal) ran.0.0 in
+    let kept = rw (c.new-files.ensures.files, c.new-files.ensures.lockfiles, c.new-files.ensures.failures, named, c.new.ensures.files, sym c.failures-known.ensures) at (c.run-status.ensures.spoilt back) in
+    spoilt_end _ _ _ (contents_seen (string_bytes c.args.place.journal) (bytes c.args.files) (g.L.Files.bytes_at c.args.lockfiles)) _ _ c.failures-known.result c.end_journal-failed.result
+    (λ p. refused_once _ g.F.Files g.U.Unkept g.L.Files p (λ x y ps r. r.each))
+    (λ tells. seen_same (string_bytes c.args.place.journal) mid.files.notes.journal (length mid.files.notes.entries + 1) (bytes mid.files.files) (bytes c.end_journal-failed.new.files.files) (bytes c.into_inner-below.result.0) (g.L.Files.bytes_at mid.lockfiles) same (c.end_journal-failed.ensures.others tells.0) (rw c.into_inner-below.ensures.files refl))
+    c.end_journal-failed.ensures.failed kept
+
+pub returns-clause-number : goal.returns-clause-number
+returns-clause-number g c =
+    let ran = rw (c.new-files.ensures.files, c.new-files.ensures.lockfiles, c.new-files.ensures.failures, c.new.ensures.files, c.new.ensures.unkept, c.new.ensures.failures) at c.run-status.ensures.stays in
+    rw (c.into_inner-below.ensures.files, c.into_inner-below.ensures.unkept, c.end_journal-failed.ensures.unkept)
+    (accounted _ _ _ _ _ _ _ _ _ _ ran.0.3 ran.3 (rw c.failures-known.ensures at c.end_journal-failed.ensures.counted))

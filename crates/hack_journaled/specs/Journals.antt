@@ -1,0 +1,31 @@
+-- What a call over files with a journal sees.
+use Rattle.std.specs.Prelude.{[], ◌+◌, ◌≤◌, ℕ, List}
+use Rattle.hack_base.specs.Counters.{GrowsBy}
+use Rattle.hack_files.specs.Files.{Contents}
+use Rattle.hack_journal.specs.LockfilesApart.{apart}
+use Rattle.hack_journal.specs.SafeFiles.{without}
+use Rattle.hack_files.specs.View.{FilesView}
+use Rattle.hack_run.specs.Worlds.{HostView, World}
+
+-- what the paths hold: lockfiles what `lockfiles` holds, all others what `files` holds, and those
+-- that are set aside for the journal nothing
+abbrev pub contents_seen : List ℕ → Contents → Contents → Contents
+contents_seen journal files lockfiles = apart (without journal files) lockfiles
+
+-- these as files, of which so many calls failed; the order of changes across the two isn't known
+abbrev pub files_seen : List ℕ → Contents → Contents → ℕ → FilesView
+files_seen journal files lockfiles failed = record { held = contents_seen journal files lockfiles; trace = []; failed = failed }
+
+-- the same with a host
+abbrev pub world_seen : List ℕ → Contents → Contents → ℕ → HostView → World
+world_seen journal files lockfiles failed host = record { files = files_seen journal files lockfiles failed; host = host }
+
+-- a number of failures is no greater than by how much three counts grew together
+pub record IsAccounted (files_old files_new lockfiles_old lockfiles_new unkept_old unkept_new number : ℕ) : Type 0 where
+  pub of_files : ℕ
+  pub of_lockfiles : ℕ
+  pub of_unkept : ℕ
+  pub files : GrowsBy of_files files_old files_new
+  pub lockfiles : GrowsBy of_lockfiles lockfiles_old lockfiles_new
+  pub unkept : GrowsBy of_unkept unkept_old unkept_new
+  pub most : number ≤ of_files + of_lockfiles + of_unkept

@@ -1,0 +1,149 @@
+//! A whole call over files with a journal: wherever it ends, nothing is lost.
+
+ghost use Rattle.std.specs.Prelude.{◌≡◌, ◌⊎◌, ◌≤◌, ◌+◌, ◌-◌, ◌^◌, ℕ, None, false, min};
+ghost use Rattle.std.specs.Prelude.{IfSome, length, string_bytes, true};
+ghost use Rattle.hack_base.specs.Names.{names_of};
+ghost use Rattle.hack_base.specs.Counters.{GrowsBy};
+ghost use Rattle.hack_files.specs.Files.{KeepsAll, KeepsAllBut};
+ghost use Rattle.hack_journal.specs.FileCalls.{spot_in};
+ghost use Rattle.hack_journal.specs.LockfilesApart.{KeepsOtherFiles};
+ghost use Rattle.hack_journal.specs.Refusing.{AreJust, HoldsByKind, IsRefused};
+ghost use Rattle.hack_journal.specs.Refusing.{IsRefusedOrUnkept};
+ghost use Rattle.hack_journal.specs.Rows.{KeepsBeside, spot_of};
+ghost use Rattle.hack_journal.specs.SafeFiles.{AreBack, Stays, StaysSafe};
+ghost use Rattle.hack_journaled.specs.Journals.{IsAccounted};
+ghost use Rattle.hack_journaled.specs.Journals.{contents_seen, files_seen, world_seen};
+ghost use Rattle.hack_run.specs.CallTrace.{IsCallTrace};
+ghost use Rattle.hack_run.specs.Readings.{IsEarlyReadingOrRefusal};
+ghost use Rattle.hack_run.specs.TemporaryEdits.{BringsBack, RestoresEdits};
+ghost use Rattle.hack_run.specs.Refusals.{AreRefused, ReportsRefusal};
+ghost use Rattle.hack_run.specs.Worlds.{IsSameHost, IsStatus, host_view};
+
+use hack_files::fs::Files;
+use hack_journal::apart::Apart;
+use hack_journal::journaled::Journaled;
+use hack_journal::place::Place;
+use hack_journal::unkept::Unkept;
+use hack_run::host::Host;
+use hack_run::reading::Reading;
+use hack_run::run::run;
+use hack_starts::starts::Starts;
+use std::io::Write;
+
+/// Performs a call as [`run`] does, and returns its exit status, the files, the lockfiles, how many
+/// of their calls failed, and `unkept`. Each change of the files is first noted in a journal at this
+/// place, where no file may be yet; at the end the journal is removed, unless some file isn't
+/// restored. A change that can't be noted is refused, and `unkept` is told of it: so it is where
+/// memory is refused for that. Lockfiles, which cargo changes too, are those of `lockfiles`.
+pub fn run_journaled<F: Files, L: Files, U: Unkept, C: Starts, O: Write, E: Write>(
+    words: &[String],
+    reading: Option<Reading>,
+    files: F,
+    lockfiles: L,
+    place: Place,
+    unkept: U,
+    host: &mut Host<'_, C, O, E>,
+) -> (u8, F, L, u64, U)
+    requires { IfSome reading (IsEarlyReadingOrRefusal host.old.env.now (names_of words.now)) }
+    ensures host { IsSameHost host.old host.new }
+    ensures status { IsStatus host.old.env.now.deny_warnings
+        (host_view C.Caller O.Write host.new) result.0 }
+
+    // The clauses `refused`, `done` and `made` promise what those of `run` do; and where no error
+    // was reported each path holds what it held, unless the command line asks for edits that stay.
+    ensures refused { AreRefused host.old.env.now (names_of words.now)
+        → ReportsRefusal C.tells host.old.env.now
+        (host_view C.Caller O.Write host.old) (host_view C.Caller O.Write host.new) }
+    ensures done { host.new.term.now.error ≡ false → C.tells
+        → IsCallTrace true (F.tells × L.tells) (names_of words.now) host.old.env.now
+        (world_seen (string_bytes place.journal) (F.bytes_at files) (L.bytes_at lockfiles) 0
+        (host_view C.Caller O.Write host.old))
+        (world_seen (string_bytes place.journal) (F.bytes_at result.1) (L.bytes_at result.2)
+        result.3 (host_view C.Caller O.Write host.new)) }
+    ensures made { C.tells
+        → IsCallTrace false (F.tells × L.tells) (names_of words.now) host.old.env.now
+        (world_seen (string_bytes place.journal) (F.bytes_at files) (L.bytes_at lockfiles) 0
+        (host_view C.Caller O.Write host.old))
+        (world_seen (string_bytes place.journal) (F.bytes_at result.1) (L.bytes_at result.2)
+        result.3 (host_view C.Caller O.Write host.new)) }
+    ensures clean { host.new.term.now.error ≡ false
+        → RestoresEdits host.old.env.now (names_of words.now) → F.tells → L.tells → KeepsAll
+        (contents_seen (string_bytes place.journal) (F.bytes_at files) (L.bytes_at lockfiles))
+        (contents_seen (string_bytes place.journal) (F.bytes_at result.1) (L.bytes_at result.2)) }
+
+    // The files are restored, lockfiles too: unless the command line asks for edits that stay, each
+    // path holds what it held, except for at most as many paths as calls of the files failed. Where
+    // no error was reported, at most one call failed: the removal of the journal.
+    ensures back { RestoresEdits host.old.env.now (names_of words.now) → F.tells → L.tells
+        → BringsBack
+        (files_seen (string_bytes place.journal) (F.bytes_at files) (L.bytes_at lockfiles) 0)
+        (files_seen (string_bytes place.journal) (F.bytes_at result.1) (L.bytes_at result.2)
+        result.3) }
+    ensures few { host.new.term.now.error ≡ false → result.3 ≤ 1 }
+
+    // And these are paths whose writes were refused: a lockfile's by `lockfiles`, any other's by
+    // `files`, or it couldn't be kept. A failed read leaves no path changed.
+    ensures spoilt { RestoresEdits host.old.env.now (names_of words.now) → KeepsAllBut
+        (λ paths. AreJust (HoldsByKind (IsRefusedOrUnkept F.Files U.Unkept) (IsRefused L.Files))
+        paths 0 result.3)
+        (F.tells × L.tells)
+        (contents_seen (string_bytes place.journal) (F.bytes_at files) (L.bytes_at lockfiles))
+        (contents_seen (string_bytes place.journal) (F.bytes_at result.1) (L.bytes_at result.2)) }
+
+    // The number of failed calls is no greater than what `files`, `lockfiles` and `unkept` count.
+    ensures number { IsAccounted (F.failed files) (F.failed result.1)
+        (L.failed lockfiles) (L.failed result.2)
+        (U.told unkept) (U.told result.4) result.3 }
+
+    // The journal is removed: where none existed before, edits don't stay and no call failed, none
+    // exists at the end.
+    ensures gone { RestoresEdits host.old.env.now (names_of words.now)
+        → F.tells → F.whole → L.tells → result.3 ≡ 0
+        → F.bytes_at files (string_bytes place.journal) ≡ None
+        → F.bytes_at result.1 (string_bytes place.journal) ≡ None }
+
+    // What each single call of the files and of the lockfiles keeps is kept by all of them. Through
+    // `lockfiles` no other file is changed.
+    ensures stays { F.stays files result.1 × L.stays lockfiles result.2 }
+    ensures others { L.tells
+        → KeepsOtherFiles (L.bytes_at lockfiles) (L.bytes_at result.2) }
+
+    // After each front of its changes each path holds what it held at first, or the journal has it:
+    // wherever the call is interrupted, `recover` restores everything.
+    ensures safe { F.tells → F.whole → F.bytes_at files (string_bytes place.journal) ≡ None
+        → StaysSafe (spot_of place) (F.bytes_at files)
+        (F.trace files) (F.trace result.1) (F.bytes_at files) (F.bytes_at result.1) }
+{
+    let mut files = Apart::new(Journaled::new(host.alloc, files, place, unkept), lockfiles);
+    let status = run(words, reading, &mut files, host);
+    let known = files.failures();
+    let failed = end_journal(&mut files.files, known);
+    let (below, unkept) = files.files.into_inner();
+    (status, below, files.lockfiles, failed, unkept)
+}
+
+/// Removes the journal where all files are restored, and returns the number of failed calls, with
+/// an error of that counted. What the journal still has to keep is left to the next call.
+fn end_journal<F: Files, U: Unkept>(files: &mut Journaled<F, U>, failed: u64) -> u64
+    ensures handed { F.stays files.old.files files.new.files }
+    ensures place { spot_in files.new ≡ spot_in files.old }
+    ensures failed { (result ≡ failed) ⊎ (result ≡ min (failed + 1) (2 ^ 64 - 1)) }
+    ensures counted { (k : ℕ) × GrowsBy k (F.failed files.old.files) (F.failed files.new.files)
+        × GrowsBy k failed result }
+    ensures unkept { files.new.unkept ≡ files.old.unkept }
+    ensures others { F.tells → KeepsBeside files.old.notes.journal
+        (length files.old.notes.entries + 1)
+        (F.bytes_at files.old.files) (F.bytes_at files.new.files) }
+    ensures stays { F.tells → F.whole → Stays (spot_in files.old)
+        files.old.notes.entries files.new.notes.entries
+        (F.trace files.old.files) (F.trace files.new.files)
+        (F.bytes_at files.old.files) (F.bytes_at files.new.files) }
+    ensures gone { result ≡ 0 → F.tells
+        → AreBack files.old.notes.entries (F.bytes_at files.old.files)
+        → F.bytes_at files.new.files files.old.notes.journal ≡ None }
+{
+    match files.finish() {
+        Ok(_) => failed,
+        Err(_) => failed.saturating_add(1),
+    }
+}

@@ -1,0 +1,4 @@
+pub mod CountLemmas
+pub mod LookLemmas
+pub mod FolderLemmas
+mod RepositoryLemmas

@@ -1,0 +1,76 @@
+use Rattle.std.proofs.Common.{◌≡◌, ◌∙◌, ◌-◌, ◌+◌, suc, [], length, Some, None, ap, arith, refl, string_bytes, sym}
+use Rattle.std.specs.Option.{option_map}
+use Rattle.hack_journal.specs.SafeLaws.{makes_append, makes_none}
+use Rattle.hack_places.specs.Folders.{At, Here, Nothing, workspace_from}
+use Rattle.hack_places.proofs.CountLemmas.{grows_then}
+use Rattle.hack_places.proofs.FolderLemmas.{after_absent, after_unsaid, or_now, rest_here, rest_none, rest_of, rest_there, step_is, unwrap_now}
+use Rattle.hack_places.proofs.workspace.nearest.Goals as goal
+use Rattle.hack_places.proofs.workspace.nearest.Goals.{in-Unsaid, in-Absent}
+
+pub loop-step-init : goal.loop-step-init
+loop-step-init g c =
+    let held = g.F.Files.bytes_at c.args.files.now in
+    let start = c.args.start.now in
+    let none : length start - 0 ≡ length start = omega arith in
+    record {
+      utf8 = c.utf8.start;
+      found = λ t. sym (ap (λ k. rest_of held start None k start) none);
+      counted = λ low. omega (arith, low);
+      same = λ t q. refl;
+      untraced = λ w. makes_none _ _;
+    }
+
+pub loop-step-preserved : goal.loop-step-preserved
+loop-step-preserved g c =
+    let held = g.F.Files.bytes_at c.args.files.now in
+    let start = c.args.start.now in
+    let near = option_map (λ k. k.now) c.loop-step.nearest in
+    let later = option_map (λ k. k.now) c.match-branch-2.nearest in
+    let n = length start - (c.loop-step._step + 1) in
+    let more : length start - c.loop-step._step ≡ suc n = omega (arith, c.loop-step-test.true) in
+    record {
+      utf8 = c.parent-folder.utf8;
+      found = elim c.match-branch-2.branch [
+        | in-Unsaid w ↦ λ t. step_is (workspace_from held start ≡ rest_of held start later n c.parent-folder.result.now) held (g.F.Files.bytes_at c.loop-step.files) (workspace_from held start) start c.loop-step.folder.now near n _ (Some Nothing)
+            more (c.loop-step.invariant.found t) (c.loop-step.invariant.same t) ((rw w.in-Unsaid.is at c.in_ok-said_at.ensures.found) t)
+            (after_unsaid held (workspace_from held start) start c.loop-step.folder.now c.parent-folder.result.now near later n
+            (ap (option_map (λ k. k.now)) (w.nearest-is ∙ w.or-nearest.ensures) ∙ or_now c.loop-step.nearest c.loop-step.folder) c.parent-folder.ensures)
+        | in-Absent w ↦ λ t. step_is (workspace_from held start ≡ rest_of held start later n c.parent-folder.result.now) held (g.F.Files.bytes_at c.loop-step.files) (workspace_from held start) start c.loop-step.folder.now near n _ None
+            more (c.loop-step.invariant.found t) (c.loop-step.invariant.same t) ((rw w.in-Absent.is at c.in_ok-said_at.ensures.found) t)
+            (after_absent held (workspace_from held start) start c.loop-step.folder.now c.parent-folder.result.now near later n (ap (option_map (λ k. k.now)) w.nearest-is) c.parent-folder.ensures)
+      ];
+      counted = grows_then 0 _ _ _ c.loop-step.invariant.counted c.in_ok-said_at.ensures.counted;
+      same = λ t q. c.in_ok-said_at.ensures.same t q ∙ c.loop-step.invariant.same t q;
+      untraced = λ w. makes_append [] [] _ _ _ _ _ _ (c.loop-step.invariant.untraced w) (c.in_ok-said_at.ensures.untraced w);
+    }
+
+pub returns-in-Here-clause-found : goal.returns-in-Here-clause-found
+returns-in-Here-clause-found g c = λ t.
+    let held = g.F.Files.bytes_at c.args.files.now in
+    let start = c.args.start.now in
+    let near = option_map (λ k. k.now) c.loop-step.nearest in
+    let n = length start - (c.loop-step._step + 1) in
+    let more : length start - c.loop-step._step ≡ suc n = omega (arith, c.loop-step-test.true) in
+    step_is _ held (g.F.Files.bytes_at c.loop-step.files) (workspace_from held start) start c.loop-step.folder.now near n _ (Some Here)
+    more (c.loop-step.invariant.found t) (c.loop-step.invariant.same t) ((rw c.in-Here.is at c.in_ok-said_at.ensures.found) t)
+    (λ said w. c.in_ok-from_str-in-Here.ensures.ok ∙ sym (w ∙ rest_here held start near n c.loop-step.folder.now said))
+
+pub returns-in-At-clause-found : goal.returns-in-At-clause-found
+returns-in-At-clause-found g c = λ t.
+    let held = g.F.Files.bytes_at c.args.files.now in
+    let start = c.args.start.now in
+    let near = option_map (λ k. k.now) c.loop-step.nearest in
+    let n = length start - (c.loop-step._step + 1) in
+    let more : length start - c.loop-step._step ≡ suc n = omega (arith, c.loop-step-test.true) in
+    step_is _ held (g.F.Files.bytes_at c.loop-step.files) (workspace_from held start) start c.loop-step.folder.now near n _ (Some (At (string_bytes c.in-At.path)))
+    more (c.loop-step.invariant.found t) (c.loop-step.invariant.same t) ((rw c.in-At.is at c.in_ok-said_at.ensures.found) t)
+    (λ said w. (rw c.as_str.ensures.value at c.in_ok-within-in-At.ensures) ∙ sym (w ∙ rest_there held start near n c.loop-step.folder.now (string_bytes c.in-At.path) said))
+
+pub returns-clause-found : goal.returns-clause-found
+returns-clause-found g c = λ t.
+    let held = g.F.Files.bytes_at c.args.files.now in
+    let start = c.args.start.now in
+    let near = option_map (λ k. k.now) c.loop-step.nearest in
+    let none : length start - c.loop-step._step ≡ 0 = omega (arith, c.loop-step-test.false) in
+    c.in_ok-from_str.ensures.ok ∙ ap (λ k. k.now) c.unwrap_or.ensures ∙ unwrap_now c.loop-step.nearest c.args.start
+    ∙ sym (c.loop-step.invariant.found t ∙ ap (λ k. rest_of held start near k c.loop-step.folder.now) none ∙ rest_none held start near c.loop-step.folder.now)

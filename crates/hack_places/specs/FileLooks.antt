@@ -1,0 +1,22 @@
+-- Files that are only looked at.
+use Rattle.std.specs.Prelude.{◌⊎◌, [], ℕ, Result, Ok, Err}
+use Rattle.hack_files.specs.Files.{KeepsAll, Makes}
+use Rattle.hack_base.specs.Counters.{GrowsBy}
+use Rattle.hack_files.specs.View.{FilesView}
+use Rattle.hack_places.specs.declared.look.LookFault.{LookFault}
+use Rattle.hack_places.specs.declared.look.LookFault.TheVariants.{Memory, Device}
+
+-- nothing was changed
+pub record Unchanged (tells whole : Type 0) (old new : FilesView) : Type 0 where
+  pub same : tells → KeepsAll old.held new.held
+  pub untraced : whole → Makes [] old.trace new.trace old.held new.held
+
+-- the error of a look counts one failure; refused memory none, or one of the files'
+abbrev pub CountsLookFault : ℕ → ℕ → LookFault → Type 0
+CountsLookFault old new Memory = GrowsBy 0 old new ⊎ GrowsBy 1 old new
+CountsLookFault old new (Device path) = GrowsBy 1 old new
+
+-- looks end at the first that fails, which is counted, and no other failed
+abbrev pub AreLooksCounted : {T : Type 0} → ℕ → ℕ → Result T LookFault → Type 0
+AreLooksCounted old new (Ok found) = GrowsBy 0 old new
+AreLooksCounted old new (Err fault) = CountsLookFault old new fault

@@ -1,0 +1,94 @@
+-- Where the workspace of a call is.
+use Rattle.std.specs.Prelude.{ℕ, zero, suc, List, [], ◌∷◌, Option, Some, None, codes, is_some, length, option_map, unwrap_or, if◌then◌else◌}
+use Rattle.std.specs.Option.{option_or}
+use Rattle.std.specs.Str.{is_utf8}
+use Rattle.toml.specs.Data.{Data, string, Members, get_member}
+use Rattle.toml.specs.Parse.{parse_document}
+use Rattle.hack_base.specs.Names.{Name}
+use Rattle.hack_base.specs.PathTexts.{join_of, normal_of, parent_of}
+use Rattle.hack_files.specs.Files.{Contents}
+use Rattle.hack_manifest.specs.Manifest.{table_at}
+
+-- ---- what a manifest says
+
+-- what a manifest says of its workspace: that it is in the same folder, that it is in another, or
+-- nothing
+pub data Saying : Type 0 where
+  Here : Saying
+  At : Name → Saying
+  Nothing : Saying
+
+-- the field `package.workspace` leads to the workspace's folder
+abbrev pub field_says : Option Data → Saying
+field_says None = Nothing
+field_says (Some (string path)) = At path
+field_says (Some _) = Nothing
+
+-- what the table `package` says
+abbrev pub package_says : Option Members → Saying
+package_says None = Nothing
+package_says (Some fields) = field_says (get_member (codes "workspace") fields)
+
+-- a manifest with a table `workspace` is the workspace's own
+abbrev pub tree_says : Members → Saying
+tree_says tree = if is_some (table_at (codes "workspace") tree) then Here else package_says (table_at (codes "package") tree)
+
+-- a text that is no TOML says nothing
+abbrev pub document_says : Option Members → Saying
+document_says None = Nothing
+document_says (Some tree) = tree_says tree
+
+-- what the text of a manifest says
+abbrev pub text_says : List ℕ → Saying
+text_says text = document_says (parse_document text)
+
+-- ---- the folders at or above one
+
+-- bytes that are text
+abbrev pub text_in_bytes : Option (List ℕ) → Option (List ℕ)
+text_in_bytes None = None
+text_in_bytes (Some bytes) = if is_utf8 bytes then Some bytes else None
+
+-- the text of a folder's manifest, if it has one
+abbrev pub manifest_in : Contents → Name → Option (List ℕ)
+manifest_in held folder = text_in_bytes (held (join_of folder (codes "Cargo.toml")))
+
+-- the workspace's folder, where this is said in a folder
+abbrev pub folder_said : Name → Option Saying → Option Name
+folder_said folder None = None
+folder_said folder (Some Here) = Some folder
+folder_said folder (Some (At path)) = Some (normal_of (join_of folder path))
+folder_said folder (Some Nothing) = None
+
+-- the workspace's folder, where the manifest in a folder says it
+abbrev pub said_in : Contents → Name → Option Name
+said_in held folder = folder_said folder (option_map text_says (manifest_in held folder))
+
+-- the folder itself, where it has a manifest
+abbrev pub with_manifest : Contents → Name → Option Name
+with_manifest held folder = option_map (λ text. folder) (manifest_in held folder)
+
+-- a folder, the one around it, and so on: n folders
+abbrev pub above : ℕ → Name → List Name
+above zero folder = []
+above (suc n) folder = folder ∷ above n (parent_of folder)
+
+-- the folders at or above one: each has a shorter path than those in it, so there are no more than
+-- its path has bytes
+abbrev pub folders : Name → List Name
+folders folder = above (length folder) folder
+
+-- the first answer that is one
+abbrev pub first_some : {A B : Type 0} → (A → Option B) → List A → Option B
+first_some f [] = None
+first_some f (x ∷ xs) = option_or (f x) (first_some f xs)
+
+-- the workspace's folder: what the nearest manifest says that says one, at or above the start; else
+-- the nearest folder with a manifest; else the start
+abbrev pub workspace_from : Contents → Name → Name
+workspace_from held start = unwrap_or (first_some (said_in held) (folders start)) (unwrap_or (first_some (with_manifest held) (folders start)) start)
+
+-- the start: the folder of the manifest that is named, or else the current one
+abbrev pub start_at : Option Name → Name → Name
+start_at None dir = dir
+start_at (Some path) dir = parent_of (normal_of (join_of dir path))

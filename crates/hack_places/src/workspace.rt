@@ -1,0 +1,183 @@
+//! The folder of the workspace that a call is about, found as cargo does.
+
+ghost use Rattle.std.specs.Prelude.{◌≡◌, [], IfOk, Some, codes, option_map, string_bytes};
+ghost use Rattle.hack_base.specs.Names.{optional_text};
+ghost use Rattle.hack_base.specs.PathTexts.{join_of, normal_of};
+ghost use Rattle.hack_files.specs.Files.{KeepsAll, Makes};
+ghost use Rattle.toml.specs.Data.{get_member};
+ghost use Rattle.toml.specs.View.{table_view};
+ghost use Rattle.hack_places.specs.Folders.{field_says, manifest_in, start_at};
+ghost use Rattle.hack_places.specs.Internal.{saying_in};
+ghost use Rattle.hack_places.specs.Folders.{text_in_bytes, text_says, tree_says, workspace_from};
+ghost use Rattle.hack_places.specs.FileLooks.{AreLooksCounted};
+
+use crate::look::{LookFault, held};
+use hack_base::paths::{join, normal, parent};
+use hack_files::fs::Files;
+use hack_manifest::lookup::{find_table, value_at};
+use std::alloc::{AllocError, Global};
+use toml::{Table, Value};
+
+/// The folder of the workspace: at or above the folder of `--manifest-path`, or else the current
+/// one, the nearest whose manifest is a workspace's, or what the nearest says that names its
+/// workspace; if there is none, the nearest with a manifest.
+pub fn workspace<F: Files>(
+    alloc: Global,
+    manifest_path: Option<&str>,
+    dir: &str,
+    files: &mut F,
+) -> Result<String, LookFault>
+    // Where the files show what they hold, it is that folder.
+    ensures found { IfOk result (λ folder. F.tells
+        → string_bytes folder ≡ workspace_from (F.bytes_at files.old)
+        (start_at (option_map (λ path. path.now) manifest_path.entry) dir.now)) }
+    // Nothing is changed.
+    ensures counted { AreLooksCounted (F.failed files.old) (F.failed files.new) result }
+    ensures same { F.tells → KeepsAll (F.bytes_at files.old) (F.bytes_at files.new) }
+    ensures untraced { F.whole → Makes [] (F.trace files.old) (F.trace files.new)
+        (F.bytes_at files.old) (F.bytes_at files.new) }
+{
+    let start = start(alloc, manifest_path, dir)?;
+    nearest(alloc, start.as_str(), files)
+}
+
+/// The folder in which cargo starts to look.
+fn start(alloc: Global, manifest_path: Option<&str>, dir: &str) -> Result<String, AllocError>
+    ensures { IfOk result (λ start. string_bytes start
+        ≡ start_at (option_map (λ path. path.now) manifest_path.entry) dir.now) }
+{
+    match manifest_path {
+        Some(path) => {
+            let path = within(alloc, dir, path)?;
+            String::from_str(alloc, parent(path.as_str()))
+        }
+        None => String::from_str(alloc, dir),
+    }
+}
+
+/// A path that is given relative to a folder.
+pub(crate) fn within(alloc: Global, folder: &str, path: &str) -> Result<String, AllocError>
+    ensures { IfOk result (λ full. string_bytes full ≡ normal_of (join_of folder.now path.now)) }
+{
+    let path = join(alloc, folder, path)?;
+    normal(alloc, path.as_str())
+}
+
+/// The workspace's folder, at or above this one.
+#[tactic(auto, using(crate::proofs::CountLemmas::grows_then))]
+fn nearest<F: Files>(alloc: Global, start: &str, files: &mut F) -> Result<String, LookFault>
+    ensures found { IfOk result (λ folder. F.tells
+        → string_bytes folder ≡ workspace_from (F.bytes_at files.old) start.now) }
+    ensures counted { AreLooksCounted (F.failed files.old) (F.failed files.new) result }
+    ensures same { F.tells → KeepsAll (F.bytes_at files.old) (F.bytes_at files.new) }
+    ensures untraced { F.whole → Makes [] (F.trace files.old) (F.trace files.new)
+        (F.bytes_at files.old) (F.bytes_at files.new) }
+{
+    let mut folder = start;
+    let mut nearest = None;
+    // Each folder's path is shorter than that of one inside it.
+    for _step in 0..start.len() {
+        match said_at(alloc, folder, files)? {
+            Said::Here => return Ok(String::from_str(alloc, folder)?),
+            Said::At(path) => return Ok(within(alloc, folder, path.as_str())?),
+            Said::Unsaid => nearest = nearest.or(Some(folder)),
+            Said::Absent => {}
+        }
+        folder = parent(folder);
+    }
+    Ok(String::from_str(alloc, nearest.unwrap_or(start))?)
+}
+
+/// What the manifest in a folder says of its workspace.
+#[derive(Drop)]
+pub enum Said {
+    /// There is no manifest.
+    Absent,
+    /// The manifest is the workspace's itself.
+    Here,
+    /// That of the workspace is in another folder, by `package.workspace`.
+    At(String),
+    /// It doesn't say, or can't be read.
+    Unsaid,
+}
+
+/// What is said in a folder.
+fn said_at<F: Files>(alloc: Global, folder: &str, files: &mut F) -> Result<Said, LookFault>
+    ensures found { IfOk result (λ said. F.tells
+        → saying_in said ≡ option_map text_says (manifest_in (F.bytes_at files.old) folder.now)) }
+    ensures counted { AreLooksCounted (F.failed files.old) (F.failed files.new) result }
+    ensures same { F.tells → KeepsAll (F.bytes_at files.old) (F.bytes_at files.new) }
+    ensures untraced { F.whole → Makes [] (F.trace files.old) (F.trace files.new)
+        (F.bytes_at files.old) (F.bytes_at files.new) }
+{
+    match manifest(alloc, folder, files)? {
+        Some(text) => Ok(said_by(alloc, text.as_str())?),
+        None => Ok(Said::Absent),
+    }
+}
+
+/// What the manifest of this text says.
+fn said_by(alloc: Global, text: &str) -> Result<Said, AllocError>
+    ensures { IfOk result (λ said. saying_in said ≡ Some (text_says text.now)) }
+{
+    match toml::table_from_str(alloc, text) {
+        Ok(tree) => said_by_tree(alloc, &tree),
+        Err(e) if e.is_memory() => Err(AllocError),
+        Err(_) => Ok(Said::Unsaid),
+    }
+}
+
+/// What the manifest with this tree says.
+fn said_by_tree(alloc: Global, tree: &Table) -> Result<Said, AllocError>
+    ensures { IfOk result (λ said. saying_in said ≡ Some (tree_says (table_view tree.now))) }
+{
+    if find_table(tree, "workspace").is_some() {
+        return Ok(Said::Here);
+    }
+    match find_table(tree, "package") {
+        Some(package) => said_by_package(alloc, package),
+        None => Ok(Said::Unsaid),
+    }
+}
+
+/// What the table `package` says.
+fn said_by_package(alloc: Global, table: &Table) -> Result<Said, AllocError>
+    ensures { IfOk result (λ said. saying_in said
+        ≡ Some (field_says (get_member (codes "workspace") (table_view table.now)))) }
+{
+    match value_at(table, "workspace") {
+        None => Ok(Said::Unsaid),
+        Some(Value::String(path)) => Ok(Said::At(String::from_str(alloc, path.as_str())?)),
+        Some(_) => Ok(Said::Unsaid),
+    }
+}
+
+/// The manifest in a folder, if there is one that is text.
+fn manifest<F: Files>(
+    alloc: Global,
+    folder: &str,
+    files: &mut F,
+) -> Result<Option<String>, LookFault>
+    ensures found { IfOk result (λ found. F.tells
+        → optional_text found ≡ manifest_in (F.bytes_at files.old) folder.now) }
+    ensures counted { AreLooksCounted (F.failed files.old) (F.failed files.new) result }
+    ensures same { F.tells → KeepsAll (F.bytes_at files.old) (F.bytes_at files.new) }
+    ensures untraced { F.whole → Makes [] (F.trace files.old) (F.trace files.new)
+        (F.bytes_at files.old) (F.bytes_at files.new) }
+{
+    let path = join(alloc, folder, "Cargo.toml")?;
+    Ok(text_of(held(alloc, path.as_str(), files)?))
+}
+
+/// The bytes of a file as text, where they are text.
+pub(crate) fn text_of(bytes: Option<Vec<u8>>) -> Option<String>
+    ensures { optional_text result ≡ text_in_bytes (option_map (λ bytes. bytes.items) bytes) }
+{
+    match bytes {
+        Some(bytes) => match String::from_utf8(bytes) {
+            Ok(text) => Some(text),
+            Err(_) => None,
+        },
+        None => None,
+    }
+}

@@ -1,5 +1,0 @@
-use Rattle.hack_planner.proofs.SetLemmas.{same-permitted}
-use Rattle.hack_planner.proofs.least_sets.all_ties.Goals as goal
-
-pub ties_of-requires-clause-permitted : goal.ties_of-requires-clause-permitted
-ties_of-requires-clause-permitted c = same-permitted c.args.rules.now c.loop-position.rules c.args.none.now c.loop-position.invariant c.requires.permitted

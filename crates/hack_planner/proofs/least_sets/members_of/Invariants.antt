@@ -1,6 +1,0 @@
-use Rattle.std.proofs.Common.{◌≡◌, take}
-use Rattle.hack_features.specs.Samples.{positions_of}
-use Rattle.hack_planner.proofs.least_sets.members_of.Given as goal
-
-abbrev pub invariant-loop-place : goal.invariant-loop-place
-invariant-loop-place l = l.members.items ≡ positions_of (take l.place l.set)

@@ -1,8 +1,0 @@
-use Rattle.std.proofs.Common.{◌≤◌, ◌<◌, ◌+◌, ◌^◌}
-use Rattle.hack_planner.proofs.least_sets.subsets.Given as goal
-
-abbrev pub invariant-loop-member : goal.invariant-loop-member
-invariant-loop-member l = record {
-  least : l.least + 1 ≤ 2 ^ l._member;
-  few : l.least < 2 ^ 62;
-}

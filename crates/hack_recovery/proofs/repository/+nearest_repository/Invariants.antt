@@ -1,4 +1,0 @@
-use Rattle.hack_recovery.proofs.repository.+nearest_repository.Given as goal
-
-abbrev pub decreases-nearest_repository : goal.decreases-nearest_repository
-decreases-nearest_repository g l = l.steps

@@ -1,7 +1,0 @@
--- A repository as clauses see it.
-use Rattle.std.specs.Prelude.{string_bytes}
-use Rattle.hack_recovery.specs.Repositories.{RepositoryAt}
-use Rattle.hack_recovery.specs.declared.repository.Repository.{Repository}
-
-abbrev pub repository_of : Repository → RepositoryAt
-repository_of found = record { top = string_bytes found.top; own = string_bytes found.own }

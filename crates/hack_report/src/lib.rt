@@ -1,0 +1,8 @@
+//! What a call says of its failed runs, and of what searches found.
+#![tactic(auto)]
+
+pub mod conflict_lines;
+pub mod explain;
+pub mod findings;
+pub mod noted;
+pub mod report;
