@@ -20,7 +20,7 @@ import sys
 
 ROOT = os.path.dirname(os.path.dirname(os.path.realpath(__file__)))
 # The headline, the call that carries it, and a call from its arguments to its status.
-PROMISES = ["hack_run::drive::drive_context@headline", "hack_run::drive::drive_context", "hack_run::run::run"]
+PROMISES = ["hack_drive::drive::drive_context@headline", "hack_drive::drive::drive_context", "hack_run::run::run"]
 NAME = re.compile(r"[A-Za-z_][\w'-]*")
 IMPORT = re.compile(r"(?:pub )?(?:ghost )?use Rattle\.(hack_\w+)\.specs\.([\w.]+?)(?:\.\{([^}]*)\}| as (\w+))?;?\s*(?:--.*)?$")
 DEFINES = re.compile(r"( *)(?:(?:abbrev|record|data|pub) )+(\S+)")
@@ -89,10 +89,15 @@ def follow(start):
 
 def head(lines, at):
     """The line behind the contract of a function, and whether a body begins there."""
-    begins = FUNCTION.match(lines[at])[1] + "{"
-    while not lines[at].startswith(begins) and not lines[at].partition("//")[0].rstrip().endswith((";", "{")):
+    begins, depth = FUNCTION.match(lines[at])[1] + "{", 0
+    while True:
+        code = lines[at].partition("//")[0].rstrip()
+        if depth == 0 and code.startswith(begins):
+            return at, code.endswith("{")
+        depth += code.count("{") - code.count("}")
+        if depth == 0 and code.endswith((";", "{}")) or depth == 1 and code.endswith("{") and not CLAUSE.match(code):
+            return at, depth == 1
         at += 1
-    return at, lines[at].endswith("{")
 
 
 def public_text(lines):

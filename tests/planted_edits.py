@@ -74,7 +74,7 @@ class Edit:
         around = [it for it in functions(texts[file]) if it[0] <= line <= it[1]] or [(0, 0, "", "")]
         texts[file] = texts[file].replace(old, new)
         first, last, block, name = around[-1]
-        return whole_name(self.crate, file, block, name) if name else "", file, first, last
+        return whole_name(self.crate, file, texts[file], block, name) if name else "", file, first, last
 
     def has_place(self, file, line):
         return file == self.span[0] and self.span[1] <= line <= self.span[2]
@@ -100,8 +100,8 @@ def functions(text):
     return found
 
 
-def whole_name(crate, file, block, name):
-    """A function's name as a check prints it: of a type's method the end, since the type may be another module's."""
+def whole_name(crate, file, text, block, name):
+    """A function's name as a check prints it: of a method the end, where the file doesn't have its type."""
     parts = file[len("src/") : -len(".rt")].split("/")
     module = [crate, *(parts if parts not in (["lib"], ["main"]) else [])]
     while "<" in block:
@@ -111,7 +111,9 @@ def whole_name(crate, file, block, name):
     of_trait, is_for, of_type = (re.sub(r"\w+::|\s", "", it) for it in block.partition(" for "))
     if is_for:
         return "::".join([*module, of_type[:1].upper() + of_type[1:] + of_trait, name])
-    return f"{of_trait}::{name}" if block else "::".join([*module, name])
+    if block and not re.search(rf"(?:struct|enum|trait) {of_trait}\b", text):
+        return f"{of_trait}::{name}"
+    return "::".join([*module, *([of_trait] if block else []), name])
 
 
 def crates():
