@@ -1,5 +1,5 @@
 -- Files that are only looked at.
-use Rattle.std.specs.Prelude.{◌⊎◌, [], ℕ, Result, Ok, Err}
+use Rattle.std.specs.Prelude.{◌≡◌, ◌⊎◌, [], ℕ, List, Result, Ok, Err, string_bytes}
 use Rattle.hack_files.specs.Files.{KeepsAll, Makes}
 use Rattle.hack_base.specs.Counters.{GrowsBy}
 use Rattle.hack_files.specs.View.{FilesView}
@@ -15,6 +15,11 @@ pub record Unchanged (tells whole : Type 0) (old new : FilesView) : Type 0 where
 abbrev pub CountsLookFault : ℕ → ℕ → LookFault → Type 0
 CountsLookFault old new Memory = GrowsBy 0 old new ⊎ GrowsBy 1 old new
 CountsLookFault old new (Device path) = GrowsBy 1 old new
+
+-- the error of a look at a path names that path
+abbrev pub IsOfPath : List ℕ → LookFault → Type 0
+IsOfPath path Memory = Unit {0}
+IsOfPath path (Device named) = string_bytes named ≡ path
 
 -- looks end at the first that fails, which is counted, and no other failed
 abbrev pub AreLooksCounted : {T : Type 0} → ℕ → ℕ → Result T LookFault → Type 0

@@ -1,9 +1,9 @@
 //! Looks at files. Where a look fails, it isn't known what is at the path, and the error names it.
 
-ghost use Rattle.std.specs.Prelude.{◌≡◌, [], ℕ, IfOk, is_some, option_map};
+ghost use Rattle.std.specs.Prelude.{◌≡◌, [], ℕ, IfErr, IfOk, is_some, option_map};
 ghost use Rattle.hack_base.specs.Counters.{GrowsBy};
 ghost use Rattle.hack_files.specs.Files.{KeepsAll, Makes};
-ghost use Rattle.hack_places.specs.FileLooks.{AreLooksCounted, CountsLookFault};
+ghost use Rattle.hack_places.specs.FileLooks.{AreLooksCounted, CountsLookFault, IsOfPath};
 
 use hack_files::fs::{FileFault, Files};
 use hack_journal::contents::look;
@@ -39,7 +39,8 @@ impl From<AllocError> for LookFault {
 
 /// The error of a look at a path, which is counted.
 fn fault_at(alloc: Global, path: &str, fault: FileFault) -> LookFault
-    ensures { (old new : ℕ) → GrowsBy 1 old new → CountsLookFault old new result }
+    ensures counted { (old new : ℕ) → GrowsBy 1 old new → CountsLookFault old new result }
+    ensures named { IsOfPath path.now result }
 {
     match fault {
         FileFault::Memory => LookFault::Memory,
@@ -55,6 +56,7 @@ pub fn is_there<F: Files>(alloc: Global, path: &str, files: &mut F) -> Result<bo
     ensures found { IfOk result (λ there. F.tells
         → there ≡ is_some (F.bytes_at files.old path.now)) }
     ensures counted { AreLooksCounted (F.failed files.old) (F.failed files.new) result }
+    ensures named { IfErr result (IsOfPath path.now) }
     ensures same { F.tells → KeepsAll (F.bytes_at files.old) (F.bytes_at files.new) }
     ensures untraced { F.whole → Makes [] (F.trace files.old) (F.trace files.new)
         (F.bytes_at files.old) (F.bytes_at files.new) }
@@ -74,6 +76,7 @@ pub fn held<F: Files>(
     ensures found { IfOk result (λ found. F.tells
         → F.bytes_at files.old path.now ≡ option_map (λ bytes. bytes.items) found) }
     ensures counted { AreLooksCounted (F.failed files.old) (F.failed files.new) result }
+    ensures named { IfErr result (IsOfPath path.now) }
     ensures same { F.tells → KeepsAll (F.bytes_at files.old) (F.bytes_at files.new) }
     ensures untraced { F.whole → Makes [] (F.trace files.old) (F.trace files.new)
         (F.bytes_at files.old) (F.bytes_at files.new) }
