@@ -1,5 +1,6 @@
 //! What only failed runs have in common, where samples of sets were run to their end.
 
+use hack_base::writes::Sink;
 use hack_load::context::Context;
 use hack_planner::determine::determine_package_list;
 use hack_planner::package_rules::PackageRules;
@@ -7,11 +8,10 @@ use hack_session::session::Session;
 use hack_session::suspect_notes::suspect_notes;
 use hack_term::term::Term;
 use std::alloc::{AllocError, Global};
-use std::io::Write;
 
 /// Reports which small patterns of candidates only failed runs show: those of the packages of each
 /// strength, one strength after another.
-pub fn explain<E: Write>(
+pub(crate) fn explain<E: Sink>(
     alloc: Global,
     cx: &Context,
     session: &Session,
@@ -32,7 +32,7 @@ pub fn explain<E: Write>(
 }
 
 /// Does so for the packages of this strength.
-fn explain_at<E: Write>(
+fn explain_at<E: Sink>(
     alloc: Global,
     cx: &Context,
     session: &Session,

@@ -2,7 +2,7 @@
 #![tactic(auto)]
 
 pub mod conflict_lines;
-pub mod explain;
+mod explain;
 pub mod findings;
 pub mod noted;
 pub mod report;

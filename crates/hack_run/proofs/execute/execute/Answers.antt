@@ -9,7 +9,7 @@ pub returns-clause-done : goal.returns-clause-done
 returns-clause-done g c = λ quiet t.
     let first = host_view g.C.Caller g.O.Write c.args.host.now in
     one_told true false (context_view c.args.cx.now) c.args.stable (string_bytes c.args.host.now.env.now.rustup) first.term.warn first (host_view g.C.Caller g.O.Write c.hand_to_starter.new.host)
-    first.term c.report_all-reported.new.term (λ e. c.report_all-reported.ensures.warn) (c.in-Ok.ensures.done c.in-None.is (c.report_all-reported.ensures.error quiet) t)
+    first.term c.report_all-reported.new.term (λ e. c.report_all-reported.ensures.warn) (c.in-Ok.ensures.done c.in-None.is (c.report_all-reported.ensures.kept quiet) t)
 
 pub returns-in-Some-clause-made : goal.returns-in-Some-clause-made
 returns-in-Some-clause-made g c = λ t.

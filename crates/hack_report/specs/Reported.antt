@@ -1,0 +1,35 @@
+-- What is reported of the runs that failed.
+use Rattle.std.specs.Prelude.{◌&&◌, ◌==◌, ◌∷◌, [], Bool, codes, false, length, not, true}
+use Rattle.std.specs.List.{list_any}
+use Rattle.hack_drive.specs.Shown.{Stream, WritesAll}
+use Rattle.hack_session.specs.Histories.{Course}
+use Rattle.hack_session.specs.Reports.{IsReport, failures_of, report_text}
+use Rattle.hack_session.specs.declared.report.KeepGoing.{KeepGoing}
+use Rattle.hack_session.specs.declared.step.Handed.{Handed}
+use Rattle.hack_session.specs.declared.step.Outcome.{Outcome}
+use Rattle.hack_session.specs.declared.step.Outcome.TheVariants.{Failed, Passed}
+use Rattle.hack_session.specs.declared.step.Step.{Step}
+use Rattle.hack_session.specs.declared.step.Step.TheVariants.{Prepare, Run, Skip}
+use Rattle.hack_term.specs.Lines.{error_line}
+use Rattle.hack_term.specs.declared.term.Coloring.{Coloring}
+
+-- a step that failed is a preparation
+abbrev pub fails_as : Step → Outcome → Bool
+fails_as (Prepare preparation) Failed = true
+fails_as (Skip place) Failed = false
+fails_as (Run place) Failed = false
+fails_as step Passed = false
+
+-- what was handed out is a preparation that failed
+abbrev pub is_failed_preparation : Handed → Bool
+is_failed_preparation handed = fails_as handed.step handed.outcome
+
+-- runs failed that are to be reported, and each preparation passed
+abbrev pub are_reported : Course → Bool
+are_reported t = not (list_any is_failed_preparation t.handed) && not (length (failures_of t) == 0)
+
+-- an empty line was written, and the report of these runs as an error
+pub record WritesReport (coloring : Coloring) (t : Course) (old new : Stream) : Type 0 where
+  pub report : KeepGoing
+  pub of : IsReport (failures_of t) report
+  pub written : WritesAll (codes "\n" ∷ error_line coloring (report_text report) ∷ []) old new
