@@ -8,3 +8,4 @@ pub mod ListLemmas
 pub mod PathLemmas
 pub mod NormalLemmas
 pub mod WriteLemmas
+pub mod StreamLemmas

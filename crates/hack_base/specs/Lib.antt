@@ -7,3 +7,4 @@ pub mod Lists
 pub mod PathTexts
 pub mod Notes
 pub mod Writes
+pub mod Streams

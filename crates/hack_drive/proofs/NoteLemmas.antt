@@ -2,14 +2,14 @@
 use Rattle.std.proofs.Common.{◌≡◌, ◌∙◌, ◌+◌, ◌<◌, ◌∷◌, ℕ, List, Bool, true, false, ap, drop, get_or, length, map, refl, subst, sym}
 use Rattle.std.proofs.lemmas.List.{drop_more}
 use Rattle.hack_base.specs.Notes.{Note, note_of}
+use Rattle.hack_base.specs.Streams.{Stream, WritesAll, WritesText}
 use Rattle.hack_base.specs.declared.notice.Notice.{Notice}
 use Rattle.hack_base.specs.declared.notice.NoticeKind.{NoticeKind}
 use Rattle.hack_base.specs.declared.notice.NoticeKind.TheVariants.{Info, Warn, QuietWarn}
-use Rattle.hack_session.specs.StepOutput.{WritesText}
 use Rattle.hack_term.specs.Lines.{after_notice, notice_line}
 use Rattle.hack_term.specs.declared.term.Coloring.{Coloring}
 use Rattle.hack_term.specs.declared.term.Term.{Term}
-use Rattle.hack_drive.specs.Shown.{Stream, WritesAll, note_lines}
+use Rattle.hack_drive.specs.Shown.{note_lines}
 use Rattle.hack_drive.specs.Warnings.{after_notes, have_warning}
 
 -- one notice more
@@ -37,7 +37,7 @@ noted_more now next first notices k d one lt is noted before =
 
 -- what is written from the notice at a place on
 pub shown_more : (coloring : Coloring) (notices : List Notice) (k : ℕ) (d one : Notice) (old mid end : Stream) → k < length notices → one ≡ get_or notices k d
-    → WritesText old.bytes mid.bytes old.failed mid.failed (notice_line coloring one.kind (note_of one).text) → WritesAll (note_lines coloring (map note_of (drop (k + 1) notices))) mid end
+    → WritesText (notice_line coloring one.kind (note_of one).text) old mid → WritesAll (note_lines coloring (map note_of (drop (k + 1) notices))) mid end
     → WritesAll (note_lines coloring (map note_of (drop k notices))) old end
 shown_more coloring notices k d one old mid end lt is wrote more =
     subst (λ l. WritesAll (note_lines coloring (map note_of l)) old end) (sym (drop_more notices k d lt))

@@ -7,7 +7,8 @@ use Rattle.hack_base.specs.declared.notice.NoticeKind.TheVariants.{Warn}
 use Rattle.hack_term.specs.declared.term.Term.{Term}
 use Rattle.hack_base.specs.declared.writes.Sink.{Ghosts as Taking}
 use Rattle.hack_session.specs.declared.starter.Starter.{Starter}
-use Rattle.hack_drive.specs.Shown.{WritesAll, note_lines, stream_of}
+use Rattle.hack_base.specs.Streams.{WritesAll, stream_of}
+use Rattle.hack_drive.specs.Shown.{note_lines}
 
 -- notices of a kind count as warnings
 abbrev pub is_counted : NoticeKind → Bool

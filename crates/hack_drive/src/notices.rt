@@ -2,7 +2,8 @@
 
 ghost use Rattle.std.specs.Prelude.{◌≡◌, map};
 ghost use Rattle.hack_base.specs.Notes.{note_of};
-ghost use Rattle.hack_drive.specs.Shown.{WritesAll, note_lines, stream_of};
+ghost use Rattle.hack_base.specs.Streams.{WritesAll, stream_of};
+ghost use Rattle.hack_drive.specs.Shown.{note_lines};
 ghost use Rattle.hack_drive.specs.Warnings.{after_notes};
 
 use hack_base::notice::Notice;

@@ -1,6 +1,5 @@
 -- Paths that were refused, and all others, which hold what they held.
-use Rattle.std.proofs.Common.{◌≡◌, ◌∙◌, List, [], ◌++◌, ℕ, refl}
-use Rattle.std.specs.Prelude.{Contains}
+use Rattle.std.proofs.Common.{◌∙◌, List, [], ◌++◌, ℕ, refl}
 use Rattle.std.proofs.lemmas.List.Elements.{Contains-append_left, Contains-append_right}
 use Rattle.hack_files.specs.Files.{Contents, KeepsAll, KeepsAllBut}
 use Rattle.hack_files.specs.Restore.{AreSafe, ComesBackBut, Kept}

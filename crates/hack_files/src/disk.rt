@@ -34,7 +34,7 @@ pub struct Disk<R: rt::Files + AllocGlobal + Drop> {
     reason: Option<io::Error>,
 }
 
-// A new file, with its name, and the path in the same folder that it will be renamed to.
+/// A new file, with its name, and the path in the same folder that it will be renamed to.
 #[derive(Drop)]
 struct Successor<F: Drop> {
     file: F,
@@ -42,12 +42,12 @@ struct Successor<F: Drop> {
     target: PathBuf,
 }
 
-// How many names are tried for the new file beside a path: at some of them may be what can't be
-// removed.
+/// How many names are tried for the new file beside a path: at some of them may be what can't be
+/// removed.
 const NAMES: u64 = 16;
 
-// Makes the file of this name. One that is there already was left by a program that was killed, and
-// is removed.
+/// Makes the file of this name. One that is there already was left by a program that was killed, and
+/// is removed.
 fn create_anew<R: rt::Files>(rt: &R, name: &str) -> io::Result<R::File> {
     let mut options = OpenOptions::new();
     options.write(true).create_new(true);
@@ -60,7 +60,7 @@ fn create_anew<R: rt::Files>(rt: &R, name: &str) -> io::Result<R::File> {
     }
 }
 
-// A new file in the target's folder, and its name. None where it can't be made.
+/// A new file in the target's folder, and its name. None where it can't be made.
 fn new_file<R: rt::Files + AllocGlobal>(rt: &R, target: &str) -> Option<(R::File, String)> {
     for number in 0..NAMES {
         let name = format!(in rt.alloc(); "{target}.cargo-hack-{number}").ok()?;
@@ -73,8 +73,8 @@ fn new_file<R: rt::Files + AllocGlobal>(rt: &R, target: &str) -> Option<(R::File
     None
 }
 
-// Gives the file the owner and the permissions of another. The owner is set first, since a change
-// of it may drop permissions.
+/// Gives the file the owner and the permissions of another. The owner is set first, since a change
+/// of it may drop permissions.
 fn make_like<R: rt::Files>(rt: &R, file: &R::File, name: &str, other: &Metadata) -> io::Result<()> {
     let own = file.metadata()?;
     let is_owned_so = own.uid() == other.uid() && own.gid() == other.gid();
@@ -87,19 +87,19 @@ fn make_like<R: rt::Files>(rt: &R, file: &R::File, name: &str, other: &Metadata)
     file.set_permissions(other.permissions())
 }
 
-// A new file for a path at which nothing is, not even a broken link. None where it can't be made.
+/// A new file for a path at which nothing is, not even a broken link. None where it can't be made.
 fn first_at<R: rt::Files + AllocGlobal>(rt: &R, path: &str) -> Option<Successor<R::File>> {
     let target = PathBuf::from_str(rt.alloc(), path).ok()?;
     let (file, name) = new_file(rt, path)?;
     Some(Successor { file, name, target })
 }
 
-// Whether it is a file with this one name.
+/// Whether it is a file with this one name.
 fn is_plain(held: &Metadata) -> bool {
     held.is_file() && held.nlink() == 1
 }
 
-// A new file that can replace the plain file at the target. None where it can't be made.
+/// A new file that can replace the plain file at the target. None where it can't be made.
 fn successor_of<R: rt::Files + AllocGlobal>(
     rt: &R,
     target: PathBuf,
@@ -116,7 +116,7 @@ fn successor_of<R: rt::Files + AllocGlobal>(
     Some(Successor { file, name, target })
 }
 
-// The same, after all links at the path are followed. None also where no plain file is there.
+/// The same, after all links at the path are followed. None also where no plain file is there.
 fn linked_at<R: rt::Files + AllocGlobal>(rt: &R, path: &str) -> Option<Successor<R::File>> {
     let target = fs::canonicalize(rt, path).ok()?;
     let held = fs::metadata(rt, target.as_path()).ok()?;
@@ -126,7 +126,7 @@ fn linked_at<R: rt::Files + AllocGlobal>(rt: &R, path: &str) -> Option<Successor
     successor_of(rt, target, &held)
 }
 
-// A new file for what the path is to hold. None where it is to be written in place.
+/// A new file for what the path is to hold. None where it is to be written in place.
 fn successor_at<R: rt::Files + AllocGlobal>(rt: &R, path: &str) -> Option<Successor<R::File>> {
     match fs::symlink_metadata(rt, path) {
         // Most files are no links: their own path is the target.
@@ -139,8 +139,8 @@ fn successor_at<R: rt::Files + AllocGlobal>(rt: &R, path: &str) -> Option<Succes
     }
 }
 
-// Writes the bytes to the new file, and renames it to its target. Where that fails, the new file is
-// removed.
+/// Writes the bytes to the new file, and renames it to its target. Where that fails, the new file is
+/// removed.
 fn replace<R: rt::Files>(rt: &R, successor: Successor<R::File>, bytes: &[u8]) -> io::Result<()> {
     let Successor {
         mut file,
@@ -164,8 +164,8 @@ fn write_file<R: rt::Files + AllocGlobal>(rt: &R, path: &str, bytes: &[u8]) -> i
     }
 }
 
-// Writes the bytes over those of the file at the path, which keeps its place on the disk. Where no
-// file is there, or it can't be written so, the file is written as a whole.
+/// Writes the bytes over those of the file at the path, which keeps its place on the disk. Where no
+/// file is there, or it can't be written so, the file is written as a whole.
 fn overwrite_file<R: rt::Files + AllocGlobal>(rt: &R, path: &str, bytes: &[u8]) -> io::Result<()> {
     match write_over(rt, path, bytes) {
         Ok(()) => Ok(()),
@@ -186,7 +186,7 @@ fn read_file<R: rt::Files>(rt: &R, alloc: Global, path: &str) -> io::Result<Vec<
     Ok(bytes)
 }
 
-// Whether nothing is at a path: its folder, or what its folder is in, may be none.
+/// Whether nothing is at a path: its folder, or what its folder is in, may be none.
 fn is_absence(error: &io::Error) -> bool {
     error.kind() == ErrorKind::NotFound || error.kind() == ErrorKind::NotADirectory
 }
@@ -206,7 +206,7 @@ fn remove_file<R: rt::Files>(rt: &R, path: &str) -> io::Result<()> {
     }
 }
 
-// Counts a failed outcome, keeps its error, and says whether memory was refused or the device failed.
+/// Counts a failed outcome, keeps its error, and says whether memory was refused or the device failed.
 fn count_outcome<T: Drop>(
     outcome: io::Result<T>,
     failures: &mut u64,

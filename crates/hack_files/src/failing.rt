@@ -9,7 +9,7 @@ use std::alloc::Global;
 use std::io;
 use std::io::{ErrorKind, Write};
 
-// Which call is the next one, and which one fails. The first call is call 1.
+/// Which call is the next one, and which one fails. The first call is call 1.
 #[derive(Debug, Drop)]
 struct Turns {
     next: u64,
@@ -17,14 +17,14 @@ struct Turns {
 }
 
 impl Turns {
-    // There is no call 0, so with 0 no call fails.
+    /// There is no call 0, so with 0 no call fails.
     fn new(failing: u64) -> Turns
         ensures { result ≡ record { next = 1; failing = failing } }
     {
         Turns { next: 1, failing }
     }
 
-    // Counts the call that is made now, and returns whether it fails.
+    /// Counts the call that is made now, and returns whether it fails.
     fn fails(&mut self) -> bool
         ensures { IsTrue result ↔ (self.old.next ≡ self.old.failing) }
     {

@@ -181,7 +181,7 @@ impl From<AllocError> for FsFault {
     }
 }
 
-// The error of a failed read, from what the files returned.
+/// The error of a failed read, from what the files returned.
 fn read_fault(alloc: Global, path: &str, fault: FileFault) -> FsFault
     ensures { IsOfRead path.now result }
 {
@@ -194,7 +194,7 @@ fn read_fault(alloc: Global, path: &str, fault: FileFault) -> FsFault
     }
 }
 
-// The error of a failed write, from what the files returned.
+/// The error of a failed write, from what the files returned.
 fn write_fault(alloc: Global, path: &str, fault: FileFault) -> FsFault
     ensures { IsOfWrite path.now result }
 {

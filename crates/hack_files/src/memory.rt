@@ -24,7 +24,7 @@ pub struct MemoryFiles {
     failures: u64,
 }
 
-// What the path holds after these steps.
+/// What the path holds after these steps.
 fn held_at<'a>(steps: &'a [Step], path: &str) -> Option<&'a [u8]>
     ensures { option_map (λ bytes. bytes.now) result ≡ held_after steps.now path.now }
 {
@@ -58,7 +58,7 @@ impl MemoryFiles {
         &self.steps
     }
 
-    // Adds one change, or none where memory is refused.
+    /// Adds one change, or none where memory is refused.
     fn add(&mut self, path: &str, bytes: Option<&[u8]>) -> Result<(), AllocError>
         ensures ok { OnOk result (map change_of self.new.steps.items ≡
             map change_of self.old.steps.items ++ record {

@@ -1,20 +1,21 @@
 //! Files that are restored: what they hold is kept before they are edited, and written back at the
 //! end.
 
-ghost use Rattle.std.specs.Prelude.{◌≡◌, ◌<◌, ◌↔◌, ◌⊎◌, [], ◌∷◌, ◌++◌, List, Some, cond, true};
+ghost use Rattle.std.specs.Prelude.{◌≡◌, ◌<◌, ◌↔◌, ◌⊎◌, [], ◌∷◌, ◌++◌, List, Some, cond, false, true};
 ghost use Rattle.std.specs.Prelude.{OnOk, OnErr, IfErr, IsTrue};
 ghost use Rattle.std.specs.Bool.{OnTrue, OnFalse};
 ghost use Rattle.hack_files.specs.Files.{CountsFailedCall, KeepsAll, KeepsOthers};
 ghost use Rattle.hack_base.specs.Counters.{GrowsBy};
+ghost use Rattle.hack_base.specs.Streams.{WritesSome, stream_of};
 ghost use Rattle.hack_files.specs.Files.{Makes, MakesOrNot, Change, refused_path};
 ghost use Rattle.hack_files.specs.Faults.{IsOfWrite};
 ghost use Rattle.hack_files.specs.Restore.{Kept, kept_file, registered_files, is_kept, kept_too};
 ghost use Rattle.hack_files.specs.Restore.{Brings, ComesBackBut, Tried, write_of};
 
 use crate::fs::{FileFault, Files, FsFault};
+use hack_base::writes::Sink;
 use hack_term::term::Term;
 use std::alloc::{AllocError, Global};
-use std::io::Write;
 
 /// A path and the bytes that it held, with the texts that are printed when it is written back.
 /// These texts are made in advance, since writing back takes no memory.
@@ -165,7 +166,7 @@ impl Manager {
     /// many writes failed, and reports an error for each of these, which is printed unless the
     /// caller does that (`leave_report`); in verbose mode it also prints a line before each write. A
     /// line that can't be printed is left out. It takes no memory, unless `files` does.
-    pub fn restore_all<F: Files, W: Write>(self, files: &mut F, term: &mut Term, err: &mut W) -> u64
+    pub fn restore_all<F: Files, W: Sink>(self, files: &mut F, term: &mut Term, err: &mut W) -> u64
         ensures stays { F.stays files.old files.new }
         ensures counted { GrowsBy result (F.failed files.old) (F.failed files.new) }
         ensures restored { F.tells → Brings (registered_files self)
@@ -177,6 +178,10 @@ impl Manager {
             (F.bytes_at files.old) (F.bytes_at files.new) }
         ensures noted { IsTrue term.new.error ↔ (IsTrue term.old.error ⊎ (0 < result)) }
         ensures term { term.new ≡ record term.old { error = term.new.error } }
+
+        // Where no write failed, nothing is said but in verbose mode.
+        ensures shown { WritesSome (stream_of W.Sink err.old) (stream_of W.Sink err.new) }
+        ensures quiet { term.old.verbose ≡ false → result ≡ 0 → err.new ≡ err.old }
     {
         let Manager {
             needs_restore: _,
@@ -194,9 +199,9 @@ impl Manager {
 }
 
 impl Saved {
-    // Writes the file back, prints the lines for it, and returns whether it was written. Its failure
-    // isn't printed where its path is the one that is reported otherwise.
-    fn put_back<F: Files, W: Write>(
+    /// Writes the file back, prints the lines for it, and returns whether it was written. Its failure
+    /// isn't printed where its path is the one that is reported otherwise.
+    fn put_back<F: Files, W: Sink>(
         &self,
         reported: Option<&str>,
         files: &mut F,
@@ -217,6 +222,8 @@ impl Saved {
             (F.trace files.old) (F.trace files.new) (F.bytes_at files.old) (F.bytes_at files.new)) }
         ensures noted { term.new ≡
             record term.old { error = cond result term.old.error true } }
+        ensures shown { WritesSome (stream_of W.Sink err.old) (stream_of W.Sink err.new) }
+        ensures quiet { OnTrue result (term.old.verbose ≡ false → err.new ≡ err.old) }
     {
         if term.verbose {
             let _ = term.info(self.restoring.as_str(), err);

@@ -70,7 +70,7 @@ pub fn put<F: Files>(
     }
 }
 
-// Whether the path of the entry holds what it held at first.
+/// Whether the path of the entry holds what it held at first.
 fn is_back<F: Files>(alloc: Global, files: &mut F, entry: &Entry) -> Result<bool, FileFault>
     ensures stays { F.stays files.old files.new }
     ensures failures { CountsFailedCall (F.failed files.old) (F.failed files.new) result }

@@ -11,7 +11,7 @@ ghost use Rattle.hack_journal.specs.Internal.{EntryHas, IsCutOf, IsOver, SomeEnt
 use crate::entries::tells;
 use crate::journal::Entry;
 
-// How many bytes two texts share at their front.
+/// How many bytes two texts share at their front.
 fn common(a: &[u8], b: &[u8]) -> usize
     ensures { result ≡ common_prefix_len nat_eq a.now b.now }
 {
@@ -22,15 +22,15 @@ fn common(a: &[u8], b: &[u8]) -> usize
     count
 }
 
-// The bytes behind these many.
+/// The bytes behind these many.
 fn behind(bytes: &[u8], count: usize) -> &[u8]
     ensures { result.now ≡ drop count bytes.now }
 {
     bytes.get(count..).unwrap_or(&[])
 }
 
-// Whether a write of new bytes over old ones that was cut may have left these. What they share with
-// the new ones counts as written, and the old ones have to follow.
+/// Whether a write of new bytes over old ones that was cut may have left these. What they share with
+/// the new ones counts as written, and the old ones have to follow.
 fn is_cut(new: Option<&[u8]>, old: Option<&[u8]>, now: &[u8]) -> bool
     ensures { IsTrue result ↔ IsCutOf (option_map (λ bytes. bytes.now) new.entry)
         (option_map (λ bytes. bytes.now) old.entry) now.now }
@@ -42,7 +42,7 @@ fn is_cut(new: Option<&[u8]>, old: Option<&[u8]>, now: &[u8]) -> bool
     behind(now, count) == behind(old, count)
 }
 
-// Whether it was a write over bytes that this entry of the path has.
+/// Whether it was a write over bytes that this entry of the path has.
 fn is_over_one(entry: &Entry, path: &str, new: Option<&[u8]>, now: &[u8]) -> bool
     ensures { IsTrue result ↔ EntryHas
         (λ old. IsCutOf (option_map (λ bytes. bytes.now) new.entry) old now.now)
@@ -52,7 +52,7 @@ fn is_over_one(entry: &Entry, path: &str, new: Option<&[u8]>, now: &[u8]) -> boo
         && (is_cut(new, entry.held.as_deref(), now) || is_cut(new, entry.wrote.as_deref(), now))
 }
 
-// The same of one of these entries.
+/// The same of one of these entries.
 #[tactic(auto, unfolding(crate::specs::Internal::IsOver))]
 fn is_over(entries: &[Entry], path: &str, new: Option<&[u8]>, now: &[u8]) -> bool
     ensures { IsTrue result ↔ IsOver (edits_of entries.now) path.now now.now
@@ -64,7 +64,7 @@ fn is_over(entries: &[Entry], path: &str, new: Option<&[u8]>, now: &[u8]) -> boo
     }
 }
 
-// Whether it was a write of bytes that this entry of the path has.
+/// Whether it was a write of bytes that this entry of the path has.
 fn is_of_one(all: &[Entry], entry: &Entry, path: &str, now: &[u8]) -> bool
     ensures { IsTrue result ↔ EntryHas (IsOver (edits_of all.now) path.now now.now)
         (edit_of entry.now) path.now }
@@ -74,7 +74,7 @@ fn is_of_one(all: &[Entry], entry: &Entry, path: &str, now: &[u8]) -> bool
             || is_over(all, path, entry.wrote.as_deref(), now))
 }
 
-// The same of one of these entries.
+/// The same of one of these entries.
 fn is_of(all: &[Entry], entries: &[Entry], path: &str, now: &[u8]) -> bool
     ensures { IsTrue result ↔ SomeEntryHas (IsOver (edits_of all.now) path.now now.now)
         (edits_of entries.now) path.now }

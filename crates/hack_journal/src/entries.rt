@@ -70,8 +70,8 @@ pub fn first<'a>(entries: &'a [Entry], path: &str) -> Option<&'a Entry>
     }
 }
 
-// Whether the first entry of a path, if there is one, says the same as this one of what the path
-// held at first.
+/// Whether the first entry of a path, if there is one, says the same as this one of what the path
+/// held at first.
 fn agrees(first: Option<&Entry>, entry: &Entry) -> bool
     ensures { IsTrue result ↔
         AgreesOnHeld (option_map (λ entry. edit_of entry.now) first.entry)

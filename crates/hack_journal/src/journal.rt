@@ -82,7 +82,7 @@ fn put_content(text: &mut Vec<u8>, bytes: Option<&[u8]>) -> Result<(), AllocErro
     }
 }
 
-// Adds an entry, with this path in place of its own.
+/// Adds an entry, with this path in place of its own.
 fn put_entry(text: &mut Vec<u8>, path: &str, entry: &Entry) -> Result<(), AllocError>
     ensures { OnOk result (text.new.items ≡
         text.old.items ++ edit_text (record (edit_of entry.now) { path = path.now })) }
@@ -127,7 +127,7 @@ pub(crate) fn spell_at(alloc: Global, path: &str, entry: &Entry) -> Result<Vec<u
     Ok(text)
 }
 
-// Returns the bytes of lines, and what follows the line feed that ends them.
+/// Returns the bytes of lines, and what follows the line feed that ends them.
 fn lines_of(alloc: Global, text: &[u8]) -> Result<(Vec<u8>, &[u8]), JournalFault>
     ensures shorter { IfOk result (λ x. length x.1.now < length text.now) }
     ensures only { (bytes rest : List ℕ) → BeginsWithoutSpace rest → text.now
@@ -153,7 +153,7 @@ fn lines_of(alloc: Global, text: &[u8]) -> Result<(Vec<u8>, &[u8]), JournalFault
     Err(JournalFault::NotJournal)
 }
 
-// Returns the text of lines, and what follows them.
+/// Returns the text of lines, and what follows them.
 fn text_of(alloc: Global, text: &[u8]) -> Result<(String, &[u8]), JournalFault>
     ensures shorter { IfOk result (λ x. length x.1.now < length text.now) }
     ensures only { (bytes rest : List ℕ) → IsUtf8 bytes → BeginsWithoutSpace rest →
@@ -167,7 +167,7 @@ fn text_of(alloc: Global, text: &[u8]) -> Result<(String, &[u8]), JournalFault>
     }
 }
 
-// Returns what follows this word at the beginning.
+/// Returns what follows this word at the beginning.
 fn behind<'a>(text: &'a [u8], word: &[u8]) -> Result<&'a [u8], JournalFault>
     ensures shorter { IfOk result (λ rest. length rest.now ≤ length text.now) }
     ensures only { (rest : List ℕ) → text.now ≡ word.now ++ rest →
@@ -179,7 +179,7 @@ fn behind<'a>(text: &'a [u8], word: &[u8]) -> Result<&'a [u8], JournalFault>
     }
 }
 
-// Returns what a file held or is to hold, and what follows that.
+/// Returns what a file held or is to hold, and what follows that.
 fn content_of(alloc: Global, text: &[u8]) -> Result<(Option<Vec<u8>>, &[u8]), JournalFault>
     ensures shorter { IfOk result (λ x. length x.1.now ≤ length text.now) }
     ensures only { (bytes : Option (List ℕ)) (rest : List ℕ) → BeginsWithoutSpace rest →
@@ -194,7 +194,7 @@ fn content_of(alloc: Global, text: &[u8]) -> Result<(Option<Vec<u8>>, &[u8]), Jo
     Ok((Some(bytes), rest))
 }
 
-// Returns the first entry of a text, and what follows it.
+/// Returns the first entry of a text, and what follows it.
 fn entry_of(alloc: Global, text: &[u8]) -> Result<(Entry, &[u8]), JournalFault>
     ensures shorter { IfOk result (λ x. length x.1.now < length text.now) }
     ensures only { (edit : Edit) (rest : List ℕ) → IsUtf8 edit.path → BeginsWithoutSpace rest →

@@ -78,7 +78,7 @@ impl<F: Files, U: Unkept> Journaled<F, U> {
         (self.files, self.unkept)
     }
 
-    // Returns what the path held before its first edit.
+    /// Returns what the path held before its first edit.
     fn held_at_first(&mut self, path: &str) -> Result<Option<Vec<u8>>, FileFault>
         ensures handed { F.stays self.old.files self.new.files }
         ensures below { Grows (F.failed self.old.files) (F.failed self.new.files) }
@@ -100,7 +100,7 @@ impl<F: Files, U: Unkept> Journaled<F, U> {
         }
     }
 
-    // Makes the entry of a path that is to hold these bytes, or be removed.
+    /// Makes the entry of a path that is to hold these bytes, or be removed.
     fn entry(&mut self, path: &str, bytes: Option<&[u8]>) -> Result<Entry, FileFault>
         ensures handed { F.stays self.old.files self.new.files }
         ensures below { Grows (F.failed self.old.files) (F.failed self.new.files) }
@@ -126,7 +126,7 @@ impl<F: Files, U: Unkept> Journaled<F, U> {
         Ok(Entry { path, held, wrote })
     }
 
-    // The text that keeps an entry. It is refused where no way leads from the folder to the path.
+    /// The text that keeps an entry. It is refused where no way leads from the folder to the path.
     fn note_of(&self, entry: &Entry) -> Result<Vec<u8>, FileFault>
         ensures { IfOk result (λ text. IsNoteOf (string_bytes self.now.folder)
             (Some text.items) (edit_of entry.now)) }
@@ -141,8 +141,8 @@ impl<F: Files, U: Unkept> Journaled<F, U> {
         }
     }
 
-    // Looks that the row will end behind the file that comes next, and returns the path there: what
-    // is there already would become part of the row.
+    /// Looks that the row will end behind the file that comes next, and returns the path there: what
+    /// is there already would become part of the row.
     fn look_ahead(&mut self) -> Result<String, FileFault>
         ensures handed { F.stays self.old.files self.new.files }
         ensures below { Grows (F.failed self.old.files) (F.failed self.new.files) }
@@ -167,7 +167,7 @@ impl<F: Files, U: Unkept> Journaled<F, U> {
         }
     }
 
-    // Adds a file to the row that keeps this entry.
+    /// Adds a file to the row that keeps this entry.
     fn append(&mut self, entry: Entry) -> Result<(), FileFault>
         ensures handed { F.stays self.old.files self.new.files }
         ensures below { Grows (F.failed self.old.files) (F.failed self.new.files) }
@@ -195,8 +195,8 @@ impl<F: Files, U: Unkept> Journaled<F, U> {
         }
     }
 
-    // Keeps what the path holds before it is to hold these bytes, or be removed: adds an entry to
-    // the journal, unless one of the path has these bytes already.
+    /// Keeps what the path holds before it is to hold these bytes, or be removed: adds an entry to
+    /// the journal, unless one of the path has these bytes already.
     fn keep(&mut self, path: &str, bytes: Option<&[u8]>) -> Result<(), FileFault>
         ensures handed { F.stays self.old.files self.new.files }
         ensures below { Grows (F.failed self.old.files) (F.failed self.new.files) }
@@ -224,9 +224,9 @@ impl<F: Files, U: Unkept> Journaled<F, U> {
         self.append(entry)
     }
 
-    // Keeps what the path holds, and then gives it these bytes, or removes what is there. What an
-    // entry has already needs no keeping. The bytes may be written over those that are there: where
-    // that is cut, `recover` knows what it left by the entries of the path.
+    /// Keeps what the path holds, and then gives it these bytes, or removes what is there. What an
+    /// entry has already needs no keeping. The bytes may be written over those that are there: where
+    /// that is cut, `recover` knows what it left by the entries of the path.
     fn change(&mut self, path: &str, bytes: Option<&[u8]>) -> Result<(), FileFault>
         ensures handed { F.stays self.old.files self.new.files }
         ensures journal { self.new.notes.journal ≡ self.old.notes.journal }
@@ -276,8 +276,8 @@ impl<F: Files, U: Unkept> Journaled<F, U> {
         }
     }
 
-    // Removes the row, from its last file on. The file that would come next may be there too, after
-    // a write that failed.
+    /// Removes the row, from its last file on. The file that would come next may be there too, after
+    /// a write that failed.
     fn remove_row(&mut self) -> Result<(), FileFault>
         ensures handed { F.stays self.old.files self.new.files }
         ensures journal { self.new.notes.journal ≡ self.old.notes.journal }

@@ -62,7 +62,7 @@ pub(crate) fn absolute(alloc: Global, folder: &str, way: &str) -> Result<String,
     normal(alloc, joined.as_str())
 }
 
-// The rest of a path behind a folder, if it is inside.
+/// The rest of a path behind a folder, if it is inside.
 fn inside<'a>(folder: &str, path: &'a str) -> Option<&'a str> {
     if folder.is_empty() {
         return Some(path);
@@ -73,7 +73,7 @@ fn inside<'a>(folder: &str, path: &'a str) -> Option<&'a str> {
     path.strip_prefix(folder)?.strip_prefix('/')
 }
 
-// The way from a folder to a path: up until the path is inside, and then down.
+/// The way from a folder to a path: up until the path is inside, and then down.
 fn way_to(alloc: Global, folder: &str, path: &str) -> Result<String, AllocError> {
     let mut way = String::new(alloc);
     let mut above = folder;

@@ -67,7 +67,7 @@ impl From<AllocError> for RecoverFault {
     }
 }
 
-// The error of a write or a removal.
+/// The error of a write or a removal.
 fn write_fault(alloc: Global, path: &str, fault: FileFault) -> RecoverFault
     ensures { FaultsAtPath path.now result }
 {
@@ -80,7 +80,7 @@ fn write_fault(alloc: Global, path: &str, fault: FileFault) -> RecoverFault
     }
 }
 
-// Adds a path to others.
+/// Adds a path to others.
 fn add_path(alloc: Global, paths: &mut Vec<String>, path: &str) -> Result<(), RecoverFault>
     ensures added { OnOk result (names_of paths.new.items ≡
         names_of paths.old.items ++ path.now ∷ []) }
@@ -91,7 +91,7 @@ fn add_path(alloc: Global, paths: &mut Vec<String>, path: &str) -> Result<(), Re
     Ok(())
 }
 
-// Refuses an entry whose path holds what no call left there.
+/// Refuses an entry whose path holds what no call left there.
 #[tactic(auto, using(crate::proofs::CountLemmas::grows_then))]
 fn check<F: Files>(
     alloc: Global,
@@ -122,7 +122,7 @@ fn check<F: Files>(
     })
 }
 
-// Does the same for each of these entries.
+/// Does the same for each of these entries.
 #[tactic(auto, using(crate::proofs::CountLemmas::grows_then))]
 fn check_all<F: Files>(
     alloc: Global,
@@ -149,9 +149,9 @@ fn check_all<F: Files>(
     }
 }
 
-// Puts back what this entry keeps. Where the path held something else, it is added to these. The
-// last entry is written also where its path holds that already: its edit may have been interrupted,
-// and a write on the disk removes what an interrupted one left beside the path.
+/// Puts back what this entry keeps. Where the path held something else, it is added to these. The
+/// last entry is written also where its path holds that already: its edit may have been interrupted,
+/// and a write on the disk removes what an interrupted one left beside the path.
 #[tactic(auto, using(crate::proofs::CountLemmas::grows_then))]
 fn put_back<F: Files>(
     alloc: Global,
@@ -190,8 +190,8 @@ fn put_back<F: Files>(
     }
 }
 
-// Puts back what these entries keep, in order. The paths that held something else are added to
-// these.
+/// Puts back what these entries keep, in order. The paths that held something else are added to
+/// these.
 #[tactic(auto, using(crate::proofs::CountLemmas::grows_then))]
 fn put_all_back<F: Files>(
     alloc: Global,
@@ -227,7 +227,7 @@ fn put_all_back<F: Files>(
     }
 }
 
-// Removes the first files of the row, so many of them, from the last one on.
+/// Removes the first files of the row, so many of them, from the last one on.
 #[tactic(auto, using(crate::proofs::CountLemmas::grows_then))]
 fn remove_files<F: Files>(
     alloc: Global,
@@ -258,8 +258,8 @@ fn remove_files<F: Files>(
     }
 }
 
-// Puts back what the entries of a journal keep, and then removes it. Returns the paths that held
-// something else.
+/// Puts back what the entries of a journal keep, and then removes it. Returns the paths that held
+/// something else.
 #[tactic(auto, using(crate::proofs::CountLemmas::grows_then))]
 fn take_back<F: Files>(
     alloc: Global,

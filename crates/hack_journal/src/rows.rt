@@ -40,7 +40,7 @@ pub(crate) fn read_fault(alloc: Global, path: &str, fault: FileFault) -> Recover
     }
 }
 
-// The error of a text that is no journal.
+/// The error of a text that is no journal.
 fn no_journal(alloc: Global, journal: &str) -> RecoverFault
     ensures failures { (old new : ℕ) → GrowsBy 0 old new → CountsRecoverFault old new result }
     ensures kind { NamesNoJournal journal.now result }
@@ -51,7 +51,7 @@ fn no_journal(alloc: Global, journal: &str) -> RecoverFault
     }
 }
 
-// Adds these entries to others, with the paths that theirs lead to.
+/// Adds these entries to others, with the paths that theirs lead to.
 fn place_all(
     alloc: Global,
     folder: &str,
@@ -69,8 +69,8 @@ fn place_all(
     Ok(())
 }
 
-// Reads a file of the row, and adds its entries to those of the files before it. Returns whether it
-// is there.
+/// Reads a file of the row, and adds its entries to those of the files before it. Returns whether it
+/// is there.
 #[tactic(auto, using(crate::proofs::CountLemmas::grows_then))]
 fn read_file<F: Files>(
     alloc: Global,
@@ -108,7 +108,7 @@ fn read_file<F: Files>(
     }
 }
 
-// Reads the files of the row, up to the first that isn't there, and returns how many there are.
+/// Reads the files of the row, up to the first that isn't there, and returns how many there are.
 #[tactic(auto, using(crate::proofs::CountLemmas::grows_then))]
 fn read_files<F: Files>(
     alloc: Global,

@@ -30,7 +30,7 @@ impl<R: Processes + Drop> Child<R> {
         Child { rt }
     }
 
-    // Starts the program once, and waits for its end.
+    /// Starts the program once, and waits for its end.
     fn start(&self, command: &mut Command, alloc: Global, capture: bool) -> io::Result<Called>
         ensures { capture ≡ false → IfOk result (λ called. WroteNothing (answer_of called)) }
     {
@@ -86,7 +86,7 @@ pub fn system_command(alloc: Global, program: &str, words: &[String]) -> Result<
     Ok(command)
 }
 
-// How a program ended, from the status that the system reports.
+/// How a program ended, from the status that the system reports.
 fn end_of(status: ExitStatus) -> End
     ensures { IsEndOf (exit_code status) (exit_signal status) result }
 {

@@ -90,7 +90,7 @@ impl FakeCaller {
         &self.made
     }
 
-    // The answer to a call of this line.
+    /// The answer to a call of this line.
     fn reply(&self, alloc: Global, line: &str, capture: bool) -> Result<Called, AllocError>
         ensures { IfOk result (λ called.
             answer_of called ≡ seen_answer capture (answer_to line.now self.now)) }
@@ -156,7 +156,7 @@ impl fmt::Display for Made {
     }
 }
 
-// A program and its arguments, each after a space.
+/// A program and its arguments, each after a space.
 #[derive(Drop)]
 struct Words<'a> {
     program: &'a str,

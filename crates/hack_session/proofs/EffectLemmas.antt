@@ -4,6 +4,7 @@ use Rattle.std.proofs.Common.{String, Global}
 use Rattle.std.specs.Prelude.{IfErr, IfSome, IsSomeAnd, OnOk, codes, slice_get, string_bytes, ◌==◌, if◌then◌else◌}
 use Rattle.std.specs.Io.KnownBytes.{Appends}
 use Rattle.std.proofs.lemmas.Option.{slice_get_cases}
+use Rattle.hack_base.specs.Streams.{stream_of}
 use Rattle.hack_base.specs.Writes.{AppendsFront, CountsErrors}
 use Rattle.hack_base.specs.declared.writes.Sink.{Ghosts as Taking}
 use Rattle.hack_term.specs.declared.log_group.LogGroup.{LogGroup}
@@ -20,7 +21,7 @@ use Rattle.hack_process.specs.Faults.{GotAnswer, IsFault, ShowsNothing}
 use Rattle.hack_plan.specs.declared.places.PlanEntry.{PlanEntry}
 use Rattle.hack_plan.specs.Commands.{chosen_package_at, clean_command, lockfile_command, toolchain_of}
 use Rattle.hack_plan.specs.View.{PlanView}
-use Rattle.hack_session.specs.StepOutput.{Manner, OnErr, OnOut, Says, SaysAll, Streams, WritesText, cleaning_said, end_said, group_said, opening_said, space_said, status_said, streams}
+use Rattle.hack_session.specs.StepOutput.{Manner, OnErr, OnOut, Says, SaysAll, Streams, cleaning_said, end_said, group_said, opening_said, space_said, status_said, streams}
 use Rattle.hack_session.specs.StepEffects.{ComesTo, DoesTask, DoesTasks, EnsuresToolchain, Performed, Runs, Scene, Skips, Task, TriesFirst, adding_task, addition_task, cleaning_task, is_memory, lockfile_tasks, own_task, run_tasks, task_of, trial_task}
 use Rattle.hack_session.specs.Statuses.{place_status, running_text}
 use Rattle.hack_session.specs.Toolchains.{addition_of, toolchain_name, trial_of}
@@ -29,26 +30,21 @@ use Rattle.hack_versions.specs.declared.version.Version.{Version}
 
 -- ---- texts
 
--- what a result says of a text that was written
-pub says_by : (T E : Type 0) (a b : Option (List ℕ)) (m n : Option ℕ) (text : List ℕ) (r : Result T E) → OnOk r (Appends a b text) → AppendsFront a b text → CountsErrors m n r → WritesText a b m n text
-says_by T E a b m n text (Ok done) all front counted = inl (all, counted)
-says_by T E a b m n text (Err fault) all front counted = inr (front, counted)
-
--- the same of the opening of a group
+-- what a result says of the opening of a group
 pub opens : (T E O P : Type 0) (o : Taking O) (e : Taking P) (group : LogGroup) (coloring : Coloring) (text : List ℕ) (out out_2 : O) (err err_2 : P) (r : Result T E)
     → OnOk r (Appends (o.contents out) (o.contents out_2) (opening_line group text) × Appends (e.contents err) (e.contents err_2) (message_line group coloring text))
     → AppendsFront (o.contents out) (o.contents out_2) (opening_line group text) → AppendsFront (e.contents err) (e.contents err_2) (message_line group coloring text)
     → CountsErrors (on_screen group (o.failed out) (e.failed err)) (on_screen group (o.failed out_2) (e.failed err_2)) r
     → (group ≡ Ungrouped → out_2 ≡ out) → (group ≡ GithubActions → err_2 ≡ err)
-    → Says (on_screen group (OnOut (opening_line group text)) (OnErr (message_line group coloring text))) (streams o.contents o.failed e.contents e.failed out err) (streams o.contents o.failed e.contents e.failed out_2 err_2)
+    → Says (on_screen group (OnOut (opening_line group text)) (OnErr (message_line group coloring text))) (streams o e out err) (streams o e out_2 err_2)
 opens T E O P o e Ungrouped coloring text out out_2 err err_2 (Ok done) all front front_2 counted kept kept_2 =
-    (inl (all.1, counted), ap (λ (x : O). streams o.contents o.failed e.contents e.failed x err_2) (kept refl))
+    (inl (all.1, counted), ap (stream_of o) (kept refl))
 opens T E O P o e Ungrouped coloring text out out_2 err err_2 (Err fault) all front front_2 counted kept kept_2 =
-    (inr (front_2, counted), ap (λ (x : O). streams o.contents o.failed e.contents e.failed x err_2) (kept refl))
+    (inr (front_2, counted), ap (stream_of o) (kept refl))
 opens T E O P o e GithubActions coloring text out out_2 err err_2 (Ok done) all front front_2 counted kept kept_2 =
-    (inl (all.0, counted), ap (λ (x : P). streams o.contents o.failed e.contents e.failed out_2 x) (kept_2 refl))
+    (inl (all.0, counted), ap (stream_of e) (kept_2 refl))
 opens T E O P o e GithubActions coloring text out out_2 err err_2 (Err fault) all front front_2 counted kept kept_2 =
-    (inr (front, counted), ap (λ (x : P). streams o.contents o.failed e.contents e.failed out_2 x) (kept_2 refl))
+    (inr (front, counted), ap (stream_of e) (kept_2 refl))
 
 -- ---- commands
 

@@ -1,7 +1,6 @@
 -- What steps say, on `out` and on `err`.
-use Rattle.std.specs.Prelude.{◌≡◌, ◌⊎◌, ℕ, zero, suc, Bool, true, List, [], ◌∷◌, codes, Option, if◌then◌else◌}
-use Rattle.std.specs.Io.KnownBytes.{Appends}
-use Rattle.hack_base.specs.Writes.{AppendsFront, HasFailed, NoFewer}
+use Rattle.std.specs.Prelude.{◌≡◌, ℕ, zero, suc, Bool, true, List, [], ◌∷◌, codes, if◌then◌else◌}
+use Rattle.hack_base.specs.Streams.{Stream, WritesText, stream_of}
 use Rattle.hack_base.specs.declared.writes.Sink.{Ghosts as Taking}
 use Rattle.hack_term.specs.declared.log_group.LogGroup.{LogGroup}
 use Rattle.hack_term.specs.declared.log_group.LogGroup.TheVariants.{None as Ungrouped, GithubActions}
@@ -70,24 +69,15 @@ addition_said m dir command = group_said m (running_text (text_of m.verbose dir 
 
 -- ---- where they are written
 
--- the bytes of two streams, where those are known, and how often each failed, where that is counted
+-- the two streams
 pub record Streams : Type 0 where
-  pub out : Option (List ℕ)
-  pub out_failed : Option ℕ
-  pub err : Option (List ℕ)
-  pub err_failed : Option ℕ
-
--- a text was written whole; or a front of it, and a failure of its stream was counted for it
-abbrev pub WritesText : Option (List ℕ) → Option (List ℕ) → Option ℕ → Option ℕ → List ℕ → Type 0
-WritesText old new before now text =
-    (Appends old new text × NoFewer before now) ⊎ (AppendsFront old new text × HasFailed before now)
+  pub out : Stream
+  pub err : Stream
 
 -- a text was written on its stream, and nothing on the other
 abbrev pub Says : Said → Streams → Streams → Type 0
-Says (OnOut text) old new = WritesText old.out new.out old.out_failed new.out_failed text
-    × (new ≡ record old { out = new.out; out_failed = new.out_failed })
-Says (OnErr text) old new = WritesText old.err new.err old.err_failed new.err_failed text
-    × (new ≡ record old { err = new.err; err_failed = new.err_failed })
+Says (OnOut text) old new = WritesText text old.out new.out × (new.err ≡ old.err)
+Says (OnErr text) old new = WritesText text old.err new.err × (new.out ≡ old.out)
 
 -- just these texts were written, one after the other
 abbrev pub SaysAll : List Said → Streams → Streams → Type 0
@@ -95,12 +85,12 @@ SaysAll [] old new = new ≡ old
 SaysAll (text ∷ more) old new = (mid : Streams) × Says text old mid × SaysAll more mid new
 
 -- two streams, by what their types tell of them
-abbrev pub streams : {O E : Type 0} → (O → Option (List ℕ)) → (O → Option ℕ) → (E → Option (List ℕ)) → (E → Option ℕ) → O → E → Streams
-streams contents failed contents_2 failed_2 out err = record { out = contents out; out_failed = failed out; err = contents_2 err; err_failed = failed_2 err }
+abbrev pub streams : {O E : Type 0} → Taking O → Taking E → O → E → Streams
+streams o e out err = record { out = stream_of o out; err = stream_of e err }
 
 -- the streams of a screen
 abbrev pub streams_of : {O E : Type 0} → Taking O → Taking E → Screen O E → Streams
-streams_of o e screen = streams o.contents o.failed e.contents e.failed screen.out.now screen.err.now
+streams_of o e screen = streams o e screen.out.now screen.err.now
 
 -- just these texts were written on a screen
 abbrev pub SaysOn : {O E : Type 0} → Taking O → Taking E → List Said → Screen O E → Screen O E → Type 0

@@ -2,10 +2,11 @@
 
 ghost use Rattle.std.specs.Prelude.{◌≡◌, List, ℕ, false, true};
 ghost use Rattle.std.proofs.Common.{◌∙◌, refl};
+ghost use Rattle.hack_base.specs.Streams.{WritesText, stream_of};
 ghost use Rattle.hack_session.specs.References.{IsHandedOver};
 ghost use Rattle.hack_session.specs.JoinedSteps.{error_alone, done_more, manner_stays};
 ghost use Rattle.hack_session.specs.StepEffects.{DoesAll, IsToldAs, is_run as is_run_step, state};
-ghost use Rattle.hack_session.specs.StepOutput.{WritesText, manner_of, streams};
+ghost use Rattle.hack_session.specs.StepOutput.{manner_of, streams};
 ghost use Rattle.hack_term.specs.Lines.{error_line};
 
 use crate::calls::is_memory;
@@ -94,10 +95,10 @@ impl<C: Caller, O: Sink, E: Sink> Runner for Starter<'_, C, O, E> {
         × C.course a.caller.now b.caller.now
         × DoesAll C.tells a.keep_going (manner_of a.log_group a.term.now) plan steps
         (state (C.calls a.caller.now)
-        (streams O.contents O.failed E.contents E.failed a.out.now a.err.now)
+        (streams O.Sink E.Sink a.out.now a.err.now)
         a.fault.now a.term.now.error a.refused)
         (state (C.calls b.caller.now)
-        (streams O.contents O.failed E.contents E.failed b.out.now b.err.now)
+        (streams O.Sink E.Sink b.out.now b.err.now)
         b.fault.now b.term.now.error b.refused) };
 
     ghost ran_none = { λ plan a. (
@@ -126,13 +127,13 @@ impl<C: Caller, O: Sink, E: Sink> Runner for Starter<'_, C, O, E> {
       done_more C.tells a.keep_going b.keep_going (manner_of a.log_group a.term.now)
           (manner_of b.log_group b.term.now) plan steps more
           (state (C.calls a.caller.now)
-          (streams O.contents O.failed E.contents E.failed a.out.now a.err.now)
+          (streams O.Sink E.Sink a.out.now a.err.now)
           a.fault.now a.term.now.error a.refused)
           (state (C.calls b.caller.now)
-          (streams O.contents O.failed E.contents E.failed b.out.now b.err.now)
+          (streams O.Sink E.Sink b.out.now b.err.now)
           b.fault.now b.term.now.error b.refused)
           (state (C.calls c.caller.now)
-          (streams O.contents O.failed E.contents E.failed c.out.now c.err.now)
+          (streams O.Sink E.Sink c.out.now c.err.now)
           c.fault.now c.term.now.error c.refused)
           p.5 (manner_stays a.log_group b.log_group a.term.now b.term.now p.6 p.7) p.9 q.9,
     ) };
@@ -176,8 +177,8 @@ fn is_run(step: Step) -> bool
 fn tell_fault<E: Sink>(alloc: Global, term: &mut Term, err: &mut E, fault: &ProcessFault)
     ensures noted { term.new ≡ record term.old { error = true } }
     ensures told { (text : List ℕ) × IsToldAs fault.now text
-        × WritesText (E.contents err.old) (E.contents err.new) (E.failed err.old)
-        (E.failed err.new) (error_line term.old.coloring text) }
+        × WritesText (error_line term.old.coloring text)
+        (stream_of E.Sink err.old) (stream_of E.Sink err.new) }
 {
     match format!(in alloc; "{fault}") {
         Ok(text) => {

@@ -13,7 +13,7 @@ use Rattle.hack_side.specs.Turns.{IsAtTurn, RunsAt}
 
 -- the state of a starter after these calls
 abbrev pub state_by : {C O E : Type 0} → Taking O → Taking E → List Call → Starter C O E → Seen
-state_by o e calls s = state calls (streams o.contents o.failed e.contents e.failed s.out.now s.err.now) s.fault.now s.term.now.error s.refused
+state_by o e calls s = state calls (streams o e s.out.now s.err.now) s.fault.now s.term.now.error s.refused
 
 -- a turn was given, something happened at it, and it was taken back
 pub ran_step : {S : Type 0} (did : List Event → S → S → Type 0) (Fits : Turn → Type 0) (old given came new : Scene S)

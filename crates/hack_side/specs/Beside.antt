@@ -21,8 +21,8 @@ DoesSteps tells calls o e plan steps a b =
     × (a.err.ghost_name ≡ b.err.ghost_name) × (a.keep_going ≡ b.keep_going)
     × (a.log_group ≡ b.log_group) × (b.term.now ≡ record a.term.now { error = b.term.now.error })
     × DoesAll tells a.keep_going (manner_of a.log_group a.term.now) plan steps
-    (state (calls a.caller.now) (streams o.contents o.failed e.contents e.failed a.out.now a.err.now) a.fault.now a.term.now.error a.refused)
-    (state (calls b.caller.now) (streams o.contents o.failed e.contents e.failed b.out.now b.err.now) b.fault.now b.term.now.error b.refused)
+    (state (calls a.caller.now) (streams o e a.out.now a.err.now) a.fault.now a.term.now.error a.refused)
+    (state (calls b.caller.now) (streams o e b.out.now b.err.now) b.fault.now b.term.now.error b.refused)
 
 pub does_none : {C O E : Type 0} (tells : Type 0) (calls : C → List Call) (o : Taking O) (e : Taking E) (plan : PlanView) (a : Starter C O E) → DoesSteps tells calls o e plan [] a a
 does_none tells calls o e plan a = (refl, refl, refl, refl, refl, refl, refl, refl, refl)
@@ -39,9 +39,9 @@ does_more tells calls o e plan steps more a b c p q = (
   p.6 ∙ q.6,
   error_alone a.term.now b.term.now c.term.now p.7 q.7,
   done_more tells a.keep_going b.keep_going (manner_of a.log_group a.term.now) (manner_of b.log_group b.term.now) plan steps more
-      (state (calls a.caller.now) (streams o.contents o.failed e.contents e.failed a.out.now a.err.now) a.fault.now a.term.now.error a.refused)
-      (state (calls b.caller.now) (streams o.contents o.failed e.contents e.failed b.out.now b.err.now) b.fault.now b.term.now.error b.refused)
-      (state (calls c.caller.now) (streams o.contents o.failed e.contents e.failed c.out.now c.err.now) c.fault.now c.term.now.error c.refused)
+      (state (calls a.caller.now) (streams o e a.out.now a.err.now) a.fault.now a.term.now.error a.refused)
+      (state (calls b.caller.now) (streams o e b.out.now b.err.now) b.fault.now b.term.now.error b.refused)
+      (state (calls c.caller.now) (streams o e c.out.now c.err.now) c.fault.now c.term.now.error c.refused)
       p.5 (manner_stays a.log_group b.log_group a.term.now b.term.now p.6 p.7) p.8 q.8,
 )
 
@@ -58,6 +58,6 @@ does_grown tells calls o e old new steps a b grown grows runs are p = (
   p.6,
   p.7,
   done_grown old new grown grows tells a.keep_going (manner_of a.log_group a.term.now) runs steps
-      (state (calls a.caller.now) (streams o.contents o.failed e.contents e.failed a.out.now a.err.now) a.fault.now a.term.now.error a.refused)
-      (state (calls b.caller.now) (streams o.contents o.failed e.contents e.failed b.out.now b.err.now) b.fault.now b.term.now.error b.refused) are p.8,
+      (state (calls a.caller.now) (streams o e a.out.now a.err.now) a.fault.now a.term.now.error a.refused)
+      (state (calls b.caller.now) (streams o e b.out.now b.err.now) b.fault.now b.term.now.error b.refused) are p.8,
 )

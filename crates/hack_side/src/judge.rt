@@ -52,10 +52,10 @@ impl<C: Caller, O: Sink, E: Sink> Judge for Starter<'_, C, O, E> {
       p.8,
       done_grown old new grown grows C.tells a.keep_going (manner_of a.log_group a.term.now) runs
           steps (state (C.calls a.caller.now)
-          (streams O.contents O.failed E.contents E.failed a.out.now a.err.now)
+          (streams O.Sink E.Sink a.out.now a.err.now)
           a.fault.now a.term.now.error a.refused)
           (state (C.calls b.caller.now)
-          (streams O.contents O.failed E.contents E.failed b.out.now b.err.now)
+          (streams O.Sink E.Sink b.out.now b.err.now)
           b.fault.now b.term.now.error b.refused) are p.9,
     ) };
 }

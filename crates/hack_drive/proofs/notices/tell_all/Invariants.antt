@@ -1,6 +1,7 @@
 use Rattle.std.proofs.Common.{◌≡◌, drop, map}
 use Rattle.hack_base.specs.Notes.{note_of}
-use Rattle.hack_drive.specs.Shown.{Stream, WritesAll, note_lines, stream_of}
+use Rattle.hack_base.specs.Streams.{Stream, WritesAll, stream_of}
+use Rattle.hack_drive.specs.Shown.{note_lines}
 use Rattle.hack_drive.specs.Warnings.{after_notes}
 use Rattle.hack_drive.proofs.notices.tell_all.Given as goal
 

@@ -1,4 +1,6 @@
-use Rattle.std.proofs.Common.{length, ap, ◌<◌, arith, rules, map}
+use Rattle.std.proofs.Common.{length, ap, ◌<◌, ◌∙◌, arith, refl, rules, map, sym}
+use Rattle.hack_base.proofs.StreamLemmas.{some_more, wrote_none}
+use Rattle.hack_base.specs.Streams.{stream_of}
 use Rattle.hack_files.specs.Restore.{kept_file}
 use Rattle.hack_files.proofs.RestoreLemmas.{back_none, back_written, back_refused, back_all, brings_of, tried_none, tried_written, tried_failed, grows_more, is_at, IsAt, noted_none, noted_failed, noted_written, grows_still, below_kept, end_kept}
 use Rattle.hack_files.proofs.restore.Manager.restore_all.Goals as goal
@@ -6,7 +8,7 @@ use Rattle.hack_files.proofs.restore.Manager.restore_all.Goals.{then-not-put_bac
 
 pub loop-file-init : goal.loop-file-init
 loop-file-init g c =
-    (omega arith, search rules, (λ low. omega (arith, low)), back_none (g.F.Files.refuses _ _) _ _ _ (g.F.Files.refuses_none _), (λ _. tried_none (map kept_file c.deref-file-items.result.now) _ _), noted_none _, search rules)
+    (omega arith, search rules, (λ low. omega (arith, low)), back_none (g.F.Files.refuses _ _) _ _ _ (g.F.Files.refuses_none _), (λ _. tried_none (map kept_file c.deref-file-items.result.now) _ _), noted_none _, search rules, wrote_none _ _ refl, λ plain none. refl)
 
 pub loop-file-preserved : goal.loop-file-preserved
 loop-file-preserved g c =
@@ -23,6 +25,8 @@ loop-file-preserved g c =
             (λ whole. rw w.failures-is (tried_failed _ _ _ _ _ _ _ _ _ _ lt at (told.refused whole) (before.4 whole))),
             rw w.failures-is (noted_failed _ _ _ (ap (λ t. t.error) told.noted)),
             search rules,
+            some_more _ (stream_of g.W.Sink c.loop-file.err) _ before.7 told.shown,
+            (λ plain none. absurd (omega (arith, w.failures-is, none))),
           )
       | else-not-put_back w ↦
           let told = w.if-not-put_back.ensures in (
@@ -33,6 +37,8 @@ loop-file-preserved g c =
             (λ whole. rw w.failures-is (tried_written _ _ _ _ _ _ _ _ _ _ lt at (told.traced whole) (before.4 whole))),
             rw w.failures-is (noted_written _ _ _ _ (ap (λ t. t.error) told.noted) before.5),
             search rules,
+            some_more _ (stream_of g.W.Sink c.loop-file.err) _ before.7 told.shown,
+            (λ plain none. told.quiet (ap (λ t. t.verbose) before.6 ∙ plain) ∙ before.8 plain (sym w.failures-is ∙ none)),
           )
     ]
 
@@ -41,3 +47,9 @@ returns-clause-refused g c = rw (← c.deref-file-items.ensures.value) (back_all
 
 pub returns-clause-restored : goal.returns-clause-restored
 returns-clause-restored g c = brings_of _ _ _ _ _ _ (returns-clause-refused g c)
+
+pub returns-clause-shown : goal.returns-clause-shown
+returns-clause-shown g c = c.loop-file.invariant.7
+
+pub returns-clause-quiet : goal.returns-clause-quiet
+returns-clause-quiet g c = c.loop-file.invariant.8

@@ -1,5 +1,6 @@
-use Rattle.std.proofs.Common.{◌≡◌, ◌≤◌, ◌<◌, ◌↔◌, ◌⊎◌, IsTrue, map}
+use Rattle.std.proofs.Common.{◌≡◌, ◌≤◌, ◌<◌, ◌↔◌, ◌⊎◌, IsTrue, false, map}
 use Rattle.hack_base.specs.Counters.{GrowsBy}
+use Rattle.hack_base.specs.Streams.{WritesSome, stream_of}
 use Rattle.hack_files.specs.Restore.{kept_file}
 use Rattle.hack_files.proofs.RestoreLemmas.{BackBut, TriedTo}
 use Rattle.hack_files.proofs.restore.Manager.restore_all.Given as goal
@@ -13,3 +14,5 @@ invariant-loop-file g l =
     × (g.F.Files.whole → TriedTo (map kept_file l.file-items) l.file-index l.failures (g.F.Files.trace l.fn.files) (g.F.Files.trace l.files) (g.F.Files.bytes_at l.fn.files) (g.F.Files.bytes_at l.files))
     × (IsTrue l.term.error ↔ (IsTrue l.fn.term.error ⊎ (0 < l.failures)))
     × (l.term ≡ record l.fn.term { error = l.term.error })
+    × WritesSome (stream_of g.W.Sink l.fn.err) (stream_of g.W.Sink l.err)
+    × (l.fn.term.verbose ≡ false → l.failures ≡ 0 → l.err ≡ l.fn.err)
