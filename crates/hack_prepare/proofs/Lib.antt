@@ -6,3 +6,4 @@ pub mod HeldLemmas
 mod FaultLemmas
 mod EditLemmas
 mod WriteLemmas
+mod OrderLemmas

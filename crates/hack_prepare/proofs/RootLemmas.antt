@@ -7,14 +7,12 @@ use Rattle.std.proofs.lemmas.Bool.{cases_Bool, true≢false}
 use Rattle.std.proofs.lemmas.Slice.Eq.{bytes_eq-Decides}
 use Rattle.hack_base.specs.Names.{Name, names_behind}
 use Rattle.hack_files.specs.Files.{Contents, KeepsAll, KeepsOthers}
-use Rattle.hack_base.specs.Counters.{GrowsBy}
 use Rattle.hack_edits.specs.DevDeps.{IsWithoutDev}
 use Rattle.hack_prepare.specs.Internal.{Only, ArePartlyTurned, AreTurned, IsTurnedOrNot, KeepsApart, KeepsBut, MakesRoot, MakesRootOrNot}
 use Rattle.hack_prepare.specs.Prepared.{HoldTexts, IsPartlyPrepared, IsPrepared, IsRootEdit, KeepsUnedited, MemberManifest, TurnsOrStays, Wanted, drops_at_root, edits_root, gone_manifests, is_alone, is_alone_at, is_root}
 use Rattle.hack_manifest.specs.LineRuns.{has_some}
 use Rattle.hack_prepare.specs.EditSteps.{IsRootText}
 use Rattle.hack_prepare.specs.EditNotes.{edit_notes, root_notes}
-use Rattle.hack_prepare.proofs.CountLemmas.{none_then}
 use Rattle.hack_prepare.proofs.MemberLemmas.{or_left, or_right}
 
 -- what a write of the root's manifest keeps

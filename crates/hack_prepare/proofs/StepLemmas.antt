@@ -75,7 +75,7 @@ step_read tells path held K old new first mid late same holds h = record {
 unkept_by : (needs : Bool) (kept too more : List Kept) → more ≡ cond needs too kept → needs ≡ false → more ≡ kept
 unkept_by needs kept too more is e = is ∙ ap (λ b. cond b too kept) e
 
-kept_by : (needs : Bool) (kept too more : List Kept) → more ≡ cond needs too kept → needs ≡ true → more ≡ too
+pub kept_by : (needs : Bool) (kept too more : List Kept) → more ≡ cond needs too kept → needs ≡ true → more ≡ too
 kept_by needs kept too more is e = is ∙ ap (λ b. cond b too kept) e
 
 or_last : (a b : Bool) → (a || (b || false)) ≡ true → (a ≡ true) ⊎ (b ≡ true)

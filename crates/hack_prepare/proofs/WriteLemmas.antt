@@ -297,15 +297,11 @@ none-alone : (w : Wanted) (ms : List MemberManifest) → w.drops_dev ≡ false �
 none-alone w [] d = refl
 none-alone w (m ∷ ms) d = ap (λ b. cond (b && not (w.no_private && (m.is_private || is_root w m))) (m ∷ filter (is_alone w) ms) (filter (is_alone w) ms)) d ∙ none-alone w ms d
 
-pub none-asked : (tells : Type 0) (w : Wanted) (ms : List MemberManifest) (held : Contents) (t : List Change) → w.drops_dev ≡ false → w.no_private ≡ false → MakesSome (AreWrites tells w ms held) t t held held
-none-asked tells w ms held t d n = (
-  [],
-  record {
-    alone = [];
-    root = [];
-    members = subst (λ l. AllZip IsDevWrite l []) (sym (none-alone w ms d)) tt;
-    ends = if-unasked (edits_root w ms) (WritesRoot tells w ms held) (ap (λ b. b && (drops_at_root w ms || has_some (gone_manifests w ms))) n);
-    is = refl;
-  },
-  makes_none t held,
-)
+pub none-written : (tells : Type 0) (w : Wanted) (ms : List MemberManifest) (held : Contents) → w.drops_dev ≡ false → w.no_private ≡ false → AreWrites tells w ms held []
+none-written tells w ms held d n = record {
+  alone = [];
+  root = [];
+  members = subst (λ l. AllZip IsDevWrite l []) (sym (none-alone w ms d)) tt;
+  ends = if-unasked (edits_root w ms) (WritesRoot tells w ms held) (ap (λ b. b && (drops_at_root w ms || has_some (gone_manifests w ms))) n);
+  is = refl;
+}

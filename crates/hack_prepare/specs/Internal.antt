@@ -1,15 +1,15 @@
 -- What only private functions of the crate promise each other.
-use Rattle.std.specs.Prelude.{◌≡◌, ◌⊎◌, ◌&&◌, ◌||◌, Bool, true, false, List, Some, All, string_bytes, map, []}
-use Rattle.std.specs.List.{list_any}
+use Rattle.std.specs.Prelude.{◌≡◌, ◌⊎◌, ◌&&◌, ◌||◌, ◌∷◌, Bool, true, false, List, Some, All, string_bytes, map, [], if◌then◌else◌}
+use Rattle.std.specs.List.{filter, list_any}
 use Rattle.std.specs.Str.{bytes_eq}
 use Rattle.hack_base.specs.Names.{Name}
 use Rattle.hack_files.specs.Files.{Contents, Change}
-use Rattle.hack_files.specs.Restore.{AreSafe, is_kept, registered_files}
+use Rattle.hack_files.specs.Restore.{AreSafe, is_kept, paths, registered_files}
 use Rattle.hack_files.specs.declared.restore.Manager.{Manager}
 use Rattle.hack_edits.specs.DevDeps.{IsWithoutDev}
 use Rattle.hack_prepare.specs.Prepared.{MemberManifest, Wanted, IsRootEdit, is_alone, is_alone_at}
 use Rattle.hack_manifest.specs.LineRuns.{has_some}
-use Rattle.hack_prepare.specs.EditSteps.{KeepsHeld, KeepsOnly}
+use Rattle.hack_prepare.specs.EditSteps.{KeepsHeld, KeepsOnly, kept_paths}
 use Rattle.hack_files.specs.declared.fs.FsFault.{FsFault}
 use Rattle.hack_files.specs.declared.fs.FsFault.TheVariants as fs
 use Rattle.hack_edits.specs.declared.fault.ManifestFault.{ManifestFault}
@@ -30,6 +30,19 @@ pub record IsStep (tells : Type 0) (P : Contents → Type 0) (K : Name → Type 
   pub kept : KeepsOnly K old new
   pub safe : tells → old.needs_restore ≡ true → (start : Contents) → P start → AreSafe (registered_files old) start mid → AreSafe (registered_files new) start held
   pub keeps : tells → old.needs_restore ≡ true → (start : Contents) → P start → ((q : Name) → is_kept (registered_files old) q ≡ false → mid q ≡ start q) → KeepsHeld (registered_files old) (registered_files new) start held
+
+-- where files are to be restored, these paths are kept behind those that were, in their order and
+-- each once
+abbrev pub KeepsNext : List Name → Manager → Manager → Type 0
+KeepsNext more old new = old.needs_restore ≡ true → paths (registered_files new) ≡ kept_paths (paths (registered_files old)) more
+
+-- the manifests of these members that are edited by themselves
+abbrev pub alone_paths : Wanted → List MemberManifest → List Name
+alone_paths w ms = map (λ m. m.path) (filter (is_alone w) ms)
+
+-- this path, if it is asked for
+abbrev pub one_if : Bool → Name → List Name
+one_if asked path = if asked then path ∷ [] else []
 
 -- nothing is asked of the start
 abbrev pub AnyStart : Contents → Type 0

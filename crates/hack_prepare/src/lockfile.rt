@@ -1,13 +1,13 @@
 //! The lockfile, which cargo may change, and which is restored.
 
-ghost use Rattle.std.specs.Prelude.{◌≡◌, [], OnOk, IfErr, IfSome, true};
+ghost use Rattle.std.specs.Prelude.{◌≡◌, ◌⊎◌, ◌∷◌, [], OnOk, IfErr, IfSome, true};
 ghost use Rattle.hack_files.specs.Files.{KeepsAll, Makes};
 ghost use Rattle.hack_files.specs.Restore.{is_kept, registered_files};
 ghost use Rattle.hack_prepare.specs.FailureCounts.{CountsCalls};
 ghost use Rattle.hack_prepare.specs.Faults.{IsPathFaultOr};
 ghost use Rattle.hack_prepare.specs.Internal.{NoFault};
 ghost use Rattle.hack_prepare.specs.Internal.{Nowhere, Only};
-ghost use Rattle.hack_prepare.specs.Internal.{AnyStart, IsStep};
+ghost use Rattle.hack_prepare.specs.Internal.{AnyStart, IsStep, KeepsNext};
 
 use crate::fault::{PrepareFault, of_file};
 use hack_files::fs::{Files, exists, read};
@@ -29,6 +29,8 @@ pub(crate) fn keep_lockfile<F: Files>(
     ensures kept { OnOk result (F.tells → manager.old.needs_restore ≡ true
         → IfSome (F.bytes_at files.old path.now) (λ _.
         is_kept (registered_files manager.new) path.now ≡ true)) }
+    ensures order { OnOk result (KeepsNext [] manager.old manager.new
+        ⊎ KeepsNext (path.now ∷ []) manager.old manager.new) }
     ensures same { F.tells → KeepsAll (F.bytes_at files.old) (F.bytes_at files.new) }
     ensures untraced { F.whole → Makes [] (F.trace files.old) (F.trace files.new)
         (F.bytes_at files.old) (F.bytes_at files.new) }

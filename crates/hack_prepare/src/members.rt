@@ -1,6 +1,6 @@
 //! The manifests of members that are edited by themselves.
 
-ghost use Rattle.std.specs.Prelude.{◌≡◌, [], IfErr, IfOk, OnOk, OnErr};
+ghost use Rattle.std.specs.Prelude.{◌≡◌, ◌∷◌, [], IfErr, IfOk, OnOk, OnErr};
 ghost use Rattle.std.specs.List.{flat_map};
 ghost use Rattle.hack_files.specs.Files.{KeepsOthers};
 ghost use Rattle.hack_base.specs.Names.{names_behind};
@@ -13,6 +13,7 @@ ghost use Rattle.hack_prepare.specs.PreparedView.{member_manifest_view, wanted_v
 ghost use Rattle.hack_prepare.specs.Internal.{members_view};
 ghost use Rattle.hack_prepare.specs.Internal.{ArePartlyTurned, AreTurned, HoldsText, IsStep};
 ghost use Rattle.hack_prepare.specs.Internal.{IsTurned, IsTurnedOrNot, KeepsApart};
+ghost use Rattle.hack_prepare.specs.Internal.{KeepsNext, alone_paths};
 ghost use Rattle.hack_prepare.specs.EditNotes.{dev_note, member_notes};
 ghost use Rattle.hack_prepare.specs.Writes.{AreDevWrites, BeginDevWrites, IsDevWrite};
 ghost use Rattle.hack_prepare.specs.Internal.{IsAtMostOne};
@@ -44,6 +45,9 @@ pub(crate) fn edit_members<'a, F: Files>(
     ensures step { IsStep F.tells (λ start. HoldTexts start (members_view members.now))
         (IsAlonePath (wanted_view wanted.now) (members_view members.now)) manager.old manager.new
         (F.bytes_at files.old) (F.bytes_at files.new) }
+    ensures order { OnOk result (KeepsNext
+        (alone_paths (wanted_view wanted.now) (members_view members.now))
+        manager.old manager.new) }
     ensures turned { OnOk result (F.tells
         → HoldTexts (F.bytes_at files.old) (members_view members.now)
         → AreTurned (wanted_view wanted.now) (members_view members.now) (F.bytes_at files.new)) }
@@ -104,6 +108,8 @@ fn edit_member<F: Files>(
     ensures step { IsStep F.tells (HoldsText (member_manifest_view member.now))
         (Only (member_manifest_view member.now).path) manager.old manager.new
         (F.bytes_at files.old) (F.bytes_at files.new) }
+    ensures order { OnOk result (KeepsNext ((member_manifest_view member.now).path ∷ [])
+        manager.old manager.new) }
     ensures turned { OnOk result (F.tells
         → IsTurned (F.bytes_at files.new) (member_manifest_view member.now)) }
     ensures partly { F.tells → IsTurnedOrNot (WriteFails (F.refuses files.old files.new)

@@ -6,10 +6,11 @@ ghost use Rattle.std.specs.Prelude.{List, false, map, true};
 ghost use Rattle.hack_files.specs.Files.{Change, Contents, Grows, Makes};
 ghost use Rattle.hack_base.specs.Counters.{GrowsBy};
 ghost use Rattle.hack_files.specs.Restore.{AreSafe, Brings, ComesBackBut, Tried, is_kept};
-ghost use Rattle.hack_files.specs.Restore.{registered_files};
+ghost use Rattle.hack_files.specs.Restore.{paths, registered_files};
 ghost use Rattle.hack_load.specs.ContextView.{context_view};
 ghost use Rattle.hack_base.specs.Names.{Name};
 ghost use Rattle.hack_base.specs.Notes.{note_of};
+ghost use Rattle.hack_base.specs.Streams.{WritesSome, stream_of};
 ghost use Rattle.hack_prepare.specs.FailureCounts.{CountsCalls, WriteFails};
 ghost use Rattle.hack_prepare.specs.Faults.{AtWrite, IsEditsFault};
 ghost use Rattle.hack_prepare.specs.Paths.{IsTouched};
@@ -22,7 +23,7 @@ ghost use Rattle.hack_prepare.specs.PreparedView.{AreWritesIn, BeginWritesIn};
 ghost use Rattle.hack_prepare.specs.PreparedView.{edits_in, notes_in};
 ghost use Rattle.hack_prepare.specs.Internal.{members_view};
 ghost use Rattle.hack_prepare.specs.PreparedView.{wanted_in, wanted_view};
-ghost use Rattle.hack_prepare.specs.EditSteps.{KeepsHeld, KeepsOnly};
+ghost use Rattle.hack_prepare.specs.EditSteps.{KeepsHeld, KeepsInOrder, KeepsOnly};
 ghost use Rattle.hack_prepare.specs.Internal.{IsStep};
 ghost use Rattle.hack_prepare.specs.EditNotes.{notes};
 ghost use Rattle.hack_prepare.specs.Writes.{AreWrites, BeginWrites, MakesSome};
@@ -34,13 +35,13 @@ use crate::root::{Members, edit_root};
 use crate::wanted::{Member, Wanted, members_of};
 use hack_base::notice::Notice;
 use hack_base::paths::join;
+use hack_base::writes::Sink;
 use hack_files::fs::Files;
 use hack_files::restore::Manager;
 use hack_load::context::Context;
 use hack_term::term::Term;
 use hack_words::cli::Args;
 use std::alloc::Global;
-use std::io::Write;
 
 /// Edits the manifests of the workspace as the arguments of the call ask: `--no-dev-deps` and
 /// `--remove-dev-deps` remove development dependencies, `--no-private` removes private members. The
@@ -106,8 +107,12 @@ pub fn prepare<F: Files>(
         is_kept (registered_files manager.new) (wanted_in (context_view cx.now)).lockfile ≡ true)) }
 
     // Each manifest that is edited is written once: those of members in order, and then the root's.
-    ensures traced { OnOk result (F.whole → MakesSome
-        (AreWritesIn (context_view cx.now) F.tells (F.bytes_at files.old))
+    // In this order they are kept, where files are to be restored, and the lockfile behind them.
+    ensures traced { OnOk result (F.whole → MakesSome (λ made.
+        AreWritesIn (context_view cx.now) F.tells (F.bytes_at files.old) made
+        × (manager.old.needs_restore ≡ true
+        → KeepsInOrder (wanted_in (context_view cx.now)).lockfile made
+        (paths (registered_files manager.old)) (paths (registered_files manager.new))))
         (F.trace files.old) (F.trace files.new) (F.bytes_at files.old) (F.bytes_at files.new)) }
 
     // After an error the first of these writes were made: perhaps none, or all.
@@ -189,8 +194,10 @@ fn edit<F: Files>(
     ensures lockfile { OnOk result (F.tells → manager.old.needs_restore ≡ true
         → IfSome (F.bytes_at files.new (wanted_view wanted.now).lockfile) (λ _.
         is_kept (registered_files manager.new) (wanted_view wanted.now).lockfile ≡ true)) }
-    ensures traced { OnOk result (F.whole → MakesSome (AreWrites F.tells
-        (wanted_view wanted.now) (members_view members.now) (F.bytes_at files.old))
+    ensures traced { OnOk result (F.whole → MakesSome (λ made. AreWrites F.tells
+        (wanted_view wanted.now) (members_view members.now) (F.bytes_at files.old) made
+        × (manager.old.needs_restore ≡ true → KeepsInOrder (wanted_view wanted.now).lockfile made
+        (paths (registered_files manager.old)) (paths (registered_files manager.new))))
         (F.trace files.old) (F.trace files.new) (F.bytes_at files.old) (F.bytes_at files.new)) }
     ensures refused { OnErr result (F.whole → MakesSome (BeginWrites F.tells
         (wanted_view wanted.now) (members_view members.now) (F.bytes_at files.old))
@@ -214,7 +221,7 @@ fn edit<F: Files>(
 }
 
 /// Restores the files that were kept, and returns how many of them couldn't be written.
-pub fn finish<F: Files, W: Write>(
+pub fn finish<F: Files, W: Sink>(
     manager: Manager,
     files: &mut F,
     term: &mut Term,
@@ -231,6 +238,8 @@ pub fn finish<F: Files, W: Write>(
         (F.bytes_at files.old) (F.bytes_at files.new) }
     ensures noted { IsTrue term.new.error ↔ (IsTrue term.old.error ⊎ (0 < result)) }
     ensures term { term.new ≡ record term.old { error = term.new.error } }
+    ensures shown { WritesSome (stream_of W.Sink err.old) (stream_of W.Sink err.new) }
+    ensures quiet { term.old.verbose ≡ false → result ≡ 0 → err.new ≡ err.old }
 {
     manager.restore_all(files, term, err)
 }

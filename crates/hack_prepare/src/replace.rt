@@ -6,7 +6,7 @@ ghost use Rattle.hack_prepare.specs.FailureCounts.{CountsCalls, WriteFails};
 ghost use Rattle.hack_prepare.specs.Faults.{IsPathFaultOr};
 ghost use Rattle.hack_prepare.specs.Internal.{NoFault};
 ghost use Rattle.hack_prepare.specs.Internal.{Nowhere, Only};
-ghost use Rattle.hack_prepare.specs.Internal.{HeldUnkept, IsStep};
+ghost use Rattle.hack_prepare.specs.Internal.{HeldUnkept, IsStep, KeepsNext};
 
 use crate::fault::{PrepareFault, of_file};
 use hack_files::fs::{Files, write};
@@ -27,6 +27,7 @@ pub(crate) fn replace<F: Files>(
     ensures counted { CountsCalls (F.failed files.old) (F.failed files.new) result }
     ensures step { IsStep F.tells (HeldUnkept manager.old path.now held.now) (Only path.now)
         manager.old manager.new (F.bytes_at files.old) (F.bytes_at files.new) }
+    ensures order { OnOk result (KeepsNext (path.now ∷ []) manager.old manager.new) }
     ensures written { OnOk result (F.tells → F.bytes_at files.new path.now ≡ Some text.now) }
     ensures partly { F.tells → (F.bytes_at files.new path.now ≡ F.bytes_at files.old path.now)
         ⊎ ((F.bytes_at files.new path.now ≡ Some text.now)

@@ -24,6 +24,7 @@ ghost use Rattle.hack_prepare.specs.Internal.{members_view};
 ghost use Rattle.hack_prepare.specs.EditSteps.{IsRootText};
 ghost use Rattle.hack_prepare.specs.Internal.{AnyStart, HeldUnkept, IsStep, KeepsBut};
 ghost use Rattle.hack_prepare.specs.Internal.{MakesRoot, MakesRootOrNot};
+ghost use Rattle.hack_prepare.specs.Internal.{KeepsNext, one_if};
 ghost use Rattle.hack_prepare.specs.EditNotes.{dev_note, edit_notes, private_note, root_notes};
 ghost use Rattle.hack_prepare.specs.Writes.{AreRootWrites, IsOneIf, IsRootWrite, MakesSome};
 ghost use Rattle.hack_prepare.specs.Internal.{MayWriteRoot};
@@ -73,6 +74,9 @@ pub(crate) fn edit_root<F: Files>(
         (OnlyIf (edits_root (wanted_view wanted.now) (members_view members.now.all.now))
         wanted.now.root.now)
         manager.old manager.new (F.bytes_at files.old) (F.bytes_at files.new) }
+    ensures order { OnOk result (KeepsNext
+        (one_if (edits_root (wanted_view wanted.now) (members_view members.now.all.now))
+        wanted.now.root.now) manager.old manager.new) }
     ensures edited { OnOk result (F.tells
         → edits_root (wanted_view wanted.now) (members_view members.now.all.now) ≡ true
         → (text : Name)
@@ -154,6 +158,9 @@ fn edit_virtual<F: Files>(
     ensures step { IsStep F.tells AnyStart
         (OnlyIf (has_some (names_behind private.now)) wanted.now.root.now)
         manager.old manager.new (F.bytes_at files.old) (F.bytes_at files.new) }
+    ensures order { OnOk result (KeepsNext
+        (one_if (has_some (names_behind private.now)) wanted.now.root.now)
+        manager.old manager.new) }
     ensures edited { OnOk result (F.tells → has_some (names_behind private.now) ≡ true
         → (text : Name) × (F.bytes_at files.old wanted.now.root.now ≡ Some text)
         × MakesRoot (wanted_view wanted.now) false (names_behind private.now) text
@@ -219,6 +226,9 @@ fn edit_held<F: Files>(
         (OnlyIf (held.now.drops_dev || has_some (names_behind held.now.gone.now))
         wanted.now.root.now)
         manager.old manager.new (F.bytes_at files.old) (F.bytes_at files.new) }
+    ensures order { OnOk result (KeepsNext
+        (one_if (held.now.drops_dev || has_some (names_behind held.now.gone.now))
+        wanted.now.root.now) manager.old manager.new) }
     ensures edited { OnOk result (F.tells → MakesRoot (wanted_view wanted.now) held.now.drops_dev
         (names_behind held.now.gone.now) held.now.text.now (F.bytes_at files.new)) }
     ensures partly { F.tells → MakesRootOrNot (wanted_view wanted.now) held.now.drops_dev

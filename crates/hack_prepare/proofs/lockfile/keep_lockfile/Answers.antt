@@ -1,5 +1,6 @@
-use Rattle.std.proofs.Common.{◌≡◌, ◌∙◌, Some, IfSome, true, ap, subst, sym}
+use Rattle.std.proofs.Common.{◌≡◌, ◌∙◌, inr, Some, IfSome, true, ap, subst, sym}
 use Rattle.hack_files.specs.Restore.{is_kept, registered_files}
+use Rattle.hack_prepare.proofs.OrderLemmas.{next-one}
 use Rattle.hack_prepare.proofs.StepLemmas.{locked, locked_now}
 use Rattle.hack_prepare.proofs.lockfile.keep_lockfile.Goals as goal
 
@@ -16,3 +17,7 @@ returns-clause-kept g c = λ t e.
     let path = c.args.path.now in
     subst (λ o. IfSome o (λ _. is_kept (registered_files c.register_once.new.self) path ≡ true)) (sym (c.in-Ok.ensures.bytes t) ∙ c.exists.ensures.same t path)
     (locked_now (record { path = path; bytes = c.deref.result.now }) c.args.manager.now c.register_once.new.self c.in_ok-register_once-in-Ok.ensures.ok e)
+
+pub returns-clause-order : goal.returns-clause-order
+returns-clause-order g c =
+    inr (next-one (record { path = c.args.path.now; bytes = c.deref.result.now }) c.args.manager.now c.register_once.new.self c.in_ok-register_once-in-Ok.ensures.ok)

@@ -1,5 +1,5 @@
-use Rattle.std.proofs.Common.{◌≡◌, ◌∙◌, [], ◌∷◌, get_or, false, ℕ, List, Bor, map, ap, sym}
-use Rattle.std.proofs.lemmas.List.{get_or_default, map-append}
+use Rattle.std.proofs.Common.{◌≡◌, ◌≤◌, ◌∙◌, [], ◌∷◌, get_or, false, ℕ, List, Bor, map, ap, refl, subst, sym}
+use Rattle.std.proofs.lemmas.List.{get_or_default, length-map, map-append}
 use Rattle.std.proofs.lemmas.Result.{err_from_is_err_and}
 use Rattle.hack_prepare.proofs.FaultLemmas.{member-fault, member-spared, root-fault}
 use Rattle.hack_base.proofs.Steps.{seen-next, seen_here}
@@ -12,6 +12,7 @@ use Rattle.hack_prepare.specs.FailureCounts.{WriteFails}
 use Rattle.hack_prepare.proofs.CountLemmas.{fault_then, write_then}
 use Rattle.hack_prepare.proofs.MemberLemmas.{alone-goes, others-fail, partly-fails, turned-fails, visited-alone, visited-fails, visited-goes, visited-left, visited-none}
 use Rattle.hack_prepare.proofs.members.edit_members.Goals.{then-goes+else-is_root+in_ok-push, else-goes+then-is_alone+in_ok-edit_member, else-goes+else-is_alone}
+use Rattle.hack_prepare.proofs.OrderLemmas.{next-all, next-alone, next-left}
 use Rattle.hack_prepare.proofs.WriteLemmas.{alone-begun, alone-made, dev_none, left-made, so-far-begun}
 use Rattle.hack_prepare.proofs.members.edit_members.Goals as goal
 
@@ -20,7 +21,7 @@ loop-member-init g c =
     let w = wanted_view c.args.wanted.now in
     let ms = members_view c.args.members.now in
     let held = g.F.Files.bytes_at c.args.files.now in (
-      (g.F.Files.stays_none c.args.files.now, dev_none g.F.Files.whole w (g.F.Files.trace c.args.files.now) held, g.F.Files.refuses_none c.args.files.now),
+      (g.F.Files.stays_none c.args.files.now, dev_none g.F.Files.whole w (g.F.Files.trace c.args.files.now) held, g.F.Files.refuses_none c.args.files.now, λ _. refl),
       visited-none g.F.Files.tells w ms c.args.manager.now held (g.F.Files.failed c.args.files.now) (names_behind c.new-gone.result.items) (map note_of c.args.notices.now.items) (ap names_behind c.new-gone.ensures.items),
     )
 
@@ -49,7 +50,7 @@ loop-member-preserved g c =
     elim c.if-goes.branch [
       | then-goes+else-is_root+in_ok-push b ↦
           rw (b.files-is, b.manager-is, b.notices-is, b.gone-is) (
-            (h.0.0, λ y. left-made w ms k m one trace so_far so_far start now now (alone-goes w m (sym b.if-goes.ensures)) (h.0.1 y), h.0.2),
+            (h.0.0, λ y. left-made w ms k m one trace so_far so_far start now now (alone-goes w m (sym b.if-goes.ensures)) (h.0.1 y), h.0.2, next-left w ms k m one c.args.manager.now c.loop-member.manager (alone-goes w m (sym b.if-goes.ensures)) h.0.3),
             visited-goes tells w ms k m one c.args.manager.now start before told c.loop-member.manager now after private (names_behind b.push.new.self.items) notes
                 (sym b.if-goes.ensures) (sym b.if-is_root.ensures)
                 (ap names_behind b.in_ok-push.ensures.items ∙ map-append (λ (r : Bor (List ℕ)). r.now) c.loop-member.gone.items (x.path ∷ [])) h.1,
@@ -60,6 +61,7 @@ loop-member-preserved g c =
               g.F.Files.stays_more _ _ _ h.0.0 b.edit_member.ensures.stays,
               λ y. alone-made w ms k m one trace so_far (g.F.Files.trace b.edit_member.new.files) start now (g.F.Files.bytes_at b.edit_member.new.files) (sym b.if-is_alone.ensures) (b.in_ok-edit_member.ensures.traced y) (h.0.1 y),
               g.F.Files.refuses_more _ _ _ [] [] h.0.2 b.in_ok-edit_member.ensures.refused_none,
+              next-alone w ms k m one c.args.manager.now c.loop-member.manager b.edit_member.new.manager (sym b.if-is_alone.ensures) h.1.0.needs b.in_ok-edit_member.ensures.order h.0.3,
             ),
             visited-alone tells w ms k m one c.args.manager.now start before told c.loop-member.manager b.edit_member.new.manager now (g.F.Files.bytes_at b.edit_member.new.files) after (g.F.Files.failed b.edit_member.new.files)
                 private notes (map note_of b.edit_member.new.notices.items) (seen_here member_manifest_view xs k x c.loop-member-test.true same) (sym b.if-goes.ensures) (sym b.if-is_alone.ensures)
@@ -67,7 +69,7 @@ loop-member-preserved g c =
           )
       | else-goes+else-is_alone b ↦
           rw (b.files-is, b.manager-is, b.notices-is, b.gone-is) (
-            (h.0.0, λ y. left-made w ms k m one trace so_far so_far start now now (sym b.if-is_alone.ensures) (h.0.1 y), h.0.2),
+            (h.0.0, λ y. left-made w ms k m one trace so_far so_far start now now (sym b.if-is_alone.ensures) (h.0.1 y), h.0.2, next-left w ms k m one c.args.manager.now c.loop-member.manager (sym b.if-is_alone.ensures) h.0.3),
             visited-left tells w ms k m one c.args.manager.now start before told c.loop-member.manager now after private notes (sym b.if-goes.ensures) (sym b.if-is_alone.ensures) h.1,
           )
     ]
@@ -170,3 +172,8 @@ returns-in_err-edit_member-clause-spared g c =
     let among = seen_here member_manifest_view xs k x c.loop-member-test.true (get_or_default xs k d x c.loop-member-test.true) in
     rw (p.1, p.2) (member-spared g.F.Files.tells (wanted_view c.args.wanted.now) (members_view xs) (member_manifest_view x)
     (g.F.Files.bytes_at c.args.files.now) (g.F.Files.bytes_at c.loop-member.files) (g.F.Files.bytes_at c.edit_member.new.files) _ among c.loop-member.invariant.1.4 c.edit_member.ensures.others c.in_err-edit_member.ensures.err)
+
+pub returns-clause-order : goal.returns-clause-order
+returns-clause-order g c =
+    next-all (wanted_view c.args.wanted.now) (members_view c.args.members.now) c.loop-member.member-index c.args.manager.now c.loop-member.manager
+    (subst (λ n. n ≤ c.loop-member.member-index) (sym (length-map c.args.members.now member_manifest_view)) c.loop-member-test.false) c.loop-member.invariant.0.3

@@ -12,6 +12,7 @@ use Rattle.hack_prepare.proofs.RootLemmas.{partly-all, partly-members, partly-ro
 use Rattle.std.proofs.Common.{inl, inr}
 use Rattle.hack_prepare.specs.Prepared.{HoldTexts, IsPartlyPrepared}
 use Rattle.hack_prepare.specs.Writes.{AreWrites, BeginDevWrites, BeginWrites}
+use Rattle.hack_prepare.proofs.OrderLemmas.{made-in-order}
 use Rattle.hack_prepare.proofs.WriteLemmas.{all-made, made-still, root-begun, some-made}
 use Rattle.hack_prepare.proofs.prepare.edit.Goals as goal
 
@@ -161,7 +162,9 @@ returns-in_err-keep_lockfile-clause-refused g c =
 pub returns-clause-traced : goal.returns-clause-traced
 returns-clause-traced g c = λ y.
     let made = all-made g.F.Files.tells (wanted_view c.args.wanted.now) (members_view c.args.members.now) (g.F.Files.bytes_at c.args.files.now) (g.F.Files.bytes_at c.edit_members.new.files) (g.F.Files.bytes_at c.edit_root.new.files) (g.F.Files.trace c.args.files.now) (g.F.Files.trace c.edit_members.new.files) (g.F.Files.trace c.edit_root.new.files) c.edit_members.ensures.others (c.in_ok-gone.ensures.traced y) (c.in_ok-edit_root.ensures.traced y) in
-    made-still _ _ _ _ _ _ _ made (c.keep_lockfile.ensures.untraced y)
+    let still = made-still _ _ _ _ _ _ _ made (c.keep_lockfile.ensures.untraced y) in
+    made-in-order g.F.Files.tells (wanted_view c.args.wanted.now) (members_view c.args.members.now) (g.F.Files.bytes_at c.args.files.now) c.args.manager.now c.edit_members.new.manager c.edit_root.new.manager c.keep_lockfile.new.manager
+    _ _ _ _ c.edit_members.ensures.step.needs c.edit_root.ensures.step.needs c.in_ok-gone.ensures.order c.in_ok-edit_root.ensures.order c.in_ok-keep_lockfile.ensures.order still
 
 pub returns-in_err-gone-clause-spared : goal.returns-in_err-gone-clause-spared
 returns-in_err-gone-clause-spared g c =

@@ -1,4 +1,4 @@
-use Rattle.std.proofs.Common.{◌≡◌, ◌∙◌, inl, inr, false, true, IfErr, IfOk, List, ℕ, ap, sym, subst, map}
+use Rattle.std.proofs.Common.{◌≡◌, ◌∙◌, inl, inr, false, true, IfErr, IfOk, List, ap, sym, subst, map}
 use Rattle.std.specs.Prelude.{◌||◌}
 use Rattle.hack_prepare.specs.FailureCounts.{WriteFails}
 use Rattle.hack_words.specs.declared.cli.args.Args.{Args}
@@ -15,7 +15,11 @@ use Rattle.hack_prepare.proofs.FaultLemmas.{asked-fault}
 use Rattle.hack_prepare.proofs.MemberLemmas.{or_left, or_right, told-none, wanted-is}
 use Rattle.std.proofs.Common.{OnErr, OnOk}
 use Rattle.hack_prepare.specs.Writes.{AreWrites, BeginWrites, MakesSome}
-use Rattle.hack_prepare.proofs.WriteLemmas.{begun_none, none-asked}
+use Rattle.hack_prepare.proofs.OrderLemmas.{none-in-order}
+use Rattle.hack_prepare.proofs.WriteLemmas.{begun_none}
+use Rattle.hack_files.specs.Files.{Change}
+use Rattle.hack_files.specs.Restore.{paths, registered_files}
+use Rattle.hack_prepare.specs.EditSteps.{KeepsInOrder}
 use Rattle.std.proofs.lemmas.Result.{err_from_is_err_and}
 use Rattle.hack_prepare.proofs.prepare.prepare.Goals as goal
 
@@ -109,8 +113,11 @@ returns-clause-traced g c =
     c.workspace_root-folder.ensures (c.as_str.ensures.value ∙ c.in_ok-root.ensures) (c.as_str-2.ensures.value ∙ c.in_ok-lockfile.ensures) in
     let old = g.F.Files.bytes_at c.args.files.now in
     let new = g.F.Files.bytes_at c.edit.new.files in
-    subst (λ (l : List MemberManifest). OnOk c.edit.result (g.F.Files.whole → MakesSome (AreWrites g.F.Files.tells (wanted_in cx) l old) (g.F.Files.trace c.args.files.now) (g.F.Files.trace c.edit.new.files) old new)) are
-    (subst (λ (w : Wanted). OnOk c.edit.result (g.F.Files.whole → MakesSome (AreWrites g.F.Files.tells w (members_view c.as_slice.result.now) old) (g.F.Files.trace c.args.files.now) (g.F.Files.trace c.edit.new.files) old new)) is c.edit.ensures.traced)
+    let before = paths (registered_files c.args.manager.now) in
+    let after = paths (registered_files c.edit.new.manager) in
+    let in_order : Wanted → List Change → Type 0 = λ w made. c.args.manager.now.needs_restore ≡ true → KeepsInOrder w.lockfile made before after in
+    subst (λ (l : List MemberManifest). OnOk c.edit.result (g.F.Files.whole → MakesSome (λ made. AreWrites g.F.Files.tells (wanted_in cx) l old made × in_order (wanted_in cx) made) (g.F.Files.trace c.args.files.now) (g.F.Files.trace c.edit.new.files) old new)) are
+    (subst (λ (w : Wanted). OnOk c.edit.result (g.F.Files.whole → MakesSome (λ made. AreWrites g.F.Files.tells w (members_view c.as_slice.result.now) old made × in_order w made) (g.F.Files.trace c.args.files.now) (g.F.Files.trace c.edit.new.files) old new)) is c.edit.ensures.traced)
 
 pub returns-clause-refused : goal.returns-clause-refused
 returns-clause-refused g c =
@@ -142,7 +149,7 @@ returns-then-not-is_asked-clause-traced g c = λ y.
     let out : (drops || private) ≡ false = sym c.if-not-is_asked.ensures in
     let d : (wanted_in cx).drops_dev ≡ false = sym (c.drops_dev-drops_dev.ensures ∙ ap (λ (x : Args). x.no_dev_deps || x.remove_dev_deps) c.args-args.ensures) ∙ or_left drops private out in
     let n : (wanted_in cx).no_private ≡ false = sym (ap (λ (x : Args). x.no_private) c.args-args.ensures) ∙ or_right drops private out in
-    none-asked g.F.Files.tells (wanted_in cx) (member_manifests_in cx) (g.F.Files.bytes_at c.args.files.now) (g.F.Files.trace c.args.files.now) d n
+    none-in-order g.F.Files.tells (wanted_in cx) (member_manifests_in cx) (g.F.Files.bytes_at c.args.files.now) c.args.manager.now (g.F.Files.trace c.args.files.now) d n
 
 pub returns-in_err-root-clause-refused : goal.returns-in_err-root-clause-refused
 returns-in_err-root-clause-refused g c =

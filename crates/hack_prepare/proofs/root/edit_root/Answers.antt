@@ -1,13 +1,14 @@
-use Rattle.std.proofs.Common.{◌≡◌, ◌∙◌, ◌++◌, List, OnOk, sym, subst, map}
-use Rattle.std.specs.Prelude.{◌||◌, Bool, false}
+use Rattle.std.proofs.Common.{◌≡◌, ◌∙◌, ◌++◌, List, OnOk, ap, sym, subst, map}
+use Rattle.std.specs.Prelude.{◌&&◌, ◌||◌, Bool, false}
 use Rattle.hack_prepare.specs.FailureCounts.{WriteFails}
 use Rattle.hack_base.specs.Names.{names_behind}
 use Rattle.hack_base.specs.Notes.{Note, note_of}
-use Rattle.hack_prepare.specs.Internal.{OnlyIf, members_view, AnyStart, HeldUnkept, KeepsBut}
-use Rattle.hack_prepare.specs.Prepared.{HoldTexts, edits_root}
+use Rattle.hack_prepare.specs.Internal.{OnlyIf, members_view, one_if, AnyStart, HeldUnkept, KeepsBut, KeepsNext}
+use Rattle.hack_prepare.specs.Prepared.{HoldTexts, drops_at_root, edits_root, gone_manifests}
 use Rattle.hack_manifest.specs.LineRuns.{has_some}
 use Rattle.hack_prepare.specs.PreparedView.{wanted_view}
 use Rattle.hack_prepare.proofs.FaultLemmas.{found-fault, missed-fault}
+use Rattle.hack_prepare.proofs.OrderLemmas.{next-unasked}
 use Rattle.hack_prepare.proofs.RootLemmas.{drops-found, drops-missed, edited-found, edited-missed, edits-is, notes-are, partly-found, partly-missed, root-found, root-held, root-missed}
 use Rattle.hack_prepare.proofs.StepLemmas.{step_given}
 use Rattle.hack_prepare.proofs.WriteLemmas.{found-refused, found-traced, missed-refused, missed-traced, unwanted}
@@ -101,3 +102,23 @@ returns-in-None-clause-refused g c =
 pub returns-then-not-wanted-clause-traced : goal.returns-then-not-wanted-clause-traced
 returns-then-not-wanted-clause-traced g c = λ y.
     unwanted g.F.Files.tells (wanted_view c.args.wanted.now) (members_view c.args.members.now.all.now) (g.F.Files.bytes_at c.args.files.now) (g.F.Files.trace c.args.files.now) (g.F.Files.bytes_at c.args.files.now) c.if-not-wanted.true
+
+pub returns-in-Some-clause-order : goal.returns-in-Some-clause-order
+returns-in-Some-clause-order g c =
+    let w = wanted_view c.args.wanted.now in
+    let ms = members_view c.args.members.now.all.now in
+    subst (λ (b : Bool). OnOk c.edit_held.result (KeepsNext (one_if b w.root) c.args.manager.now c.edit_held.new.manager))
+    (sym (edits-is w ms w.drops_dev (names_behind c.args.members.now.gone.now) c.if-not-wanted.false (drops-found w ms (root-found w ms c.in-Some.text.now c.in-Some.ensures)) c.requires)) c.edit_held.ensures.order
+
+pub returns-in-None-clause-order : goal.returns-in-None-clause-order
+returns-in-None-clause-order g c =
+    let w = wanted_view c.args.wanted.now in
+    let ms = members_view c.args.members.now.all.now in
+    subst (λ (b : Bool). OnOk c.edit_virtual.result (KeepsNext (one_if b w.root) c.args.manager.now c.edit_virtual.new.manager))
+    (sym (edits-is w ms false (names_behind c.args.members.now.gone.now) c.if-not-wanted.false (drops-missed w ms (root-missed w ms c.in-None.ensures)) c.requires)) c.edit_virtual.ensures.order
+
+pub returns-then-not-wanted-clause-order : goal.returns-then-not-wanted-clause-order
+returns-then-not-wanted-clause-order g c =
+    let w = wanted_view c.args.wanted.now in
+    let ms = members_view c.args.members.now.all.now in
+    next-unasked (edits_root w ms) w.root c.args.manager.now (ap (λ b. b && (drops_at_root w ms || has_some (gone_manifests w ms))) c.if-not-wanted.true)

@@ -66,3 +66,6 @@ pub returns-in-Ok-clause-refused : goal.returns-in-Ok-clause-refused
 returns-in-Ok-clause-refused g c =
     virtual-begun g.F.Files.whole c.edit_held.result g.F.Files.tells (wanted_view c.args.wanted.now) (names_behind c.args.private.now) (string_bytes c.in-Ok.text) c.as_str.result.now (g.F.Files.bytes_at c.args.files.now) (g.F.Files.bytes_at c.read_to_string.new.files) (g.F.Files.trace c.args.files.now) (g.F.Files.trace c.read_to_string.new.files) (g.F.Files.trace c.edit_held.new.files) (g.F.Files.bytes_at c.edit_held.new.files)
     c.as_str.ensures.value c.in-Ok.ensures.text c.read_to_string.ensures.untraced c.edit_held.ensures.refused
+
+pub returns-in-Ok-clause-stays : goal.returns-in-Ok-clause-stays
+returns-in-Ok-clause-stays g c = g.F.Files.stays_more _ _ _ c.read_to_string.ensures.stays c.edit_held.ensures.stays
