@@ -19,6 +19,7 @@ ghost use Rattle.hack_run.specs.TemporaryEdits.{BringsBack, RestoresEdits};
 ghost use Rattle.hack_run.specs.Refusals.{AreRefused, ReportsRefusal};
 ghost use Rattle.hack_run.specs.Worlds.{IsSameHost, IsStatus, host_view};
 
+use hack_base::writes::Sink;
 use hack_files::fs::Files;
 use hack_journal::apart::Apart;
 use hack_journal::journaled::Journaled;
@@ -28,14 +29,13 @@ use hack_run::host::Host;
 use hack_run::reading::Reading;
 use hack_run::run::run;
 use hack_starts::starts::Starts;
-use std::io::Write;
 
 /// Performs a call as [`run`] does, and returns its exit status, the files, the lockfiles, how many
 /// of their calls failed, and `unkept`. Each change of the files is first noted in a journal at this
 /// place, where no file may be yet; at the end the journal is removed, unless some file isn't
 /// restored. A change that can't be noted is refused, and `unkept` is told of it: so it is where
 /// memory is refused for that. Lockfiles, which cargo changes too, are those of `lockfiles`.
-pub fn run_journaled<F: Files, L: Files, U: Unkept, C: Starts, O: Write, E: Write>(
+pub fn run_journaled<F: Files, L: Files, U: Unkept, C: Starts, O: Sink, E: Sink>(
     words: &[String],
     reading: Option<Reading>,
     files: F,
@@ -47,25 +47,25 @@ pub fn run_journaled<F: Files, L: Files, U: Unkept, C: Starts, O: Write, E: Writ
     requires { IfSome reading (IsEarlyReadingOrRefusal host.old.env.now (names_of words.now)) }
     ensures host { IsSameHost host.old host.new }
     ensures status { IsStatus host.old.env.now.deny_warnings
-        (host_view C.Caller O.Write host.new) result.0 }
+        (host_view C.Caller O.Sink host.new) result.0 }
 
     // The clauses `refused`, `done` and `made` promise what those of `run` do; and where no error
     // was reported each path holds what it held, unless the command line asks for edits that stay.
     ensures refused { AreRefused host.old.env.now (names_of words.now)
         → ReportsRefusal C.tells host.old.env.now
-        (host_view C.Caller O.Write host.old) (host_view C.Caller O.Write host.new) }
+        (host_view C.Caller O.Sink host.old) (host_view C.Caller O.Sink host.new) }
     ensures done { host.new.term.now.error ≡ false → C.tells
         → IsCallTrace true (F.tells × L.tells) (names_of words.now) host.old.env.now
         (world_seen (string_bytes place.journal) (F.bytes_at files) (L.bytes_at lockfiles) 0
-        (host_view C.Caller O.Write host.old))
+        (host_view C.Caller O.Sink host.old))
         (world_seen (string_bytes place.journal) (F.bytes_at result.1) (L.bytes_at result.2)
-        result.3 (host_view C.Caller O.Write host.new)) }
+        result.3 (host_view C.Caller O.Sink host.new)) }
     ensures made { C.tells
         → IsCallTrace false (F.tells × L.tells) (names_of words.now) host.old.env.now
         (world_seen (string_bytes place.journal) (F.bytes_at files) (L.bytes_at lockfiles) 0
-        (host_view C.Caller O.Write host.old))
+        (host_view C.Caller O.Sink host.old))
         (world_seen (string_bytes place.journal) (F.bytes_at result.1) (L.bytes_at result.2)
-        result.3 (host_view C.Caller O.Write host.new)) }
+        result.3 (host_view C.Caller O.Sink host.new)) }
     ensures clean { host.new.term.now.error ≡ false
         → RestoresEdits host.old.env.now (names_of words.now) → F.tells → L.tells → KeepsAll
         (contents_seen (string_bytes place.journal) (F.bytes_at files) (L.bytes_at lockfiles))

@@ -1,6 +1,6 @@
 -- How a call of the program goes, from what the system tells of it.
 use Rattle.std.specs.Prelude.{◌≡◌, ℕ, Bool, true, List, Option, Ok, Err}
-use Rattle.std.specs.declared.io.traits.Write.{Ghosts as Writing}
+use Rattle.hack_base.specs.declared.writes.Sink.{Ghosts as Taking}
 use Rattle.hack_base.specs.Names.{Name, names_of, optional_text}
 use Rattle.hack_base.specs.Writes.{AppendsFront}
 use Rattle.hack_files.specs.declared.fs.Files.{Ghosts as Filing}
@@ -23,7 +23,7 @@ use Rattle.hack_recovery.specs.Scenes.{Scene}
 use Rattle.hack_recovery.specs.declared.call.Outside.{Outside}
 
 -- what a call sees and changes
-abbrev pub scene_outside : {F L C O E : Type 0} → Filing F → Filing L → Calling C → Writing O → F → L
+abbrev pub scene_outside : {F L C O E : Type 0} → Filing F → Filing L → Calling C → Taking O → F → L
     → LocksView → GuardsView → Outside C O E → Scene
 scene_outside f l c o files lockfiles locks guards outside = record {
   files = files_view f files;

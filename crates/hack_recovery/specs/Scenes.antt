@@ -1,6 +1,6 @@
 -- What a call sees and changes.
 use Rattle.std.specs.Prelude.{◌≡◌, true}
-use Rattle.std.specs.declared.io.traits.Write.{Ghosts as Writing}
+use Rattle.hack_base.specs.declared.writes.Sink.{Ghosts as Taking}
 use Rattle.hack_files.specs.Files.{Contents}
 use Rattle.hack_files.specs.declared.fs.Files.{Ghosts as Filing}
 use Rattle.hack_process.specs.declared.caller.Caller.{Ghosts as Calling}
@@ -23,7 +23,7 @@ pub record Scene : Type 0 where
 abbrev pub scene_by : FilesView → Contents → LocksView → GuardsView → HostView → Scene
 scene_by files lockfiles locks guards host = record { files = files; lockfiles = lockfiles; locks = locks; guards = guards; host = host }
 
-abbrev pub scene_of : {F L C O E : Type 0} → Filing F → Filing L → Calling C → Writing O → F → L
+abbrev pub scene_of : {F L C O E : Type 0} → Filing F → Filing L → Calling C → Taking O → F → L
     → LocksView → GuardsView → Host C O E → Scene
 scene_of f l c o files lockfiles locks guards host = scene_by (files_view f files) (l.bytes_at lockfiles) locks guards (host_view c o host)
 

@@ -9,6 +9,7 @@ use crate::guards::Guards;
 use crate::keepers::Keepers;
 use crate::locks::Locks;
 use crate::perform::perform;
+use hack_base::writes::Sink;
 use hack_files::fs::Files;
 use hack_process::process::Caller;
 use hack_run::host::Host;
@@ -18,11 +19,10 @@ use hack_starts::starts::Starts;
 use hack_term::term::{Coloring, Term};
 use hack_words::cli::coloring_asked;
 use std::alloc::Global;
-use std::io::Write;
 
 /// What a call reaches of the world before its environment is read: all of a `Host` but that.
 #[derive(Drop)]
-pub struct Outside<'a, C: Caller, O: Write, E: Write> {
+pub struct Outside<'a, C: Caller, O: Sink, E: Sink> {
     /// How messages look, and whether an error or a warning was reported.
     pub term: &'a mut Term,
     /// Who runs programs.
@@ -41,7 +41,7 @@ pub struct Outside<'a, C: Caller, O: Write, E: Write> {
 /// returns its exit status, the files and the lockfiles. Where these can't be read, that is
 /// reported, and nothing else is done. All lines are coloured as the arguments ask, else the
 /// environment; so is the error of a command line that breaks a rule behind the one on colours.
-pub fn call<S: System, F: Files, L: Files, K: Locks, G: Guards, C: Starts, O: Write, E: Write>(
+pub fn call<S: System, F: Files, L: Files, K: Locks, G: Guards, C: Starts, O: Sink, E: Sink>(
     alloc: Global,
     system: &S,
     files: F,
@@ -53,9 +53,9 @@ pub fn call<S: System, F: Files, L: Files, K: Locks, G: Guards, C: Starts, O: Wr
     ensures goes { IsProgramCall (RefusesThese F.Files) S.tells F.tells F.whole L.tells C.tells K.tells G.tells
         (K.real keepers.old.locks) (S.shown system.now) outside.old.is_terminal
         (E.contents outside.old.err.now) (E.contents outside.new.err.now)
-        (scene_outside F.Files L.Files C.Caller O.Write files lockfiles
+        (scene_outside F.Files L.Files C.Caller O.Sink files lockfiles
         (K.shown keepers.old.locks) (G.shown keepers.old.guards) outside.old)
-        (scene_outside F.Files L.Files C.Caller O.Write result.1 result.2
+        (scene_outside F.Files L.Files C.Caller O.Sink result.1 result.2
         (K.shown keepers.new.locks) (G.shown keepers.new.guards) outside.new) result.0 }
 {
     let is_terminal = outside.is_terminal;

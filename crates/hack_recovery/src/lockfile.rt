@@ -16,6 +16,7 @@ ghost use Rattle.hack_run.specs.Worlds.{IsSameHost, host_view};
 use crate::fault::CallFault;
 use crate::restore::tell_restored;
 use hack_base::paths::under;
+use hack_base::writes::Sink;
 use hack_files::fs::{FileFault, Files};
 use hack_files::reason::tell_reason;
 use hack_journal::contents::look;
@@ -25,10 +26,9 @@ use hack_process::process::Caller;
 use hack_run::host::Host;
 use hack_term::term::Term;
 use std::alloc::Global;
-use std::io::Write;
 
 /// Copies the lockfile, if there is one. Where that can't be done, the system's reason is reported.
-pub(crate) fn keep_copy<F: Files, L: Files, E: Write>(
+pub(crate) fn keep_copy<F: Files, L: Files, E: Sink>(
     alloc: Global,
     places: &Places,
     files: &mut F,
@@ -62,7 +62,7 @@ pub(crate) fn keep_copy<F: Files, L: Files, E: Write>(
 }
 
 /// Reports why these files failed, and returns why the call isn't performed.
-fn copy_fault<F: Files, E: Write>(
+fn copy_fault<F: Files, E: Sink>(
     alloc: Global,
     fault: FileFault,
     files: &F,
@@ -81,15 +81,15 @@ fn copy_fault<F: Files, E: Write>(
 /// Gives the lockfile back what its copy has, where the guard calls, and removes the copy. Returns
 /// whether that is done; if not, an error was reported.
 #[tactic(auto, using(hack_places::proofs::CountLemmas::grows_then))]
-pub(crate) fn settle<F: Files, L: Files, C: Caller, O: Write, E: Write>(
+pub(crate) fn settle<F: Files, L: Files, C: Caller, O: Sink, E: Sink>(
     places: &Places,
     files: &mut F,
     lockfiles: &mut L,
     host: &mut Host<'_, C, O, E>,
 ) -> Result<bool, CallFault>
     ensures host { IsSameHost host.old host.new }
-    ensures view { host_view C.Caller O.Write host.new
-        ≡ record (host_view C.Caller O.Write host.old) { term = host.new.term.now } }
+    ensures view { host_view C.Caller O.Sink host.new
+        ≡ record (host_view C.Caller O.Sink host.old) { term = host.new.term.now } }
     ensures told { Tells host.old.term.now host.new.term.now result }
 
     // The copy is gone, no other file is changed, and the guard gives the lockfile what it has.
@@ -143,15 +143,15 @@ pub(crate) fn settle<F: Files, L: Files, C: Caller, O: Write, E: Write>(
 
 /// Gives the lockfile these bytes, and reports it, unless it holds them: then it is written all the
 /// same, since a write on the disk removes what an interrupted one left beside it.
-fn give_back<L: Files, C: Caller, O: Write, E: Write>(
+fn give_back<L: Files, C: Caller, O: Sink, E: Sink>(
     bytes: &[u8],
     places: &Places,
     lockfiles: &mut L,
     host: &mut Host<'_, C, O, E>,
 ) -> Result<bool, CallFault>
     ensures host { IsSameHost host.old host.new }
-    ensures view { host_view C.Caller O.Write host.new
-        ≡ record (host_view C.Caller O.Write host.old) { term = host.new.term.now } }
+    ensures view { host_view C.Caller O.Sink host.new
+        ≡ record (host_view C.Caller O.Sink host.old) { term = host.new.term.now } }
     ensures told { Tells host.old.term.now host.new.term.now result }
     ensures given { result ≡ Ok true → L.tells
         → L.bytes_at lockfiles.new (string_bytes places.now.lockfile) ≡ Some bytes.now }
@@ -174,15 +174,15 @@ fn give_back<L: Files, C: Caller, O: Write, E: Write>(
 }
 
 /// Leaves the lockfile as it is, and reports that where it doesn't hold these bytes.
-fn leave<L: Files, C: Caller, O: Write, E: Write>(
+fn leave<L: Files, C: Caller, O: Sink, E: Sink>(
     bytes: &[u8],
     places: &Places,
     lockfiles: &mut L,
     host: &mut Host<'_, C, O, E>,
 ) -> Result<bool, CallFault>
     ensures host { IsSameHost host.old host.new }
-    ensures view { host_view C.Caller O.Write host.new
-        ≡ record (host_view C.Caller O.Write host.old) { term = host.new.term.now } }
+    ensures view { host_view C.Caller O.Sink host.new
+        ≡ record (host_view C.Caller O.Sink host.old) { term = host.new.term.now } }
     ensures told { Tells host.old.term.now host.new.term.now result }
     ensures same { L.tells → KeepsAll (L.bytes_at lockfiles.old) (L.bytes_at lockfiles.new) }
 {
@@ -216,7 +216,7 @@ fn holds<F: Files>(
 }
 
 /// Removes the copy. Returns whether that is done; if not, an error was reported.
-fn drop_copy<F: Files, E: Write>(
+fn drop_copy<F: Files, E: Sink>(
     alloc: Global,
     places: &Places,
     files: &mut F,
@@ -240,7 +240,7 @@ fn drop_copy<F: Files, E: Write>(
 }
 
 /// Reports that one of these files can't be read or written, and why.
-fn tell_fault<F: Files, E: Write>(
+fn tell_fault<F: Files, E: Sink>(
     alloc: Global,
     path: &str,
     fault: FileFault,

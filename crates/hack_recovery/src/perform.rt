@@ -29,6 +29,7 @@ use crate::lockfile::{keep_copy, settle};
 use crate::locks::Locks;
 use crate::restore::restore;
 use crate::unseen::blindly;
+use hack_base::writes::Sink;
 use hack_files::fs::Files;
 use hack_journaled::journaled::run_journaled;
 use hack_places::look::{LookFault, is_there};
@@ -40,7 +41,6 @@ use hack_run::run::run;
 use hack_starts::starts::Starts;
 use hack_term::term::Term;
 use std::alloc::Global;
-use std::io::Write;
 
 /// Performs a call as `run` does, and returns its exit status, the files and the lockfiles. Before
 /// anything else it restores what an interrupted call left edited, unless another call is running;
@@ -48,7 +48,7 @@ use std::io::Write;
 /// journal of its edits, under a lock of its workspace's folder, and a guard restores them where it
 /// ends early. `files` and `lockfiles` are the same file system.
 #[tactic(auto, using(hack_run::proofs::ReadingLemmas::some_or_refusal))]
-pub fn perform<F: Files, L: Files, K: Locks, G: Guards, C: Starts, O: Write, E: Write>(
+pub fn perform<F: Files, L: Files, K: Locks, G: Guards, C: Starts, O: Sink, E: Sink>(
     words: &[String],
     files: F,
     lockfiles: L,
@@ -57,12 +57,12 @@ pub fn perform<F: Files, L: Files, K: Locks, G: Guards, C: Starts, O: Write, E: 
 ) -> (u8, F, L)
     ensures host { IsSameHost host.old host.new }
     ensures status { IsStatus host.old.env.now.deny_warnings
-        (host_view C.Caller O.Write host.new) result.0 }
+        (host_view C.Caller O.Sink host.new) result.0 }
     ensures goes { IsCallCourse (RefusesThese F.Files) F.tells F.whole L.tells C.tells K.tells G.tells
         (K.real keepers.old.locks) (names_of words.now) host.old.env.now
-        (scene_of F.Files L.Files C.Caller O.Write files lockfiles
+        (scene_of F.Files L.Files C.Caller O.Sink files lockfiles
         (K.shown keepers.old.locks) (G.shown keepers.old.guards) host.old)
-        (scene_of F.Files L.Files C.Caller O.Write result.1 result.2
+        (scene_of F.Files L.Files C.Caller O.Sink result.1 result.2
         (K.shown keepers.new.locks) (G.shown keepers.new.guards) host.new) }
 {
     let mut files = files;
@@ -94,12 +94,12 @@ pub fn perform<F: Files, L: Files, K: Locks, G: Guards, C: Starts, O: Write, E: 
 }
 
 /// Reports why the call isn't performed, and returns its exit status.
-fn report<C: Caller, O: Write, E: Write>(fault: CallFault, host: &mut Host<'_, C, O, E>) -> u8
+fn report<C: Caller, O: Sink, E: Sink>(fault: CallFault, host: &mut Host<'_, C, O, E>) -> u8
     ensures host { IsSameHost host.old host.new }
     ensures status { IsStatus host.old.env.now.deny_warnings
-        (host_view C.Caller O.Write host.new) result }
-    ensures view { host_view C.Caller O.Write host.new
-        ≡ record (host_view C.Caller O.Write host.old) { term = host.new.term.now } }
+        (host_view C.Caller O.Sink host.new) result }
+    ensures view { host_view C.Caller O.Sink host.new
+        ≡ record (host_view C.Caller O.Sink host.old) { term = host.new.term.now } }
     ensures error { host.new.term.now.error ≡ true }
 {
     let _ = host.term.error(fault.text(), host.err);
@@ -108,7 +108,7 @@ fn report<C: Caller, O: Write, E: Write>(fault: CallFault, host: &mut Host<'_, C
 
 /// Performs a call without a journal. Where it is to restore, there is nothing that it may.
 #[tactic(auto, using(hack_run::proofs::ReadingLemmas::some_or_refusal))]
-fn plainly<F: Files, C: Starts, O: Write, E: Write>(
+fn plainly<F: Files, C: Starts, O: Sink, E: Sink>(
     words: &[String],
     begun: Begun,
     files: &mut F,
@@ -117,17 +117,17 @@ fn plainly<F: Files, C: Starts, O: Write, E: Write>(
     requires { IfSome begun.reading (IsEarlyReading host.old.env.now (names_of words.now)) }
     ensures host { IsSameHost host.old host.new }
     ensures status { IsStatus host.old.env.now.deny_warnings
-        (host_view C.Caller O.Write host.new) result }
+        (host_view C.Caller O.Sink host.new) result }
     ensures restores { is_restore begun.edits ≡ true
-        → (files.new ≡ files.old) × (host_view C.Caller O.Write host.new
-        ≡ host_view C.Caller O.Write host.old) }
+        → (files.new ≡ files.old) × (host_view C.Caller O.Sink host.new
+        ≡ host_view C.Caller O.Sink host.old) }
     ensures runs { is_restore begun.edits ≡ false → (lockfiles : Contents) (locks : LocksView)
         (guards : GuardsView) → PerformsUnjournaled (RefusesThese F.Files) F.tells F.whole C.tells
         (names_of words.now) host.old.env.now
         (scene_by (files_view F.Files files.old) lockfiles locks guards
-        (host_view C.Caller O.Write host.old))
+        (host_view C.Caller O.Sink host.old))
         (scene_by (files_view F.Files files.new) lockfiles locks guards
-        (host_view C.Caller O.Write host.new)) }
+        (host_view C.Caller O.Sink host.new)) }
 {
     if begun.edits == Edits::Restore {
         if !host.env.by_guard {
@@ -139,7 +139,7 @@ fn plainly<F: Files, C: Starts, O: Write, E: Write>(
 }
 
 /// Says why nothing is restored.
-fn tell_unrestored<E: Write>(is_left: bool, term: &Term, err: &mut E) {
+fn tell_unrestored<E: Sink>(is_left: bool, term: &Term, err: &mut E) {
     let text = if is_left {
         "another call is editing the manifests of this workspace, and restores them"
     } else {
@@ -149,7 +149,7 @@ fn tell_unrestored<E: Write>(is_left: bool, term: &Term, err: &mut E) {
 }
 
 /// Performs a call under its own lock.
-fn guarded<F: Files, L: Files, K: Locks, G: Guards, C: Starts, O: Write, E: Write>(
+fn guarded<F: Files, L: Files, K: Locks, G: Guards, C: Starts, O: Sink, E: Sink>(
     words: &[String],
     begun: Begun,
     files: F,
@@ -162,12 +162,12 @@ fn guarded<F: Files, L: Files, K: Locks, G: Guards, C: Starts, O: Write, E: Writ
     requires place { spot_of begun.place ≡ spot_of begun.places.place }
     ensures host { IsSameHost host.old host.new }
     ensures status { IsStatus host.old.env.now.deny_warnings
-        (host_view C.Caller O.Write host.new) result.0 }
+        (host_view C.Caller O.Sink host.new) result.0 }
     ensures goes { IsLockedCourse (RefusesThese F.Files) F.tells F.whole L.tells C.tells K.tells G.tells
         (names_of words.now) host.old.env.now begun.edits (places_view begun.places)
-        (scene_of F.Files L.Files C.Caller O.Write files lockfiles
+        (scene_of F.Files L.Files C.Caller O.Sink files lockfiles
         (K.shown keepers.old.locks) (G.shown keepers.old.guards) host.old)
-        (scene_of F.Files L.Files C.Caller O.Write result.1 result.2
+        (scene_of F.Files L.Files C.Caller O.Sink result.1 result.2
         (K.shown keepers.new.locks) (G.shown keepers.new.guards) host.new) }
 {
     let mut files = files;
@@ -185,7 +185,7 @@ fn guarded<F: Files, L: Files, K: Locks, G: Guards, C: Starts, O: Write, E: Writ
 
 /// Restores all that an interrupted call left. Returns whether it is back; if not, an error was
 /// reported.
-fn take_back<F: Files, L: Files, C: Caller, O: Write, E: Write>(
+fn take_back<F: Files, L: Files, C: Caller, O: Sink, E: Sink>(
     places: &Places,
     files: &mut F,
     lockfiles: &mut L,
@@ -196,9 +196,9 @@ fn take_back<F: Files, L: Files, C: Caller, O: Write, E: Write>(
     ensures goes { (locks : LocksView) (guards : GuardsView)
         → TakesBack F.tells F.whole L.tells host.old.env.now.by_guard (places_view places.now)
         (scene_by (files_view F.Files files.old) (L.bytes_at lockfiles.old) locks guards
-        (host_view C.Caller O.Write host.old))
+        (host_view C.Caller O.Sink host.old))
         (scene_by (files_view F.Files files.new) (L.bytes_at lockfiles.new) locks guards
-        (host_view C.Caller O.Write host.new)) result }
+        (host_view C.Caller O.Sink host.new)) result }
 {
     let dir = host.env.current_dir.as_str();
     let journal = restore(host.alloc, dir, &places.place, files, host.term, host.err);
@@ -223,7 +223,7 @@ fn is_done(came: &Result<bool, CallFault>) -> bool
 
 /// Performs a call under its own lock, where nothing of an interrupted call is left.
 #[tactic(auto, using(hack_run::proofs::ReadingLemmas::some_or_refusal))]
-fn go_on<F: Files, L: Files, K: Locks, G: Guards, C: Starts, O: Write, E: Write>(
+fn go_on<F: Files, L: Files, K: Locks, G: Guards, C: Starts, O: Sink, E: Sink>(
     words: &[String],
     begun: Begun,
     files: F,
@@ -236,12 +236,12 @@ fn go_on<F: Files, L: Files, K: Locks, G: Guards, C: Starts, O: Write, E: Write>
     requires place { spot_of begun.place ≡ spot_of begun.places.place }
     ensures host { IsSameHost host.old host.new }
     ensures status { IsStatus host.old.env.now.deny_warnings
-        (host_view C.Caller O.Write host.new) result.0 }
+        (host_view C.Caller O.Sink host.new) result.0 }
     ensures goes { Continues (RefusesThese F.Files) F.tells F.whole L.tells C.tells K.tells G.tells
         (names_of words.now) host.old.env.now begun.edits (places_view begun.places)
-        (scene_of F.Files L.Files C.Caller O.Write files lockfiles
+        (scene_of F.Files L.Files C.Caller O.Sink files lockfiles
         (K.shown keepers.old.locks) (G.shown keepers.old.guards) host.old)
-        (scene_of F.Files L.Files C.Caller O.Write result.1 result.2
+        (scene_of F.Files L.Files C.Caller O.Sink result.1 result.2
         (K.shown keepers.new.locks) (G.shown keepers.new.guards) host.new) }
 {
     let mut files = files;
@@ -264,7 +264,7 @@ fn go_on<F: Files, L: Files, K: Locks, G: Guards, C: Starts, O: Write, E: Write>
 }
 
 /// Performs a call with a journal, under the eyes of a guard.
-fn journaled<F: Files, L: Files, G: Guards, C: Starts, O: Write, E: Write>(
+fn journaled<F: Files, L: Files, G: Guards, C: Starts, O: Sink, E: Sink>(
     words: &[String],
     begun: Begun,
     files: F,
@@ -277,12 +277,12 @@ fn journaled<F: Files, L: Files, G: Guards, C: Starts, O: Write, E: Write>(
     requires place { spot_of begun.place ≡ spot_of begun.places.place }
     ensures host { IsSameHost host.old host.new }
     ensures status { IsStatus host.old.env.now.deny_warnings
-        (host_view C.Caller O.Write host.new) result.0 }
+        (host_view C.Caller O.Sink host.new) result.0 }
     ensures goes { (locks : LocksView) → IsJournaledCall F.tells F.whole L.tells C.tells G.tells
         (names_of words.now) host.old.env.now (places_view begun.places)
-        (scene_of F.Files L.Files C.Caller O.Write files lockfiles locks
+        (scene_of F.Files L.Files C.Caller O.Sink files lockfiles locks
         (G.shown guards.old) host.old)
-        (scene_of F.Files L.Files C.Caller O.Write result.1 result.2 locks
+        (scene_of F.Files L.Files C.Caller O.Sink result.1 result.2 locks
         (G.shown guards.new) host.new) }
 {
     match guards.start(host.alloc, begun.places.place.folder.as_str()) {
@@ -297,7 +297,7 @@ fn journaled<F: Files, L: Files, G: Guards, C: Starts, O: Write, E: Write>(
 }
 
 /// Performs a call with a journal, after the lockfile was copied.
-fn copied<F: Files, L: Files, C: Starts, O: Write, E: Write>(
+fn copied<F: Files, L: Files, C: Starts, O: Sink, E: Sink>(
     words: &[String],
     begun: Begun,
     files: F,
@@ -309,12 +309,12 @@ fn copied<F: Files, L: Files, C: Starts, O: Write, E: Write>(
     requires place { spot_of begun.place ≡ spot_of begun.places.place }
     ensures host { IsSameHost host.old host.new }
     ensures status { IsStatus host.old.env.now.deny_warnings
-        (host_view C.Caller O.Write host.new) result.0 }
+        (host_view C.Caller O.Sink host.new) result.0 }
     ensures goes { (locks : LocksView) (guards : GuardsView) → CopiesAndRuns
         F.tells F.whole L.tells C.tells
         (names_of words.now) host.old.env.now (places_view begun.places)
-        (scene_of F.Files L.Files C.Caller O.Write files lockfiles locks guards host.old)
-        (scene_of F.Files L.Files C.Caller O.Write result.1 result.2 locks guards host.new) }
+        (scene_of F.Files L.Files C.Caller O.Sink files lockfiles locks guards host.old)
+        (scene_of F.Files L.Files C.Caller O.Sink result.1 result.2 locks guards host.new) }
 {
     let mut files = files;
     let mut lockfiles = lockfiles;
@@ -332,7 +332,7 @@ fn copied<F: Files, L: Files, C: Starts, O: Write, E: Write>(
 }
 
 /// Says, where more is asked for, that nobody restores the manifests where this call ends early.
-fn tell_watch<E: Write>(watches: bool, verbose: bool, term: &Term, err: &mut E) {
+fn tell_watch<E: Sink>(watches: bool, verbose: bool, term: &Term, err: &mut E) {
     if watches || !verbose {
         return;
     }
@@ -343,7 +343,7 @@ fn tell_watch<E: Write>(watches: bool, verbose: bool, term: &Term, err: &mut E) 
 
 /// Performs a call over a journal, and closes it.
 #[tactic(auto, using(hack_run::proofs::ReadingLemmas::some_or_refusal))]
-fn over_journal<F: Files, L: Files, C: Starts, O: Write, E: Write>(
+fn over_journal<F: Files, L: Files, C: Starts, O: Sink, E: Sink>(
     words: &[String],
     begun: Begun,
     files: F,
@@ -355,12 +355,12 @@ fn over_journal<F: Files, L: Files, C: Starts, O: Write, E: Write>(
     requires place { spot_of begun.place ≡ spot_of begun.places.place }
     ensures host { IsSameHost host.old host.new }
     ensures status { IsStatus host.old.env.now.deny_warnings
-        (host_view C.Caller O.Write host.new) result.0 }
+        (host_view C.Caller O.Sink host.new) result.0 }
     ensures goes { (locks : LocksView) (guards : GuardsView) → RunsOverJournal
         F.tells F.whole L.tells C.tells
         (names_of words.now) host.old.env.now (places_view begun.places)
-        (scene_of F.Files L.Files C.Caller O.Write files lockfiles locks guards host.old)
-        (scene_of F.Files L.Files C.Caller O.Write result.1 result.2 locks guards host.new) }
+        (scene_of F.Files L.Files C.Caller O.Sink files lockfiles locks guards host.old)
+        (scene_of F.Files L.Files C.Caller O.Sink result.1 result.2 locks guards host.new) }
 {
     let Begun {
         places,
@@ -378,7 +378,7 @@ fn over_journal<F: Files, L: Files, C: Starts, O: Write, E: Write>(
 
 /// Warns where a journal stays, or may; where none does, the lockfile's copy is removed, and one that
 /// stays is warned of.
-fn close<F: Files, E: Write>(
+fn close<F: Files, E: Sink>(
     alloc: Global,
     places: &Places,
     files: &mut F,
@@ -412,7 +412,7 @@ fn close<F: Files, E: Write>(
 }
 
 /// Warns of a file that stays, or may. Where memory is refused for that, it is an error besides.
-fn tell_stay<E: Write>(alloc: Global, path: &str, how: &str, term: &mut Term, err: &mut E)
+fn tell_stay<E: Sink>(alloc: Global, path: &str, how: &str, term: &mut Term, err: &mut E)
     ensures { Warns term.old term.new }
 {
     match format!(in alloc; "`{path}` {how}") {
@@ -424,7 +424,7 @@ fn tell_stay<E: Write>(alloc: Global, path: &str, how: &str, term: &mut Term, er
 }
 
 /// Reports that memory was refused, and warns of what may stay.
-fn tell_memory<E: Write>(term: &mut Term, err: &mut E)
+fn tell_memory<E: Sink>(term: &mut Term, err: &mut E)
     ensures { term.new ≡ record term.old { warn = true; error = true } }
 {
     let _ = term.warn(

@@ -11,6 +11,7 @@ ghost use Rattle.hack_files.specs.View.{files_view};
 use crate::fault::CallFault;
 use crate::strangers::first_stranger;
 use hack_base::paths::under;
+use hack_base::writes::Sink;
 use hack_files::fs::Files;
 use hack_files::reason::{is_of_device, tell_reason};
 use hack_journal::journal::Entry;
@@ -19,7 +20,6 @@ use hack_journal::recover::{RecoverFault, recover};
 use hack_journal::rows::{Row, row_at};
 use hack_term::term::Term;
 use std::alloc::Global;
-use std::io::Write;
 
 /// What somebody has to know who puts back by hand what a journal tells.
 const ROW: &str =
@@ -28,7 +28,7 @@ const ROW: &str =
 /// Restores what an interrupted call left edited, and reports it. Returns whether it is back; if it
 /// can't be restored, an error was reported. `dir` is the current folder, from which paths are
 /// shown.
-pub(crate) fn restore<F: Files, E: Write>(
+pub(crate) fn restore<F: Files, E: Sink>(
     alloc: Global,
     dir: &str,
     place: &Place,
@@ -68,7 +68,7 @@ fn stranger_in(row: &Option<Row>) -> Option<&Entry>
 }
 
 /// Reports that the journal names a stranger.
-fn tell_stranger<E: Write>(
+fn tell_stranger<E: Sink>(
     alloc: Global,
     journal: &str,
     path: &str,
@@ -86,7 +86,7 @@ fn tell_stranger<E: Write>(
 }
 
 /// Restores what the journal keeps, and reports it.
-fn bring_back<F: Files, E: Write>(
+fn bring_back<F: Files, E: Sink>(
     alloc: Global,
     dir: &str,
     place: &Place,
@@ -108,7 +108,7 @@ fn bring_back<F: Files, E: Write>(
 }
 
 /// Reports each file that was restored.
-fn tell_all<E: Write>(
+fn tell_all<E: Sink>(
     alloc: Global,
     dir: &str,
     paths: &[String],
@@ -125,7 +125,7 @@ fn tell_all<E: Write>(
 }
 
 /// Reports that a file was restored, by its path from the current folder.
-pub(crate) fn tell_restored<E: Write>(
+pub(crate) fn tell_restored<E: Sink>(
     alloc: Global,
     dir: &str,
     path: &str,
@@ -142,7 +142,7 @@ pub(crate) fn tell_restored<E: Write>(
 }
 
 /// Reports why files can't be restored.
-fn tell_fault<E: Write>(
+fn tell_fault<E: Sink>(
     alloc: Global,
     fault: RecoverFault,
     term: &mut Term,
@@ -163,7 +163,7 @@ fn tell_fault<E: Write>(
 }
 
 /// Says why a file couldn't be read or written, where that is the fault.
-fn tell_reason_of<F: Files, E: Write>(
+fn tell_reason_of<F: Files, E: Sink>(
     alloc: Global,
     fault: &RecoverFault,
     files: &F,

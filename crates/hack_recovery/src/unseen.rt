@@ -14,6 +14,7 @@ ghost use Rattle.hack_files.specs.View.{files_view};
 ghost use Rattle.hack_run.specs.Worlds.{IsSameHost, IsStatus, host_view};
 
 use crate::asked::Asked;
+use hack_base::writes::Sink;
 use hack_files::fs::Files;
 use hack_files::reason::tell_reason;
 use hack_run::host::Host;
@@ -21,12 +22,11 @@ use hack_run::run::run;
 use hack_starts::starts::Starts;
 use hack_term::term::Term;
 use std::alloc::Global;
-use std::io::Write;
 
 /// Refuses a call that would change manifests, and performs any other, after a warning. `path` is
 /// what can't be looked at.
 #[tactic(auto, using(hack_run::proofs::ReadingLemmas::some_or_refusal))]
-pub(crate) fn blindly<F: Files, C: Starts, O: Write, E: Write>(
+pub(crate) fn blindly<F: Files, C: Starts, O: Sink, E: Sink>(
     words: &[String],
     asked: Asked,
     path: &str,
@@ -36,18 +36,18 @@ pub(crate) fn blindly<F: Files, C: Starts, O: Write, E: Write>(
     requires { IfSome asked.reading (IsEarlyReading host.old.env.now (names_of words.now)) }
     ensures host { IsSameHost host.old host.new }
     ensures status { IsStatus host.old.env.now.deny_warnings
-        (host_view C.Caller O.Write host.new) result }
+        (host_view C.Caller O.Sink host.new) result }
     ensures refused { is_change asked.edits ≡ true → (files.new ≡ files.old)
-        × (host_view C.Caller O.Write host.new ≡ record (host_view C.Caller O.Write host.old)
+        × (host_view C.Caller O.Sink host.new ≡ record (host_view C.Caller O.Sink host.old)
         { term = record host.old.term.now { error = true } }) }
     ensures runs { is_change asked.edits ≡ false → (lockfiles : Contents) (locks : LocksView)
         (guards : GuardsView) → PerformsUnjournaled (RefusesThese F.Files) F.tells F.whole C.tells
         (names_of words.now) host.old.env.now
         (scene_with (files_view F.Files files.old) (record host.old.term.now { warn = true })
         (scene_by (files_view F.Files files.old) lockfiles locks guards
-        (host_view C.Caller O.Write host.old)))
+        (host_view C.Caller O.Sink host.old)))
         (scene_by (files_view F.Files files.new) lockfiles locks guards
-        (host_view C.Caller O.Write host.new)) }
+        (host_view C.Caller O.Sink host.new)) }
 {
     tell_reason(host.alloc, files, host.term, host.err);
     if asked.edits.is_change() {
@@ -59,7 +59,7 @@ pub(crate) fn blindly<F: Files, C: Starts, O: Write, E: Write>(
 }
 
 /// Reports that this path can't be looked at, as an error.
-fn refuse<E: Write>(alloc: Global, path: &str, term: &mut Term, err: &mut E)
+fn refuse<E: Sink>(alloc: Global, path: &str, term: &mut Term, err: &mut E)
     ensures { term.new ≡ record term.old { error = true } }
 {
     match format!(in alloc; "failed to read from file `{path}`") {
@@ -73,7 +73,7 @@ fn refuse<E: Write>(alloc: Global, path: &str, term: &mut Term, err: &mut E)
 }
 
 /// Warns that this path can't be looked at.
-fn warn<E: Write>(alloc: Global, path: &str, term: &mut Term, err: &mut E)
+fn warn<E: Sink>(alloc: Global, path: &str, term: &mut Term, err: &mut E)
     ensures { term.new ≡ record term.old { warn = true } }
 {
     match format!(in alloc;

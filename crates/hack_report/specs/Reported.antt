@@ -1,7 +1,7 @@
 -- What is reported of the runs that failed.
-use Rattle.std.specs.Prelude.{◌&&◌, ◌==◌, ◌∷◌, [], Bool, codes, false, length, not, true}
+use Rattle.std.specs.Prelude.{◌≡◌, ◌&&◌, ◌==◌, ◌∷◌, [], Bool, MatchBool, codes, false, length, not, true}
 use Rattle.std.specs.List.{list_any}
-use Rattle.hack_drive.specs.Shown.{Stream, WritesAll}
+use Rattle.hack_base.specs.Streams.{Stream, WritesAll, WritesSome}
 use Rattle.hack_session.specs.Histories.{Course}
 use Rattle.hack_session.specs.Reports.{IsReport, failures_of, report_text}
 use Rattle.hack_session.specs.declared.report.KeepGoing.{KeepGoing}
@@ -33,3 +33,9 @@ pub record WritesReport (coloring : Coloring) (t : Course) (old new : Stream) : 
   pub report : KeepGoing
   pub of : IsReport (failures_of t) report
   pub written : WritesAll (codes "\n" ∷ error_line coloring (report_text report) ∷ []) old new
+
+-- what is said of a session's runs: the report of those that failed, where they are to be reported, and then what only
+-- these have; else nothing
+abbrev pub SaysReport : Coloring → Course → Stream → Stream → Type 0
+SaysReport coloring t old new =
+    MatchBool (are_reported t) ((mid : Stream) × WritesReport coloring t old mid × WritesSome mid new) (new ≡ old)

@@ -6,17 +6,17 @@ ghost use Rattle.hack_report.specs.Findings.{has_conflict, is_open};
 
 use crate::noted::Noted;
 use hack_base::copies::push_copies;
+use hack_base::writes::Sink;
 use hack_closures::Build;
 use hack_hunt::hunt::Hunted;
 use hack_load::context::Context;
 use hack_plan::plan::Plan;
 use hack_term::term::{Coloring, Term};
 use std::alloc::{AllocError, Global};
-use std::io::Write;
 
 /// Reports what was found of each package and slot, in order: its conflicts as an error, and as a
 /// warning that its search isn't complete. Lines are coloured so. Returns what they noted.
-pub fn tell_hunted<E: Write>(
+pub fn tell_hunted<E: Sink>(
     alloc: Global,
     cx: &Context,
     plan: &Plan,
@@ -51,7 +51,7 @@ struct About<'a> {
 
 impl<'a> About<'a> {
     /// Reports what was found.
-    fn tell<E: Write>(self, term: &mut Term, err: &mut E) -> Result<(), AllocError>
+    fn tell<E: Sink>(self, term: &mut Term, err: &mut E) -> Result<(), AllocError>
         ensures error { OnOk result (term.new.error
             ≡ (term.old.error || has_conflict self.entry.found.now)) }
         ensures warn { OnOk result (term.new.warn
@@ -64,7 +64,7 @@ impl<'a> About<'a> {
     }
 
     /// Reports the conflicts, where there are some.
-    fn tell_conflicts<E: Write>(self, term: &mut Term, err: &mut E) -> Result<(), AllocError>
+    fn tell_conflicts<E: Sink>(self, term: &mut Term, err: &mut E) -> Result<(), AllocError>
         ensures error { OnOk result (term.new.error ≡ (term.old.error
             || not (vec_len self.entry.found.now.conflicts == 0))) }
         ensures warn { term.new.warn ≡ term.old.warn }
@@ -84,7 +84,7 @@ impl<'a> About<'a> {
     }
 
     /// Reports the set that failed and wasn't made smaller, if there is one.
-    fn tell_unfinished<E: Write>(self, term: &mut Term, err: &mut E) -> Result<(), AllocError>
+    fn tell_unfinished<E: Sink>(self, term: &mut Term, err: &mut E) -> Result<(), AllocError>
         ensures error { OnOk result (term.new.error
             ≡ (term.old.error || is_some self.entry.found.now.unfinished)) }
         ensures warn { term.new.warn ≡ term.old.warn }
@@ -102,7 +102,7 @@ impl<'a> About<'a> {
     }
 
     /// Reports how many greatest sets passed; in a verbose call also which.
-    fn tell_passing<E: Write>(self, term: &Term, err: &mut E) -> Result<(), AllocError> {
+    fn tell_passing<E: Sink>(self, term: &Term, err: &mut E) -> Result<(), AllocError> {
         let passing = self.found.passing.as_slice();
         if passing.is_empty() {
             return Ok(());
@@ -126,7 +126,7 @@ impl<'a> About<'a> {
     }
 
     /// Warns where not all sets are decided, since no more runs were allowed.
-    fn warn_of_more<E: Write>(self, term: &mut Term, err: &mut E) -> Result<(), AllocError>
+    fn warn_of_more<E: Sink>(self, term: &mut Term, err: &mut E) -> Result<(), AllocError>
         ensures error { term.new.error ≡ term.old.error }
         ensures warn { OnOk result (term.new.warn
             ≡ (term.old.warn || is_open self.entry.found.now)) }

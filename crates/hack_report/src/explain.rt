@@ -1,5 +1,7 @@
 //! What only failed runs have in common, where samples of sets were run to their end.
 
+ghost use Rattle.hack_base.specs.Streams.{WritesSome, stream_of};
+
 use hack_base::writes::Sink;
 use hack_load::context::Context;
 use hack_planner::determine::determine_package_list;
@@ -17,7 +19,9 @@ pub(crate) fn explain<E: Sink>(
     session: &Session,
     term: &Term,
     err: &mut E,
-) -> Result<(), AllocError> {
+) -> Result<(), AllocError>
+    ensures { WritesSome (stream_of E.Sink err.old) (stream_of E.Sink err.new) }
+{
     let strengths = strengths_of(alloc, cx)?;
     let mut told = Vec::new(alloc);
     for strength in &strengths {
@@ -40,7 +44,9 @@ fn explain_at<E: Sink>(
     strength: usize,
     term: &Term,
     err: &mut E,
-) -> Result<(), AllocError> {
+) -> Result<(), AllocError>
+    ensures { WritesSome (stream_of E.Sink err.old) (stream_of E.Sink err.new) }
+{
     let mut explained = Vec::new(alloc);
     for one in session.suspects(alloc, strength)? {
         if strengths.get(one.part.package) == Some(&Some(strength)) {

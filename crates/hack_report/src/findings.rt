@@ -9,6 +9,7 @@ ghost use Rattle.hack_report.specs.Findings.{own_version, package_name, place_ve
 ghost use Rattle.hack_report.specs.Findings.{some_too_low, version_at};
 
 use crate::noted::Noted;
+use hack_base::writes::Sink;
 use hack_load::context::Context;
 use hack_metadata::metadata::PackageId;
 use hack_msrv::found::Found;
@@ -16,11 +17,10 @@ use hack_plan::plan::{Plan, toolchain};
 use hack_term::term::{Coloring, Term};
 use hack_versions::version::Version;
 use std::alloc::{AllocError, Global};
-use std::io::Write;
 
 /// Reports what was found of each package of the plan, in order: as an error where its greatest
 /// version fails. Lines are coloured so. Returns what they noted.
-pub fn tell_found<E: Write>(
+pub fn tell_found<E: Sink>(
     alloc: Global,
     cx: &Context,
     plan: &Plan,
@@ -65,7 +65,7 @@ struct About<'a> {
 
 impl<'a> About<'a> {
     /// Reports what was found of the package.
-    fn tell<E: Write>(self, found: Found, term: &mut Term, err: &mut E) -> Result<(), AllocError>
+    fn tell<E: Sink>(self, found: Found, term: &mut Term, err: &mut E) -> Result<(), AllocError>
         ensures error { OnOk result (term.new.error ≡ (term.old.error || is_failing found)) }
         ensures warn { OnOk result (term.new.warn ≡ (term.old.warn || is_too_low
             (context_view self.entry.cx.now) self.entry.plan.now self.entry.name.now found)) }
@@ -90,7 +90,7 @@ impl<'a> About<'a> {
     }
 
     /// Reports the least version, and the place that fails before it.
-    fn tell_least<E: Write>(
+    fn tell_least<E: Sink>(
         self,
         least: Version,
         failed: Option<usize>,
@@ -117,7 +117,7 @@ impl<'a> About<'a> {
 
     /// Warns where the package doesn't keep what its `rust-version` promises: no version below that
     /// one is tried.
-    fn compare<E: Write>(
+    fn compare<E: Sink>(
         self,
         failed: Option<usize>,
         term: &mut Term,

@@ -1,10 +1,10 @@
 //! The report of the runs that failed.
 
-ghost use Rattle.std.specs.Prelude.{◌≡◌, ◌||◌, MatchBool, OnOk, false, option_copied};
+ghost use Rattle.std.specs.Prelude.{◌≡◌, ◌||◌, IfOk, IfSome, MatchBool, OnErr, OnOk, false, option_copied};
 ghost use Rattle.std.specs.List.{list_any};
 ghost use Rattle.std.specs.Option.{option_map_or};
-ghost use Rattle.hack_drive.specs.Shown.{stream_of};
-ghost use Rattle.hack_report.specs.Reported.{WritesReport, are_reported};
+ghost use Rattle.hack_base.specs.Streams.{WritesSome, stream_of};
+ghost use Rattle.hack_report.specs.Reported.{SaysReport, WritesReport, are_reported};
 ghost use Rattle.hack_report.specs.Reported.{is_failed_preparation as has_unprepared};
 
 use crate::explain::explain;
@@ -26,50 +26,56 @@ pub fn report_all<E: Sink>(
         ≡ (term.old.error || option_map_or are_reported (option_copied session.entry) false)) }
     ensures kept { term.new.error ≡ false → term.old.error ≡ false }
     ensures warn { term.new.warn ≡ term.old.warn }
+    ensures shown { OnOk result (IfSome (option_copied session.entry) (λ s.
+        SaysReport term.old.coloring s (stream_of E.Sink err.old) (stream_of E.Sink err.new))) }
+
+    // Where memory is refused too, nothing but lines is written, each whole or with a failure.
+    ensures lines { WritesSome (stream_of E.Sink err.old) (stream_of E.Sink err.new) }
+    ensures term { term.new ≡ record term.old { error = term.new.error } }
 {
     let Some(session) = session else {
         return Ok(());
     };
-    report(alloc, session, term, err)?;
-    if !cx.args().keep_going || is_unprepared(session.handed()) {
-        return Ok(());
+    if report(alloc, session, term, err)? {
+        explain(alloc, cx, session, term, err)?;
     }
-    explain(alloc, cx, session, term, err)
+    Ok(())
 }
 
 /// Reports the runs that failed, where runs go on after a failed one and each preparation passed.
+/// Returns whether there are some.
 fn report<E: Sink>(
     alloc: Global,
     session: &Session,
     term: &mut Term,
     err: &mut E,
-) -> Result<(), AllocError>
-    ensures error { OnOk result (term.new.error ≡ (term.old.error || are_reported session.now)) }
-    ensures kept { term.new.error ≡ false → term.old.error ≡ false }
-    ensures warn { term.new.warn ≡ term.old.warn }
+) -> Result<bool, AllocError>
+    ensures told { IfOk result (λ told. told ≡ are_reported session.now) }
+    ensures noted { OnOk result (term.new
+        ≡ record term.old { error = term.old.error || are_reported session.now }) }
     ensures shown { OnOk result (MatchBool (are_reported session.now)
         (WritesReport term.old.coloring session.now
         (stream_of E.Sink err.old) (stream_of E.Sink err.new))
         (stream_of E.Sink err.new ≡ stream_of E.Sink err.old)) }
+    ensures refused { OnErr result ((term.new ≡ term.old) × (err.new ≡ err.old)) }
 {
     if is_unprepared(session.handed()) {
-        return Ok(());
+        return Ok(false);
     }
     let report = session.report(alloc)?;
     if report.count == 0 {
-        return Ok(());
+        return Ok(false);
     }
     let text = format!(in alloc; "{report}")?;
     let _ = write_front("\n", err);
     let _ = term.error(&text, err);
-    Ok(())
+    Ok(true)
 }
 
 /// Returns whether a preparation failed.
-fn is_unprepared(handed: History<'_>) -> bool
+fn is_unprepared(mut handed: History<'_>) -> bool
     ensures { result ≡ list_any has_unprepared handed.entry }
 {
-    let mut handed = handed;
     handed.any(is_failed_preparation)
 }
 

@@ -8,7 +8,7 @@ use Rattle.std.proofs.lemmas.List.{map-append}
 use Rattle.hack_base.specs.Names.{Name}
 use Rattle.hack_base.specs.Notes.{Note}
 use Rattle.hack_files.specs.Files.{Change, Contents, KeepsAll, Makes, after, after_change}
-use Rattle.hack_files.specs.Restore.{AreSafe, Kept, Tried, failed, is_kept, made_and_failed, none, registered_files, write_of, written}
+use Rattle.hack_files.specs.Restore.{AreSafe, Kept, Tried, failed, is_kept, made_and_failed, none, paths, registered_files, write_of, written}
 use Rattle.hack_files.specs.declared.restore.Manager.{Manager}
 use Rattle.hack_files.proofs.FilesLemmas.{makes_more}
 use Rattle.hack_load.specs.Answers.{AreAnswers, IsAskFault, IsLoaded, LoadsFromMetadata, LoadsTo}
@@ -22,7 +22,7 @@ use Rattle.hack_metadata.specs.QuestionCalls.{EndsSo, Stage, WroteWhereKnown, ta
 use Rattle.hack_metadata.specs.Requests.{question}
 use Rattle.hack_metadata.specs.declared.ask.fault.AskFault.{AskFault}
 use Rattle.hack_metadata.specs.declared.metadata.Metadata.{Metadata}
-use Rattle.hack_prepare.specs.EditSteps.{KeepsOnly}
+use Rattle.hack_prepare.specs.EditSteps.{KeepsInOrder, KeepsOnly}
 use Rattle.hack_prepare.specs.Prepared.{MemberManifest, edits_root, is_root}
 use Rattle.hack_prepare.specs.PreparedView.{AreWritesIn, IsTouchedIn, edits_in, member_manifests_in, wanted_in}
 use Rattle.hack_prepare.specs.Writes.{IsOneIf, MakesSome, WritesRoot}
@@ -39,7 +39,7 @@ use Rattle.hack_words.specs.declared.cli.parse.Parsed.{Parsed}
 use Rattle.hack_words.specs.declared.cli.parse.Parsed.TheVariants as parsed
 use Rattle.hack_run.specs.CallChanges.{AreChanges, IsChangeTrace, LoadsAndChanges, ObeysAndChanges, UndoesEdits}
 use Rattle.hack_run.specs.CallTrace.{PerformsPlan, warned_by}
-use Rattle.hack_run.specs.Internal.{EditsAndPerforms}
+use Rattle.hack_run.specs.Internal.{EditsAndPerforms, KeepsAsMade}
 use Rattle.hack_run.specs.Questions.{AsksRustup}
 use Rattle.hack_files.specs.View.{FilesView}
 use Rattle.hack_run.specs.Worlds.{HostView, World, host_at, world_at}
@@ -144,17 +144,18 @@ held_lockfile before now P same h = subst (λ (o : Option (List ℕ)). IfSome o 
 
 -- what is written back undoes the edits, unless these stay
 undone : (tells : Type 0) (args : Args) (cx : ContextRecord) (first asked prepared : Contents) (before now : Manager) (edits back : List Change)
-    → cx.args ≡ args → (tells → KeepsAll first asked) → prepared ≡ after edits asked → back ≡ map write_of (registered_files now) → registered_files before ≡ [] → before.needs_restore ≡ not args.remove_dev_deps
+    → cx.args ≡ args → (tells → KeepsAll first asked) → prepared ≡ after edits asked → back ≡ map write_of (registered_files now) → registered_files before ≡ [] → before.needs_restore ≡ not args.remove_dev_deps → KeepsAsMade cx edits before now
     → (args.remove_dev_deps ≡ true → registered_files now ≡ []) → (tells → args.remove_dev_deps ≡ false → AreSafe (registered_files now) asked prepared) → KeepsOnly (IsTouchedIn cx) before now
     → (tells → before.needs_restore ≡ true → edits_in cx ≡ true → IfSome (prepared (wanted_in cx).lockfile) (λ _. is_kept (registered_files now) (wanted_in cx).lockfile ≡ true))
     → MatchBool cx.args.remove_dev_deps (back ≡ []) (UndoesEdits tells cx first edits back)
-undone tells args cx first asked prepared before now edits back of same is wrote empty needs unkept safe only lockfile =
+undone tells args cx first asked prepared before now edits back of same is wrote empty needs order unkept safe only lockfile =
     let path = (wanted_in cx).lockfile in
     by_bool cx.args.remove_dev_deps (back ≡ []) (UndoesEdits tells cx first edits back)
     (λ stay. wrote ∙ ap (map write_of) (unkept (ap (λ (a : Args). a.remove_dev_deps) (sym of) ∙ stay)))
     (λ back. let returns : args.remove_dev_deps ≡ false = ap (λ (a : Args). a.remove_dev_deps) (sym of) ∙ back in record {
       files = registered_files now;
       writes = wrote;
+      order = subst (λ (files : List Kept). KeepsInOrder path edits (paths files) (paths (registered_files now))) empty (order (needs ∙ ap not returns));
       safe = λ t. safe_first (registered_files now) edits first asked prepared (same t) is (safe t returns);
       lockfile = λ t edited. held_lockfile (prepared path) (after edits first path) (is_kept (registered_files now) path ≡ true) (after_held edits first asked prepared (same t) is path) (lockfile t (needs ∙ ap not returns) edited);
       only = kept_later (IsTouchedIn cx) (registered_files before) (registered_files now) empty only;
@@ -175,7 +176,7 @@ made_all tells cx first asked prepared last made edits back same wrote un a b d 
 
 -- the edits of a context, and its plan
 pub follows_changes : {T E : Type 0} (tells told whole quiet : Type 0) (r : Result T E) (args : Args) (answers : Answers) (rustup : Name) (before now : Manager) (old new : World) (cx : ContextRecord) → IsContextFrom args answers cx
-    → (whole → MakesSome (AreWritesIn cx told old.files.held) old.files.trace new.files.trace old.files.held new.files.held) → KeepsOnly (IsTouchedIn cx) before now
+    → (whole → MakesSome (λ made. AreWritesIn cx told old.files.held made × KeepsAsMade cx made before now) old.files.trace new.files.trace old.files.held new.files.held) → KeepsOnly (IsTouchedIn cx) before now
     → (told → before.needs_restore ≡ true → edits_in cx ≡ true → IfSome (new.files.held (wanted_in cx).lockfile) (λ _. is_kept (registered_files now) (wanted_in cx).lockfile ≡ true))
     → OnOk r (quiet → tells → PerformsPlan true cx rustup (is_err answers.cargo_version || old.host.term.warn) old.host new.host) → OnOk r (quiet → tells → whole → EditsAndPerforms told args answers rustup before now old new)
 follows_changes tells told whole quiet r args answers rustup before now old new cx context edited only lockfile planned =
@@ -205,8 +206,8 @@ changes tells told whole r args env first asked prepared last begun ended mid te
       mid = mid;
       cx = e.cx;
       asked = answers_by told args env first.held first.failed asked.failed last.failed (WroteWhereKnown whole told first.trace asked.trace first.held asked.held) (λ stage made. AreChanges told e.cx made first last) begun.calls mid answers e.context.0 e.context.1
-          (λ c text n made v. made_all told e.cx first asked prepared last made e.edited.0 back.0 same e.edited.1
-          (undone told args e.cx first.held asked.held prepared.held before now e.edited.0 back.0 e.context.2.args same e.edited.2.holds wrote empty needs unkept (λ u. safe u read) e.only e.lockfile) (v w) e.edited.2 back.2)
+          (λ c text n made v. made_all told e.cx first asked prepared last made e.edited.0 back.0 same e.edited.1.0
+          (undone told args e.cx first.held asked.held prepared.held before now e.edited.0 back.0 e.context.2.args same e.edited.2.holds wrote empty needs e.edited.1.1 unkept (λ u. safe u read) e.only e.lockfile) (v w) e.edited.2 back.2)
           (answered t);
       context = e.context;
       performed = plan_told true e.cx (string_bytes env.rustup) (is_err answers.cargo_version || begun.term.warn) (host_at mid begun) ended begun.term term (λ d. same_warn) e.performed;

@@ -10,4 +10,5 @@ mod RunLemmas
 mod StartedLemmas
 mod FindingLemmas
 mod ToldLemmas
+mod ShownLemmas
 pub mod TraceLemmas

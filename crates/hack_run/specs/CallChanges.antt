@@ -4,11 +4,12 @@ use Rattle.std.specs.Result.{is_err}
 use Rattle.hack_base.specs.Names.{Name}
 use Rattle.hack_base.specs.Notes.{Note}
 use Rattle.hack_files.specs.Files.{Change, Contents, Makes, after}
-use Rattle.hack_files.specs.Restore.{AreSafe, Kept, is_kept, write_of}
+use Rattle.hack_files.specs.Restore.{AreSafe, Kept, is_kept, paths, write_of}
 use Rattle.hack_load.specs.Answers.{AreAnswers}
 use Rattle.hack_load.specs.ContextOf.{IsContextFrom}
 use Rattle.hack_load.specs.Contexts.{ContextRecord}
 use Rattle.hack_load.specs.declared.answers.Answers.{Answers}
+use Rattle.hack_prepare.specs.EditSteps.{KeepsInOrder}
 use Rattle.hack_prepare.specs.PreparedView.{AreWritesIn, IsTouchedIn, edits_in, wanted_in}
 use Rattle.hack_process.specs.Calls.{Call}
 use Rattle.hack_versions.specs.declared.rustup.Rustup.{Rustup}
@@ -24,13 +25,14 @@ use Rattle.hack_run.specs.Questions.{AsksRustup}
 use Rattle.hack_files.specs.View.{FilesView}
 use Rattle.hack_run.specs.Worlds.{World, host_at, world_at}
 
--- Files are written back after these edits: each path once, with what it held before them. They are
--- all that the edits changed, and the lockfile where manifests are edited, and no others than paths
--- that are edited and the lockfile.
+-- Files are written back after these edits, in the order of these and then the lockfile: each path
+-- once, with what it held before them. They are all that the edits changed, and the lockfile where
+-- manifests are edited, and no others than paths that are edited and the lockfile.
 pub record UndoesEdits (tells : Type 0) (cx : ContextRecord) (held : Contents)
     (edits back : List Change) : Type 0 where
   pub files : List Kept
   pub writes : back ≡ map write_of files
+  pub order : KeepsInOrder (wanted_in cx).lockfile edits [] (paths files)
   pub safe : tells → AreSafe files held (after edits held)
   pub lockfile : tells → edits_in cx ≡ true → IfSome (after edits held (wanted_in cx).lockfile) (λ _.
       is_kept files (wanted_in cx).lockfile ≡ true)

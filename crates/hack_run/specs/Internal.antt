@@ -4,12 +4,13 @@ use Rattle.std.specs.Io.KnownBytes.{Keeps, Appends, append_known}
 use Rattle.std.proofs.Common.{Global, String}
 use Rattle.hack_base.specs.Names.{Name}
 use Rattle.std.specs.Result.{is_err}
-use Rattle.hack_files.specs.Restore.{is_kept, registered_files}
+use Rattle.hack_files.specs.Files.{Change}
+use Rattle.hack_files.specs.Restore.{is_kept, paths, registered_files}
 use Rattle.hack_files.specs.declared.restore.Manager.{Manager}
 use Rattle.hack_load.specs.ContextOf.{IsContextFrom}
 use Rattle.hack_load.specs.Contexts.{ContextRecord}
 use Rattle.hack_load.specs.declared.answers.Answers.{Answers}
-use Rattle.hack_prepare.specs.EditSteps.{KeepsOnly}
+use Rattle.hack_prepare.specs.EditSteps.{KeepsInOrder, KeepsOnly}
 use Rattle.hack_prepare.specs.PreparedView.{AreWritesIn, IsTouchedIn, edits_in, wanted_in}
 use Rattle.hack_prepare.specs.Writes.{MakesSome}
 use Rattle.hack_words.specs.declared.cli.args.Args.{Args}
@@ -21,7 +22,7 @@ use Rattle.hack_run.specs.Worlds.{HostView, World, host_view}
 use Rattle.hack_run.specs.declared.fault.RunFault.{RunFault}
 use Rattle.hack_run.specs.declared.fault.RunFault.TheVariants as fault
 use Rattle.hack_run.specs.declared.host.Host.{Host}
-use Rattle.std.specs.declared.io.traits.Write.{Ghosts as Writing}
+use Rattle.hack_base.specs.declared.writes.Sink.{Ghosts as Taking}
 use Rattle.hack_process.specs.declared.caller.Caller.{Ghosts as Calling}
 use Rattle.hack_run.specs.CallTrace.{PerformsOne, PerformsPlan, WritesText}
 use Rattle.hack_report.specs.Findings.{has_conflict, is_failing, is_open, some_too_low}
@@ -42,7 +43,11 @@ use Rattle.hack_run.specs.declared.reading.Reading.{Reading}
 use Rattle.hack_words.specs.CommandLine.{Around}
 use Rattle.std.specs.List.{flat_map, list_any}
 use Rattle.hack_planner.specs.CallPlan.{IsPlanOf}
+use Rattle.hack_process.specs.declared.fault.ProcessFault.{ProcessFault}
+use Rattle.hack_run.specs.Handed.{is_search}
+use Rattle.hack_run.specs.Shown.{Looks, SaysSteps}
 use Rattle.hack_session.specs.Histories.{Course}
+use Rattle.hack_session.specs.StepEffects.{Scene}
 use Rattle.hack_session.specs.ListLines.{is_sent, lines_written}
 use Rattle.hack_session.specs.Internal.{IsListedStep}
 use Rattle.hack_session.specs.Handouts.{IsDriven}
@@ -67,14 +72,14 @@ PerformsAtMostOne listing cx stable rustup old new =
     ⊎ PerformsOne false listing cx stable rustup old.term.warn old new
 
 -- where no error was reported, one history of a context's plan was performed to its end
-abbrev pub PerformsItsPlan : {C O E : Type 0} → Calling C → Writing O → Bool → ContextRecord
+abbrev pub PerformsItsPlan : {C O E : Type 0} → Calling C → Taking O → Bool → ContextRecord
     → Result (Option Version) (String Global) → Host C O E → Host C O E → Type 0
 PerformsItsPlan c o listing cx stable old new = new.term.now.error ≡ false → c.tells
     → PerformsOne true listing cx stable (string_bytes old.env.now.rustup) old.term.now.warn
     (host_view c o old) (host_view c o new)
 
 -- whatever came of it, one history of a context's plan was performed at most
-abbrev pub MayPerformItsPlan : {C O E : Type 0} → Calling C → Writing O → Bool → ContextRecord
+abbrev pub MayPerformItsPlan : {C O E : Type 0} → Calling C → Taking O → Bool → ContextRecord
     → Result (Option Version) (String Global) → Host C O E → Host C O E → Type 0
 MayPerformItsPlan c o listing cx stable old new = c.tells
     → PerformsAtMostOne listing cx stable (string_bytes old.env.now.rustup)
@@ -127,6 +132,10 @@ TellsMinor answer known = (known ≢ Unasked) × IsMinorIn (rustup_part answer) 
 abbrev pub IsUnknown : Rustup → Type 0
 IsUnknown known = (known ≢ Unasked) × (known_of known ≡ None)
 
+-- where files are to be restored, these changes' paths are kept in their order, and the lockfile behind them
+abbrev pub KeepsAsMade : ContextRecord → List Change → Manager → Manager → Type 0
+KeepsAsMade cx made before now = before.needs_restore ≡ true → KeepsInOrder (wanted_in cx).lockfile made (paths (registered_files before)) (paths (registered_files now))
+
 -- a context was made of answers and its plan performed; its edits were made, each by one write, and
 -- what they change is kept, if anything is: no others, but for the lockfile
 pub record EditsAndPerforms (tells : Type 0) (args : Args) (answers : Answers) (rustup : Name)
@@ -135,7 +144,7 @@ pub record EditsAndPerforms (tells : Type 0) (args : Args) (answers : Answers) (
   pub context : IsContextFrom args answers cx
   pub performed :
       PerformsPlan true cx rustup (is_err answers.cargo_version || old.host.term.warn) old.host new.host
-  pub edited : MakesSome (AreWritesIn cx tells old.files.held)
+  pub edited : MakesSome (λ made. AreWritesIn cx tells old.files.held made × KeepsAsMade cx made before now)
       old.files.trace new.files.trace old.files.held new.files.held
   pub only : KeepsOnly (IsTouchedIn cx) before now
   pub lockfile : tells → before.needs_restore ≡ true → edits_in cx ≡ true
@@ -149,7 +158,12 @@ is_refusal (fault.Words refused) = true
 is_refusal other = false
 
 -- only that was found, and nothing reported yet
-abbrev pub IsUntoldRefusal : {T C O E : Type 0} → Writing E → Result T RunFault → Host C O E → Host C O E → Type 0
+abbrev pub IsUntoldRefusal : {T C O E : Type 0} → Taking E → Result T RunFault → Host C O E → Host C O E → Type 0
 IsUntoldRefusal e came old new =
     IfErr came (λ fault. is_refusal fault ≡ true) × (new.term.now ≡ old.term.now)
     × (e.contents new.err.now ≡ e.contents old.err.now)
+
+-- steps were said, of a session, unless a search is asked for, and this error is kept then
+abbrev pub HandsSteps : Type 0 → ContextRecord → Result (Option Version) (String Global) → Name → Option ProcessFault → Option ProcessFault → Looks → Option Course → Scene → Scene → Type 0
+HandsSteps tells cx stable rustup kept now looks session old new =
+    (steps : SaysSteps tells false cx stable rustup kept looks old new) × (is_search false cx.args ≡ false → (session ≡ Some steps.course) × (now ≡ steps.last.kept))

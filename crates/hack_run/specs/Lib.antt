@@ -7,6 +7,7 @@ pub mod TemporaryEdits
 pub mod Loading
 pub mod Refusals
 pub mod Worlds
+pub mod Shown
 pub mod Lanes
 pub mod Readings
 pub mod InternalExtensions

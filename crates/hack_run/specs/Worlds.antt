@@ -1,6 +1,6 @@
 -- What a call reaches, as plain data.
 use Rattle.std.specs.Prelude.{◌≡◌, ◌||◌, ℕ, Bool, List, Option}
-use Rattle.std.specs.declared.io.traits.Write.{Ghosts as Writing}
+use Rattle.hack_base.specs.declared.writes.Sink.{Ghosts as Taking}
 use Rattle.hack_files.specs.View.{FilesView, files_view}
 use Rattle.hack_files.specs.declared.fs.Files.{Ghosts as Filing}
 use Rattle.hack_process.specs.Calls.{Call}
@@ -22,14 +22,14 @@ pub record World : Type 0 where
   pub files : FilesView
   pub host : HostView
 
-abbrev pub host_view : {C O E : Type 0} → Calling C → Writing O → Host C O E → HostView
+abbrev pub host_view : {C O E : Type 0} → Calling C → Taking O → Host C O E → HostView
 host_view c o host = record { calls = c.calls host.caller.now; out = o.contents host.out.now; term = host.term.now; fails = host.fails }
 
 -- a host of a caller, an output, a terminal, and whether a search found what fails
-abbrev pub host_of : {C O : Type 0} → Calling C → Writing O → C → O → Term → Bool → HostView
+abbrev pub host_of : {C O : Type 0} → Calling C → Taking O → C → O → Term → Bool → HostView
 host_of c o caller out term fails = record { calls = c.calls caller; out = o.contents out; term = term; fails = fails }
 
-abbrev pub world_of : {F C O E : Type 0} → Filing F → Calling C → Writing O → F → Host C O E → World
+abbrev pub world_of : {F C O E : Type 0} → Filing F → Calling C → Taking O → F → Host C O E → World
 world_of f c o files host = record { files = files_view f files; host = host_view c o host }
 
 -- a host, or a world, at which these programs were called so far

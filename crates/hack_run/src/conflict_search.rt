@@ -10,11 +10,13 @@ ghost use Rattle.hack_load.specs.ContextView.{context_view};
 ghost use Rattle.hack_run.specs.CallTrace.{PerformsOne};
 ghost use Rattle.hack_run.specs.Internal.{PerformsAtMostOne, Reports};
 ghost use Rattle.hack_run.specs.Lanes.{RunsOne};
+ghost use Rattle.hack_run.specs.Shown.{SaysLines, SaysSteps, looks_of, scene_at};
 ghost use Rattle.hack_run.specs.Worlds.{host_of};
 ghost use Rattle.hack_versions.specs.declared.version.Version.{Version};
 
 use crate::execute::{keep, manner};
 use crate::tell::{cut_off, fail};
+use hack_base::writes::Sink;
 use hack_culprits::fault::CulpritsFault;
 use hack_drive::drive::{Hunt, hunt_context};
 use hack_lanes::turns::Turns;
@@ -26,11 +28,10 @@ use hack_session::session::Starter;
 use hack_side::serial::Serial;
 use hack_term::term::Term;
 use std::alloc::Global;
-use std::io::Write;
 
 /// Has a starter whose programs are called in lanes, one after another, search for conflicts, and
 /// reports what was found, unless the search was broken off. Where a set fails, `fails` keeps that.
-pub(crate) fn hunt_in_lanes<L: Turns, O: Write, E: Write>(
+pub(crate) fn hunt_in_lanes<L: Turns, O: Sink, E: Sink>(
     alloc: Global,
     cx: &Context,
     rustup: &str,
@@ -45,17 +46,27 @@ pub(crate) fn hunt_in_lanes<L: Turns, O: Write, E: Write>(
     ensures done { OnOk result (fault.new ≡ None → term.new.error ≡ false → L.tells
         → (stable : Result (Option Version) (String Heap))
         → PerformsOne true false (context_view cx.now) stable rustup.now term.old.warn
-        (host_of L.Caller O.Write lanes.old out.old term.old fails.old)
-        (host_of L.Caller O.Write lanes.new out.new term.new fails.new)) }
+        (host_of L.Caller O.Sink lanes.old out.old term.old fails.old)
+        (host_of L.Caller O.Sink lanes.new out.new term.new fails.new)) }
     ensures made { L.tells → (stable : Result (Option Version) (String Heap))
         → PerformsAtMostOne false (context_view cx.now) stable rustup.now
-        (host_of L.Caller O.Write lanes.old out.old term.old fails.old)
-        (host_of L.Caller O.Write lanes.new out.new term.new fails.new) }
+        (host_of L.Caller O.Sink lanes.old out.old term.old fails.old)
+        (host_of L.Caller O.Sink lanes.new out.new term.new fails.new) }
     ensures lanes { OnOk result ((stable : Result (Option Version) (String Heap))
         → RunsOne L.did (context_view cx.now) stable rustup.now
         (L.scene lanes.old) (L.scene lanes.new)) }
     ensures stays { L.stays lanes.old lanes.new }
     ensures refused { OnErr result (lanes.new ≡ lanes.old) }
+    ensures shown { OnOk result ((stable : Result (Option Version) (String Heap))
+        → SaysSteps L.tells false (context_view cx.now) stable rustup.now
+        fault.old (looks_of term.old)
+        (scene_at (L.calls lanes.old) O.Sink E.Sink out.old err.old)
+        (scene_at (L.calls lanes.new) O.Sink E.Sink out.new err.new)) }
+    ensures unplanned { OnErr result (SaysLines false
+        (scene_at (L.calls lanes.old) O.Sink E.Sink out.old err.old)
+        (scene_at (L.calls lanes.new) O.Sink E.Sink out.new err.new)) }
+    ensures looks { looks_of term.new
+        ≡ record (looks_of term.old) { reported = term.new.error } }
 {
     let (log_group, _) = manner(cx.args());
     let mut starter = Starter::new(alloc, lanes, term, out, err, fault);
@@ -70,7 +81,7 @@ pub(crate) fn hunt_in_lanes<L: Turns, O: Write, E: Write>(
 /// Reports what a search found, and keeps whether a set fails. Where the search was broken off,
 /// `fault` says why, or memory was refused, which is told already. Else a run that failed is no error
 /// of the call.
-fn settle<E: Write>(
+fn settle<E: Sink>(
     alloc: Global,
     cx: &Context,
     hunt: &Hunt,
@@ -85,6 +96,8 @@ fn settle<E: Write>(
         × (((fault.old ≡ None) × (came_of hunt.now.found ≡ Err Ended))
         ⊎ ((found : List FoundSets) × (came_of hunt.now.found ≡ Ok found)
         × Reports found fails.old fails.new term.old.warn term.new.warn)) }
+    ensures looks { looks_of term.new
+        ≡ record (looks_of term.old) { reported = term.new.error } }
 {
     if refused {
         return cut_off(fault, term);

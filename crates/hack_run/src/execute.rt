@@ -1,21 +1,24 @@
 //! The runs of a plan, and the report of those that failed.
 
-ghost use Rattle.std.specs.Prelude.{◌≡◌, ◌⊎◌, ◌||◌, Bool, Contains, IfOk, IsOk, MatchBool, None, OnErr, OnOk, false};
-ghost use Rattle.std.specs.Prelude.{string_bytes, true};
+ghost use Rattle.std.specs.Prelude.{◌≡◌, ◌⊎◌, ◌||◌, Bool, Contains, IfOk, IsOk, MatchBool, None};
+ghost use Rattle.std.specs.Prelude.{OnErr, OnOk, Some, false, string_bytes, true};
 ghost use Rattle.std.specs.Option.{unwrap_or};
 ghost use Rattle.hack_load.specs.ContextView.{context_view};
 ghost use Rattle.hack_msrv.specs.Searches.{AreUnbroken};
 ghost use Rattle.hack_run.specs.CallTrace.{PerformsOne};
 ghost use Rattle.hack_run.specs.Internal.{MayPerformItsPlan, PerformsAtMostOne, PerformsItsPlan};
-ghost use Rattle.hack_run.specs.Internal.{ReportsFound};
+ghost use Rattle.hack_run.specs.Internal.{HandsSteps, ReportsFound};
 ghost use Rattle.hack_run.specs.Lanes.{MayRunInLanes, RunsInLanes, RunsOne};
 ghost use Rattle.hack_drive.specs.Answered.{IsAnswered};
+ghost use Rattle.hack_run.specs.Shown.{MaySayRuns, SaysLines, SaysSteps, looks_of, scene_at};
+ghost use Rattle.hack_run.specs.Shown.{scene_on};
 ghost use Rattle.hack_run.specs.Worlds.{IsSameHost, host_of};
 
 use crate::conflict_search::hunt_in_lanes;
 use crate::fault::RunFault;
 use crate::host::Host;
 use crate::tell::{cut_off, fail};
+use hack_base::writes::Sink;
 use hack_drive::drive::{drive_context, search_context};
 use hack_lanes::lanes::{Lanes, Window};
 use hack_lanes::turns::Turns;
@@ -35,20 +38,19 @@ use hack_term::term::{LogGroup, Term};
 use hack_versions::version::Version;
 use hack_words::cli::Args;
 use std::alloc::{AllocError, Global};
-use std::io::Write;
 
 /// Performs the chosen piece of a context's plan, and reports the runs that failed; or searches for
 /// the least versions or for conflicts, and reports these.
-pub(crate) fn execute<C: Starts, O: Write, E: Write>(
+pub(crate) fn execute<C: Starts, O: Sink, E: Sink>(
     cx: &Context,
     stable: Result<Option<Version>, String>,
     host: &mut Host<'_, C, O, E>,
 ) -> Result<(), RunFault>
     requires { IsAnswered (context_view cx.now).args stable }
     ensures host { IsSameHost host.old host.new }
-    ensures done { OnOk result (PerformsItsPlan C.Caller O.Write false
+    ensures done { OnOk result (PerformsItsPlan C.Caller O.Sink false
         (context_view cx.now) stable host.old host.new) }
-    ensures made { MayPerformItsPlan C.Caller O.Write false
+    ensures made { MayPerformItsPlan C.Caller O.Sink false
         (context_view cx.now) stable host.old host.new }
 
     // Commands were started, told and ended by the rules of lanes, and none that was started is left.
@@ -56,23 +58,31 @@ pub(crate) fn execute<C: Starts, O: Write, E: Write>(
         (string_bytes host.old.env.now.rustup) host.old.caller.now host.new.caller.now }
     ensures ran { OnOk result (RunsInLanes C.did (context_view cx.now) stable
         (string_bytes host.old.env.now.rustup) host.old.caller.now host.new.caller.now) }
+
+    // The notices of the plan were said, then just what its steps say, and then the report.
+    ensures shown { C.tells → MaySayRuns result C.tells (context_view cx.now) stable
+        (string_bytes host.old.env.now.rustup) (looks_of host.old.term.now)
+        (scene_on C.Caller O.Sink E.Sink host.old) (scene_on C.Caller O.Sink E.Sink host.new) }
+    ensures looks { looks_of host.new.term.now
+        ≡ record (looks_of host.old.term.now) { reported = host.new.term.now.error } }
 {
     let mut fault = None;
     let session = match hand_to_starter(cx, stable, &mut fault, host) {
         Ok(session) => session,
         Err(fault) => return Err(RunFault::Plan(fault)),
     };
-    let reported = report_all(host.alloc, cx, session.as_ref(), host.term, host.err);
-    // Why the session stopped counts for more than a report that memory cut short.
+    // Where a step stopped the session, no run is to be reported: its error is that of the call.
     match fault {
-        Some(fault) => Err(RunFault::Process(fault)),
-        None => Ok(reported?),
+        Some(fault) => return Err(RunFault::Process(fault)),
+        None => {}
     }
+    report_all(host.alloc, cx, session.as_ref(), host.term, host.err)?;
+    Ok(())
 }
 
 /// Hands the plan to a starter, and returns its session; none after a search, which is reported
 /// already. The error that stopped it goes to `fault`, unless it was reported.
-fn hand_to_starter<C: Starts, O: Write, E: Write>(
+fn hand_to_starter<C: Starts, O: Sink, E: Sink>(
     cx: &Context,
     stable: Result<Option<Version>, String>,
     fault: &mut Option<ProcessFault>,
@@ -80,14 +90,22 @@ fn hand_to_starter<C: Starts, O: Write, E: Write>(
 ) -> Result<Option<Session>, PlanFault>
     requires { IsAnswered (context_view cx.now).args stable }
     ensures host { IsSameHost host.old host.new }
-    ensures done { OnOk result (fault.new ≡ None → PerformsItsPlan C.Caller O.Write false
+    ensures done { OnOk result (fault.new ≡ None → PerformsItsPlan C.Caller O.Sink false
         (context_view cx.now) stable host.old host.new) }
-    ensures made { MayPerformItsPlan C.Caller O.Write false
+    ensures made { MayPerformItsPlan C.Caller O.Sink false
         (context_view cx.now) stable host.old host.new }
     ensures lanes { MayRunInLanes C.did (context_view cx.now) stable
         (string_bytes host.old.env.now.rustup) host.old.caller.now host.new.caller.now }
     ensures ran { OnOk result (RunsInLanes C.did (context_view cx.now) stable
         (string_bytes host.old.env.now.rustup) host.old.caller.now host.new.caller.now) }
+    ensures shown { C.tells → IfOk result (λ session. HandsSteps C.tells
+        (context_view cx.now) stable
+        (string_bytes host.old.env.now.rustup) fault.old fault.new (looks_of host.old.term.now) session
+        (scene_on C.Caller O.Sink E.Sink host.old) (scene_on C.Caller O.Sink E.Sink host.new)) }
+    ensures unplanned { OnErr result (SaysLines false
+        (scene_on C.Caller O.Sink E.Sink host.old) (scene_on C.Caller O.Sink E.Sink host.new)) }
+    ensures looks { looks_of host.new.term.now
+        ≡ record (looks_of host.old.term.now) { reported = host.new.term.now.error } }
 {
     let rustup = host.env.rustup.as_str();
     let folder = target_folder(host.alloc, cx)?;
@@ -113,7 +131,7 @@ fn hand_to_starter<C: Starts, O: Write, E: Write>(
 }
 
 /// Hands the plan to a starter whose programs are called in lanes, or has it search.
-fn hand_out<L: Turns, O: Write, E: Write>(
+fn hand_out<L: Turns, O: Sink, E: Sink>(
     alloc: Global,
     cx: &Context,
     rustup: &str,
@@ -128,15 +146,24 @@ fn hand_out<L: Turns, O: Write, E: Write>(
     requires { IsAnswered (context_view cx.now).args stable }
     ensures done { OnOk result (fault.new ≡ None → term.new.error ≡ false → L.tells
         → PerformsOne true false (context_view cx.now) stable rustup.now term.old.warn
-        (host_of L.Caller O.Write lanes.old out.old term.old fails.old)
-        (host_of L.Caller O.Write lanes.new out.new term.new fails.new)) }
+        (host_of L.Caller O.Sink lanes.old out.old term.old fails.old)
+        (host_of L.Caller O.Sink lanes.new out.new term.new fails.new)) }
     ensures made { L.tells → PerformsAtMostOne false (context_view cx.now) stable rustup.now
-        (host_of L.Caller O.Write lanes.old out.old term.old fails.old)
-        (host_of L.Caller O.Write lanes.new out.new term.new fails.new) }
+        (host_of L.Caller O.Sink lanes.old out.old term.old fails.old)
+        (host_of L.Caller O.Sink lanes.new out.new term.new fails.new) }
     ensures lanes { OnOk result (RunsOne L.did (context_view cx.now) stable rustup.now
         (L.scene lanes.old) (L.scene lanes.new)) }
     ensures stays { L.stays lanes.old lanes.new }
     ensures refused { OnErr result (lanes.new ≡ lanes.old) }
+    ensures shown { IfOk result (λ session. HandsSteps L.tells (context_view cx.now) stable
+        rustup.now fault.old fault.new (looks_of term.old) session
+        (scene_at (L.calls lanes.old) O.Sink E.Sink out.old err.old)
+        (scene_at (L.calls lanes.new) O.Sink E.Sink out.new err.new)) }
+    ensures unplanned { OnErr result (SaysLines false
+        (scene_at (L.calls lanes.old) O.Sink E.Sink out.old err.old)
+        (scene_at (L.calls lanes.new) O.Sink E.Sink out.new err.new)) }
+    ensures looks { looks_of term.new
+        ≡ record (looks_of term.old) { reported = term.new.error } }
 {
     if cx.args().find_conflicts {
         hunt_in_lanes(alloc, cx, rustup, lanes, term, out, err, fault, fails)?;
@@ -153,7 +180,7 @@ fn hand_out<L: Turns, O: Write, E: Write>(
 }
 
 /// Hands the plan to a starter whose programs are called in lanes.
-fn drive_in_lanes<L: Turns, O: Write, E: Write>(
+fn drive_in_lanes<L: Turns, O: Sink, E: Sink>(
     alloc: Global,
     cx: &Context,
     rustup: &str,
@@ -169,15 +196,24 @@ fn drive_in_lanes<L: Turns, O: Write, E: Write>(
     requires piece { (context_view cx.now).args.find_rust_version ≡ false }
     ensures done { OnOk result (fault.new ≡ None → term.new.error ≡ false → L.tells
         → (fails : Bool) → PerformsOne true false (context_view cx.now) stable rustup.now
-        term.old.warn (host_of L.Caller O.Write lanes.old out.old term.old fails)
-        (host_of L.Caller O.Write lanes.new out.new term.new fails)) }
+        term.old.warn (host_of L.Caller O.Sink lanes.old out.old term.old fails)
+        (host_of L.Caller O.Sink lanes.new out.new term.new fails)) }
     ensures made { L.tells → (fails : Bool) → PerformsAtMostOne false (context_view cx.now) stable
-        rustup.now (host_of L.Caller O.Write lanes.old out.old term.old fails)
-        (host_of L.Caller O.Write lanes.new out.new term.new fails) }
+        rustup.now (host_of L.Caller O.Sink lanes.old out.old term.old fails)
+        (host_of L.Caller O.Sink lanes.new out.new term.new fails) }
     ensures lanes { OnOk result (RunsOne L.did (context_view cx.now) stable rustup.now
         (L.scene lanes.old) (L.scene lanes.new)) }
     ensures stays { L.stays lanes.old lanes.new }
     ensures refused { OnErr result (lanes.new ≡ lanes.old) }
+    ensures shown { IfOk result (λ session. HandsSteps L.tells (context_view cx.now) stable
+        rustup.now fault.old fault.new (looks_of term.old) (Some session)
+        (scene_at (L.calls lanes.old) O.Sink E.Sink out.old err.old)
+        (scene_at (L.calls lanes.new) O.Sink E.Sink out.new err.new)) }
+    ensures unplanned { OnErr result (SaysLines false
+        (scene_at (L.calls lanes.old) O.Sink E.Sink out.old err.old)
+        (scene_at (L.calls lanes.new) O.Sink E.Sink out.new err.new)) }
+    ensures looks { looks_of term.new
+        ≡ record (looks_of term.old) { reported = term.new.error } }
 {
     let (log_group, keep_going) = manner(cx.args());
     let mut starter = Starter::new(alloc, lanes, term, out, err, fault);
@@ -192,7 +228,7 @@ fn drive_in_lanes<L: Turns, O: Write, E: Write>(
 
 /// Has a starter whose programs are called in lanes, one after another, search for the least versions,
 /// and reports what was found, unless the search was broken off.
-fn search_in_lanes<L: Turns, O: Write, E: Write>(
+fn search_in_lanes<L: Turns, O: Sink, E: Sink>(
     alloc: Global,
     cx: &Context,
     rustup: &str,
@@ -209,15 +245,24 @@ fn search_in_lanes<L: Turns, O: Write, E: Write>(
     requires search { (context_view cx.now).args.find_rust_version ≡ true }
     ensures done { OnOk result (fault.new ≡ None → term.new.error ≡ false → L.tells
         → PerformsOne true false (context_view cx.now) stable rustup.now term.old.warn
-        (host_of L.Caller O.Write lanes.old out.old term.old fails.old)
-        (host_of L.Caller O.Write lanes.new out.new term.new fails.new)) }
+        (host_of L.Caller O.Sink lanes.old out.old term.old fails.old)
+        (host_of L.Caller O.Sink lanes.new out.new term.new fails.new)) }
     ensures made { L.tells → PerformsAtMostOne false (context_view cx.now) stable rustup.now
-        (host_of L.Caller O.Write lanes.old out.old term.old fails.old)
-        (host_of L.Caller O.Write lanes.new out.new term.new fails.new) }
+        (host_of L.Caller O.Sink lanes.old out.old term.old fails.old)
+        (host_of L.Caller O.Sink lanes.new out.new term.new fails.new) }
     ensures lanes { OnOk result (RunsOne L.did (context_view cx.now) stable rustup.now
         (L.scene lanes.old) (L.scene lanes.new)) }
     ensures stays { L.stays lanes.old lanes.new }
     ensures refused { OnErr result (lanes.new ≡ lanes.old) }
+    ensures shown { OnOk result (SaysSteps L.tells false (context_view cx.now) stable rustup.now
+        fault.old (looks_of term.old)
+        (scene_at (L.calls lanes.old) O.Sink E.Sink out.old err.old)
+        (scene_at (L.calls lanes.new) O.Sink E.Sink out.new err.new)) }
+    ensures unplanned { OnErr result (SaysLines false
+        (scene_at (L.calls lanes.old) O.Sink E.Sink out.old err.old)
+        (scene_at (L.calls lanes.new) O.Sink E.Sink out.new err.new)) }
+    ensures looks { looks_of term.new
+        ≡ record (looks_of term.old) { reported = term.new.error } }
 {
     let (log_group, _) = manner(cx.args());
     let mut starter = Starter::new(alloc, lanes, term, out, err, fault);
@@ -232,7 +277,7 @@ fn search_in_lanes<L: Turns, O: Write, E: Write>(
 /// Reports what a search found, and keeps whether a greatest version fails. Where the search was
 /// broken off, `fault` says why, or memory was refused, which is told already. Else a run that failed
 /// is no error of the call.
-fn settle<E: Write>(
+fn settle<E: Sink>(
     alloc: Global,
     cx: &Context,
     plan: &Plan,
@@ -248,6 +293,8 @@ fn settle<E: Write>(
         × (((fault.old ≡ None) × Contains found.now Found.Broken)
         ⊎ ReportsFound (context_view cx.now) plan.now found.now
         fails.old fails.new term.old.warn term.new.warn) }
+    ensures looks { looks_of term.new
+        ≡ record (looks_of term.old) { reported = term.new.error } }
 {
     if refused {
         return cut_off(fault, term);
@@ -265,7 +312,7 @@ fn settle<E: Write>(
 }
 
 /// Keeps what the lines on a search noted.
-pub(crate) fn keep<E: Write>(
+pub(crate) fn keep<E: Sink>(
     told: Result<Noted, AllocError>,
     fails: &mut bool,
     term: &mut Term,
@@ -276,6 +323,8 @@ pub(crate) fn keep<E: Write>(
         → IfOk told (λ noted. (fails.new ≡ (fails.old || noted.fails))
         × (term.new.warn ≡ (term.old.warn || noted.warns))) }
     ensures told { term.new.error ≡ false → IsOk told }
+    ensures looks { looks_of term.new
+        ≡ record (looks_of term.old) { reported = term.new.error } }
 {
     match told {
         Ok(noted) => {

@@ -12,7 +12,7 @@ use thiserror::Error;
 
 /// The error that ended a call.
 #[derive(Debug, Drop, Error)]
-pub(crate) enum RunFault {
+pub enum RunFault {
     #[error("out of memory")]
     Memory,
     /// The command line is refused.

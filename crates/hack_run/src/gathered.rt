@@ -6,9 +6,10 @@ ghost use Rattle.std.specs.Fmt.{with_newline};
 ghost use Rattle.std.specs.Io.KnownBytes.{Appends, Keeps, append_known};
 ghost use Rattle.hack_run.specs.InternalExtensions.{Extends};
 
+use hack_base::writes::Sink;
 use hack_session::session::{LineFault, Lines};
 use std::alloc::{AllocError, Global};
-use std::io::{ErrorKind, Write};
+use std::io::ErrorKind;
 use std::{fmt, io};
 
 /// How many bytes are gathered, unless a text is longer: as many as a pipe takes at once.
@@ -17,7 +18,7 @@ const ROOM: usize = 65_536;
 /// Lines on a writer that are gathered, and written together. What can't be written stays gathered.
 /// A line that then has no room is left out whole.
 #[derive(Drop)]
-pub(crate) struct GatheredLines<'a, O: Write> {
+pub(crate) struct GatheredLines<'a, O: Sink> {
     pub(crate) out: &'a mut O,
     pub(crate) gathered: &'a mut Vec<u8>,
     /// Where a line is put together; its memory is used for the next one.
@@ -28,7 +29,7 @@ pub(crate) struct GatheredLines<'a, O: Write> {
     pub(crate) short: bool,
 }
 
-impl<O: Write> Lines for GatheredLines<'_, O> {
+impl<O: Sink> Lines for GatheredLines<'_, O> {
     ghost use Rattle.std.proofs.Common.{◌∙◌, refl};
     ghost use Rattle.hack_run.specs.InternalExtensions.{extends_none, extends_then};
 
@@ -71,7 +72,7 @@ pub(crate) fn room(alloc: Global) -> Result<Vec<u8>, AllocError>
 
 /// Returns lines that are gathered in this buffer, none of which has failed. Each is put together
 /// in `line`.
-pub(crate) fn gather_on<'a, O: Write>(
+pub(crate) fn gather_on<'a, O: Sink>(
     out: &'a mut O,
     gathered: &'a mut Vec<u8>,
     line: &'a mut String,
@@ -92,7 +93,7 @@ pub(crate) fn gather_on<'a, O: Write>(
 }
 
 /// Gathers a text and a line feed, put together in `line`.
-fn put_line<O: Write, D: fmt::Display + Drop>(
+fn put_line<O: Sink, D: fmt::Display + Drop>(
     out: &mut O,
     gathered: &mut Vec<u8>,
     line: &mut String,
@@ -113,7 +114,7 @@ fn put_line<O: Write, D: fmt::Display + Drop>(
 }
 
 /// Gathers a text. Where there is no room for it, what is gathered so far is written first.
-fn gather<O: Write>(out: &mut O, gathered: &mut Vec<u8>, text: &str) -> Result<(), LineFault>
+fn gather<O: Sink>(out: &mut O, gathered: &mut Vec<u8>, text: &str) -> Result<(), LineFault>
     ensures written { OnOk result (Appends (append_known (O.contents out.old) gathered.old.items)
         (append_known (O.contents out.new) gathered.new.items) text.now) }
     ensures missed { OnErr result (Keeps (append_known (O.contents out.old) gathered.old.items)
@@ -141,7 +142,7 @@ fn push(gathered: &mut Vec<u8>, text: &str) -> Result<(), LineFault>
 }
 
 /// Writes what is gathered. What can't be written stays gathered.
-fn write_gathered<O: Write>(out: &mut O, gathered: &mut Vec<u8>) -> io::Result<()>
+fn write_gathered<O: Sink>(out: &mut O, gathered: &mut Vec<u8>) -> io::Result<()>
     ensures none { OnOk result (gathered.new.items ≡ []) }
     ensures bytes { Keeps (append_known (O.contents out.old) gathered.old.items)
         (append_known (O.contents out.new) gathered.new.items) }
@@ -157,12 +158,12 @@ fn write_gathered<O: Write>(out: &mut O, gathered: &mut Vec<u8>) -> io::Result<(
 }
 
 /// Writes as much of what is gathered as the writer takes at once; nothing where it is interrupted.
-fn write_some<O: Write>(out: &mut O, gathered: &mut Vec<u8>) -> io::Result<()>
+fn write_some<O: Sink>(out: &mut O, gathered: &mut Vec<u8>) -> io::Result<()>
     ensures bytes { Keeps (append_known (O.contents out.old) gathered.old.items)
         (append_known (O.contents out.new) gathered.new.items) }
     ensures grown { Extends (O.contents out.old) (O.contents out.new) }
 {
-    match out.write(gathered.as_slice()) {
+    match out.put_some(gathered.as_slice()) {
         Ok(0) => Err(io::Error::from(ErrorKind::WriteZero)),
         Ok(n) => {
             drop_front(gathered, n);
@@ -188,7 +189,7 @@ fn drop_front(gathered: &mut Vec<u8>, n: usize)
 }
 
 /// Writes what is still gathered, flushes the writer, and returns whether both succeeded.
-pub(crate) fn write_last<O: Write>(out: &mut O, gathered: &mut Vec<u8>) -> bool
+pub(crate) fn write_last<O: Sink>(out: &mut O, gathered: &mut Vec<u8>) -> bool
     ensures kept { Keeps (append_known (O.contents out.old) gathered.old.items)
         (append_known (O.contents out.new) gathered.new.items) }
     ensures grown { Extends (O.contents out.old) (O.contents out.new) }
@@ -196,7 +197,7 @@ pub(crate) fn write_last<O: Write>(out: &mut O, gathered: &mut Vec<u8>) -> bool
         (O.contents out.new) }
 {
     match write_gathered(out, gathered) {
-        Ok(()) => out.flush().is_ok(),
+        Ok(()) => out.finish().is_ok(),
         Err(_) => false,
     }
 }

@@ -3,16 +3,16 @@
 ghost use Rattle.std.specs.Prelude.{◌≡◌, false};
 ghost use Rattle.hack_run.specs.Worlds.{IsStatus, host_view};
 
+use hack_base::writes::Sink;
 use hack_process::process::Caller;
 use hack_term::term::Term;
 use hack_words::cli::Env;
 use std::alloc::Global;
-use std::io::Write;
 
 /// What a call reaches of the world, but for files: these stand beside it, since a call with a
 /// journal has its own.
 #[derive(Drop)]
-pub struct Host<'a, C: Caller, O: Write, E: Write> {
+pub struct Host<'a, C: Caller, O: Sink, E: Sink> {
     pub alloc: Global,
     pub env: &'a Env,
     /// How messages look, and whether an error or a warning was reported.
@@ -28,7 +28,7 @@ pub struct Host<'a, C: Caller, O: Write, E: Write> {
     pub fails: bool,
 }
 
-impl<'a, C: Caller, O: Write, E: Write> Host<'a, C, O, E> {
+impl<'a, C: Caller, O: Sink, E: Sink> Host<'a, C, O, E> {
     /// A host of these, for which nothing was searched yet.
     pub fn new(
         alloc: Global,
@@ -64,7 +64,7 @@ impl<'a, C: Caller, O: Write, E: Write> Host<'a, C, O, E> {
     /// warnings are denied; else 0.
     pub fn status(&self) -> u8
         ensures { IsStatus self.now.env.now.deny_warnings
-            (host_view C.Caller O.Write self.now) result }
+            (host_view C.Caller O.Sink self.now) result }
     {
         if self.fails {
             return 1;

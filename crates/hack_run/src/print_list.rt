@@ -1,18 +1,22 @@
 //! The command list of a plan.
 
-ghost use Rattle.std.specs.Prelude.{◌≡◌, None, Ok, OnOk, false, string_bytes, true};
+ghost use Rattle.std.specs.Prelude.{◌≡◌, ◌⊎◌, IfOk, IsErr, List, None, Ok, OnErr, OnOk, false, string_bytes};
+ghost use Rattle.std.specs.Prelude.{true};
+ghost use Rattle.hack_base.specs.Notes.{Note};
 ghost use Rattle.hack_load.specs.ContextView.{context_view};
 ghost use Rattle.hack_run.specs.CallTrace.{PerformsOne};
-ghost use Rattle.hack_run.specs.Internal.{HandsOverAtMostOne, ListsOver};
+ghost use Rattle.hack_run.specs.Internal.{HandsOver, HandsOverAtMostOne, ListsOver};
 ghost use Rattle.hack_run.specs.Internal.{MayPerformItsPlan, PerformsAtMostOne, PerformsItsPlan};
 ghost use Rattle.hack_run.specs.Internal.{host_writing};
 ghost use Rattle.hack_run.specs.InternalExtensions.{Extends};
 ghost use Rattle.hack_drive.specs.Answered.{IsAnswered};
+ghost use Rattle.hack_run.specs.Shown.{MaySayList, SaysLines, SaysSteps, looks_of, scene_on};
 ghost use Rattle.hack_run.specs.Worlds.{IsSameHost, host_view};
 
 use crate::fault::RunFault;
 use crate::gathered::{gather_on, room, write_last};
 use crate::host::Host;
+use hack_base::writes::Sink;
 use hack_drive::drive::{Teller, drive_context};
 use hack_load::context::Context;
 use hack_planner::fault::PlanFault;
@@ -22,7 +26,6 @@ use hack_term::term::LogGroup;
 use hack_versions::version::Version;
 use std::alloc::Global;
 use std::io;
-use std::io::Write;
 
 /// What came of listing.
 #[derive(Drop)]
@@ -39,18 +42,23 @@ struct Listed {
 
 /// Writes the commands of the chosen piece of a context's plan. Toolchains are still installed, and
 /// lockfiles still made.
-pub(crate) fn print_list<C: Caller, O: Write, E: Write>(
+pub(crate) fn print_list<C: Caller, O: Sink, E: Sink>(
     cx: &Context,
     stable: Result<Option<Version>, String>,
     host: &mut Host<'_, C, O, E>,
 ) -> Result<(), RunFault>
     requires { IsAnswered (context_view cx.now).args stable }
     ensures host { IsSameHost host.old host.new }
-    ensures done { OnOk result (PerformsItsPlan C.Caller O.Write true
+    ensures done { OnOk result (PerformsItsPlan C.Caller O.Sink true
         (context_view cx.now) stable host.old host.new) }
-    ensures made { MayPerformItsPlan C.Caller O.Write true
+    ensures made { MayPerformItsPlan C.Caller O.Sink true
         (context_view cx.now) stable host.old host.new }
     ensures course { C.course host.old.caller.now host.new.caller.now }
+    ensures shown { C.tells → MaySayList result C.tells (context_view cx.now) stable
+        (string_bytes host.old.env.now.rustup) (looks_of host.old.term.now)
+        (scene_on C.Caller O.Sink E.Sink host.old) (scene_on C.Caller O.Sink E.Sink host.new) }
+    ensures looks { looks_of host.new.term.now
+        ≡ record (looks_of host.old.term.now) { reported = host.new.term.now.error } }
 {
     let mut gathered = room(host.alloc)?;
     let came = hand_to_lister(cx, stable, &mut gathered, host);
@@ -59,7 +67,7 @@ pub(crate) fn print_list<C: Caller, O: Write, E: Write>(
 }
 
 /// Hands the plan to a lister whose lines are gathered for the host's output.
-fn hand_to_lister<C: Caller, O: Write, E: Write>(
+fn hand_to_lister<C: Caller, O: Sink, E: Sink>(
     cx: &Context,
     stable: Result<Option<Version>, String>,
     gathered: &mut Vec<u8>,
@@ -71,14 +79,21 @@ fn hand_to_lister<C: Caller, O: Write, E: Write>(
         → host.new.term.now.error ≡ false → C.tells
         → PerformsOne true true (context_view cx.now) stable
         (string_bytes host.old.env.now.rustup) host.old.term.now.warn
-        (host_writing gathered.old.items (host_view C.Caller O.Write host.old))
-        (host_writing gathered.new.items (host_view C.Caller O.Write host.new)) }
+        (host_writing gathered.old.items (host_view C.Caller O.Sink host.old))
+        (host_writing gathered.new.items (host_view C.Caller O.Sink host.new)) }
     ensures made { C.tells → PerformsAtMostOne true (context_view cx.now) stable
         (string_bytes host.old.env.now.rustup)
-        (host_writing gathered.old.items (host_view C.Caller O.Write host.old))
-        (host_writing gathered.new.items (host_view C.Caller O.Write host.new)) }
+        (host_writing gathered.old.items (host_view C.Caller O.Sink host.old))
+        (host_writing gathered.new.items (host_view C.Caller O.Sink host.new)) }
     ensures course { C.course host.old.caller.now host.new.caller.now }
     ensures grown { Extends (O.contents host.old.out.now) (O.contents host.new.out.now) }
+    ensures shown { IfOk result.refused (λ _. SaysSteps C.tells true (context_view cx.now) stable
+        (string_bytes host.old.env.now.rustup) None (looks_of host.old.term.now)
+        (scene_on C.Caller O.Sink E.Sink host.old) (scene_on C.Caller O.Sink E.Sink host.new)) }
+    ensures unplanned { OnErr result.refused (SaysLines true
+        (scene_on C.Caller O.Sink E.Sink host.old) (scene_on C.Caller O.Sink E.Sink host.new)) }
+    ensures looks { looks_of host.new.term.now
+        ≡ record (looks_of host.old.term.now) { reported = host.new.term.now.error } }
 {
     let rustup = host.env.rustup.as_str();
     let mut nothing = io::sink();
@@ -120,6 +135,10 @@ fn list_over<'a, W: Lines, R: Teller>(
     ensures stays { W.stays out.old out.new }
     ensures made { HandsOverAtMostOne W.whole (W.contents out.old) (W.contents out.new)
         R.told R.ran (context_view cx.now) stable rustup.now runner.old runner.new }
+    ensures over { OnOk result (HandsOver W.whole (W.contents out.old) (W.contents out.new)
+        R.told R.ran (context_view cx.now) stable rustup.now runner.old runner.new) }
+    ensures refused { OnErr result ((runner.new ≡ runner.old)
+        ⊎ ((notes : List Note) × R.told notes runner.old runner.new)) }
 {
     let mut lister = Lister {
         alloc,
@@ -133,8 +152,9 @@ fn list_over<'a, W: Lines, R: Teller>(
 
 /// Returns how the list ends; `flushed` is whether its last lines were written.
 fn end_of_list(listed: Listed, flushed: bool) -> Result<(), RunFault>
-    ensures { OnOk result ((listed.refused ≡ Ok false) × (listed.fault ≡ None)
+    ensures ok { OnOk result ((listed.refused ≡ Ok false) × (listed.fault ≡ None)
         × (listed.failed ≡ 0) × (flushed ≡ true)) }
+    ensures err { OnErr listed.refused (IsErr result) }
 {
     let Listed {
         refused,

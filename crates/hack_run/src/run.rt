@@ -18,6 +18,7 @@ ghost use Rattle.hack_run.specs.Readings.{IsEarlyReadingOrRefusal};
 ghost use Rattle.hack_run.specs.TemporaryEdits.{BringsBack, ComesBack, IsClean, RestoresEdits};
 ghost use Rattle.hack_run.specs.Internal.{IsUntoldRefusal};
 ghost use Rattle.hack_run.specs.Refusals.{AreRefused, ReportsRefusal, WritesError};
+ghost use Rattle.hack_run.specs.Shown.{MaySayRead, SaysCall, SaysParsed, looks_of, scene_on};
 ghost use Rattle.hack_files.specs.View.{files_view};
 ghost use Rattle.hack_run.specs.Worlds.{IsSameHost, IsStatus, host_view, world_of};
 
@@ -27,7 +28,7 @@ use crate::reading::{Reading, reading_of};
 use crate::stages::perform;
 use crate::tell::tell_end;
 use hack_base::notice::Notice;
-use hack_base::writes::write_front;
+use hack_base::writes::{Sink, write_front};
 use hack_drive::notices::tell_all;
 use hack_files::fs::Files;
 use hack_process::process::{Caller, ProcessBuilder, ProcessFault};
@@ -35,13 +36,12 @@ use hack_starts::starts::Starts;
 use hack_term::term::{Coloring, Term};
 use hack_words::cli::{Args, Env, Parsed};
 use std::alloc::Global;
-use std::io::Write;
 
 /// Performs a call with these arguments, the first of which is `hack`, and returns its exit status.
 /// `reading` is what they are read into, where that is known already. Messages go to the host's
 /// `err`, the line of an error last. Under `--color auto` the colouring is the one that its
 /// terminal has.
-pub fn run<F: Files, C: Starts, O: Write, E: Write>(
+pub fn run<F: Files, C: Starts, O: Sink, E: Sink>(
     words: &[String],
     reading: Option<Reading>,
     files: &mut F,
@@ -51,7 +51,7 @@ pub fn run<F: Files, C: Starts, O: Write, E: Write>(
     requires { IfSome reading (IsEarlyReadingOrRefusal host.old.env.now (names_of words.now)) }
     ensures host { IsSameHost host.old host.new }
     ensures status { IsStatus host.old.env.now.deny_warnings
-        (host_view C.Caller O.Write host.new) result }
+        (host_view C.Caller O.Sink host.new) result }
 
     // What each single call of the files keeps (`F.stays`) is kept by all of them together.
     ensures stays { F.stays files.old files.new }
@@ -60,7 +60,7 @@ pub fn run<F: Files, C: Starts, O: Write, E: Write>(
     // nothing was called, or just rustup for its version.
     ensures refused { AreRefused host.old.env.now (names_of words.now)
         → ReportsRefusal C.tells host.old.env.now
-        (host_view C.Caller O.Write host.old) (host_view C.Caller O.Write host.new) }
+        (host_view C.Caller O.Sink host.old) (host_view C.Caller O.Sink host.new) }
 
     // And the line of an error is all that is written to `err`, coloured as the terminal is, for
     // which `coloring_asked` says what the command line asks for.
@@ -79,23 +79,23 @@ pub fn run<F: Files, C: Starts, O: Write, E: Write>(
     // else what it held.
     ensures done { host.new.term.now.error ≡ false → C.tells
         → IsCallTrace true F.tells (names_of words.now) host.old.env.now
-        (world_of F.Files C.Caller O.Write files.old host.old)
-        (world_of F.Files C.Caller O.Write files.new host.new) }
+        (world_of F.Files C.Caller O.Sink files.old host.old)
+        (world_of F.Files C.Caller O.Sink files.new host.new) }
 
     // Then files that show their changes show just these, in order: the lockfile is written back by
     // the questions, where stable's cargo was asked for metadata; each manifest that is edited is
     // written once; and unless edits stay, what they changed and the lockfile are written back.
     ensures traced { host.new.term.now.error ≡ false → C.tells → F.whole
         → IsChangeTrace F.tells (names_of words.now) host.old.env.now
-        (world_of F.Files C.Caller O.Write files.old host.old)
-        (world_of F.Files C.Caller O.Write files.new host.new) }
+        (world_of F.Files C.Caller O.Sink files.old host.old)
+        (world_of F.Files C.Caller O.Sink files.new host.new) }
 
     // Whatever comes of the call: after its questions the steps of one history of the plan, or of a
     // search, made just their calls, or no step made one; and a list printed nothing but the lines of the steps
     // that passed, in order, or the beginning of these lines.
     ensures made { C.tells → IsCallTrace false F.tells (names_of words.now) host.old.env.now
-        (world_of F.Files C.Caller O.Write files.old host.old)
-        (world_of F.Files C.Caller O.Write files.new host.new) }
+        (world_of F.Files C.Caller O.Sink files.old host.old)
+        (world_of F.Files C.Caller O.Sink files.new host.new) }
 
     // The files are restored: unless the command line asks for edits that stay, each path holds
     // what it held, except for at most as many paths as calls of the files failed.
@@ -123,6 +123,15 @@ pub fn run<F: Files, C: Starts, O: Write, E: Write>(
     // Whatever comes of the call: nothing else was started, and none is left.
     ensures in_lanes { IsLaneCall false C.did C.course
         (names_of words.now) host.old.env.now host.old.caller.now host.new.caller.now }
+
+    // Whatever comes of the call, just this is said, in this order: the notices on the command line,
+    // on what was loaded, on edits and on the plan; what each step says; the report of the runs that
+    // failed; and an error's line last. Each is written whole, or its stream counted a failure for it.
+    // What a search says of what it found is left open.
+    ensures shown { C.tells → SaysCall (host.new.term.now.error ≡ false) F.tells C.tells
+        (names_of words.now) host.old.env.now (F.bytes_at files.old) (looks_of host.old.term.now)
+        host.new.term.now.coloring
+        (scene_on C.Caller O.Sink E.Sink host.old) (scene_on C.Caller O.Sink E.Sink host.new) }
 {
     let env = host.env;
     let came = read(words, reading, files, host);
@@ -131,7 +140,7 @@ pub fn run<F: Files, C: Starts, O: Write, E: Write>(
 }
 
 /// Reads the command line, unless it is read already, and does what it asks for.
-fn read<F: Files, C: Starts, O: Write, E: Write>(
+fn read<F: Files, C: Starts, O: Sink, E: Sink>(
     words: &[String],
     reading: Option<Reading>,
     files: &mut F,
@@ -144,18 +153,18 @@ fn read<F: Files, C: Starts, O: Write, E: Write>(
         × (C.tells → MayAdd (rustup_asked (string_bytes host.old.env.now.rustup))
         (C.calls host.old.caller.now) (C.calls host.new.caller.now)) }
     ensures told { AreRefused host.old.env.now (names_of words.now)
-        → IsUntoldRefusal E.Write result host.old host.new }
+        → IsUntoldRefusal E.Sink result host.old host.new }
     ensures done { OnOk result (host.new.term.now.error ≡ false → C.tells
         → IsCallTrace true F.tells (names_of words.now) host.old.env.now
-        (world_of F.Files C.Caller O.Write files.old host.old)
-        (world_of F.Files C.Caller O.Write files.new host.new)) }
+        (world_of F.Files C.Caller O.Sink files.old host.old)
+        (world_of F.Files C.Caller O.Sink files.new host.new)) }
     ensures traced { OnOk result (host.new.term.now.error ≡ false → C.tells → F.whole
         → IsChangeTrace F.tells (names_of words.now) host.old.env.now
-        (world_of F.Files C.Caller O.Write files.old host.old)
-        (world_of F.Files C.Caller O.Write files.new host.new)) }
+        (world_of F.Files C.Caller O.Sink files.old host.old)
+        (world_of F.Files C.Caller O.Sink files.new host.new)) }
     ensures made { C.tells → IsCallTrace false F.tells (names_of words.now) host.old.env.now
-        (world_of F.Files C.Caller O.Write files.old host.old)
-        (world_of F.Files C.Caller O.Write files.new host.new) }
+        (world_of F.Files C.Caller O.Sink files.old host.old)
+        (world_of F.Files C.Caller O.Sink files.new host.new) }
     ensures back { RestoresEdits host.old.env.now (names_of words.now) → F.tells
         → BringsBack (files_view F.Files files.old) (files_view F.Files files.new) }
     ensures spoilt { RestoresEdits host.old.env.now (names_of words.now)
@@ -168,6 +177,9 @@ fn read<F: Files, C: Starts, O: Write, E: Write>(
         host.old.env.now host.old.caller.now host.new.caller.now) }
     ensures in_lanes { IsLaneCall false C.did C.course (names_of words.now)
         host.old.env.now host.old.caller.now host.new.caller.now }
+    ensures shown { C.tells → MaySayRead result (host.new.term.now.error ≡ false) F.tells C.tells
+        (names_of words.now) host.old.env.now (F.bytes_at files.old) (looks_of host.old.term.now)
+        (scene_on C.Caller O.Sink E.Sink host.old) (scene_on C.Caller O.Sink E.Sink host.new) }
 {
     let env = host.env;
     match reading_of(
@@ -184,7 +196,7 @@ fn read<F: Files, C: Starts, O: Write, E: Write>(
 }
 
 /// Does what a parsed command line asks for. The notices are those of parsing it.
-fn obey<F: Files, C: Starts, O: Write, E: Write>(
+fn obey<F: Files, C: Starts, O: Sink, E: Sink>(
     parsed: Parsed,
     notices: &[Notice],
     files: &mut F,
@@ -195,17 +207,17 @@ fn obey<F: Files, C: Starts, O: Write, E: Write>(
     ensures done { OnOk result (host.new.term.now.error ≡ false → C.tells
         → Obeys true F.tells parsed host.old.env.now
         (warned_by parsed (map note_of notices.now) host.old.term.now.warn)
-        (world_of F.Files C.Caller O.Write files.old host.old)
-        (world_of F.Files C.Caller O.Write files.new host.new)) }
+        (world_of F.Files C.Caller O.Sink files.old host.old)
+        (world_of F.Files C.Caller O.Sink files.new host.new)) }
     ensures traced { OnOk result (host.new.term.now.error ≡ false → C.tells → F.whole
         → ObeysAndChanges F.tells parsed host.old.env.now
         (warned_by parsed (map note_of notices.now) host.old.term.now.warn)
-        (world_of F.Files C.Caller O.Write files.old host.old)
-        (world_of F.Files C.Caller O.Write files.new host.new)) }
+        (world_of F.Files C.Caller O.Sink files.old host.old)
+        (world_of F.Files C.Caller O.Sink files.new host.new)) }
     ensures made { C.tells → Obeys false F.tells parsed host.old.env.now
         (warned_by parsed (map note_of notices.now) host.old.term.now.warn)
-        (world_of F.Files C.Caller O.Write files.old host.old)
-        (world_of F.Files C.Caller O.Write files.new host.new) }
+        (world_of F.Files C.Caller O.Sink files.old host.old)
+        (world_of F.Files C.Caller O.Sink files.new host.new) }
     ensures back { ComesBack parsed → F.tells
         → BringsBack (files_view F.Files files.old) (files_view F.Files files.new) }
     ensures spoilt { ComesBack parsed → KeepsAllBut (F.refuses files.old files.new) F.tells
@@ -217,6 +229,10 @@ fn obey<F: Files, C: Starts, O: Write, E: Write>(
         host.new.caller.now) }
     ensures in_lanes { ObeysInLanes false C.did C.course parsed host.old.caller.now
         host.new.caller.now }
+    ensures shown { C.tells → SaysParsed result (host.new.term.now.error ≡ false) F.tells C.tells
+        parsed (map note_of notices.now) host.old.env.now (F.bytes_at files.old)
+        (looks_of host.old.term.now)
+        (scene_on C.Caller O.Sink E.Sink host.old) (scene_on C.Caller O.Sink E.Sink host.new) }
 {
     match parsed {
         Parsed::Args(args) => {
@@ -246,7 +262,7 @@ fn dress(term: &mut Term, args: &Args)
 }
 
 /// Prints a text, or the beginning of it where a write fails.
-fn print<O: Write>(text: &str, out: &mut O) -> Result<(), RunFault>
+fn print<O: Sink>(text: &str, out: &mut O) -> Result<(), RunFault>
     ensures all { OnOk result (Appends (O.contents out.old) (O.contents out.new) text.now) }
     ensures front { AppendsFront (O.contents out.old) (O.contents out.new) text.now }
 {

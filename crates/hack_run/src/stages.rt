@@ -1,8 +1,10 @@
 //! The stages of a call after its command line is parsed: loading, edits of manifests, the plan,
 //! and its runs or their list.
 
-ghost use Rattle.std.specs.Prelude.{◌≡◌, ◌⊎◌, IfOk, IfSome, IsOk, OnOk, false, string_bytes, true};
+ghost use Rattle.std.specs.Prelude.{◌≡◌, ◌⊎◌, IfOk, IfSome, IsOk, OnErr, OnOk, false, map, string_bytes};
+ghost use Rattle.std.specs.Prelude.{true};
 ghost use Rattle.hack_base.specs.Counters.{GrowsBy};
+ghost use Rattle.hack_base.specs.Streams.{WritesAll, WritesSome, stream_of};
 ghost use Rattle.hack_files.specs.Restore.{AreSafe, is_kept, registered_files};
 ghost use Rattle.hack_load.specs.Answers.{IsLoaded};
 ghost use Rattle.hack_load.specs.ContextOf.{IsContextFrom, warnings_of};
@@ -15,9 +17,13 @@ ghost use Rattle.hack_prepare.specs.Writes.{MakesSome};
 ghost use Rattle.hack_files.specs.Files.{Grows, KeepsAllBut};
 ghost use Rattle.hack_run.specs.CallChanges.{LoadsAndChanges};
 ghost use Rattle.hack_run.specs.CallTrace.{AfterLoading, LoadsAndPerforms};
-ghost use Rattle.hack_run.specs.Internal.{EditsAndPerforms, MayPerformItsPlan, PerformsItsPlan};
+ghost use Rattle.hack_run.specs.Internal.{EditsAndPerforms, KeepsAsMade, MayPerformItsPlan};
+ghost use Rattle.hack_run.specs.Internal.{PerformsItsPlan};
 ghost use Rattle.hack_run.specs.Lanes.{MayRunInLanes, PerformsInLanes, RunsInLanes};
+ghost use Rattle.hack_run.specs.Shown.{SaysAfterLoading, SaysItsPlan, SaysLoaded, SaysLooks};
+ghost use Rattle.hack_run.specs.Shown.{SaysNotes, looks_of, scene_on};
 ghost use Rattle.hack_run.specs.TemporaryEdits.{BringsBack, IsClean};
+ghost use Rattle.hack_term.specs.Lines.{info_line};
 ghost use Rattle.hack_drive.specs.Answered.{IsAnswered};
 ghost use Rattle.hack_drive.specs.Warnings.{after_notes};
 ghost use Rattle.hack_files.specs.View.{files_view};
@@ -28,6 +34,7 @@ use crate::execute::execute;
 use crate::fault::RunFault;
 use crate::host::Host;
 use crate::print_list::print_list;
+use hack_base::writes::Sink;
 use hack_drive::notices::tell_all;
 use hack_files::fs::{Files, FsFault};
 use hack_files::reason::tell_reason;
@@ -39,12 +46,11 @@ use hack_starts::starts::Starts;
 use hack_term::term::Term;
 use hack_versions::version::Version;
 use hack_words::cli::Args;
-use std::alloc::Global;
-use std::io::Write;
+use std::alloc::{AllocError, Global};
 
 /// Performs a call with these arguments. Whatever comes of it, edited files are restored at the
 /// end, unless the arguments ask for edits that stay.
-pub(crate) fn perform<F: Files, C: Starts, O: Write, E: Write>(
+pub(crate) fn perform<F: Files, C: Starts, O: Sink, E: Sink>(
     args: Args,
     files: &mut F,
     host: &mut Host<'_, C, O, E>,
@@ -53,16 +59,16 @@ pub(crate) fn perform<F: Files, C: Starts, O: Write, E: Write>(
     ensures stays { F.stays files.old files.new }
     ensures done { OnOk result (host.new.term.now.error ≡ false → C.tells
         → LoadsAndPerforms true F.tells args host.old.env.now host.old.term.now.warn
-        (world_of F.Files C.Caller O.Write files.old host.old)
-        (world_of F.Files C.Caller O.Write files.new host.new)) }
+        (world_of F.Files C.Caller O.Sink files.old host.old)
+        (world_of F.Files C.Caller O.Sink files.new host.new)) }
     ensures traced { OnOk result (host.new.term.now.error ≡ false → C.tells → F.whole
         → LoadsAndChanges F.tells args host.old.env.now host.old.term.now.warn
-        (world_of F.Files C.Caller O.Write files.old host.old)
-        (world_of F.Files C.Caller O.Write files.new host.new)) }
+        (world_of F.Files C.Caller O.Sink files.old host.old)
+        (world_of F.Files C.Caller O.Sink files.new host.new)) }
     ensures made { C.tells
         → LoadsAndPerforms false F.tells args host.old.env.now host.old.term.now.warn
-        (world_of F.Files C.Caller O.Write files.old host.old)
-        (world_of F.Files C.Caller O.Write files.new host.new) }
+        (world_of F.Files C.Caller O.Sink files.old host.old)
+        (world_of F.Files C.Caller O.Sink files.new host.new) }
     ensures back { args.remove_dev_deps ≡ false → F.tells
         → BringsBack (files_view F.Files files.old) (files_view F.Files files.new) }
     ensures spoilt { args.remove_dev_deps ≡ false → KeepsAllBut (F.refuses files.old files.new)
@@ -74,6 +80,11 @@ pub(crate) fn perform<F: Files, C: Starts, O: Write, E: Write>(
         host.new.caller.now) }
     ensures in_lanes { PerformsInLanes false C.did C.course args host.old.caller.now
         host.new.caller.now }
+    ensures shown { C.tells → SaysLoaded result (host.new.term.now.error ≡ false) F.tells C.tells
+        args host.old.env.now (F.bytes_at files.old) (looks_of host.old.term.now)
+        (scene_on C.Caller O.Sink E.Sink host.old) (scene_on C.Caller O.Sink E.Sink host.new) }
+    ensures looks { looks_of host.new.term.now
+        ≡ record (looks_of host.old.term.now) { reported = host.new.term.now.error } }
 {
     let mut manager = Manager::new(host.alloc, !args.remove_dev_deps);
     let answers = Answers::ask(
@@ -91,13 +102,16 @@ pub(crate) fn perform<F: Files, C: Starts, O: Write, E: Write>(
 }
 
 /// Says why a file couldn't be read or written, where that ended the call.
-fn tell_reason_of<F: Files, E: Write>(
+fn tell_reason_of<F: Files, E: Sink>(
     alloc: Global,
     came: &Result<(), RunFault>,
     files: &F,
     term: &Term,
     err: &mut E,
-) {
+)
+    ensures ok { OnOk came.now (err.new ≡ err.old) }
+    ensures lines { WritesSome (stream_of E.Sink err.old) (stream_of E.Sink err.new) }
+{
     match came {
         Err(fault) if fault.is_of_file() => tell_reason(alloc, files, term, err),
         _ => {}
@@ -105,7 +119,7 @@ fn tell_reason_of<F: Files, E: Write>(
 }
 
 /// Performs a call, given the answers to its questions.
-fn follow<F: Files, C: Starts, O: Write, E: Write>(
+fn follow<F: Files, C: Starts, O: Sink, E: Sink>(
     args: Args,
     answers: Answers,
     files: &mut F,
@@ -118,21 +132,26 @@ fn follow<F: Files, C: Starts, O: Write, E: Write>(
         → AfterLoading true (F.tells
         × IfOk answers.loaded (IsLoaded F.tells (F.bytes_at files.old) host.old.env.now))
         args answers (string_bytes host.old.env.now.rustup) host.old.term.now.warn
-        (world_of F.Files C.Caller O.Write files.old host.old)
-        (world_of F.Files C.Caller O.Write files.new host.new)) }
+        (world_of F.Files C.Caller O.Sink files.old host.old)
+        (world_of F.Files C.Caller O.Sink files.new host.new)) }
     ensures traced { OnOk result (host.new.term.now.error ≡ false → C.tells → F.whole
         → EditsAndPerforms F.tells args answers (string_bytes host.old.env.now.rustup)
         manager.old manager.new
-        (world_of F.Files C.Caller O.Write files.old host.old)
-        (world_of F.Files C.Caller O.Write files.new host.new)) }
+        (world_of F.Files C.Caller O.Sink files.old host.old)
+        (world_of F.Files C.Caller O.Sink files.new host.new)) }
     ensures made { C.tells → AfterLoading false F.tells args answers
         (string_bytes host.old.env.now.rustup) host.old.term.now.warn
-        (world_of F.Files C.Caller O.Write files.old host.old)
-        (world_of F.Files C.Caller O.Write files.new host.new) }
+        (world_of F.Files C.Caller O.Sink files.old host.old)
+        (world_of F.Files C.Caller O.Sink files.new host.new) }
     ensures lanes { OnOk result (PerformsInLanes true C.did C.course args host.old.caller.now
         host.new.caller.now) }
     ensures in_lanes { PerformsInLanes false C.did C.course args host.old.caller.now
         host.new.caller.now }
+    ensures shown { C.tells → SaysAfterLoading result C.tells args answers
+        (string_bytes host.old.env.now.rustup) (looks_of host.old.term.now)
+        (scene_on C.Caller O.Sink E.Sink host.old) (scene_on C.Caller O.Sink E.Sink host.new) }
+    ensures looks { looks_of host.new.term.now
+        ≡ record (looks_of host.old.term.now) { reported = host.new.term.now.error } }
     ensures unkept { manager.old.needs_restore ≡ false
         → registered_files manager.new ≡ registered_files manager.old }
     ensures grows { Grows (F.failed files.old) (F.failed files.new) }
@@ -151,7 +170,7 @@ fn follow<F: Files, C: Starts, O: Write, E: Write>(
 }
 
 /// Makes the context of what is loaded, and prints its notices.
-fn context<E: Write>(
+fn context<E: Sink>(
     alloc: Global,
     args: Args,
     answers: Answers,
@@ -161,6 +180,10 @@ fn context<E: Write>(
     ensures ok { IfOk result (λ cx. IsContextFrom args answers (context_view cx)) }
     ensures told { OnOk result (term.new
         ≡ after_notes term.old (warnings_of (told_version answers.cargo_version))) }
+    ensures shown { OnOk result (SaysNotes term.old.coloring
+        (warnings_of (told_version answers.cargo_version))
+        (stream_of E.Sink err.old) (stream_of E.Sink err.new)) }
+    ensures untold { OnErr result ((term.new ≡ term.old) × (err.new ≡ err.old)) }
 {
     match Context::new(alloc, args, answers) {
         Ok(answer) => {
@@ -173,7 +196,7 @@ fn context<E: Write>(
 }
 
 /// Edits manifests as the arguments ask.
-fn edit<F: Files, E: Write>(
+fn edit<F: Files, E: Sink>(
     alloc: Global,
     cx: &Context,
     term: &mut Term,
@@ -185,12 +208,16 @@ fn edit<F: Files, E: Write>(
     ensures grows { Grows (F.failed files.old) (F.failed files.new) }
     ensures told { OnOk result (term.new
         ≡ after_notes term.old (notes_in (context_view cx.now))) }
+    ensures shown { OnOk result (SaysNotes term.old.coloring (notes_in (context_view cx.now))
+        (stream_of E.Sink err.old) (stream_of E.Sink err.new)) }
+    ensures untold { OnErr result ((term.new ≡ term.old) × (err.new ≡ err.old)) }
     ensures counted { OnOk result (GrowsBy 0 (F.failed files.old) (F.failed files.new)) }
     ensures prepared { OnOk result (F.tells
         → HoldTextsIn (context_view cx.now) (F.bytes_at files.old)
         → IsPreparedIn (context_view cx.now) (F.bytes_at files.old) (F.bytes_at files.new)) }
-    ensures traced { OnOk result (F.whole → MakesSome
-        (AreWritesIn (context_view cx.now) F.tells (F.bytes_at files.old))
+    ensures traced { OnOk result (F.whole → MakesSome (λ made.
+        AreWritesIn (context_view cx.now) F.tells (F.bytes_at files.old) made
+        × KeepsAsMade (context_view cx.now) made manager.old manager.new)
         (F.trace files.old) (F.trace files.new) (F.bytes_at files.old) (F.bytes_at files.new)) }
     ensures kept { OnOk result
         (KeepsOnly (IsTouchedIn (context_view cx.now)) manager.old manager.new) }
@@ -228,17 +255,17 @@ fn leave_report(alloc: Global, fault: &PrepareFault, manager: &mut Manager)
 }
 
 /// Lists the plan or performs it.
-fn run_plan<C: Starts, O: Write, E: Write>(
+fn run_plan<C: Starts, O: Sink, E: Sink>(
     cx: &Context,
     stable: Result<Option<Version>, String>,
     host: &mut Host<'_, C, O, E>,
 ) -> Result<(), RunFault>
     requires { IsAnswered (context_view cx.now).args stable }
     ensures host { IsSameHost host.old host.new }
-    ensures done { OnOk result (PerformsItsPlan C.Caller O.Write
+    ensures done { OnOk result (PerformsItsPlan C.Caller O.Sink
         (context_view cx.now).args.print_command_list
         (context_view cx.now) stable host.old host.new) }
-    ensures made { MayPerformItsPlan C.Caller O.Write
+    ensures made { MayPerformItsPlan C.Caller O.Sink
         (context_view cx.now).args.print_command_list
         (context_view cx.now) stable host.old host.new }
     ensures listed { (context_view cx.now).args.print_command_list ≡ true
@@ -249,23 +276,44 @@ fn run_plan<C: Starts, O: Write, E: Write>(
     ensures ran { OnOk result (((context_view cx.now).args.print_command_list ≡ true)
         ⊎ RunsInLanes C.did (context_view cx.now) stable
         (string_bytes host.old.env.now.rustup) host.old.caller.now host.new.caller.now) }
+    ensures shown { C.tells → SaysItsPlan result C.tells (context_view cx.now) stable
+        (string_bytes host.old.env.now.rustup) (looks_of host.old.term.now)
+        (scene_on C.Caller O.Sink E.Sink host.old) (scene_on C.Caller O.Sink E.Sink host.new) }
+    ensures looks { looks_of host.new.term.now
+        ≡ record (looks_of host.old.term.now) { reported = host.new.term.now.error } }
 {
-    tell_looks(host.alloc, cx, host.term, host.err);
+    tell_looks(host.alloc, cx, host.term, host.err)?;
     if cx.args().print_command_list {
         return print_list(cx, stable, host);
     }
     execute(cx, stable, host)
 }
 
-/// Says beforehand which looks for samples will take long. A line for which memory is refused is left
-/// out. A search for conflicts looks for none.
-fn tell_looks<E: Write>(alloc: Global, cx: &Context, term: &Term, err: &mut E) {
+/// Says beforehand which looks for samples will take long. A search for conflicts looks for none.
+fn tell_looks<E: Sink>(
+    alloc: Global,
+    cx: &Context,
+    term: &Term,
+    err: &mut E,
+) -> Result<(), AllocError>
+    ensures shown { OnOk result (SaysLooks (context_view cx.now) term.now.coloring
+        (stream_of E.Sink err.old) (stream_of E.Sink err.new)) }
+    ensures refused { OnErr result (err.new ≡ err.old) }
+{
     if cx.args().find_conflicts {
-        return;
+        return Ok(());
     }
-    if let Ok(looks) = long_looks(alloc, cx) {
-        for text in &looks {
-            let _ = term.info(text.as_str(), err);
-        }
+    let looks = long_looks(alloc, cx)?;
+    tell_infos(looks.as_slice(), term, err);
+    Ok(())
+}
+
+/// Prints these texts.
+fn tell_infos<E: Sink>(texts: &[String], term: &Term, err: &mut E)
+    ensures { WritesAll (map (info_line term.now.coloring) (map string_bytes texts.now))
+        (stream_of E.Sink err.old) (stream_of E.Sink err.new) }
+{
+    for text in texts {
+        let _ = term.info(text.as_str(), err);
     }
 }

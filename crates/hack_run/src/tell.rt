@@ -1,10 +1,13 @@
 //! Errors for the user. An error of writing them is ignored.
 
-ghost use Rattle.std.specs.Prelude.{◌≡◌, IfErr, None, OnErr, OnOk, true};
+ghost use Rattle.std.specs.Prelude.{◌≡◌, Err, IfErr, None, OnErr, OnOk, true};
+ghost use Rattle.hack_base.specs.Streams.{stream_of};
 ghost use Rattle.hack_run.specs.Internal.{is_refusal};
 ghost use Rattle.hack_run.specs.Refusals.{WritesError};
+ghost use Rattle.hack_run.specs.Shown.{SaysEnd};
 
 use crate::fault::RunFault;
+use hack_base::writes::Sink;
 use hack_load::context::ContextFault;
 use hack_load::metadata::AskFault;
 use hack_planner::fault::PlanFault;
@@ -12,7 +15,6 @@ use hack_process::process::ProcessFault;
 use hack_term::term::Term;
 use hack_words::cli::Env;
 use std::alloc::Global;
-use std::io::Write;
 
 /// The line on how another cargo or rustup is chosen.
 const CHOICE: &str =
@@ -27,7 +29,7 @@ const NO_RUSTUP: &str = "no `rustup` is in the `PATH`";
 const FEWER: &str = "--depth and --strength make fewer runs";
 
 /// Reports an error. Where the user can do something about it, a line on that comes first.
-pub(crate) fn tell<E: Write>(
+pub(crate) fn tell<E: Sink>(
     alloc: Global,
     fault: &RunFault,
     env: &Env,
@@ -37,6 +39,8 @@ pub(crate) fn tell<E: Write>(
     ensures noted { term.new ≡ record term.old { error = true } }
     ensures line { is_refusal fault.now ≡ true → WritesError term.old.coloring
         (E.contents err.old) (E.contents err.new) }
+    ensures shown { SaysEnd (Err fault.now) term.old.coloring
+        (stream_of E.Sink err.old) (stream_of E.Sink err.new) }
 {
     if let Some(line) = advice(fault, env) {
         let _ = term.info(line, err);
@@ -97,7 +101,7 @@ fn command_of(fault: &ProcessFault) -> Option<&str> {
 }
 
 /// Reports the error that a call ended with, if it ended with one.
-pub(crate) fn tell_end<E: Write>(
+pub(crate) fn tell_end<E: Sink>(
     alloc: Global,
     came: Result<(), RunFault>,
     env: &Env,
@@ -106,6 +110,9 @@ pub(crate) fn tell_end<E: Write>(
 )
     ensures ok { OnOk came (term.new ≡ term.old) }
     ensures err { OnErr came (term.new.error ≡ true) }
+    ensures coloring { term.new.coloring ≡ term.old.coloring }
+    ensures shown { SaysEnd came term.old.coloring
+        (stream_of E.Sink err.old) (stream_of E.Sink err.new) }
     ensures line { IfErr came (λ fault. is_refusal fault ≡ true → WritesError term.old.coloring
         (E.contents err.old) (E.contents err.new)) }
 {
@@ -116,9 +123,8 @@ pub(crate) fn tell_end<E: Write>(
 }
 
 /// Reports what cut a search short.
-pub(crate) fn fail<E: Write>(text: &str, term: &mut Term, err: &mut E)
-    ensures error { term.new.error ≡ true }
-    ensures warn { term.new.warn ≡ term.old.warn }
+pub(crate) fn fail<E: Sink>(text: &str, term: &mut Term, err: &mut E)
+    ensures { term.new ≡ record term.old { error = true } }
 {
     let _ = term.error(text, err);
 }

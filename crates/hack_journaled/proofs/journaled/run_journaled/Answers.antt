@@ -23,8 +23,8 @@ returns-clause-done g c = λ quiet t.
     let did = rw (c.new-files.ensures.files, c.new-files.ensures.lockfiles, c.new-files.ensures.failures, named, c.new.ensures.files) at (c.run-status.ensures.done quiet t) in
     let seen : FilesView = record { held = apart (without mid.files.notes.journal (bytes mid.files.files)) (g.L.Files.bytes_at mid.lockfiles); trace = []; failed = mid.failures } in
     let last = files_seen (string_bytes c.args.place.journal) (bytes c.into_inner-below.result.0) (g.L.Files.bytes_at mid.lockfiles) c.end_journal-failed.result in
-    call_moved true (g.F.Files.tells × g.L.Files.tells) (names_of c.args.words.now) c.args.host.now.env.now (world_seen (string_bytes c.args.place.journal) (bytes c.args.files) (g.L.Files.bytes_at c.args.lockfiles) 0 (host_view g.C.Caller g.O.Write c.args.host.now))
-    (record { files = seen; host = host_view g.C.Caller g.O.Write c.run-status.new.host }) last c.run-status.new.host.term.now
+    call_moved true (g.F.Files.tells × g.L.Files.tells) (names_of c.args.words.now) c.args.host.now.env.now (world_seen (string_bytes c.args.place.journal) (bytes c.args.files) (g.L.Files.bytes_at c.args.lockfiles) 0 (host_view g.C.Caller g.O.Sink c.args.host.now))
+    (record { files = seen; host = host_view g.C.Caller g.O.Sink c.run-status.new.host }) last c.run-status.new.host.term.now
     (λ d told. keeps_same seen.held last.held (seen_same (string_bytes c.args.place.journal) mid.files.notes.journal (length mid.files.notes.entries + 1) (bytes mid.files.files) (bytes c.end_journal-failed.new.files.files) (bytes c.into_inner-below.result.0) (g.L.Files.bytes_at mid.lockfiles) same (c.end_journal-failed.ensures.others told.0) (rw c.into_inner-below.ensures.files refl)))
     (λ d. refl) did
 
@@ -35,8 +35,8 @@ returns-clause-made g c = λ t.
     let bytes = g.F.Files.bytes_at in
     let did = rw (c.new-files.ensures.files, c.new-files.ensures.lockfiles, c.new-files.ensures.failures, named, c.new.ensures.files) at (c.run-status.ensures.made t) in
     let seen : FilesView = record { held = apart (without mid.files.notes.journal (bytes mid.files.files)) (g.L.Files.bytes_at mid.lockfiles); trace = []; failed = mid.failures } in
-    call_moved false (g.F.Files.tells × g.L.Files.tells) (names_of c.args.words.now) c.args.host.now.env.now (world_seen (string_bytes c.args.place.journal) (bytes c.args.files) (g.L.Files.bytes_at c.args.lockfiles) 0 (host_view g.C.Caller g.O.Write c.args.host.now))
-    (record { files = seen; host = host_view g.C.Caller g.O.Write c.run-status.new.host }) (files_seen (string_bytes c.args.place.journal) (bytes c.into_inner-below.result.0) (g.L.Files.bytes_at mid.lockfiles) c.end_journal-failed.result)
+    call_moved false (g.F.Files.tells × g.L.Files.tells) (names_of c.args.words.now) c.args.host.now.env.now (world_seen (string_bytes c.args.place.journal) (bytes c.args.files) (g.L.Files.bytes_at c.args.lockfiles) 0 (host_view g.C.Caller g.O.Sink c.args.host.now))
+    (record { files = seen; host = host_view g.C.Caller g.O.Sink c.run-status.new.host }) (files_seen (string_bytes c.args.place.journal) (bytes c.into_inner-below.result.0) (g.L.Files.bytes_at mid.lockfiles) c.end_journal-failed.result)
     c.run-status.new.host.term.now (λ e. unended e) (λ e. unended e) did
 
 pub returns-clause-clean : goal.returns-clause-clean

@@ -14,12 +14,12 @@ pub returns-else-not-is_back-clause-goes : goal.returns-else-not-is_back-clause-
 returns-else-not-is_back-clause-goes g c =
     let locks = g.K.Locks.shown c.args.keepers.now.locks in
     let guards = g.G.Guards.shown c.args.keepers.now.guards in
-    let at : Scene = scene_of g.F.Files g.L.Files g.C.Caller g.O.Write c.take_back.new.files c.take_back.new.lockfiles locks guards c.take_back.new.host in
+    let at : Scene = scene_of g.F.Files g.L.Files g.C.Caller g.O.Sink c.take_back.new.files c.take_back.new.lockfiles locks guards c.take_back.new.host in
     went_on at (rw c.if-not-is_back.false at (c.in-Ok.ensures.goes locks guards)) (rw c.in-Ok.ensures.host.env at c.go_on.ensures.goes)
 
 pub returns-in-Err-clause-goes : goal.returns-in-Err-clause-goes
 returns-in-Err-clause-goes g c =
     let locks = g.K.Locks.shown c.args.keepers.now.locks in
     let guards = g.G.Guards.shown c.args.keepers.now.guards in
-    let at : Scene = scene_of g.F.Files g.L.Files g.C.Caller g.O.Write c.take_back.new.files c.take_back.new.lockfiles locks guards c.take_back.new.host in
+    let at : Scene = scene_of g.F.Files g.L.Files g.C.Caller g.O.Sink c.take_back.new.files c.take_back.new.lockfiles locks guards c.take_back.new.host in
     cut_short at c.in-Err.fault (c.in-Err.ensures.goes locks guards) (ap (λ (host : HostView). scene_by at.files at.lockfiles locks guards host) c.report.ensures.view) c.report.ensures.error

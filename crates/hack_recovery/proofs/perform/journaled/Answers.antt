@@ -8,7 +8,7 @@ use Rattle.hack_recovery.proofs.perform.journaled.Goals as goal
 pub returns-in-Ok-clause-goes : goal.returns-in-Ok-clause-goes
 returns-in-Ok-clause-goes g c = λ locks.
     let guards = g.G.Guards.shown c.start.new.self in
-    let ran : Scene = scene_of g.F.Files g.L.Files g.C.Caller g.O.Write c.copied-ended.result.1 c.copied-ended.result.2 locks guards c.copied-ended.new.host in
+    let ran : Scene = scene_of g.F.Files g.L.Files g.C.Caller g.O.Sink c.copied-ended.result.1 c.copied-ended.result.2 locks guards c.copied-ended.new.host in
     performed c.in-Ok.watches c.copied-ended.result.0 guards (g.G.Guards.shown c.leave.new.self) ran (rw c.as_str.ensures.value at c.in-Ok.ensures.started) (c.copied-ended.ensures.goes locks guards) c.copied-ended.ensures.status c.leave.ensures refl
 
 pub returns-in-Err-clause-goes : goal.returns-in-Err-clause-goes

@@ -7,8 +7,8 @@ use Rattle.hack_recovery.proofs.perform.over_journal.Goals as goal
 
 pub returns-clause-goes : goal.returns-clause-goes
 returns-clause-goes g c = λ locks guards.
-    let old : Scene = scene_of g.F.Files g.L.Files g.C.Caller g.O.Write c.args.files c.args.lockfiles locks guards c.args.host.now in
-    let last : Scene = scene_of g.F.Files g.L.Files g.C.Caller g.O.Write c.run_journaled-files.result.1 c.run_journaled-files.result.2 locks guards c.run_journaled-files.new.host in
+    let old : Scene = scene_of g.F.Files g.L.Files g.C.Caller g.O.Sink c.args.files c.args.lockfiles locks guards c.args.host.now in
+    let last : Scene = scene_of g.F.Files g.L.Files g.C.Caller g.O.Sink c.run_journaled-files.result.1 c.run_journaled-files.result.2 locks guards c.run_journaled-files.new.host in
     let ran = c.run_journaled-files.ensures in
     record {
       failed = c.run_journaled-files.result.3;

@@ -18,7 +18,7 @@ returns-in-Ok-Plain-clause-goes g c =
     let lockfiles = g.L.Files.bytes_at c.args.lockfiles in
     let locks = g.K.Locks.shown c.admit.new.locks in
     let guards = g.G.Guards.shown c.args.keepers.now.guards in
-    let at : Scene = scene_of g.F.Files g.L.Files g.C.Caller g.O.Write c.begin.new.files c.args.lockfiles locks guards c.args.host.now in
+    let at : Scene = scene_of g.F.Files g.L.Files g.C.Caller g.O.Sink c.begin.new.files c.args.lockfiles locks guards c.args.host.now in
     plain_course _ _ _ _ _ _ _ _ _ _ begun.edits (places_view begun.places) _ at _ (is_restore begun.edits) refl
     (record {
       left = begun.is_left;
@@ -28,14 +28,14 @@ returns-in-Ok-Plain-clause-goes g c =
       untouched = record { files = record { same = c.in-Ok.ensures.same; untraced = c.in-Ok.ensures.untraced }; lockfiles = refl; guards = refl; calls = refl; out = refl; fails = refl };
     })
     refl
-    (λ on. ap (λ files. scene_by (files_view g.F.Files files) lockfiles locks guards (host_view g.C.Caller g.O.Write c.plainly-status.new.host)) (came.restores on).0
+    (λ on. ap (λ files. scene_by (files_view g.F.Files files) lockfiles locks guards (host_view g.C.Caller g.O.Sink c.plainly-status.new.host)) (came.restores on).0
     ∙ ap (λ (host : HostView). scene_by (files_view g.F.Files c.begin.new.files) lockfiles locks guards host) (came.restores on).1)
     (λ off. came.runs off lockfiles locks guards)
 
 pub returns-in-Ok-Guarded-clause-goes : goal.returns-in-Ok-Guarded-clause-goes
 returns-in-Ok-Guarded-clause-goes g c =
     let begun = c.in-Ok.begun in
-    let at : Scene = scene_of g.F.Files g.L.Files g.C.Caller g.O.Write c.begin.new.files c.args.lockfiles (g.K.Locks.shown c.admit.new.locks) (g.G.Guards.shown c.args.keepers.now.guards) c.args.host.now in
+    let at : Scene = scene_of g.F.Files g.L.Files g.C.Caller g.O.Sink c.begin.new.files c.args.lockfiles (g.K.Locks.shown c.admit.new.locks) (g.G.Guards.shown c.args.keepers.now.guards) c.args.host.now in
     under_its_lock begun.edits (places_view begun.places) at
     (record {
       left = begun.is_left;
@@ -69,7 +69,7 @@ returns-in-Err-Unseen-clause-goes g c =
     let lockfiles = g.L.Files.bytes_at c.args.lockfiles in
     let locks = g.K.Locks.shown c.args.keepers.now.locks in
     let guards = g.G.Guards.shown c.args.keepers.now.guards in
-    let old : Scene = scene_of g.F.Files g.L.Files g.C.Caller g.O.Write c.args.files c.args.lockfiles locks guards c.args.host.now in
+    let old : Scene = scene_of g.F.Files g.L.Files g.C.Caller g.O.Sink c.args.files c.args.lockfiles locks guards c.args.host.now in
     let unseen : (now : Term) → CannotSee g.F.Files.tells g.F.Files.whole (names_of c.args.words.now) c.args.host.now.env.now asked.edits old (scene_with seen now old) = λ now. record {
       path = optional_text asked.manifest_path;
       asked = halted.1;
@@ -79,6 +79,6 @@ returns-in-Err-Unseen-clause-goes g c =
     } in
     unseen_course _ _ _ _ _ _ _ _ _ _ asked.edits old (scene_with seen (record term { error = true }) old) (scene_with seen (record term { warn = true }) old) _ (is_change asked.edits) refl
     (unseen (record term { error = true })) refl (unseen (record term { warn = true })) refl
-    (λ on. ap (λ files. scene_by (files_view g.F.Files files) lockfiles locks guards (host_view g.C.Caller g.O.Write c.blindly-status.new.host)) (came.refused on).0
+    (λ on. ap (λ files. scene_by (files_view g.F.Files files) lockfiles locks guards (host_view g.C.Caller g.O.Sink c.blindly-status.new.host)) (came.refused on).0
     ∙ ap (λ (host : HostView). scene_by seen lockfiles locks guards host) (came.refused on).1)
     (λ off. came.runs off lockfiles locks guards)

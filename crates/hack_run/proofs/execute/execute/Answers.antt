@@ -1,27 +1,43 @@
-use Rattle.std.proofs.Common.{string_bytes, true, false}
+use Rattle.std.proofs.Common.{inl, inr, refl, rules, string_bytes, true, false}
 use Rattle.hack_load.specs.ContextView.{context_view}
+use Rattle.hack_run.specs.Shown.{looks_of, scene_at, scene_on}
 use Rattle.hack_run.specs.Worlds.{host_view}
 use Rattle.hack_run.proofs.RunLemmas.{some_told}
+use Rattle.hack_run.proofs.ShownLemmas.{report_of, said_reported, said_stopped, said_unreported}
 use Rattle.hack_run.proofs.TraceLemmas.{one_told}
 use Rattle.hack_run.proofs.execute.execute.Goals as goal
 
 pub returns-clause-done : goal.returns-clause-done
 returns-clause-done g c = λ quiet t.
-    let first = host_view g.C.Caller g.O.Write c.args.host.now in
-    one_told true false (context_view c.args.cx.now) c.args.stable (string_bytes c.args.host.now.env.now.rustup) first.term.warn first (host_view g.C.Caller g.O.Write c.hand_to_starter.new.host)
-    first.term c.report_all-reported.new.term (λ e. c.report_all-reported.ensures.warn) (c.in-Ok.ensures.done c.in-None.is (c.report_all-reported.ensures.kept quiet) t)
+    let first = host_view g.C.Caller g.O.Sink c.args.host.now in
+    one_told true false (context_view c.args.cx.now) c.args.stable (string_bytes c.args.host.now.env.now.rustup) first.term.warn first (host_view g.C.Caller g.O.Sink c.hand_to_starter.new.host)
+    first.term c.report_all.new.term (λ e. c.report_all.ensures.warn) (c.in-Ok.ensures.done c.in-None.is (c.report_all.ensures.kept quiet) t)
 
-pub returns-in-Some-clause-made : goal.returns-in-Some-clause-made
-returns-in-Some-clause-made g c = λ t.
-    some_told false (context_view c.args.cx.now) c.args.stable (string_bytes c.args.host.now.env.now.rustup) (host_view g.C.Caller g.O.Write c.args.host.now) (host_view g.C.Caller g.O.Write c.hand_to_starter.new.host)
-    c.report_all-reported.new.term (c.hand_to_starter.ensures.made t)
-
-pub returns-in_err-reported-in-None-clause-made : goal.returns-in_err-reported-in-None-clause-made
-returns-in_err-reported-in-None-clause-made g c = λ t.
-    some_told false (context_view c.args.cx.now) c.args.stable (string_bytes c.args.host.now.env.now.rustup) (host_view g.C.Caller g.O.Write c.args.host.now) (host_view g.C.Caller g.O.Write c.hand_to_starter.new.host)
-    c.report_all-reported.new.term (c.hand_to_starter.ensures.made t)
+pub returns-in_err-report_all-clause-made : goal.returns-in_err-report_all-clause-made
+returns-in_err-report_all-clause-made g c = λ t.
+    some_told false (context_view c.args.cx.now) c.args.stable (string_bytes c.args.host.now.env.now.rustup) (host_view g.C.Caller g.O.Sink c.args.host.now) (host_view g.C.Caller g.O.Sink c.hand_to_starter.new.host)
+    c.report_all.new.term (c.hand_to_starter.ensures.made t)
 
 pub returns-clause-made : goal.returns-clause-made
 returns-clause-made g c = λ t.
-    some_told false (context_view c.args.cx.now) c.args.stable (string_bytes c.args.host.now.env.now.rustup) (host_view g.C.Caller g.O.Write c.args.host.now) (host_view g.C.Caller g.O.Write c.hand_to_starter.new.host)
-    c.report_all-reported.new.term (c.hand_to_starter.ensures.made t)
+    some_told false (context_view c.args.cx.now) c.args.stable (string_bytes c.args.host.now.env.now.rustup) (host_view g.C.Caller g.O.Sink c.args.host.now) (host_view g.C.Caller g.O.Sink c.hand_to_starter.new.host)
+    c.report_all.new.term (c.hand_to_starter.ensures.made t)
+
+pub returns-in-Err-clause-shown : goal.returns-in-Err-clause-shown
+returns-in-Err-clause-shown g c = λ t. inl (refl, c.in-Err.ensures.unplanned)
+
+pub returns-in-Some-clause-shown : goal.returns-in-Some-clause-shown
+returns-in-Some-clause-shown g c = λ t.
+    inr (said_stopped c.in-Some.fault c.hand_to_starter.new.fault g.C.Caller.tells (context_view c.args.cx.now) c.args.stable (string_bytes c.args.host.now.env.now.rustup) (looks_of c.args.host.now.term.now) c.in-Ok.session
+    (scene_on g.C.Caller g.O.Sink g.E.Sink c.args.host.now) (scene_on g.C.Caller g.O.Sink g.E.Sink c.hand_to_starter.new.host) (c.in-Ok.ensures.shown t) c.in-Some.is)
+
+pub returns-in_err-report_all-clause-shown : goal.returns-in_err-report_all-clause-shown
+returns-in_err-report_all-clause-shown g c = λ t.
+    inr (said_unreported c.from_residual.result c.hand_to_starter.new.fault g.C.Caller.tells (context_view c.args.cx.now) c.args.stable (string_bytes c.args.host.now.env.now.rustup) (looks_of c.args.host.now.term.now) c.in-Ok.session
+    (scene_on g.C.Caller g.O.Sink g.E.Sink c.args.host.now) (scene_on g.C.Caller g.O.Sink g.E.Sink c.hand_to_starter.new.host) (scene_at (g.C.Caller.calls c.hand_to_starter.new.host.caller.now) g.O.Sink g.E.Sink c.hand_to_starter.new.host.out.now c.report_all.new.err) (c.in-Ok.ensures.shown t) c.in-None.is (search rules) refl refl c.report_all.ensures.lines)
+
+pub returns-clause-shown : goal.returns-clause-shown
+returns-clause-shown g c = λ t.
+    inr (said_reported c.hand_to_starter.new.fault g.C.Caller.tells (context_view c.args.cx.now) c.args.stable (string_bytes c.args.host.now.env.now.rustup) (looks_of c.args.host.now.term.now) c.in-Ok.session
+    (scene_on g.C.Caller g.O.Sink g.E.Sink c.args.host.now) (scene_on g.C.Caller g.O.Sink g.E.Sink c.hand_to_starter.new.host) (scene_at (g.C.Caller.calls c.hand_to_starter.new.host.caller.now) g.O.Sink g.E.Sink c.hand_to_starter.new.host.out.now c.report_all.new.err) (c.in-Ok.ensures.shown t) c.in-None.is refl refl c.report_all.ensures.lines
+    (λ course is. report_of _ c.in-Ok.session course c.hand_to_starter.new.host.term.now c.args.host.now.term.now _ _ c.as_ref.ensures.value is c.hand_to_starter.ensures.looks c.in_ok-report_all.ensures.shown))

@@ -7,9 +7,11 @@ use Rattle.hack_lanes.specs.Lanes.{Goes}
 use Rattle.hack_lanes.specs.Views.{scene_in, scene_of}
 use Rattle.hack_lanes.specs.declared.lanes.Window.{Window}
 use Rattle.hack_run.specs.CallTrace.{PerformsOne}
-use Rattle.hack_run.specs.Internal.{PerformsAtMostOne}
+use Rattle.hack_run.specs.Internal.{HandsSteps, PerformsAtMostOne}
 use Rattle.hack_run.specs.Worlds.{host_view}
 use Rattle.hack_run.proofs.LaneLemmas.{cleared_calls, ran_in_lanes}
+use Rattle.hack_session.specs.StepOutput.{streams}
+use Rattle.hack_run.specs.Shown.{looks_of, scene_on}
 use Rattle.hack_run.proofs.execute.hand_to_starter.Goals as goal
 
 pub returns-clause-done : goal.returns-clause-done
@@ -17,8 +19,8 @@ returns-clause-done g c = λ none quiet t.
     let calls = g.C.Caller.calls in
     let lanes = c.hand_out.new.lanes in
     let cleared = cleared_calls g.C.Caller.tells calls g.C.Starts.did g.met.C.Starts.did_calls (scene_of c.window-2-1.given.0 lanes.starts.now) (scene_of c.clear.new.self c.clear.new.starts) c.clear.ensures.goes t in
-    subst (λ (made : List Call). PerformsOne true false (context_view c.args.cx.now) c.args.stable (string_bytes c.args.host.now.env.now.rustup) c.args.host.now.term.now.warn (host_view g.C.Caller g.O.Write c.args.host.now)
-    (record { calls = made; out = g.O.Write.contents c.hand_out.new.out; term = c.hand_out.new.term; fails = c.hand_out.new.fails })) (sym cleared)
+    subst (λ (made : List Call). PerformsOne true false (context_view c.args.cx.now) c.args.stable (string_bytes c.args.host.now.env.now.rustup) c.args.host.now.term.now.warn (host_view g.C.Caller g.O.Sink c.args.host.now)
+    (record { calls = made; out = g.O.Sink.contents c.hand_out.new.out; term = c.hand_out.new.term; fails = c.hand_out.new.fails })) (sym cleared)
     (rw c.as_str-rustup.ensures.value at c.in_ok-session.ensures.done none quiet t)
 
 pub returns-clause-made : goal.returns-clause-made
@@ -26,8 +28,8 @@ returns-clause-made g c = λ t.
     let calls = g.C.Caller.calls in
     let lanes = c.hand_out.new.lanes in
     let cleared = cleared_calls g.C.Caller.tells calls g.C.Starts.did g.met.C.Starts.did_calls (scene_of c.window-2-1.given.0 lanes.starts.now) (scene_of c.clear.new.self c.clear.new.starts) c.clear.ensures.goes t in
-    subst (λ (made : List Call). PerformsAtMostOne false (context_view c.args.cx.now) c.args.stable (string_bytes c.args.host.now.env.now.rustup) (host_view g.C.Caller g.O.Write c.args.host.now)
-    (record { calls = made; out = g.O.Write.contents c.hand_out.new.out; term = c.hand_out.new.term; fails = c.hand_out.new.fails })) (sym cleared)
+    subst (λ (made : List Call). PerformsAtMostOne false (context_view c.args.cx.now) c.args.stable (string_bytes c.args.host.now.env.now.rustup) (host_view g.C.Caller g.O.Sink c.args.host.now)
+    (record { calls = made; out = g.O.Sink.contents c.hand_out.new.out; term = c.hand_out.new.term; fails = c.hand_out.new.fails })) (sym cleared)
     (rw c.as_str-rustup.ensures.value at c.in_ok-session.ensures.made t)
 
 pub returns-clause-ran : goal.returns-clause-ran
@@ -41,3 +43,12 @@ returns-clause-ran g c =
 
 pub returns-clause-lanes : goal.returns-clause-lanes
 returns-clause-lanes g c = inr (returns-clause-ran g c)
+
+pub returns-clause-shown : goal.returns-clause-shown
+returns-clause-shown g c = λ t.
+    let calls = g.C.Caller.calls in
+    let lanes = c.hand_out.new.lanes in
+    let cleared = cleared_calls g.C.Caller.tells calls g.C.Starts.did g.met.C.Starts.did_calls (scene_of c.window-2-1.given.0 lanes.starts.now) (scene_of c.clear.new.self c.clear.new.starts) c.clear.ensures.goes t in
+    subst (λ (made : List Call). HandsSteps g.C.Caller.tells (context_view c.args.cx.now) c.args.stable (string_bytes c.args.host.now.env.now.rustup) c.args.fault.now c.hand_out.new.fault (looks_of c.args.host.now.term.now) c.in_ok-session.session
+    (scene_on g.C.Caller g.O.Sink g.E.Sink c.args.host.now) (record { calls = made; streams = streams g.O.Sink g.E.Sink c.hand_out.new.out c.hand_out.new.err })) (sym cleared)
+    (rw c.as_str-rustup.ensures.value at c.in_ok-session.ensures.shown)

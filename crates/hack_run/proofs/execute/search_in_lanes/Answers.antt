@@ -20,6 +20,13 @@ use Rattle.hack_run.proofs.TraceLemmas.{unended}
 use Rattle.hack_run.proofs.StartedLemmas.{searches_by, trial_stopping}
 use Rattle.hack_session.proofs.StepLemmas.{has_performed, passed_or_told}
 use Rattle.hack_run.proofs.ToldLemmas.{warned_run}
+use Rattle.std.proofs.lemmas.Bool.{true≢false}
+use Rattle.hack_base.specs.Streams.{stream_of}
+use Rattle.hack_session.specs.StepEffects.{state}
+use Rattle.hack_session.specs.StepOutput.{streams}
+use Rattle.hack_words.specs.declared.cli.args.Args.{Args}
+use Rattle.hack_run.specs.Shown.{looks_of, scene_at}
+use Rattle.hack_run.proofs.ShownLemmas.{goes_on_unless, looks_after, looks_later, steps_said}
 use Rattle.hack_run.proofs.execute.search_in_lanes.Goals as goal
 
 pub returns-clause-done : goal.returns-clause-done
@@ -60,7 +67,7 @@ returns-clause-done g c = λ none quiet t.
     (one.0, (one.1, sym did.2.5 ∙ fine.1)))
     (zero, stops) report.whole in
     rw (lanes_is, out_is)
-    (searches_one cx c.args.stable c.args.rustup.now course notes fails warns (host_of g.L.Caller g.O.Write c.args.lanes.now c.args.out.now c.args.term.now c.args.fails.now) (host_of g.L.Caller g.O.Write last.caller.now last.out.now now c.settle.new.fails)
+    (searches_one cx c.args.stable c.args.rustup.now course notes fails warns (host_of g.L.Caller g.O.Sink c.args.lanes.now c.args.out.now c.args.term.now c.args.fails.now) (host_of g.L.Caller g.O.Sink last.caller.now last.out.now now c.settle.new.fails)
     (calls mid.caller.now) mid.refused last.refused (ap calls (told.3 ∙ ap (λ s. s.caller.now) made ∙ c.new-starter.ensures.caller.1)) c.in_ok-plan.ensures.ran.2 c.requires.apart c.requires.search
     (record { searches = searched.searches; found = c.in_ok-plan.found.items; such = searched.say; steps = refl; end = searched.end; told = λ e. (report.whole, refl, refl) })
     (has_performed g.L.Caller.tells _ _ plan handed _ _ ran.8 t) started.0 (told.4 ∙ ap (λ s. s.refused) made ∙ c.new-starter.ensures.refused) (unrefused last.refused settled.0)
@@ -83,7 +90,7 @@ returns-clause-made g c = λ t.
     let lanes_is = c.lanes-2-1.given.1 (sym c.new-starter.ensures.caller.0 ∙ ap (λ s. s.caller.ghost_name) (sym made) ∙ told.0 ∙ ran.0) in
     let out_is = c.out-2-1.given.1 (sym c.new-starter.ensures.out.0 ∙ ap (λ s. s.out.ghost_name) (sym made) ∙ told.7 ∙ ran.3) in
     rw (lanes_is, out_is)
-    (runs_some cx c.args.stable c.args.rustup.now course notes (host_of g.L.Caller g.O.Write c.args.lanes.now c.args.out.now c.args.term.now c.args.fails.now) (host_of g.L.Caller g.O.Write last.caller.now last.out.now c.settle.new.term c.settle.new.fails)
+    (runs_some cx c.args.stable c.args.rustup.now course notes (host_of g.L.Caller g.O.Sink c.args.lanes.now c.args.out.now c.args.term.now c.args.fails.now) (host_of g.L.Caller g.O.Sink last.caller.now last.out.now c.settle.new.term c.settle.new.fails)
     (calls mid.caller.now) mid.refused last.refused (ap calls (told.3 ∙ ap (λ s. s.caller.now) made ∙ c.new-starter.ensures.caller.1))
     (planned_search (IsPlanOf cx.args.subcommand c.args.stable cx c.args.rustup.now) false cx c.args.rustup.now course notes false false c.requires.apart c.requires.search c.in_ok-plan.ensures.ran.2 (record { searches = searched.searches; found = c.in_ok-plan.found.items; such = searched.say; steps = refl; end = searched.end; told = λ e. unended e }))
     (has_performed g.L.Caller.tells _ _ plan handed _ _ ran.8 t))
@@ -113,3 +120,43 @@ returns-clause-lanes g c =
       ran = subst (λ (b : Bool). MatchBool b (RunsSerially g.L.Turns.did handed (g.L.Turns.scene c.args.lanes.now) (g.L.Turns.scene last.caller.now)) (RunsAll g.L.Turns.did cx.args.partition plan handed (g.L.Turns.scene c.args.lanes.now) (g.L.Turns.scene last.caller.now))) (sym (searched_by cx.args c.requires.apart c.requires.search))
           (subst (λ s. RunsSerially g.L.Turns.did handed s (g.L.Turns.scene last.caller.now)) (ap g.L.Turns.scene (told.3 ∙ ap (λ s. s.caller.now) made ∙ c.new-starter.ensures.caller.1)) searched.whole.1);
     })
+
+pub returns-clause-shown : goal.returns-clause-shown
+returns-clause-shown g c =
+    let cx = context_view c.args.cx.now in
+    let plan = c.in_ok-plan.plan in
+    let searched = c.in_ok-plan.ensures.ran.4 in
+    let handed = handed_in_all searched.searches in
+    let course : Course = record { plan = plan; schedule = []; handed = handed; keep_going = false } in
+    let notes = c.in_ok-plan.ensures.ran.0 in
+    let mid = c.in_ok-plan.ensures.ran.1.starter in
+    let told = c.in_ok-plan.ensures.ran.3 in
+    let last = c.search_context.new.runner.starter in
+    let made = c.set_manner.ensures in
+    let fresh = c.new-starter.ensures in
+    let ran = searched.whole.2 in
+    let calls = g.L.Caller.calls in
+    let on = searched_by cx.args c.requires.apart c.requires.search in
+    let lanes_is = c.lanes-2-1.given.1 (sym fresh.caller.0 ∙ ap (λ s. s.caller.ghost_name) (sym made) ∙ told.0 ∙ ran.0) in
+    let out_is = c.out-2-1.given.1 (sym fresh.out.0 ∙ ap (λ s. s.out.ghost_name) (sym made) ∙ told.7 ∙ ran.3) in
+    let end = state (calls last.caller.now) (streams g.O.Sink g.E.Sink last.out.now last.err.now) last.fault.now last.term.now.error last.refused in
+    rw (lanes_is, out_is)
+    (steps_said g.L.Caller.tells false calls g.E.Sink cx c.args.stable c.args.rustup.now c.args.fault.now course notes false false c.set_manner.new.self mid (streams g.O.Sink g.E.Sink mid.out.now mid.err.now) end c.args.term.now
+    (scene_at (calls c.args.lanes.now) g.O.Sink g.E.Sink c.args.out.now c.args.err.now) (scene_at (calls last.caller.now) g.O.Sink g.E.Sink last.out.now c.settle.new.err)
+    (planned_search (IsPlanOf cx.args.subcommand c.args.stable cx c.args.rustup.now) false cx c.args.rustup.now course notes false false c.requires.apart c.requires.search c.in_ok-plan.ensures.ran.2 (record { searches = searched.searches; found = c.in_ok-plan.found.items; such = searched.say; steps = refl; end = searched.end; told = λ e. unended e }))
+    (ap (λ s. calls s.caller.now) made ∙ ap calls fresh.caller.1) (ap (λ s. s.term.now) made ∙ fresh.term.1)
+    (ap (λ s. stream_of g.E.Sink s.err.now) made ∙ ap (stream_of g.E.Sink) fresh.err.1) (ap (λ s. s.fault.now) made ∙ fresh.fault.1) (ap (λ s. s.refused) made ∙ fresh.refused)
+    (ap (λ s. s.keep_going) made ∙ sym (goes_on_unless cx.args on))
+    (ap (λ s. s.log_group) made ∙ ap (λ m. m.0) c.manner-log_group.ensures ∙ ap (λ (a : Args). a.log_group) c.args-2.ensures)
+    told refl (λ off. ap (stream_of g.O.Sink) (told.9 ∙ ap (λ s. s.out.now) made ∙ fresh.out.1)) ran.8 refl (λ off. refl) (λ off. absurd (true≢false (sym on ∙ off))))
+
+pub returns-clause-looks : goal.returns-clause-looks
+returns-clause-looks g c =
+    let told = c.in_ok-plan.ensures.ran.3 in
+    let ran = c.in_ok-plan.ensures.ran.4.whole.2 in
+    let made = c.set_manner.ensures in
+    let fresh = c.new-starter.ensures in
+    let term_is = c.term-2-1.given.1 (sym fresh.term.0 ∙ ap (λ s. s.term.ghost_name) (sym made) ∙ told.1 ∙ ran.1) in
+    looks_later c.args.term.now c.term-2-1.given.0 c.settle.new.term
+    (subst (λ (t : Term). looks_of t ≡ record (looks_of c.args.term.now) { reported = t.error }) (sym term_is)
+    (looks_after c.args.term.now c.set_manner.new.self.term.now c.in_ok-plan.ensures.ran.1.starter.term.now c.search_context.new.runner.starter.term.now c.in_ok-plan.ensures.ran.0 (ap (λ s. s.term.now) made ∙ fresh.term.1) told.6 ran.7)) c.settle.ensures.looks

@@ -5,12 +5,12 @@ use Rattle.hack_run.proofs.gathered.write_gathered.Goals as goal
 
 pub returns-in_err-write_some-clause-grown : goal.returns-in_err-write_some-clause-grown
 returns-in_err-write_some-clause-grown g c =
-    let contents = g.O.Write.contents in
+    let contents = g.O.Sink.contents in
     extends_then (contents c.args.out.now) (contents c.loop.out) (contents c.write_some.new.out) c.loop.invariant.1 c.in_err-write_some.ensures.grown
 
 pub loop-preserved : goal.loop-preserved
 loop-preserved g c =
-    let contents = g.O.Write.contents in (
+    let contents = g.O.Sink.contents in (
       Keeps-trans (append_known (contents c.args.out.now) c.args.gathered.now.items) (append_known (contents c.loop.out) c.loop.gathered.items)
           (append_known (contents c.write_some.new.out) c.write_some.new.gathered.items) c.loop.invariant.0 c.in_ok-write_some.ensures.bytes,
       extends_then (contents c.args.out.now) (contents c.loop.out) (contents c.write_some.new.out) c.loop.invariant.1 c.in_ok-write_some.ensures.grown,

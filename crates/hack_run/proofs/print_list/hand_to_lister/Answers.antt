@@ -1,4 +1,4 @@
-use Rattle.std.proofs.Common.{◌∙◌, ap, filter, sym}
+use Rattle.std.proofs.Common.{◌≡◌, ◌∙◌, None, ap, false, filter, refl, subst, sym, true}
 use Rattle.std.specs.Io.KnownBytes.{append_known}
 use Rattle.hack_load.specs.ContextView.{context_view}
 use Rattle.hack_run.specs.Worlds.{HostView}
@@ -7,13 +7,18 @@ use Rattle.hack_session.specs.ListLines.{is_sent}
 use Rattle.hack_run.proofs.StartedLemmas.{all_started}
 use Rattle.hack_session.proofs.StepLemmas.{has_performed, passed_or_told}
 use Rattle.hack_run.proofs.ToldLemmas.{warned_run}
+use Rattle.hack_base.specs.Streams.{stream_of}
+use Rattle.hack_term.specs.declared.term.Term.{Term}
+use Rattle.hack_words.specs.declared.cli.args.Args.{Args}
+use Rattle.hack_run.specs.Shown.{looks_of, scene_at, scene_on}
+use Rattle.hack_run.proofs.ShownLemmas.{handed_said, list_looks, list_refused, looks_ran, looks_told, not_off, refused_said, steps_said}
 use Rattle.hack_run.proofs.print_list.hand_to_lister.Goals as goal
 
 pub returns-clause-done : goal.returns-clause-done
 returns-clause-done g c = λ ok none short quiet t.
     let cx = context_view c.args.cx.now in
     let calls = g.C.Caller.calls in
-    let contents = g.O.Write.contents in
+    let contents = g.O.Sink.contents in
     let list = c.list_over-refused.ensures.done ok c.gather_on-lines.ensures.failed short in
     let l = list.over in
     let last = c.list_over-refused.new.runner in
@@ -37,7 +42,7 @@ returns-clause-done g c = λ ok none short quiet t.
 pub returns-clause-made : goal.returns-clause-made
 returns-clause-made g c = λ t.
     let calls = g.C.Caller.calls in
-    let contents = g.O.Write.contents in
+    let contents = g.O.Sink.contents in
     let lines = c.list_over-refused.new.out in
     let stays = c.list_over-refused.ensures.stays in
     let had = append_known (contents c.gather_on-lines.result.out.now) c.gather_on-lines.result.gathered.now.items in
@@ -57,3 +62,35 @@ pub returns-clause-grown : goal.returns-clause-grown
 returns-clause-grown g c =
     let stays = c.list_over-refused.ensures.stays in
     rw (sym c.gather_on-lines.ensures.out.1) stays.2
+
+pub returns-clause-shown : goal.returns-clause-shown
+returns-clause-shown g c =
+    let cx = context_view c.args.cx.now in
+    let calls = g.C.Caller.calls in
+    let last = c.list_over-refused.new.runner in
+    let made = c.set_manner.ensures in
+    let fresh = c.new-starter.ensures in
+    rw (sym c.as_str-rustup.ensures.value)
+    (handed_said c.list_over-refused.result c.list_over-refused.ensures.over (λ l.
+    steps_said g.C.Caller.tells true calls g.E.Sink cx c.args.stable c.as_str-rustup.result.now None l.course l.notes false false c.set_manner.new.self l.mid _ _ c.args.host.now.term.now
+    (scene_on g.C.Caller g.O.Sink g.E.Sink c.args.host.now) (scene_at (calls last.caller.now) g.O.Sink g.E.Sink c.list_over-refused.new.out.out.now last.err.now)
+    (l.planned, (l.driven, refl)) (ap (λ s. calls s.caller.now) made ∙ ap calls fresh.caller.1) (ap (λ s. s.term.now) made ∙ fresh.term.1)
+    (ap (λ s. stream_of g.E.Sink s.err.now) made ∙ ap (stream_of g.E.Sink) fresh.err.1) (ap (λ s. s.fault.now) made ∙ fresh.fault.1) (ap (λ s. s.refused) made ∙ fresh.refused)
+    (ap (λ s. s.keep_going) made ∙ ap (λ (a : Args). a.keep_going) c.args-2.ensures) (ap (λ s. s.log_group) made) l.told refl (λ off. not_off off) l.ran.9 refl (λ off. not_off off) (λ off. refl)))
+
+pub returns-clause-unplanned : goal.returns-clause-unplanned
+returns-clause-unplanned g c =
+    let last = c.list_over-refused.new.runner in
+    let made = c.set_manner.ensures in
+    let fresh = c.new-starter.ensures in
+    let start = ap (λ s. stream_of g.E.Sink s.err.now) made ∙ ap (stream_of g.E.Sink) fresh.err.1 in
+    refused_said c.list_over-refused.result c.list_over-refused.ensures.refused
+    (list_refused g.E.Sink c.set_manner.new.self last (scene_on g.C.Caller g.O.Sink g.E.Sink c.args.host.now) (scene_at (g.C.Caller.calls last.caller.now) g.O.Sink g.E.Sink c.list_over-refused.new.out.out.now last.err.now) start refl)
+
+pub returns-clause-looks : goal.returns-clause-looks
+returns-clause-looks g c =
+    let made = c.set_manner.ensures in
+    let fresh = c.new-starter.ensures in
+    let last = c.list_over-refused.new.runner in
+    subst (λ (t : Term). looks_of last.term.now ≡ record (looks_of t) { reported = last.term.now.error }) (ap (λ s. s.term.now) made ∙ fresh.term.1)
+    (list_looks _ _ _ _ _ _ _ _ c.set_manner.new.self last c.list_over-refused.ensures.made (λ s. s.term.now) (λ notes x y told. looks_told x.term.now y.term.now notes told.6) (λ plan steps x y ran. looks_ran x.term.now y.term.now ran.7))

@@ -5,6 +5,7 @@ use Rattle.std.specs.Io.KnownBytes.{Appends, Keeps}
 use Rattle.std.proofs.KnownBytes.{Keeps-refl}
 use Rattle.hack_session.specs.ListLines.{is_sent, lines_written, page_of}
 use Rattle.hack_run.proofs.RunLemmas.{all_listed, none_refused, passed_written}
+use Rattle.hack_run.proofs.ShownLemmas.{on_error}
 use Rattle.hack_run.proofs.print_list.list_over.Goals as goal
 
 pub returns-clause-done : goal.returns-clause-done
@@ -44,8 +45,8 @@ returns-clause-stays g c =
     let out_is = c.out-2-1.given.1 (told.0 ∙ ran.0) in
     subst (λ new. g.W.Lines.stays c.args.out.now new) (sym out_is) (subst (λ old. g.W.Lines.stays old c.drive_context.new.runner.out.now) told.2 ran.4)
 
-pub returns-clause-made : goal.returns-clause-made
-returns-clause-made g c =
+pub returns-clause-over : goal.returns-clause-over
+returns-clause-over g c =
     let session = c.in_ok-_session._session in
     let mid = c.in_ok-_session.ensures.ran.1 in
     let told = c.in_ok-_session.ensures.ran.3 in
@@ -55,7 +56,7 @@ returns-clause-made g c =
     let contents = g.W.Lines.contents in
     let failed = g.W.Lines.failed in
     let out_is = c.out-2-1.given.1 (told.0 ∙ ran.0) in
-    inr (record {
+    record {
       course = session;
       driven = c.in_ok-_session.ensures.headline.driven;
       notes = c.in_ok-_session.ensures.ran.0;
@@ -66,7 +67,10 @@ returns-clause-made g c =
       wrote = λ w. subst (λ new. Appends (contents c.args.out.now) (contents new) (flat_map (lines_written session.plan) session.handed)) (sym out_is)
           (subst (λ old. Appends (contents old) (contents last.out.now) (flat_map (lines_written session.plan) session.handed)) told.2
           (passed_written g.W.Lines.whole session.plan session.handed (page_of (contents mid.out.now) (failed mid.out.now) mid.refused) (page_of (contents last.out.now) (failed last.out.now) last.refused) w ran.3));
-    })
+    }
+
+pub returns-clause-made : goal.returns-clause-made
+returns-clause-made g c = inr (returns-clause-over g c)
 
 pub returns-in_err-_session-clause-made : goal.returns-in_err-_session-clause-made
 returns-in_err-_session-clause-made g c = elim c.in_err-_session.ensures.refused [
@@ -94,3 +98,14 @@ returns-in_err-_session-clause-stays g c =
           let out_is = c.in_err-_session.out-1-own.given.1 told.0 in
           subst stays (sym (out_is ∙ told.2)) none
     ]
+
+pub returns-in_err-_session-clause-refused : goal.returns-in_err-_session-clause-refused
+returns-in_err-_session-clause-refused g c = on_error c.from_residual.result (elim c.in_err-_session.ensures.refused [
+  | inl same ↦
+      let runner_is = c.in_err-_session.runner-1-own.given.1 (ap (λ l. l.runner.ghost_name) (sym same)) in
+      inl (runner_is ∙ ap (λ l. l.runner.now) same)
+  | inr some ↦
+      let told = some.4 in
+      let runner_is = c.in_err-_session.runner-1-own.given.1 told.1 in
+      inr (some.2, subst (λ r. g.R.Teller.told some.2 c.args.runner.now r) (sym runner_is) told.4)
+])

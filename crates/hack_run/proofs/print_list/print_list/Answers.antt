@@ -1,19 +1,26 @@
-use Rattle.std.proofs.Common.{string_bytes}
+use Rattle.std.proofs.Common.{refl, string_bytes}
 use Rattle.hack_load.specs.ContextView.{context_view}
 use Rattle.hack_run.specs.Worlds.{host_view}
 use Rattle.hack_run.specs.InternalExtensions.{extends_then}
 use Rattle.hack_run.proofs.RunLemmas.{list_ends, list_shows}
+use Rattle.hack_run.specs.Shown.{looks_of, scene_at, scene_on}
+use Rattle.hack_run.proofs.ShownLemmas.{list_said}
 use Rattle.hack_run.proofs.print_list.print_list.Goals as goal
 
 pub returns-clause-done : goal.returns-clause-done
 returns-clause-done g c =
-    list_ends c.end_of_list.result _ _ _ _ _ g.C.Caller.tells (context_view c.args.cx.now) c.args.stable (string_bytes c.args.host.now.env.now.rustup) c.args.host.now.term.now.warn (host_view g.C.Caller g.O.Write c.args.host.now) (host_view g.C.Caller g.O.Write c.hand_to_lister-came.new.host)
-    c.in_ok-gathered.gathered.items c.hand_to_lister-came.new.gathered.items (g.O.Write.contents c.write_last-flushed.new.out)
-    c.in_ok-gathered.ensures c.end_of_list.ensures c.hand_to_lister-came.ensures.done c.write_last-flushed.ensures.all
+    list_ends c.end_of_list.result _ _ _ _ _ g.C.Caller.tells (context_view c.args.cx.now) c.args.stable (string_bytes c.args.host.now.env.now.rustup) c.args.host.now.term.now.warn (host_view g.C.Caller g.O.Sink c.args.host.now) (host_view g.C.Caller g.O.Sink c.hand_to_lister-came.new.host)
+    c.in_ok-gathered.gathered.items c.hand_to_lister-came.new.gathered.items (g.O.Sink.contents c.write_last-flushed.new.out)
+    c.in_ok-gathered.ensures c.end_of_list.ensures.ok c.hand_to_lister-came.ensures.done c.write_last-flushed.ensures.all
 
 pub returns-clause-made : goal.returns-clause-made
 returns-clause-made g c = λ t.
-    list_shows (context_view c.args.cx.now) c.args.stable (string_bytes c.args.host.now.env.now.rustup) (host_view g.C.Caller g.O.Write c.args.host.now) (host_view g.C.Caller g.O.Write c.hand_to_lister-came.new.host)
-    c.in_ok-gathered.gathered.items c.hand_to_lister-came.new.gathered.items c.write_last-flushed.new.gathered.items (g.O.Write.contents c.write_last-flushed.new.out)
+    list_shows (context_view c.args.cx.now) c.args.stable (string_bytes c.args.host.now.env.now.rustup) (host_view g.C.Caller g.O.Sink c.args.host.now) (host_view g.C.Caller g.O.Sink c.hand_to_lister-came.new.host)
+    c.in_ok-gathered.gathered.items c.hand_to_lister-came.new.gathered.items c.write_last-flushed.new.gathered.items (g.O.Sink.contents c.write_last-flushed.new.out)
     c.in_ok-gathered.ensures (c.hand_to_lister-came.ensures.made t) c.write_last-flushed.ensures.kept
-    (extends_then (g.O.Write.contents c.args.host.now.out.now) (g.O.Write.contents c.hand_to_lister-came.new.host.out.now) (g.O.Write.contents c.write_last-flushed.new.out) c.hand_to_lister-came.ensures.grown c.write_last-flushed.ensures.grown)
+    (extends_then (g.O.Sink.contents c.args.host.now.out.now) (g.O.Sink.contents c.hand_to_lister-came.new.host.out.now) (g.O.Sink.contents c.write_last-flushed.new.out) c.hand_to_lister-came.ensures.grown c.write_last-flushed.ensures.grown)
+
+pub returns-clause-shown : goal.returns-clause-shown
+returns-clause-shown g c = λ t.
+    list_said c.hand_to_lister-came.result.refused c.end_of_list.result g.C.Caller.tells (context_view c.args.cx.now) c.args.stable (string_bytes c.args.host.now.env.now.rustup) (looks_of c.args.host.now.term.now)
+    (scene_on g.C.Caller g.O.Sink g.E.Sink c.args.host.now) (scene_on g.C.Caller g.O.Sink g.E.Sink c.hand_to_lister-came.new.host) (scene_at (g.C.Caller.calls c.hand_to_lister-came.new.host.caller.now) g.O.Sink g.E.Sink c.write_last-flushed.new.out c.hand_to_lister-came.new.host.err.now) c.hand_to_lister-came.ensures.shown c.hand_to_lister-came.ensures.unplanned c.end_of_list.ensures.err refl refl

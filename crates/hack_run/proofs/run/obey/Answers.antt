@@ -13,45 +13,48 @@ use Rattle.hack_load.proofs.LeaveLemmas.{makes_none}
 use Rattle.hack_run.proofs.BackLemmas.{clean_rest}
 use Rattle.hack_run.proofs.ChangeLemmas.{obeys_changes, obeys_unloaded}
 use Rattle.hack_run.proofs.TraceLemmas.{dressed, lists, lists_made, obeys, obeys_done, prints, prints_made}
+use Rattle.hack_base.specs.Streams.{stream_of}
+use Rattle.hack_run.specs.Shown.{scene_on}
+use Rattle.hack_run.proofs.ShownLemmas.{args_said}
 use Rattle.hack_run.proofs.run.obey.Goals as goal
 
 pub returns-in-Args-clause-done : goal.returns-in-Args-clause-done
 returns-in-Args-clause-done g c =
     let notes = map note_of c.args.notices.now in
     obeys_done g.C.Caller.tells g.F.Files.tells (c.perform.new.host.term.now.error ≡ false) c.perform.result c.in-Args.args c.args.parsed c.args.host.now.env.now (warned_by c.args.parsed notes c.args.host.now.term.now.warn)
-    (world_of g.F.Files g.C.Caller g.O.Write c.args.files.now c.args.host.now) (world_of g.F.Files g.C.Caller g.O.Write c.perform.new.files c.perform.new.host) c.tell_all.new.term c.in-Args.is
+    (world_of g.F.Files g.C.Caller g.O.Sink c.args.files.now c.args.host.now) (world_of g.F.Files g.C.Caller g.O.Sink c.perform.new.files c.perform.new.host) c.tell_all.new.term c.in-Args.is
     (dressed c.args.host.now.term.now c.dress.new.term c.tell_all.new.term c.args.parsed c.in-Args.args notes c.in-Args.is c.dress.ensures.warn c.tell_all.ensures.noted) c.perform.ensures.done
 
 pub returns-in-Args-clause-made : goal.returns-in-Args-clause-made
 returns-in-Args-clause-made g c = λ t.
     let notes = map note_of c.args.notices.now in
     obeys false g.F.Files.tells c.in-Args.args c.args.parsed c.args.host.now.env.now (warned_by c.args.parsed notes c.args.host.now.term.now.warn)
-    (world_of g.F.Files g.C.Caller g.O.Write c.args.files.now c.args.host.now) (world_of g.F.Files g.C.Caller g.O.Write c.perform.new.files c.perform.new.host) c.tell_all.new.term c.in-Args.is
+    (world_of g.F.Files g.C.Caller g.O.Sink c.args.files.now c.args.host.now) (world_of g.F.Files g.C.Caller g.O.Sink c.perform.new.files c.perform.new.host) c.tell_all.new.term c.in-Args.is
     (dressed c.args.host.now.term.now c.dress.new.term c.tell_all.new.term c.args.parsed c.in-Args.args notes c.in-Args.is c.dress.ensures.warn c.tell_all.ensures.noted) (c.perform.ensures.made t)
 
 pub returns-in-Print-clause-done : goal.returns-in-Print-clause-done
 returns-in-Print-clause-done g c =
-    let first = world_of g.F.Files g.C.Caller g.O.Write c.args.files.now c.args.host.now in
+    let first = world_of g.F.Files g.C.Caller g.O.Sink c.args.files.now c.args.host.now in
     prints g.C.Caller.tells g.F.Files.tells (c.args.host.now.term.now.error ≡ false) c.print.result c.args.parsed c.in-Print.text (map note_of c.args.notices.now) c.args.host.now.env.now
-    first (record first { host = record first.host { out = g.O.Write.contents c.print.new.out } }) c.in-Print.is refl refl refl (rw c.as_str.ensures.value at c.print.ensures.all)
+    first (record first { host = record first.host { out = g.O.Sink.contents c.print.new.out } }) c.in-Print.is refl refl refl (rw c.as_str.ensures.value at c.print.ensures.all)
 
 pub returns-in-Print-clause-made : goal.returns-in-Print-clause-made
 returns-in-Print-clause-made g c = λ t.
-    let first = world_of g.F.Files g.C.Caller g.O.Write c.args.files.now c.args.host.now in
+    let first = world_of g.F.Files g.C.Caller g.O.Sink c.args.files.now c.args.host.now in
     prints_made g.F.Files.tells c.args.parsed c.in-Print.text c.args.host.now.env.now (warned_by c.args.parsed (map note_of c.args.notices.now) c.args.host.now.term.now.warn)
-    first (record first { host = record first.host { out = g.O.Write.contents c.print.new.out } }) c.in-Print.is refl (rw c.as_str.ensures.value at c.print.ensures.front)
+    first (record first { host = record first.host { out = g.O.Sink.contents c.print.new.out } }) c.in-Print.is refl (rw c.as_str.ensures.value at c.print.ensures.front)
 
 pub returns-in-List-clause-done : goal.returns-in-List-clause-done
 returns-in-List-clause-done g c =
     let notes = map note_of c.args.notices.now in
-    let first = world_of g.F.Files g.C.Caller g.O.Write c.args.files.now c.args.host.now in
+    let first = world_of g.F.Files g.C.Caller g.O.Sink c.args.files.now c.args.host.now in
     lists g.C.Caller.tells g.F.Files.tells (c.tell_all-in-List.new.term.error ≡ false) c.list_commands.result c.args.parsed c.args.host.now.env.now (warned_by c.args.parsed notes c.args.host.now.term.now.warn) first
     (record first { host = record first.host { calls = g.C.Caller.calls c.list_commands.new.caller; term = c.tell_all-in-List.new.term } }) c.in-List.is
     (subst (λ (p : Parsed). c.tell_all-in-List.new.term.warn ≡ warned_by p notes c.args.host.now.term.now.warn) (sym c.in-List.is) (ap (λ (k : Term). k.warn) c.tell_all-in-List.ensures.noted)) refl refl c.list_commands.ensures.done
 
 pub returns-in-List-clause-made : goal.returns-in-List-clause-made
 returns-in-List-clause-made g c = λ t.
-    let first = world_of g.F.Files g.C.Caller g.O.Write c.args.files.now c.args.host.now in
+    let first = world_of g.F.Files g.C.Caller g.O.Sink c.args.files.now c.args.host.now in
     lists_made g.F.Files.tells c.args.parsed c.args.host.now.env.now (warned_by c.args.parsed (map note_of c.args.notices.now) c.args.host.now.term.now.warn) first
     (record first { host = record first.host { calls = g.C.Caller.calls c.list_commands.new.caller; term = c.tell_all-in-List.new.term } }) c.in-List.is refl (c.list_commands.ensures.made t)
 
@@ -82,19 +85,31 @@ pub returns-in-Args-clause-traced : goal.returns-in-Args-clause-traced
 returns-in-Args-clause-traced g c =
     let notes = map note_of c.args.notices.now in
     obeys_changes g.C.Caller.tells g.F.Files.tells g.F.Files.whole (c.perform.new.host.term.now.error ≡ false) c.perform.result c.in-Args.args c.args.parsed c.args.host.now.env.now (warned_by c.args.parsed notes c.args.host.now.term.now.warn)
-    (world_of g.F.Files g.C.Caller g.O.Write c.args.files.now c.args.host.now) (world_of g.F.Files g.C.Caller g.O.Write c.perform.new.files c.perform.new.host) c.tell_all.new.term c.in-Args.is
+    (world_of g.F.Files g.C.Caller g.O.Sink c.args.files.now c.args.host.now) (world_of g.F.Files g.C.Caller g.O.Sink c.perform.new.files c.perform.new.host) c.tell_all.new.term c.in-Args.is
     (dressed c.args.host.now.term.now c.dress.new.term c.tell_all.new.term c.args.parsed c.in-Args.args notes c.in-Args.is c.dress.ensures.warn c.tell_all.ensures.noted) c.perform.ensures.traced
 
 pub returns-in-Print-clause-traced : goal.returns-in-Print-clause-traced
 returns-in-Print-clause-traced g c =
-    let first = world_of g.F.Files g.C.Caller g.O.Write c.args.files.now c.args.host.now in
+    let first = world_of g.F.Files g.C.Caller g.O.Sink c.args.files.now c.args.host.now in
     obeys_unloaded g.C.Caller.tells g.F.Files.tells g.F.Files.whole (c.args.host.now.term.now.error ≡ false) c.print.result c.args.parsed c.args.host.now.env.now (warned_by c.args.parsed (map note_of c.args.notices.now) c.args.host.now.term.now.warn)
-    first (record first { host = record first.host { out = g.O.Write.contents c.print.new.out } }) (λ args is. let e : parsed.Print c.in-Print.text ≡ parsed.Args args = sym c.in-Print.is ∙ is in cc)
+    first (record first { host = record first.host { out = g.O.Sink.contents c.print.new.out } }) (λ args is. let e : parsed.Print c.in-Print.text ≡ parsed.Args args = sym c.in-Print.is ∙ is in cc)
     (makes_none (g.F.Files.trace c.args.files.now) (g.F.Files.bytes_at c.args.files.now))
 
 pub returns-in-List-clause-traced : goal.returns-in-List-clause-traced
 returns-in-List-clause-traced g c =
-    let first = world_of g.F.Files g.C.Caller g.O.Write c.args.files.now c.args.host.now in
+    let first = world_of g.F.Files g.C.Caller g.O.Sink c.args.files.now c.args.host.now in
     obeys_unloaded g.C.Caller.tells g.F.Files.tells g.F.Files.whole (c.tell_all-in-List.new.term.error ≡ false) c.list_commands.result c.args.parsed c.args.host.now.env.now (warned_by c.args.parsed (map note_of c.args.notices.now) c.args.host.now.term.now.warn)
     first (record first { host = record first.host { calls = g.C.Caller.calls c.list_commands.new.caller; term = c.tell_all-in-List.new.term } }) (λ args is. let e : parsed.List ≡ parsed.Args args = sym c.in-List.is ∙ is in cc)
     (makes_none (g.F.Files.trace c.args.files.now) (g.F.Files.bytes_at c.args.files.now))
+
+pub returns-in-Args-clause-shown : goal.returns-in-Args-clause-shown
+returns-in-Args-clause-shown g c = λ t.
+    args_said c.perform.result (c.perform.new.host.term.now.error ≡ false) g.F.Files.tells g.C.Caller.tells c.args.parsed c.in-Args.args (map note_of c.args.notices.now) c.args.host.now.env.now (g.F.Files.bytes_at c.args.files.now)
+    c.args.host.now.term.now c.dress.new.term c.tell_all.new.term (stream_of g.E.Sink c.tell_all.new.err) (scene_on g.C.Caller g.O.Sink g.E.Sink c.args.host.now) (scene_on g.C.Caller g.O.Sink g.E.Sink c.perform.new.host)
+    c.in-Args.is c.dress.ensures.error c.dress.ensures.verbose c.dress.ensures.coloring c.tell_all.ensures.noted c.tell_all.ensures.shown (c.perform.ensures.shown t)
+
+pub returns-in-Print-clause-shown : goal.returns-in-Print-clause-shown
+returns-in-Print-clause-shown g c = λ t. rw c.in-Print.is refl
+
+pub returns-in-List-clause-shown : goal.returns-in-List-clause-shown
+returns-in-List-clause-shown g c = λ t. rw c.in-List.is (c.tell_all-in-List.ensures.shown, refl)

@@ -1,4 +1,4 @@
-use Rattle.std.proofs.Common.{◌≡◌, ap, false, map, true}
+use Rattle.std.proofs.Common.{◌≡◌, ap, false, inl, inr, map, refl, rules, true}
 use Rattle.hack_base.specs.Names.{names_of}
 use Rattle.hack_base.specs.Notes.{note_of}
 use Rattle.hack_files.proofs.RefusalLemmas.{but_none}
@@ -29,14 +29,14 @@ pub returns-in-Accepted-clause-done : goal.returns-in-Accepted-clause-done
 returns-in-Accepted-clause-done g c =
     let after = rw c.in-Accepted.is at c.in_ok-parsed.ensures.read in
     done g.C.Caller.tells g.F.Files.tells (c.obey.new.host.term.now.error ≡ false) c.obey.result (names_of c.args.words.now) c.args.host.now.env.now
-    (world_of g.F.Files g.C.Caller g.O.Write c.args.files.now c.args.host.now) (world_of g.F.Files g.C.Caller g.O.Write c.obey.new.files c.obey.new.host) (g.C.Caller.calls c.reading_of.new.caller)
+    (world_of g.F.Files g.C.Caller g.O.Sink c.args.files.now c.args.host.now) (world_of g.F.Files g.C.Caller g.O.Sink c.obey.new.files c.obey.new.host) (g.C.Caller.calls c.reading_of.new.caller)
     after.rustup c.in-Accepted.parsed (map note_of c.in-Accepted.notices.items) c.reading_of.ensures.may (λ off. ap g.C.Caller.calls (c.reading_of.ensures.unneeded off)) after.read after.asked (rw c.as_slice.ensures.value at c.obey.ensures.done)
 
 pub returns-in-Accepted-clause-traced : goal.returns-in-Accepted-clause-traced
 returns-in-Accepted-clause-traced g c =
     let after = rw c.in-Accepted.is at c.in_ok-parsed.ensures.read in
     traces g.C.Caller.tells g.F.Files.tells g.F.Files.whole (c.obey.new.host.term.now.error ≡ false) c.obey.result (names_of c.args.words.now) c.args.host.now.env.now
-    (world_of g.F.Files g.C.Caller g.O.Write c.args.files.now c.args.host.now) (world_of g.F.Files g.C.Caller g.O.Write c.obey.new.files c.obey.new.host) (g.C.Caller.calls c.reading_of.new.caller)
+    (world_of g.F.Files g.C.Caller g.O.Sink c.args.files.now c.args.host.now) (world_of g.F.Files g.C.Caller g.O.Sink c.obey.new.files c.obey.new.host) (g.C.Caller.calls c.reading_of.new.caller)
     after.rustup c.in-Accepted.parsed (map note_of c.in-Accepted.notices.items) after.read after.asked (rw c.as_slice.ensures.value at c.obey.ensures.traced)
 
 pub returns-in-Accepted-clause-clean : goal.returns-in-Accepted-clause-clean
@@ -75,3 +75,22 @@ returns-in-Refused-clause-in_lanes g c = unread_in_lanes g.C.Starts.did g.C.Call
 
 pub returns-in_err-parsed-clause-in_lanes : goal.returns-in_err-parsed-clause-in_lanes
 returns-in_err-parsed-clause-in_lanes g c = unread_in_lanes g.C.Starts.did g.C.Caller.course (names_of c.args.words.now) c.args.host.now.env.now c.args.host.now.caller.now c.reading_of.new.caller c.reading_of.ensures.course
+
+pub returns-in-Accepted-clause-shown : goal.returns-in-Accepted-clause-shown
+returns-in-Accepted-clause-shown g c = λ t.
+    let after = rw c.in-Accepted.is at c.in_ok-parsed.ensures.read in
+    inr (record {
+      calls = g.C.Caller.calls c.reading_of.new.caller;
+      rustup = after.rustup;
+      answer = c.in-Accepted.parsed;
+      notes = map note_of c.in-Accepted.notices.items;
+      asked = after.asked t;
+      read = after.read;
+      said = rw c.as_slice.ensures.value at c.obey.ensures.shown t;
+    })
+
+pub returns-in-Refused-clause-shown : goal.returns-in-Refused-clause-shown
+returns-in-Refused-clause-shown g c = λ t. inl (refl, refl)
+
+pub returns-in_err-parsed-clause-shown : goal.returns-in_err-parsed-clause-shown
+returns-in_err-parsed-clause-shown g c = λ t. inl (search rules, refl)

@@ -1,4 +1,4 @@
-use Rattle.std.proofs.Common.{true, false, subst, ℕ, List, Option}
+use Rattle.std.proofs.Common.{◌≡◌, ◌∙◌, true, false, ap, subst, sym, ℕ, List, Option}
 use Rattle.hack_base.specs.Names.{names_of}
 use Rattle.hack_run.specs.TemporaryEdits.{IsClean, RestoresEdits}
 use Rattle.hack_run.specs.CallChanges.{IsChangeTrace}
@@ -9,6 +9,10 @@ use Rattle.hack_term.specs.declared.term.Term.{Term}
 use Rattle.hack_run.specs.Refusals.{WritesError}
 use Rattle.hack_run.proofs.RefusalLemmas.{refusal_told}
 use Rattle.hack_run.proofs.TraceLemmas.{call_moved, comes, told_fault, unended}
+use Rattle.hack_base.specs.Streams.{stream_of}
+use Rattle.hack_term.specs.declared.term.Coloring.{Coloring}
+use Rattle.hack_run.specs.Shown.{SaysEnd, looks_of, scene_on}
+use Rattle.hack_run.proofs.ShownLemmas.{by_success, none_ended, read_quiet}
 use Rattle.hack_run.proofs.run.run.Goals as goal
 
 pub returns-clause-refused : goal.returns-clause-refused
@@ -16,7 +20,7 @@ returns-clause-refused g c = λ refused. let h = c.read-came.ensures.refused ref
 
 pub returns-clause-told : goal.returns-clause-told
 returns-clause-told g c = λ refused.
-    let contents = g.E.Write.contents in
+    let contents = g.E.Sink.contents in
     let quiet = c.read-came.ensures.told refused in
     let after = contents c.tell_end.new.err in
     subst (λ (t : Term). WritesError t.coloring (contents c.args.host.now.err.now) after) quiet.1
@@ -25,22 +29,37 @@ returns-clause-told g c = λ refused.
 
 pub returns-clause-done : goal.returns-clause-done
 returns-clause-done g c =
-    comes (λ (k : Term). g.C.Caller.tells → IsCallTrace true g.F.Files.tells (names_of c.args.words.now) c.args.host.now.env.now (world_of g.F.Files g.C.Caller g.O.Write c.args.files.now c.args.host.now)
-    (record { files = files_view g.F.Files c.read-came.new.files; host = record (host_view g.C.Caller g.O.Write c.read-came.new.host) { term = k } }))
+    comes (λ (k : Term). g.C.Caller.tells → IsCallTrace true g.F.Files.tells (names_of c.args.words.now) c.args.host.now.env.now (world_of g.F.Files g.C.Caller g.O.Sink c.args.files.now c.args.host.now)
+    (record { files = files_view g.F.Files c.read-came.new.files; host = record (host_view g.C.Caller g.O.Sink c.read-came.new.host) { term = k } }))
     c.read-came.result c.read-came.new.host.term.now c.tell_end.new.term c.read-came.ensures.done c.tell_end.ensures.ok c.tell_end.ensures.err
 
 pub returns-clause-traced : goal.returns-clause-traced
 returns-clause-traced g c =
-    comes (λ (k : Term). g.C.Caller.tells → g.F.Files.whole → IsChangeTrace g.F.Files.tells (names_of c.args.words.now) c.args.host.now.env.now (world_of g.F.Files g.C.Caller g.O.Write c.args.files.now c.args.host.now)
-    (record { files = files_view g.F.Files c.read-came.new.files; host = record (host_view g.C.Caller g.O.Write c.read-came.new.host) { term = k } }))
+    comes (λ (k : Term). g.C.Caller.tells → g.F.Files.whole → IsChangeTrace g.F.Files.tells (names_of c.args.words.now) c.args.host.now.env.now (world_of g.F.Files g.C.Caller g.O.Sink c.args.files.now c.args.host.now)
+    (record { files = files_view g.F.Files c.read-came.new.files; host = record (host_view g.C.Caller g.O.Sink c.read-came.new.host) { term = k } }))
     c.read-came.result c.read-came.new.host.term.now c.tell_end.new.term c.read-came.ensures.traced c.tell_end.ensures.ok c.tell_end.ensures.err
 
 pub returns-clause-made : goal.returns-clause-made
 returns-clause-made g c = λ t.
-    call_moved false g.F.Files.tells (names_of c.args.words.now) c.args.host.now.env.now (world_of g.F.Files g.C.Caller g.O.Write c.args.files.now c.args.host.now) (world_of g.F.Files g.C.Caller g.O.Write c.read-came.new.files c.read-came.new.host)
+    call_moved false g.F.Files.tells (names_of c.args.words.now) c.args.host.now.env.now (world_of g.F.Files g.C.Caller g.O.Sink c.args.files.now c.args.host.now) (world_of g.F.Files g.C.Caller g.O.Sink c.read-came.new.files c.read-came.new.host)
     (files_view g.F.Files c.read-came.new.files) c.tell_end.new.term (λ e. unended e) (λ e. unended e) (c.read-came.ensures.made t)
 
 pub returns-clause-clean : goal.returns-clause-clean
 returns-clause-clean g c =
     comes (λ (k : Term). IsClean (RestoresEdits c.args.host.now.env.now (names_of c.args.words.now)) g.F.Files.tells (files_view g.F.Files c.args.files.now) (files_view g.F.Files c.read-came.new.files))
     c.read-came.result c.read-came.new.host.term.now c.tell_end.new.term c.read-came.ensures.clean c.tell_end.ensures.ok c.tell_end.ensures.err
+
+pub returns-clause-shown : goal.returns-clause-shown
+returns-clause-shown g c = λ t.
+    let came = c.read-came.result in
+    let before = c.read-came.new.host.term.now in
+    let after = c.tell_end.new.term in
+    let mid = stream_of g.E.Sink c.read-came.new.host.err.now in
+    record {
+      came = came;
+      mid = mid;
+      said = read_quiet came (before.error ≡ false) (after.error ≡ false) g.F.Files.tells g.C.Caller.tells (names_of c.args.words.now) c.args.host.now.env.now (g.F.Files.bytes_at c.args.files.now) (looks_of c.args.host.now.term.now)
+          (scene_on g.C.Caller g.O.Sink g.E.Sink c.args.host.now) _ (λ ok quiet. sym (ap (λ (k : Term). k.error) (by_success _ came c.tell_end.ensures.ok ok)) ∙ quiet) (c.read-came.ensures.shown t);
+      end = subst (λ (coloring : Coloring). SaysEnd came coloring mid (stream_of g.E.Sink c.tell_end.new.err)) (sym c.tell_end.ensures.coloring) c.tell_end.ensures.shown;
+      none = none_ended came after.error c.tell_end.ensures.err;
+    }

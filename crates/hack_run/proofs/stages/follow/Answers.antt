@@ -1,6 +1,6 @@
 use Rattle.std.specs.Prelude.{◌||◌, Bool}
 use Rattle.std.specs.Result.{is_err}
-use Rattle.std.proofs.Common.{◌≡◌, ◌∙◌, ap, false, IfOk, inl, inr, refl, string_bytes, subst, sym}
+use Rattle.std.proofs.Common.{◌≡◌, ◌∙◌, ap, false, rules, IfOk, inl, inr, refl, string_bytes, subst, sym}
 use Rattle.hack_load.specs.Answers.{IsLoaded}
 use Rattle.hack_load.specs.ContextView.{context_view}
 use Rattle.hack_prepare.proofs.HeldLemmas.{loaded-holds}
@@ -15,6 +15,11 @@ use Rattle.hack_load.specs.ContextOf.{warnings_of}
 use Rattle.hack_load.specs.CargoQuestions.{told_version}
 use Rattle.hack_run.specs.Worlds.{world_of}
 use Rattle.hack_run.proofs.ToldLemmas.{warned_first}
+use Rattle.hack_base.specs.Streams.{stream_of}
+use Rattle.hack_session.specs.StepOutput.{streams}
+use Rattle.hack_prepare.specs.PreparedView.{notes_in}
+use Rattle.hack_run.specs.Shown.{scene_at, scene_on, unloaded, unplanned}
+use Rattle.hack_run.proofs.ShownLemmas.{edits_said, follows_said, looks_followed, nothing_said}
 use Rattle.hack_run.proofs.stages.follow.Goals as goal
 
 pub returns-clause-done : goal.returns-clause-done
@@ -22,8 +27,8 @@ returns-clause-done g c =
     let held = g.F.Files.bytes_at c.args.files.now in
     let env = c.args.host.now.env.now in
     let cx = context_view c.in_ok-cx.cx in
-    let first = world_of g.F.Files g.C.Caller g.O.Write c.args.files.now c.args.host.now in
-    let last = world_of g.F.Files g.C.Caller g.O.Write c.edit.new.files c.run_plan.new.host in
+    let first = world_of g.F.Files g.C.Caller g.O.Sink c.args.files.now c.args.host.now in
+    let last = world_of g.F.Files g.C.Caller g.O.Sink c.edit.new.files c.run_plan.new.host in
     let version = c.args.answers.cargo_version in
     let warned = is_err version || c.args.host.now.term.now.warn in
     follows g.C.Caller.tells (g.F.Files.tells × IfOk c.args.answers.loaded (IsLoaded g.F.Files.tells held env)) (c.run_plan.new.host.term.now.error ≡ false) c.run_plan.result c.args.args
@@ -38,8 +43,8 @@ pub returns-clause-traced : goal.returns-clause-traced
 returns-clause-traced g c =
     let env = c.args.host.now.env.now in
     let cx = context_view c.in_ok-cx.cx in
-    let first = world_of g.F.Files g.C.Caller g.O.Write c.args.files.now c.args.host.now in
-    let last = world_of g.F.Files g.C.Caller g.O.Write c.edit.new.files c.run_plan.new.host in
+    let first = world_of g.F.Files g.C.Caller g.O.Sink c.args.files.now c.args.host.now in
+    let last = world_of g.F.Files g.C.Caller g.O.Sink c.edit.new.files c.run_plan.new.host in
     let version = c.args.answers.cargo_version in
     let warned = is_err version || c.args.host.now.term.now.warn in
     follows_changes g.C.Caller.tells g.F.Files.tells g.F.Files.whole (c.run_plan.new.host.term.now.error ≡ false) c.run_plan.result c.args.args c.args.answers (string_bytes env.rustup) c.args.manager.now c.edit.new.manager first last cx
@@ -76,7 +81,7 @@ returns-in_err-stable-clause-made g c = λ t.
         λ off. ap g.C.Caller.calls (c.stable_for.ensures.unneeded (subst (λ (a : Args). ¬ NeedsAnswer a) (sym c.args-2.ensures) off)),
         refl,
         refl,
-        shows_nothing cx.args.print_command_list (g.O.Write.contents c.args.host.now.out.now),
+        shows_nothing cx.args.print_command_list (g.O.Sink.contents c.args.host.now.out.now),
       ),
       λ e. unended e,
     )
@@ -84,7 +89,7 @@ returns-in_err-stable-clause-made g c = λ t.
 pub returns-clause-made : goal.returns-clause-made
 returns-clause-made g c = λ t.
     goes_on g.F.Files.tells c.args.args c.args.answers (string_bytes c.args.host.now.env.now.rustup) c.args.host.now.term.now.warn
-    (world_of g.F.Files g.C.Caller g.O.Write c.args.files.now c.args.host.now) (world_of g.F.Files g.C.Caller g.O.Write c.edit.new.files c.run_plan.new.host)
+    (world_of g.F.Files g.C.Caller g.O.Sink c.args.files.now c.args.host.now) (world_of g.F.Files g.C.Caller g.O.Sink c.edit.new.files c.run_plan.new.host)
     (context_view c.in_ok-cx.cx) c.in_ok-stable.stable (g.C.Caller.calls c.stable_for.new.caller) c.edit.new.term c.in_ok-cx.ensures.ok (c.stable_for.ensures.made t)
     (λ off. ap g.C.Caller.calls (c.stable_for.ensures.unneeded (subst (λ (a : Args). ¬ NeedsAnswer a) (sym c.args-2.ensures) off)))
     (λ off. c.in_ok-stable.ensures.unasked (subst (λ (a : Args). ¬ NeedsAnswer a) (sym c.args-2.ensures) off))
@@ -109,3 +114,25 @@ returns-in_err-cx-clause-in_lanes g c = inl (g.C.Caller.course_none _, inl refl)
 
 pub returns-in_err-edit-clause-in_lanes : goal.returns-in_err-edit-clause-in_lanes
 returns-in_err-edit-clause-in_lanes g c = inl (g.C.Caller.course_none _, inl refl)
+
+pub returns-in_err-cx-clause-shown : goal.returns-in_err-cx-clause-shown
+returns-in_err-cx-clause-shown g c = λ t. unloaded (search rules) (nothing_said false (scene_on g.C.Caller g.O.Sink g.E.Sink c.args.host.now) (scene_at (g.C.Caller.calls c.args.host.now.caller.now) g.O.Sink g.E.Sink c.args.host.now.out.now c.context.new.err) (ap (streams g.O.Sink g.E.Sink c.args.host.now.out.now) c.in_err-cx.ensures.untold.1))
+
+pub returns-in_err-edit-clause-shown : goal.returns-in_err-edit-clause-shown
+returns-in_err-edit-clause-shown g c = λ t.
+    unplanned (context_view c.in_ok-cx.cx) (stream_of g.E.Sink c.context.new.err) c.in_ok-cx.ensures.ok c.in_ok-cx.ensures.shown (search rules)
+    (nothing_said false (scene_at (g.C.Caller.calls c.args.host.now.caller.now) g.O.Sink g.E.Sink c.args.host.now.out.now c.context.new.err) (scene_at (g.C.Caller.calls c.args.host.now.caller.now) g.O.Sink g.E.Sink c.args.host.now.out.now c.edit.new.err) (ap (streams g.O.Sink g.E.Sink c.args.host.now.out.now) c.in_err-edit.ensures.untold.1))
+
+pub returns-in_err-stable-clause-shown : goal.returns-in_err-stable-clause-shown
+returns-in_err-stable-clause-shown g c = λ t.
+    edits_said _ g.C.Caller.tells c.args.args c.args.answers (string_bytes c.args.host.now.env.now.rustup) c.args.host.now.term.now c.context.new.term (context_view c.in_ok-cx.cx)
+    (stream_of g.E.Sink c.context.new.err) (stream_of g.E.Sink c.edit.new.err) (scene_on g.C.Caller g.O.Sink g.E.Sink c.args.host.now) (scene_at (g.C.Caller.calls c.stable_for.new.caller) g.O.Sink g.E.Sink c.args.host.now.out.now c.edit.new.err) (search rules) c.in_ok-cx.ensures.told c.in_ok-cx.ensures.ok c.in_ok-cx.ensures.shown c.in_ok-edit.ensures.shown refl refl
+
+pub returns-clause-shown : goal.returns-clause-shown
+returns-clause-shown g c = λ t.
+    follows_said c.run_plan.result g.C.Caller.tells c.args.args c.args.answers (string_bytes c.args.host.now.env.now.rustup) c.args.host.now.term.now c.context.new.term c.edit.new.term (context_view c.in_ok-cx.cx) c.in_ok-stable.stable
+    (g.C.Caller.calls c.stable_for.new.caller) (stream_of g.E.Sink c.context.new.err) (stream_of g.E.Sink c.edit.new.err) (scene_on g.C.Caller g.O.Sink g.E.Sink c.args.host.now) (scene_on g.C.Caller g.O.Sink g.E.Sink c.run_plan.new.host)
+    c.in_ok-cx.ensures.told c.in_ok-edit.ensures.told c.in_ok-cx.ensures.ok c.in_ok-cx.ensures.shown c.in_ok-edit.ensures.shown (c.in_ok-stable.ensures.asked t) (c.run_plan.ensures.shown t)
+
+pub returns-clause-looks : goal.returns-clause-looks
+returns-clause-looks g c = looks_followed c.args.host.now.term.now c.context.new.term c.edit.new.term c.run_plan.new.host.term.now (warnings_of (told_version c.args.answers.cargo_version)) (notes_in (context_view c.in_ok-cx.cx)) c.in_ok-cx.ensures.told c.in_ok-edit.ensures.told c.run_plan.ensures.looks

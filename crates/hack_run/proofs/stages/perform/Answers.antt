@@ -1,4 +1,4 @@
-use Rattle.std.proofs.Common.{◌≡◌, ◌<◌, ◌∙◌, ap, false, inr, true}
+use Rattle.std.proofs.Common.{◌≡◌, ◌<◌, ◌∙◌, ap, false, inr, refl, true}
 use Rattle.std.specs.Prelude.{IfOk, not}
 use Rattle.hack_load.specs.Answers.{IsLoaded}
 use Rattle.hack_files.specs.Restore.{registered_files}
@@ -11,6 +11,10 @@ use Rattle.hack_run.proofs.ChangeLemmas.{changes}
 use Rattle.hack_run.proofs.LoadingLemmas.{loaded}
 use Rattle.hack_run.proofs.TraceLemmas.{made, performs}
 use Rattle.hack_run.proofs.LaneLemmas.{asked_in_lanes, on_success}
+use Rattle.hack_base.proofs.StreamLemmas.{some_more}
+use Rattle.hack_base.specs.Streams.{stream_of}
+use Rattle.hack_run.specs.Shown.{Looks, looks_of, scene_on}
+use Rattle.hack_run.proofs.ShownLemmas.{by_success, none_refused}
 use Rattle.hack_run.proofs.stages.perform.Goals as goal
 
 pub returns-clause-done : goal.returns-clause-done
@@ -20,7 +24,7 @@ returns-clause-done g c =
     let prepared = files_view g.F.Files c.follow-came.new.files in
     let last = files_view g.F.Files c.finish.new.files in
     performs g.C.Caller.tells g.F.Files.tells (g.F.Files.tells × IfOk c.ask-answers.result.loaded (IsLoaded g.F.Files.tells asked.held c.args.host.now.env.now)) (0 < c.finish.result) c.follow-came.result c.args.args c.args.host.now.env.now
-    first asked prepared last (host_view g.C.Caller g.O.Write c.args.host.now) (host_view g.C.Caller g.O.Write c.follow-came.new.host) (g.C.Caller.calls c.ask-answers.new.caller) c.finish.new.term
+    first asked prepared last (host_view g.C.Caller g.O.Sink c.args.host.now) (host_view g.C.Caller g.O.Sink c.follow-came.new.host) (g.C.Caller.calls c.ask-answers.new.caller) c.finish.new.term
     c.ask-answers.result (ap (λ (k : Term). k.warn) c.finish.ensures.term)
     (λ t. loaded g.F.Files.tells _ c.args.args c.args.host.now.env.now first.held first.failed asked.failed (g.C.Caller.calls c.args.host.now.caller.now) (g.C.Caller.calls c.ask-answers.new.caller) c.ask-answers.result (c.ask-answers.ensures.asked t))
     c.finish.ensures.noted.1 (λ t. (t, c.ask-answers.ensures.read)) (whole_keeps g.F.Files.tells first.held asked.held first.failed asked.failed c.ask-answers.result.loaded c.ask-answers.ensures.whole)
@@ -34,7 +38,7 @@ pub returns-clause-traced : goal.returns-clause-traced
 returns-clause-traced g c =
     let asked = files_view g.F.Files c.ask-answers.new.files in
     changes g.C.Caller.tells g.F.Files.tells g.F.Files.whole c.follow-came.result c.args.args c.args.host.now.env.now
-    (files_view g.F.Files c.args.files.now) asked (files_view g.F.Files c.follow-came.new.files) (files_view g.F.Files c.finish.new.files) (host_view g.C.Caller g.O.Write c.args.host.now) (host_view g.C.Caller g.O.Write c.follow-came.new.host)
+    (files_view g.F.Files c.args.files.now) asked (files_view g.F.Files c.follow-came.new.files) (files_view g.F.Files c.finish.new.files) (host_view g.C.Caller g.O.Sink c.args.host.now) (host_view g.C.Caller g.O.Sink c.follow-came.new.host)
     (g.C.Caller.calls c.ask-answers.new.caller) c.finish.new.term c.ask-answers.result c.ask-answers.new.manager c.follow-came.new.manager c.finish.result
     (ap (λ (k : Term). k.warn) c.finish.ensures.term) c.ask-answers.ensures.asked c.finish.ensures.noted.1
     (whole_keeps g.F.Files.tells (g.F.Files.bytes_at c.args.files.now) asked.held (g.F.Files.failed c.args.files.now) asked.failed c.ask-answers.result.loaded c.ask-answers.ensures.whole)
@@ -49,7 +53,7 @@ returns-clause-made g c = λ t.
     let first = files_view g.F.Files c.args.files.now in
     let asked = files_view g.F.Files c.ask-answers.new.files in
     made g.F.Files.tells c.args.args c.args.host.now.env.now first asked (files_view g.F.Files c.follow-came.new.files) (files_view g.F.Files c.finish.new.files)
-    (host_view g.C.Caller g.O.Write c.args.host.now) (host_view g.C.Caller g.O.Write c.follow-came.new.host) (g.C.Caller.calls c.ask-answers.new.caller) c.finish.new.term c.ask-answers.result
+    (host_view g.C.Caller g.O.Sink c.args.host.now) (host_view g.C.Caller g.O.Sink c.follow-came.new.host) (g.C.Caller.calls c.ask-answers.new.caller) c.finish.new.term c.ask-answers.result
     (loaded g.F.Files.tells _ c.args.args c.args.host.now.env.now first.held first.failed asked.failed (g.C.Caller.calls c.args.host.now.caller.now) (g.C.Caller.calls c.ask-answers.new.caller) c.ask-answers.result (c.ask-answers.ensures.asked t))
     (c.follow-came.ensures.made t)
 
@@ -94,3 +98,24 @@ returns-clause-lanes g c =
 pub returns-clause-in_lanes : goal.returns-clause-in_lanes
 returns-clause-in_lanes g c =
     asked_in_lanes g.C.Starts.did g.C.Caller.course g.C.Caller.course_more false c.args.args c.args.host.now.caller.now c.ask-answers.new.caller c.follow-came.new.host.caller.now c.ask-answers.ensures.course c.follow-came.ensures.in_lanes
+
+pub returns-clause-shown : goal.returns-clause-shown
+returns-clause-shown g c = λ t.
+    let first = files_view g.F.Files c.args.files.now in
+    let asked = files_view g.F.Files c.ask-answers.new.files in
+    let calls = g.C.Caller.calls in
+    record {
+      answers = c.ask-answers.result;
+      calls = calls c.ask-answers.new.caller;
+      asked = loaded g.F.Files.tells _ c.args.args c.args.host.now.env.now first.held first.failed asked.failed (calls c.args.host.now.caller.now) (calls c.ask-answers.new.caller) c.ask-answers.result (c.ask-answers.ensures.asked t);
+      mid = scene_on g.C.Caller g.O.Sink g.E.Sink c.follow-came.new.host;
+      said = c.follow-came.ensures.shown t;
+      same = refl;
+      out = refl;
+      more = some_more _ (stream_of g.E.Sink c.tell_reason_of.new.err) _ c.tell_reason_of.ensures.lines c.finish.ensures.shown;
+      plain = λ ok quiet plain. ap (stream_of g.E.Sink) (c.finish.ensures.quiet (ap (λ l. l.verbose) c.follow-came.ensures.looks ∙ plain) (none_refused _ c.finish.result c.finish.new.term.error c.finish.ensures.noted.1 quiet)
+          ∙ by_success _ c.follow-came.result c.tell_reason_of.ensures.ok ok);
+    }
+
+pub returns-clause-looks : goal.returns-clause-looks
+returns-clause-looks g c = ap (λ (k : Term). looks_of k) c.finish.ensures.term ∙ ap (λ (l : Looks). record l { reported = c.finish.new.term.error }) c.follow-came.ensures.looks
