@@ -1,22 +1,13 @@
 -- Lemmas on the sets of a sample.
-use Rattle.std.proofs.Common.{◌≡◌, ℕ, List, [], ◌∷◌, ◌++◌, length, get_or, sym, ◌∙◌, subst, Bool, ◌⊎◌, inl, inr, All, AllPairs, Contains, Vec, Result, Ok, Err, IfOk}
-use Rattle.std.proofs.lemmas.List.Elements.{All-contains, Contains-push_cases, Contains-get_or}
-use Rattle.hack_samples.specs.Samples.{Shows, SomeShows, IsListedMask, IsMaskSample}
+use Rattle.std.proofs.Common.{◌≡◌, ℕ, List, length, get_or, sym, ◌∙◌, subst, Bool, ◌⊎◌, inl, inr, All, AllPairs, Contains, Vec, Result, Ok, Err, IfOk}
+use Rattle.std.proofs.lemmas.List.Elements.{All-contains, Contains-get_or}
+use Rattle.hack_samples.specs.Samples.{SomeShows, IsListedMask, IsMaskSample}
 use Rattle.hack_samples.specs.Order.{IsMaskBefore}
 use Rattle.hack_samples.specs.InternalDescendingPatterns.{AreKept}
 use Rattle.hack_samples.specs.Internal.{IsChosen}
 use Rattle.hack_samples.specs.declared.sets.Setting.{Setting}
 use Rattle.hack_samples.specs.declared.fault.SampleFault.{SampleFault}
 use Rattle.hack_samples.specs.declared.fault.SampleFault.TheVariants as fault
-
--- after one more set that doesn't show the pattern, still none shows it
-pub none-more : (providers : List (List (List ℕ))) (pattern : List Setting) (sets more : List (List Bool)) (s : List Bool) → more ≡ sets ++ s ∷ []
-    → (SomeShows providers pattern sets → ⊥) → (Shows providers pattern s → ⊥) → SomeShows providers pattern more → ⊥
-none-more providers pattern sets more s is none not h =
-    elim (Contains-push_cases sets s h.by (subst (λ l. Contains l h.by) is h.chosen)) [
-      | inl w ↦ none (record { by = h.by; chosen = w; shows = h.shows })
-      | inr e ↦ not (subst (Shows providers pattern) (sym e) h.shows)
-    ]
 
 pub some-kept : (providers : List (List (List ℕ))) (pattern : List Setting) (sets later : List (List Bool)) → AreKept sets later → SomeShows providers pattern sets → SomeShows providers pattern later
 some-kept providers pattern sets later kept h = record { by = h.by; chosen = kept h.by h.chosen; shows = h.shows }

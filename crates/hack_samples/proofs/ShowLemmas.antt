@@ -1,10 +1,10 @@
 -- Lemmas on patterns and the sets that show them.
-use Rattle.std.proofs.Common.{◌≡◌, ℕ, ◌+◌, ◌<◌, List, [], ◌∷◌, ◌++◌, length, get_or, take, refl, sym, ◌∙◌, ap, subst, Bool, true, false, inl, inr, ◌↔◌, All, Vec}
-use Rattle.std.specs.Prelude.{◌&&◌, not}
-use mathlib.Core.Bool.{beq}
-use Rattle.std.proofs.lemmas.List.{take_more, get_or-map}
+use Rattle.std.proofs.Common.{◌≡◌, ℕ, zero, suc, map, arith, Contains, Any, MatchBool, ◌<◌, List, [], ◌∷◌, ◌++◌, length, get_or, refl, sym, ◌∙◌, ap, subst, Bool, true, false, inl, inr, All, Vec}
+use Rattle.std.specs.Prelude.{◌&&◌}
+use Rattle.std.specs.List.{AllWithin, HoldsAt}
+use Rattle.std.proofs.lemmas.List.{get_or-map, length-map}
 use Rattle.std.proofs.lemmas.List.Folds.{list_all_at}
-use Rattle.std.proofs.lemmas.List.Elements.{All-push, All-cons, All-head, All-tail, All-contains, Contains-push, Contains-append_left, Contains-get_or}
+use Rattle.std.proofs.lemmas.List.Elements.{All-cons, All-head, All-tail, All-contains, Contains-push, Contains-append_left, Contains-get_or}
 use Rattle.hack_samples.specs.Sets.{has_one_of, has_each, is_on, rows_of}
 use Rattle.hack_samples.specs.Internal.{IsClear, Meets, NoneShows}
 use Rattle.hack_samples.specs.Samples.{Shows}
@@ -18,19 +18,21 @@ all-left P xs ys h = λ k d lt. All-contains P (xs ++ ys) (get_or xs k d) h (Con
 pub all-last : {X : Type 0} (P : X → Type 0) (xs : List X) (x : X) → All P (xs ++ x ∷ []) → P x
 all-last P xs x h = All-contains P (xs ++ x ∷ []) x h (Contains-push xs x)
 
--- what holds of a list and of one more element
-pub all-push : {X : Type 0} (P : X → Type 0) (xs : List X) (x : X) → All P (xs ++ x ∷ []) ↔ (All P xs × P x)
-all-push P xs x = (λ h. (all-left P xs (x ∷ []) h, all-last P xs x h), λ both. All-push P xs x both.0 both.1)
+-- an element of what a list is mapped to comes from one of the list
+from-map : {X Y : Type 0} (f : X → Y) (xs : List X) (y : Y) → Contains (map f xs) y → Any (λ x. f x ≡ y) xs
+from-map f [] y h = absurd (omega (arith, h.1))
+from-map f (x ∷ xs) y (zero, lt, is) = (zero, x, omega arith, refl, is)
+from-map f (x ∷ xs) y (suc k, lt, is) = let w = from-map f xs y (k, omega (arith, lt), is) in (suc w.0, w.1, omega (arith, w.2), w.3, w.4)
 
-pub all-more : {X : Type 0} (P : X → Type 0) (xs : List X) (i : ℕ) (d : X) → i < length xs → All P (take (i + 1) xs) ↔ (All P (take i xs) × P (get_or xs i d))
-all-more P xs i d lt = subst (λ l. All P l ↔ (All P (take i xs) × P (get_or xs i d))) (sym (take_more xs i d lt)) (all-push P (take i xs) (get_or xs i d))
-
--- truth values that don't differ are the same
-pub same-from_not : (a b : Bool) → not (beq a b) ≡ false → a ≡ b
-same-from_not true true h = refl
-same-from_not true false h = h
-same-from_not false true h = sym h
-same-from_not false false h = refl
+-- whether an element of what a list is mapped to has P, by what `any` told of the list; S says so in other words
+pub any-told : {X Y S : Type 0} (f : X → Y) (P : Y → Type 0) (xs : List X) → ((y : Y) → Contains (map f xs) y → P y → S) → (S → (y : Y) × Contains (map f xs) y × P y)
+    → (b : Bool) → MatchBool b ((k : ℕ) × (k < length xs) × HoldsAt (λ x. P (f x)) xs k) (AllWithin (λ x. P (f x) → ⊥) xs 0 (length xs)) → MatchBool b S (S → ⊥)
+any-told f P [] to from true h = absurd (omega (arith, h.1))
+any-told f P (x ∷ xs) to from true h = to (f (get_or (x ∷ xs) h.0 x)) (h.0, omega (arith, h.1, length-map xs f), get_or-map f (x ∷ xs) h.0 x _ h.1) (h.2 x)
+any-told f P xs to from false h = λ s.
+    let one = from s in
+    let w = from-map f xs one.0 one.1 in
+    h w.0 w.1 (omega arith) w.2 (subst P (sym (ap f w.3 ∙ w.4)) one.2)
 
 -- the row at a place
 pub row-at : {X Z : Type 0} (xs : List (Vec X Z)) (i : ℕ) (v : Vec X Z) → i < length xs → v ≡ get_or xs i v → get_or (rows_of xs) i v.items ≡ v.items

@@ -133,14 +133,12 @@ fn settings_of(
     providers: &[Vec<Vec<usize>>],
     set: &[bool],
 ) -> Result<Vec<Setting>, AllocError> {
-    let mut settings = Vec::new(alloc);
-    for candidate in 0..providers.len() {
-        settings.push(Setting {
+    (0..providers.len())
+        .map(|candidate| Setting {
             candidate,
             on: is_on(providers, set, candidate),
-        })?;
-    }
-    Ok(settings)
+        })
+        .collect(alloc)
 }
 
 /// Adds the set that a row of the guide leads to, unless exactly the same candidates are on in one

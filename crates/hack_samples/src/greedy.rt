@@ -155,10 +155,7 @@ fn shuffled(
     columns: &mut Columns,
     candidates: usize,
 ) -> Result<Vec<usize>, AllocError> {
-    let mut order = Vec::new(alloc);
-    for candidate in 0..candidates {
-        order.push(candidate)?;
-    }
+    let mut order: Vec<usize> = (0..candidates).collect(alloc)?;
     for i in 0..order.len() {
         let j = i + (columns.random() % (order.len() - i) as u64) as usize;
         order.swap(i, j);
@@ -238,11 +235,8 @@ pub(crate) fn hold_off(held: &mut Vec<bool>, set: &[bool], rows: &[Vec<usize>])
         → length s ≡ length held.old.items → IsClear held.new.items s
         → has_each s (rows_of rows.now) ≡ false }
 {
-    for row in rows {
-        if !has_one_of(set, row.as_slice()) {
-            ban(held, row.as_slice());
-            return;
-        }
+    if let Some(row) = rows.iter().find(|row| !has_one_of(set, row)) {
+        ban(held, row);
     }
 }
 

@@ -12,12 +12,7 @@ pub(crate) fn shows(providers: &[Vec<Vec<usize>>], set: &[bool], pattern: &[Sett
     ensures { MatchBool result (Shows (tables_of providers.now) pattern.now set.now)
         (Shows (tables_of providers.now) pattern.now set.now → ⊥) }
 {
-    for setting in pattern {
-        if is_on(providers, set, setting.candidate) != setting.on {
-            return false;
-        }
-    }
-    true
+    pattern.iter().all(|setting| is_on(providers, set, setting.candidate) == setting.on)
 }
 
 /// Whether one of the sets shows the pattern.
@@ -29,12 +24,7 @@ pub(crate) fn some_shows(
     ensures { MatchBool result (SomeShows (tables_of providers.now) pattern.now (rows_of sets.now))
         (SomeShows (tables_of providers.now) pattern.now (rows_of sets.now) → ⊥) }
 {
-    for set in sets {
-        if shows(providers, set.as_slice(), pattern) {
-            return true;
-        }
-    }
-    false
+    sets.iter().any(|set| shows(providers, set, pattern))
 }
 
 /// The pattern with one more setting.

@@ -15,34 +15,21 @@ pub struct Setting {
 pub(crate) fn has(set: &[bool], position: usize) -> bool
     ensures { result ≡ has set.now position }
 {
-    match set.get(position) {
-        Some(member) => *member,
-        None => false,
-    }
+    set.get(position).copied().unwrap_or(false)
 }
 
 /// Whether one of these positions is a member of the set.
 pub(crate) fn has_one_of(set: &[bool], group: &[usize]) -> bool
     ensures { result ≡ has_one_of set.now group.now }
 {
-    for position in group {
-        if has(set, *position) {
-            return true;
-        }
-    }
-    false
+    group.iter().any(|position| has(set, *position))
 }
 
 /// Whether the set has a member of each group.
 pub(crate) fn has_each(set: &[bool], groups: &[Vec<usize>]) -> bool
     ensures { result ≡ has_each set.now (rows_of groups.now) }
 {
-    for group in groups {
-        if !has_one_of(set, group.as_slice()) {
-            return false;
-        }
-    }
-    true
+    groups.iter().all(|group| has_one_of(set, group))
 }
 
 /// For each name of the candidate the positions that enable it; none past the last candidate.

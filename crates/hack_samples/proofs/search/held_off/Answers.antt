@@ -1,8 +1,8 @@
 use Rattle.std.proofs.Common.{◌≡◌, ◌<◌, ◌∙◌, sym, subst, ℕ, length, arith, false}
 use Rattle.std.proofs.lemmas.List.{take_all}
+use Rattle.std.proofs.lemmas.List.Elements.{All-more}
 use Rattle.hack_samples.specs.Sets.{is_on, tables_of}
 use Rattle.hack_samples.specs.Samples.{Shows}
-use Rattle.hack_samples.proofs.ShowLemmas.{all-more}
 use Rattle.hack_samples.proofs.search.held_off.Goals as goal
 
 pub loop-setting-preserved : goal.loop-setting-preserved
@@ -13,10 +13,9 @@ loop-setting-preserved c =
       size = c.hold_setting.ensures.size ∙ c.loop-setting.invariant.size;
       clear = c.hold_setting.ensures.clear c.loop-setting.invariant.clear;
       shows = λ t inside clear.
-          (all-more (λ setting. is_on (tables_of c.args.wanted.now.providers.now) t setting.candidate ≡ setting.on) c.args.pattern.now i (record { candidate = 0; on = false }) lt).1 (
-            c.loop-setting.invariant.shows t inside (c.hold_setting.ensures.more t (sym inside.same ∙ sym c.loop-setting.invariant.size) clear),
-            c.hold_setting.ensures.shows t inside clear,
-          );
+          All-more (λ setting. is_on (tables_of c.args.wanted.now.providers.now) t setting.candidate ≡ setting.on) c.args.pattern.now i (record { candidate = 0; on = false }) lt
+          (c.loop-setting.invariant.shows t inside (c.hold_setting.ensures.more t (sym inside.same ∙ sym c.loop-setting.invariant.size) clear))
+          (c.hold_setting.ensures.shows t inside clear);
     }
 
 pub returns-clause-shows : goal.returns-clause-shows
