@@ -1,8 +1,9 @@
 -- Lemmas on how many choices there are.
-use Rattle.std.proofs.Common.{◌≡◌, ℕ, zero, suc, ◌-◌, ◌^◌, ◌<◌, ◌≤◌, List, length, get_or, refl, sym, ◌∙◌, ap, arith, min, inl, inr}
-use Rattle.std.specs.Prelude.{slice_get, Some, None}
+use Rattle.std.proofs.Common.{◌≡◌, ℕ, zero, suc, ◌-◌, ◌^◌, ◌≤◌, List, length, refl, sym, ◌∙◌, ap, arith, min, inl, inr}
+use Rattle.std.specs.Prelude.{slice_get, unwrap_or}
+use Rattle.std.proofs.lemmas.List.{get_or_past}
 use Rattle.std.proofs.lemmas.Bool.{cases_lt}
-use Rattle.std.proofs.lemmas.Option.{none-some, get_or_from_slice_get, slice_get-get_or, slice_get_within}
+use Rattle.std.proofs.lemmas.Option.{unwrap_or-slice_get}
 use Rattle.hack_suspects.specs.Suspects.{choices}
 use Rattle.hack_suspects.specs.InternalWalks.{CountsChoices}
 
@@ -27,21 +28,13 @@ choices-min n t =
       | inr le ↦ let e : min t n ≡ n = omega arith in ap (choices n) e ∙ sym (choices-past n t le)
     ]
 
--- the last count is that of all choices
-pub choices-last : (n t size : ℕ) (counts : List ℕ) (all : ℕ) → size ≡ min t n → length counts ≡ size → CountsChoices n counts → Some all ≡ slice_get counts (length counts - 1) → all ≡ min (choices n t) (2 ^ 128 - 1)
-choices-last n t size counts all is len each last =
-    let lt : length counts - 1 < length counts = slice_get_within counts (length counts - 1) all (sym last) in
-    let e : suc (length counts - 1) ≡ min t n = omega arith in
-    let same : choices n (suc (length counts - 1)) ≡ choices n t = ap (choices n) e ∙ choices-min n t in
-    sym (get_or_from_slice_get counts (length counts - 1) all 0 (sym last)) ∙ each (length counts - 1) 0 lt ∙ ap (λ k. min k (2 ^ 128 - 1)) same
-
--- without a count there is one choice
-pub choices-one : (n t size : ℕ) (counts : List ℕ) → size ≡ min t n → length counts ≡ size → None ≡ slice_get counts (length counts - 1) → 1 ≡ min (choices n t) (2 ^ 128 - 1)
-choices-one n t size counts is len none =
-    elim (cases_lt (length counts - 1) (length counts)) [
-      | inl lt ↦ absurd (none-some (get_or counts (length counts - 1) 0) (none ∙ slice_get-get_or counts (length counts - 1) 0 lt))
+-- the last count is that of all choices, of which there is one without a count
+pub choices-last : (n t : ℕ) (counts : List ℕ) → length counts ≡ min t n → CountsChoices n counts → unwrap_or (slice_get counts (length counts - 1)) 1 ≡ min (choices n t) (2 ^ 128 - 1)
+choices-last n t counts len each =
+    unwrap_or-slice_get counts (length counts - 1) 1
+    ∙ elim (cases_lt (length counts - 1) (length counts)) [
+      | inl lt ↦ let e : suc (length counts - 1) ≡ min t n = omega arith in each (length counts - 1) 1 lt ∙ ap (λ k. min k (2 ^ 128 - 1)) (ap (choices n) e ∙ choices-min n t)
       | inr le ↦
           let e : min t n ≡ 0 = omega arith in
-          let same : choices n t ≡ 1 = sym (choices-min n t) ∙ ap (choices n) e ∙ choices-none n in
-          sym (ap (λ k. min k (2 ^ 128 - 1)) same)
+          get_or_past counts (length counts - 1) 1 le ∙ ap (λ k. min k (2 ^ 128 - 1)) (sym (choices-none n) ∙ sym (ap (choices n) e) ∙ choices-min n t)
     ]

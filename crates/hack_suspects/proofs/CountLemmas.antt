@@ -1,24 +1,12 @@
--- Lemmas on the counts of failed runs, and on rows that show one of some patterns.
-use Rattle.std.proofs.Common.{◌≡◌, ◌++◌, ℕ, ◌+◌, ◌<◌, List, [], ◌∷◌, length, get_or, take, sym, ◌∙◌, ap, subst, Bool, Contains, inl, inr}
-use Rattle.std.proofs.lemmas.List.{map_more}
-use Rattle.std.specs.Prelude.{Vec}
-use Rattle.hack_samples.specs.Sets.{rows_of}
-use Rattle.std.proofs.lemmas.List.Elements.{Contains-push_cases}
-use Rattle.hack_samples.specs.Samples.{RowShows}
-use Rattle.hack_samples.specs.declared.sets.Setting.{Setting}
+-- Lemmas on the counts of failed runs.
+use Rattle.std.proofs.Common.{◌≡◌, ◌++◌, ℕ, ◌+◌, ◌<◌, List, [], ◌∷◌, length, get_or, take, refl, sym, subst, Bool, true, false, cond, arith, append_assoc}
+use Rattle.std.specs.List.{fold}
+use Rattle.std.proofs.lemmas.List.{append-nil}
+use Rattle.hack_samples.proofs.SetLemmas.{not_both}
 use Rattle.hack_suspects.specs.Suspects.{RunOutcome, outcomes_of}
-use Rattle.hack_suspects.specs.Counts.{IsNumberOf, counted, left_out}
+use Rattle.hack_suspects.specs.Counts.{Fails, IsNumberOf, counted, left_out}
 use Rattle.hack_suspects.specs.declared.suspect.Outcome.{Outcome as Run}
 use Rattle.hack_suspects.proofs.SuspectLemmas.{runs-more}
-use Rattle.hack_suspects.specs.Faults.{ShowsOneOf}
-
--- none of one more pattern is shown
-pub none-more : (row : List Bool) (patterns more : List (List Setting)) (pattern : List Setting) → more ≡ patterns ++ pattern ∷ [] → (ShowsOneOf patterns row → ⊥) → (RowShows row pattern → ⊥) → ShowsOneOf more row → ⊥
-none-more row patterns more pattern is none not one =
-    elim (Contains-push_cases patterns pattern one.fault (subst (λ l. Contains l one.fault) is one.among)) [
-      | inl before ↦ none (record { fault = one.fault; among = before; shows = one.shows })
-      | inr e ↦ not (subst (RowShows row) (sym e) one.shows)
-    ]
 
 -- a run as plain data
 abbrev pub plain : Run → RunOutcome
@@ -33,6 +21,13 @@ module _ (P : RunOutcome → Type 0) (runs : List Run) (i : ℕ) (run : Run) (lt
   pub one-left : (m : ℕ) → m ≡ n → (P (plain run) → ⊥) → IsNumberOf P (outcomes_of (take (i + 1) runs)) m
   one-left m e not = subst (λ l. IsNumberOf P l m) (sym (runs-more runs i run lt is)) (subst (IsNumberOf P (outcomes_of (take i runs) ++ plain run ∷ [])) (sym e) (left_out (plain run) count not))
 
--- the rows of one more list
-pub rows-more : {X Z : Type 0} (xs : List (Vec X Z)) (i : ℕ) (v : Vec X Z) → i < length xs → v ≡ get_or xs i v → rows_of (take (i + 1) xs) ≡ rows_of (take i xs) ++ v.items ∷ []
-rows-more {X = X} {Z = Z} xs i v lt is = map_more (λ l. l.items) xs i v lt ∙ ap (λ (l : Vec X Z). rows_of (take i xs) ++ l.items ∷ []) (sym is)
+-- the number of the failed ones among some runs and more runs
+pub failed-from : (front : List RunOutcome) (n : ℕ) → IsNumberOf Fails front n → (runs : List Run) → IsNumberOf Fails (front ++ outcomes_of runs) (fold (λ a run. a + cond run.failed 1 0) n runs)
+failed-from front n h [] = subst (λ l. IsNumberOf Fails l n) (sym (append-nil front)) h
+failed-from front n h (run ∷ runs) =
+    subst (λ l. IsNumberOf Fails l (fold (λ a run. a + cond run.failed 1 0) n (run ∷ runs))) (append_assoc front (plain run ∷ []) (outcomes_of runs))
+    (failed-from (front ++ plain run ∷ []) (n + cond run.failed 1 0) (one run.failed refl) runs)
+  where
+    one : (b : Bool) → run.failed ≡ b → IsNumberOf Fails (front ++ plain run ∷ []) (n + cond b 1 0)
+    one true e = counted (plain run) h e
+    one false e = subst (IsNumberOf Fails (front ++ plain run ∷ [])) (omega arith) (left_out (plain run) h (λ f. not_both f e))

@@ -1,15 +1,14 @@
 -- Lemmas on patterns: which rows show them, their parts, and their order.
-use Rattle.std.proofs.Common.{◌≡◌, ℕ, zero, suc, ◌+◌, ◌<◌, ◌≤◌, List, [], ◌∷◌, ◌++◌, length, get_or, take, refl, sym, ◌∙◌, ap, subst, arith, Bool, true, false, inl, inr, All, AllPairs, remove}
-use Rattle.std.specs.Prelude.{slice_get, Some, MatchBool}
+use Rattle.std.proofs.Common.{◌≡◌, ℕ, zero, suc, ◌+◌, ◌<◌, ◌≤◌, List, [], ◌∷◌, ◌++◌, length, get_or, take, refl, sym, ◌∙◌, ap, subst, arith, Bool, inl, inr, All, AllPairs, remove}
+use Rattle.std.specs.Prelude.{slice_get, Some}
 use Rattle.std.proofs.lemmas.List.{get_or_default}
-use Rattle.std.proofs.lemmas.List.Elements.{All-append, All-cons, All-head, All-tail, All-nil, All-contains, Contains-append_right, Contains-get_or}
+use Rattle.std.proofs.lemmas.List.Elements.{All-cons, All-head, All-tail, All-nil, All-contains, Contains-append_right, Contains-get_or}
 use Rattle.hack_suspects.specs.Suspects.{Rises, IsPart, Precedes, DiffersBefore, IsPatternBefore}
 use Rattle.hack_samples.specs.Samples.{RowShows}
 use Rattle.hack_suspects.specs.InternalWalks.{PatternFits}
 use Rattle.hack_samples.specs.declared.sets.Setting.{Setting}
 use Rattle.hack_samples.proofs.SetLemmas.{not_both}
 use Rattle.hack_samples.proofs.OrderLemmas.{three}
-use Rattle.hack_samples.proofs.ShowLemmas.{all-left}
 
 pub all-right : {X : Type 0} (P : X → Type 0) (xs ys : List X) → All P (xs ++ ys) → All P ys
 all-right P xs ys h = λ k d lt. All-contains P (xs ++ ys) (get_or ys k d) h (Contains-append_right xs ys (get_or ys k d) (Contains-get_or ys k d lt))
@@ -202,17 +201,3 @@ fits-here found p q i at lt ordered front now = record {
         ]
       ];
 }
-
--- a passed run that shows the front of a pattern shows all of it exactly if it shows the rest
-pub both-parts : (b failed : Bool) (row same : List Bool) (front rest : List Setting) → failed ≡ false → row ≡ same → RowShows row front → MatchBool b (RowShows row rest) (RowShows row rest → ⊥)
-    → MatchBool b ((failed ≡ false) × RowShows same (front ++ rest)) ((failed ≡ false) × RowShows same (front ++ rest) → ⊥)
-both-parts true failed row same front rest passed is shows h =
-    (passed, All-append (λ setting. slice_get same setting.candidate ≡ Some setting.on) front rest (subst (λ r. RowShows r front) is shows) (subst (λ r. RowShows r rest) is h))
-both-parts false failed row same front rest passed is shows h =
-    λ k. h (subst (λ r. RowShows r rest) (sym is) (all-right (λ setting. slice_get same setting.candidate ≡ Some setting.on) front rest k.1))
-
-pub no-front : (b failed : Bool) (row same : List Bool) (front rest : List Setting) → b ≡ false → row ≡ same → (RowShows row front → ⊥)
-    → MatchBool b ((failed ≡ false) × RowShows same (front ++ rest)) ((failed ≡ false) × RowShows same (front ++ rest) → ⊥)
-no-front true failed row same front rest off is not = absurd (not_both refl off)
-no-front false failed row same front rest off is not =
-    λ k. not (subst (λ r. RowShows r front) (sym is) (all-left (λ setting. slice_get same setting.candidate ≡ Some setting.on) front rest k.1))

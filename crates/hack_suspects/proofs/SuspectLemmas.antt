@@ -32,15 +32,6 @@ pub on_ok_both : {T E P Q R : Type 0} (r : Result T E) → (P → Q → R) → O
 on_ok_both (Ok x) f p q = f p q
 on_ok_both (Err e) f p q = tt
 
--- after one more run that doesn't pass with the pattern, still none does
-pub shown-more : (outcomes more : List RunOutcome) (o : RunOutcome) (pattern : List Setting) → more ≡ outcomes ++ o ∷ [] → (IsShown false outcomes pattern → ⊥) → ((o.failed ≡ false) × RowShows o.on pattern → ⊥)
-    → IsShown false more pattern → ⊥
-shown-more outcomes more o pattern is none not h =
-    elim (Contains-push_cases outcomes o h.by (subst (λ l. Contains l h.by) is h.among)) [
-      | inl w ↦ none (record { by = h.by; among = w; ended = h.ended; shows = h.shows })
-      | inr e ↦ not (subst (λ (r : RunOutcome). (r.failed ≡ false) × RowShows r.on pattern) (sym e) (h.ended, h.shows))
-    ]
-
 -- what shows a pattern shows each part of it
 pub shown-part : (failed : Bool) (outcomes : List RunOutcome) (part pattern : List Setting) → IsPart part pattern → IsShown failed outcomes pattern → IsShown failed outcomes part
 shown-part failed outcomes part pattern inside h = record { by = h.by; among = h.among; ended = h.ended; shows = part-shows h.by.on part pattern inside h.shows }

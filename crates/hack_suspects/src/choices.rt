@@ -16,10 +16,7 @@ pub(crate) fn choices(alloc: Global, candidates: usize, strength: usize) -> Resu
     for _candidate in 0..candidates {
         add_candidate(&mut counts);
     }
-    Ok(match counts.last() {
-        Some(all) => *all,
-        None => 1,
-    })
+    Ok(counts.last().copied().unwrap_or(1))
 }
 
 /// Changes the counts to those for one more candidate. The count at place `k` is the number of

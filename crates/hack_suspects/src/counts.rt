@@ -14,13 +14,7 @@ use hack_samples::Setting;
 pub fn count_failed(outcomes: &[Outcome]) -> usize
     ensures { IsNumberOf Fails (outcomes_of outcomes.now) result }
 {
-    let mut failed: usize = 0;
-    for run in outcomes {
-        if run.failed {
-            failed += 1;
-        }
-    }
-    failed
+    outcomes.iter().filter(|run| run.failed).count()
 }
 
 /// Returns how many of the runs failed and show one of the patterns.
@@ -42,10 +36,7 @@ fn fails_with(run: &Outcome, patterns: &[Vec<Setting>]) -> bool
         ((run.now.failed ≡ true) × ShowsOneOf (rows_of patterns.now) run.now.on.items)
         ((run.now.failed ≡ true) × ShowsOneOf (rows_of patterns.now) run.now.on.items → ⊥) }
 {
-    if !run.failed {
-        return false;
-    }
-    shows_one_of(run.on.as_slice(), patterns)
+    run.failed && shows_one_of(run.on.as_slice(), patterns)
 }
 
 /// Whether the row shows one of the patterns.
@@ -53,10 +44,5 @@ fn shows_one_of(row: &[bool], patterns: &[Vec<Setting>]) -> bool
     ensures { MatchBool result (ShowsOneOf (rows_of patterns.now) row.now)
         (ShowsOneOf (rows_of patterns.now) row.now → ⊥) }
 {
-    for pattern in patterns {
-        if row_shows(row, pattern.as_slice()) {
-            return true;
-        }
-    }
-    false
+    patterns.iter().any(|pattern| row_shows(row, pattern))
 }

@@ -1,6 +1,6 @@
 //! Patterns of settings: which rows show them, and their order.
 
-ghost use Rattle.std.specs.Prelude.{◌≡◌, ◌≢◌, ℕ, List, length, Some, slice_get, OnOk};
+ghost use Rattle.std.specs.Prelude.{◌≡◌, List, length, OnOk};
 ghost use Rattle.std.specs.Prelude.{MatchBool, MatchOption, AllPairs, Contains, ◌⊎◌};
 ghost use Rattle.std.specs.Ordering.{MatchOrdering};
 ghost use Rattle.hack_samples.specs.Sets.{rows_of};
@@ -12,39 +12,23 @@ use hack_samples::Setting;
 use std::alloc::AllocError;
 use std::cmp::Ordering;
 
-/// Whether the setting's candidate is on or off in the row as the setting says.
-fn row_has(row: &[bool], setting: Setting) -> bool
-    ensures { MatchBool result (slice_get row.now setting.candidate ≡ Some setting.on)
-        (slice_get row.now setting.candidate ≢ Some setting.on) }
-{
-    match row.get(setting.candidate) {
-        Some(on) => *on == setting.on,
-        None => false,
-    }
-}
-
 /// Whether the row shows the pattern.
 pub(crate) fn row_shows(row: &[bool], pattern: &[Setting]) -> bool
     ensures { MatchBool result (RowShows row.now pattern.now)
         (RowShows row.now pattern.now → ⊥) }
 {
-    for setting in pattern {
-        if !row_has(row, *setting) {
-            return false;
-        }
-    }
-    true
+    pattern
+        .iter()
+        .all(|setting| row.get(setting.candidate) == Some(&setting.on))
 }
 
 /// Compares two settings by their candidates; for the same candidate off comes before on.
 fn compare_settings(one: Setting, other: Setting) -> Ordering
     ensures { MatchOrdering result (Precedes one other) (one ≡ other) (Precedes other one) }
 {
-    match one.candidate.cmp(&other.candidate) {
-        Ordering::Less => Ordering::Less,
-        Ordering::Equal => one.on.cmp(&other.on),
-        Ordering::Greater => Ordering::Greater,
-    }
+    one.candidate
+        .cmp(&other.candidate)
+        .then(one.on.cmp(&other.on))
 }
 
 /// Compares two patterns of the same length by the first place where they differ.

@@ -188,24 +188,5 @@ fn passed_shows(outcomes: &[Outcome], front: &[Setting], rest: &[Setting]) -> bo
     ensures { MatchBool result (IsShown false (outcomes_of outcomes.now) (front.now ++ rest.now))
         (IsShown false (outcomes_of outcomes.now) (front.now ++ rest.now) → ⊥) }
 {
-    for outcome in outcomes {
-        if passes_with(outcome, front, rest) {
-            return true;
-        }
-    }
-    false
-}
-
-/// Whether the run passed and shows the pattern that these two parts make.
-fn passes_with(run: &Outcome, front: &[Setting], rest: &[Setting]) -> bool
-    ensures { MatchBool result
-        ((run.now.failed ≡ false) × RowShows run.now.on.items (front.now ++ rest.now))
-        ((run.now.failed ≡ false) × RowShows run.now.on.items (front.now ++ rest.now)
-        → ⊥) }
-{
-    if run.failed {
-        return false;
-    }
-    let row = run.on.as_slice();
-    row_shows(row, front) && row_shows(row, rest)
+    outcomes.iter().any(|run| !run.failed && row_shows(&run.on, front) && row_shows(&run.on, rest))
 }

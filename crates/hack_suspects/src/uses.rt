@@ -29,13 +29,7 @@ pub fn sort_by_use(
 fn count_uses(outcomes: &[Outcome], pattern: &Vec<Setting>) -> usize
     ensures { result ≡ uses (outcomes_of outcomes.now) pattern.now.items }
 {
-    let mut count: usize = 0;
-    for run in outcomes {
-        if is_use(run, pattern.as_slice()) {
-            count += 1;
-        }
-    }
-    count
+    outcomes.iter().filter(|run| is_use(run, pattern)).count()
 }
 
 /// Whether the run failed and shows the pattern.

@@ -1,24 +1,14 @@
-use Rattle.std.proofs.Common.{arith, ℕ}
-use Rattle.hack_samples.proofs.SetLemmas.{not_both}
-use Rattle.hack_suspects.specs.Counts.{Fails, no_runs}
-use Rattle.hack_suspects.proofs.CountLemmas.{one-counted, one-left}
-use Rattle.hack_suspects.proofs.counts.count_failed.Goals.{then-run, else-run}
+use Rattle.std.proofs.Common.{rules, tests, ◌∙◌, sym, subst, []}
+use Rattle.std.proofs.lemmas.Iterator.{YieldsList-from_slice}
+use Rattle.std.proofs.lemmas.Iterator.Consumers.{YieldsList-from_filter, count_from_yields_List}
+use Rattle.std.proofs.lemmas.List.Sums.{length-filter}
+use Rattle.hack_suspects.specs.Suspects.{outcomes_of}
+use Rattle.hack_suspects.specs.Counts.{Fails, IsNumberOf, no_runs}
+use Rattle.hack_suspects.proofs.CountLemmas.{failed-from}
 use Rattle.hack_suspects.proofs.counts.count_failed.Goals as goal
 
-pub loop-run-init : goal.loop-run-init
-loop-run-init c = record { few = omega arith; is = no_runs }
-
-pub loop-run-preserved : goal.loop-run-preserved
-loop-run-preserved c =
+pub returns : goal.returns
+returns c =
     let runs = c.args.outcomes.now in
-    let i : ℕ = c.loop-run.run-index in
-    elim c.if-run.branch [
-      | then-run w ↦ record {
-        few = omega (arith, w.failed-is, c.loop-run.invariant.few);
-        is = one-counted Fails runs i c.run-item.result c.loop-run-test.true c.run-item.is c.loop-run.failed c.loop-run.invariant.is _ w.failed-is w.if-run.true;
-      }
-      | else-run w ↦ record {
-        few = omega (arith, w.failed-is, c.loop-run.invariant.few);
-        is = one-left Fails runs i c.run-item.result c.loop-run-test.true c.run-item.is c.loop-run.failed c.loop-run.invariant.is _ w.failed-is (λ failed. not_both failed w.if-run.false);
-      }
-    ]
+    let is = count_from_yields_List c.filter.result _ c.count.ensures.ran (YieldsList-from_filter _ (λ run. run.failed) (YieldsList-from_slice runs cc) c.filter.ensures.closure (λ x b q k. search (rules, tests))) ∙ length-filter (λ run. run.failed) runs in
+    subst (IsNumberOf Fails (outcomes_of runs)) (sym is) (failed-from [] 0 no_runs runs)

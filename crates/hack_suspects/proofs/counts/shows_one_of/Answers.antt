@@ -1,12 +1,11 @@
-use Rattle.std.proofs.Common.{◌+◌, ℕ, take, subst, sym}
+use Rattle.std.proofs.Common.{rules, tests}
+use Rattle.std.proofs.lemmas.Iterator.{YieldsList-from_slice, cases_from_any}
 use Rattle.hack_samples.specs.Samples.{RowShows}
-use Rattle.hack_samples.specs.Sets.{rows_of}
-use Rattle.hack_suspects.proofs.CountLemmas.{none-more, rows-more}
+use Rattle.hack_samples.proofs.ShowLemmas.{any-told}
 use Rattle.hack_suspects.proofs.counts.shows_one_of.Goals as goal
 
-pub loop-pattern-preserved : goal.loop-pattern-preserved
-loop-pattern-preserved c =
-    let i : ℕ = c.loop-pattern.pattern-index in
-    none-more c.args.row.now (rows_of (take i c.args.patterns.now)) (rows_of (take (i + 1) c.args.patterns.now)) c.pattern-item.result.items
-    (rows-more c.args.patterns.now i c.pattern-item.result c.loop-pattern-test.true c.pattern-item.is) c.loop-pattern.invariant
-    (λ shows. c.if-row_shows.ensures (subst (RowShows c.args.row.now) (sym c.as_slice.ensures.value) shows))
+pub returns : goal.returns
+returns c =
+    let P = RowShows c.args.row.now in
+    any-told (λ v. v.items) P c.args.patterns.now (λ p among shows. record { fault = p; among = among; shows = shows }) (λ h. (h.fault, h.among, h.shows)) c.any.result
+    (cases_from_any _ _ _ (λ v. P v.items) (λ v. P v.items → ⊥) c.any.ensures.ran (YieldsList-from_slice c.args.patterns.now cc) (λ x q k. search (rules, tests)) (λ x q k. search (rules, tests)))

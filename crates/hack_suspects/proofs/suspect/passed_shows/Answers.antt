@@ -1,20 +1,20 @@
-use Rattle.std.proofs.Common.{◌+◌, ◌++◌, ℕ, take}
-use Rattle.hack_suspects.specs.Suspects.{outcomes_of}
-use Rattle.hack_suspects.proofs.SuspectLemmas.{shown-more, run-among, runs-more}
+use Rattle.std.proofs.Common.{◌≡◌, rules, tests, false}
+use Rattle.std.specs.Prelude.{slice_get, Some}
+use Rattle.std.proofs.lemmas.Iterator.{YieldsList-from_slice, cases_from_any}
+use Rattle.std.proofs.lemmas.List.Elements.{All-append}
+use Rattle.hack_samples.specs.Samples.{RowShows}
+use Rattle.hack_samples.proofs.ShowLemmas.{any-told, all-left}
+use Rattle.hack_suspects.specs.Suspects.{RunOutcome}
+use Rattle.hack_suspects.proofs.CountLemmas.{plain}
+use Rattle.hack_suspects.proofs.PatternLemmas.{all-right}
 use Rattle.hack_suspects.proofs.suspect.passed_shows.Goals as goal
 
-pub returns-then-passes_with : goal.returns-then-passes_with
-returns-then-passes_with c = record {
-  by = record { on = c.outcome-item.result.on.items; failed = c.outcome-item.result.failed };
-  among = run-among c.args.outcomes.now c.loop-outcome.outcome-index c.outcome-item.result c.loop-outcome-test.true c.outcome-item.is;
-  ended = c.if-passes_with.ensures.0;
-  shows = c.if-passes_with.ensures.1;
-}
-
-pub loop-outcome-preserved : goal.loop-outcome-preserved
-loop-outcome-preserved c =
-    let runs = c.args.outcomes.now in
-    let i : ℕ = c.loop-outcome.outcome-index in
-    shown-more (outcomes_of (take i runs)) (outcomes_of (take (i + 1) runs)) (record { on = c.outcome-item.result.on.items; failed = c.outcome-item.result.failed }) (c.args.front.now ++ c.args.rest.now)
-    (runs-more runs i c.outcome-item.result c.loop-outcome-test.true c.outcome-item.is)
-    c.loop-outcome.invariant c.if-passes_with.ensures
+pub returns : goal.returns
+returns c =
+    let front = c.args.front.now in
+    let rest = c.args.rest.now in
+    let P : RunOutcome → Type 0 = λ r. (r.failed ≡ false) × RowShows r.on front × RowShows r.on rest in
+    any-told plain P c.args.outcomes.now
+    (λ r among p. record { by = r; among = among; ended = p.0; shows = All-append (λ s. slice_get r.on s.candidate ≡ Some s.on) front rest p.1 p.2 })
+    (λ h. (h.by, h.among, (h.ended, all-left (λ s. slice_get h.by.on s.candidate ≡ Some s.on) front rest h.shows, all-right (λ s. slice_get h.by.on s.candidate ≡ Some s.on) front rest h.shows))) c.any.result
+    (cases_from_any _ _ _ (λ r. P (plain r)) (λ r. P (plain r) → ⊥) c.any.ensures.ran (YieldsList-from_slice c.args.outcomes.now cc) (λ x q k. search (rules, tests)) (λ x q k. search (rules, tests)))
