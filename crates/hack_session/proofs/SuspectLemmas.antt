@@ -1,6 +1,5 @@
 -- Lemmas on the parts with failed runs, and on what came of a part's runs.
-use Rattle.std.proofs.Common.{◌≡◌, ◌≢◌, ℕ, ◌+◌, ◌<◌, List, [], ◌∷◌, ◌++◌, length, get_or, take, map, refl, sym, ◌∙◌, ap, subst, arith, Bool, true, false, ◌⊎◌, inl, inr, ◌↔◌, All, AllPairs, Contains, Some, None, append_assoc}
-use Rattle.std.proofs.lemmas.List.{take_more}
+use Rattle.std.proofs.Common.{◌≡◌, ◌≢◌, ℕ, List, [], ◌∷◌, ◌++◌, get_or, map, refl, sym, ◌∙◌, ap, subst, arith, Bool, true, false, ◌⊎◌, inl, inr, ◌↔◌, All, AllPairs, Contains, Some, None, append_assoc}
 use Rattle.std.proofs.lemmas.List.Elements.{Contains-get_or, Contains-append_left, Contains-append_right, Contains-append_cases, Contains-push, Contains-push_cases}
 use Rattle.std.proofs.lemmas.List.Quantifiers.{all_pairs_push}
 use Rattle.hack_plan.specs.View.{PlanView}
@@ -122,14 +121,6 @@ ordered-more plan before h old new adds are ordered =
 -- parts in that order are listed once
 distinct-by : (plan : PlanView) (handed : List Handed) (parts : List Part) → AllPairs (FailsBefore plan handed) parts → AreDistinctParts parts
 distinct-by plan handed parts ordered = λ i j d l m e. let f = ordered i j d l m in f.not (subst (HasFailedRun plan f.before) e f.failed)
-
--- none of one more is the part
-pub not-among-more : (parts : List Part) (i : ℕ) (part : Part) → i < length parts → (Contains (take i parts) part → ⊥) → ((d : Part) → get_or parts i d ≢ part) → Contains (take (i + 1) parts) part → ⊥
-not-among-more parts i part lt not differs c =
-    elim (Contains-push_cases (take i parts) (get_or parts i part) part (subst (λ l. Contains l part) (take_more parts i part lt) c)) [
-      | inl before ↦ not before
-      | inr e ↦ differs part e
-    ]
 
 -- a step of another part, or of none, adds nothing
 pub no-entry : (plan : PlanView) (h : Handed) (part : Part) → plan_entry_of plan h.step ≡ None → part_at plan h ≢ Some part

@@ -1,6 +1,6 @@
 -- Lemmas on the notices that explain failed runs.
 use Rattle.std.proofs.Common.{◌≡◌, ℕ, ◌+◌, ◌<◌, List, [], ◌∷◌, ◌++◌, length, get_or, take, map, refl, sym, ◌∙◌, ap, append_assoc, append-nil, String, Global, string_bytes, codes}
-use Rattle.std.specs.List.{flat_map, join_by}
+use Rattle.std.specs.List.{flat_map, join_by, list_any}
 use Rattle.std.proofs.lemmas.List.{map_more}
 use Rattle.std.proofs.lemmas.List.Concat.{flat_map-append}
 use Rattle.std.proofs.lemmas.List.Folds.{flat_map-map}
@@ -8,12 +8,11 @@ use Rattle.hack_base.specs.Notes.{Note}
 use Rattle.hack_plan.specs.View.{PlanView}
 use Rattle.hack_session.specs.declared.suspects.Explained.{Explained}
 use Rattle.hack_session.specs.Suspects.{explained_view}
-use Rattle.std.proofs.Common.{true, false}
+use Rattle.std.proofs.Common.{false, ◌||◌, Vec}
+use Rattle.hack_samples.specs.Sets.{rows_of}
 use Rattle.std.specs.Prelude.{nat_eq, nat_lt, Option}
 use Rattle.hack_plan.specs.declared.partition.Partition.{Partition}
 use Rattle.std.specs.Fmt.{decimal}
-use Rattle.std.proofs.Common.{arith}
-use Rattle.std.proofs.lemmas.Bool.Decides.{nat_tests}
 use Rattle.hack_samples.specs.declared.sets.Setting.{Setting}
 use Rattle.hack_session.specs.SuspectNotes.{has_setting, suspect_notes_on, who_text}
 
@@ -34,9 +33,9 @@ notes-more plan piece xs i x old new lt is adds before =
     adds ∙ ap (λ l. l ++ f (explained_view x)) before
     ∙ sym (ap (flat_map f) (map_more explained_view xs i x lt ∙ ap (λ y. front ++ explained_view y ∷ []) (sym is)) ∙ flat_map-append f front (explained_view x ∷ []) ∙ ap (λ l. flat_map f front ++ l) (append-nil (f (explained_view x))))
 
-pub has-one : (pattern : List Setting) → nat_eq (length pattern) 0 ≡ false → has_setting pattern ≡ true
-has-one [] e = let f : true ≡ false = e in cc
-has-one (setting ∷ pattern) e = grind (arith, nat_tests)
+pub any-setting : {Z : Type 0} (found : List (Vec Setting Z)) → list_any (λ v. has_setting v.items) found ≡ list_any has_setting (rows_of found)
+any-setting [] = refl
+any-setting (v ∷ found) = ap (λ b. has_setting v.items || b) (any-setting found)
 
 -- where no failed run shows no suspect, and there are several
 pub who-all : (showing failed : ℕ) → nat_lt showing failed ≡ false → nat_eq failed 1 ≡ false → who_text showing failed ≡ codes "all " ++ (decimal failed ++ codes " failed runs have")

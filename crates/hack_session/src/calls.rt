@@ -61,11 +61,5 @@ pub(crate) fn call_in_group<C: Caller, O: Sink, E: Sink>(
 pub(crate) fn is_memory(fault: &ProcessFault) -> bool
     ensures { result ≡ is_want fault.now }
 {
-    match fault {
-        ProcessFault::Memory => true,
-        ProcessFault::EmptyProgram
-        | ProcessFault::NeverExecuted(_)
-        | ProcessFault::NotText(_)
-        | ProcessFault::Failed(_) => false,
-    }
+    matches!(fault, ProcessFault::Memory)
 }

@@ -190,10 +190,7 @@ fn put_text<W: Lines, D: fmt::Display + Drop>(out: &mut W, text: D) -> Result<()
         → W.whole → Keeps (W.contents out.old) (W.contents out.new) }
     ensures stays { W.stays out.old out.new }
 {
-    match out.line(text) {
-        Ok(()) => Ok(()),
-        Err(fmt::Error) => Err(LineFault::Unwritten),
-    }
+    out.line(text).map_err(|_| LineFault::Unwritten)
 }
 
 /// The lines of a run that is cleaned, without the last line feed.

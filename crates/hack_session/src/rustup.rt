@@ -1,7 +1,6 @@
 //! Toolchains that rustup adds.
 
-ghost use Rattle.std.specs.Prelude.{◌≡◌, ◌≢◌, ◌∷◌, [], List, ℕ, IfOk, MatchOption};
-ghost use Rattle.std.specs.Prelude.{false, map, string_bytes, true};
+ghost use Rattle.std.specs.Prelude.{◌≡◌, [], IfOk, false, map, string_bytes, true};
 ghost use Rattle.hack_process.specs.Commands.{command_of};
 ghost use Rattle.hack_session.specs.StepEffects.{DoesTask, TriesFirst, adding_task, scene_of};
 ghost use Rattle.hack_session.specs.StepEffects.{task_of};
@@ -127,18 +126,7 @@ fn add_toolchain<C: Caller, O: Sink, E: Sink>(
 fn without_plus(toolchain: &str) -> &str
     ensures { result.now ≡ toolchain_name toolchain.now }
 {
-    match behind_plus(toolchain) {
-        Some(name) => name,
-        None => toolchain,
-    }
-}
-
-/// Returns what follows a leading `+`; none where there isn't one.
-fn behind_plus(toolchain: &str) -> Option<&str>
-    ensures { MatchOption result ((rest : List ℕ) → toolchain.now ≢ 43 ∷ rest)
-        (λ name. toolchain.now ≡ 43 ∷ name.now) }
-{
-    toolchain.strip_prefix('+')
+    toolchain.strip_prefix('+').unwrap_or(toolchain)
 }
 
 /// Makes the command that fails where a toolchain isn't installed.

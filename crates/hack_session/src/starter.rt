@@ -167,10 +167,7 @@ impl<C: Caller, O: Sink, E: Sink> Runner for Starter<'_, C, O, E> {
 fn is_run(step: Step) -> bool
     ensures { result ≡ is_run_step step }
 {
-    match step {
-        Step::Run(_) => true,
-        Step::Prepare(_) | Step::Skip(_) => false,
-    }
+    matches!(step, Step::Run(_))
 }
 
 /// Reports an error at once.

@@ -110,22 +110,14 @@ fn add_missed(alloc: Global, one: &Explained, notices: &mut Vec<Notice>) -> Resu
 fn has_setting(found: &[Vec<Setting>]) -> bool
     ensures { result ≡ list_any has_setting (rows_of found.now) }
 {
-    for pattern in found {
-        if !pattern.is_empty() {
-            return true;
-        }
-    }
-    false
+    found.iter().any(|pattern| !pattern.is_empty())
 }
 
 /// The suspects that are shown.
 fn first_ones(found: &[Vec<Setting>]) -> &[Vec<Setting>]
     ensures { rows_of result.now ≡ take most_lines (rows_of found.now) }
 {
-    match found.get(..MOST_LINES) {
-        Some(first) => first,
-        None => found,
-    }
+    found.get(..MOST_LINES).unwrap_or(found)
 }
 
 /// Adds a line for each of the suspects.
@@ -292,20 +284,18 @@ fn place_text(alloc: Global, plan: &Plan, part: Part) -> Result<String, AllocErr
 fn name_in(plan: &Plan, place: usize) -> &str
     ensures { result.now ≡ unwrap_or (name_in (slice_get plan.now.packages place)) [] }
 {
-    match plan.packages().get(place) {
-        Some(member) => member.name.as_str(),
-        None => "",
-    }
+    plan.packages()
+        .get(place)
+        .map_or("", |member| member.name.as_str())
 }
 
 /// The candidates of a package.
 fn candidates_in(plan: &Plan, place: usize) -> &[Feature]
     ensures { groups_of result.now ≡ package_candidates (slice_get plan.now.packages place) }
 {
-    match plan.packages().get(place) {
-        Some(member) => member.candidates.as_slice(),
-        None => &[],
-    }
+    plan.packages()
+        .get(place)
+        .map_or(&[], |member| member.candidates.as_slice())
 }
 
 /// The version of runs, where they have one.
@@ -377,10 +367,9 @@ fn setting_text(
 fn names_at(candidates: &[Feature], place: usize) -> &[String]
     ensures { names_of result.now ≡ slice_index_or (groups_of candidates.now) place [] }
 {
-    match candidates.get(place) {
-        Some(feature) => feature.as_group(),
-        None => &[],
-    }
+    candidates
+        .get(place)
+        .map_or(&[], |feature| feature.as_group())
 }
 
 /// On or off.

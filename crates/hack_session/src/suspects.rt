@@ -2,7 +2,7 @@
 //! run.
 
 ghost use Rattle.std.specs.Prelude.{◌≡◌, ◌≢◌, ◌⊎◌, ◌↔◌, ◌++◌, ◌∷◌, [], List, Some, IfOk, OnOk};
-ghost use Rattle.std.specs.Prelude.{All, AllPairs, Contains, MatchBool, length, map, option_map};
+ghost use Rattle.std.specs.Prelude.{All, AllPairs, Contains, MatchBool, map, option_map};
 ghost use Rattle.std.specs.Prelude.{slice_get, unwrap_or};
 ghost use Rattle.std.specs.List.{slice_index_or};
 ghost use Rattle.hack_samples.specs.Sets.{rows_of};
@@ -103,30 +103,11 @@ fn add_once(parts: &mut Vec<Part>, part: Part) -> Result<(), AllocError>
     ensures exactly { OnOk result ((other : Part) → Contains parts.new.items other
         ↔ (Contains parts.old.items other ⊎ (part ≡ other))) }
 {
-    if is_among(parts.as_slice(), part) {
+    if parts.contains(&part) {
         return Ok(());
     }
     parts.push(part)?;
     Ok(())
-}
-
-/// Whether a part is one of these.
-fn is_among(parts: &[Part], part: Part) -> bool
-    ensures { MatchBool result (Contains parts.now part) (Contains parts.now part → ⊥) }
-{
-    for one in parts {
-        if is_same(*one, part) {
-            return true;
-        }
-    }
-    false
-}
-
-/// Whether two parts are the same.
-fn is_same(one: Part, other: Part) -> bool
-    ensures { MatchBool result (one ≡ other) (one ≢ other) }
-{
-    one == other
 }
 
 /// Explains each of the parts.
@@ -197,10 +178,7 @@ fn patterns_of(suspects: &Option<Vec<Vec<Setting>>>) -> &[Vec<Setting>]
     ensures { rows_of result.now
         ≡ unwrap_or (option_map (λ found. rows_of found.items) suspects.now) [] }
 {
-    match suspects {
-        Some(found) => found.as_slice(),
-        None => &[],
-    }
+    suspects.as_deref().unwrap_or(&[])
 }
 
 /// The suspects; none where there are too many patterns to look at.
@@ -273,34 +251,25 @@ fn add_outcome(
 fn is_in(entry: PlanEntry, part: Part) -> bool
     ensures { MatchBool result (part_of entry ≡ Some part) (part_of entry ≢ Some part) }
 {
-    match part_of(entry) {
-        Some(own) => is_same(own, part),
-        None => false,
-    }
+    part_of(entry) == Some(part)
 }
 
 /// The part of a run; none where it is for all packages.
 fn part_of(entry: PlanEntry) -> Option<Part>
     ensures { result ≡ part_of entry }
 {
-    match entry.package {
-        Some(package) => Some(Part {
-            version: entry.version,
-            slot: entry.slot,
-            package,
-        }),
-        None => None,
-    }
+    entry.package.map(|package| Part {
+        version: entry.version,
+        slot: entry.slot,
+        package,
+    })
 }
 
 /// The part that a handed step is a run of.
 fn part_at(plan: &Plan, handed: Handed) -> Option<Part>
     ensures { result ≡ part_at plan.now handed }
 {
-    match entry_of(plan, handed.step) {
-        Some(entry) => part_of(entry),
-        None => None,
-    }
+    entry_of(plan, handed.step).and_then(part_of)
 }
 
 /// The version, slot, package and rank of a step that is a run.
@@ -327,10 +296,7 @@ fn entry_at(plan: &Plan, place: usize) -> Option<PlanEntry>
 fn is_failed(outcome: Outcome) -> bool
     ensures { result ≡ is_failed outcome }
 {
-    match outcome {
-        Outcome::Passed => false,
-        Outcome::Failed => true,
-    }
+    matches!(outcome, Outcome::Failed)
 }
 
 /// Which candidates of a package are on in the run at a rank.
@@ -338,28 +304,23 @@ fn settings_at(plan: &Plan, place: usize, rank: usize) -> &[bool]
     ensures { result.now
         ≡ slice_index_or (settings_in (slice_get plan.now.packages place)) rank [] }
 {
-    match plan.packages().get(place) {
-        Some(member) => row_at(member.settings.as_slice(), rank),
-        None => &[],
-    }
+    plan.packages()
+        .get(place)
+        .map_or(&[], |member| row_at(&member.settings, rank))
 }
 
 /// The row at an index; empty past the last.
 fn row_at(rows: &[Vec<bool>], place: usize) -> &[bool]
     ensures { result.now ≡ slice_index_or (rows_of rows.now) place [] }
 {
-    match rows.get(place) {
-        Some(row) => row.as_slice(),
-        None => &[],
-    }
+    rows.get(place).map_or(&[], |row| row.as_slice())
 }
 
 /// How many candidates a package has.
 fn candidates_in(plan: &Plan, place: usize) -> usize
     ensures { result ≡ candidate_count (slice_get plan.now.packages place) }
 {
-    match plan.packages().get(place) {
-        Some(member) => member.candidates.len(),
-        None => 0,
-    }
+    plan.packages()
+        .get(place)
+        .map_or(0, |member| member.candidates.len())
 }
