@@ -39,17 +39,9 @@ fn ordered(alloc: Global, group: &[usize], liked: &[bool]) -> Result<Vec<usize>,
     ensures { IfOk result (λ ordered. (s : List Bool)
         → has_one_of s ordered.items ≡ has_one_of s group.now) }
 {
-    let mut front = Vec::new(alloc);
-    let mut back = Vec::new(alloc);
-    for position in group {
-        if has(liked, *position) {
-            front.push(*position)?;
-        } else {
-            back.push(*position)?;
-        }
-    }
-    front.append(&mut back)?;
-    Ok(front)
+    let mut ordered = Vec::from_slice(alloc, group)?;
+    ordered.sort_by_key(|position| !has(liked, *position))?;
+    Ok(ordered)
 }
 
 /// Copies of the groups, each beginning with its positions that are liked.
