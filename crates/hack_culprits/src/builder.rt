@@ -93,13 +93,8 @@ fn step<R: Judge>(plan: &Plan, place: usize, runner: &mut R) -> Outcome
 {
     match runner.step(plan, Step::Run(place)) {
         Ended::Passed => Outcome::Passed,
-        Ended::Failed => {
-            if runner.has_ended() {
-                Outcome::Broken
-            } else {
-                Outcome::Failed
-            }
-        }
+        Ended::Failed if runner.has_ended() => Outcome::Broken,
+        Ended::Failed => Outcome::Failed,
     }
 }
 

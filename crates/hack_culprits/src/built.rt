@@ -39,12 +39,9 @@ fn is_same(one: &Build, other: &Build) -> bool
         (run_for plain one.now ≢ run_for plain other.now) }
 {
     match (one, other) {
-        (Build::NoFeatures, Build::NoFeatures) => true,
-        (Build::AllFeatures, Build::AllFeatures) => true,
         (Build::Set(set), Build::Set(other)) => set.as_slice() == other.as_slice(),
-        (Build::NoFeatures, _) => false,
-        (Build::AllFeatures, _) => false,
-        (Build::Set(_), _) => false,
+        (Build::NoFeatures, Build::NoFeatures) | (Build::AllFeatures, Build::AllFeatures) => true,
+        _ => false,
     }
 }
 
