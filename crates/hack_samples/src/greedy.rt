@@ -51,14 +51,11 @@ impl Columns {
     /// Records one more set.
     pub(crate) fn add(&mut self, providers: &[Vec<Vec<usize>>], set: &[bool]) {
         let bit = self.bit;
-        for (candidate, column) in self.on.iter_mut().enumerate() {
+        for (candidate, (on, off)) in self.on.iter_mut().zip(self.off.iter_mut()).enumerate() {
             if is_on(providers, set, candidate) {
-                *column |= bit;
-            }
-        }
-        for (candidate, column) in self.off.iter_mut().enumerate() {
-            if !is_on(providers, set, candidate) {
-                *column |= bit;
+                *on |= bit;
+            } else {
+                *off |= bit;
             }
         }
         self.bit = bit << 1;
@@ -181,13 +178,7 @@ pub(crate) fn may_join<A: Allowed>(
     ensures same_may { A.may allowed.new ≡ A.may allowed.old }
     ensures stays { (first : A) → A.stays first allowed.old → A.stays first allowed.new }
 {
-    if has(banned, position) {
-        return Ok(false);
-    }
-    if has(set, position) {
-        return Ok(false);
-    }
-    if position >= set.len() {
+    if has(banned, position) || has(set, position) || position >= set.len() {
         return Ok(false);
     }
     ask(allowed, end, set, position)

@@ -29,10 +29,7 @@ fn others_show(providers: &[Vec<Vec<usize>>], among: &Among<'_>, pattern: &[Sett
         (SomeShows (tables_of providers.now) pattern.now
         (rows_of among.now.before.now ++ rows_of among.now.behind.now) → ⊥) }
 {
-    if some_shows(providers, among.before, pattern) {
-        return true;
-    }
-    some_shows(providers, among.behind, pattern)
+    some_shows(providers, among.before, pattern) || some_shows(providers, among.behind, pattern)
 }
 
 /// Whether the pattern, or one that continues it further as the set does, is shown by none of the
