@@ -1,5 +1,5 @@
 -- Tables of what each key enables, and of the keys that serve a group.
-use Rattle.std.proofs.Common.{◌≡◌, ◌≢◌, ℕ, suc, ◌+◌, ◌<◌, List, arith, [], ◌∷◌, ◌++◌, refl, sym, ◌∙◌, ap, subst, map, Option, Some, None, IsSome, IfSome, Bool, true, false, cond, IsTrue, ◌⊎◌, inl, inr, ◌↔◌, Contains, ◌||◌, length, get_or, take, ◌≤◌, String, Vec, string_bytes}
+use Rattle.std.proofs.Common.{◌≡◌, ℕ, suc, ◌+◌, ◌<◌, List, arith, [], ◌∷◌, ◌++◌, refl, sym, ◌∙◌, ap, subst, map, Option, Some, None, IsSome, IfSome, Bool, true, false, cond, IsTrue, ◌⊎◌, inl, inr, ◌↔◌, Contains, ◌||◌, length, get_or, take, ◌≤◌, String, Vec, string_bytes}
 use Rattle.std.specs.List.{All, list_any}
 use Rattle.std.specs.Option.{is_some}
 use Rattle.std.specs.Map.{lookup}
@@ -10,7 +10,6 @@ use Rattle.std.specs.Cmp.Lexicographic.{slice_cmp}
 use Rattle.std.specs.Ordering.{nat_cmp, is_eq}
 use Rattle.std.proofs.lemmas.Slice.Eq.{bytes_eq-Decides}
 use Rattle.std.proofs.lemmas.Map.Text.{is_eq-slice_cmp}
-use Rattle.std.proofs.lemmas.List.Elements.{Contains-push_cases}
 use Rattle.std.proofs.lemmas.List.{take_more, get_or-map, length-map}
 use Rattle.std.proofs.Math.Seq.{take-length}
 use Rattle.hack_base.proofs.Members.{Contains-head, Contains-tail, Contains-nil, Contains-cons_cases}
@@ -38,19 +37,6 @@ is_key-entries x (e ∷ es) =
     is_key-step x (string_bytes e.0) (names_of (map (λ e. e.0) es)) (lookup (bytes_eq x) (map (λ e. (string_bytes e.0, names_of e.1.items)) es)) (names_of e.1.items) (bytes_eq x (string_bytes e.0)) refl (is_key-entries x es)
 
 -- ---- the keys that serve a group
-
--- none of the names so far is x or in the set
-abbrev pub IsUnserved : List Name → Name → NameSet → Type 0
-IsUnserved group x s = ¬ IsServedBy group x s
-
-pub unserved-start : (x : Name) (s : NameSet) → IsUnserved [] x s
-unserved-start x s = λ w. Contains-nil w.name w.member
-
-pub unserved-more : (group : List Name) (n x : Name) (s : NameSet) → IsUnserved group x s → n ≢ x → ¬ IsTrue (has_name s n) → IsUnserved (group ++ n ∷ []) x s
-unserved-more group n x s h ne apart = λ w. elim (Contains-push_cases group n w.name w.member) [
-  | inl c ↦ h (record { name = w.name; member = c; has = w.has })
-  | inr e ↦ elim w.has [ inl y ↦ ne (e ∙ y) | inr y ↦ apart (subst (λ k. IsTrue (has_name s k)) (sym e) y) ]
-]
 
 -- the keys found so far, when these entries are left
 pub record Serving (group : List Name) (deps : BTreeMap (Bor Name) NameSet) (keys : NameSet) (left : List (Bor Name × NameSet)) : Type 0 where

@@ -8,12 +8,12 @@ use Rattle.std.specs.Borrow.{Bor}
 use Rattle.std.specs.Str.{bytes_eq}
 use Rattle.std.specs.Cmp.Lexicographic.{slice_cmp}
 use Rattle.std.specs.Ordering.{nat_cmp, is_eq}
-use Rattle.std.proofs.lemmas.Bool.{and_parts, and_from}
+use Rattle.std.proofs.lemmas.Bool.{or_right, and_parts, and_from}
 use Rattle.std.proofs.lemmas.List.{get_or_default, get_or-map}
 use Rattle.hack_base.proofs.Members.{Contains-nil, lt_or_same}
 use Rattle.hack_base.proofs.NameLemmas.{same_text, differ}
 use Rattle.hack_features.proofs.NameSetLemmas.{has-more, has_just-nil}
-use Rattle.hack_features.proofs.TableLemmas.{differ_at, marked_or, not_same, or_right}
+use Rattle.hack_features.proofs.TableLemmas.{differ_at, marked_or, not_same}
 use Rattle.hack_base.specs.Names.{Name, names_behind}
 use Rattle.hack_features.specs.FeatureMap.{FeatureMap, IsKey, Enables}
 use Rattle.hack_features.specs.Deps.{NameSet, has_name, get_at, IsDepsOf, AreDepsOf}

@@ -1,16 +1,17 @@
 -- What the entries of the tables say of the rules.
 use Rattle.std.proofs.Common.{◌≡◌, ◌≢◌, ℕ, zero, suc, ◌+◌, ◌<◌, ◌≤◌, List, [], ◌∷◌, ◌++◌, length, get_or, refl, sym, ◌∙◌, ap, subst, arith, flat_map, Option, Some, None, Bool, true, false, cond, ◌⊎◌, inl, inr, ◌↔◌, IsTrue, All, Contains, append_assoc, append-nil, take, length-take, length-append, map, eqb-true}
-use Rattle.std.specs.Prelude.{sum_by, not, nat_le, ◌==◌, ◌||◌, ◌&&◌}
+use Rattle.std.specs.Prelude.{count_by, sum_by, not, nat_le, ◌==◌, ◌||◌, ◌&&◌}
 use Rattle.std.specs.List.{list_all, list_any, filter_map, cons_option}
 use Rattle.std.proofs.lemmas.List.{map-append, get_or_default, get_or_push, take_more}
 use Rattle.std.proofs.Math.ListN.{get_or-append}
 use Rattle.hack_features.proofs.MarkLemmas.{nil_from}
-use Rattle.std.proofs.lemmas.Bool.{leb-true, le-leb, and_cases, and_parts, and_from, or_cases, cases_eq}
+use Rattle.std.proofs.lemmas.Bool.{leb-true, le-leb, and_cases, and_parts, and_from, or_cases, or_right, cases_eq}
 use Rattle.std.proofs.lemmas.Bool.Decides.{eqb_tells}
 use Rattle.std.proofs.lemmas.List.Sums.{sum_by-cons}
 use Rattle.std.proofs.lemmas.List.Elements.{All-contains, All-head, All-tail, All-nil, All-cons, All-append, Contains-get_or, Contains-push, Contains-push_cases, Contains-append_left}
 use Rattle.hack_base.proofs.Members.{Contains-nil, Contains-cons_cases, Contains-head, Contains-tail, Contains-map, Contains-map_from, lt_or_same}
 use Rattle.hack_base.proofs.Passes.{all_pass, each_passes, some_passes, any_passes}
+use Rattle.hack_base.proofs.NameLemmas.{from_not_true, from_not_false}
 use Rattle.hack_features.proofs.Coverage.{named_in}
 use Rattle.hack_features.proofs.Single.{member_of}
 use Rattle.hack_base.specs.Names.{Name}
@@ -94,10 +95,6 @@ module _ (edges : Edges) (m : FeatureMap) (names : List Name) (keys : List Bool)
   pub not_same : (x y : ℕ) → name_at names y ≢ name_at names x → not (x == y) ≡ true
   not_same x y n = elim (eqb_tells x y) [ inl w ↦ absurd (n (ap (name_at names) (sym w.1))) | inr w ↦ ap not w.0 ]
 
-pub or_right : (a b : Bool) → b ≡ true → (a || b) ≡ true
-or_right true b e = refl
-or_right false b e = e
-
 module _ (m : FeatureMap) (names : List Name) (keys : List Bool) (marks : List (List Bool)) (h : AreRoutes Enabling m names keys marks) where
   spares_one : (x : ℕ) → x < length names → (qs : List ℕ) (ys : List Name) → AreAt names qs ys → IsTrue (list_all (λ y. not (x == y) && cell marks x y) qs) ↔ All (λ y. (y ≢ name_at names x) × Enables m (name_at names x) y) ys
   spares_one x lt qs ys at = (
@@ -174,6 +171,10 @@ ends_mark-by keys marks names (y ∷ others) true e ends some =
 pub spares_nothing : (keys : List Bool) (marks : List (List Bool)) (names others : List ℕ) → list_all (λ x. length (get_or marks x []) == 0) names ≡ true → others ≢ [] → spares_test keys marks names others ≡ false
 spares_nothing keys marks names others ends some = ends_mark-by keys marks names others (spares_test keys marks names others) refl ends some
 
+pub list_any-map : {X Y : Type 0} (p : Y → Bool) (h : X → Y) (xs : List X) → list_any p (map h xs) ≡ list_any (λ x. p (h x)) xs
+list_any-map p h [] = refl
+list_any-map p h (x ∷ xs) = ap (λ b. p (h x) || b) (list_any-map p h xs)
+
 pub has_names : (all : List (List ℕ)) (q : ℕ) → q < length all → list_any (λ names. length names == 0) all ≡ false → get_or all q [] ≢ []
 has_names all q lt f e =
     let t = any_passes (λ (names : List ℕ). length names == 0) all (get_or all q []) (Contains-get_or all q [] lt) (ap (λ (names : List ℕ). length names == 0) e) in
@@ -243,6 +244,16 @@ counts-members P names count n h [] low = table.none
 counts-members P names count n h (p ∷ s) low =
     subst (λ k. Counts P (names p ++ flat_map names s) k) (sym (sum_by-cons count p s))
     (counts-append (names p) (count p) (h p (All-head (λ p. p < n) p s low)) (counts-members P names count n h s (All-tail (λ p. p < n) p s low)))
+
+counts_one : {X : Type 0} (p : X → Bool) (x : X) (b : Bool) → p x ≡ b → Counts (λ x. IsTrue (p x)) (x ∷ []) (cond b 1 0)
+counts_one p x true e = table.one_more table.none e
+counts_one p x false e = table.no_more table.none (λ t. let z : true ≡ false = sym t ∙ e in cc)
+
+-- what a test counts
+pub counts_by : {X : Type 0} (p : X → Bool) (xs : List X) → Counts (λ x. IsTrue (p x)) xs (count_by p xs)
+counts_by p [] = table.none
+counts_by p (x ∷ xs) =
+    subst (Counts (λ x. IsTrue (p x)) (x ∷ xs)) (sym (sum_by-cons (λ x. cond (p x) 1 0) x xs)) (counts-append (x ∷ []) (cond (p x) 1 0) (counts_one p x (p x) refl) (counts_by p xs))
 
 -- matched lists
 
@@ -328,11 +339,6 @@ counts-map f P Q same (table.one_more {xs} {x} {n} h p) =
 counts-map f P Q same (table.no_more {xs} {x} {n} h p) =
     subst (λ l. Counts Q l n) (sym (map-append f xs (x ∷ []))) (table.no_more (counts-map f P Q (λ y c. same y (Contains-append_left xs (x ∷ []) y c)) h) (λ q. p ((same x (Contains-push xs x)).1 q)))
 
-pub reaches_iff : (m : FeatureMap) (names : List Name) (keys : List Bool) (marks : List (List Bool)) → AreRoutes Reaching m names keys marks → (group : List ℕ) (gs : List Name) → AreAt names group gs
-    → (x : ℕ) → x < length names → IsTrue (list_any (leads marks x) group) ↔ Reaches m gs (name_at names x)
-reaches_iff m names keys marks h group gs at x lt =
-    leads_one Reaching m names keys marks h group gs at x lt
-
 -- a row of counts for a group
 pub hits_of : (m : FeatureMap) (candidates groups : List (List Name)) (names : List Name) (keys : List Bool) (marks : List (List Bool)) (all each : List (List ℕ)) → ArePlaced Reaching m candidates groups names keys marks all each
     → (place : ℕ) → place < length groups → (group : List ℕ) → group ≡ get_or each place [] → (row : List ℕ)
@@ -343,7 +349,7 @@ hits_of m candidates groups names keys marks all each p place lt group is row h 
     let there : AreAt names group gs = subst (λ g. AreAt names g gs) (sym is) (p.groups_at.each place lt) in
     subst (λ l. Counts (Reaches m gs) l (count_at row q)) at.same
     (counts-map (name_at names) (λ x. IsTrue (list_any (leads marks x) group)) (Reaches m gs)
-    (λ x c. reaches_iff m names keys marks p.routes group gs there x (All-contains (λ p. p < length names) (get_or all q []) x at.within c))
+    (λ x c. leads_one Reaching m names keys marks p.routes group gs there x (All-contains (λ p. p < length names) (get_or all q []) x at.within c))
     (h q (omega (arith, p.candidates_at.count))))
 
 -- ---- at-least-one groups
@@ -414,9 +420,6 @@ required_iff c rows serve s sel = (
 
 -- lifted groups
 
-bit_none : (k : ℕ) → bit [] k ≡ false
-bit_none k = refl
-
 unlifted-push : (groups : List (List Name)) (group : List Name) (lifted : List Bool) → unlifted_groups (groups ++ group ∷ []) lifted ≡ unlifted_groups groups lifted ++ cond (bit lifted (length groups)) [] (group ∷ [])
 unlifted-push [] group [] = refl
 unlifted-push [] group (true ∷ lifted) = refl
@@ -440,14 +443,6 @@ some_fails p (x ∷ xs) e =
       | inr w ↦ let r = some_fails p xs w in (r.0, Contains-tail x xs r.0 r.1, r.2)
     ]
 
-not_false : (b : Bool) → not b ≡ false → b ≡ true
-not_false true e = refl
-not_false false e = sym e
-
-not_true : (b : Bool) → not b ≡ true → b ≡ false
-not_true true e = sym e
-not_true false e = refl
-
 -- what a table of which candidate spares which says of redundancy
 module _ (c : Choice) (rows : List (List Bool)) (h : (p q : ℕ) → p < length c.candidates → q < length c.candidates → IsTrue (cell rows p q) ↔ Spares c p q) (s : List ℕ) (sel : IsSelection (length c.candidates) s) where
   low : (p : ℕ) → Contains s p → p < length c.candidates
@@ -457,13 +452,13 @@ module _ (c : Choice) (rows : List (List Bool)) (h : (p q : ℕ) → p < length 
   redundant_from e =
       let p = some_fails (λ p. list_all (λ q. not (cell rows p q)) s) s e in
       let q = some_fails (λ q. not (cell rows p.0 q)) s p.2 in
-      (p.0, q.0, p.1, q.1, (h p.0 q.0 (low p.0 p.1) (low q.0 q.1)).0 (not_false (cell rows p.0 q.0) q.2))
+      (p.0, q.0, p.1, q.1, (h p.0 q.0 (low p.0 p.1) (low q.0 q.1)).0 (from_not_false q.2))
 
   pub lean_from : is_lean rows s ≡ true → ¬ IsRedundant c s
   lean_from e r =
       let t : cell rows r.0 r.1 ≡ true = (h r.0 r.1 (low r.0 r.2) (low r.1 r.3)).1 r.4 in
       let f : not (cell rows r.0 r.1) ≡ true = each_passes (λ q. not (cell rows r.0 q)) s (each_passes (λ p. list_all (λ q. not (cell rows p q)) s) s e r.0 r.2) r.1 r.3 in
-      let g : cell rows r.0 r.1 ≡ false = not_true (cell rows r.0 r.1) f in
+      let g : cell rows r.0 r.1 ≡ false = from_not_true f in
       let z : true ≡ false = sym t ∙ g in cc
 
   tell_by : (b : Bool) → is_lean rows s ≡ b → IsRedundant c s ⊎ (¬ IsRedundant c s)
@@ -480,14 +475,6 @@ module _ (c : Choice) (rows : List (List Bool)) (h : (p q : ℕ) → p < length 
   pub lean_iff : IsTrue (is_lean rows s) ↔ (¬ IsRedundant c s)
   lean_iff = (lean_from, lean_by (is_lean rows s) refl)
 
--- one more name counted
-
-pub counts_yes : {X : Type 0} (P : X → Type 0) (seen more : List X) (x : X) (n m : ℕ) → more ≡ seen ++ x ∷ [] → m ≡ n + 1 → Counts P seen n → P x → Counts P more m
-counts_yes P seen more x n m e f h p = subst (λ l. Counts P l m) (sym e) (subst (λ k. Counts P (seen ++ x ∷ []) k) (sym f) (table.one_more h p))
-
-pub counts_no : {X : Type 0} (P : X → Type 0) (seen more : List X) (x : X) (n m : ℕ) → more ≡ seen ++ x ∷ [] → m ≡ n → Counts P seen n → ¬ P x → Counts P more m
-counts_no P seen more x n m e f h p = subst (λ l. Counts P l m) (sym e) (subst (λ k. Counts P (seen ++ x ∷ []) k) (sym f) (table.no_more h p))
-
 -- one more group, lifted or with its row
 
 pub lifted_group : {Y : Type 0} (R : List Name → Y → Type 0) (seen more : List (List Name)) (group : List Name) (b : Bool) (rows : List Y) → more ≡ seen ++ cond b [] (group ∷ []) → b ≡ true → Matched R seen rows → Matched R more rows
@@ -495,9 +482,6 @@ lifted_group R seen more group b rows e t h = subst (λ gs. Matched R gs rows) (
 
 pub next_group : {Y : Type 0} (R : List Name → Y → Type 0) (seen more : List (List Name)) (group : List Name) (b : Bool) (rows : List Y) (row : Y) → more ≡ seen ++ cond b [] (group ∷ []) → b ≡ false → Matched R seen rows → R group row → Matched R more (rows ++ row ∷ [])
 next_group R seen more group b rows row e t h r = subst (λ gs. Matched R gs (rows ++ row ∷ [])) (sym (e ∙ ap (λ b. seen ++ cond b [] (group ∷ [])) t)) (table.next h r)
-
-pub matched_next : {X Y : Type 0} (R : X → Y → Type 0) (seen more : List X) (x : X) (rows : List Y) (row : Y) → more ≡ seen ++ x ∷ [] → Matched R seen rows → R x row → Matched R more (rows ++ row ∷ [])
-matched_next R seen more x rows row e h r = subst (λ l. Matched R l (rows ++ row ∷ [])) (sym e) (table.next h r)
 
 -- empty rows
 

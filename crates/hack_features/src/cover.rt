@@ -2,18 +2,17 @@
 
 ghost use Rattle.std.specs.Prelude.{◌≡◌, ◌<◌, [], length, slice_index, vec_len, IfOk};
 ghost use Rattle.std.specs.Prelude.{if◌then◌else◌};
-ghost use Rattle.std.specs.List.{list_any, slice_index_or, remove};
+ghost use Rattle.std.specs.List.{slice_index_or, remove};
 ghost use Rattle.hack_features.specs.Sets.{IsSelection};
 ghost use Rattle.hack_samples.specs.Sets.{rows_of};
 ghost use Rattle.hack_features.specs.Rules.{Choice, IsFirstCover, IsWanted};
-ghost use Rattle.hack_features.specs.Tables.{leads};
 ghost use Rattle.hack_features.specs.PlacedView.{IsPlaced};
 ghost use Rattle.hack_features.specs.InternalCover.{set_enables_test, covers_test};
 ghost use Rattle.hack_features.specs.declared.reach.Edges.TheVariants.{Enabling};
 
 use crate::marks::row_at;
 use crate::placed::Placed;
-use crate::routes::Routes;
+use crate::samples::one_leads;
 use std::alloc::{AllocError, Global};
 
 /// Returns what is left of the set after a pass over its members, the greatest first. The pass
@@ -38,30 +37,15 @@ pub(crate) fn first_cover(
     Ok(kept)
 }
 
-/// Whether one of the names leads to `y`.
-fn some_leads(routes: &Routes, names: &[usize], y: usize) -> bool
-    ensures { result ≡ list_any (λ x. leads (rows_of routes.now.marks.items) x y) names.now }
-{
-    for x in names {
-        if routes.leads(*x, y) {
-            return true;
-        }
-    }
-    false
-}
-
 /// Whether a name of a member of the set enables `y`.
 fn set_enables(enabled: &Placed, positions: &[usize], y: usize) -> bool
     ensures { result ≡ set_enables_test (rows_of enabled.now.routes.marks.items)
         (rows_of enabled.now.candidates.items) positions.now y }
 {
-    for p in positions {
-        let names = row_at(enabled.candidates.as_slice(), *p);
-        if some_leads(&enabled.routes, names, y) {
-            return true;
-        }
-    }
-    false
+    let rows = enabled.candidates.as_slice();
+    positions
+        .iter()
+        .any(|p| one_leads(&enabled.routes, row_at(rows, *p), y))
 }
 
 /// Whether the set is not empty and enables each of the names.
@@ -69,15 +53,7 @@ fn covers(enabled: &Placed, positions: &[usize], names: &[usize]) -> bool
     ensures { result ≡ covers_test (rows_of enabled.now.routes.marks.items)
         (rows_of enabled.now.candidates.items) positions.now names.now }
 {
-    if positions.is_empty() {
-        return false;
-    }
-    for y in names {
-        if !set_enables(enabled, positions, *y) {
-            return false;
-        }
-    }
-    true
+    !positions.is_empty() && names.iter().all(|y| set_enables(enabled, positions, *y))
 }
 
 /// Returns the set without the member at the place if other members are left and enable all names

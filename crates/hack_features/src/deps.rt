@@ -1,8 +1,8 @@
 //! What each key of a feature map enables, and which keys serve an at-least-one group.
 
-ghost use Rattle.std.specs.Prelude.{◌<◌, ◌↔◌, length, IsTrue, IfOk};
+ghost use Rattle.std.specs.Prelude.{◌≡◌, ◌<◌, ◌↔◌, ◌||◌, bytes_eq, length, IsTrue, IfOk};
 ghost use Rattle.hack_features.specs.FeatureMap.{FeatureMap, feature_map};
-ghost use Rattle.hack_features.specs.Deps.{AreDepsOf, AreServers, IsDepsOf};
+ghost use Rattle.hack_features.specs.Deps.{AreDepsOf, AreServers, IsDepsOf, has_name};
 ghost use Rattle.hack_features.specs.InternalDeps.{IsServedBy};
 ghost use Rattle.hack_features.specs.Deps.{ServeGroups};
 ghost use Rattle.hack_features.specs.Feature.{group_of, groups_of};
@@ -68,16 +68,19 @@ pub fn feature_deps<'a>(
     deps_by_place(alloc, &routes)
 }
 
+/// Whether the name is the key or one of its deps.
+fn is_among(name: &str, key: &str, deps: &BTreeSet<&str>) -> bool
+    ensures { result ≡ (bytes_eq name.now key.now || has_name deps.now name.now) }
+{
+    name == key || deps.contains(name)
+}
+
 /// Whether a name of the group is the key or one of its deps.
 fn serves(group: &Feature, key: &str, deps: &BTreeSet<&str>) -> bool
     ensures { IsTrue result ↔ IsServedBy (group_of group.now) key.now deps.now }
 {
-    for name in group.as_group() {
-        if name.as_str() == key || deps.contains(name.as_str()) {
-            return true;
-        }
-    }
-    false
+    let names = group.as_group();
+    names.iter().any(|name| is_among(name.as_str(), key, deps))
 }
 
 /// The keys that enable a name of the group.

@@ -95,12 +95,7 @@ impl Feature {
     pub fn matches(&self, s: &str) -> bool
         ensures { IsTrue result ↔ Contains (group_of self.now) s.now }
     {
-        for name in self.as_group() {
-            if name.as_str() == s {
-                return true;
-            }
-        }
-        false
+        self.as_group().iter().any(|name| s == name.as_str())
     }
 
     /// Whether a chain of values leads from `s` to one of the feature's names. Values are cut

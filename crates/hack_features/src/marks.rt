@@ -52,7 +52,7 @@ impl Marks {
 }
 
 /// The row at the place; an empty row past the last one.
-pub(crate) fn row_at(rows: &[Vec<usize>], place: usize) -> &[usize]
+pub(crate) fn row_at<T>(rows: &[Vec<T>], place: usize) -> &[T]
     ensures { result.now ≡ slice_index_or (rows_of rows.now) place [] }
 {
     match rows.get(place) {

@@ -3,11 +3,12 @@
 
 ghost use Rattle.std.specs.Prelude.{◌≡◌, ◌≤◌, ◌++◌, ◌∷◌, ◌&&◌, [], length, cond, not, nat_le};
 ghost use Rattle.std.specs.Prelude.{sum_by, IfOk};
-ghost use Rattle.std.specs.List.{list_all, slice_index_or};
+ghost use Rattle.std.specs.List.{list_all};
 ghost use Rattle.hack_samples.specs.Sets.{rows_of};
 ghost use Rattle.hack_features.specs.Tables.{bit, count_at, cell};
 ghost use Rattle.hack_features.specs.Samples.{positions_of};
 
+use crate::marks::row_at;
 use crate::routes::bit;
 use crate::tables::count;
 use std::alloc::{AllocError, Global};
@@ -39,16 +40,6 @@ pub(crate) fn members_of(alloc: Global, set: &[bool]) -> Result<Vec<usize>, Allo
     Ok(members)
 }
 
-/// The row at the place; an empty row past the last one.
-fn bits_at(rows: &[Vec<bool>], place: usize) -> &[bool]
-    ensures { result.now ≡ slice_index_or (rows_of rows.now) place [] }
-{
-    match rows.get(place) {
-        Some(row) => row.as_slice(),
-        None => &[],
-    }
-}
-
 /// Whether the place is a member of the set and the row is true at it.
 fn is_both(set: &[bool], row: &[bool], place: usize) -> bool
     ensures { result ≡ (bit set.now place && bit row.now place) }
@@ -72,7 +63,7 @@ fn none_in(row: &[bool], set: &[bool]) -> bool
 fn is_with(rows: &[Vec<bool>], set: &[bool], place: usize, last: usize) -> bool
     ensures { result ≡ (bit set.now place && cell (rows_of rows.now) place last) }
 {
-    bit(set, place) && bit(bits_at(rows, place), last)
+    bit(set, place) && bit(row_at(rows, place), last)
 }
 
 /// Whether each member's row is false at `last`.
@@ -94,7 +85,7 @@ pub(crate) fn is_clear(rows: &[Vec<bool>], set: &[bool], last: usize) -> bool
         && list_all (λ q. not (cell (rows_of rows.now) last q)) (positions_of set.now))
         && list_all (λ p. not (cell (rows_of rows.now) p last)) (positions_of set.now)) }
 {
-    let row = bits_at(rows, last);
+    let row = row_at(rows, last);
     !bit(row, last) && none_in(row, set) && none_at(rows, set, last)
 }
 

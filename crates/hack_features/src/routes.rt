@@ -11,7 +11,7 @@ ghost use Rattle.hack_features.specs.Tables.{bit, cell};
 ghost use Rattle.hack_features.specs.Tables.{leads};
 
 use crate::links::Links;
-use crate::marks::all_marks;
+use crate::marks::{all_marks, row_at};
 use crate::names::Names;
 use crate::reach::Edges;
 use std::alloc::{AllocError, Global};
@@ -21,10 +21,7 @@ use std::collections::BTreeMap;
 pub(crate) fn bit(row: &[bool], place: usize) -> bool
     ensures { result ≡ bit row.now place }
 {
-    match row.get(place) {
-        Some(bit) => *bit,
-        None => false,
-    }
+    row.get(place).copied().unwrap_or(false)
 }
 
 /// For each name of a table, by place, whether it is a key and what chains of edges lead to from
@@ -90,22 +87,12 @@ impl<'a> Routes<'a> {
         bit(self.keys.as_slice(), place)
     }
 
-    /// The marks at the place; an empty row past the last one.
-    fn marks_at(&self, place: usize) -> &[bool]
-        ensures { result.now ≡ slice_index_or (rows_of self.now.marks.items) place [] }
-    {
-        match self.marks.get(place) {
-            Some(marks) => marks.as_slice(),
-            None => &[],
-        }
-    }
-
     /// Whether no edge leads away from the place.
     pub(crate) fn is_end(&self, place: usize) -> bool
         ensures { IsTrue result ↔ (length (slice_index_or (rows_of self.now.marks.items) place [])
             ≡ 0) }
     {
-        self.marks_at(place).is_empty()
+        row_at(self.marks.as_slice(), place).is_empty()
     }
 
     /// Whether a chain of edges leads from a place to a different one. For a place and itself the
@@ -113,7 +100,7 @@ impl<'a> Routes<'a> {
     pub(crate) fn has_mark(&self, from: usize, to: usize) -> bool
         ensures { result ≡ cell (rows_of self.now.marks.items) from to }
     {
-        bit(self.marks_at(from), to)
+        bit(row_at(self.marks.as_slice(), from), to)
     }
 
     /// Whether a chain of edges leads from a place to another one, or both are the same place.

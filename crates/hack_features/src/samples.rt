@@ -21,12 +21,7 @@ use std::alloc::{AllocError, Global};
 pub(crate) fn one_leads(routes: &Routes, names: &[usize], y: usize) -> bool
     ensures { result ≡ one_leads (rows_of routes.now.marks.items) y names.now }
 {
-    for x in names {
-        if routes.leads(*x, y) {
-            return true;
-        }
-    }
-    false
+    names.iter().any(|x| routes.leads(*x, y))
 }
 
 /// The candidates that have a name that leads to `y`.

@@ -47,12 +47,7 @@ fn key_places(alloc: Global, routes: &Routes) -> Result<Vec<usize>, AllocError>
 fn leads_to_each(routes: &Routes, from: &[usize], names: &[usize]) -> bool
     ensures { result ≡ leads_to_each (rows_of routes.now.marks.items) from.now names.now }
 {
-    for y in names {
-        if !one_leads(routes, from, *y) {
-            return false;
-        }
-    }
-    true
+    names.iter().all(|y| one_leads(routes, from, *y))
 }
 
 /// For each candidate whether each of its names is one to which some of these places leads.
@@ -61,11 +56,11 @@ fn settings_from(alloc: Global, enabled: &Placed, from: &[usize]) -> Result<Vec<
         ≡ map (leads_to_each (rows_of enabled.now.routes.marks.items) from.now)
         (rows_of enabled.now.candidates.items)) }
 {
-    let mut row = Vec::new(alloc);
-    for names in enabled.candidates.as_slice() {
-        row.push(leads_to_each(&enabled.routes, from, names.as_slice()))?;
-    }
-    Ok(row)
+    enabled
+        .candidates
+        .iter()
+        .map(|names| leads_to_each(&enabled.routes, from, names.as_slice()))
+        .collect(alloc)
 }
 
 impl Rules<'_> {

@@ -2,7 +2,7 @@
 //! candidate reach an exclusion group, and which candidates serve an at-least-one group.
 
 ghost use Rattle.std.specs.Prelude.{◌≡◌, ◌<◌, ◌++◌, ◌∷◌, ◌&&◌, ◌==◌, [], ℕ, List, length, map, not};
-ghost use Rattle.std.specs.Prelude.{nat_le, sum_by, IfOk, IsTrue, false};
+ghost use Rattle.std.specs.Prelude.{count_by, nat_le, sum_by, IfOk, IsTrue, false};
 ghost use Rattle.std.specs.List.{list_all, list_any, slice_index_or};
 ghost use Rattle.hack_base.specs.Names.{Name};
 ghost use Rattle.hack_features.specs.FeatureMap.{feature_map, FeatureMap};
@@ -55,12 +55,7 @@ fn leads_to_all(routes: &Routes, from: usize, others: &[usize]) -> bool
     ensures { result ≡ list_all (λ y.
         not (from == y) && cell (rows_of routes.now.marks.items) from y) others.now }
 {
-    for y in others {
-        if from == *y || !routes.has_mark(from, *y) {
-            return false;
-        }
-    }
-    true
+    others.iter().all(|y| routes.leads_on(from, *y))
 }
 
 /// Whether one of the names is a key, differs from each of the others, and enables it.
@@ -68,12 +63,9 @@ fn spares(routes: &Routes, names: &[usize], others: &[usize]) -> bool
     ensures { result ≡ spares_test routes.now.keys.items
         (rows_of routes.now.marks.items) names.now others.now }
 {
-    for x in names {
-        if routes.is_key(*x) && leads_to_all(routes, *x, others) {
-            return true;
-        }
-    }
-    false
+    names
+        .iter()
+        .any(|x| routes.is_key(*x) && leads_to_all(routes, *x, others))
 }
 
 /// Whether no edge leads away from any of the names.
@@ -81,24 +73,14 @@ fn are_ends(routes: &Routes, names: &[usize]) -> bool
     ensures { result ≡ list_all (λ x.
         length (slice_index_or (rows_of routes.now.marks.items) x []) == 0) names.now }
 {
-    for x in names {
-        if !routes.is_end(*x) {
-            return false;
-        }
-    }
-    true
+    names.iter().all(|x| routes.is_end(*x))
 }
 
 /// Whether some candidate has no names.
 fn is_some_nameless(candidates: &[Vec<usize>]) -> bool
     ensures { result ≡ list_any (λ names. length names == 0) (rows_of candidates.now) }
 {
-    for names in candidates {
-        if names.is_empty() {
-            return true;
-        }
-    }
-    false
+    candidates.iter().any(|names| names.is_empty())
 }
 
 /// The row of the candidate with these names: which candidates it spares. The row is empty if it
@@ -158,26 +140,18 @@ fn spare_rows(alloc: Global, placed: &Placed) -> Result<Vec<Vec<bool>>, AllocErr
 fn leads_to_one(routes: &Routes, from: usize, group: &[usize]) -> bool
     ensures { result ≡ list_any (leads (rows_of routes.now.marks.items) from) group.now }
 {
-    for y in group {
-        if routes.leads(from, *y) {
-            return true;
-        }
-    }
-    false
+    group.iter().any(|y| routes.leads(from, *y))
 }
 
 /// How many of the names lead to the group.
 fn count_reaching(routes: &Routes, names: &[usize], group: &[usize]) -> usize
-    ensures { Counts (λ x. IsTrue (list_any
-        (leads (rows_of routes.now.marks.items) x) group.now)) names.now result }
+    ensures { result ≡ count_by (λ x. list_any
+        (leads (rows_of routes.now.marks.items) x) group.now) names.now }
 {
-    let mut count = 0;
-    for x in names {
-        if leads_to_one(routes, *x, group) {
-            count += 1;
-        }
-    }
-    count
+    names
+        .iter()
+        .filter(|x| leads_to_one(routes, **x, group))
+        .count()
 }
 
 /// For each candidate how many of its names lead to the group.
@@ -248,12 +222,7 @@ fn some_serves(routes: &Routes, names: &[usize], group: &[usize]) -> bool
     ensures { result ≡ list_any (serves_test routes.now.keys.items
         (rows_of routes.now.marks.items) group.now) names.now }
 {
-    for x in names {
-        if serves(routes, *x, group) {
-            return true;
-        }
-    }
-    false
+    names.iter().any(|x| serves(routes, *x, group))
 }
 
 /// Which candidates serve the group.
@@ -289,10 +258,7 @@ fn serve_rows(alloc: Global, placed: &Placed) -> Result<Vec<Vec<bool>>, AllocErr
 pub(crate) fn count(row: &[usize], place: usize) -> usize
     ensures { result ≡ count_at row.now place }
 {
-    match row.get(place) {
-        Some(count) => *count,
-        None => 0,
-    }
+    row.get(place).copied().unwrap_or(0)
 }
 
 /// Whether the row is false at each of the positions and at `last`.
@@ -314,12 +280,7 @@ fn has_none(row: &[bool], positions: &[usize], last: usize) -> bool
 fn are_empty(rows: &[Vec<bool>]) -> bool
     ensures { IsTrue result → (s : List ℕ) → IsTrue (is_lean (rows_of rows.now) s) }
 {
-    for row in rows {
-        if !row.is_empty() {
-            return false;
-        }
-    }
-    true
+    rows.iter().all(|row| row.is_empty())
 }
 
 /// Whether the sum of the row's entries at the positions and at `last` is at most 1.
@@ -341,12 +302,7 @@ fn has_at_most_one(row: &[usize], positions: &[usize], last: usize) -> bool
 fn has_some(row: &[bool], positions: &[usize]) -> bool
     ensures { result ≡ list_any (bit row.now) positions.now }
 {
-    for p in positions {
-        if bit(row, *p) {
-            return true;
-        }
-    }
-    false
+    positions.iter().any(|p| bit(row, *p))
 }
 
 impl Tables {
@@ -402,12 +358,9 @@ impl Tables {
     pub(crate) fn is_exclusive(&self, positions: &[usize], last: usize) -> bool
         ensures { result ≡ is_exclusive (rows_of self.now.hits.items) (positions.now ++ last ∷ []) }
     {
-        for row in self.hits.as_slice() {
-            if !has_at_most_one(row.as_slice(), positions, last) {
-                return false;
-            }
-        }
-        true
+        self.hits
+            .iter()
+            .all(|row| has_at_most_one(row.as_slice(), positions, last))
     }
 
     /// Whether each exclusion group is reached by at most one name of the set's members and of
@@ -416,12 +369,9 @@ impl Tables {
         ensures { result ≡ is_exclusive (rows_of self.now.hits.items)
             (positions_of set.now ++ last ∷ []) }
     {
-        for row in self.hits.as_slice() {
-            if !at_most_one_in(row.as_slice(), set, last) {
-                return false;
-            }
-        }
-        true
+        self.hits
+            .iter()
+            .all(|row| at_most_one_in(row.as_slice(), set, last))
     }
 
     /// Whether `last` spares neither a member of the set nor itself, and no member spares `last`.
@@ -447,11 +397,8 @@ impl Tables {
     pub(crate) fn is_required(&self, positions: &[usize]) -> bool
         ensures { result ≡ is_required (rows_of self.now.serves.items) positions.now }
     {
-        for row in self.serves.as_slice() {
-            if !has_some(row.as_slice(), positions) {
-                return false;
-            }
-        }
-        true
+        self.serves
+            .iter()
+            .all(|row| has_some(row.as_slice(), positions))
     }
 }

@@ -1,15 +1,14 @@
-use Rattle.std.proofs.Common.{◌∙◌, List, ℕ, ap}
+use Rattle.std.proofs.Common.{rules, tests, ◌≡◌, List, ℕ, Bool, IfOk, sym, subst}
+use Rattle.std.proofs.lemmas.Iterator.{YieldsList-from_slice, YieldsList-from_map, items_from_collect}
+use Rattle.std.proofs.lemmas.Simd.{map-map}
 use Rattle.hack_samples.specs.Sets.{rows_of}
+use Rattle.hack_base.proofs.Steps.{row_items}
 use Rattle.hack_features.specs.InternalSettings.{leads_to_each}
-use Rattle.hack_features.proofs.MemberLemmas.{step-map, rows-next}
 use Rattle.hack_features.proofs.settings.settings_from.Goals as goal
 
-pub loop-names-preserved : goal.loop-names-preserved
-loop-names-preserved c =
-    let test = leads_to_each (rows_of c.args.enabled.now.routes.marks.items) c.args.from.now in
-    let all : List (List ℕ) = rows_of c.args.enabled.now.candidates.items in
-    let k = c.loop-names.names-index in
-    let more = step-map test c.loop-names.row.items c.leads_to_each.result all k c.names-item.result.items c.loop-names.invariant
-    (rows-next c.as_slice-names-items.result.now c.args.enabled.now.candidates.items c.as_slice-names-items.ensures.value k c.names-item.result c.loop-names-test.true c.names-item.is)
-    (c.leads_to_each.ensures ∙ ap test c.as_slice.ensures.value) in
-    c.in_ok-push.ensures.items ∙ more
+pub returns : goal.returns
+returns c =
+    let test : List ℕ → Bool = leads_to_each (rows_of c.args.enabled.now.routes.marks.items) c.args.from.now in
+    let rows = c.args.enabled.now.candidates.items in
+    subst (λ l. IfOk c.collect.result (λ row. row.items ≡ l)) (sym (map-map test row_items rows))
+    (items_from_collect _ c.collect.ensures.ran (YieldsList-from_map _ (λ row. test row.items) (YieldsList-from_slice rows cc) c.map.ensures.closure (λ x r q k. search (rules, tests))))

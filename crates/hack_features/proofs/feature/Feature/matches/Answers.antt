@@ -1,30 +1,20 @@
-use Rattle.std.proofs.Common.{◌≡◌, ◌+◌, ◌∷◌, ◌++◌, [], take, subst, sym, ap, ◌∙◌, arith, Contains, refl}
+use Rattle.std.proofs.Common.{rules, tests, ◌≡◌, ◌∙◌, ◌↔◌, IsTrue, Contains, string_bytes, sym, subst}
+use Rattle.std.specs.Cmp.Lexicographic.{nat_list_eq_equiv}
+use Rattle.std.specs.List.{list_any}
+use Rattle.std.specs.Str.{bytes_eq}
+use Rattle.std.proofs.lemmas.Iterator.{YieldsList-from_slice}
+use Rattle.std.proofs.lemmas.Iterator.Search.{any_from_yields_List}
+use Rattle.std.proofs.lemmas.Map.Views.{list_any-from_Contains, Contains-from_any}
 use Rattle.hack_base.specs.Names.{names_of}
-use Rattle.hack_base.proofs.NameLemmas.{names-more, names-at, names-whole, missing-more, same_text, differ}
+use Rattle.hack_base.proofs.NameLemmas.{same_text}
+use Rattle.hack_features.proofs.TableLemmas.{list_any-map}
 use Rattle.hack_features.proofs.feature.Feature.matches.Goals as goal
-
-pub returns-then-eq : goal.returns-then-eq
-returns-then-eq c =
-    let texts = c.as_group-name-items.result.now in
-    let there : Contains (names_of texts) c.as_str.result.now =
-    subst (λ n. Contains (names_of texts) n) (sym c.as_str.ensures.value) (names-at texts c.loop-name.name-index c.name-item.result c.loop-name-test.true c.name-item.is) in (
-      λ t. subst (λ names. Contains names c.args.s.now) c.as_group-name-items.ensures
-          (subst (λ n. Contains (names_of texts) n) (same_text c.as_str.result.now c.args.s.now (sym c.eq.ensures ∙ c.if-eq.true)) there),
-      λ k. refl,
-    )
-
-pub loop-name-preserved : goal.loop-name-preserved
-loop-name-preserved c =
-    let texts = c.as_group-name-items.result.now in
-    let before = take c.loop-name.name-index (names_of texts) in
-    let more : take (c.loop-name.name-index + 1) (names_of texts) ≡ before ++ c.as_str.result.now ∷ [] =
-    names-more texts c.loop-name.name-index c.name-item.result c.loop-name-test.true c.name-item.is ∙ ap (λ n. before ++ n ∷ []) (sym c.as_str.ensures.value) in
-    subst (λ names. ¬ Contains names c.args.s.now) (sym more) (missing-more before c.as_str.result.now c.args.s.now c.loop-name.invariant (differ c.as_str.result.now c.args.s.now (sym c.eq.ensures ∙ c.if-eq.false)))
 
 pub returns : goal.returns
 returns c =
-    let texts = c.as_group-name-items.result.now in
-    let all : take c.loop-name.name-index (names_of texts) ≡ names_of texts = names-whole texts c.loop-name.name-index (omega arith) (omega arith) in (
-      λ t. absurd (cc),
-      λ k. absurd (c.loop-name.invariant (subst (λ names. Contains names c.args.s.now) (sym c.as_group-name-items.ensures ∙ sym all) k)),
-    )
+    let s = c.args.s.now in
+    let texts = c.as_group.result.now in
+    let same : c.any.result ≡ list_any (bytes_eq s) (names_of texts) =
+    any_from_yields_List (λ text. bytes_eq s (string_bytes text)) _ _ c.any.result c.any.ensures.ran (YieldsList-from_slice texts cc) (λ x b q k. search (rules, tests)) ∙ sym (list_any-map (bytes_eq s) string_bytes texts) in
+    subst (λ names. IsTrue c.any.result ↔ Contains names s) c.as_group.ensures
+    (λ t. Contains-from_any same_text s (names_of texts) (sym same ∙ t), λ k. same ∙ list_any-from_Contains nat_list_eq_equiv s (names_of texts) k)

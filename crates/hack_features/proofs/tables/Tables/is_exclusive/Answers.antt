@@ -1,19 +1,14 @@
-use Rattle.std.proofs.Common.{◌++◌, ◌∷◌, [], sym, ap, ◌∙◌, ℕ, List, Bool}
+use Rattle.std.proofs.Common.{rules, tests, List, Bool, ◌∙◌, sym, ℕ, ◌++◌, ◌∷◌, []}
 use Rattle.std.specs.Prelude.{nat_le, sum_by}
 use Rattle.hack_features.specs.Tables.{count_at}
-use Rattle.hack_base.proofs.Steps.{all_next, all_stop, row_items}
+use Rattle.std.proofs.lemmas.Iterator.{YieldsList-from_slice}
+use Rattle.std.proofs.lemmas.Iterator.Search.{all_from_yields_List}
+use Rattle.std.proofs.lemmas.List.Folds.{list_all-map}
+use Rattle.hack_base.proofs.Steps.{row_items}
 use Rattle.hack_features.proofs.tables.Tables.is_exclusive.Goals as goal
 
-pub returns-then-not-has_at_most_one : goal.returns-then-not-has_at_most_one
-returns-then-not-has_at_most_one c =
+pub returns : goal.returns
+returns c =
     let test : List ℕ → Bool = λ row. nat_le (sum_by (count_at row) (c.args.positions.now ++ c.args.last ∷ [])) 1 in
-    sym (all_stop row_items test c.as_slice-row-items.result.now c.args.self.now.hits.items c.loop-row.row-index c.row-item.result
-    c.as_slice-row-items.ensures.value c.loop-row-test.true c.row-item.is
-    (ap test (sym c.as_slice.ensures.value) ∙ sym c.has_at_most_one.ensures ∙ c.if-not-has_at_most_one.true))
-
-pub loop-row-preserved : goal.loop-row-preserved
-loop-row-preserved c =
-    let test : List ℕ → Bool = λ row. nat_le (sum_by (count_at row) (c.args.positions.now ++ c.args.last ∷ [])) 1 in
-    all_next row_items test c.as_slice-row-items.result.now c.args.self.now.hits.items c.loop-row.row-index c.row-item.result
-    c.as_slice-row-items.ensures.value c.loop-row-test.true c.row-item.is c.loop-row.invariant
-    (ap test (sym c.as_slice.ensures.value) ∙ sym c.has_at_most_one.ensures ∙ c.if-not-has_at_most_one.false)
+    let rows = c.args.self.now.hits.items in
+    all_from_yields_List (λ row. test row.items) _ _ _ c.all.ensures.ran (YieldsList-from_slice rows cc) (λ x b q k. search (rules, tests)) ∙ sym (list_all-map test row_items rows)
