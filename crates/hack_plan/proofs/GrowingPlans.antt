@@ -1,5 +1,5 @@
 -- The parts of a plan that grows.
-use Rattle.std.proofs.Common.{◌≡◌, ◌<◌, ◌≤◌, ◌+◌, ◌-◌, ◌++◌, ℕ, zero, suc, List, [], ◌∷◌, length, map, get_or, set, arith, refl, ap, sym, subst, ◌∙◌, length-append, Option, Some, None, Result, Ok, Err, IsOk, OnOk, IsSomeAnd, slice_get}
+use Rattle.std.proofs.Common.{◌≡◌, ◌<◌, ◌+◌, ◌-◌, ◌++◌, ℕ, zero, suc, List, [], ◌∷◌, length, map, get_or, set, arith, refl, ap, sym, subst, ◌∙◌, length-append, Option, Some, None, Result, Ok, Err, IsOk, OnOk, IsSomeAnd, slice_get}
 use Rattle.std.specs.List.{AllZip}
 use Rattle.std.proofs.lemmas.Bool.{false≢true}
 use Rattle.std.proofs.lemmas.List.Elements.{All-push}

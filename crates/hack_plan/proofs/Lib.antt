@@ -5,7 +5,6 @@ mod Groups
 mod Pigeon
 mod Never
 mod SpanLemmas
-mod Below
 mod TwoLemmas
 mod CommandJoins
 mod Ready

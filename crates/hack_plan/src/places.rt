@@ -377,9 +377,5 @@ fn all_below(alloc: Global, n: usize) -> Result<Vec<usize>, AllocError>
     ensures rising { IfOk result (λ places. AllPairs (λ p q. p < q) places.items) }
     ensures exact { IfOk result (λ places. (p : ℕ) → Contains places.items p ↔ p < n) }
 {
-    let mut places = Vec::new(alloc);
-    for place in 0..n {
-        places.push(place)?;
-    }
-    Ok(places)
+    (0..n).collect(alloc)
 }

@@ -57,32 +57,22 @@ fn version(
 fn is_set(flags: &[bool], place: usize) -> bool
     ensures { IsTrue result ↔ (slice_get flags.now place ≡ Some true) }
 {
-    match flags.get(place) {
-        Some(flag) => *flag,
-        None => false,
-    }
+    flags.get(place) == Some(&true)
 }
 
 /// Before which of the versions the lockfile is regenerated.
 fn lockfile_flags(alloc: Global, spans: &[Span], locked: bool) -> Result<Vec<bool>, AllocError>
     ensures { IfOk result (λ flags. AreFlags locked (filter_map version_at spans.now) flags.items) }
 {
-    let mut versions = Vec::new(alloc);
-    for span in spans {
-        add_version(&mut versions, span)?;
-    }
+    let versions = versions_of(alloc, spans)?;
     lockfile_before(alloc, versions.as_slice(), locked)
 }
 
-/// Adds the version of a span, if it has one.
-fn add_version(versions: &mut Vec<Version>, span: &Span) -> Result<(), AllocError>
-    ensures { OnOk result (versions.new.items
-        ≡ versions.old.items ++ filter_map version_at (span.now ∷ [])) }
+/// The versions of the spans that have one.
+fn versions_of(alloc: Global, spans: &[Span]) -> Result<Vec<Version>, AllocError>
+    ensures { IfOk result (λ versions. versions.items ≡ filter_map version_at spans.now) }
 {
-    match span.version {
-        Some(version) => Ok(versions.push(version)?),
-        None => Ok(()),
-    }
+    spans.iter().filter_map(|span| span.version).collect(alloc)
 }
 
 /// What is done before the runs of a version.

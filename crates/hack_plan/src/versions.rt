@@ -120,10 +120,7 @@ fn owns_of(alloc: Global, packages: &[PackageVersion]) -> Result<Vec<Option<Vers
 fn own(member: &PackageVersion) -> Option<Version>
     ensures { result ≡ own_of member.now }
 {
-    match member.rust_version {
-        Some(version) => Some(version.strip_patch()),
-        None => None,
-    }
+    member.rust_version.map(|version| version.strip_patch())
 }
 
 fn is_other(member: &PackageVersion, head: &PackageVersion) -> bool
