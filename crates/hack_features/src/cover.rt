@@ -53,7 +53,15 @@ fn covers(enabled: &Placed, positions: &[usize], names: &[usize]) -> bool
     ensures { result ≡ covers_test (rows_of enabled.now.routes.marks.items)
         (rows_of enabled.now.candidates.items) positions.now names.now }
 {
-    !positions.is_empty() && names.iter().all(|y| set_enables(enabled, positions, *y))
+    if positions.is_empty() {
+        return false;
+    }
+    for y in names {
+        if !set_enables(enabled, positions, *y) {
+            return false;
+        }
+    }
+    true
 }
 
 /// Returns the set without the member at the place if other members are left and enable all names
