@@ -22,10 +22,7 @@ const MOST_ASKED: usize = 200;
 fn has(set: &[bool], position: usize) -> bool
     ensures { result ≡ has set.now position }
 {
-    match set.get(position) {
-        Some(member) => *member,
-        None => false,
-    }
+    set.get(position).copied().unwrap_or(false)
 }
 
 /// Whether the position isn't in the permitted set, and the set stays permitted with it.
