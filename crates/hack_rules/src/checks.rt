@@ -1,6 +1,6 @@
 //! The checks that rules are made of.
 
-ghost use Rattle.std.specs.Prelude.{◌≡◌, ◌&&◌, not, length, nat_lt};
+ghost use Rattle.std.specs.Prelude.{◌≡◌, ◌&&◌, not};
 ghost use Rattle.hack_base.specs.Names.{names_of};
 ghost use Rattle.hack_rules.specs.Uses.{views};
 ghost use Rattle.hack_rules.specs.CliFaults.{Checks, Needs};
@@ -28,13 +28,6 @@ pub fn clash(option: Opt, other: Opt, uses: &[Use]) -> Result<(), CliFault>
         return Err(CliFault::Clash { option, other });
     }
     Ok(())
-}
-
-/// Whether there is a name.
-pub fn has_some(names: &[String]) -> bool
-    ensures { result ≡ nat_lt 0 (length (names_of names.now)) }
-{
-    !names.is_empty()
 }
 
 /// Whether the name is one of these.

@@ -27,7 +27,7 @@ ghost use Rattle.hack_rules.specs.EarlyRules.{selects_targets};
 ghost use Rattle.hack_rules.specs.EarlyRules.{option_naming as naming_option};
 ghost use Rattle.hack_rules.specs.EarlyRules.{early_rules, together_rules};
 
-use crate::checks::{clash, has, has_some, needs};
+use crate::checks::{clash, has, needs};
 use crate::fault::{Beside, CliFault};
 use crate::listed::Lists;
 use crate::uses::{Use, WorkspaceBehavior, given, subcommand, value};
@@ -85,8 +85,8 @@ fn beside_lists(lists: &Lists, uses: &[Use]) -> Result<(), CliFault>
     ensures { Checks result (needs_rule Opt.IgnoreUnknownFeatures Beside.FeatureLists
         (views uses.now)) }
 {
-    let there = has_some(lists.features.as_slice())
-        || has_some(lists.include_features.as_slice())
+    let there = !lists.features.is_empty()
+        || !lists.include_features.is_empty()
         || given(Opt::GroupFeatures, uses);
     let option = Opt::IgnoreUnknownFeatures;
     needs(given(option, uses), option, Beside::FeatureLists, there)
@@ -117,13 +117,13 @@ fn beside_each(lists: &Lists, uses: &[Use]) -> Result<(), CliFault>
         ∷ Opt.ExcludeAllFeatures ∷ Opt.IncludeFeatures ∷ Opt.IncludeDepsFeatures ∷ []))) }
 {
     needs_each(given(Opt::OptionalDeps, uses), Opt::OptionalDeps, uses)?;
-    let excludes = has_some(lists.exclude_features.as_slice());
+    let excludes = !lists.exclude_features.is_empty();
     needs_each(excludes, Opt::ExcludeFeatures, uses)?;
     let option = Opt::ExcludeNoDefaultFeatures;
     needs_each(given(option, uses), option, uses)?;
     let option = Opt::ExcludeAllFeatures;
     needs_each(given(option, uses), option, uses)?;
-    let includes = has_some(lists.include_features.as_slice());
+    let includes = !lists.include_features.is_empty();
     needs_each(includes, Opt::IncludeFeatures, uses)?;
     let option = Opt::IncludeDepsFeatures;
     needs_each(given(option, uses), option, uses)
@@ -275,7 +275,7 @@ fn beside_includes(lists: &Lists, option: Opt, uses: &[Use]) -> Result<(), CliFa
         (counts Opt.IncludeFeatures (views uses.now) && is_given option (views uses.now))
         (Clash Opt.IncludeFeatures option)) }
 {
-    if has_some(lists.include_features.as_slice()) && given(option, uses) {
+    if !lists.include_features.is_empty() && given(option, uses) {
         return Err(CliFault::Clash {
             option: Opt::IncludeFeatures,
             other: option,
