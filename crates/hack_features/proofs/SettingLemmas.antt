@@ -1,12 +1,14 @@
 -- What rows that say which candidates are on say of sets, and of all features.
-use Rattle.std.proofs.Common.{◌≡◌, ℕ, ◌+◌, ◌<◌, ◌≤◌, List, [], ◌∷◌, ◌++◌, length, get_or, map, flat_map, refl, sym, ◌∙◌, ap, subst, arith, Bool, true, false, Some, ◌⊎◌, inl, inr, ◌↔◌, IsTrue, All, Contains}
-use Rattle.std.specs.Prelude.{slice_get}
+use Rattle.std.proofs.Common.{◌≡◌, ℕ, ◌+◌, ◌<◌, ◌≤◌, List, [], ◌∷◌, ◌++◌, length, get_or, map, flat_map, refl, sym, ◌∙◌, ap, subst, arith, Bool, true, false, Some, ◌⊎◌, inl, inr, ◌↔◌, IsTrue, All}
+use Rattle.std.specs.Prelude.{slice_get, filter}
+use Rattle.std.specs.List.{range_with_len}
 use Rattle.std.proofs.lemmas.Bool.{cases_lt}
 use Rattle.std.proofs.lemmas.List.{map-append, length-map, get_or_default, get_or_past}
-use Rattle.std.proofs.lemmas.List.Elements.{All-append, All-nil, All-map, All-contains, Contains-get_or, Contains-append_left, Contains-push, Contains-push_cases}
+use Rattle.std.proofs.lemmas.List.Elements.{All-append, All-nil, All-map, All-contains, Contains-get_or}
+use Rattle.std.proofs.lemmas.List.FromFn.{length-range_with_len, get_or-range_with_len}
 use Rattle.std.proofs.lemmas.Option.{get_or_from_slice_get, slice_get-get_or}
 use Rattle.std.proofs.Math.ListN.{get_or-map}
-use Rattle.hack_base.proofs.Members.{Contains-nil, lt_or_same}
+use Rattle.hack_base.proofs.Members.{Contains-filter, Contains-filter_from}
 use Rattle.hack_base.proofs.Passes.{some_passes, any_passes, all_pass, each_passes}
 use Rattle.hack_base.specs.Names.{Name}
 use Rattle.hack_samples.specs.declared.sets.Setting.{Setting}
@@ -56,30 +58,15 @@ module _ (names : List Name) (rows : List (List ℕ)) (groups : List (List Name)
             ∙ ap (λ l. get_or groups p [] ++ l) rest.same;
       }
 
--- the keys among the first places, after one more
-pub keys-hit : (keys : List Bool) (n : ℕ) (places : List ℕ) → AreKeyPlaces keys n places → bit keys n ≡ true → AreKeyPlaces keys (n + 1) (places ++ n ∷ [])
-keys-hit keys n places h e = λ x. (
-  λ c. elim (Contains-push_cases places n x c) [
-    | inl w ↦ let k = (h x).0 w in (omega (arith, k.0), k.1)
-    | inr s ↦ ((let z : n ≡ x = s in omega arith), subst (λ y. bit keys y ≡ true) s e)
-  ],
-  λ k. elim (lt_or_same x n k.0) [
-    | inl lt ↦ let c = (h x).1 (lt, k.1) in Contains-append_left places (n ∷ []) x c
-    | inr s ↦ subst (Contains (places ++ n ∷ [])) (sym s) (Contains-push places n)
-  ],
+-- the keys among the first places
+pub keys-of : (keys : List Bool) (n : ℕ) → AreKeyPlaces keys n (filter (bit keys) (range_with_len 0 n))
+keys-of keys n = λ x. (
+  λ c.
+      let w = Contains-filter_from (bit keys) (range_with_len 0 n) x c in
+      let lt : w.0.0 < n = omega (arith, w.0.1, length-range_with_len 0 n) in
+      (omega (arith, lt, w.0.2, get_or-range_with_len 0 n w.0.0 x lt), w.1),
+  λ w. Contains-filter (bit keys) (range_with_len 0 n) x (x, omega (arith, w.0, length-range_with_len 0 n), get_or-range_with_len 0 n x x w.0 ∙ (let e : 0 + x ≡ x = omega arith in e)) w.1,
 )
-
-pub keys-missed : (keys : List Bool) (n : ℕ) (places : List ℕ) → AreKeyPlaces keys n places → bit keys n ≡ false → AreKeyPlaces keys (n + 1) places
-keys-missed keys n places h e = λ x. (
-  λ c. let k = (h x).0 c in (omega (arith, k.0), k.1),
-  λ k. elim (lt_or_same x n k.0) [
-    | inl lt ↦ (h x).1 (lt, k.1)
-    | inr s ↦ absurd (let z : true ≡ false = sym k.1 ∙ ap (bit keys) s ∙ e in cc)
-  ],
-)
-
-pub no-keys : (keys : List Bool) → AreKeyPlaces keys 0 []
-no-keys keys = λ x. (λ c. absurd (Contains-nil x c), λ k. absurd (let z = k.0 in omega arith))
 
 module _ (c : Choice) (names : List Name) (keys : List Bool) (marks : List (List Bool)) (all each : List (List ℕ)) (h : ArePlaced Enabling c.map c.candidates c.at_least_one_of names keys marks all each) where
   -- the names of a set's members lead to what the set enables

@@ -34,13 +34,9 @@ fn key_places(alloc: Global, routes: &Routes) -> Result<Vec<usize>, AllocError>
     ensures { IfOk result (λ places. AreKeyPlaces routes.now.keys.items
         (length routes.now.names.items) places.items) }
 {
-    let mut places = Vec::new(alloc);
-    for x in 0..routes.len() {
-        if routes.is_key(x) {
-            places.push(x)?;
-        }
-    }
-    Ok(places)
+    (0..routes.len())
+        .filter(|x| routes.is_key(*x))
+        .collect(alloc)
 }
 
 /// Whether for each of the names one of these places leads to it.
