@@ -1,6 +1,6 @@
 -- Sets that say of each position whether it is a member, and their members in order.
 use Rattle.std.proofs.Common.{◌≡◌, ℕ, zero, suc, ◌+◌, ◌<◌, ◌≤◌, List, [], ◌∷◌, ◌++◌, length, get_or, set, map, take, refl, sym, ◌∙◌, ap, subst, arith, Bool, true, false, cond, Option, None, Some, ◌⊎◌, inl, inr, ◌↔◌, All, Contains, length-append, append-nil, length-take}
-use Rattle.std.specs.Prelude.{◌&&◌, nat_le, not, sum_by, Vec}
+use Rattle.std.specs.Prelude.{◌&&◌, filter, nat_le, not, sum_by, Vec}
 use Rattle.std.specs.List.{list_all, list_any}
 use Rattle.std.proofs.lemmas.Bool.{and_parts, and_from}
 use Rattle.std.proofs.lemmas.List.{take_more, map-append}
@@ -160,11 +160,11 @@ seen-hit s k lt h = seen-member s k lt ∙ ap (λ b. positions_of (take k s) ++ 
 pub seen-missed : (s : List Bool) (k : ℕ) → k < length s → has s k ≡ false → positions_of (take (k + 1) s) ≡ positions_of (take k s)
 seen-missed s k lt h = seen-member s k lt ∙ ap (λ b. positions_of (take k s) ++ cond b (k ∷ []) []) h ∙ append-nil (positions_of (take k s))
 
-pub length-hit : (s : List Bool) (k : ℕ) → k < length s → has s k ≡ true → length (positions_of (take (k + 1) s)) ≡ length (positions_of (take k s)) + 1
-length-hit s k lt h = ap length (seen-hit s k lt h) ∙ length-append (positions_of (take k s)) (k ∷ [])
-
-pub length-missed : (s : List Bool) (k : ℕ) → k < length s → has s k ≡ false → length (positions_of (take (k + 1) s)) ≡ length (positions_of (take k s))
-length-missed s k lt h = ap length (seen-missed s k lt h)
+-- the members are as many as the flags that are true
+pub length-positions : (k : ℕ) (s : List Bool) → length (filter (λ b. b) s) ≡ length (positions_from k s)
+length-positions k [] = refl
+length-positions k (true ∷ s) = let e = length-positions (k + 1) s in omega (arith, e)
+length-positions k (false ∷ s) = length-positions (k + 1) s
 
 and-false : (a b : Bool) → (a && b) ≡ false → (a ≡ false) ⊎ (b ≡ false)
 and-false true b h = inr h

@@ -18,13 +18,7 @@ pub(crate) fn count_members(set: &[bool]) -> usize
     ensures same { result ≡ length (positions_of set.now) }
     ensures few { result ≤ length set.now }
 {
-    let mut members = 0;
-    for place in 0..set.len() {
-        if bit(set, place) {
-            members += 1;
-        }
-    }
-    members
+    set.iter().filter(|member| **member).count()
 }
 
 /// The members of the set, in increasing order.

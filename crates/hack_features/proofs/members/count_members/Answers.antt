@@ -1,13 +1,10 @@
-use Rattle.std.proofs.Common.{◌∙◌, sym, arith}
-use Rattle.hack_features.proofs.MemberLemmas.{length-hit, length-missed}
+use Rattle.std.proofs.Common.{rules, tests, ◌∙◌}
+use Rattle.std.proofs.lemmas.Iterator.{YieldsList-from_slice}
+use Rattle.std.proofs.lemmas.Iterator.Consumers.{YieldsList-from_filter, count_from_yields_List}
+use Rattle.hack_features.proofs.MemberLemmas.{length-positions}
 use Rattle.hack_features.proofs.members.count_members.Goals as goal
-use Rattle.hack_features.proofs.members.count_members.Goals.{then-bit, else-bit}
 
-pub loop-place-preserved : goal.loop-place-preserved
-loop-place-preserved c =
-    let s = c.args.set.now in
-    let k = c.loop-place.place in
-    elim c.if-bit.branch [
-      | then-bit w ↦ (omega (arith, w.members-is, c.loop-place.invariant.0, length-hit s k c.loop-place-test.true (sym c.bit.ensures ∙ w.if-bit.true)), omega (arith, w.members-is, c.loop-place.invariant.1))
-      | else-bit w ↦ (omega (arith, w.members-is, c.loop-place.invariant.0, length-missed s k c.loop-place-test.true (sym c.bit.ensures ∙ w.if-bit.false)), omega (arith, w.members-is, c.loop-place.invariant.1))
-    ]
+pub returns-clause-same : goal.returns-clause-same
+returns-clause-same c =
+    count_from_yields_List c.filter.result c.count.result c.count.ensures.ran (YieldsList-from_filter _ (λ b. b) (YieldsList-from_slice c.args.set.now cc) c.filter.ensures.closure (λ x b q k. search (rules, tests)))
+    ∙ length-positions 0 c.args.set.now
