@@ -36,11 +36,12 @@ fn call_here(rt: &HostRuntime) -> u8 {
         fails: false,
     };
     let mut keepers = Keepers::new(FolderLocks::new(rt), ShellGuards::new(rt));
-    let (status, _, _) = call(
+    let (status, _, _, _) = call(
         rt.alloc(),
         &system,
         Disk::new(rt),
         Disk::new(rt),
+        0u64,
         &mut keepers,
         &mut outside,
     );

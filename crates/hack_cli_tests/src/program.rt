@@ -113,11 +113,12 @@ impl Ask for Calls {
             is_terminal,
             fails: false,
         };
-        let (status, _, _) = call(
+        let (status, _, _, _) = call(
             alloc,
             &system,
             MemoryFiles::new(alloc),
             MemoryFiles::new(alloc),
+            0u64,
             &mut keepers,
             &mut outside,
         );

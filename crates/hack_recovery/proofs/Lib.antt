@@ -1,5 +1,6 @@
 pub mod AskLemmas
 pub mod WayLemmas
 pub mod BackLemmas
+pub mod CountLemmas
 mod CallLemmas
 mod StrangerLemmas

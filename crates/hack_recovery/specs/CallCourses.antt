@@ -4,9 +4,11 @@ use Rattle.hack_base.specs.Counters.{GrowsBy}
 use Rattle.hack_base.specs.Names.{Name}
 use Rattle.hack_files.specs.Files.{Contents, KeepsAll, KeepsAllBut, KeepsOthers, MakesOrNot, removes}
 use Rattle.hack_journal.specs.LockfilesApart.{KeepsOtherFiles}
+use Rattle.hack_journal.specs.Refusing.{AreJust, HoldsByKind, IsRefused, IsRefusedOrUnkept}
 use Rattle.hack_journal.specs.Rows.{Spot}
 use Rattle.hack_journal.specs.SafeFiles.{StaysSafe}
-use Rattle.hack_journaled.specs.Journals.{contents_seen, files_seen, world_seen}
+use Rattle.hack_journal.specs.declared.unkept.Unkept.{Ghosts as Noting}
+use Rattle.hack_journaled.specs.Journals.{IsAccounted, contents_seen, files_seen, world_seen}
 use Rattle.hack_run.specs.CallChanges.{IsChangeTrace}
 use Rattle.hack_run.specs.CallTrace.{IsCallTrace}
 use Rattle.hack_run.specs.TemporaryEdits.{BringsBack, IsClean, RestoresEdits}
@@ -28,7 +30,7 @@ use Rattle.hack_places.specs.Folders.{start_at, workspace_from}
 use Rattle.hack_recovery.specs.GuardEvents.{GuardsView, after_leave, after_start}
 use Rattle.hack_recovery.specs.LockEvents.{LocksView, after_release}
 use Rattle.hack_recovery.specs.Restoring.{KeepsCopy, TakesBack, journal_spot}
-use Rattle.hack_recovery.specs.Scenes.{IsFailed, IsQuiet, Scene, Untouched, scene_with, world_in}
+use Rattle.hack_recovery.specs.Scenes.{IsFailed, IsQuiet, OneMayFail, Scene, Untouched, scene_with, world_in}
 
 -- ---- the beginning
 
@@ -66,7 +68,7 @@ pub record CannotSee (tells whole : Type 0) (words : List Name) (env : Env) (doe
   pub untouched : Untouched tells whole old new
   pub locks : new.locks ≡ old.locks
 
--- ---- the call itself
+-- ---- the call itself, over files `f` and lockfiles `l`; `u` is told of what a journal refuses on its own
 
 -- Writes or removals of these paths were refused by such files, one after the other. In code over any
 -- files nothing but calls that were refused shows that.
@@ -77,34 +79,39 @@ pub record RefusesThese {F : Type 0} (f : Filing F) (paths : List Name) : Type 0
 
 -- the call was performed without a journal: it meets what `run` promises of files, calls and reports; a path
 -- that doesn't hold what it held is one whose own write was refused
-pub record PerformsUnjournaled (refuses : List Name → Type 0) (tells whole talks : Type 0) (words : List Name) (env : Env) (old new : Scene) : Type 0 where
+pub record PerformsUnjournaled {F : Type 0} (f : Filing F) (talks : Type 0) (words : List Name) (env : Env) (old new : Scene) : Type 0 where
   pub refused : AreRefused env words → ReportsRefusal talks env old.host new.host
-  pub done : new.host.term.error ≡ false → talks → IsCallTrace true tells words env (world_in old) (world_in new)
-  pub traced : new.host.term.error ≡ false → talks → whole → IsChangeTrace tells words env (world_in old) (world_in new)
-  pub made : talks → IsCallTrace false tells words env (world_in old) (world_in new)
-  pub back : RestoresEdits env words → tells → BringsBack old.files new.files
-  pub spoilt : RestoresEdits env words → KeepsAllBut refuses tells old.files.held new.files.held
-  pub clean : new.host.term.error ≡ false → IsClean (RestoresEdits env words) tells old.files new.files
+  pub done : new.host.term.error ≡ false → talks → IsCallTrace true f.tells words env (world_in old) (world_in new)
+  pub traced : new.host.term.error ≡ false → talks → f.whole → IsChangeTrace f.tells words env (world_in old) (world_in new)
+  pub made : talks → IsCallTrace false f.tells words env (world_in old) (world_in new)
+  pub back : RestoresEdits env words → f.tells → BringsBack old.files new.files
+  pub spoilt : RestoresEdits env words → KeepsAllBut (RefusesThese f) f.tells old.files.held new.files.held
+  pub clean : new.host.term.error ≡ false → IsClean (RestoresEdits env words) f.tells old.files new.files
   pub lockfiles : new.lockfiles ≡ old.lockfiles
+  pub unkept : new.unkept ≡ old.unkept
   pub locks : new.locks ≡ old.locks
   pub guards : new.guards ≡ old.guards
 
 -- the call was performed with a journal, and so many calls of files failed: it meets what
--- `run_journaled` promises of these
-pub record Journals (tells whole locked talks : Type 0) (words : List Name) (env : Env) (spot : Spot) (failed : ℕ) (old new : Scene) : Type 0 where
+-- `run_journaled` promises of these, so that no more failed than `f`, `l` and `u` count, and a path that
+-- doesn't hold what it held is one whose own write was refused, or couldn't be kept
+pub record Journals {F L U : Type 0} (f : Filing F) (l : Filing L) (u : Noting U) (talks : Type 0) (words : List Name) (env : Env) (spot : Spot) (failed : ℕ) (old new : Scene) : Type 0 where
   pub refused : AreRefused env words → ReportsRefusal talks env old.host new.host
-  pub done : new.host.term.error ≡ false → talks → IsCallTrace true (tells × locked) words env
-      (world_seen spot.journal old.files.held old.lockfiles 0 old.host) (world_seen spot.journal new.files.held new.lockfiles failed new.host)
-  pub made : talks → IsCallTrace false (tells × locked) words env
-      (world_seen spot.journal old.files.held old.lockfiles 0 old.host) (world_seen spot.journal new.files.held new.lockfiles failed new.host)
-  pub clean : new.host.term.error ≡ false → RestoresEdits env words → tells → locked
-      → KeepsAll (contents_seen spot.journal old.files.held old.lockfiles) (contents_seen spot.journal new.files.held new.lockfiles)
-  pub back : RestoresEdits env words → tells → locked
-      → BringsBack (files_seen spot.journal old.files.held old.lockfiles 0) (files_seen spot.journal new.files.held new.lockfiles failed)
+  pub done : new.host.term.error ≡ false → talks → IsCallTrace true (f.tells × l.tells) words env
+      (world_seen spot.journal old.files.held old.lockfiles.held 0 old.host) (world_seen spot.journal new.files.held new.lockfiles.held failed new.host)
+  pub made : talks → IsCallTrace false (f.tells × l.tells) words env
+      (world_seen spot.journal old.files.held old.lockfiles.held 0 old.host) (world_seen spot.journal new.files.held new.lockfiles.held failed new.host)
+  pub clean : new.host.term.error ≡ false → RestoresEdits env words → f.tells → l.tells
+      → KeepsAll (contents_seen spot.journal old.files.held old.lockfiles.held) (contents_seen spot.journal new.files.held new.lockfiles.held)
+  pub back : RestoresEdits env words → f.tells → l.tells
+      → BringsBack (files_seen spot.journal old.files.held old.lockfiles.held 0) (files_seen spot.journal new.files.held new.lockfiles.held failed)
   pub few : new.host.term.error ≡ false → failed ≤ 1
-  pub gone : RestoresEdits env words → tells → whole → locked → failed ≡ 0 → old.files.held spot.journal ≡ None → new.files.held spot.journal ≡ None
-  pub safe : tells → whole → old.files.held spot.journal ≡ None → StaysSafe spot old.files.held old.files.trace new.files.trace old.files.held new.files.held
-  pub others : locked → KeepsOtherFiles old.lockfiles new.lockfiles
+  pub spoilt : RestoresEdits env words → KeepsAllBut (λ paths. AreJust (HoldsByKind (IsRefusedOrUnkept f u) (IsRefused l)) paths 0 failed) (f.tells × l.tells)
+      (contents_seen spot.journal old.files.held old.lockfiles.held) (contents_seen spot.journal new.files.held new.lockfiles.held)
+  pub number : IsAccounted old.files.failed new.files.failed old.lockfiles.failed new.lockfiles.failed old.unkept new.unkept failed
+  pub gone : RestoresEdits env words → f.tells → f.whole → l.tells → failed ≡ 0 → old.files.held spot.journal ≡ None → new.files.held spot.journal ≡ None
+  pub safe : f.tells → f.whole → old.files.held spot.journal ≡ None → StaysSafe spot old.files.held old.files.trace new.files.trace old.files.held new.files.held
+  pub others : l.tells → KeepsOtherFiles old.lockfiles.held new.lockfiles.held
   pub locks : new.locks ≡ old.locks
   pub guards : new.guards ≡ old.guards
 
@@ -119,7 +126,7 @@ pub data IsJournalClosed (tells : Type 0) (places : PlacesAt) (old new : FilesVi
   gone : now ≡ was → GrowsBy 0 old.failed new.failed → (tells → old.held places.journal ≡ None) → (tells → new.held places.copy ≡ None) → IsJournalClosed tells places old new was now
   stays : Warns was now → GrowsBy 0 old.failed new.failed → (tells → IsSome (old.held places.journal)) → IsJournalClosed tells places old new was now
   unseen : Warns was now → GrowsBy 1 old.failed new.failed → (tells → KeepsAll old.held new.held) → IsJournalClosed tells places old new was now
-  starved : now ≡ record was { warn = true; error = true } → GrowsBy 0 old.failed new.failed ⊎ GrowsBy 1 old.failed new.failed → (tells → KeepsAll old.held new.held)
+  starved : now ≡ record was { warn = true; error = true } → OneMayFail old.failed new.failed → (tells → KeepsAll old.held new.held)
       → IsJournalClosed tells places old new was now
   copy_stays : Warns was now → GrowsBy 1 old.failed new.failed → (tells → old.held places.journal ≡ None) → IsJournalClosed tells places old new was now
 
@@ -134,74 +141,75 @@ pub record Closes (tells whole : Type 0) (places : PlacesAt) (old new : Scene) :
 -- ---- the ways
 
 -- the call was performed with a journal, and what stays of it was reported
-pub record RunsOverJournal (tells whole locked talks : Type 0) (words : List Name) (env : Env) (places : PlacesAt) (old new : Scene) : Type 0 where
+pub record RunsOverJournal {F L U : Type 0} (f : Filing F) (l : Filing L) (u : Noting U) (talks : Type 0) (words : List Name) (env : Env) (places : PlacesAt) (old new : Scene) : Type 0 where
   pub failed : ℕ
   pub last : Scene
-  pub journals : Journals tells whole locked talks words env (journal_spot places) failed old last
-  pub closes : Closes tells whole places last new
+  pub journals : Journals f l u talks words env (journal_spot places) failed old last
+  pub closes : Closes f.tells f.whole places last new
 
 -- how a call with a journal goes once its guard was asked for: the lockfile is copied, and then it is
 -- performed; or the lockfile can't be copied, and nothing else is changed or called
-pub data CopiesAndRuns (tells whole locked talks : Type 0) (words : List Name) (env : Env) (places : PlacesAt) (old new : Scene) : Type 0 where
-  copied : (at : Scene) → KeepsCopy tells whole locked true places old at → RunsOverJournal tells whole locked talks words env places at new
-      → CopiesAndRuns tells whole locked talks words env places old new
-  uncopied : (at : Scene) → KeepsCopy tells whole locked false places old at → new ≡ scene_with at.files new.host.term at → IsFailed new
-      → CopiesAndRuns tells whole locked talks words env places old new
+pub data CopiesAndRuns {F L U : Type 0} (f : Filing F) (l : Filing L) (u : Noting U) (talks : Type 0) (words : List Name) (env : Env) (places : PlacesAt) (old new : Scene) : Type 0 where
+  copied : (at : Scene) → KeepsCopy f.tells f.whole l.tells true places old at → RunsOverJournal f l u talks words env places at new
+      → CopiesAndRuns f l u talks words env places old new
+  uncopied : (at : Scene) → KeepsCopy f.tells f.whole l.tells false places old at → new ≡ scene_with at.files new.host.term at → IsFailed new
+      → CopiesAndRuns f l u talks words env places old new
 
 -- how a call with a journal goes: a guard of the workspace's folder is started, and whatever came of
 -- the call, it is left with the exit status, which is known once all is restored and what stays was
 -- reported; nothing hangs on whether it came. Or memory was refused for its start
-pub data IsJournaledCall (tells whole locked talks watched : Type 0) (words : List Name) (env : Env) (places : PlacesAt) (old new : Scene) : Type 0 where
+pub data IsJournaledCall {F L U : Type 0} (f : Filing F) (l : Filing L) (u : Noting U) (talks watched : Type 0) (words : List Name) (env : Env) (places : PlacesAt) (old new : Scene) : Type 0 where
   performed : (came : Bool) (status : ℕ) (guards last : GuardsView) (ran : Scene) → (watched → guards ≡ after_start places.folder came old.guards)
-      → CopiesAndRuns tells whole locked talks words env places (record old { guards = guards }) ran
+      → CopiesAndRuns f l u talks words env places (record old { guards = guards }) ran
       → IsStatus env.deny_warnings ran.host status → (watched → last ≡ after_leave status guards) → new ≡ record ran { guards = last }
-      → IsJournaledCall tells whole locked talks watched words env places old new
+      → IsJournaledCall f l u talks watched words env places old new
   unwatched : (guards : GuardsView) → (watched → guards ≡ old.guards) → new ≡ record (scene_with old.files new.host.term old) { guards = guards } → IsFailed new
-      → IsJournaledCall tells whole locked talks watched words env places old new
+      → IsJournaledCall f l u talks watched words env places old new
 
 -- how a call is performed under its own lock, by what it does to manifests
-pub data Continues (refuses : List Name → Type 0) (tells whole locked talks records watched : Type 0) (words : List Name) (env : Env) (does : Edits) (places : PlacesAt) (old new : Scene) : Type 0 where
+pub data Continues {F L U : Type 0} (f : Filing F) (l : Filing L) (u : Noting U) (talks records watched : Type 0) (words : List Name) (env : Env) (does : Edits) (places : PlacesAt) (old new : Scene) : Type 0 where
   -- nothing is to be edited: the lock is let go first, and there is no journal
-  unedited : (locks : LocksView) → does ≡ edits.None → (records → locks ≡ after_release old.locks) → PerformsUnjournaled refuses tells whole talks words env (record old { locks = locks }) new
-      → Continues refuses tells whole locked talks records watched words env does places old new
+  unedited : (locks : LocksView) → does ≡ edits.None → (records → locks ≡ after_release old.locks) → PerformsUnjournaled f talks words env (record old { locks = locks }) new
+      → Continues f l u talks records watched words env does places old new
   -- edits stay: there is no journal
-  good : does ≡ edits.Good → PerformsUnjournaled refuses tells whole talks words env old new → Continues refuses tells whole locked talks records watched words env does places old new
+  good : does ≡ edits.Good → PerformsUnjournaled f talks words env old new → Continues f l u talks records watched words env does places old new
   -- edits come back: there is a journal
-  journaled : does ≡ edits.Back → IsJournaledCall tells whole locked talks watched words env places old new → Continues refuses tells whole locked talks records watched words env does places old new
+  journaled : does ≡ edits.Back → IsJournaledCall f l u talks watched words env places old new → Continues f l u talks records watched words env does places old new
   -- what was left is restored: that is all
-  restored : does ≡ edits.Restore → new ≡ old → Continues refuses tells whole locked talks records watched words env does places old new
+  restored : does ≡ edits.Restore → new ≡ old → Continues f l u talks records watched words env does places old new
 
 -- how a call goes under its own lock: what an interrupted call left is brought back before anything
 -- else is changed, and before anything is called
-pub data IsLockedCourse (refuses : List Name → Type 0) (tells whole locked talks records watched : Type 0) (words : List Name) (env : Env) (does : Edits) (places : PlacesAt) (old new : Scene) : Type 0 where
+pub data IsLockedCourse {F L U : Type 0} (f : Filing F) (l : Filing L) (u : Noting U) (talks records watched : Type 0) (words : List Name) (env : Env) (does : Edits) (places : PlacesAt) (old new : Scene) : Type 0 where
   -- that can't be brought back: the call ends
-  ended : TakesBack tells whole locked env.by_guard places old new (Ok false) → IsFailed new → IsLockedCourse refuses tells whole locked talks records watched words env does places old new
+  ended : TakesBack f.tells f.whole l.tells env.by_guard places old new (Ok false) → IsFailed new → IsLockedCourse f l u talks records watched words env does places old new
   -- memory was refused meanwhile: the call ends
-  cut_short : (at : Scene) (fault : CallFault) → TakesBack tells whole locked env.by_guard places old at (Err fault)
-      → new ≡ scene_with at.files new.host.term at → IsFailed new → IsLockedCourse refuses tells whole locked talks records watched words env does places old new
+  cut_short : (at : Scene) (fault : CallFault) → TakesBack f.tells f.whole l.tells env.by_guard places old at (Err fault)
+      → new ≡ scene_with at.files new.host.term at → IsFailed new → IsLockedCourse f l u talks records watched words env does places old new
   -- it is back: the call is performed
-  went_on : (at : Scene) → TakesBack tells whole locked env.by_guard places old at (Ok true) → Continues refuses tells whole locked talks records watched words env does places at new
-      → IsLockedCourse refuses tells whole locked talks records watched words env does places old new
+  went_on : (at : Scene) → TakesBack f.tells f.whole l.tells env.by_guard places old at (Ok true) → Continues f l u talks records watched words env does places at new
+      → IsLockedCourse f l u talks records watched words env does places old new
 
 -- how a call goes
-pub data IsCallCourse (refuses : List Name → Type 0) (tells whole locked talks records watched : Type 0) (real : Name → Name) (words : List Name) (env : Env) (old new : Scene) : Type 0 where
-  -- memory was refused before it began: nothing was changed or called
-  starved : Untouched tells whole old new → new.locks ≡ old.locks → IsFailed new → IsCallCourse refuses tells whole locked talks records watched real words env old new
+pub data IsCallCourse {F L U : Type 0} (f : Filing F) (l : Filing L) (u : Noting U) (talks records watched : Type 0) (real : Name → Name) (words : List Name) (env : Env) (old new : Scene) : Type 0 where
+  -- memory was refused before it began: nothing was changed or called, and at most one look failed
+  starved : Untouched f.tells f.whole old new → OneMayFail old.files.failed new.files.failed → new.locks ≡ old.locks → IsFailed new
+      → IsCallCourse f l u talks records watched real words env old new
   -- it isn't known whether an interrupted call left anything: a call that would change manifests ends
   -- with an error, and nothing was changed or called
-  blind : (does : Edits) → CannotSee tells whole words env does old new → is_change does ≡ true → IsFailed new → IsCallCourse refuses tells whole locked talks records watched real words env old new
+  blind : (does : Edits) → CannotSee f.tells f.whole words env does old new → is_change does ≡ true → IsFailed new → IsCallCourse f l u talks records watched real words env old new
   -- any other is performed without a journal, after a warning
-  warned : (does : Edits) (at : Scene) → CannotSee tells whole words env does old at → is_change does ≡ false → at.host.term ≡ record old.host.term { warn = true }
-      → PerformsUnjournaled refuses tells whole talks words env at new → IsCallCourse refuses tells whole locked talks records watched real words env old new
+  warned : (does : Edits) (at : Scene) → CannotSee f.tells f.whole words env does old at → is_change does ≡ false → at.host.term ≡ record old.host.term { warn = true }
+      → PerformsUnjournaled f talks words env at new → IsCallCourse f l u talks records watched real words env old new
   -- another call has the lock, there is none, or memory was refused: nothing was changed or called
-  turned_away : (does : Edits) (places : PlacesAt) (fault : CallFault) → DecidesHowToGoOn tells whole records real words env does places old new (Err fault) → IsFailed new
-      → IsCallCourse refuses tells whole locked talks records watched real words env old new
+  turned_away : (does : Edits) (places : PlacesAt) (fault : CallFault) → DecidesHowToGoOn f.tells f.whole records real words env does places old new (Err fault) → IsFailed new
+      → IsCallCourse f l u talks records watched real words env old new
   -- it is to restore, and nothing is left, or another call has the lock: nothing was changed or called
-  unrestored : (does : Edits) (places : PlacesAt) → DecidesHowToGoOn tells whole records real words env does places old new (Ok Plain) → is_restore does ≡ true → new.host.term ≡ old.host.term
-      → IsCallCourse refuses tells whole locked talks records watched real words env old new
+  unrestored : (does : Edits) (places : PlacesAt) → DecidesHowToGoOn f.tells f.whole records real words env does places old new (Ok Plain) → is_restore does ≡ true → new.host.term ≡ old.host.term
+      → IsCallCourse f l u talks records watched real words env old new
   -- nothing is to be guarded, or nothing can be: the call is performed without a journal
-  without_journal : (does : Edits) (places : PlacesAt) (at : Scene) → DecidesHowToGoOn tells whole records real words env does places old at (Ok Plain) → is_restore does ≡ false
-      → at.host.term ≡ old.host.term → PerformsUnjournaled refuses tells whole talks words env at new → IsCallCourse refuses tells whole locked talks records watched real words env old new
+  without_journal : (does : Edits) (places : PlacesAt) (at : Scene) → DecidesHowToGoOn f.tells f.whole records real words env does places old at (Ok Plain) → is_restore does ≡ false
+      → at.host.term ≡ old.host.term → PerformsUnjournaled f talks words env at new → IsCallCourse f l u talks records watched real words env old new
   -- the lock is this call's
-  under_its_lock : (does : Edits) (places : PlacesAt) (at : Scene) → DecidesHowToGoOn tells whole records real words env does places old at (Ok Guarded) → at.host.term ≡ old.host.term
-      → IsLockedCourse refuses tells whole locked talks records watched words env does places at new → IsCallCourse refuses tells whole locked talks records watched real words env old new
+  under_its_lock : (does : Edits) (places : PlacesAt) (at : Scene) → DecidesHowToGoOn f.tells f.whole records real words env does places old at (Ok Guarded) → at.host.term ≡ old.host.term
+      → IsLockedCourse f l u talks records watched words env does places at new → IsCallCourse f l u talks records watched real words env old new

@@ -5,11 +5,12 @@ use Rattle.hack_base.specs.Names.{Name, optional_text}
 use Rattle.hack_run.specs.Readings.{IsEarlyReading}
 use Rattle.hack_words.specs.declared.cli.env.Env.{Env}
 use Rattle.hack_recovery.specs.AskedEdits.{AsksForEdits}
+use Rattle.hack_recovery.specs.Scenes.{OneMayFail}
 use Rattle.hack_recovery.specs.declared.begin.Halt.{Halt}
 use Rattle.hack_recovery.specs.declared.begin.Halt.TheVariants.{Memory, Unseen}
 
--- memory was refused; or a look failed, and this is what the command line asks for
+-- memory was refused, and at most one look failed; or a look failed, and this is what the command line asks for
 abbrev pub IsHalt : Env → List Name → ℕ → ℕ → Halt → Type 0
-IsHalt env words before now Memory = Unit {0}
+IsHalt env words before now Memory = OneMayFail before now
 IsHalt env words before now (Unseen asked path) =
     GrowsBy 1 before now × AsksForEdits env words asked.edits (optional_text asked.manifest_path) × IfSome asked.reading (IsEarlyReading env words)

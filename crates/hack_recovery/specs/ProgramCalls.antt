@@ -4,6 +4,7 @@ use Rattle.hack_base.specs.declared.writes.Sink.{Ghosts as Taking}
 use Rattle.hack_base.specs.Names.{Name, names_of, optional_text}
 use Rattle.hack_base.specs.Writes.{AppendsFront}
 use Rattle.hack_files.specs.declared.fs.Files.{Ghosts as Filing}
+use Rattle.hack_journal.specs.declared.unkept.Unkept.{Ghosts as Noting}
 use Rattle.hack_process.specs.declared.caller.Caller.{Ghosts as Calling}
 use Rattle.hack_run.specs.CallTrace.{colored_by}
 use Rattle.hack_files.specs.View.{files_view}
@@ -23,11 +24,12 @@ use Rattle.hack_recovery.specs.Scenes.{Scene}
 use Rattle.hack_recovery.specs.declared.call.Outside.{Outside}
 
 -- what a call sees and changes
-abbrev pub scene_outside : {F L C O E : Type 0} → Filing F → Filing L → Calling C → Taking O → F → L
+abbrev pub scene_outside : {F L U C O E : Type 0} → Filing F → Filing L → Noting U → Calling C → Taking O → F → L → U
     → LocksView → GuardsView → Outside C O E → Scene
-scene_outside f l c o files lockfiles locks guards outside = record {
+scene_outside f l u c o files lockfiles unkept locks guards outside = record {
   files = files_view f files;
-  lockfiles = l.bytes_at lockfiles;
+  lockfiles = files_view l lockfiles;
+  unkept = u.told unkept;
   locks = locks;
   guards = guards;
   host = record {
@@ -58,17 +60,17 @@ colored coloring term = record term { coloring = coloring }
 -- coloured as they ask, and as it was where they ask for nothing. Or an error says why
 -- they could not be read, a front of its line was written after what was written to `err` before,
 -- and nothing else was done.
-pub data IsProgramCall (refuses : List Name → Type 0) (informs tells whole locked talks records watched : Type 0) (real : Name → Name) (system : SystemView)
+pub data IsProgramCall {F L U : Type 0} (f : Filing F) (l : Filing L) (u : Noting U) (informs talks records watched : Type 0) (real : Name → Name) (system : SystemView)
     (is_terminal : Bool) (err_before err_after : Option (List ℕ)) (old new : Scene) (status : ℕ) : Type 0 where
   performed : (started : Started) (coloring asked : Coloring) → GivesStart informs system (Ok started)
       → (informs → SetsColoring (auto_coloring_of is_terminal system) old.host.term.coloring coloring (Ok started))
       → AsksColoring (optional_text started.env.term_color) (names_of started.words.items) asked
       → IsStatus started.env.deny_warnings new.host status
-      → IsCallCourse refuses tells whole locked talks records watched real (names_of started.words.items) started.env
+      → IsCallCourse f l u talks records watched real (names_of started.words.items) started.env
       (scene_on (colored (colored_by asked coloring) old.host.term) old) new
-      → IsProgramCall refuses informs tells whole locked talks records watched real system is_terminal err_before err_after old new status
+      → IsProgramCall f l u informs talks records watched real system is_terminal err_before err_after old new status
   unread : (fault : StartFault) (coloring : Coloring) → GivesStart informs system (Err fault)
       → (informs → SetsColoring (auto_coloring_of is_terminal system) old.host.term.coloring coloring (Err fault))
       → AppendsFront err_before err_after (error_line coloring (start_fault_text fault))
       → new ≡ scene_on (record (colored coloring old.host.term) { error = true }) old → status ≡ 1
-      → IsProgramCall refuses informs tells whole locked talks records watched real system is_terminal err_before err_after old new status
+      → IsProgramCall f l u informs talks records watched real system is_terminal err_before err_after old new status

@@ -12,7 +12,7 @@ use Rattle.hack_files.specs.View.{FilesView}
 use Rattle.hack_term.specs.declared.term.Term.{Term}
 use Rattle.hack_places.specs.CallPlaces.{PlacesAt}
 use Rattle.hack_places.specs.FileLooks.{Unchanged}
-use Rattle.hack_recovery.specs.Scenes.{IsQuiet, Scene, scene_with}
+use Rattle.hack_recovery.specs.Scenes.{IsQuiet, OneMayFail, Scene, scene_with}
 use Rattle.hack_recovery.specs.Strangers.{NamesNone, NamesStranger}
 use Rattle.hack_recovery.specs.Telling.{Tells}
 use Rattle.hack_recovery.specs.declared.fault.CallFault.{CallFault}
@@ -48,37 +48,40 @@ pub data IsBroughtBack (tells whole : Type 0) (spot : Spot) (old new : FilesView
 pub data Restores (tells whole : Type 0) (spot : Spot) (old new : FilesView) (was now : Term) (came : Result Bool CallFault) : Type 0 where
   unread : (fault : RecoverFault) → Unchanged tells whole old new → CountsRecoverFault old.failed new.failed fault → IsWhyUnread spot tells old.held fault → came ≢ Ok true → Tells was now came
       → Restores tells whole spot old new was now came
-  strange : (path : Name) → Unchanged tells whole old new → (tells → NamesStranger spot old.held path) → came ≢ Ok true → Tells was now came
+  strange : (path : Name) → Unchanged tells whole old new → GrowsBy 0 old.failed new.failed → (tells → NamesStranger spot old.held path) → came ≢ Ok true → Tells was now came
       → Restores tells whole spot old new was now came
   trusted : (at : FilesView) → Unchanged tells whole old at → GrowsBy 0 old.failed at.failed → (tells → NamesNone spot old.held) → IsBroughtBack tells whole spot at new came → Tells was now came
       → Restores tells whole spot old new was now came
 
 -- ---- the copy of the lockfile
 
--- the lockfile was copied, if there is one, and no other file is changed; where it isn't done, at
--- most the copy is changed, and then it has what the lockfile holds
+-- the lockfile was copied, if there is one, no other file is changed, and no call failed; where it isn't
+-- done, at most the copy is changed, and then it has what the lockfile holds
 pub record KeepsCopy (tells whole locked : Type 0) (done : Bool) (places : PlacesAt) (old new : Scene) : Type 0 where
-  pub copied : done ≡ true → tells → locked → new.files.held places.copy ≡ option_or (old.lockfiles places.lockfile) (old.files.held places.copy)
+  pub copied : done ≡ true → tells → locked → new.files.held places.copy ≡ option_or (old.lockfiles.held places.lockfile) (old.files.held places.copy)
   pub others : tells → KeepsOthers places.copy old.files.held new.files.held
-  pub counted : done ≡ true → GrowsBy 0 old.files.failed new.files.failed
+  pub counted : done ≡ true → GrowsBy 0 old.files.failed new.files.failed × GrowsBy 0 old.lockfiles.failed new.lockfiles.failed
+  pub failed : OneMayFail old.files.failed new.files.failed × OneMayFail old.lockfiles.failed new.lockfiles.failed
   pub made : whole → Makes [] old.files.trace new.files.trace old.files.held new.files.held
-      ⊎ ((bytes : Name) × (locked → old.lockfiles places.lockfile ≡ Some bytes) × MakesOrNot (puts places.copy bytes) old.files.trace new.files.trace old.files.held new.files.held)
-  pub same : locked → KeepsAll old.lockfiles new.lockfiles
+      ⊎ ((bytes : Name) × (locked → old.lockfiles.held places.lockfile ≡ Some bytes) × MakesOrNot (puts places.copy bytes) old.files.trace new.files.trace old.files.held new.files.held)
+  pub same : locked → KeepsAll old.lockfiles.held new.lockfiles.held
   pub host : new.host ≡ old.host
   pub quiet : IsQuiet old new
 
--- the copy is gone, and no other file is changed; the guard gives the lockfile what the copy has, and
--- nobody else changes it. Whatever comes of it, the copy still has that or the lockfile has it
+-- the copy is gone, no other file is changed, and no call failed; the guard gives the lockfile what the
+-- copy has, and nobody else changes it. Whatever comes of it, the copy still has that or the lockfile has
+-- it, and at most one call of each failed
 pub record Settles (tells whole locked : Type 0) (by_guard : Bool) (places : PlacesAt) (old new : Scene) (came : Result Bool CallFault) : Type 0 where
   pub gone : came ≡ Ok true → tells → new.files.held places.copy ≡ None
-  pub counted : came ≡ Ok true → GrowsBy 0 old.files.failed new.files.failed
+  pub counted : came ≡ Ok true → GrowsBy 0 old.files.failed new.files.failed × GrowsBy 0 old.lockfiles.failed new.lockfiles.failed
+  pub failed : OneMayFail old.files.failed new.files.failed × OneMayFail old.lockfiles.failed new.lockfiles.failed
   pub others : tells → KeepsOthers places.copy old.files.held new.files.held
   pub made : whole → MakesOrNot (removes places.copy) old.files.trace new.files.trace old.files.held new.files.held
-  pub given : came ≡ Ok true → by_guard ≡ true → tells → locked → (bytes : Name) → old.files.held places.copy ≡ Some bytes → new.lockfiles places.lockfile ≡ Some bytes
-  pub kept : by_guard ≡ true → tells → locked → (bytes : Name) → old.files.held places.copy ≡ Some bytes → (new.files.held places.copy ≡ Some bytes) ⊎ (new.lockfiles places.lockfile ≡ Some bytes)
-  pub left : by_guard ≡ false → locked → KeepsAll old.lockfiles new.lockfiles
-  pub none : tells → old.files.held places.copy ≡ None → locked → KeepsAll old.lockfiles new.lockfiles
-  pub apart : locked → KeepsOthers places.lockfile old.lockfiles new.lockfiles
+  pub given : came ≡ Ok true → by_guard ≡ true → tells → locked → (bytes : Name) → old.files.held places.copy ≡ Some bytes → new.lockfiles.held places.lockfile ≡ Some bytes
+  pub kept : by_guard ≡ true → tells → locked → (bytes : Name) → old.files.held places.copy ≡ Some bytes → (new.files.held places.copy ≡ Some bytes) ⊎ (new.lockfiles.held places.lockfile ≡ Some bytes)
+  pub left : by_guard ≡ false → locked → KeepsAll old.lockfiles.held new.lockfiles.held
+  pub none : tells → old.files.held places.copy ≡ None → locked → KeepsAll old.lockfiles.held new.lockfiles.held
+  pub apart : locked → KeepsOthers places.lockfile old.lockfiles.held new.lockfiles.held
   pub told : Tells old.host.term new.host.term came
   pub quiet : IsQuiet old new
 

@@ -65,6 +65,7 @@ struct Found {
 }
 
 /// Reads what the call asks for, and looks where its journal is. Nothing is changed.
+#[tactic(auto, using(crate::proofs::CountLemmas::counts))]
 pub(crate) fn begin<F: Files, K: Locks>(
     alloc: Global,
     words: &[String],

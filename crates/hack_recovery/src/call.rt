@@ -1,7 +1,6 @@
 //! A call of the program, from what the system tells of it.
 
 ghost use Rattle.std.specs.Prelude.{◌≡◌};
-ghost use Rattle.hack_recovery.specs.CallCourses.{RefusesThese};
 ghost use Rattle.hack_recovery.specs.ProgramCalls.{IsProgramCall, IsSameOutside, colored, scene_outside};
 ghost use Rattle.hack_run.specs.CallTrace.{colored_by};
 
@@ -11,6 +10,7 @@ use crate::locks::Locks;
 use crate::perform::perform;
 use hack_base::writes::Sink;
 use hack_files::fs::Files;
+use hack_journal::unkept::Unkept;
 use hack_process::process::Caller;
 use hack_run::host::Host;
 use hack_start::started::{StartFault, Started};
@@ -38,24 +38,36 @@ pub struct Outside<'a, C: Caller, O: Sink, E: Sink> {
 }
 
 /// Performs the call whose arguments and environment the system tells, as `perform` does, and
-/// returns its exit status, the files and the lockfiles. Where these can't be read, that is
-/// reported, and nothing else is done. All lines are coloured as the arguments ask, else the
-/// environment; so is the error of a command line that breaks a rule behind the one on colours.
-pub fn call<S: System, F: Files, L: Files, K: Locks, G: Guards, C: Starts, O: Sink, E: Sink>(
+/// returns its exit status, the files, the lockfiles and `unkept`. Where arguments or environment
+/// can't be read, that is reported, and nothing else is done. All lines are coloured as the
+/// arguments ask, else the environment; so is the error of a command line that breaks a rule behind
+/// the one on colours.
+pub fn call<
+    S: System,
+    F: Files,
+    L: Files,
+    U: Unkept,
+    K: Locks,
+    G: Guards,
+    C: Starts,
+    O: Sink,
+    E: Sink,
+>(
     alloc: Global,
     system: &S,
     files: F,
     lockfiles: L,
+    unkept: U,
     keepers: &mut Keepers<K, G>,
     outside: &mut Outside<'_, C, O, E>,
-) -> (u8, F, L)
+) -> (u8, F, L, U)
     ensures outside { IsSameOutside outside.old outside.new }
-    ensures goes { IsProgramCall (RefusesThese F.Files) S.tells F.tells F.whole L.tells C.tells K.tells G.tells
+    ensures goes { IsProgramCall F.Files L.Files U.Unkept S.tells C.tells K.tells G.tells
         (K.real keepers.old.locks) (S.shown system.now) outside.old.is_terminal
         (E.contents outside.old.err.now) (E.contents outside.new.err.now)
-        (scene_outside F.Files L.Files C.Caller O.Sink files lockfiles
+        (scene_outside F.Files L.Files U.Unkept C.Caller O.Sink files lockfiles unkept
         (K.shown keepers.old.locks) (G.shown keepers.old.guards) outside.old)
-        (scene_outside F.Files L.Files C.Caller O.Sink result.1 result.2
+        (scene_outside F.Files L.Files U.Unkept C.Caller O.Sink result.1 result.2 result.3
         (K.shown keepers.new.locks) (G.shown keepers.new.guards) outside.new) result.0 }
 {
     let is_terminal = outside.is_terminal;
@@ -64,14 +76,14 @@ pub fn call<S: System, F: Files, L: Files, K: Locks, G: Guards, C: Starts, O: Si
         Ok(started) => started,
         Err(fault) => {
             let _ = outside.term.error(fault.text(), outside.err);
-            return (1, files, lockfiles);
+            return (1, files, lockfiles, unkept);
         }
     };
     match coloring_asked(alloc, &words, &env) {
         Ok(asked) => color(asked, outside.term),
         Err(_) => {
             let _ = outside.term.error(StartFault::Memory.text(), outside.err);
-            return (1, files, lockfiles);
+            return (1, files, lockfiles, unkept);
         }
     }
     let mut host = Host::new(
@@ -83,7 +95,7 @@ pub fn call<S: System, F: Files, L: Files, K: Locks, G: Guards, C: Starts, O: Si
         outside.err,
     );
     host.fails = outside.fails;
-    let ended = perform(&words, files, lockfiles, keepers, &mut host);
+    let ended = perform(&words, files, lockfiles, unkept, keepers, &mut host);
     outside.fails = host.fails;
     ended
 }

@@ -8,8 +8,9 @@ ghost use Rattle.std.specs.Prelude.{◌≡◌, ◌≢◌, ◌⊎◌, [], None, O
 ghost use Rattle.std.specs.Option.{option_or};
 ghost use Rattle.hack_base.specs.Counters.{GrowsBy};
 ghost use Rattle.hack_base.specs.Names.{Name};
-ghost use Rattle.hack_files.specs.Files.{KeepsAll, KeepsOthers, Makes, MakesOrNot};
-ghost use Rattle.hack_files.specs.Files.{puts, removes};
+ghost use Rattle.hack_files.specs.Files.{CountsFailedCall, KeepsAll, KeepsOthers, Makes};
+ghost use Rattle.hack_files.specs.Files.{MakesOrNot, puts, removes};
+ghost use Rattle.hack_recovery.specs.Scenes.{OneMayFail};
 ghost use Rattle.hack_recovery.specs.Telling.{Tells};
 ghost use Rattle.hack_run.specs.Worlds.{IsSameHost, host_view};
 
@@ -28,6 +29,7 @@ use hack_term::term::Term;
 use std::alloc::Global;
 
 /// Copies the lockfile, if there is one. Where that can't be done, the system's reason is reported.
+#[tactic(auto, using(crate::proofs::CountLemmas::counts))]
 pub(crate) fn keep_copy<F: Files, L: Files, E: Sink>(
     alloc: Global,
     places: &Places,
@@ -41,6 +43,10 @@ pub(crate) fn keep_copy<F: Files, L: Files, E: Sink>(
         ≡ option_or (L.bytes_at lockfiles.old (string_bytes places.now.lockfile))
         (F.bytes_at files.old (string_bytes places.now.copy))) }
     ensures counted { OnOk result (GrowsBy 0 (F.failed files.old) (F.failed files.new)) }
+    ensures lockfiles_counted { OnOk result
+        (GrowsBy 0 (L.failed lockfiles.old) (L.failed lockfiles.new)) }
+    ensures failed { OneMayFail (F.failed files.old) (F.failed files.new) }
+    ensures lockfiles_failed { OneMayFail (L.failed lockfiles.old) (L.failed lockfiles.new) }
     ensures others { F.tells → KeepsOthers (string_bytes places.now.copy)
         (F.bytes_at files.old) (F.bytes_at files.new) }
     ensures made { F.whole → Makes [] (F.trace files.old) (F.trace files.new)
@@ -80,7 +86,7 @@ fn copy_fault<F: Files, E: Sink>(
 
 /// Gives the lockfile back what its copy has, where the guard calls, and removes the copy. Returns
 /// whether that is done; if not, an error was reported.
-#[tactic(auto, using(hack_places::proofs::CountLemmas::grows_then))]
+#[tactic(auto, using(crate::proofs::CountLemmas::counts))]
 pub(crate) fn settle<F: Files, L: Files, C: Caller, O: Sink, E: Sink>(
     places: &Places,
     files: &mut F,
@@ -96,6 +102,8 @@ pub(crate) fn settle<F: Files, L: Files, C: Caller, O: Sink, E: Sink>(
     ensures gone { result ≡ Ok true → F.tells
         → F.bytes_at files.new (string_bytes places.now.copy) ≡ None }
     ensures counted { result ≡ Ok true → GrowsBy 0 (F.failed files.old) (F.failed files.new) }
+    ensures lockfiles_counted { result ≡ Ok true
+        → GrowsBy 0 (L.failed lockfiles.old) (L.failed lockfiles.new) }
     ensures others { F.tells → KeepsOthers (string_bytes places.now.copy)
         (F.bytes_at files.old) (F.bytes_at files.new) }
     ensures made { F.whole → MakesOrNot (removes (string_bytes places.now.copy))
@@ -104,7 +112,10 @@ pub(crate) fn settle<F: Files, L: Files, C: Caller, O: Sink, E: Sink>(
         → (bytes : Name) → F.bytes_at files.old (string_bytes places.now.copy) ≡ Some bytes
         → L.bytes_at lockfiles.new (string_bytes places.now.lockfile) ≡ Some bytes }
 
-    // Whatever comes of it, the guard leaves the copy, or the lockfile has what it had.
+    // Whatever comes of it, at most one call of the files failed, and one of the lockfiles; and the
+    // guard leaves the copy, or the lockfile has what it had.
+    ensures failed { OneMayFail (F.failed files.old) (F.failed files.new) }
+    ensures lockfiles_failed { OneMayFail (L.failed lockfiles.old) (L.failed lockfiles.new) }
     ensures kept { host.old.env.now.by_guard ≡ true → F.tells → L.tells
         → (bytes : Name) → F.bytes_at files.old (string_bytes places.now.copy) ≡ Some bytes
         → (F.bytes_at files.new (string_bytes places.now.copy) ≡ Some bytes)
@@ -143,6 +154,7 @@ pub(crate) fn settle<F: Files, L: Files, C: Caller, O: Sink, E: Sink>(
 
 /// Gives the lockfile these bytes, and reports it, unless it holds them: then it is written all the
 /// same, since a write on the disk removes what an interrupted one left beside it.
+#[tactic(auto, using(crate::proofs::CountLemmas::counts))]
 fn give_back<L: Files, C: Caller, O: Sink, E: Sink>(
     bytes: &[u8],
     places: &Places,
@@ -155,6 +167,9 @@ fn give_back<L: Files, C: Caller, O: Sink, E: Sink>(
     ensures told { Tells host.old.term.now host.new.term.now result }
     ensures given { result ≡ Ok true → L.tells
         → L.bytes_at lockfiles.new (string_bytes places.now.lockfile) ≡ Some bytes.now }
+    ensures counted { result ≡ Ok true
+        → GrowsBy 0 (L.failed lockfiles.old) (L.failed lockfiles.new) }
+    ensures failed { OneMayFail (L.failed lockfiles.old) (L.failed lockfiles.new) }
     ensures apart { L.tells → KeepsOthers (string_bytes places.now.lockfile)
         (L.bytes_at lockfiles.old) (L.bytes_at lockfiles.new) }
 {
@@ -184,6 +199,9 @@ fn leave<L: Files, C: Caller, O: Sink, E: Sink>(
     ensures view { host_view C.Caller O.Sink host.new
         ≡ record (host_view C.Caller O.Sink host.old) { term = host.new.term.now } }
     ensures told { Tells host.old.term.now host.new.term.now result }
+    ensures counted { result ≡ Ok true
+        → GrowsBy 0 (L.failed lockfiles.old) (L.failed lockfiles.new) }
+    ensures failed { OneMayFail (L.failed lockfiles.old) (L.failed lockfiles.new) }
     ensures same { L.tells → KeepsAll (L.bytes_at lockfiles.old) (L.bytes_at lockfiles.new) }
 {
     let path = places.lockfile.as_str();
@@ -209,6 +227,7 @@ fn holds<F: Files>(
     files: &mut F,
 ) -> Result<bool, FileFault>
     ensures held { result ≡ Ok true → F.tells → F.bytes_at files.new path.now ≡ Some bytes.now }
+    ensures counted { CountsFailedCall (F.failed files.old) (F.failed files.new) result }
     ensures same { F.tells → KeepsAll (F.bytes_at files.old) (F.bytes_at files.new) }
 {
     let held = look(alloc, files, path)?;
@@ -227,6 +246,7 @@ fn drop_copy<F: Files, E: Sink>(
     ensures gone { result ≡ Ok true → F.tells
         → F.bytes_at files.new (string_bytes places.now.copy) ≡ None }
     ensures counted { result ≡ Ok true → GrowsBy 0 (F.failed files.old) (F.failed files.new) }
+    ensures failed { OneMayFail (F.failed files.old) (F.failed files.new) }
     ensures others { F.tells → KeepsOthers (string_bytes places.now.copy)
         (F.bytes_at files.old) (F.bytes_at files.new) }
     ensures made { F.whole → MakesOrNot (removes (string_bytes places.now.copy))

@@ -1,22 +1,21 @@
 //! A whole call: what an interrupted one left is restored first, and what this one edits is kept in
 //! a journal meanwhile, under the eyes of a guard.
 
-ghost use Rattle.std.specs.Prelude.{◌≡◌, ◌↔◌, IfSome, IsTrue, Ok, OnOk, false, string_bytes, true};
+ghost use Rattle.std.specs.Prelude.{◌≡◌, ◌↔◌, ℕ, IfSome, IsTrue, Ok, false, string_bytes, true};
 ghost use Rattle.hack_base.specs.Names.{names_of};
-ghost use Rattle.hack_files.specs.Files.{Contents, KeepsOthers, MakesOrNot, removes};
+ghost use Rattle.hack_files.specs.Files.{KeepsOthers, MakesOrNot, removes};
 ghost use Rattle.hack_journal.specs.Rows.{spot_of};
 ghost use Rattle.hack_recovery.specs.AskedEdits.{is_restore};
 ghost use Rattle.hack_recovery.specs.CallCourses.{Continues, IsCallCourse, IsJournalClosed};
 ghost use Rattle.hack_recovery.specs.CallCourses.{CopiesAndRuns, IsJournaledCall, IsLockedCourse};
-ghost use Rattle.hack_recovery.specs.CallCourses.{PerformsUnjournaled, RefusesThese};
-ghost use Rattle.hack_recovery.specs.CallCourses.{RunsOverJournal, Warns};
+ghost use Rattle.hack_recovery.specs.CallCourses.{PerformsUnjournaled, RunsOverJournal, Warns};
 ghost use Rattle.hack_recovery.specs.GuardEvents.{GuardsView};
 ghost use Rattle.hack_recovery.specs.LockEvents.{LocksView};
 ghost use Rattle.hack_places.specs.PlacesView.{places_view};
 ghost use Rattle.hack_recovery.specs.Restoring.{TakesBack};
 ghost use Rattle.hack_recovery.specs.Scenes.{scene_by, scene_of};
 ghost use Rattle.hack_run.specs.Readings.{IsEarlyReading};
-ghost use Rattle.hack_files.specs.View.{files_view};
+ghost use Rattle.hack_files.specs.View.{FilesView, files_view};
 ghost use Rattle.hack_run.specs.Worlds.{IsSameHost, IsStatus, host_view};
 
 use crate::admit::{Way, admit};
@@ -31,6 +30,7 @@ use crate::restore::restore;
 use crate::unseen::blindly;
 use hack_base::writes::Sink;
 use hack_files::fs::Files;
+use hack_journal::unkept::Unkept;
 use hack_journaled::journaled::run_journaled;
 use hack_places::look::{LookFault, is_there};
 use hack_places::places::Places;
@@ -42,27 +42,29 @@ use hack_starts::starts::Starts;
 use hack_term::term::Term;
 use std::alloc::Global;
 
-/// Performs a call as `run` does, and returns its exit status, the files and the lockfiles. Before
-/// anything else it restores what an interrupted call left edited, unless another call is running;
-/// with `--restore` that is all. Where it edits manifests and restores them itself, it keeps a
-/// journal of its edits, under a lock of its workspace's folder, and a guard restores them where it
-/// ends early. `files` and `lockfiles` are the same file system.
+/// Performs a call as `run` does, and returns its exit status, the files, the lockfiles and
+/// `unkept`. Before anything else it restores what an interrupted call left edited, unless another
+/// call is running; with `--restore` that is all. Where it edits manifests and restores them
+/// itself, it keeps a journal of its edits, under a lock of its workspace's folder, and a guard
+/// restores them where it ends early. `files` and `lockfiles` are the same file system; `unkept` is
+/// told of what the journal refuses on its own, which a `u64` counts.
 #[tactic(auto, using(hack_run::proofs::ReadingLemmas::some_or_refusal))]
-pub fn perform<F: Files, L: Files, K: Locks, G: Guards, C: Starts, O: Sink, E: Sink>(
+pub fn perform<F: Files, L: Files, U: Unkept, K: Locks, G: Guards, C: Starts, O: Sink, E: Sink>(
     words: &[String],
     files: F,
     lockfiles: L,
+    unkept: U,
     keepers: &mut Keepers<K, G>,
     host: &mut Host<'_, C, O, E>,
-) -> (u8, F, L)
+) -> (u8, F, L, U)
     ensures host { IsSameHost host.old host.new }
     ensures status { IsStatus host.old.env.now.deny_warnings
         (host_view C.Caller O.Sink host.new) result.0 }
-    ensures goes { IsCallCourse (RefusesThese F.Files) F.tells F.whole L.tells C.tells K.tells G.tells
+    ensures goes { IsCallCourse F.Files L.Files U.Unkept C.tells K.tells G.tells
         (K.real keepers.old.locks) (names_of words.now) host.old.env.now
-        (scene_of F.Files L.Files C.Caller O.Sink files lockfiles
+        (scene_of F.Files L.Files U.Unkept C.Caller O.Sink files lockfiles unkept
         (K.shown keepers.old.locks) (G.shown keepers.old.guards) host.old)
-        (scene_of F.Files L.Files C.Caller O.Sink result.1 result.2
+        (scene_of F.Files L.Files U.Unkept C.Caller O.Sink result.1 result.2 result.3
         (K.shown keepers.new.locks) (G.shown keepers.new.guards) host.new) }
 {
     let mut files = files;
@@ -70,11 +72,11 @@ pub fn perform<F: Files, L: Files, K: Locks, G: Guards, C: Starts, O: Sink, E: S
         Ok(begun) => begun,
         Err(Halt::Memory) => {
             let status = report(CallFault::Memory, host);
-            return (status, files, lockfiles);
+            return (status, files, lockfiles, unkept);
         }
         Err(Halt::Unseen { asked, path }) => {
             let status = blindly(words, asked, path.as_str(), &mut files, host);
-            return (status, files, lockfiles);
+            return (status, files, lockfiles, unkept);
         }
     };
     match admit(
@@ -86,10 +88,10 @@ pub fn perform<F: Files, L: Files, K: Locks, G: Guards, C: Starts, O: Sink, E: S
     ) {
         Ok(Way::Plain) => {
             let status = plainly(words, begun, &mut files, host);
-            (status, files, lockfiles)
+            (status, files, lockfiles, unkept)
         }
-        Ok(Way::Guarded) => guarded(words, begun, files, lockfiles, keepers, host),
-        Err(fault) => (report(fault, host), files, lockfiles),
+        Ok(Way::Guarded) => guarded(words, begun, files, lockfiles, unkept, keepers, host),
+        Err(fault) => (report(fault, host), files, lockfiles, unkept),
     }
 }
 
@@ -121,12 +123,12 @@ fn plainly<F: Files, C: Starts, O: Sink, E: Sink>(
     ensures restores { is_restore begun.edits ≡ true
         → (files.new ≡ files.old) × (host_view C.Caller O.Sink host.new
         ≡ host_view C.Caller O.Sink host.old) }
-    ensures runs { is_restore begun.edits ≡ false → (lockfiles : Contents) (locks : LocksView)
-        (guards : GuardsView) → PerformsUnjournaled (RefusesThese F.Files) F.tells F.whole C.tells
+    ensures runs { is_restore begun.edits ≡ false → (lockfiles : FilesView) (unkept : ℕ)
+        (locks : LocksView) (guards : GuardsView) → PerformsUnjournaled F.Files C.tells
         (names_of words.now) host.old.env.now
-        (scene_by (files_view F.Files files.old) lockfiles locks guards
+        (scene_by (files_view F.Files files.old) lockfiles unkept locks guards
         (host_view C.Caller O.Sink host.old))
-        (scene_by (files_view F.Files files.new) lockfiles locks guards
+        (scene_by (files_view F.Files files.new) lockfiles unkept locks guards
         (host_view C.Caller O.Sink host.new)) }
 {
     if begun.edits == Edits::Restore {
@@ -149,25 +151,26 @@ fn tell_unrestored<E: Sink>(is_left: bool, term: &Term, err: &mut E) {
 }
 
 /// Performs a call under its own lock.
-fn guarded<F: Files, L: Files, K: Locks, G: Guards, C: Starts, O: Sink, E: Sink>(
+fn guarded<F: Files, L: Files, U: Unkept, K: Locks, G: Guards, C: Starts, O: Sink, E: Sink>(
     words: &[String],
     begun: Begun,
     files: F,
     lockfiles: L,
+    unkept: U,
     keepers: &mut Keepers<K, G>,
     host: &mut Host<'_, C, O, E>,
-) -> (u8, F, L)
+) -> (u8, F, L, U)
     requires reading { IfSome begun.reading
         (IsEarlyReading host.old.env.now (names_of words.now)) }
     requires place { spot_of begun.place ≡ spot_of begun.places.place }
     ensures host { IsSameHost host.old host.new }
     ensures status { IsStatus host.old.env.now.deny_warnings
         (host_view C.Caller O.Sink host.new) result.0 }
-    ensures goes { IsLockedCourse (RefusesThese F.Files) F.tells F.whole L.tells C.tells K.tells G.tells
+    ensures goes { IsLockedCourse F.Files L.Files U.Unkept C.tells K.tells G.tells
         (names_of words.now) host.old.env.now begun.edits (places_view begun.places)
-        (scene_of F.Files L.Files C.Caller O.Sink files lockfiles
+        (scene_of F.Files L.Files U.Unkept C.Caller O.Sink files lockfiles unkept
         (K.shown keepers.old.locks) (G.shown keepers.old.guards) host.old)
-        (scene_of F.Files L.Files C.Caller O.Sink result.1 result.2
+        (scene_of F.Files L.Files U.Unkept C.Caller O.Sink result.1 result.2 result.3
         (K.shown keepers.new.locks) (G.shown keepers.new.guards) host.new) }
 {
     let mut files = files;
@@ -175,11 +178,11 @@ fn guarded<F: Files, L: Files, K: Locks, G: Guards, C: Starts, O: Sink, E: Sink>
     match take_back(&begun.places, &mut files, &mut lockfiles, host) {
         Ok(is_back) => {
             if !is_back {
-                return (host.status(), files, lockfiles);
+                return (host.status(), files, lockfiles, unkept);
             }
-            go_on(words, begun, files, lockfiles, keepers, host)
+            go_on(words, begun, files, lockfiles, unkept, keepers, host)
         }
-        Err(fault) => (report(fault, host), files, lockfiles),
+        Err(fault) => (report(fault, host), files, lockfiles, unkept),
     }
 }
 
@@ -193,12 +196,12 @@ fn take_back<F: Files, L: Files, C: Caller, O: Sink, E: Sink>(
 ) -> Result<bool, CallFault>
     ensures host { IsSameHost host.old host.new }
     ensures stopped { result ≡ Ok false → host.new.term.now.error ≡ true }
-    ensures goes { (locks : LocksView) (guards : GuardsView)
+    ensures goes { (unkept : ℕ) (locks : LocksView) (guards : GuardsView)
         → TakesBack F.tells F.whole L.tells host.old.env.now.by_guard (places_view places.now)
-        (scene_by (files_view F.Files files.old) (L.bytes_at lockfiles.old) locks guards
-        (host_view C.Caller O.Sink host.old))
-        (scene_by (files_view F.Files files.new) (L.bytes_at lockfiles.new) locks guards
-        (host_view C.Caller O.Sink host.new)) result }
+        (scene_by (files_view F.Files files.old) (files_view L.Files lockfiles.old) unkept
+        locks guards (host_view C.Caller O.Sink host.old))
+        (scene_by (files_view F.Files files.new) (files_view L.Files lockfiles.new) unkept
+        locks guards (host_view C.Caller O.Sink host.new)) result }
 {
     let dir = host.env.current_dir.as_str();
     let journal = restore(host.alloc, dir, &places.place, files, host.term, host.err);
@@ -223,25 +226,26 @@ fn is_done(came: &Result<bool, CallFault>) -> bool
 
 /// Performs a call under its own lock, where nothing of an interrupted call is left.
 #[tactic(auto, using(hack_run::proofs::ReadingLemmas::some_or_refusal))]
-fn go_on<F: Files, L: Files, K: Locks, G: Guards, C: Starts, O: Sink, E: Sink>(
+fn go_on<F: Files, L: Files, U: Unkept, K: Locks, G: Guards, C: Starts, O: Sink, E: Sink>(
     words: &[String],
     begun: Begun,
     files: F,
     lockfiles: L,
+    unkept: U,
     keepers: &mut Keepers<K, G>,
     host: &mut Host<'_, C, O, E>,
-) -> (u8, F, L)
+) -> (u8, F, L, U)
     requires reading { IfSome begun.reading
         (IsEarlyReading host.old.env.now (names_of words.now)) }
     requires place { spot_of begun.place ≡ spot_of begun.places.place }
     ensures host { IsSameHost host.old host.new }
     ensures status { IsStatus host.old.env.now.deny_warnings
         (host_view C.Caller O.Sink host.new) result.0 }
-    ensures goes { Continues (RefusesThese F.Files) F.tells F.whole L.tells C.tells K.tells G.tells
+    ensures goes { Continues F.Files L.Files U.Unkept C.tells K.tells G.tells
         (names_of words.now) host.old.env.now begun.edits (places_view begun.places)
-        (scene_of F.Files L.Files C.Caller O.Sink files lockfiles
+        (scene_of F.Files L.Files U.Unkept C.Caller O.Sink files lockfiles unkept
         (K.shown keepers.old.locks) (G.shown keepers.old.guards) host.old)
-        (scene_of F.Files L.Files C.Caller O.Sink result.1 result.2
+        (scene_of F.Files L.Files U.Unkept C.Caller O.Sink result.1 result.2 result.3
         (K.shown keepers.new.locks) (G.shown keepers.new.guards) host.new) }
 {
     let mut files = files;
@@ -249,61 +253,71 @@ fn go_on<F: Files, L: Files, K: Locks, G: Guards, C: Starts, O: Sink, E: Sink>(
         Edits::None => {
             keepers.locks.release();
             let status = run(words, begun.reading, &mut files, host);
-            (status, files, lockfiles)
+            (status, files, lockfiles, unkept)
         }
         Edits::Good => {
             let status = run(words, begun.reading, &mut files, host);
-            (status, files, lockfiles)
+            (status, files, lockfiles, unkept)
         }
-        Edits::Back => journaled(words, begun, files, lockfiles, &mut keepers.guards, host),
+        Edits::Back => {
+            let guards = &mut keepers.guards;
+            journaled(words, begun, files, lockfiles, unkept, guards, host)
+        }
         Edits::Restore => {
             let status = host.status();
-            (status, files, lockfiles)
+            (status, files, lockfiles, unkept)
         }
     }
 }
 
 /// Performs a call with a journal, under the eyes of a guard.
-fn journaled<F: Files, L: Files, G: Guards, C: Starts, O: Sink, E: Sink>(
+fn journaled<F: Files, L: Files, U: Unkept, G: Guards, C: Starts, O: Sink, E: Sink>(
     words: &[String],
     begun: Begun,
     files: F,
     lockfiles: L,
+    unkept: U,
     guards: &mut G,
     host: &mut Host<'_, C, O, E>,
-) -> (u8, F, L)
+) -> (u8, F, L, U)
     requires reading { IfSome begun.reading
         (IsEarlyReading host.old.env.now (names_of words.now)) }
     requires place { spot_of begun.place ≡ spot_of begun.places.place }
     ensures host { IsSameHost host.old host.new }
     ensures status { IsStatus host.old.env.now.deny_warnings
         (host_view C.Caller O.Sink host.new) result.0 }
-    ensures goes { (locks : LocksView) → IsJournaledCall F.tells F.whole L.tells C.tells G.tells
+    ensures goes { (locks : LocksView) → IsJournaledCall F.Files L.Files U.Unkept C.tells G.tells
         (names_of words.now) host.old.env.now (places_view begun.places)
-        (scene_of F.Files L.Files C.Caller O.Sink files lockfiles locks
+        (scene_of F.Files L.Files U.Unkept C.Caller O.Sink files lockfiles unkept locks
         (G.shown guards.old) host.old)
-        (scene_of F.Files L.Files C.Caller O.Sink result.1 result.2 locks
+        (scene_of F.Files L.Files U.Unkept C.Caller O.Sink result.1 result.2 result.3 locks
         (G.shown guards.new) host.new) }
 {
     match guards.start(host.alloc, begun.places.place.folder.as_str()) {
         Ok(watches) => {
             tell_watch(watches, begun.verbose, host.term, host.err);
-            let ended = copied(words, begun, files, lockfiles, host);
+            let ended = copied(words, begun, files, lockfiles, unkept, host);
             guards.leave(ended.0);
             ended
         }
-        Err(fault) => (report(CallFault::from(fault), host), files, lockfiles),
+        Err(fault) => (
+            report(CallFault::from(fault), host),
+            files,
+            lockfiles,
+            unkept,
+        ),
     }
 }
 
 /// Performs a call with a journal, after the lockfile was copied.
-fn copied<F: Files, L: Files, C: Starts, O: Sink, E: Sink>(
+fn copied<F: Files, L: Files, U: Unkept, C: Starts, O: Sink, E: Sink>(
     words: &[String],
     begun: Begun,
     files: F,
     lockfiles: L,
+    unkept: U,
     host: &mut Host<'_, C, O, E>,
-) -> (u8, F, L)
+) -> (u8, F, L, U)
     requires reading { IfSome begun.reading
         (IsEarlyReading host.old.env.now (names_of words.now)) }
     requires place { spot_of begun.place ≡ spot_of begun.places.place }
@@ -311,10 +325,12 @@ fn copied<F: Files, L: Files, C: Starts, O: Sink, E: Sink>(
     ensures status { IsStatus host.old.env.now.deny_warnings
         (host_view C.Caller O.Sink host.new) result.0 }
     ensures goes { (locks : LocksView) (guards : GuardsView) → CopiesAndRuns
-        F.tells F.whole L.tells C.tells
+        F.Files L.Files U.Unkept C.tells
         (names_of words.now) host.old.env.now (places_view begun.places)
-        (scene_of F.Files L.Files C.Caller O.Sink files lockfiles locks guards host.old)
-        (scene_of F.Files L.Files C.Caller O.Sink result.1 result.2 locks guards host.new) }
+        (scene_of F.Files L.Files U.Unkept C.Caller O.Sink files lockfiles unkept locks guards
+        host.old)
+        (scene_of F.Files L.Files U.Unkept C.Caller O.Sink result.1 result.2 result.3 locks guards
+        host.new) }
 {
     let mut files = files;
     let mut lockfiles = lockfiles;
@@ -326,8 +342,8 @@ fn copied<F: Files, L: Files, C: Starts, O: Sink, E: Sink>(
         host.term,
         host.err,
     ) {
-        Ok(()) => over_journal(words, begun, files, lockfiles, host),
-        Err(fault) => (report(fault, host), files, lockfiles),
+        Ok(()) => over_journal(words, begun, files, lockfiles, unkept, host),
+        Err(fault) => (report(fault, host), files, lockfiles, unkept),
     }
 }
 
@@ -343,13 +359,14 @@ fn tell_watch<E: Sink>(watches: bool, verbose: bool, term: &Term, err: &mut E) {
 
 /// Performs a call over a journal, and closes it.
 #[tactic(auto, using(hack_run::proofs::ReadingLemmas::some_or_refusal))]
-fn over_journal<F: Files, L: Files, C: Starts, O: Sink, E: Sink>(
+fn over_journal<F: Files, L: Files, U: Unkept, C: Starts, O: Sink, E: Sink>(
     words: &[String],
     begun: Begun,
     files: F,
     lockfiles: L,
+    unkept: U,
     host: &mut Host<'_, C, O, E>,
-) -> (u8, F, L)
+) -> (u8, F, L, U)
     requires reading { IfSome begun.reading
         (IsEarlyReading host.old.env.now (names_of words.now)) }
     requires place { spot_of begun.place ≡ spot_of begun.places.place }
@@ -357,10 +374,12 @@ fn over_journal<F: Files, L: Files, C: Starts, O: Sink, E: Sink>(
     ensures status { IsStatus host.old.env.now.deny_warnings
         (host_view C.Caller O.Sink host.new) result.0 }
     ensures goes { (locks : LocksView) (guards : GuardsView) → RunsOverJournal
-        F.tells F.whole L.tells C.tells
+        F.Files L.Files U.Unkept C.tells
         (names_of words.now) host.old.env.now (places_view begun.places)
-        (scene_of F.Files L.Files C.Caller O.Sink files lockfiles locks guards host.old)
-        (scene_of F.Files L.Files C.Caller O.Sink result.1 result.2 locks guards host.new) }
+        (scene_of F.Files L.Files U.Unkept C.Caller O.Sink files lockfiles unkept locks guards
+        host.old)
+        (scene_of F.Files L.Files U.Unkept C.Caller O.Sink result.1 result.2 result.3 locks guards
+        host.new) }
 {
     let Begun {
         places,
@@ -368,12 +387,12 @@ fn over_journal<F: Files, L: Files, C: Starts, O: Sink, E: Sink>(
         reading,
         ..
     } = begun;
-    let (_, files, lockfiles, _, _) = run_journaled(
-        words, reading, files, lockfiles, place, 0u64, host,
+    let (_, files, lockfiles, _, unkept) = run_journaled(
+        words, reading, files, lockfiles, place, unkept, host,
     );
     let mut files = files;
     close(host.alloc, &places, &mut files, host.term, host.err);
-    (host.status(), files, lockfiles)
+    (host.status(), files, lockfiles, unkept)
 }
 
 /// Warns where a journal stays, or may; where none does, the lockfile's copy is removed, and one that

@@ -1,16 +1,15 @@
 //! A call of which it isn't known whether an interrupted one left anything, since a look at a file
 //! failed.
 
-ghost use Rattle.std.specs.Prelude.{◌≡◌, IfSome, false, true};
+ghost use Rattle.std.specs.Prelude.{◌≡◌, ℕ, IfSome, false, true};
 ghost use Rattle.hack_base.specs.Names.{names_of};
-ghost use Rattle.hack_files.specs.Files.{Contents};
 ghost use Rattle.hack_recovery.specs.AskedEdits.{is_change};
-ghost use Rattle.hack_recovery.specs.CallCourses.{PerformsUnjournaled, RefusesThese};
+ghost use Rattle.hack_recovery.specs.CallCourses.{PerformsUnjournaled};
 ghost use Rattle.hack_recovery.specs.GuardEvents.{GuardsView};
 ghost use Rattle.hack_recovery.specs.LockEvents.{LocksView};
 ghost use Rattle.hack_recovery.specs.Scenes.{scene_by, scene_with};
 ghost use Rattle.hack_run.specs.Readings.{IsEarlyReading};
-ghost use Rattle.hack_files.specs.View.{files_view};
+ghost use Rattle.hack_files.specs.View.{FilesView, files_view};
 ghost use Rattle.hack_run.specs.Worlds.{IsSameHost, IsStatus, host_view};
 
 use crate::asked::Asked;
@@ -40,13 +39,13 @@ pub(crate) fn blindly<F: Files, C: Starts, O: Sink, E: Sink>(
     ensures refused { is_change asked.edits ≡ true → (files.new ≡ files.old)
         × (host_view C.Caller O.Sink host.new ≡ record (host_view C.Caller O.Sink host.old)
         { term = record host.old.term.now { error = true } }) }
-    ensures runs { is_change asked.edits ≡ false → (lockfiles : Contents) (locks : LocksView)
-        (guards : GuardsView) → PerformsUnjournaled (RefusesThese F.Files) F.tells F.whole C.tells
+    ensures runs { is_change asked.edits ≡ false → (lockfiles : FilesView) (unkept : ℕ)
+        (locks : LocksView) (guards : GuardsView) → PerformsUnjournaled F.Files C.tells
         (names_of words.now) host.old.env.now
         (scene_with (files_view F.Files files.old) (record host.old.term.now { warn = true })
-        (scene_by (files_view F.Files files.old) lockfiles locks guards
+        (scene_by (files_view F.Files files.old) lockfiles unkept locks guards
         (host_view C.Caller O.Sink host.old)))
-        (scene_by (files_view F.Files files.new) lockfiles locks guards
+        (scene_by (files_view F.Files files.new) lockfiles unkept locks guards
         (host_view C.Caller O.Sink host.new)) }
 {
     tell_reason(host.alloc, files, host.term, host.err);

@@ -1,3 +1,5 @@
+use Rattle.std.proofs.Common.{inl}
+use Rattle.std.proofs.lemmas.Result.{err_from_is_err_and}
 use Rattle.hack_base.specs.Names.{optional_text}
 use Rattle.hack_recovery.proofs.begin.begin.Goals as goal
 
@@ -11,3 +13,16 @@ returns-clause-begun g c = record {
 
 pub returns-in-Err-Device-clause-halted : goal.returns-in-Err-Device-clause-halted
 returns-in-Err-Device-clause-halted g c = (rw c.in-Err-Device.field-0-is at c.in-Err-Device.ensures.counted, c.in_ok-asked.ensures.asks, c.in_ok-asked.ensures.reading)
+
+pub returns-in-Err-Memory-clause-halted : goal.returns-in-Err-Memory-clause-halted
+returns-in-Err-Memory-clause-halted g c = rw c.in-Err-Memory.field-0-is at c.in-Err-Memory.ensures.counted
+
+pub returns-in_err-journal-clause-halted : goal.returns-in_err-journal-clause-halted
+returns-in_err-journal-clause-halted g c =
+    let p = err_from_is_err_and c.from_residual-in_err-journal.result c.from_residual-in_err-journal.ensures.1 in
+    rw (p.1, p.2) (inl c.in-Ok.ensures.counted)
+
+pub returns-in_err-place-clause-halted : goal.returns-in_err-place-clause-halted
+returns-in_err-place-clause-halted g c =
+    let p = err_from_is_err_and c.from_residual-in_err-place.result c.from_residual-in_err-place.ensures.1 in
+    rw (p.1, p.2) (inl c.in-Ok.ensures.counted)

@@ -17,7 +17,7 @@ use Rattle.hack_recovery.proofs.call.call.Goals as goal
 pub returns-in-Err-clause-goes : goal.returns-in-Err-clause-goes
 returns-in-Err-clause-goes g c =
     let coloring = c.of-came.new.coloring in
-    let old = scene_outside g.F.Files g.L.Files g.C.Caller g.O.Sink c.args.files c.args.lockfiles (g.K.Locks.shown c.args.keepers.now.locks) (g.G.Guards.shown c.args.keepers.now.guards) c.args.outside.now in
+    let old = scene_outside g.F.Files g.L.Files g.U.Unkept g.C.Caller g.O.Sink c.args.files c.args.lockfiles c.args.unkept (g.K.Locks.shown c.args.keepers.now.locks) (g.G.Guards.shown c.args.keepers.now.guards) c.args.outside.now in
     unread c.in-Err.fault coloring c.in-Err.ensures.started c.in-Err.ensures.coloring
     (subst (λ (text : List ℕ). AppendsFront (g.E.Sink.contents c.args.outside.now.err.now) (g.E.Sink.contents c.error.new.out) (error_line coloring text)) c.text.ensures c.error.ensures.front)
     (ap (λ (t : Term). scene_on t old) c.error.ensures.noted) refl
@@ -25,7 +25,7 @@ returns-in-Err-clause-goes g c =
 pub returns-in-Err-coloring_asked-clause-goes : goal.returns-in-Err-coloring_asked-clause-goes
 returns-in-Err-coloring_asked-clause-goes g c =
     let coloring = c.of-came.new.coloring in
-    let old = scene_outside g.F.Files g.L.Files g.C.Caller g.O.Sink c.args.files c.args.lockfiles (g.K.Locks.shown c.args.keepers.now.locks) (g.G.Guards.shown c.args.keepers.now.guards) c.args.outside.now in
+    let old = scene_outside g.F.Files g.L.Files g.U.Unkept g.C.Caller g.O.Sink c.args.files c.args.lockfiles c.args.unkept (g.K.Locks.shown c.args.keepers.now.locks) (g.G.Guards.shown c.args.keepers.now.guards) c.args.outside.now in
     unread Memory coloring tt (λ i. inl (c.in-Ok.ensures.coloring i))
     (subst (λ (text : List ℕ). AppendsFront (g.E.Sink.contents c.args.outside.now.err.now) (g.E.Sink.contents c.error-in-Err-coloring_asked.new.out) (error_line coloring text)) c.text-in-Err-coloring_asked.ensures c.error-in-Err-coloring_asked.ensures.front)
     (ap (λ (t : Term). scene_on t old) c.error-in-Err-coloring_asked.ensures.noted) refl
@@ -42,6 +42,6 @@ returns-clause-goes g c =
     performed c.in-Ok.started coloring asked c.in-Ok.ensures.started c.in-Ok.ensures.coloring
     (subst (λ (ws : List Name). AsksColoring (optional_text c.in-Ok.started.env.term_color) ws asked) (ap names_of c.deref.ensures.value) c.in-Ok-coloring_asked.ensures)
     (subst (λ (e : Env). IsStatus e.deny_warnings (host_view g.C.Caller g.O.Sink c.perform-ended.new.host) c.perform-ended.result.0) c.new-host.ensures.env c.perform-ended.ensures.status)
-    (course-known _ g.F.Files.tells g.F.Files.whole g.L.Files.tells g.C.Caller.tells g.K.Locks.tells g.G.Guards.tells (g.K.Locks.real c.args.keepers.now.locks) (names_of c.deref-2.result.now) words host.env.now c.in-Ok.started.env
-    (files_view g.F.Files c.args.files) (g.L.Files.bytes_at c.args.lockfiles) (g.K.Locks.shown c.args.keepers.now.locks) (g.G.Guards.shown c.args.keepers.now.guards) (calls host.caller.now) (calls outside.caller.now) (contents host.out.now) (contents outside.out.now) host.term.now (colored (colored_by asked coloring) outside.term.now) outside.fails
+    (course-known g.F.Files g.L.Files g.U.Unkept g.C.Caller.tells g.K.Locks.tells g.G.Guards.tells (g.K.Locks.real c.args.keepers.now.locks) (names_of c.deref-2.result.now) words host.env.now c.in-Ok.started.env
+    (files_view g.F.Files c.args.files) (files_view g.L.Files c.args.lockfiles) (g.U.Unkept.told c.args.unkept) (g.K.Locks.shown c.args.keepers.now.locks) (g.G.Guards.shown c.args.keepers.now.guards) (calls host.caller.now) (calls outside.caller.now) (contents host.out.now) (contents outside.out.now) host.term.now (colored (colored_by asked coloring) outside.term.now) outside.fails
     _ (ap names_of c.deref-2.ensures.value) c.new-host.ensures.env (ap calls c.new-host.ensures.caller.1) (ap contents c.new-host.ensures.out.1) (c.new-host.ensures.term.1 ∙ c.color.ensures) c.perform-ended.ensures.goes)

@@ -7,19 +7,19 @@ use Rattle.hack_recovery.proofs.perform.over_journal.Goals as goal
 
 pub returns-clause-goes : goal.returns-clause-goes
 returns-clause-goes g c = λ locks guards.
-    let old : Scene = scene_of g.F.Files g.L.Files g.C.Caller g.O.Sink c.args.files c.args.lockfiles locks guards c.args.host.now in
-    let last : Scene = scene_of g.F.Files g.L.Files g.C.Caller g.O.Sink c.run_journaled-files.result.1 c.run_journaled-files.result.2 locks guards c.run_journaled-files.new.host in
+    let old : Scene = scene_of g.F.Files g.L.Files g.U.Unkept g.C.Caller g.O.Sink c.args.files c.args.lockfiles c.args.unkept locks guards c.args.host.now in
+    let last : Scene = scene_of g.F.Files g.L.Files g.U.Unkept g.C.Caller g.O.Sink c.run_journaled-files.result.1 c.run_journaled-files.result.2 c.run_journaled-files.result.4 locks guards c.run_journaled-files.new.host in
     let ran = c.run_journaled-files.ensures in
     record {
       failed = c.run_journaled-files.result.3;
       last = last;
-      journals = subst (λ (s : Spot). Journals g.F.Files.tells g.F.Files.whole g.L.Files.tells g.C.Caller.tells (names_of c.args.words.now) c.args.host.now.env.now s c.run_journaled-files.result.3 old last) c.requires.place
-          (record { refused = ran.refused; done = ran.done; made = ran.made; clean = ran.clean; back = ran.back; few = ran.few; gone = ran.gone; safe = ran.safe; others = ran.others; locks = refl; guards = refl });
+      journals = subst (λ (s : Spot). Journals g.F.Files g.L.Files g.U.Unkept g.C.Caller.tells (names_of c.args.words.now) c.args.host.now.env.now s c.run_journaled-files.result.3 old last) c.requires.place
+          (record { refused = ran.refused; done = ran.done; made = ran.made; clean = ran.clean; back = ran.back; few = ran.few; spoilt = ran.spoilt; number = ran.number; gone = ran.gone; safe = ran.safe; others = ran.others; locks = refl; guards = refl });
       closes = record {
         others = c.close.ensures.others;
         made = c.close.ensures.made;
         lockfiles = refl;
-        quiet = record { calls = refl; out = refl; fails = refl; locks = refl; guards = refl };
+        quiet = record { calls = refl; out = refl; fails = refl; unkept = refl; locks = refl; guards = refl };
         told = c.close.ensures.told;
       };
     }

@@ -7,7 +7,7 @@ use Rattle.hack_recovery.specs.AskedEdits.{is_change, is_restore}
 use Rattle.hack_places.specs.PlacesView.{places_view}
 use Rattle.hack_recovery.specs.Scenes.{Scene, scene_by, scene_of, scene_with}
 use Rattle.hack_recovery.specs.CallCourses.{CannotSee}
-use Rattle.hack_recovery.specs.CallCourses.IsCallCourse.{turned_away, under_its_lock}
+use Rattle.hack_recovery.specs.CallCourses.IsCallCourse.{starved, turned_away, under_its_lock}
 use Rattle.hack_recovery.proofs.CallLemmas.{plain_course, unseen_course}
 use Rattle.hack_recovery.proofs.perform.perform.Goals as goal
 
@@ -15,34 +15,35 @@ pub returns-in-Ok-Plain-clause-goes : goal.returns-in-Ok-Plain-clause-goes
 returns-in-Ok-Plain-clause-goes g c =
     let begun = c.in-Ok.begun in
     let came = c.plainly-status.ensures in
-    let lockfiles = g.L.Files.bytes_at c.args.lockfiles in
+    let lockfiles : FilesView = files_view g.L.Files c.args.lockfiles in
+    let unkept = g.U.Unkept.told c.args.unkept in
     let locks = g.K.Locks.shown c.admit.new.locks in
     let guards = g.G.Guards.shown c.args.keepers.now.guards in
-    let at : Scene = scene_of g.F.Files g.L.Files g.C.Caller g.O.Sink c.begin.new.files c.args.lockfiles locks guards c.args.host.now in
-    plain_course _ _ _ _ _ _ _ _ _ _ begun.edits (places_view begun.places) _ at _ (is_restore begun.edits) refl
+    let at : Scene = scene_of g.F.Files g.L.Files g.U.Unkept g.C.Caller g.O.Sink c.begin.new.files c.args.lockfiles c.args.unkept locks guards c.args.host.now in
+    plain_course g.F.Files g.L.Files g.U.Unkept _ _ _ _ _ _ begun.edits (places_view begun.places) _ at _ (is_restore begun.edits) refl
     (record {
       left = begun.is_left;
       begins = c.in-Ok.ensures.begun;
       admitted = rw (c.in-Ok-Plain.field-0-is, c.as_str-2.ensures.value) at c.in-Ok-Plain.ensures;
       counted = c.in-Ok.ensures.counted;
-      untouched = record { files = record { same = c.in-Ok.ensures.same; untraced = c.in-Ok.ensures.untraced }; lockfiles = refl; guards = refl; calls = refl; out = refl; fails = refl };
+      untouched = record { files = record { same = c.in-Ok.ensures.same; untraced = c.in-Ok.ensures.untraced }; lockfiles = refl; unkept = refl; guards = refl; calls = refl; out = refl; fails = refl };
     })
     refl
-    (λ on. ap (λ files. scene_by (files_view g.F.Files files) lockfiles locks guards (host_view g.C.Caller g.O.Sink c.plainly-status.new.host)) (came.restores on).0
-    ∙ ap (λ (host : HostView). scene_by (files_view g.F.Files c.begin.new.files) lockfiles locks guards host) (came.restores on).1)
-    (λ off. came.runs off lockfiles locks guards)
+    (λ on. ap (λ files. scene_by (files_view g.F.Files files) lockfiles unkept locks guards (host_view g.C.Caller g.O.Sink c.plainly-status.new.host)) (came.restores on).0
+    ∙ ap (λ (host : HostView). scene_by (files_view g.F.Files c.begin.new.files) lockfiles unkept locks guards host) (came.restores on).1)
+    (λ off. came.runs off lockfiles unkept locks guards)
 
 pub returns-in-Ok-Guarded-clause-goes : goal.returns-in-Ok-Guarded-clause-goes
 returns-in-Ok-Guarded-clause-goes g c =
     let begun = c.in-Ok.begun in
-    let at : Scene = scene_of g.F.Files g.L.Files g.C.Caller g.O.Sink c.begin.new.files c.args.lockfiles (g.K.Locks.shown c.admit.new.locks) (g.G.Guards.shown c.args.keepers.now.guards) c.args.host.now in
+    let at : Scene = scene_of g.F.Files g.L.Files g.U.Unkept g.C.Caller g.O.Sink c.begin.new.files c.args.lockfiles c.args.unkept (g.K.Locks.shown c.admit.new.locks) (g.G.Guards.shown c.args.keepers.now.guards) c.args.host.now in
     under_its_lock begun.edits (places_view begun.places) at
     (record {
       left = begun.is_left;
       begins = c.in-Ok.ensures.begun;
       admitted = rw (c.in-Ok-Guarded.field-0-is, c.as_str-2.ensures.value) at c.in-Ok-Guarded.ensures;
       counted = c.in-Ok.ensures.counted;
-      untouched = record { files = record { same = c.in-Ok.ensures.same; untraced = c.in-Ok.ensures.untraced }; lockfiles = refl; guards = refl; calls = refl; out = refl; fails = refl };
+      untouched = record { files = record { same = c.in-Ok.ensures.same; untraced = c.in-Ok.ensures.untraced }; lockfiles = refl; unkept = refl; guards = refl; calls = refl; out = refl; fails = refl };
     })
     refl c.guarded.ensures.goes
 
@@ -55,9 +56,23 @@ returns-in-Err-clause-goes g c =
       begins = c.in-Ok.ensures.begun;
       admitted = rw c.as_str-2.ensures.value at c.in-Err.ensures;
       counted = c.in-Ok.ensures.counted;
-      untouched = record { files = record { same = c.in-Ok.ensures.same; untraced = c.in-Ok.ensures.untraced }; lockfiles = refl; guards = refl; calls = ap (λ (h : HostView). h.calls) c.report.ensures.view; out = ap (λ (h : HostView). h.out) c.report.ensures.view; fails = ap (λ (h : HostView). h.fails) c.report.ensures.view };
+      untouched = record { files = record { same = c.in-Ok.ensures.same; untraced = c.in-Ok.ensures.untraced }; lockfiles = refl; unkept = refl; guards = refl; calls = ap (λ (h : HostView). h.calls) c.report.ensures.view; out = ap (λ (h : HostView). h.out) c.report.ensures.view; fails = ap (λ (h : HostView). h.fails) c.report.ensures.view };
     })
     c.report.ensures.error
+
+pub returns-in-Err-Memory-clause-goes : goal.returns-in-Err-Memory-clause-goes
+returns-in-Err-Memory-clause-goes g c =
+    starved
+    (record {
+      files = record { same = c.in-Err-Memory.ensures.same; untraced = c.in-Err-Memory.ensures.untraced };
+      lockfiles = refl;
+      unkept = refl;
+      guards = refl;
+      calls = ap (λ (h : HostView). h.calls) c.report-status.ensures.view;
+      out = ap (λ (h : HostView). h.out) c.report-status.ensures.view;
+      fails = ap (λ (h : HostView). h.fails) c.report-status.ensures.view;
+    })
+    (rw c.in-Err-Memory.field-0-is at c.in-Err-Memory.ensures.halted) refl c.report-status.ensures.error
 
 pub returns-in-Err-Unseen-clause-goes : goal.returns-in-Err-Unseen-clause-goes
 returns-in-Err-Unseen-clause-goes g c =
@@ -66,19 +81,20 @@ returns-in-Err-Unseen-clause-goes g c =
     let came = c.blindly-status.ensures in
     let term = c.args.host.now.term.now in
     let seen : FilesView = files_view g.F.Files c.begin.new.files in
-    let lockfiles = g.L.Files.bytes_at c.args.lockfiles in
+    let lockfiles : FilesView = files_view g.L.Files c.args.lockfiles in
+    let unkept = g.U.Unkept.told c.args.unkept in
     let locks = g.K.Locks.shown c.args.keepers.now.locks in
     let guards = g.G.Guards.shown c.args.keepers.now.guards in
-    let old : Scene = scene_of g.F.Files g.L.Files g.C.Caller g.O.Sink c.args.files c.args.lockfiles locks guards c.args.host.now in
+    let old : Scene = scene_of g.F.Files g.L.Files g.U.Unkept g.C.Caller g.O.Sink c.args.files c.args.lockfiles c.args.unkept locks guards c.args.host.now in
     let unseen : (now : Term) → CannotSee g.F.Files.tells g.F.Files.whole (names_of c.args.words.now) c.args.host.now.env.now asked.edits old (scene_with seen now old) = λ now. record {
       path = optional_text asked.manifest_path;
       asked = halted.1;
       failed = halted.0;
-      untouched = record { files = record { same = c.in-Err-Unseen.ensures.same; untraced = c.in-Err-Unseen.ensures.untraced }; lockfiles = refl; guards = refl; calls = refl; out = refl; fails = refl };
+      untouched = record { files = record { same = c.in-Err-Unseen.ensures.same; untraced = c.in-Err-Unseen.ensures.untraced }; lockfiles = refl; unkept = refl; guards = refl; calls = refl; out = refl; fails = refl };
       locks = refl;
     } in
-    unseen_course _ _ _ _ _ _ _ _ _ _ asked.edits old (scene_with seen (record term { error = true }) old) (scene_with seen (record term { warn = true }) old) _ (is_change asked.edits) refl
+    unseen_course g.F.Files g.L.Files g.U.Unkept _ _ _ _ _ _ asked.edits old (scene_with seen (record term { error = true }) old) (scene_with seen (record term { warn = true }) old) _ (is_change asked.edits) refl
     (unseen (record term { error = true })) refl (unseen (record term { warn = true })) refl
-    (λ on. ap (λ files. scene_by (files_view g.F.Files files) lockfiles locks guards (host_view g.C.Caller g.O.Sink c.blindly-status.new.host)) (came.refused on).0
-    ∙ ap (λ (host : HostView). scene_by seen lockfiles locks guards host) (came.refused on).1)
-    (λ off. came.runs off lockfiles locks guards)
+    (λ on. ap (λ files. scene_by (files_view g.F.Files files) lockfiles unkept locks guards (host_view g.C.Caller g.O.Sink c.blindly-status.new.host)) (came.refused on).0
+    ∙ ap (λ (host : HostView). scene_by seen lockfiles unkept locks guards host) (came.refused on).1)
+    (λ off. came.runs off lockfiles unkept locks guards)

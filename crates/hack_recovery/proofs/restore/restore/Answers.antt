@@ -9,7 +9,7 @@ use Rattle.hack_recovery.proofs.restore.restore.Goals as goal
 
 pub returns-in-Some : goal.returns-in-Some
 returns-in-Some g c =
-    strange (edit_of c.in-Some.entry.now).path (record { same = c.in-Ok.ensures.same; untraced = c.in-Ok.ensures.untraced })
+    strange (edit_of c.in-Some.entry.now).path (record { same = c.in-Ok.ensures.same; untraced = c.in-Ok.ensures.untraced }) c.in-Ok.ensures.failures
     (one_named g.F.Files.tells (spot_of c.args.place.now) (g.F.Files.bytes_at c.args.files.now) c.in-Ok.row (edit_of c.in-Some.entry.now) c.in-Ok.ensures.some
     (sym (ap (option_map (λ entry. edit_of entry.now)) c.in-Some.is) ∙ c.stranger_in.ensures))
     c.tell_stranger.ensures.never c.tell_stranger.ensures.told
