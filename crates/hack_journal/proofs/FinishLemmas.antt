@@ -7,9 +7,11 @@ use Rattle.hack_files.specs.Files.{Change, Contents, Makes, MakesOrNot, removes,
 use Rattle.hack_journal.specs.Journal.{Edit, journal_text}
 use Rattle.hack_journal.specs.Rows.{Spot, AreEach, IsFresh, IsNoteOf, KeepsBeside, file_at}
 use Rattle.hack_journal.specs.SafeFiles.{SomeEntryHasBytes, KeepFirst, IsJournaled, StaysSafe, Stays, AreBack}
+use Rattle.hack_journal.specs.Strangers.{first_stranger}
 use Rattle.hack_journal.specs.Internal.{IsAllBack, ShortensRow}
 use Rattle.hack_journal.specs.SafeLaws.{fresh_less, makes_append, note_text, safe_of, stay_append, stay_none}
 use Rattle.hack_journal.proofs.ChangeLemmas.{makes_here, makes_others}
+use Rattle.hack_journal.proofs.KnownLemmas.{known_left}
 use Rattle.hack_journal.proofs.RowLemmas.{all_first, apart_from, each_along, each_less, file_differ, file_zero, fresh_changed}
 use Rattle.hack_journal.proofs.SafeLemmas.{keeps_left, stay_one}
 
@@ -38,6 +40,7 @@ removed_next s o es t u m n low makes same k =
       each = each_along s m n 0 es (λ i least lt. others (file_at j i) (file_differ j i (length es) (omega (arith, lt, low)) low (omega (arith, lt)))) k.each;
       ends = inl (here, refl);
       fresh = fresh_changed j (suc (length es)) (length es) o m n (omega arith) others k.fresh;
+      known = ap first_stranger (append-nil es) ∙ known_left es k.more k.known;
       keeps = subst (λ (l : List Edit). KeepFirst j o l) (sym (append-nil es)) (keeps_left j o es k.more k.keeps);
       holds = λ q out. inl (others q (apart_from j (length es) q out) ∙ same q out);
     }
@@ -53,6 +56,7 @@ popped_here s o es e n none same k =
       each = less.0;
       ends = inr (note_text s.folder (n (file_at s.journal (length es))) e less.1, gone);
       fresh = fresh_less s.journal (suc (length es)) o n (subst (λ (i : ℕ). IsFresh s.journal (suc i) o n) len k.fresh) gone;
+      known = known_left (es ++ e ∷ []) k.more k.known;
       keeps = keeps_left s.journal o (es ++ e ∷ []) k.more k.keeps;
       holds = λ q out. inl (same q out);
     }

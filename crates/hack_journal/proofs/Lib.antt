@@ -7,4 +7,6 @@ mod FinishLemmas
 pub mod RecoverLemmas
 mod CountLemmas
 mod CutLemmas
+mod KnownLemmas
+pub mod OnceLemmas
 pub mod RefusingLemmas

@@ -17,8 +17,10 @@ use Rattle.hack_journal.specs.Internal.{AddsChanged, AddsIfOther, HoldsNoText, I
 use Rattle.hack_journal.specs.declared.recover.RecoverFault.{RecoverFault}
 use Rattle.hack_journal.specs.declared.recover.RecoverFault.TheVariants.{Memory, NotJournal, Changed, Files}
 use Rattle.hack_journal.specs.SafeLaws.{fresh_less, stay_none, stay_append}
+use Rattle.hack_journal.specs.Strangers.{first_stranger}
 use Rattle.hack_journal.proofs.ChangeLemmas.{makes_here, makes_others, changed_other}
 use Rattle.hack_journal.proofs.FinishLemmas.{all_same}
+use Rattle.hack_journal.proofs.KnownLemmas.{known_left}
 use Rattle.hack_journal.proofs.RowLemmas.{all_first, apart_from, file_differ, file_zero, first_along, first_there, fresh_apart, fresh_changed, own_file, row_of, row_only, there_not_none}
 use Rattle.hack_journal.proofs.SafeLemmas.{keeps_left, stay_one, First, first_keeps}
 
@@ -107,6 +109,7 @@ back_made s o es p x t u m n makes h held out =
     record {
       row = record { count = h.row.count; files = first_along s m n h.row.count es (λ i lt. file i) h.row.files; ends = file h.row.count ∙ h.row.ends };
       fresh = fresh_apart s.journal h.row.count o m n own h.fresh;
+      known = h.known;
       keeps = h.keeps;
       holds = λ q other. elim (cases_Bool (bytes_eq p q)) [
         | inl t ↦ let is = (bytes_eq-Decides p q).0 t in inl (subst (λ (r : List ℕ). n r ≡ o r) is (here ∙ sym held))
@@ -404,7 +407,7 @@ comes_back_of s o c es m n w same by is back gone =
 pub back_but_safe : (s : Spot) (o : Contents) (c : ℕ) (m : Contents) → IsBackBut s o c m → IsSafe s o m
 back_but_safe s o c m h = record {
   entries = h.entries;
-  by = record { row = record { count = c; files = h.files; ends = h.ends }; fresh = h.fresh; keeps = h.keeps; holds = λ q out. inl (h.same q out) };
+  by = record { row = record { count = c; files = h.files; ends = h.ends }; fresh = h.fresh; known = h.known; keeps = h.keeps; holds = λ q out. inl (h.same q out) };
 }
 
 -- its last file was removed
@@ -418,6 +421,7 @@ removed_last s o c t u m n low makes h =
       files = first_along s m n c h.files.0 (λ i lt. others (file_at j i) (file_differ j i c (omega (arith, lt, low)) (omega (arith, low)) (omega (arith, lt)))) h.files.2;
       ends = here;
       fresh = fresh_less j c o n (fresh_changed j (suc c) c o m n (omega arith) others h.fresh) here;
+      known = known_left h.files.0 h.files.1 (ap first_stranger (sym h.files.4) ∙ h.known);
       keeps = keeps_left j o h.files.0 h.files.1 (subst (λ (l : List Edit). KeepFirst j o l) h.files.4 h.keeps);
       same = λ q out. others q (apart_from j c q out) ∙ h.same q out;
     }
@@ -438,6 +442,7 @@ back_but_of s o c es m n by is back =
       files = first_along s m n by.row.count es (λ i lt. file i) by.row.files;
       ends = file by.row.count ∙ by.row.ends;
       fresh = fresh_apart s.journal by.row.count o m n own by.fresh;
+      known = by.known;
       keeps = by.keeps;
       same = λ q out. back q ∙ backs_first s o es m by q out;
     })

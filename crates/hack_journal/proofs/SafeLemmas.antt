@@ -9,9 +9,11 @@ use Rattle.hack_files.specs.Files.{Change, Contents, after_change, after, KeepsA
 use Rattle.hack_journal.specs.Journal.{Edit}
 use Rattle.hack_journal.specs.Rows.{Spot, IsFresh, IsNoteOf, IsTextOf, file_at, is_of_journal}
 use Rattle.hack_journal.specs.SafeFiles.{gives, SomeEntryHasBytes, first_entry_of, KeepFirst, HoldFirstOrTold, IsSafe, IsJournaled, StaysSafe, Stays, changes_besides, without}
+use Rattle.hack_journal.specs.Strangers.{first_stranger, is_edit_of_manifest}
 use Rattle.hack_journal.specs.Internal.{Hidden, IsHeld, IsNotable}
 use Rattle.hack_journal.specs.SafeLaws.{makes_append, holds_left, note_text, safe_of, fronts_none, stays_more, stays_none}
 use Rattle.hack_journal.proofs.ChangeLemmas.{makes_here, makes_others, changed_other}
+use Rattle.hack_journal.proofs.KnownLemmas.{known_left, known_more}
 use Rattle.hack_journal.proofs.RowLemmas.{apart_from, each_along, each_more, file_differ, fresh_apart, fresh_changed, fresh_more, file_zero, nothing_yet, own_file}
 
 -- the first entry of a path has what it held at first; without one, no entry has bytes of the path
@@ -78,6 +80,7 @@ written s o es text e t u m n r makes k =
         others (file_at j (suc (length es))) (file_differ j (suc (length es)) (length es) low (omega (arith, low)) (omega arith)) ∙ r.absent,
       );
       fresh = fresh_changed j (suc (length es)) (length es) o m n (omega arith) others k.fresh;
+      known = known_more es e (known_left es k.more k.known) r.notable.known;
       keeps = keeps_more j o es k.more e k.keeps (held_keeps j o es e.path (first_entry_of es e.path) m e.held r.notable.apart (first_keeps j o es k.more e.path k.keeps) k.holds r.notable.held) r.notable.apart r.utf8;
       holds = λ q out. let same = others q (apart_from j (length es) q out) in
           elim (k.holds q out) [ inl is ↦ inl (same ∙ is) | inr told ↦ inr (subst (SomeEntryHasBytes es q) (sym same) told) ];
@@ -92,6 +95,7 @@ moved s o es e n low note none k is =
       each = each_more s n es e k.each note;
       ends = inl (subst (λ (i : ℕ). n (file_at s.journal i) ≡ None) len none, refl);
       fresh = subst (λ (i : ℕ). IsFresh s.journal (suc i) o n) len (fresh_more s.journal (suc (length es)) o n low k.fresh none);
+      known = ap first_stranger (append-nil (es ++ e ∷ []) ∙ sym (ap (λ (l : List Edit). es ++ l) is)) ∙ k.known;
       keeps = subst (λ (l : List Edit). KeepFirst s.journal o l) (ap (λ (l : List Edit). es ++ l) is ∙ sym (append-nil (es ++ e ∷ []))) k.keeps;
       holds = holds_left s.journal o es (e ∷ []) n k.holds;
     }
@@ -157,6 +161,7 @@ put_stays s es p x t u m n out told makes o k =
         | inr last ↦ inr (subst (λ (y : Option (List ℕ)). IsTextOf s.folder y k.more) (sym (file (length es))) last.0, file (suc (length es)) ∙ last.1)
       ];
       fresh = fresh_apart s.journal (suc (length es)) o m n own k.fresh;
+      known = k.known;
       keeps = k.keeps;
       holds = λ q other. elim (cases_Bool (bytes_eq p q)) [
         | inl t ↦ let is = (bytes_eq-Decides p q).0 t in inr (subst (λ (r : List ℕ). SomeEntryHasBytes es r (n r)) is (subst (SomeEntryHasBytes es p) (sym here) told))
@@ -272,14 +277,16 @@ journaled_begun s o none = record {
   each = tt;
   ends = inl (ap o (file_zero s.journal) ∙ none, refl);
   fresh = nothing_yet s.journal o none;
+  known = refl;
   keeps = tt;
   holds = λ q out. inl refl;
 }
 
 -- an entry that was made after looks that changed nothing
-pub notable_of : (j : List ℕ) (es : List Edit) (l m : Contents) (e : Edit) (p : List ℕ) → e.path ≡ p → m ≡ l → is_of_journal j p ≡ false → IsHeld (first_entry_of es p) (l p) e.held → IsNotable j es m e
-notable_of j es l m e p path same out held = record {
+pub notable_of : (j : List ℕ) (es : List Edit) (l m : Contents) (e : Edit) (p : List ℕ) → e.path ≡ p → m ≡ l → is_of_journal j p ≡ false → is_edit_of_manifest e ≡ true → IsHeld (first_entry_of es p) (l p) e.held → IsNotable j es m e
+notable_of j es l m e p path same out known held = record {
   apart = ap (is_of_journal j) path ∙ out;
+  known = known;
   held = subst (λ (x : Contents). IsHeld (first_entry_of es e.path) (x e.path) e.held) (sym same) (subst (λ (q : List ℕ). IsHeld (first_entry_of es q) (l q) e.held) (sym path) held);
 }
 

@@ -1,10 +1,11 @@
 -- What only private functions of the crate promise each other.
-use Rattle.std.specs.Prelude.{◌≡◌, ◌≢◌, ◌⊎◌, ◌++◌, [], ◌∷◌, ℕ, false, List, Option, Some, None, IsSome, string_bytes}
+use Rattle.std.specs.Prelude.{◌≡◌, ◌≢◌, ◌⊎◌, ◌++◌, [], ◌∷◌, ℕ, false, true, List, Option, Some, None, IsSome, string_bytes}
 use Rattle.hack_base.specs.Counters.{GrowsBy}
 use Rattle.hack_files.specs.Files.{Change, Contents, Makes}
 use Rattle.hack_journal.specs.Journal.{Edit}
 use Rattle.hack_journal.specs.Rows.{Spot, AreFirst, IsFresh, IsTextOf, file_at, is_of_journal}
 use Rattle.hack_journal.specs.SafeFiles.{KeepFirst, StaysSafe, gives, changes_besides, IsJournaled, first_entry_of}
+use Rattle.hack_journal.specs.Strangers.{first_stranger, is_edit_of_manifest}
 use Rattle.hack_journal.specs.declared.recover.RecoverFault.{RecoverFault}
 use Rattle.hack_journal.specs.declared.recover.RecoverFault.TheVariants.{Memory, NotJournal, Changed, Files}
 use Rattle.hack_journal.specs.Recovery.{AreChanged, CountsRecoverFault, HasEntry, IsCut, IsJournalRefusal, IsOwn, NamesPath}
@@ -125,6 +126,7 @@ pub record IsBackBut (spot : Spot) (first : Contents) (count : ℕ) (now : Conte
   pub files : AreFirst spot now count entries
   pub ends : now (file_at spot.journal count) ≡ None
   pub fresh : IsFresh spot.journal count first now
+  pub known : first_stranger entries ≡ None
   pub keeps : KeepFirst spot.journal first entries
   pub same : IsAllBack spot.journal first now
 
@@ -136,10 +138,11 @@ abbrev pub IsHeld : Option Edit → Option (List ℕ) → Option (List ℕ) → 
 IsHeld None now held = now ≡ held
 IsHeld (Some e) now held = e.held ≡ held
 
--- an entry that may be noted: its path is text, not set aside for the journal, and it keeps what that
--- held at first
+-- an entry that may be noted: it is one that a call makes, its path is not set aside for the journal,
+-- and it keeps what that held at first
 pub record IsNotable (journal : List ℕ) (entries : List Edit) (now : Contents) (e : Edit) : Type 0 where
   pub apart : is_of_journal journal e.path ≡ false
+  pub known : is_edit_of_manifest e ≡ true
   pub held : IsHeld (first_entry_of entries e.path) (now e.path) e.held
 
 -- changes of the journal alone were made

@@ -1,5 +1,6 @@
 pub mod Journal
 pub mod Rows
+pub mod Strangers
 pub mod SafeFiles
 pub mod SafeLaws
 pub mod Recovery

@@ -4,6 +4,7 @@ use Rattle.std.specs.Str.{bytes_eq, IsUtf8}
 use Rattle.hack_files.specs.Files.{Change, Contents, after, Makes}
 use Rattle.hack_journal.specs.Journal.{Edit}
 use Rattle.hack_journal.specs.Rows.{Spot, file_at, is_of_journal, AreEach, IsFresh, IsRowOf, IsTextOf}
+use Rattle.hack_journal.specs.Strangers.{first_stranger}
 
 -- the change by which a path is given these bytes, or removed
 abbrev pub gives : List ℕ → Option (List ℕ) → Change
@@ -44,10 +45,12 @@ abbrev pub HoldFirstOrTold : List ℕ → Contents → List Edit → Contents �
 HoldFirstOrTold journal first es now =
     (q : List ℕ) → is_of_journal journal q ≡ false → (now q ≡ first q) ⊎ SomeEntryHasBytes es q (now q)
 
--- the journal has these entries; each path holds what it held at first, or an entry keeps that
+-- the journal has these entries, each of which a call makes; each path holds what it held at first, or
+-- an entry keeps that
 pub record IsSafeBy (spot : Spot) (first : Contents) (entries : List Edit) (now : Contents) : Type 0 where
   pub row : IsRowOf spot now entries
   pub fresh : IsFresh spot.journal row.count first now
+  pub known : first_stranger entries ≡ None
   pub keeps : KeepFirst spot.journal first entries
   pub holds : HoldFirstOrTold spot.journal first entries now
 
@@ -68,6 +71,7 @@ pub record IsJournaled (spot : Spot) (first : Contents) (entries : List Edit) (n
   pub each : AreEach spot now 0 entries
   pub ends : EndsWith spot now (length entries) more
   pub fresh : IsFresh spot.journal (suc (length entries)) first now
+  pub known : first_stranger (entries ++ more) ≡ None
   pub keeps : KeepFirst spot.journal first (entries ++ more)
   pub holds : HoldFirstOrTold spot.journal first entries now
 

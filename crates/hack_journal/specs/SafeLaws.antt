@@ -7,6 +7,7 @@ use Rattle.std.proofs.lemmas.Slice.Eq.{bytes_eq-Decides}
 use Rattle.hack_files.specs.Files.{Change, Contents, after_change, after, Makes}
 use Rattle.hack_journal.specs.Journal.{Edit}
 use Rattle.hack_journal.specs.Rows.{Spot, AreEach, AreFirst, IsBeside, IsFresh, IsNoteOf, IsTextOf, file_at}
+use Rattle.hack_journal.specs.Strangers.{first_stranger}
 use Rattle.hack_journal.specs.SafeFiles.{KeepFirst, SomeEntryHasBytes, HoldFirstOrTold, IsSafe, IsJournaled, StaysSafe, Stays}
 
 pub after_append : (xs ys : List Change) (m : Contents) → after (xs ++ ys) m ≡ after ys (after xs m)
@@ -74,6 +75,7 @@ safe_of s o es m k = elim k.ends [
     by = record {
       row = record { count = length es; files = each_row s m es k.each; ends = none.0 };
       fresh = fresh_less s.journal (length es) o m k.fresh none.0;
+      known = ap first_stranger (sym (ap (λ (l : List Edit). es ++ l) none.1 ∙ append-nil es)) ∙ k.known;
       keeps = subst (λ (l : List Edit). KeepFirst s.journal o l) (ap (λ (l : List Edit). es ++ l) none.1 ∙ append-nil es) k.keeps;
       holds = k.holds;
     };
@@ -83,6 +85,7 @@ safe_of s o es m k = elim k.ends [
     by = record {
       row = record { count = suc (length es); files = (es, k.more, each_row s m es k.each, last.0, refl); ends = last.1 };
       fresh = k.fresh;
+      known = k.known;
       keeps = k.keeps;
       holds = holds_left s.journal o es k.more m k.holds;
     };

@@ -5,10 +5,11 @@
 //! [`crate::recover::recover`] puts it back.
 //!
 //! A write or removal is refused by the files below, or because the journal can't keep what it
-//! replaces: then an [`Unkept`] is told of it.
+//! replaces: then an [`Unkept`] is told of it. It keeps edits of manifests alone, since the next
+//! call restores nothing for a journal that names anything else.
 
 ghost use Rattle.std.specs.Prelude.{◌≡◌, ◌<◌, ◌++◌, ◌+◌, ◌^◌, [], ◌∷◌, ℕ, None, Some, length};
-ghost use Rattle.std.specs.Prelude.{Ok, false};
+ghost use Rattle.std.specs.Prelude.{Ok, false, true};
 ghost use Rattle.std.specs.Prelude.{IfOk, OnOk, OnErr, IsTrue, IsSome, ◌↔◌, string_bytes};
 ghost use Rattle.std.specs.Option.{option_map};
 ghost use Rattle.hack_files.specs.Files.{Contents, CountsFailedCall, KeepsOthers, KeepsAll};
@@ -19,12 +20,14 @@ ghost use Rattle.hack_journal.specs.SafeFiles.{SomeEntryHasBytes, first_entry_of
 ghost use Rattle.hack_journal.specs.SafeFiles.{IsJournaled, Stays, changes_besides, without};
 ghost use Rattle.hack_journal.specs.Internal.{Hidden, IsHeld, IsNotable, ShortensRow};
 ghost use Rattle.hack_journal.specs.Refusing.{IsCounted, IsRefusedOrUnkept, TellsItsOwn};
+ghost use Rattle.hack_journal.specs.Strangers.{is_edit_of_manifest};
 
 use crate::contents::{Writing, are_back, look, put};
 use crate::entries::{copy, first, tells};
 use crate::journal::{Entry, spell_at};
 use crate::notes::Notes;
 use crate::place::{Place, relative};
+use crate::strangers::edit_of_manifest;
 use crate::unkept::Unkept;
 use hack_files::fs::{FileFault, Files, count_failure, counted};
 use std::alloc::Global;
@@ -100,7 +103,8 @@ impl<F: Files, U: Unkept> Journaled<F, U> {
         }
     }
 
-    /// Makes the entry of a path that is to hold these bytes, or be removed.
+    /// Makes the entry of a path that is to hold these bytes, or be removed. Unless it is of a
+    /// manifest that was there and is to hold another text, it is refused.
     fn entry(&mut self, path: &str, bytes: Option<&[u8]>) -> Result<Entry, FileFault>
         ensures handed { F.stays self.old.files self.new.files }
         ensures below { Grows (F.failed self.old.files) (F.failed self.new.files) }
@@ -111,19 +115,14 @@ impl<F: Files, U: Unkept> Journaled<F, U> {
         ensures held { IfOk result (λ entry. F.tells →
             IsHeld (first_entry_of self.old.notes.entries path.now)
             (F.bytes_at self.old.files path.now) (edit_of entry).held) }
+        ensures known { IfOk result (λ entry. is_edit_of_manifest (edit_of entry) ≡ true) }
         ensures same { F.tells →
             KeepsAll (F.bytes_at self.old.files) (F.bytes_at self.new.files) }
         ensures untraced { F.whole → Makes [] (F.trace self.old.files) (F.trace self.new.files)
             (F.bytes_at self.old.files) (F.bytes_at self.new.files) }
     {
         let held = self.held_at_first(path)?;
-        let Ok(wrote) = copy(self.alloc, bytes) else {
-            return Err(FileFault::Memory);
-        };
-        let Ok(path) = String::from_str(self.alloc, path) else {
-            return Err(FileFault::Memory);
-        };
-        Ok(Entry { path, held, wrote })
+        edit_of_manifest(self.alloc, path, held, bytes)
     }
 
     /// The text that keeps an entry. It is refused where no way leads from the folder to the path.

@@ -1,8 +1,8 @@
 //! Who is told of what a journal refuses on its own.
 //!
 //! What the files below refuse they tell themselves. But memory for the journal can be refused too,
-//! a look that it needs can fail, and its own paths are none of the files. Nobody but `note` can say
-//! that a write was refused for such a reason.
+//! a look that it needs can fail, its own paths are none of the files, and it keeps edits of
+//! manifests alone. Nobody but `note` can say that a write was refused for such a reason.
 
 ghost use Rattle.std.specs.Prelude.{List, ℕ};
 ghost use Rattle.hack_base.specs.Counters.{GrowsBy};

@@ -1,5 +1,4 @@
 pub mod AskedEdits
-pub mod Strangers
 pub mod LockEvents
 pub mod MemoryLocks
 pub mod GuardEvents

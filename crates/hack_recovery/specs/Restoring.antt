@@ -7,13 +7,13 @@ use Rattle.hack_files.specs.Files.{Contents, KeepsAll, KeepsOthers, Makes, Makes
 use Rattle.hack_journal.specs.Recovery.{CountsRecoverFault, IsJournalRefusal, IsRestored, IsWhy, IsWhyUnread, SparesOthers}
 use Rattle.hack_journal.specs.Rows.{Spot}
 use Rattle.hack_journal.specs.SafeFiles.{IsSafe, StaysSafe}
+use Rattle.hack_journal.specs.Strangers.{NamesNone, NamesStranger}
 use Rattle.hack_journal.specs.declared.recover.RecoverFault.{RecoverFault}
 use Rattle.hack_files.specs.View.{FilesView}
 use Rattle.hack_term.specs.declared.term.Term.{Term}
 use Rattle.hack_places.specs.CallPlaces.{PlacesAt}
 use Rattle.hack_places.specs.FileLooks.{Unchanged}
 use Rattle.hack_recovery.specs.Scenes.{IsQuiet, OneMayFail, Scene, scene_with}
-use Rattle.hack_recovery.specs.Strangers.{NamesNone, NamesStranger}
 use Rattle.hack_recovery.specs.Telling.{Tells}
 use Rattle.hack_recovery.specs.declared.fault.CallFault.{CallFault}
 
@@ -42,13 +42,13 @@ pub data IsBroughtBack (tells whole : Type 0) (spot : Spot) (old new : FilesView
   brought : (paths : List Name) → Recovers tells whole spot paths old new → came ≢ Ok false → IsBroughtBack tells whole spot old new came
   stopped : (fault : RecoverFault) → FailsToRestore tells whole spot fault old new → came ≢ Ok true → IsBroughtBack tells whole spot old new came
 
--- what became of a journal: it can't be read, or it names a file that no call edits, and nothing is
--- changed; or it names none, and what it keeps was brought back. An error was reported where it
--- isn't back
+-- what became of a journal: it can't be read, or it names a file that no call edits, as none does that
+-- an interrupted call left, and nothing is changed; or it names none, and what it keeps was brought
+-- back. An error was reported where it isn't back
 pub data Restores (tells whole : Type 0) (spot : Spot) (old new : FilesView) (was now : Term) (came : Result Bool CallFault) : Type 0 where
   unread : (fault : RecoverFault) → Unchanged tells whole old new → CountsRecoverFault old.failed new.failed fault → IsWhyUnread spot tells old.held fault → came ≢ Ok true → Tells was now came
       → Restores tells whole spot old new was now came
-  strange : (path : Name) → Unchanged tells whole old new → GrowsBy 0 old.failed new.failed → (tells → NamesStranger spot old.held path) → came ≢ Ok true → Tells was now came
+  strange : (path : Name) → Unchanged tells whole old new → GrowsBy 0 old.failed new.failed → (tells → NamesStranger spot old.held path) → (tells → (first : Contents) → ¬ IsSafe spot first old.held) → came ≢ Ok true → Tells was now came
       → Restores tells whole spot old new was now came
   trusted : (at : FilesView) → Unchanged tells whole old at → GrowsBy 0 old.failed at.failed → (tells → NamesNone spot old.held) → IsBroughtBack tells whole spot at new came → Tells was now came
       → Restores tells whole spot old new was now came

@@ -14,5 +14,4 @@ mod lockfile;
 pub mod locks;
 pub mod perform;
 mod restore;
-mod strangers;
 mod unseen;

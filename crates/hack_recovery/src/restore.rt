@@ -3,13 +3,12 @@
 ghost use Rattle.std.specs.Prelude.{◌≡◌, ◌≢◌, IfErr, IfOk, Ok, option_and_then, option_map, true};
 ghost use Rattle.hack_journal.specs.Journal.{edit_of, edits_of};
 ghost use Rattle.hack_journal.specs.Rows.{spot_of};
+ghost use Rattle.hack_journal.specs.Strangers.{first_stranger};
 ghost use Rattle.hack_recovery.specs.Restoring.{IsBroughtBack, Restores};
-ghost use Rattle.hack_recovery.specs.Strangers.{first_stranger};
 ghost use Rattle.hack_recovery.specs.Telling.{Tells};
 ghost use Rattle.hack_files.specs.View.{files_view};
 
 use crate::fault::CallFault;
-use crate::strangers::first_stranger;
 use hack_base::paths::under;
 use hack_base::writes::Sink;
 use hack_files::fs::Files;
@@ -18,6 +17,7 @@ use hack_journal::journal::Entry;
 use hack_journal::place::Place;
 use hack_journal::recover::{RecoverFault, recover};
 use hack_journal::rows::{Row, row_at};
+use hack_journal::strangers::first_stranger;
 use hack_term::term::Term;
 use std::alloc::Global;
 

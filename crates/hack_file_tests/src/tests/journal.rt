@@ -131,7 +131,11 @@ impl Call {
     fn front(&mut self, alloc: Global, count: &str) -> Result<String, AllocError> {
         self.cut(alloc, count)?;
         let told = recovered(alloc, &mut self.front, "")?;
-        let held = held(alloc, &mut self.front, "a b c j j~1")?;
+        let held = held(
+            alloc,
+            &mut self.front,
+            "a/Cargo.toml b/Cargo.toml c/Cargo.toml j j~1",
+        )?;
         format!(in alloc; "{told}\n{held}")
     }
 

@@ -2,37 +2,40 @@
 
 use crate::tests::journal::on;
 use hack_holds::Wrong;
+use hack_journal::laws::names_no_stranger;
 
-/// Edits two files, one of them twice, makes a new one, and restores all. A file of the journal is
-/// written before each edit, and the last changes are the removal of the journal, from the last file
-/// on: the one that was not written yet is removed too.
+/// Edits three manifests, one of them twice, and restores all. A file of the journal is written
+/// before each edit, and the last changes are the removal of the journal, from the last file on: the
+/// one that was not written yet is removed too.
 static EDITED: &str = r"
-    > below: write a one\n\ntwo\n
+    > below: write a/Cargo.toml one\n\ntwo\n
     | ok
-    > below: write b
+    > below: write b/Cargo.toml
+    | ok
+    > below: write c/Cargo.toml tre
     | ok
     > begin
     | ok
-    > write a one\n
+    > write a/Cargo.toml one\n
     | ok
-    > write b \n x
+    > write b/Cargo.toml \n x
     | ok
-    > write a uno
+    > write a/Cargo.toml uno
     | ok
-    > write c new
+    > write c/Cargo.toml new
     | ok
-    > write a one\n\ntwo\n
+    > write a/Cargo.toml one\n\ntwo\n
     | ok
-    > remove c
+    > write c/Cargo.toml tre
     | ok
-    > write b
+    > write b/Cargo.toml
     | ok
     > finish
     | true
     > end
     | ok
     > below: changes
-    | 18
+    | 19
 ";
 
 #[test]
@@ -42,57 +45,57 @@ fn each_front_comes_back(rt: HostRuntime) -> Result<(), Wrong> {
         &[
             EDITED,
             r"
-                > front 2
-                | nothing
-                | a 'one\n\ntwo\n' b '' c - j - j~1 -
                 > front 3
                 | nothing
-                | a 'one\n\ntwo\n' b '' c - j - j~1 -
+                | a/Cargo.toml 'one\n\ntwo\n' b/Cargo.toml '' c/Cargo.toml 'tre' j - j~1 -
                 > front 4
-                | a
-                | a 'one\n\ntwo\n' b '' c - j - j~1 -
-                > front 5
-                | a
-                | a 'one\n\ntwo\n' b '' c - j - j~1 -
-                > front 6
-                | a b
-                | a 'one\n\ntwo\n' b '' c - j - j~1 -
-                > front 7
-                | a b
-                | a 'one\n\ntwo\n' b '' c - j - j~1 -
-                > front 8
-                | a b
-                | a 'one\n\ntwo\n' b '' c - j - j~1 -
-                > front 9
-                | a b
-                | a 'one\n\ntwo\n' b '' c - j - j~1 -
-                > front 10
-                | a b c
-                | a 'one\n\ntwo\n' b '' c - j - j~1 -
-                > front 11
-                | b c
-                | a 'one\n\ntwo\n' b '' c - j - j~1 -
-                > front 12
-                | b
-                | a 'one\n\ntwo\n' b '' c - j - j~1 -
-                > front 13
                 | nothing
-                | a 'one\n\ntwo\n' b '' c - j - j~1 -
+                | a/Cargo.toml 'one\n\ntwo\n' b/Cargo.toml '' c/Cargo.toml 'tre' j - j~1 -
+                > front 5
+                | a/Cargo.toml
+                | a/Cargo.toml 'one\n\ntwo\n' b/Cargo.toml '' c/Cargo.toml 'tre' j - j~1 -
+                > front 6
+                | a/Cargo.toml
+                | a/Cargo.toml 'one\n\ntwo\n' b/Cargo.toml '' c/Cargo.toml 'tre' j - j~1 -
+                > front 7
+                | a/Cargo.toml b/Cargo.toml
+                | a/Cargo.toml 'one\n\ntwo\n' b/Cargo.toml '' c/Cargo.toml 'tre' j - j~1 -
+                > front 8
+                | a/Cargo.toml b/Cargo.toml
+                | a/Cargo.toml 'one\n\ntwo\n' b/Cargo.toml '' c/Cargo.toml 'tre' j - j~1 -
+                > front 9
+                | a/Cargo.toml b/Cargo.toml
+                | a/Cargo.toml 'one\n\ntwo\n' b/Cargo.toml '' c/Cargo.toml 'tre' j - j~1 -
+                > front 10
+                | a/Cargo.toml b/Cargo.toml
+                | a/Cargo.toml 'one\n\ntwo\n' b/Cargo.toml '' c/Cargo.toml 'tre' j - j~1 -
+                > front 11
+                | a/Cargo.toml b/Cargo.toml c/Cargo.toml
+                | a/Cargo.toml 'one\n\ntwo\n' b/Cargo.toml '' c/Cargo.toml 'tre' j - j~1 -
+                > front 12
+                | b/Cargo.toml c/Cargo.toml
+                | a/Cargo.toml 'one\n\ntwo\n' b/Cargo.toml '' c/Cargo.toml 'tre' j - j~1 -
+                > front 13
+                | b/Cargo.toml
+                | a/Cargo.toml 'one\n\ntwo\n' b/Cargo.toml '' c/Cargo.toml 'tre' j - j~1 -
                 > front 14
                 | nothing
-                | a 'one\n\ntwo\n' b '' c - j - j~1 -
+                | a/Cargo.toml 'one\n\ntwo\n' b/Cargo.toml '' c/Cargo.toml 'tre' j - j~1 -
                 > front 15
                 | nothing
-                | a 'one\n\ntwo\n' b '' c - j - j~1 -
+                | a/Cargo.toml 'one\n\ntwo\n' b/Cargo.toml '' c/Cargo.toml 'tre' j - j~1 -
                 > front 16
                 | nothing
-                | a 'one\n\ntwo\n' b '' c - j - j~1 -
+                | a/Cargo.toml 'one\n\ntwo\n' b/Cargo.toml '' c/Cargo.toml 'tre' j - j~1 -
                 > front 17
                 | nothing
-                | a 'one\n\ntwo\n' b '' c - j - j~1 -
+                | a/Cargo.toml 'one\n\ntwo\n' b/Cargo.toml '' c/Cargo.toml 'tre' j - j~1 -
                 > front 18
                 | nothing
-                | a 'one\n\ntwo\n' b '' c - j - j~1 -
+                | a/Cargo.toml 'one\n\ntwo\n' b/Cargo.toml '' c/Cargo.toml 'tre' j - j~1 -
+                > front 19
+                | nothing
+                | a/Cargo.toml 'one\n\ntwo\n' b/Cargo.toml '' c/Cargo.toml 'tre' j - j~1 -
             ",
         ],
     )
@@ -105,20 +108,20 @@ fn a_file_that_somebody_changed_is_refused(rt: HostRuntime) -> Result<(), Wrong>
         &[
             EDITED,
             "
-                > cut 8
+                > cut 9
                 | ok
-                > front: write b other
+                > front: write b/Cargo.toml other
                 | ok
                 > front: recover
-                | `b` was changed after an interrupted call had edited it; put back by hand what `j` tells, and remove `j`
+                | `b/Cargo.toml` was changed after an interrupted call had edited it; put back by hand what `j` tells, and remove `j`
                 > front: changes
-                | 9
+                | 10
             ",
         ],
     )
 }
 
-// `a` held `one\n\ntwo\n`, then `one\n`, and then `uno`. A write of one of these over another was
+// The manifest of `a` held `one\n\ntwo\n`, then `one\n`, and then `uno`. A write of one of these over another was
 // cut, behind its first byte or later.
 #[test]
 fn a_cut_write_comes_back(rt: HostRuntime) -> Result<(), Wrong> {
@@ -127,36 +130,36 @@ fn a_cut_write_comes_back(rt: HostRuntime) -> Result<(), Wrong> {
         &[
             EDITED,
             r"
-                > cut 8
+                > cut 9
                 | ok
-                > front: write a une\n
+                > front: write a/Cargo.toml une\n
                 | ok
                 > front: recover
-                | a b
-                > front: held a b j j~1
-                | a 'one\n\ntwo\n' b '' j - j~1 -
+                | a/Cargo.toml b/Cargo.toml
+                > front: held a/Cargo.toml b/Cargo.toml j j~1
+                | a/Cargo.toml 'one\n\ntwo\n' b/Cargo.toml '' j - j~1 -
 
                 # All of its bytes were written, before the file was made shorter.
-                > cut 8
+                > cut 9
                 | ok
-                > front: write a uno\n
+                > front: write a/Cargo.toml uno\n
                 | ok
                 > front: recover
-                | a b
-                > front: held a b j j~1
-                | a 'one\n\ntwo\n' b '' j - j~1 -
+                | a/Cargo.toml b/Cargo.toml
+                > front: held a/Cargo.toml b/Cargo.toml j j~1
+                | a/Cargo.toml 'one\n\ntwo\n' b/Cargo.toml '' j - j~1 -
 
                 # One that puts back.
-                > cut 8
+                > cut 9
                 | ok
-                > front: write a one\n\nt
+                > front: write a/Cargo.toml one\n\nt
                 | ok
-                > front: write b \n
+                > front: write b/Cargo.toml \n
                 | ok
                 > front: recover
-                | a b
-                > front: held a b j j~1
-                | a 'one\n\ntwo\n' b '' j - j~1 -
+                | a/Cargo.toml b/Cargo.toml
+                > front: held a/Cargo.toml b/Cargo.toml j j~1
+                | a/Cargo.toml 'one\n\ntwo\n' b/Cargo.toml '' j - j~1 -
             ",
         ],
     )
@@ -171,32 +174,34 @@ fn a_text_that_no_cut_leaves_is_refused(rt: HostRuntime) -> Result<(), Wrong> {
         &[
             EDITED,
             r"
-                > cut 8
+                > cut 9
                 | ok
-                > front: write a xne\n
-                | ok
-                > front: recover
-                | `a` was changed after an interrupted call had edited it; put back by hand what `j` tells, and remove `j`
-                > front: write a unx
+                > front: write a/Cargo.toml xne\n
                 | ok
                 > front: recover
-                | `a` was changed after an interrupted call had edited it; put back by hand what `j` tells, and remove `j`
-                > front: write a uno
-                | ok
-                > front: write b une\n
+                | `a/Cargo.toml` was changed after an interrupted call had edited it; put back by hand what `j` tells, and remove `j`
+                > front: write a/Cargo.toml unx
                 | ok
                 > front: recover
-                | `b` was changed after an interrupted call had edited it; put back by hand what `j` tells, and remove `j`
+                | `a/Cargo.toml` was changed after an interrupted call had edited it; put back by hand what `j` tells, and remove `j`
+                > front: write a/Cargo.toml uno
+                | ok
+                > front: write b/Cargo.toml une\n
+                | ok
+                > front: recover
+                | `b/Cargo.toml` was changed after an interrupted call had edited it; put back by hand what `j` tells, and remove `j`
                 > front: changes
-                | 12
-                > cut 10
+                | 13
+                > cut 0
                 | ok
-                > front: write c ne
+                > front: write j edited files\npath c/Cargo.toml\nheld nothing\nwrote\n new\nend\n
+                | ok
+                > front: write c/Cargo.toml ne
                 | ok
                 > front: recover
-                | `c` was changed after an interrupted call had edited it; put back by hand what `j` tells, and remove `j`
+                | `c/Cargo.toml` was changed after an interrupted call had edited it; put back by hand what `j` tells, and remove `j`
                 > front: changes
-                | 11
+                | 2
             ",
         ],
     )
@@ -235,15 +240,17 @@ fn the_journal_is_none_of_the_files(rt: HostRuntime) -> Result<(), Wrong> {
         rt.alloc(),
         &[
             r"
+            > below: write a/Cargo.toml one
+            | ok
             > begin
             | ok
-            > write a new
+            > write a/Cargo.toml new
             | ok
             > exists j
             | false
             > read j
             | device
-            > write j new
+            > write j/Cargo.toml new
             | device
             > remove j~1
             | device
@@ -255,8 +262,48 @@ fn the_journal_is_none_of_the_files(rt: HostRuntime) -> Result<(), Wrong> {
             | false
             > end
             | ok
-            > below: held a j
-            | a 'new' j 'edited files\npath a\nheld nothing\nwrote\n new\nend\n'
+            > below: held a/Cargo.toml j
+            | a/Cargo.toml 'new' j 'edited files\npath a/Cargo.toml\nheld\n one\nwrote\n new\nend\n'
+        ",
+        ],
+    )
+}
+
+// The next call restores nothing for a journal that names anything but edits of manifests. So no
+// other file is noted, no manifest that isn't there, and no removal, and nothing is changed.
+#[test]
+fn only_edits_of_manifests_are_noted(rt: HostRuntime) -> Result<(), Wrong> {
+    names_no_stranger();
+    on(
+        rt.alloc(),
+        &[
+            "
+            > below: write /w/Cargo.toml one
+            | ok
+            > below: write /w/a.rs two
+            | ok
+            > below: write /w/NoCargo.toml three
+            | ok
+            > begin /w
+            | ok
+            > write /w/a.rs new
+            | device
+            > write /w/NoCargo.toml new
+            | device
+            > write /w/a/Cargo.toml new
+            | device
+            > remove /w/Cargo.toml
+            | device
+            > remove /w/x
+            | device
+            > failures
+            | 5
+            > finish
+            | true
+            > end
+            | ok
+            > below: changes
+            | 3
         ",
         ],
     )

@@ -60,27 +60,31 @@ fn the_last_file_is_removed_first(rt: HostRuntime) -> Result<(), Wrong> {
         rt.alloc(),
         &[
             "
+                > below: write a/Cargo.toml one
+                | ok
+                > below: write b/Cargo.toml two
+                | ok
                 > begin
                 | ok
-                > write a new
+                > write a/Cargo.toml new
                 | ok
-                > write b new
+                > write b/Cargo.toml new
                 | ok
-                > remove a
+                > write a/Cargo.toml one
                 | ok
-                > remove b
+                > write b/Cargo.toml two
                 | ok
                 > finish
                 | true
                 > end
                 | ok
                 > below: changes
-                | 9
-                > cut 7
+                | 11
+                > cut 9
                 | ok
                 > front: exists j~1
                 | true
-                > cut 8
+                > cut 10
                 | ok
                 > front: exists j~1
                 | false
@@ -104,20 +108,24 @@ fn a_file_behind_the_row_is_refused(rt: HostRuntime) -> Result<(), Wrong> {
             "
                 > below: write j~2 old
                 | ok
+                > below: write a/Cargo.toml one
+                | ok
+                > below: write b/Cargo.toml two
+                | ok
                 > begin
                 | ok
-                > write a new
+                > write a/Cargo.toml new
                 | ok
-                > write b new
+                > write b/Cargo.toml new
                 | device
                 > failures
                 | 1
                 > end
                 | ok
                 > below: changes
-                | 3
-                > below: held a b j~1 j~2
-                | a 'new' b - j~1 - j~2 'old'
+                | 5
+                > below: held a/Cargo.toml b/Cargo.toml j~1 j~2
+                | a/Cargo.toml 'new' b/Cargo.toml 'two' j~1 - j~2 'old'
             ",
         ],
     )
@@ -130,16 +138,20 @@ fn a_path_with_detours_is_refused(rt: HostRuntime) -> Result<(), Wrong> {
         rt.alloc(),
         &[
             "
+                > below: write /w/./Cargo.toml one
+                | ok
+                > below: write a/Cargo.toml two
+                | ok
                 > begin /w
                 | ok
                 > write /w/./Cargo.toml new
                 | device
-                > write Cargo.toml new
+                > write a/Cargo.toml new
                 | device
                 > end
                 | ok
                 > below: changes
-                | 0
+                | 2
             ",
         ],
     )

@@ -4,14 +4,17 @@ use Rattle.hack_journal.specs.Journal.{edit_of}
 use Rattle.hack_journal.specs.Rows.{spot_of}
 use Rattle.hack_files.specs.View.{FilesView, files_view}
 use Rattle.hack_recovery.specs.Restoring.Restores.{strange, trusted, unread}
-use Rattle.hack_recovery.proofs.StrangerLemmas.{none_named, one_named}
+use Rattle.hack_recovery.proofs.StrangerLemmas.{never_strange, none_named, one_named}
 use Rattle.hack_recovery.proofs.restore.restore.Goals as goal
 
 pub returns-in-Some : goal.returns-in-Some
 returns-in-Some g c =
+    let spot = spot_of c.args.place.now in
+    let held = g.F.Files.bytes_at c.args.files.now in
+    let named = one_named g.F.Files.tells spot held c.in-Ok.row (edit_of c.in-Some.entry.now) c.in-Ok.ensures.some
+    (sym (ap (option_map (λ entry. edit_of entry.now)) c.in-Some.is) ∙ c.stranger_in.ensures) in
     strange (edit_of c.in-Some.entry.now).path (record { same = c.in-Ok.ensures.same; untraced = c.in-Ok.ensures.untraced }) c.in-Ok.ensures.failures
-    (one_named g.F.Files.tells (spot_of c.args.place.now) (g.F.Files.bytes_at c.args.files.now) c.in-Ok.row (edit_of c.in-Some.entry.now) c.in-Ok.ensures.some
-    (sym (ap (option_map (λ entry. edit_of entry.now)) c.in-Some.is) ∙ c.stranger_in.ensures))
+    named (never_strange g.F.Files.tells spot held (edit_of c.in-Some.entry.now).path named)
     c.tell_stranger.ensures.never c.tell_stranger.ensures.told
 
 pub returns-in-Ok : goal.returns-in-Ok

@@ -28,7 +28,7 @@ returns-clause-stays g c = λ out tells whole.
     let e = edit_of c.in_ok-entry.entry in
     let spot : spot_in mid ≡ spot_in s = ap (λ s. spot_in s) c.in_ok-entry.ensures.rest in
     let notes : mid.notes ≡ s.notes = ap (λ s. s.notes) c.in_ok-entry.ensures.rest in
-    let notable = notable_of s.notes.journal s.notes.entries (g.F.Files.bytes_at s.files) (g.F.Files.bytes_at mid.files) e c.args.path.now c.in_ok-entry.ensures.path (all_same _ _ (c.in_ok-entry.ensures.same tells)) out (c.in_ok-entry.ensures.held tells) in
+    let notable = notable_of s.notes.journal s.notes.entries (g.F.Files.bytes_at s.files) (g.F.Files.bytes_at mid.files) e c.args.path.now c.in_ok-entry.ensures.path (all_same _ _ (c.in_ok-entry.ensures.same tells)) out c.in_ok-entry.ensures.known (c.in_ok-entry.ensures.held tells) in
     let noted = subst (λ (n : Noted). IsNotable n.journal n.entries (g.F.Files.bytes_at mid.files) e) (sym notes) notable in
     let look : Stays (spot_in s) s.notes.entries s.notes.entries (g.F.Files.trace s.files) (g.F.Files.trace mid.files) (g.F.Files.bytes_at s.files) (g.F.Files.bytes_at mid.files) = stays_none _ _ _ _ _ _ (c.in_ok-entry.ensures.untraced whole) in
     stays_join (spot_in s) (spot_in mid) s.notes.entries mid.notes.entries c.append.new.self.notes.entries (g.F.Files.trace s.files) (g.F.Files.trace mid.files) (g.F.Files.trace c.append.new.self.files) (g.F.Files.bytes_at s.files) (g.F.Files.bytes_at mid.files) (g.F.Files.bytes_at c.append.new.self.files)

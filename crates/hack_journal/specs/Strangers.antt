@@ -1,7 +1,6 @@
--- Journals that no call wrote: they name a file that no call edits.
-use Rattle.std.specs.Prelude.{◌≡◌, ◌&&◌, Bool, List, [], ◌∷◌, Option, Some, None, codes, if◌then◌else◌, is_some, nat_eq}
+-- Entries that no call makes: they name a file that no call edits.
+use Rattle.std.specs.Prelude.{◌≡◌, ◌&&◌, ℕ, Bool, List, [], ◌∷◌, Option, Some, None, codes, if◌then◌else◌, is_some, nat_eq}
 use Rattle.std.specs.List.{ends_with}
-use Rattle.hack_base.specs.Names.{Name}
 use Rattle.hack_files.specs.Files.{Contents}
 use Rattle.hack_journal.specs.Journal.{Edit}
 use Rattle.hack_journal.specs.Rows.{IsRowOf, Spot}
@@ -20,7 +19,7 @@ abbrev pub NamesNone : Spot → Contents → Type 0
 NamesNone spot held = (edits : List Edit) → IsRowOf spot held edits → first_stranger edits ≡ None
 
 -- it names one, of this path
-pub record NamesStranger (spot : Spot) (held : Contents) (path : Name) : Type 0 where
+pub record NamesStranger (spot : Spot) (held : Contents) (path : List ℕ) : Type 0 where
   pub edits : List Edit
   pub row : IsRowOf spot held edits
   pub edit : Edit
