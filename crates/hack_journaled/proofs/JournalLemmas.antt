@@ -16,6 +16,12 @@ use Rattle.hack_journal.specs.declared.unkept.Unkept.{Ghosts as Noting}
 use Rattle.hack_journal.proofs.RowLemmas.{apart_from}
 use Rattle.hack_journal.proofs.SafeLemmas.{without_at, without_same}
 use Rattle.hack_load.specs.FilesAfterLoading.{LeavesFew}
+use Rattle.hack_process.specs.Calls.{Call}
+use Rattle.hack_run.specs.Standing.{EditsStand, ObeysAndEdits}
+use Rattle.hack_words.specs.declared.cli.env.Env.{Env}
+use Rattle.hack_words.specs.declared.cli.parse.Parsed.{Parsed}
+use Rattle.hack_words.specs.declared.cli.parse.Parsed.TheVariants as parsed
+use Rattle.hack_base.specs.Names.{Name}
 use Rattle.hack_journaled.specs.Journals.{IsAccounted, contents_seen}
 
 -- where the journal alone was changed the call sees the same, by the journal's first path too
@@ -89,3 +95,13 @@ spoilt_end P Q tells a b c n m turn same more h = record {
   };
   others = λ t q fine. ap (λ (x : Contents). x q) (sym (same t)) ∙ h.others t q fine;
 }
+
+-- edits that stood while files held one thing stood while they held what follows from it
+pub edits_between : (P Q : Contents → Type 0) (tells talks : Type 0) (words : List Name) (env : Env) (held : Contents) (calls : List Call) → ((at : Contents) → P at → Q at)
+    → EditsStand P tells talks words env held calls → EditsStand Q tells talks words env held calls
+edits_between P Q tells talks words env held calls turn h = record { mid = h.mid; rustup = h.rustup; answer = h.answer; notes = h.notes; told = h.told; read = h.read; obeyed = go h.answer h.obeyed }
+  where
+    go : (answer : Parsed) → ObeysAndEdits P tells talks answer env held h.mid → ObeysAndEdits Q tells talks answer env held h.mid
+    go (parsed.Args args) o = record { answers = o.answers; mid = o.mid; cx = o.cx; asked = o.asked; context = o.context; edits = record { at = o.edits.at; was = turn o.edits.at o.edits.was; stood = o.edits.stood } }
+    go (parsed.Print text) o = tt
+    go parsed.List o = tt

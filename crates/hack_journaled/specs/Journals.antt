@@ -1,10 +1,11 @@
 -- What a call over files with a journal sees.
-use Rattle.std.specs.Prelude.{[], ◌+◌, ◌≤◌, ℕ, List}
+use Rattle.std.specs.Prelude.{◌≡◌, [], ◌+◌, ◌≤◌, ℕ, List}
 use Rattle.hack_base.specs.Counters.{GrowsBy}
 use Rattle.hack_files.specs.Files.{Contents}
 use Rattle.hack_journal.specs.LockfilesApart.{apart}
 use Rattle.hack_journal.specs.SafeFiles.{without}
 use Rattle.hack_files.specs.View.{FilesView}
+use Rattle.hack_files.specs.declared.fs.Files.{Ghosts as Filing}
 use Rattle.hack_run.specs.Worlds.{HostView, World}
 
 -- what the paths hold: lockfiles what `lockfiles` holds, all others what `files` holds, and those
@@ -29,3 +30,10 @@ pub record IsAccounted (files_old files_new lockfiles_old lockfiles_new unkept_o
   pub lockfiles : GrowsBy of_lockfiles lockfiles_old lockfiles_new
   pub unkept : GrowsBy of_unkept unkept_old unkept_new
   pub most : number ≤ of_files + of_lockfiles + of_unkept
+
+-- Between two states of files and of lockfiles a call saw this: in code over any of both no other states are to be had
+-- than those that they were in.
+abbrev pub BetweenBoth : {F L : Type 0} → Filing F → Filing L → List ℕ → F → F → L → L → Contents → Type 0
+BetweenBoth {F} {L} f l journal old new lockfiles_old lockfiles_new held =
+    (at : F) × (by : L) × f.stays old at × f.stays at new × l.stays lockfiles_old by × l.stays by lockfiles_new
+    × (held ≡ contents_seen journal (f.bytes_at at) (l.bytes_at by))

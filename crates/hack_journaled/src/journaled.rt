@@ -6,17 +6,18 @@ ghost use Rattle.hack_base.specs.Names.{names_of};
 ghost use Rattle.hack_base.specs.Counters.{GrowsBy};
 ghost use Rattle.hack_files.specs.Files.{KeepsAll, KeepsAllBut};
 ghost use Rattle.hack_journal.specs.FileCalls.{spot_in};
-ghost use Rattle.hack_journal.specs.LockfilesApart.{KeepsOtherFiles};
+ghost use Rattle.hack_journal.specs.LockfilesApart.{KeepsLockfiles, KeepsOtherFiles};
 ghost use Rattle.hack_journal.specs.Refusing.{AreJust, HoldsByKind, IsRefused};
 ghost use Rattle.hack_journal.specs.Refusing.{IsRefusedOrUnkept};
 ghost use Rattle.hack_journal.specs.Rows.{KeepsBeside, spot_of};
-ghost use Rattle.hack_journal.specs.SafeFiles.{AreBack, Stays, StaysSafe};
-ghost use Rattle.hack_journaled.specs.Journals.{IsAccounted};
+ghost use Rattle.hack_journal.specs.SafeFiles.{AreBack, Stays, StaysSafe, without};
+ghost use Rattle.hack_journaled.specs.Journals.{BetweenBoth, IsAccounted};
 ghost use Rattle.hack_journaled.specs.Journals.{contents_seen, files_seen, world_seen};
 ghost use Rattle.hack_run.specs.CallTrace.{IsCallTrace};
 ghost use Rattle.hack_run.specs.Readings.{IsEarlyReadingOrRefusal};
 ghost use Rattle.hack_run.specs.TemporaryEdits.{BringsBack, RestoresEdits};
 ghost use Rattle.hack_run.specs.Refusals.{AreRefused, ReportsRefusal};
+ghost use Rattle.hack_run.specs.Standing.{EditsStand};
 ghost use Rattle.hack_run.specs.Worlds.{IsSameHost, IsStatus, host_view};
 
 use hack_base::writes::Sink;
@@ -60,6 +61,14 @@ pub fn run_journaled<F: Files, L: Files, U: Unkept, C: Starts, O: Sink, E: Sink>
         (host_view C.Caller O.Sink host.old))
         (world_seen (string_bytes place.journal) (F.bytes_at result.1) (L.bytes_at result.2)
         result.3 (host_view C.Caller O.Sink host.new)) }
+
+    // And each manifest that the arguments have edited held its edit once, every other path what it
+    // held.
+    ensures stood { host.new.term.now.error ≡ false → EditsStand
+        (BetweenBoth F.Files L.Files (string_bytes place.journal) files result.1 lockfiles result.2)
+        (F.tells × L.tells) C.tells (names_of words.now) host.old.env.now
+        (contents_seen (string_bytes place.journal) (F.bytes_at files) (L.bytes_at lockfiles))
+        (C.calls host.old.caller.now) }
     ensures made { C.tells
         → IsCallTrace false (F.tells × L.tells) (names_of words.now) host.old.env.now
         (world_seen (string_bytes place.journal) (F.bytes_at files) (L.bytes_at lockfiles) 0
@@ -103,10 +112,13 @@ pub fn run_journaled<F: Files, L: Files, U: Unkept, C: Starts, O: Sink, E: Sink>
         → F.bytes_at result.1 (string_bytes place.journal) ≡ None }
 
     // What each single call of the files and of the lockfiles keeps is kept by all of them. Through
-    // `lockfiles` no other file is changed.
+    // `lockfiles` no other file is changed, and through `files` no lockfile.
     ensures stays { F.stays files result.1 × L.stays lockfiles result.2 }
     ensures others { L.tells
         → KeepsOtherFiles (L.bytes_at lockfiles) (L.bytes_at result.2) }
+    ensures apart { F.tells → KeepsLockfiles
+        (without (string_bytes place.journal) (F.bytes_at files))
+        (without (string_bytes place.journal) (F.bytes_at result.1)) }
 
     // After each front of its changes each path holds what it held at first, or the journal has it:
     // wherever the call is interrupted, `recover` restores everything.

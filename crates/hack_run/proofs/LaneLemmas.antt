@@ -6,19 +6,14 @@ use Rattle.std.specs.Option.{unwrap_or}
 use Rattle.std.proofs.Common.{Global, String}
 use Rattle.hack_base.specs.Names.{Name}
 use Rattle.hack_versions.specs.declared.version.Version.{Version}
-use Rattle.hack_base.specs.Notes.{Note}
-use Rattle.hack_versions.specs.declared.rustup.Rustup.{Rustup}
-use Rattle.hack_words.specs.CommandLine.{ComesTo}
-use Rattle.hack_words.specs.ParseAnswers.{AnswersCommandLine as IsAnswer, around_of}
-use Rattle.hack_words.specs.declared.cli.env.Env.{Env}
-use Rattle.hack_words.specs.declared.cli.parse.Parsed.{Parsed}
 use Rattle.hack_words.specs.declared.cli.args.Args.{Args}
 use Rattle.hack_load.specs.ContextOf.{IsContextFrom}
 use Rattle.hack_load.specs.Contexts.{ContextRecord}
 use Rattle.hack_load.specs.declared.answers.Answers.{Answers}
 use Rattle.hack_starts.specs.Events.{Event, calls_of}
 use Rattle.hack_lanes.specs.Lanes.{Goes, Scene, State, Turn}
-use Rattle.hack_run.specs.Lanes.{IsLaneCall, MayRunInLanes, ObeysInLanes, PerformsInLanes, RunsInLanes, RunsOne, scene_at}
+use Rattle.hack_run.specs.Lanes.{FollowsInLanes, MayRunInLanes, RunsInLanes, RunsOne, scene_at}
+use Rattle.hack_run.specs.Questions.{AsksStable}
 
 -- ending what is left makes no call
 pub cleared_calls : {S : Type 0} (tells : Type 0) (calls : S → List Call) (did : List Event → S → S → Type 0)
@@ -46,43 +41,33 @@ ran_in_lanes {S} did cx stable rustup old a b c turn state starts one ended none
   now = refl;
 }
 
-module _ {S : Type 0} (did : List Event → S → S → Type 0) (course : S → S → Type 0) (more : (a b c : S) → course a b → course b c → course a c) where
+module _ {S : Type 0} (did : List Event → S → S → Type 0) (course : S → S → Type 0) (more : (a b c : S) → course a b → course b c → course a c) (talks : Type 0) (calls : S → List Call) where
   -- a context that was made for the arguments was performed in lanes, or listed
   pub follows_in_lanes : {T E : Type 0} (r : Result T E) (args : Args) (answers : Answers) (cx : ContextRecord) (stable : Result (Option Version) (String Global)) (rustup : Name) (old before new : S)
-      → course old before → IsContextFrom args answers cx → (cx.args.print_command_list ≡ true → course before new)
-      → OnOk r ((cx.args.print_command_list ≡ true) ⊎ RunsInLanes did cx stable rustup before new) → OnOk r (PerformsInLanes true did course args old new)
-  follows_in_lanes (Err e) args answers cx stable rustup old before new asked context lists h = tt
-  follows_in_lanes (Ok v) args answers cx stable rustup old before new asked context lists (inl listed) =
-      inl (more old before new asked (lists listed), inr (subst (λ (a : Args). a.print_command_list ≡ true) context.2.args listed))
-  follows_in_lanes (Ok v) args answers cx stable rustup old before new asked context lists (inr ran) = inr (cx, context.2.args, stable, rustup, before, asked, ran)
+      → course old before → (talks → AsksStable rustup stable (calls old) (calls before)) → IsContextFrom args answers cx → (cx.args.print_command_list ≡ true → course before new)
+      → OnOk r ((cx.args.print_command_list ≡ true) ⊎ RunsInLanes did cx stable rustup before new) → OnOk r (FollowsInLanes did course talks calls true args answers rustup old new)
+  follows_in_lanes (Err e) args answers cx stable rustup old before new between asked context lists h = tt
+  follows_in_lanes (Ok v) args answers cx stable rustup old before new between asked context lists (inl listed) =
+      inl (more old before new between (lists listed), inr (subst (λ (a : Args). a.print_command_list ≡ true) context.2.args listed))
+  follows_in_lanes (Ok v) args answers cx stable rustup old before new between asked context lists (inr ran) = inr (cx, context, stable, before, between, asked, ran)
 
   -- the same, where an error may have ended it
   pub may_follow_in_lanes : (args : Args) (answers : Answers) (cx : ContextRecord) (stable : Result (Option Version) (String Global)) (rustup : Name) (old before new : S) (lists : Bool)
-      → cx.args.print_command_list ≡ lists → course old before → IsContextFrom args answers cx → (cx.args.print_command_list ≡ true → course before new)
-      → (cx.args.print_command_list ≡ false → MayRunInLanes did cx stable rustup before new) → PerformsInLanes false did course args old new
-  may_follow_in_lanes args answers cx stable rustup old before new true is asked context lists may = inl (more old before new asked (lists is), inl refl)
-  may_follow_in_lanes args answers cx stable rustup old before new false is asked context lists may =
+      → cx.args.print_command_list ≡ lists → course old before → (talks → AsksStable rustup stable (calls old) (calls before)) → IsContextFrom args answers cx → (cx.args.print_command_list ≡ true → course before new)
+      → (cx.args.print_command_list ≡ false → MayRunInLanes did cx stable rustup before new) → FollowsInLanes did course talks calls false args answers rustup old new
+  may_follow_in_lanes args answers cx stable rustup old before new true is between asked context lists may = inl (more old before new between (lists is), inl refl)
+  may_follow_in_lanes args answers cx stable rustup old before new false is between asked context lists may =
       elim (may is) [
-        | inl same ↦ inl (subst (course old) (sym same) asked, inl refl)
-        | inr ran ↦ inr (cx, context.2.args, stable, rustup, before, asked, ran)
+        | inl same ↦ inl (subst (course old) (sym same) between, inl refl)
+        | inr ran ↦ inr (cx, context, stable, before, between, asked, ran)
       ]
-
-  -- the same from a state before other calls
-  pub asked_in_lanes : (done : Bool) (args : Args) (old mid new : S) → course old mid → PerformsInLanes done did course args mid new → PerformsInLanes done did course args old new
-  asked_in_lanes done args old mid new asked (inl none) = inl (more old mid new asked none.0, none.1)
-  asked_in_lanes done args old mid new asked (inr p) = inr (p.0, p.1, p.2, p.3, p.4, more old mid p.4 asked p.5, p.6)
-
--- a command line was read, and then obeyed in lanes
-pub reads_in_lanes : {S : Type 0} (done : Bool) (did : List Event → S → S → Type 0) (course : S → S → Type 0) (words : List Name) (env : Env) (rustup : Rustup) (answer : Parsed) (notes : List Note) (old mid new : S) → course old mid
-    → IsAnswer (around_of env rustup) (ComesTo (around_of env rustup) words) answer notes → ObeysInLanes done did course answer mid new → IsLaneCall done did course words env old new
-reads_in_lanes done did course words env rustup answer notes old mid new asked read obeyed =
-    record { mid = mid; asked = asked; behind = inr (record { rustup = rustup; answer = answer; notes = notes; read = read; obeyed = obeyed }) }
-
--- nothing was done after the command line was read, since an error ended the call
-pub unread_in_lanes : {S : Type 0} (did : List Event → S → S → Type 0) (course : S → S → Type 0) (words : List Name) (env : Env) (old new : S) → course old new → IsLaneCall false did course words env old new
-unread_in_lanes did course words env old new asked = record { mid = new; asked = asked; behind = inl (refl, refl) }
 
 -- what holds of a success holds of what follows from it
 pub on_success : {T E : Type 0} (P Q : Type 0) (r : Result T E) → (P → Q) → OnOk r P → OnOk r Q
 on_success P Q (Ok v) turn h = turn h
 on_success P Q (Err e) turn h = tt
+
+-- what holds anyway holds of a success
+pub on_any : {T E P : Type 0} (r : Result T E) → P → OnOk r P
+on_any (Ok v) h = h
+on_any (Err e) h = tt

@@ -8,6 +8,7 @@ mod LaneLemmas
 mod RefusalLemmas
 mod RunLemmas
 mod StartedLemmas
+mod ErrorLemmas
 mod FindingLemmas
 mod ToldLemmas
 mod ShownLemmas

@@ -1,25 +1,29 @@
 -- What a call says, put together from its stages.
-use Rattle.std.proofs.Common.{◌≡◌, ◌⊎◌, ◌∙◌, ◌+◌, ◌∷◌, ℕ, zero, suc, Bool, Err, Global, IfOk, IsErr, IsOk, List, None, Ok, OnErr, OnOk, Option, Result, Some, String, ap, arith, drop, false, filter, get_or, length, if◌then◌else◌, inl, inr, map, refl, subst, string_bytes, sym, true}
-use Rattle.std.specs.Prelude.{◌<◌, ◌&&◌, IfSome, IsTrue, not}
+use Rattle.std.proofs.Common.{◌≡◌, ◌⊎◌, ◌∙◌, ◌+◌, ◌∷◌, ℕ, zero, suc, Bool, Err, Global, IfOk, IsOk, List, None, Ok, OnErr, OnOk, Option, Result, Some, String, ap, arith, drop, false, filter, get_or, length, if◌then◌else◌, inl, inr, map, refl, subst, string_bytes, sym, true}
+use Rattle.std.specs.Prelude.{◌<◌, ◌≢◌, ◌↔◌, ◌&&◌, ◌||◌, ◌++◌, [], IfErr, IfSome, IsSome, IsTrue, MatchBool, MatchOption, not}
+use Rattle.std.specs.Result.{is_err}
 use Rattle.std.proofs.lemmas.List.{drop_more}
 use Rattle.hack_base.proofs.StreamLemmas.{wrote_none}
 use Rattle.hack_base.specs.Names.{Name}
 use Rattle.hack_base.specs.Notes.{Note}
 use Rattle.hack_base.specs.Streams.{Stream, WritesAll, WritesSome, WritesText, stream_of}
 use Rattle.hack_base.specs.declared.writes.Sink.{Ghosts as Taking}
+use Rattle.hack_drive.specs.Answered.{NeedsAnswer}
 use Rattle.hack_drive.specs.Shown.{note_lines}
 use Rattle.hack_drive.specs.Warnings.{TellsNotes, after_notes}
 use Rattle.hack_files.specs.Files.{Contents}
+use Rattle.hack_files.specs.declared.fs.Files.{Ghosts as Filing}
 use Rattle.hack_load.specs.CargoQuestions.{told_version}
 use Rattle.hack_load.specs.ContextOf.{IsContextFrom, warnings_of}
 use Rattle.hack_load.specs.Contexts.{ContextRecord}
 use Rattle.hack_load.specs.declared.answers.Answers.{Answers}
 use Rattle.hack_prepare.specs.PreparedView.{notes_in}
-use Rattle.hack_planner.specs.CallPlan.{IsPlanOf}
+use Rattle.hack_planner.specs.CallPlan.{IsCauseOf, IsPackagesCause, IsPlanOf}
 use Rattle.hack_planner.specs.declared.fault.PlanFault.{PlanFault}
+use Rattle.hack_planner.specs.declared.fault.PlanFault.TheVariants as plan
 use Rattle.hack_process.specs.Calls.{Call}
 use Rattle.hack_process.specs.declared.fault.ProcessFault.{ProcessFault}
-use Rattle.hack_report.specs.Reported.{SaysReport}
+use Rattle.hack_report.specs.Reported.{SaysReport, are_reported}
 use Rattle.hack_plan.specs.View.{PlanView}
 use Rattle.hack_session.specs.Histories.{Course}
 use Rattle.hack_session.specs.ListLines.{is_sent}
@@ -38,12 +42,15 @@ use Rattle.hack_words.specs.declared.cli.env.Env.{Env}
 use Rattle.hack_words.specs.declared.cli.parse.Parsed.{Parsed}
 use Rattle.hack_words.specs.declared.cli.parse.Parsed.TheVariants as parsed
 use Rattle.hack_run.specs.CallTrace.{colored_by}
-use Rattle.hack_run.specs.Handed.{IsPlannedAsAsked, is_search}
-use Rattle.hack_run.specs.Internal.{HandsOverAtMostOne, HandsSteps}
-use Rattle.hack_run.specs.Questions.{AsksStable}
-use Rattle.hack_run.specs.Shown.{Looks, MaySayList, MaySayRead, SaysAfterLoading, SaysItsPlan, SaysLines, SaysLoaded, SaysNotes, SaysParsed, SaysRuns, SaysSteps, dressed_by, goes_on, looks_of, manner_for, performed_of, planned, scene_with, unplanned}
+use Rattle.hack_run.specs.Handed.{IsPlannedAsAsked, is_hunt, is_search}
+use Rattle.hack_run.specs.Internal.{EndsList, HandsOverAtMostOne, HandsSteps, ListsSteps}
+use Rattle.hack_run.specs.Questions.{AsksStable, MayAskStable}
+use Rattle.hack_run.specs.Shown.{ComesOfList, ComesOfRuns, HasNoPlan, IsNoPlan, Looks, RefusesSome, SaysAfterLoading, SaysItsPlan, SaysLines, SaysList, SaysLoaded, SaysNoPlan, SaysNotes, SaysParsed, SaysPlan, SaysRuns, SaysStarved, SaysSteps, dressed_by, goes_on, looks_of, manner_for, performed_of, planned, reported_on, scene_with, unasked}
 use Rattle.hack_run.specs.declared.fault.RunFault.{RunFault}
 use Rattle.hack_run.specs.declared.fault.RunFault.TheVariants as fault
+
+pub not_off : {X : Type 0} → true ≡ false → X
+not_off off = absurd (cc)
 
 -- the group of a starter's lines
 abbrev pub group_for : Bool → Args → LogGroup
@@ -89,24 +96,41 @@ steps_said {C} {O} {E} tells listing calls e cx stable rustup kept course notes 
     }
 
 -- the same of a session
-pub steps_handed : {C O E : Type 0} (tells : Type 0) (calls : C → List Call) (e : Taking E) (cx : ContextRecord) (stable : Result (Option Version) (String Global)) (rustup : Name) (kept now : Option ProcessFault)
+pub steps_handed : {C O E : Type 0} (tells : Type 0) (calls : C → List Call) (e : Taking E) (cx : ContextRecord) (stable : Result (Option Version) (String Global)) (rustup : Name) (kept now : Option ProcessFault) (reported : Bool)
     (course : Course) (notes : List Note) (fails warns : Bool) (start mid : Starter C O E) (begun : Streams) (last : State) (term : Term) (old new : Scene)
     → IsPlannedAsAsked (IsPlanOf cx.args.subcommand stable cx rustup) false false cx rustup course notes fails warns
     → calls start.caller.now ≡ old.calls → start.term.now ≡ term → stream_of e start.err.now ≡ old.streams.err → start.fault.now ≡ kept → start.refused ≡ 0
     → start.keep_going ≡ goes_on false cx.args → start.log_group ≡ cx.args.log_group
     → TellsNotes e notes start mid → begun.err ≡ stream_of e mid.err.now → (false ≡ false → begun.out ≡ old.streams.out)
     → DoesAll tells mid.keep_going (manner_of mid.log_group mid.term.now) course.plan course.handed (state (calls mid.caller.now) begun mid.fault.now mid.term.now.error mid.refused) last
-    → new.calls ≡ last.scene.calls → (false ≡ false → new.streams.out ≡ last.scene.streams.out) → (is_search false cx.args ≡ false → new.streams.err ≡ last.scene.streams.err) → now ≡ last.kept
-    → HandsSteps tells cx stable rustup kept now (looks_of term) (Some course) old new
+    → new.calls ≡ last.scene.calls → (false ≡ false → new.streams.out ≡ last.scene.streams.out) → (is_search false cx.args ≡ false → new.streams.err ≡ last.scene.streams.err) → now ≡ last.kept → reported ≡ last.told
+    → HandsSteps tells cx stable rustup kept now reported (looks_of term) (Some course) old new
 unfolding steps_said
-steps_handed tells calls e cx stable rustup kept now course notes fails warns start mid begun last term old new made caller_is term_is err_is fault_is refused_is keep_is group_is told begun_is first did calls_end out_end err_end kept_end = (
+steps_handed tells calls e cx stable rustup kept now reported course notes fails warns start mid begun last term old new made caller_is term_is err_is fault_is refused_is keep_is group_is told begun_is first did calls_end out_end err_end kept_end told_end = (
   steps_said tells false calls e cx stable rustup kept course notes fails warns start mid begun last term old new made caller_is term_is err_is fault_is refused_is keep_is group_is told begun_is first did calls_end out_end err_end,
-  λ off. (refl, kept_end),
+  λ off. (refl, kept_end, told_end),
+)
+
+-- the same of a list
+pub steps_listed : {C O E : Type 0} (tells : Type 0) (calls : C → List Call) (e : Taking E) (cx : ContextRecord) (stable : Result (Option Version) (String Global)) (rustup : Name) (now : Option ProcessFault) (reported : Bool)
+    (course : Course) (notes : List Note) (fails warns : Bool) (start mid : Starter C O E) (begun : Streams) (last : State) (term : Term) (old new : Scene)
+    → IsPlannedAsAsked (IsPlanOf cx.args.subcommand stable cx rustup) false true cx rustup course notes fails warns
+    → calls start.caller.now ≡ old.calls → start.term.now ≡ term → stream_of e start.err.now ≡ old.streams.err → start.fault.now ≡ None → start.refused ≡ 0
+    → start.keep_going ≡ goes_on true cx.args → start.log_group ≡ group_for true cx.args
+    → TellsNotes e notes start mid → begun.err ≡ stream_of e mid.err.now → (true ≡ false → begun.out ≡ old.streams.out)
+    → DoesAll tells mid.keep_going (manner_of mid.log_group mid.term.now) course.plan (performed_of true course.handed) (state (calls mid.caller.now) begun mid.fault.now mid.term.now.error mid.refused) last
+    → new.calls ≡ last.scene.calls → (true ≡ false → new.streams.out ≡ last.scene.streams.out) → (is_search true cx.args ≡ false → new.streams.err ≡ last.scene.streams.err) → now ≡ last.kept → reported ≡ last.told
+    → ListsSteps tells cx stable rustup now reported (looks_of term) old new
+unfolding steps_said
+steps_listed tells calls e cx stable rustup now reported course notes fails warns start mid begun last term old new made caller_is term_is err_is fault_is refused_is keep_is group_is told begun_is first did calls_end out_end err_end kept_end told_end = (
+  steps_said tells true calls e cx stable rustup None course notes fails warns start mid begun last term old new made caller_is term_is err_is fault_is refused_is keep_is group_is told begun_is first did calls_end out_end err_end,
+  kept_end,
+  told_end,
 )
 
 -- nothing was said
-pub nothing_said : (listing : Bool) (old new : Scene) → new.streams ≡ old.streams → SaysLines listing old new
-nothing_said listing old new same = (λ off. ap (λ s. s.out) same, wrote_none old.streams.err new.streams.err (ap (λ s. s.err) same))
+pub nothing_said : (listing : Bool) (old new : Scene) → new ≡ old → SaysLines listing old new
+nothing_said listing old new same = (ap (λ s. s.calls) same, λ off. ap (λ s. s.streams.out) same, wrote_none old.streams.err new.streams.err (ap (λ s. s.streams.err) same))
 
 -- what a list says doesn't hang on where its lines go
 pub said_elsewhere : (tells : Type 0) (cx : ContextRecord) (stable : Result (Option Version) (String Global)) (rustup : Name) (kept : Option ProcessFault) (looks : Looks) (old new other : Scene) → other.calls ≡ new.calls → other.streams.err ≡ new.streams.err
@@ -123,70 +147,70 @@ said_elsewhere tells cx stable rustup kept looks old new other calls err h = rec
   last = h.last;
   does = h.does;
   calls = calls ∙ h.calls;
-  out = λ (off : true ≡ false). absurd (cc);
+  out = λ off. not_off off;
   err = λ off. err ∙ h.err off;
 }
 
-pub lines_elsewhere : (old new other : Scene) → other.streams.err ≡ new.streams.err → SaysLines true old new → SaysLines true old other
-lines_elsewhere old new other err h = (λ (off : true ≡ false). absurd (cc), subst (λ (s : Stream). WritesSome old.streams.err s) (sym err) h.1)
-
--- an error isn't Ok
-pub no_success : {X : Type 0} (came : Result (Unit {0}) RunFault) → IsErr came → IsOk came → X
-no_success (Ok done) is ok = absurd (cc)
-no_success (Err e) is ok = absurd (cc)
+lines_elsewhere : (old new other : Scene) → other.calls ≡ new.calls → other.streams.err ≡ new.streams.err → SaysLines true old new → SaysLines true old other
+lines_elsewhere old new other calls err h = (calls ∙ h.0, λ off. not_off off, subst (λ (s : Stream). WritesSome old.streams.err s) (sym err) h.2)
 
 pub on_error : {T E X : Type 0} (r : Result T E) → X → OnErr r X
 on_error (Ok v) x = tt
 on_error (Err e) x = x
 
--- the error that stopped a session is that of the call
-stopped_by : (now last : Option ProcessFault) (failed other : ProcessFault) → now ≡ last → now ≡ Some failed → last ≡ Some other → ◌≡◌ {A = Result (Unit {0}) RunFault} (Err (fault.Process failed)) (Err (fault.Process other))
-stopped_by now last failed other same is later = cc
-
--- where none is kept, nothing stopped it
-unstopped : {X : Type 0} (now last : Option ProcessFault) (other : ProcessFault) → now ≡ last → now ≡ None → last ≡ Some other → X
-unstopped now last other same none later = absurd (cc)
+-- what runs come to, by what is kept of their steps
+comes_by : (came : Result (Unit {0}) RunFault) (cx : ContextRecord) (looks now : Looks) (course : Course) (last : State) (kept : Option ProcessFault) (old new : Stream) → last.kept ≡ kept
+    → MatchOption kept
+    (((came ≡ Err fault.Memory) × WritesSome old new)
+    ⊎ ((came ≡ Ok tt) × SaysReport looks.coloring course old new × (now.reported ≡ (last.told || are_reported course))))
+    (λ failed. (came ≡ Err (fault.Process failed)) × (new ≡ old))
+    → ComesOfRuns came cx looks now course last old new
+comes_by came cx looks now course last kept old new is h = subst (λ (o : Option ProcessFault). MatchOption o
+    (((came ≡ Err fault.Memory) × WritesSome old new)
+    ⊎ ((came ≡ Ok tt) × SaysReport looks.coloring course old new × (now.reported ≡ (last.told || are_reported course))))
+    (λ failed. (came ≡ Err (fault.Process failed)) × (new ≡ old))) (sym is) h
 
 -- steps were said, and no report after them, since the session was stopped
-pub said_stopped : (failed : ProcessFault) (now : Option ProcessFault) (tells : Type 0) (cx : ContextRecord) (stable : Result (Option Version) (String Global)) (rustup : Name) (looks : Looks) (session : Option Course) (old new : Scene)
-    → HandsSteps tells cx stable rustup None now looks session old new → now ≡ Some failed → SaysRuns (Err (fault.Process failed)) tells cx stable rustup looks old new
-said_stopped failed now tells cx stable rustup looks session old new steps is = record {
+pub said_stopped : (failed : ProcessFault) (kept : Option ProcessFault) (reported : Bool) (tells : Type 0) (cx : ContextRecord) (stable : Result (Option Version) (String Global)) (rustup : Name) (looks now : Looks) (session : Option Course) (old new : Scene)
+    → HandsSteps tells cx stable rustup None kept reported looks session old new → kept ≡ Some failed → now ≡ reported_on now.reported looks → SaysRuns (Err (fault.Process failed)) tells cx stable rustup looks now old new
+said_stopped failed kept reported tells cx stable rustup looks now session old new steps is same = record {
   mid = new;
   steps = steps.0;
   calls = refl;
   out = refl;
-  reported = λ ok off. no_success (Err (fault.Process failed)) (cc) ok;
+  comes = λ off. comes_by (Err (fault.Process failed)) cx looks now steps.0.course steps.0.last (Some failed) new.streams.err new.streams.err (sym (steps.1 off).1 ∙ is) (refl, refl);
   more = wrote_none new.streams.err new.streams.err refl;
-  stopped = λ off other later. stopped_by now steps.0.last.kept failed other (steps.1 off).1 is later;
+  ends = same;
 }
 
 -- ... or since memory was refused for it
-pub said_unreported : (came : Result (Unit {0}) RunFault) (now : Option ProcessFault) (tells : Type 0) (cx : ContextRecord) (stable : Result (Option Version) (String Global)) (rustup : Name) (looks : Looks) (session : Option Course) (old mid new : Scene)
-    → HandsSteps tells cx stable rustup None now looks session old mid → now ≡ None → IsErr came → new.calls ≡ mid.calls → new.streams.out ≡ mid.streams.out → WritesSome mid.streams.err new.streams.err
-    → SaysRuns came tells cx stable rustup looks old new
-said_unreported came now tells cx stable rustup looks session old mid new steps none is calls out more = record {
+pub said_unreported : (came : Result (Unit {0}) RunFault) (kept : Option ProcessFault) (reported : Bool) (tells : Type 0) (cx : ContextRecord) (stable : Result (Option Version) (String Global)) (rustup : Name) (looks now : Looks) (session : Option Course) (old mid new : Scene)
+    → HandsSteps tells cx stable rustup None kept reported looks session old mid → kept ≡ None → came ≡ Err fault.Memory → new.calls ≡ mid.calls → new.streams.out ≡ mid.streams.out → WritesSome mid.streams.err new.streams.err → now ≡ reported_on now.reported looks
+    → SaysRuns came tells cx stable rustup looks now old new
+said_unreported came kept reported tells cx stable rustup looks now session old mid new steps none is calls out more same = record {
   mid = mid;
   steps = steps.0;
   calls = calls;
   out = out;
-  reported = λ ok off. no_success came is ok;
+  comes = λ off. comes_by came cx looks now steps.0.course steps.0.last None mid.streams.err new.streams.err (sym (steps.1 off).1 ∙ none) (inl (is, more));
   more = more;
-  stopped = λ off other later. unstopped now steps.0.last.kept other (steps.1 off).1 none later;
+  ends = same;
 }
 
 -- ... and the report
-pub said_reported : (now : Option ProcessFault) (tells : Type 0) (cx : ContextRecord) (stable : Result (Option Version) (String Global)) (rustup : Name) (looks : Looks) (session : Option Course) (old mid new : Scene)
-    → HandsSteps tells cx stable rustup None now looks session old mid → now ≡ None → new.calls ≡ mid.calls → new.streams.out ≡ mid.streams.out → WritesSome mid.streams.err new.streams.err
-    → ((t : Course) → session ≡ Some t → SaysReport looks.coloring t mid.streams.err new.streams.err)
-    → SaysRuns (Ok tt) tells cx stable rustup looks old new
-said_reported now tells cx stable rustup looks session old mid new steps none calls out more report = record {
+pub said_reported : (kept : Option ProcessFault) (reported : Bool) (tells : Type 0) (cx : ContextRecord) (stable : Result (Option Version) (String Global)) (rustup : Name) (looks now : Looks) (session : Option Course) (old mid new : Scene)
+    → HandsSteps tells cx stable rustup None kept reported looks session old mid → kept ≡ None → new.calls ≡ mid.calls → new.streams.out ≡ mid.streams.out → WritesSome mid.streams.err new.streams.err
+    → ((t : Course) → session ≡ Some t → SaysReport looks.coloring t mid.streams.err new.streams.err) → ((t : Course) → session ≡ Some t → now.reported ≡ (reported || are_reported t)) → now ≡ reported_on now.reported looks
+    → SaysRuns (Ok tt) tells cx stable rustup looks now old new
+said_reported kept reported tells cx stable rustup looks now session old mid new steps none calls out more report noted same = record {
   mid = mid;
   steps = steps.0;
   calls = calls;
   out = out;
-  reported = λ ok off. report steps.0.course (steps.1 off).0;
+  comes = λ off. let at = steps.1 off in comes_by (Ok tt) cx looks now steps.0.course steps.0.last None mid.streams.err new.streams.err (sym at.1 ∙ none)
+      (inr (refl, report steps.0.course at.0, noted steps.0.course at.0 ∙ ap (λ (b : Bool). b || are_reported steps.0.course) at.2));
   more = more;
-  stopped = λ off other later. unstopped now steps.0.last.kept other (steps.1 off).1 none later;
+  ends = same;
 }
 
 -- runs go on where that is asked for, and no search is
@@ -198,116 +222,134 @@ goes_on_unless args on = ap (λ (b : Bool). not b && args.keep_going) on
 
 -- lines look the same after notices and steps
 pub looks_after : (term start mid last : Term) (notes : List Note) → start ≡ term → mid ≡ after_notes start notes → last ≡ record mid { error = last.error }
-    → looks_of last ≡ record (looks_of term) { reported = last.error }
+    → looks_of last ≡ reported_on last.error (looks_of term)
 looks_after term start mid last notes first told ran =
     ap (λ (t : Term). record { coloring = t.coloring; verbose = t.verbose; reported = last.error }) (ran ∙ ap (λ (t : Term). record t { error = last.error }) (told ∙ ap (λ (t : Term). after_notes t notes) first))
 
 pub looks_later : (term mid last : Term) → looks_of mid ≡ record (looks_of term) { reported = mid.error } → looks_of last ≡ record (looks_of mid) { reported = last.error }
-    → looks_of last ≡ record (looks_of term) { reported = last.error }
+    → looks_of last ≡ reported_on last.error (looks_of term)
 looks_later term mid last first later = later ∙ ap (λ (l : Looks). record l { reported = last.error }) first
 
--- a list's steps were said, or it was refused
-pub list_said : (refused : Result Bool PlanFault) (came : Result (Unit {0}) RunFault) (tells : Type 0) (cx : ContextRecord) (stable : Result (Option Version) (String Global)) (rustup : Name) (looks : Looks) (old mid new : Scene)
-    → IfOk refused (λ short. SaysSteps tells true cx stable rustup None looks old mid) → OnErr refused (SaysLines true old mid) → OnErr refused (IsErr came) → new.calls ≡ mid.calls → new.streams.err ≡ mid.streams.err
-    → MaySayList came tells cx stable rustup looks old new
-list_said (Ok short) came tells cx stable rustup looks old mid new steps lines is calls err = inr (said_elsewhere tells cx stable rustup None looks old mid new calls err steps)
-list_said (Err fault) came tells cx stable rustup looks old mid new steps lines is calls err = inl (is, lines_elsewhere old mid new err lines)
+-- how a list ends, by what is kept of its steps
+list_comes : (short : Bool) (kept : Option ProcessFault) (came : Result (Unit {0}) RunFault) (now : Looks) (last : State) → kept ≡ last.kept → now.reported ≡ last.told → EndsList (Ok short) kept came → ComesOfList came now last
+list_comes short kept came now last is noted ends = subst (λ (o : Option ProcessFault). MatchOption o
+    ((came ≡ Err fault.Memory) ⊎ (came ≡ Err fault.Unlisted) ⊎ ((came ≡ Ok tt) × (now.reported ≡ last.told)))
+    (λ failed. came ≡ Err (fault.Process failed))) is (go kept ends)
+  where
+    go : (kept : Option ProcessFault) → EndsList (Ok short) kept came → MatchOption kept
+        ((came ≡ Err fault.Memory) ⊎ (came ≡ Err fault.Unlisted) ⊎ ((came ≡ Ok tt) × (now.reported ≡ last.told)))
+        (λ failed. came ≡ Err (fault.Process failed))
+    go None (inl memory) = inl memory
+    go None (inr (inl line)) = inr (inl line)
+    go None (inr (inr fine)) = inr (inr (fine, noted))
+    go (Some failed) is = is
+
+-- a list's steps were said, or there is no plan
+pub list_said : (refused : Result Bool PlanFault) (kept : Option ProcessFault) (came : Result (Unit {0}) RunFault) (tells : Type 0) (cx : ContextRecord) (stable : Result (Option Version) (String Global)) (rustup : Name) (looks now : Looks) (old mid new : Scene)
+    → IfOk refused (λ short. ListsSteps tells cx stable rustup kept now.reported looks old mid) → IfErr refused (HasNoPlan true cx stable looks now old mid) → EndsList refused kept came → now ≡ reported_on now.reported looks → new.calls ≡ mid.calls → new.streams.err ≡ mid.streams.err
+    → SaysNoPlan came true cx stable looks now old new ⊎ SaysStarved came looks now old new ⊎ SaysList came tells cx stable rustup looks now old new
+unfolding said_elsewhere
+list_said (Ok short) kept came tells cx stable rustup looks now old mid new steps none ends same calls err =
+    inr (inr (record { steps = said_elsewhere tells cx stable rustup None looks old mid new calls err steps.0; comes = list_comes short kept came now steps.0.last steps.1 steps.2 ends; ends = same }))
+list_said (Err e) kept came tells cx stable rustup looks now old mid new steps none ends same calls err = inl (e, ends, (none.0, lines_elsewhere old mid new calls err none.1, none.2))
 
 -- a list that was handed over, or what was printed before it was refused
 pub handed_said : {X Y : Type 0} (r : Result Bool PlanFault) → OnOk r X → (X → Y) → IfOk r (λ short. Y)
 handed_said (Ok short) h f = f h
 handed_said (Err fault) h f = tt
 
-pub refused_said : {X Y : Type 0} (r : Result Bool PlanFault) → OnErr r X → (X → Y) → OnErr r Y
-refused_said (Ok short) h f = tt
-refused_said (Err fault) h f = f h
+pub refused_said : {X : Type 0} {P Q : PlanFault → Type 0} (r : Result Bool PlanFault) → OnErr r X → IfErr r P → ((e : PlanFault) → X → P e → Q e) → IfErr r Q
+refused_said (Ok short) h cause f = tt
+refused_said (Err e) h cause f = f e h cause
+
+-- a plan is listed, where that is asked for
+pub plan_listed : (came : Result (Unit {0}) RunFault) (tells : Type 0) (cx : ContextRecord) (stable : Result (Option Version) (String Global)) (rustup : Name) (looks now : Looks) (old new : Scene) → cx.args.print_command_list ≡ true
+    → SaysNoPlan came true cx stable looks now old new ⊎ SaysStarved came looks now old new ⊎ SaysList came tells cx stable rustup looks now old new → SaysPlan came tells cx stable rustup looks now old new
+plan_listed came tells cx stable rustup looks now old new is (inl none) = inl (subst (λ (b : Bool). SaysNoPlan came b cx stable looks now old new) (sym is) none)
+plan_listed came tells cx stable rustup looks now old new is (inr said) =
+    inr (subst (λ (b : Bool). MatchBool b (SaysStarved came looks now old new ⊎ SaysList came tells cx stable rustup looks now old new) (SaysRuns came tells cx stable rustup looks now old new)) (sym is) said)
+
+-- ... else its runs are performed
+pub plan_run : (came : Result (Unit {0}) RunFault) (tells : Type 0) (cx : ContextRecord) (stable : Result (Option Version) (String Global)) (rustup : Name) (looks now : Looks) (old new : Scene) → cx.args.print_command_list ≡ false
+    → SaysNoPlan came false cx stable looks now old new ⊎ SaysRuns came tells cx stable rustup looks now old new → SaysPlan came tells cx stable rustup looks now old new
+plan_run came tells cx stable rustup looks now old new is (inl none) = inl (subst (λ (b : Bool). SaysNoPlan came b cx stable looks now old new) (sym is) none)
+plan_run came tells cx stable rustup looks now old new is (inr said) =
+    inr (subst (λ (b : Bool). MatchBool b (SaysStarved came looks now old new ⊎ SaysList came tells cx stable rustup looks now old new) (SaysRuns came tells cx stable rustup looks now old new)) (sym is) said)
 
 -- ---- a call
 
 -- what follows the questions: the notices, and the plan
-pub follows_said : (came : Result (Unit {0}) RunFault) (tells : Type 0) (args : Args) (answers : Answers) (rustup : Name) (a b d : Term) (cx : ContextRecord) (stable : Result (Option Version) (String Global)) (calls : List Call) (warned edited : Stream) (old new : Scene)
+pub follows_said : (came : Result (Unit {0}) RunFault) (tells : Type 0) (args : Args) (answers : Answers) (rustup : Name) (a b d : Term) (now : Looks) (cx : ContextRecord) (stable : Result (Option Version) (String Global)) (calls : List Call) (warned edited : Stream) (old new : Scene)
     → b ≡ after_notes a (warnings_of (told_version answers.cargo_version)) → d ≡ after_notes b (notes_in cx) → IsContextFrom args answers cx
-    → SaysNotes a.coloring (warnings_of (told_version answers.cargo_version)) old.streams.err warned → SaysNotes b.coloring (notes_in cx) warned edited → AsksStable rustup stable old.calls calls
-    → SaysItsPlan came tells cx stable rustup (looks_of d) (scene_with calls edited old) new → SaysAfterLoading came tells args answers rustup (looks_of a) old new
-follows_said came tells args answers rustup a b d cx stable calls warned edited old new first second context told edits asked plan =
-    planned cx warned edited stable calls context told (subst (λ (t : Term). SaysNotes t.coloring (notes_in cx) warned edited) first edits) asked
-    (subst (λ (looks : Looks). SaysItsPlan came tells cx stable rustup looks (scene_with calls edited old) new) (ap looks_of second ∙ ap looks_of first) plan)
+    → SaysNotes a.coloring (warnings_of (told_version answers.cargo_version)) old.streams.err warned → SaysNotes b.coloring (notes_in cx) warned edited → AsksStable rustup stable old.calls calls → (¬ NeedsAnswer args → stable ≡ Ok None)
+    → SaysItsPlan came tells cx stable rustup (looks_of d) now (scene_with calls edited old) new → SaysAfterLoading came tells args answers rustup (looks_of a) now old new
+follows_said came tells args answers rustup a b d now cx stable calls warned edited old new first second context told edits asked unneeded plan =
+    planned cx warned edited stable calls context told (subst (λ (t : Term). SaysNotes t.coloring (notes_in cx) warned edited) first edits) asked unneeded
+    (subst (λ (looks : Looks). SaysItsPlan came tells cx stable rustup looks now (scene_with calls edited old) new) (ap looks_of second ∙ ap looks_of first) plan)
 
 -- memory was refused between the notices and the plan
-pub edits_said : (came : Result (Unit {0}) RunFault) (tells : Type 0) (args : Args) (answers : Answers) (rustup : Name) (a b : Term) (cx : ContextRecord) (warned edited : Stream) (old new : Scene)
-    → IsErr came → b ≡ after_notes a (warnings_of (told_version answers.cargo_version)) → IsContextFrom args answers cx
-    → SaysNotes a.coloring (warnings_of (told_version answers.cargo_version)) old.streams.err warned → SaysNotes b.coloring (notes_in cx) warned edited → new.streams.out ≡ old.streams.out → new.streams.err ≡ edited
-    → SaysAfterLoading came tells args answers rustup (looks_of a) old new
-edits_said came tells args answers rustup a b cx warned edited old new is first context told edits out err =
-    unplanned cx warned context told is (λ off. out, subst (λ (s : Stream). WritesSome warned s) (sym err) (note_lines b.coloring (notes_in cx), edits))
+pub edits_said : (came : Result (Unit {0}) RunFault) (tells : Type 0) (args : Args) (answers : Answers) (rustup : Name) (a b d : Term) (cx : ContextRecord) (warned edited : Stream) (old new : Scene)
+    → came ≡ Err fault.Memory → b ≡ after_notes a (warnings_of (told_version answers.cargo_version)) → d ≡ after_notes b (notes_in cx) → IsContextFrom args answers cx
+    → SaysNotes a.coloring (warnings_of (told_version answers.cargo_version)) old.streams.err warned → SaysNotes b.coloring (notes_in cx) warned edited → MayAskStable rustup old.calls new.calls → (¬ NeedsAnswer args → new.calls ≡ old.calls)
+    → new ≡ scene_with new.calls edited old → SaysAfterLoading came tells args answers rustup (looks_of a) (looks_of d) old new
+edits_said came tells args answers rustup a b d cx warned edited old new is first second context told edits may unneeded same =
+    unasked cx warned edited context told (subst (λ (t : Term). SaysNotes t.coloring (notes_in cx) warned edited) first edits) may unneeded is (ap looks_of second ∙ ap looks_of first) same
 
 -- lines look the same after these notices
 pub looks_followed : (a b d last : Term) (first second : List Note) → b ≡ after_notes a first → d ≡ after_notes b second → looks_of last ≡ record (looks_of d) { reported = last.error }
     → looks_of last ≡ record (looks_of a) { reported = last.error }
 looks_followed a b d last first second one other later = later ∙ ap (λ (t : Term). record (looks_of t) { reported = last.error }) other ∙ ap (λ (t : Term). record (looks_of t) { reported = last.error }) one
 
--- where no error was reported in the end, no write was refused
-pub none_refused : (X : Type 0) (n : ℕ) (now : Bool) → (X ⊎ (0 < n) → IsTrue now) → now ≡ false → n ≡ 0
-none_refused X zero now f quiet = refl
-none_refused X (suc n) now f quiet = let e : true ≡ false = sym (f (inr (omega arith))) ∙ quiet in absurd (cc)
-
 pub by_success : {T E : Type 0} (P : Type 0) (r : Result T E) → OnOk r P → IsOk r → P
 by_success P (Ok v) p ok = p
 by_success P (Err e) p ok = absurd (cc)
 
--- the same where it is asked of a later terminal whether an error was reported
-pub loaded_quiet : (came : Result (Unit {0}) RunFault) (P Q talks tells : Type 0) (args : Args) (env : Env) (held : Contents) (looks : Looks) (old new : Scene) → (IsOk came → Q → P)
-    → SaysLoaded came P talks tells args env held looks old new → SaysLoaded came Q talks tells args env held looks old new
-loaded_quiet came P Q talks tells args env held looks old new f h = record {
-  answers = h.answers;
-  calls = h.calls;
-  asked = h.asked;
-  mid = h.mid;
-  said = h.said;
-  same = h.same;
-  out = h.out;
-  more = h.more;
-  plain = λ ok q. h.plain ok (f ok q);
-}
+not_nil : {X : Type 0} (xs ys : List X) → ys ≢ [] → xs ++ ys ≢ []
+not_nil [] ys some is = some is
+not_nil (x ∷ xs) ys some is = absurd (cc)
 
-parsed_quiet : (came : Result (Unit {0}) RunFault) (P Q talks tells : Type 0) (parsed : Parsed) (notes : List Note) (env : Env) (held : Contents) (looks : Looks) (old new : Scene) → (IsOk came → Q → P)
-    → SaysParsed came P talks tells parsed notes env held looks old new → SaysParsed came Q talks tells parsed notes env held looks old new
-parsed_quiet came P Q talks tells (parsed.Args args) notes env held looks old new f h =
-    (h.0, h.1, loaded_quiet came P Q talks tells args env held (dressed_by args looks) (scene_with old.calls h.0 old) new f h.2)
-parsed_quiet came P Q talks tells (parsed.Print text) notes env held looks old new f h = h
-parsed_quiet came P Q talks tells parsed.List notes env held looks old new f h = h
+-- none of these writes was refused at the end, or some was meanwhile
+pub some_refused : {F : Type 0} (f : Filing F) → ((a b c : F) (ps qs : List Name) → f.refuses a b ps → f.refuses b c qs → f.refuses a c (ps ++ qs)) → (a b c d : F) (n : ℕ) (ps qs rs : List Name)
+    → f.refuses a b ps → f.refuses b c qs → f.refuses c d rs → length rs ≡ n → (n ≡ 0) ⊎ ((0 < n) × RefusesSome f a d)
+some_refused f more a b c d zero ps qs rs first second third long = inl refl
+some_refused f more a b c d (suc n) ps qs rs first second third long =
+    inr (omega arith, (ps ++ (qs ++ rs), not_nil ps (qs ++ rs) (not_nil qs rs (λ none. let short = ap length none in absurd (omega (arith, long, short)))), more a b d ps (qs ++ rs) first (more b c d qs rs second third)))
 
-pub read_quiet : (came : Result (Unit {0}) RunFault) (P Q talks tells : Type 0) (words : List Name) (env : Env) (held : Contents) (looks : Looks) (old new : Scene) → (IsOk came → Q → P)
-    → MaySayRead came P talks tells words env held looks old new → MaySayRead came Q talks tells words env held looks old new
-read_quiet came P Q talks tells words env held looks old new f (inl stopped) = inl stopped
-read_quiet came P Q talks tells words env held looks old new f (inr h) = inr (record {
-  calls = h.calls;
-  rustup = h.rustup;
-  answer = h.answer;
-  notes = h.notes;
-  asked = h.asked;
-  read = h.read;
-  said = parsed_quiet came P Q talks tells h.answer h.notes env held looks (scene_with h.calls old.streams.err old) new f h.said;
-})
+-- where none was, an error was reported just where one was before
+same_error : (a b : Bool) (n : ℕ) → (IsTrue b ↔ (IsTrue a ⊎ (0 < n))) → n ≡ 0 → b ≡ a
+same_error true b n iff none = iff.1 (inl refl)
+same_error false false n iff none = refl
+same_error false true n iff none = elim (iff.0 refl) [
+  | inl before ↦ absurd (cc)
+  | inr some ↦ absurd (omega (arith, some, none))
+]
+
+pub looks_unless : (a b : Term) (n : ℕ) → b ≡ record a { error = b.error } → (IsTrue b.error ↔ (IsTrue a.error ⊎ (0 < n))) → n ≡ 0 → looks_of b ≡ looks_of a
+looks_unless a b n term noted none = ap looks_of term ∙ ap (λ (e : Bool). reported_on e (looks_of a)) (same_error a.error b.error n noted none)
 
 -- what arguments ask for was said after their notices
-pub args_said : (came : Result (Unit {0}) RunFault) (quiet talks tells : Type 0) (answer : Parsed) (args : Args) (notes : List Note) (env : Env) (held : Contents) (a b d : Term) (noted : Stream) (old new : Scene)
+pub args_said : (came : Result (Unit {0}) RunFault) (refused talks tells : Type 0) (answer : Parsed) (args : Args) (notes : List Note) (env : Env) (held : Contents) (a b d : Term) (now : Looks) (noted : Stream) (old new : Scene)
     → answer ≡ parsed.Args args → b.error ≡ a.error → b.verbose ≡ args.verbose → b.coloring ≡ colored_by args.coloring a.coloring → d ≡ after_notes b notes
-    → SaysNotes b.coloring notes old.streams.err noted → SaysLoaded came quiet talks tells args env held (looks_of d) (scene_with old.calls noted old) new
-    → SaysParsed came quiet talks tells answer notes env held (looks_of a) old new
-args_said came quiet talks tells answer args notes env held a b d noted old new is error verbose coloring told notes_said loaded =
+    → SaysNotes b.coloring notes old.streams.err noted → SaysLoaded came refused talks tells args env held (looks_of d) now (scene_with old.calls noted old) new
+    → SaysParsed came refused talks tells answer notes env held (looks_of a) now old new
+args_said came refused talks tells answer args notes env held a b d now noted old new is error verbose coloring told notes_said loaded =
     let dressed : looks_of d ≡ dressed_by args (looks_of a) = ap looks_of told ∙ ap (λ (x : Coloring). record { coloring = x; verbose = b.verbose; reported = b.error }) coloring
     ∙ ap (λ (x : Bool). record { coloring = colored_by args.coloring a.coloring; verbose = x; reported = b.error }) verbose ∙ ap (λ (x : Bool). record { coloring = colored_by args.coloring a.coloring; verbose = args.verbose; reported = x }) error in
-    subst (λ (p : Parsed). SaysParsed came quiet talks tells p notes env held (looks_of a) old new) (sym is) (
+    subst (λ (p : Parsed). SaysParsed came refused talks tells p notes env held (looks_of a) now old new) (sym is) (
       noted,
       subst (λ (x : Coloring). SaysNotes x notes old.streams.err noted) coloring notes_said,
-      subst (λ (l : Looks). SaysLoaded came quiet talks tells args env held l (scene_with old.calls noted old) new) dressed loaded,
+      subst (λ (l : Looks). SaysLoaded came refused talks tells args env held l now (scene_with old.calls noted old) new) dressed loaded,
     )
 
 -- an error was reported where one ended the call
 pub none_ended : {T E : Type 0} (r : Result T E) (now : Bool) → OnErr r (now ≡ true) → now ≡ false → IsOk r
 none_ended (Ok v) now told quiet = cc
 none_ended (Err e) now told quiet = let e : true ≡ false = sym told ∙ quiet in absurd (cc)
+
+-- once the error is told, if there is one
+pub looks_ended : {E : Type 0} (r : Result (Unit {0}) E) (before now : Term) → OnOk r (now ≡ before) → OnErr r (now.error ≡ true) → now ≡ record before { error = now.error } → looks_of now ≡ reported_on (is_err r || before.error) (looks_of before)
+looks_ended (Ok done) before now same told term = ap looks_of same
+looks_ended (Err e) before now same told term = ap looks_of term ∙ ap (λ (b : Bool). reported_on b (looks_of before)) told
 
 -- one text more
 pub infos_more : (coloring : Coloring) (texts : List (String Global)) (k : ℕ) (d one : String Global) (old mid end : Stream) → k < length texts → one ≡ get_or texts k d
@@ -332,15 +374,25 @@ looks_told x y notes told = subst (λ (t : Term). looks_of t ≡ record (looks_o
 pub looks_ran : (x y : Term) → y ≡ record x { error = y.error } → looks_of y ≡ record (looks_of x) { reported = y.error }
 looks_ran x y ran = ap (λ (t : Term). looks_of t) ran
 
-pub not_off : {X : Type 0} → true ≡ false → X
-not_off off = absurd (cc)
+-- there is no plan: its notices were printed at most
+pub no_plan : {C O E : Type 0} (listing : Bool) (calls : C → List Call) (e : Taking E) (cx : ContextRecord) (stable : Result (Option Version) (String Global)) (error : PlanFault) (term : Term) (a b : Starter C O E) (old new : Scene)
+    → a.term.now ≡ term → calls a.caller.now ≡ old.calls → stream_of e a.err.now ≡ old.streams.err → new.calls ≡ calls b.caller.now → (listing ≡ false → new.streams.out ≡ old.streams.out) → new.streams.err ≡ stream_of e b.err.now → IsNoPlan listing cx stable error
+    → ((b ≡ a) ⊎ ((notes : List Note) × TellsNotes e notes a b)) → HasNoPlan listing cx stable (looks_of term) (looks_of b.term.now) old new error
+no_plan listing calls e cx stable error term a b old new term_is calls_is start calls_end out end cause (inl same) = (
+  cause,
+  (calls_end ∙ ap (λ s. calls s.caller.now) same ∙ calls_is, out, wrote_none old.streams.err new.streams.err (end ∙ ap (λ s. stream_of e s.err.now) same ∙ start)),
+  ap (λ s. looks_of s.term.now) same ∙ ap looks_of term_is,
+)
+no_plan listing calls e cx stable error term a b old new term_is calls_is start calls_end out end cause (inr told) = (
+  cause,
+  (calls_end ∙ ap calls told.1.3 ∙ calls_is, out, subst (λ (s : Stream). WritesSome old.streams.err s) (sym end) (subst (λ (s : Stream). WritesSome s (stream_of e b.err.now)) start (note_lines a.term.now.coloring told.0, told.1.12))),
+  ap looks_of told.1.6 ∙ ap looks_of term_is,
+)
 
--- a list was refused: its notices were printed at most
-pub list_refused : {C O E : Type 0} (e : Taking E) (a b : Starter C O E) (old new : Scene) → stream_of e a.err.now ≡ old.streams.err → new.streams.err ≡ stream_of e b.err.now
-    → ((b ≡ a) ⊎ ((notes : List Note) × TellsNotes e notes a b)) → SaysLines true old new
-list_refused e a b old new start end (inl same) = (λ off. not_off off, wrote_none old.streams.err new.streams.err (end ∙ ap (λ s. stream_of e s.err.now) same ∙ start))
-list_refused e a b old new start end (inr told) =
-    (λ off. not_off off, subst (λ (s : Stream). WritesSome old.streams.err s) (sym end) (subst (λ (s : Stream). WritesSome s (stream_of e b.err.now)) start (note_lines a.term.now.coloring told.0, told.1.12)))
+-- an error's cause, by what is asked for
+pub no_plan_by : (listing hunts : Bool) (cx : ContextRecord) (stable : Result (Option Version) (String Global)) (e : PlanFault) → is_hunt listing cx.args ≡ hunts
+    → (e ≡ plan.Memory) ⊎ MatchBool hunts (IsSome cx.args.subcommand × IsPackagesCause cx e) (IsCauseOf cx.args.subcommand stable cx e) → IsNoPlan listing cx stable e
+no_plan_by listing hunts cx stable e is h = subst (λ (b : Bool). (e ≡ plan.Memory) ⊎ MatchBool b (IsSome cx.args.subcommand × IsPackagesCause cx e) (IsCauseOf cx.args.subcommand stable cx e)) (sym is) h
 
 -- a report is that of the session
 pub report_of : (copied session : Option Course) (t : Course) (a b : Term) (old new : Stream) → copied ≡ session → session ≡ Some t → looks_of a ≡ record (looks_of b) { reported = a.error }

@@ -1,22 +1,24 @@
 -- What only private functions of the crate promise each other.
-use Rattle.std.specs.Prelude.{ℕ, ◌≡◌, ◌≢◌, ◌⊎◌, ◌||◌, [], IfErr, IfSome, Bool, false, true, List, Option, Result, Some, None, Ok, Err, string_bytes, All, filter}
+use Rattle.std.specs.Prelude.{ℕ, ◌≡◌, ◌≢◌, ◌⊎◌, ◌||◌, [], IfErr, IfOk, IfSome, Bool, false, true, List, Option, Result, Some, None, Ok, Err, string_bytes, All, filter}
 use Rattle.std.specs.Io.KnownBytes.{Keeps, Appends, append_known}
 use Rattle.std.proofs.Common.{Global, String}
 use Rattle.hack_base.specs.Names.{Name}
 use Rattle.std.specs.Result.{is_err}
-use Rattle.hack_files.specs.Files.{Change}
+use Rattle.hack_files.specs.Files.{Change, Contents}
 use Rattle.hack_files.specs.Restore.{is_kept, paths, registered_files}
 use Rattle.hack_files.specs.declared.restore.Manager.{Manager}
+use Rattle.hack_load.specs.Answers.{IsLoaded}
 use Rattle.hack_load.specs.ContextOf.{IsContextFrom}
 use Rattle.hack_load.specs.Contexts.{ContextRecord}
 use Rattle.hack_load.specs.declared.answers.Answers.{Answers}
 use Rattle.hack_prepare.specs.EditSteps.{KeepsInOrder, KeepsOnly}
-use Rattle.hack_prepare.specs.PreparedView.{AreWritesIn, IsTouchedIn, edits_in, wanted_in}
+use Rattle.hack_prepare.specs.PreparedView.{AreWritesIn, IsPreparedIn, IsTouchedIn, edits_in, wanted_in}
 use Rattle.hack_prepare.specs.Writes.{MakesSome}
 use Rattle.hack_words.specs.declared.cli.args.Args.{Args}
 use Rattle.hack_plan.specs.View.{PlanView}
 use Rattle.hack_session.specs.declared.step.Handed.{Handed}
 use Rattle.hack_base.specs.Notes.{Note}
+use Rattle.hack_base.specs.Streams.{stream_of}
 use Rattle.hack_versions.specs.declared.version.Version.{Version}
 use Rattle.hack_run.specs.Worlds.{HostView, World, host_view}
 use Rattle.hack_run.specs.declared.fault.RunFault.{RunFault}
@@ -43,6 +45,7 @@ use Rattle.hack_run.specs.declared.reading.Reading.{Reading}
 use Rattle.hack_words.specs.CommandLine.{Around}
 use Rattle.std.specs.List.{flat_map, list_any}
 use Rattle.hack_planner.specs.CallPlan.{IsPlanOf}
+use Rattle.hack_planner.specs.declared.fault.PlanFault.{PlanFault}
 use Rattle.hack_process.specs.declared.fault.ProcessFault.{ProcessFault}
 use Rattle.hack_run.specs.Handed.{is_search}
 use Rattle.hack_run.specs.Shown.{Looks, SaysSteps}
@@ -161,9 +164,26 @@ is_refusal other = false
 abbrev pub IsUntoldRefusal : {T C O E : Type 0} → Taking E → Result T RunFault → Host C O E → Host C O E → Type 0
 IsUntoldRefusal e came old new =
     IfErr came (λ fault. is_refusal fault ≡ true) × (new.term.now ≡ old.term.now)
-    × (e.contents new.err.now ≡ e.contents old.err.now)
+    × (stream_of e new.err.now ≡ stream_of e old.err.now)
 
--- steps were said, of a session, unless a search is asked for, and this error is kept then
-abbrev pub HandsSteps : Type 0 → ContextRecord → Result (Option Version) (String Global) → Name → Option ProcessFault → Option ProcessFault → Looks → Option Course → Scene → Scene → Type 0
-HandsSteps tells cx stable rustup kept now looks session old new =
-    (steps : SaysSteps tells false cx stable rustup kept looks old new) × (is_search false cx.args ≡ false → (session ≡ Some steps.course) × (now ≡ steps.last.kept))
+-- steps were said, of a session, unless a search is asked for; this error is kept then, and it is noted so whether one was reported
+abbrev pub HandsSteps : Type 0 → ContextRecord → Result (Option Version) (String Global) → Name → Option ProcessFault → Option ProcessFault → Bool → Looks → Option Course → Scene → Scene → Type 0
+HandsSteps tells cx stable rustup kept now reported looks session old new =
+    (steps : SaysSteps tells false cx stable rustup kept looks old new)
+    × (is_search false cx.args ≡ false → (session ≡ Some steps.course) × (now ≡ steps.last.kept) × (reported ≡ steps.last.told))
+
+-- a context was made of answers, and its edits, where files hold what was read of them
+abbrev pub FollowsEdits : Type 0 → Args → Answers → Env → Contents → Contents → Type 0
+FollowsEdits tells args answers env old new =
+    (cx : ContextRecord) × IsContextFrom args answers cx × (tells → IfOk answers.loaded (IsLoaded tells old env) → IsPreparedIn cx old new)
+
+-- a list's steps were said, this error is kept, and it is noted so whether one was reported
+abbrev pub ListsSteps : Type 0 → ContextRecord → Result (Option Version) (String Global) → Name → Option ProcessFault → Bool → Looks → Scene → Scene → Type 0
+ListsSteps tells cx stable rustup now reported looks old new =
+    (steps : SaysSteps tells true cx stable rustup None looks old new) × (now ≡ steps.last.kept) × (reported ≡ steps.last.told)
+
+-- how a list ends: as there is no plan, with the error that stopped its steps, or as lines are missing or not
+abbrev pub EndsList : Result Bool PlanFault → Option ProcessFault → Result (Unit {0}) RunFault → Type 0
+EndsList (Err e) stopped came = came ≡ Err (fault.Plan e)
+EndsList (Ok short) (Some failed) came = came ≡ Err (fault.Process failed)
+EndsList (Ok short) None came = (came ≡ Err fault.Memory) ⊎ (came ≡ Err fault.Unlisted) ⊎ (came ≡ Ok tt)

@@ -1,5 +1,5 @@
 -- What happened to the commands of runs that go side by side.
-use Rattle.std.specs.Prelude.{ℕ, ◌≡◌, ◌⊎◌, Bool, List, [], MatchBool, Option, None, Result, false, true}
+use Rattle.std.specs.Prelude.{ℕ, ◌≡◌, ◌⊎◌, Bool, List, [], MatchBool, Option, None, Result, false, string_bytes, true}
 use Rattle.std.specs.Option.{unwrap_or}
 use Rattle.std.proofs.Common.{Global, String}
 use Rattle.hack_base.specs.Names.{Name}
@@ -8,13 +8,20 @@ use Rattle.hack_versions.specs.declared.version.Version.{Version}
 use Rattle.hack_versions.specs.declared.rustup.Rustup.{Rustup}
 use Rattle.hack_words.specs.CommandLine.{ComesTo}
 use Rattle.hack_words.specs.ParseAnswers.{AnswersCommandLine as IsAnswer, around_of}
+use Rattle.hack_words.specs.Start.{wants_rustup}
 use Rattle.hack_words.specs.declared.cli.args.Args.{Args}
 use Rattle.hack_words.specs.declared.cli.env.Env.{Env}
 use Rattle.hack_words.specs.declared.cli.parse.Parsed.{Parsed}
 use Rattle.hack_words.specs.declared.cli.parse.Parsed.TheVariants as parsed
+use Rattle.hack_files.specs.Files.{Contents}
+use Rattle.hack_load.specs.ContextOf.{IsContextFrom}
 use Rattle.hack_load.specs.Contexts.{ContextRecord}
+use Rattle.hack_load.specs.declared.answers.Answers.{Answers}
+use Rattle.hack_process.specs.Calls.{Call}
 use Rattle.hack_planner.specs.CallPlan.{IsPlanOf}
 use Rattle.hack_run.specs.Handed.{IsPlannedAsAsked, is_search}
+use Rattle.hack_run.specs.Loading.{AreLoaded}
+use Rattle.hack_run.specs.Questions.{AsksRustup, AsksStable}
 use Rattle.hack_session.specs.Histories.{Course}
 use Rattle.hack_starts.specs.Events.{Event}
 use Rattle.hack_lanes.specs.Lanes.{Scene, Goes}
@@ -55,30 +62,41 @@ pub record RunsInLanes {S : Type 0} (did : List Event → S → S → Type 0) (c
 abbrev pub MayRunInLanes : {S : Type 0} → (List Event → S → S → Type 0) → ContextRecord → Result (Option Version) (String Global) → Name → S → S → Type 0
 MayRunInLanes did cx stable rustup old new = (new ≡ old) ⊎ RunsInLanes did cx stable rustup old new
 
--- Calls in the caller's course alone were made, where the plan is listed, or an error ended the call; or
--- after such calls a plan that was made for the arguments was performed in lanes.
-abbrev pub PerformsInLanes : {S : Type 0} → Bool → (List Event → S → S → Type 0) → (S → S → Type 0) → Args → S → S → Type 0
-PerformsInLanes {S} done did course args old new =
-    (course old new × ((done ≡ false) ⊎ (args.print_command_list ≡ true)))
-    ⊎ ((cx : ContextRecord) × (cx.args ≡ args) × (stable : Result (Option Version) (String Global))
-    × (rustup : Name) × (before : S) × course old before × RunsInLanes did cx stable rustup before new)
+-- `did` says what became of commands that were started, `course` which calls were made between, and `calls` which the caller
+-- tells, where it does
+module _ {S : Type 0} (did : List Event → S → S → Type 0) (course : S → S → Type 0) (talks : Type 0) (calls : S → List Call) where
+  -- Calls in the caller's course alone were made, where the plan is listed, or an error ended the call; or a context was
+  -- made of these answers, stable's version asked for, and the plan performed in lanes.
+  abbrev pub FollowsInLanes : Bool → Args → Answers → Name → S → S → Type 0
+  FollowsInLanes done args answers rustup old new =
+      (course old new × ((done ≡ false) ⊎ (args.print_command_list ≡ true)))
+      ⊎ ((cx : ContextRecord) × IsContextFrom args answers cx × (stable : Result (Option Version) (String Global)) × (before : S) × course old before
+      × (talks → AsksStable rustup stable (calls old) (calls before)) × RunsInLanes did cx stable rustup before new)
 
--- what a command line asks for was done in lanes, where it asks for runs
-abbrev pub ObeysInLanes : {S : Type 0} → Bool → (List Event → S → S → Type 0) → (S → S → Type 0) → Parsed → S → S → Type 0
-ObeysInLanes done did course (parsed.Args args) old new = PerformsInLanes done did course args old new
-ObeysInLanes done did course answer old new = course old new
+  -- the questions of these arguments were asked, and what follows from the answers was done in lanes
+  pub record LoadsInLanes (done : Bool) (tells : Type 0) (args : Args) (env : Env) (held : Contents) (old new : S) : Type 0 where
+    pub answers : Answers
+    pub mid : S
+    pub between : course old mid
+    pub asked : talks → AreLoaded tells args env held (calls old) (calls mid) answers
+    pub behind : FollowsInLanes done args answers (string_bytes env.rustup) mid new
 
--- a command line was read with what is known of rustup, and what it asks for was done in lanes
-pub record ReadsInLanes {S : Type 0} (done : Bool) (did : List Event → S → S → Type 0) (course : S → S → Type 0) (words : List Name) (env : Env) (mid new : S) : Type 0 where
-  pub rustup : Rustup
-  pub answer : Parsed
-  pub notes : List Note
-  pub read : IsAnswer (around_of env rustup) (ComesTo (around_of env rustup) words) answer notes
-  pub obeyed : ObeysInLanes done did course answer mid new
+  -- what a command line asks for was done in lanes, where it asks for runs
+  abbrev pub ObeysInLanes : Bool → Type 0 → Parsed → Env → Contents → S → S → Type 0
+  ObeysInLanes done tells (parsed.Args args) env held old new = LoadsInLanes done tells args env held old new
+  ObeysInLanes done tells answer env held old new = course old new
 
--- after a call in the caller's course at most, a command line was read and obeyed in lanes, or an error
--- ended the call
-pub record IsLaneCall {S : Type 0} (done : Bool) (did : List Event → S → S → Type 0) (course : S → S → Type 0) (words : List Name) (env : Env) (old new : S) : Type 0 where
-  pub mid : S
-  pub asked : course old mid
-  pub behind : ((done ≡ false) × (new ≡ mid)) ⊎ ReadsInLanes done did course words env mid new
+  -- a command line was read with what rustup answered, and what it asks for was done in lanes
+  pub record ReadsInLanes (done : Bool) (tells : Type 0) (words : List Name) (env : Env) (held : Contents) (old mid new : S) : Type 0 where
+    pub rustup : Rustup
+    pub answer : Parsed
+    pub notes : List Note
+    pub told : talks → AsksRustup (wants_rustup words) (string_bytes env.rustup) rustup (calls old) (calls mid)
+    pub read : IsAnswer (around_of env rustup) (ComesTo (around_of env rustup) words) answer notes
+    pub obeyed : ObeysInLanes done tells answer env held mid new
+
+  -- after a call in the caller's course at most, a command line was read and obeyed in lanes, or an error ended the call
+  pub record IsLaneCall (done : Bool) (tells : Type 0) (words : List Name) (env : Env) (held : Contents) (old new : S) : Type 0 where
+    pub mid : S
+    pub between : course old mid
+    pub behind : ((done ≡ false) × (new ≡ mid)) ⊎ ReadsInLanes done tells words env held old mid new

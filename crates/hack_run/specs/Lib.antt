@@ -1,3 +1,4 @@
+pub mod Errors
 pub mod Handed
 pub mod Started
 pub mod CallTrace
@@ -8,6 +9,7 @@ pub mod Loading
 pub mod Refusals
 pub mod Worlds
 pub mod Shown
+pub mod Standing
 pub mod Lanes
 pub mod Readings
 pub mod InternalExtensions

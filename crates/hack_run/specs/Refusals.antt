@@ -1,7 +1,7 @@
 -- Command lines that are refused whatever rustup answers.
-use Rattle.std.specs.Prelude.{◌≡◌, ℕ, List, Option, string_bytes, true}
+use Rattle.std.specs.Prelude.{◌≡◌, ℕ, List, string_bytes, true}
 use Rattle.hack_base.specs.Names.{Name}
-use Rattle.hack_base.specs.Writes.{AppendsFront}
+use Rattle.hack_base.specs.Streams.{Stream, WritesText}
 use Rattle.hack_process.specs.Calls.{MayAdd}
 use Rattle.hack_rules.specs.CliFaults.{Fault}
 use Rattle.hack_term.specs.Lines.{error_line}
@@ -21,6 +21,6 @@ AreRefused env words = (rustup : Rustup) → (told : Fault) × ComesTo (around_o
 abbrev pub ReportsRefusal : Type 0 → Env → HostView → HostView → Type 0
 ReportsRefusal talks env old new = (new.term.error ≡ true) × (talks → MayAdd (rustup_asked (string_bytes env.rustup)) old.calls new.calls)
 
--- the line of an error was written, or a front of it, and nothing else; it is coloured so
-abbrev pub WritesError : Coloring → Option (List ℕ) → Option (List ℕ) → Type 0
-WritesError coloring before after = (text : List ℕ) × AppendsFront before after (error_line coloring text)
+-- the line of an error was written, and nothing else; it is coloured so
+abbrev pub WritesError : Coloring → Stream → Stream → Type 0
+WritesError coloring old new = (text : List ℕ) × WritesText (error_line coloring text) old new

@@ -1,30 +1,41 @@
 -- What a call says on the way, and in which order: where it comes to its end, all of that and nothing else; where an
 -- error ends it, what was to be said before.
-use Rattle.std.specs.Prelude.{◌≡◌, ◌⊎◌, ◌&&◌, ℕ, Bool, Err, IsErr, IsOk, List, MatchBool, None, Ok, Option, Result, Some, false, filter, if◌then◌else◌, map, not, string_bytes, true}
+use Rattle.std.specs.Prelude.{◌≡◌, ◌≢◌, ◌⊎◌, ◌&&◌, ◌||◌, [], ℕ, Bool, Err, IsOk, IsSome, List, MatchBool, MatchOption, None, Ok, Option, Result, false, filter, if◌then◌else◌, map, not, string_bytes, true}
+use Rattle.std.specs.Io.KnownBytes.{Appends}
+use Rattle.std.specs.Result.{is_err}
 use Rattle.std.proofs.Common.{Global, String}
 use Rattle.hack_base.specs.Names.{Name}
 use Rattle.hack_base.specs.Notes.{Note}
-use Rattle.hack_base.specs.Streams.{Stream, WritesAll, WritesSome, WritesText}
+use Rattle.hack_base.specs.Streams.{Stream, WritesAll, WritesSome}
+use Rattle.hack_base.specs.Writes.{AppendsFront, HasFailed}
 use Rattle.hack_base.specs.declared.writes.Sink.{Ghosts as Taking}
+use Rattle.hack_drive.specs.Answered.{NeedsAnswer}
 use Rattle.hack_drive.specs.Shown.{note_lines}
 use Rattle.hack_load.specs.CargoQuestions.{told_version}
-use Rattle.hack_load.specs.ContextOf.{IsContextFrom, warnings_of}
+use Rattle.hack_load.specs.ContextOf.{IsContextCause, IsContextFrom, warnings_of}
 use Rattle.hack_load.specs.Contexts.{ContextRecord}
 use Rattle.hack_load.specs.declared.answers.Answers.{Answers}
+use Rattle.hack_load.specs.declared.fault.ContextFault.{ContextFault}
+use Rattle.hack_load.specs.declared.fault.ContextFault.TheVariants as context
 use Rattle.hack_files.specs.Files.{Contents}
-use Rattle.hack_planner.specs.CallPlan.{IsPlanOf}
+use Rattle.hack_files.specs.declared.fs.Files.{Ghosts as Filing}
+use Rattle.hack_planner.specs.CallPlan.{IsCauseOf, IsPackagesCause, IsPlanOf}
 use Rattle.hack_planner.specs.Looks.{AreLongLooks}
+use Rattle.hack_planner.specs.declared.fault.PlanFault.{PlanFault}
+use Rattle.hack_planner.specs.declared.fault.PlanFault.TheVariants as plan
 use Rattle.hack_prepare.specs.PreparedView.{notes_in}
-use Rattle.hack_process.specs.Calls.{Call}
+use Rattle.hack_prepare.specs.declared.fault.PrepareFault.{PrepareFault}
+use Rattle.hack_process.specs.Calls.{Call, MayAdd}
 use Rattle.hack_process.specs.declared.fault.ProcessFault.{ProcessFault}
 use Rattle.hack_process.specs.declared.caller.Caller.{Ghosts as Calling}
-use Rattle.hack_report.specs.Reported.{SaysReport}
+use Rattle.hack_report.specs.Reported.{SaysReport, are_reported}
+use Rattle.hack_rules.specs.declared.fault.CliFault.{CliFault}
 use Rattle.hack_session.specs.Histories.{Course}
 use Rattle.hack_session.specs.ListLines.{is_sent}
 use Rattle.hack_session.specs.StepEffects.{DoesAll, Scene, State, state}
 use Rattle.hack_session.specs.StepOutput.{Manner, Streams, streams}
 use Rattle.hack_session.specs.declared.step.Handed.{Handed}
-use Rattle.hack_term.specs.Lines.{error_line, info_line}
+use Rattle.hack_term.specs.Lines.{info_line}
 use Rattle.hack_term.specs.declared.log_group.LogGroup.TheVariants as log
 use Rattle.hack_term.specs.declared.term.Coloring.{Coloring}
 use Rattle.hack_term.specs.declared.term.Term.{Term}
@@ -38,12 +49,15 @@ use Rattle.hack_words.specs.declared.cli.env.Env.{Env}
 use Rattle.hack_words.specs.declared.cli.parse.Parsed.{Parsed}
 use Rattle.hack_words.specs.declared.cli.parse.Parsed.TheVariants as parsed
 use Rattle.hack_run.specs.CallTrace.{colored_by}
-use Rattle.hack_run.specs.Handed.{IsPlannedAsAsked, is_search}
+use Rattle.hack_run.specs.Errors.{SaysEnd}
+use Rattle.hack_run.specs.Handed.{IsPlannedAsAsked, is_hunt, is_search}
 use Rattle.hack_run.specs.Loading.{AreLoaded}
-use Rattle.hack_run.specs.Questions.{AsksRustup, AsksStable}
+use Rattle.hack_run.specs.Questions.{AsksRustup, AsksStable, MayAskStable, rustup_asked}
+use Rattle.hack_run.specs.Readings.{IsReadingOrRefusal}
 use Rattle.hack_run.specs.declared.fault.RunFault.{RunFault}
 use Rattle.hack_run.specs.declared.fault.RunFault.TheVariants as fault
 use Rattle.hack_run.specs.declared.host.Host.{Host}
+use Rattle.hack_run.specs.declared.reading.Reading.TheVariants.{Refused}
 
 -- ---- what is said at once
 
@@ -80,6 +94,18 @@ pub record Looks : Type 0 where
 abbrev pub looks_of : Term → Looks
 looks_of term = record { coloring = term.coloring; verbose = term.verbose; reported = term.error }
 
+-- the same, where an error was reported, or none
+abbrev pub reported_on : Bool → Looks → Looks
+reported_on reported looks = record looks { reported = reported }
+
+-- lines look as before, whether an error was reported or not
+abbrev pub KeepsLooks : Term → Term → Type 0
+KeepsLooks old new = looks_of new ≡ reported_on new.error (looks_of old)
+
+-- memory was refused, and nothing was said or called
+abbrev pub SaysStarved : Result (Unit {0}) RunFault → Looks → Looks → Scene → Scene → Type 0
+SaysStarved came looks now old new = (came ≡ Err fault.Memory) × (now ≡ looks) × (new ≡ old)
+
 -- how steps are said: a list's without groups
 abbrev pub manner_for : Bool → Args → Looks → Manner
 manner_for listing args looks = record { group = if listing then log.None else args.log_group; coloring = looks.coloring; verbose = looks.verbose }
@@ -109,105 +135,153 @@ pub record SaysSteps (tells : Type 0) (listing : Bool) (cx : ContextRecord) (sta
   pub out : listing ≡ false → new.streams.out ≡ last.scene.streams.out
   pub err : is_search listing cx.args ≡ false → new.streams.err ≡ last.scene.streams.err
 
--- lines were said at most
+-- nothing was called, and lines were said at most
 abbrev pub SaysLines : Bool → Scene → Scene → Type 0
-SaysLines listing old new = (listing ≡ false → new.streams.out ≡ old.streams.out) × WritesSome old.streams.err new.streams.err
+SaysLines listing old new = (new.calls ≡ old.calls) × (listing ≡ false → new.streams.out ≡ old.streams.out) × WritesSome old.streams.err new.streams.err
 
--- Steps were said, and then the report of the runs that failed, with what only these have, unless memory was refused
--- for it. An error that was kept, since it stopped the session, is that of the call.
-pub record SaysRuns (came : Result (Unit {0}) RunFault) (tells : Type 0) (cx : ContextRecord) (stable : Result (Option Version) (String Global)) (rustup : Name) (looks : Looks) (old new : Scene) : Type 0 where
+-- why there is no plan: a cause that the context and stable's answer have, or want of memory
+abbrev pub IsNoPlan : Bool → ContextRecord → Result (Option Version) (String Global) → PlanFault → Type 0
+IsNoPlan listing cx stable e = (e ≡ plan.Memory)
+    ⊎ MatchBool (is_hunt listing cx.args) (IsSome cx.args.subcommand × IsPackagesCause cx e) (IsCauseOf cx.args.subcommand stable cx e)
+
+-- that is so, nothing was called, and lines were said at most
+abbrev pub HasNoPlan : Bool → ContextRecord → Result (Option Version) (String Global) → Looks → Looks → Scene → Scene → PlanFault → Type 0
+HasNoPlan listing cx stable looks now old new e = IsNoPlan listing cx stable e × SaysLines listing old new × (now ≡ looks)
+
+abbrev pub SaysNoPlan : Result (Unit {0}) RunFault → Bool → ContextRecord → Result (Option Version) (String Global) → Looks → Looks → Scene → Scene → Type 0
+SaysNoPlan came listing cx stable looks now old new = (e : PlanFault) × (came ≡ Err (fault.Plan e)) × HasNoPlan listing cx stable looks now old new e
+
+-- What steps came to: the error that stopped them; else the report of the runs that failed, with the patterns that only
+-- these show, and then an error was reported where one is reported there, or by a step; or memory was refused for that.
+abbrev pub ComesOfRuns : Result (Unit {0}) RunFault → ContextRecord → Looks → Looks → Course → State → Stream → Stream → Type 0
+ComesOfRuns came cx looks now course last old new = MatchOption last.kept
+    (((came ≡ Err fault.Memory) × WritesSome old new)
+    ⊎ ((came ≡ Ok tt) × SaysReport looks.coloring course old new × (now.reported ≡ (last.told || are_reported course))))
+    (λ failed. (came ≡ Err (fault.Process failed)) × (new ≡ old))
+
+-- steps were said, and then what they came to; of a search no more is said here
+pub record SaysRuns (came : Result (Unit {0}) RunFault) (tells : Type 0) (cx : ContextRecord) (stable : Result (Option Version) (String Global)) (rustup : Name) (looks now : Looks) (old new : Scene) : Type 0 where
   pub mid : Scene
   pub steps : SaysSteps tells false cx stable rustup None looks old mid
   pub calls : new.calls ≡ mid.calls
   pub out : new.streams.out ≡ mid.streams.out
-  pub reported : IsOk came → is_search false cx.args ≡ false → SaysReport looks.coloring steps.course mid.streams.err new.streams.err
+  pub comes : is_search false cx.args ≡ false → ComesOfRuns came cx looks now steps.course steps.last mid.streams.err new.streams.err
   pub more : WritesSome mid.streams.err new.streams.err
-  pub stopped : is_search false cx.args ≡ false → (failed : ProcessFault) → steps.last.kept ≡ Some failed → came ≡ Err (fault.Process failed)
+  pub ends : now ≡ reported_on now.reported looks
 
--- the same, where an error didn't end the call before
-abbrev pub MaySayRuns : Result (Unit {0}) RunFault → Type 0 → ContextRecord → Result (Option Version) (String Global) → Name → Looks → Scene → Scene → Type 0
-MaySayRuns came tells cx stable rustup looks old new =
-    (IsErr came × SaysLines false old new) ⊎ SaysRuns came tells cx stable rustup looks old new
+-- how a list ends: with the error that stopped its steps; else without one, or with that of a line that is missing
+abbrev pub ComesOfList : Result (Unit {0}) RunFault → Looks → State → Type 0
+ComesOfList came now last = MatchOption last.kept
+    ((came ≡ Err fault.Memory) ⊎ (came ≡ Err fault.Unlisted) ⊎ ((came ≡ Ok tt) × (now.reported ≡ last.told)))
+    (λ failed. came ≡ Err (fault.Process failed))
 
 -- the same of a list's steps that aren't listed
-abbrev pub MaySayList : Result (Unit {0}) RunFault → Type 0 → ContextRecord → Result (Option Version) (String Global) → Name → Looks → Scene → Scene → Type 0
-MaySayList came tells cx stable rustup looks old new =
-    (IsErr came × SaysLines true old new) ⊎ SaysSteps tells true cx stable rustup None looks old new
+pub record SaysList (came : Result (Unit {0}) RunFault) (tells : Type 0) (cx : ContextRecord) (stable : Result (Option Version) (String Global)) (rustup : Name) (looks now : Looks) (old new : Scene) : Type 0 where
+  pub steps : SaysSteps tells true cx stable rustup None looks old new
+  pub comes : ComesOfList came now steps.last
+  pub ends : now ≡ reported_on now.reported looks
 
--- a plan's steps were said
-abbrev pub SaysPlan : Result (Unit {0}) RunFault → Type 0 → ContextRecord → Result (Option Version) (String Global) → Name → Looks → Scene → Scene → Type 0
-SaysPlan came tells cx stable rustup looks old new =
-    MatchBool cx.args.print_command_list (MaySayList came tells cx stable rustup looks old new) (MaySayRuns came tells cx stable rustup looks old new)
+-- a plan's steps were said, or there is none; before a list memory may be refused
+abbrev pub SaysPlan : Result (Unit {0}) RunFault → Type 0 → ContextRecord → Result (Option Version) (String Global) → Name → Looks → Looks → Scene → Scene → Type 0
+SaysPlan came tells cx stable rustup looks now old new =
+    SaysNoPlan came cx.args.print_command_list cx stable looks now old new
+    ⊎ MatchBool cx.args.print_command_list (SaysStarved came looks now old new ⊎ SaysList came tells cx stable rustup looks now old new) (SaysRuns came tells cx stable rustup looks now old new)
 
--- which looks take long was said, and then the plan's steps
-abbrev pub SaysItsPlan : Result (Unit {0}) RunFault → Type 0 → ContextRecord → Result (Option Version) (String Global) → Name → Looks → Scene → Scene → Type 0
-SaysItsPlan came tells cx stable rustup looks old new =
-    (IsErr came × SaysLines cx.args.print_command_list old new)
-    ⊎ ((looked : Stream) × SaysLooks cx looks.coloring old.streams.err looked × SaysPlan came tells cx stable rustup looks (scene_with old.calls looked old) new)
+-- which looks take long was said, and then the plan's steps, unless memory was refused for that
+abbrev pub SaysItsPlan : Result (Unit {0}) RunFault → Type 0 → ContextRecord → Result (Option Version) (String Global) → Name → Looks → Looks → Scene → Scene → Type 0
+SaysItsPlan came tells cx stable rustup looks now old new =
+    SaysStarved came looks now old new
+    ⊎ ((looked : Stream) × SaysLooks cx looks.coloring old.streams.err looked × SaysPlan came tells cx stable rustup looks now (scene_with old.calls looked old) new)
 
 -- ---- a call
 
 -- What was said once the questions were answered: the warning of an unknown version of cargo, the notices on edits,
 -- which looks take long, and the plan; an error may have ended it before.
-pub data SaysAfterLoading (came : Result (Unit {0}) RunFault) (tells : Type 0) (args : Args) (answers : Answers) (rustup : Name) (looks : Looks) (old new : Scene) : Type 0 where
-  unloaded : IsErr came → SaysLines false old new → SaysAfterLoading came tells args answers rustup looks old new
-  unplanned : (cx : ContextRecord) (warned : Stream) → IsContextFrom args answers cx → SaysNotes looks.coloring (warnings_of (told_version answers.cargo_version)) old.streams.err warned
-      → IsErr came → SaysLines false (scene_with old.calls warned old) new → SaysAfterLoading came tells args answers rustup looks old new
+pub data SaysAfterLoading (came : Result (Unit {0}) RunFault) (tells : Type 0) (args : Args) (answers : Answers) (rustup : Name) (looks now : Looks) (old new : Scene) : Type 0 where
+  unloaded : (e : ContextFault) → (e ≡ context.Memory) ⊎ IsContextCause args answers e → came ≡ Err (fault.Context e) → now ≡ looks → new ≡ old
+      → SaysAfterLoading came tells args answers rustup looks now old new
+  unedited : (cx : ContextRecord) (warned : Stream) → IsContextFrom args answers cx → SaysNotes looks.coloring (warnings_of (told_version answers.cargo_version)) old.streams.err warned
+      → (e : PrepareFault) → came ≡ Err (fault.Manifests e) → now ≡ looks → new ≡ scene_with old.calls warned old → SaysAfterLoading came tells args answers rustup looks now old new
+  unasked : (cx : ContextRecord) (warned edited : Stream) → IsContextFrom args answers cx → SaysNotes looks.coloring (warnings_of (told_version answers.cargo_version)) old.streams.err warned
+      → SaysNotes looks.coloring (notes_in cx) warned edited → MayAskStable rustup old.calls new.calls → (¬ NeedsAnswer args → new.calls ≡ old.calls)
+      → came ≡ Err fault.Memory → now ≡ looks → new ≡ scene_with new.calls edited old → SaysAfterLoading came tells args answers rustup looks now old new
   planned : (cx : ContextRecord) (warned edited : Stream) (stable : Result (Option Version) (String Global)) (calls : List Call) → IsContextFrom args answers cx
       → SaysNotes looks.coloring (warnings_of (told_version answers.cargo_version)) old.streams.err warned → SaysNotes looks.coloring (notes_in cx) warned edited
-      → AsksStable rustup stable old.calls calls → SaysItsPlan came tells cx stable rustup looks (scene_with calls edited old) new
-      → SaysAfterLoading came tells args answers rustup looks old new
+      → AsksStable rustup stable old.calls calls → (¬ NeedsAnswer args → stable ≡ Ok None) → SaysItsPlan came tells cx stable rustup looks now (scene_with calls edited old) new
+      → SaysAfterLoading came tells args answers rustup looks now old new
+
+-- some write or removal was refused between these states of files
+abbrev pub RefusesSome : {F : Type 0} → Filing F → F → F → Type 0
+RefusesSome f old new = (paths : List Name) × (paths ≢ []) × f.refuses old new paths
 
 -- What was said by a call with these arguments: what follows its questions; then why a file failed, where that ended
--- it, and of files that are written back. Where no error was reported, nothing is said of these but in verbose mode.
-pub record SaysLoaded (came : Result (Unit {0}) RunFault) (quiet talks tells : Type 0) (args : Args) (env : Env) (held : Contents) (looks : Looks) (old new : Scene) : Type 0 where
+-- it, and of files that are written back. Where an error didn't end it and no write was refused, nothing is said of
+-- these but in verbose mode; and no error is reported but where a write was refused.
+pub record SaysLoaded (came : Result (Unit {0}) RunFault) (refused talks tells : Type 0) (args : Args) (env : Env) (held : Contents) (looks now : Looks) (old new : Scene) : Type 0 where
   pub answers : Answers
   pub calls : List Call
   pub asked : AreLoaded talks args env held old.calls calls answers
   pub mid : Scene
-  pub said : SaysAfterLoading came tells args answers (string_bytes env.rustup) looks (scene_with calls old.streams.err old) mid
+  pub at : Looks
+  pub said : SaysAfterLoading came tells args answers (string_bytes env.rustup) looks at (scene_with calls old.streams.err old) mid
   pub same : new.calls ≡ mid.calls
   pub out : new.streams.out ≡ mid.streams.out
   pub more : WritesSome mid.streams.err new.streams.err
-  pub plain : IsOk came → quiet → looks.verbose ≡ false → new.streams.err ≡ mid.streams.err
+  pub plain : IsOk came → looks.verbose ≡ false → refused ⊎ (new.streams.err ≡ mid.streams.err)
+  pub ends : (now ≡ at) ⊎ (refused × (now ≡ reported_on true at))
 
 -- the looks that arguments ask for
 abbrev pub dressed_by : Args → Looks → Looks
 dressed_by args looks = record { coloring = colored_by args.coloring looks.coloring; verbose = args.verbose; reported = looks.reported }
 
+-- a text was printed, or a front of it, and that is the error
+abbrev pub SaysText : Result (Unit {0}) RunFault → List ℕ → Stream → Stream → Type 0
+SaysText came text old new =
+    ((came ≡ Ok tt) × Appends old.bytes new.bytes text)
+    ⊎ ((came ≡ Err fault.Unprinted) × AppendsFront old.bytes new.bytes text × HasFailed old.failed new.failed)
+
 -- what was said of what a command line asks for: its notices, and what follows them; a text is printed without them
-abbrev pub SaysParsed : Result (Unit {0}) RunFault → Type 0 → Type 0 → Type 0 → Parsed → List Note → Env → Contents → Looks → Scene → Scene → Type 0
-SaysParsed came quiet talks tells (parsed.Args args) notes env held looks old new =
+abbrev pub SaysParsed : Result (Unit {0}) RunFault → Type 0 → Type 0 → Type 0 → Parsed → List Note → Env → Contents → Looks → Looks → Scene → Scene → Type 0
+SaysParsed came refused talks tells (parsed.Args args) notes env held looks now old new =
     (noted : Stream) × SaysNotes (colored_by args.coloring looks.coloring) notes old.streams.err noted
-    × SaysLoaded came quiet talks tells args env held (dressed_by args looks) (scene_with old.calls noted old) new
-SaysParsed came quiet talks tells (parsed.Print text) notes env held looks old new = new.streams.err ≡ old.streams.err
-SaysParsed came quiet talks tells parsed.List notes env held looks old new = SaysNotes looks.coloring notes old.streams.err new.streams.err × (new.streams.out ≡ old.streams.out)
+    × SaysLoaded came refused talks tells args env held (dressed_by args looks) now (scene_with old.calls noted old) new
+SaysParsed came refused talks tells (parsed.Print text) notes env held looks now old new =
+    SaysText came (string_bytes text) old.streams.out new.streams.out × (now ≡ looks) × (new.calls ≡ old.calls) × (new.streams.err ≡ old.streams.err)
+SaysParsed came refused talks tells parsed.List notes env held looks now old new =
+    SaysNotes looks.coloring notes old.streams.err new.streams.err × (now ≡ looks) × (new.streams.out ≡ old.streams.out)
 
 -- what was said once rustup was asked where an argument needs it, and the command line was read
-pub record SaysRead (came : Result (Unit {0}) RunFault) (quiet talks tells : Type 0) (words : List Name) (env : Env) (held : Contents) (looks : Looks) (old new : Scene) : Type 0 where
+pub record SaysRead (came : Result (Unit {0}) RunFault) (refused talks tells : Type 0) (words : List Name) (env : Env) (held : Contents) (looks now : Looks) (old new : Scene) : Type 0 where
   pub calls : List Call
   pub rustup : Rustup
   pub answer : Parsed
   pub notes : List Note
   pub asked : AsksRustup (wants_rustup words) (string_bytes env.rustup) rustup old.calls calls
   pub read : IsAnswer (around_of env rustup) (ComesTo (around_of env rustup) words) answer notes
-  pub said : SaysParsed came quiet talks tells answer notes env held looks (scene_with calls old.streams.err old) new
+  pub said : SaysParsed came refused talks tells answer notes env held looks now (scene_with calls old.streams.err old) new
 
--- the same, unless an error ended the call before
-abbrev pub MaySayRead : Result (Unit {0}) RunFault → Type 0 → Type 0 → Type 0 → List Name → Env → Contents → Looks → Scene → Scene → Type 0
-MaySayRead came quiet talks tells words env held looks old new =
-    (IsErr came × (new.streams ≡ old.streams)) ⊎ SaysRead came quiet talks tells words env held looks old new
+-- nothing was said, since the command line is refused, once rustup was asked where an argument needs it
+pub record SaysRefusal (came : Result (Unit {0}) RunFault) (words : List Name) (env : Env) (looks now : Looks) (old new : Scene) : Type 0 where
+  pub error : CliFault
+  pub rustup : Rustup
+  pub asked : AsksRustup (wants_rustup words) (string_bytes env.rustup) rustup old.calls new.calls
+  pub read : IsReadingOrRefusal (around_of env rustup) words (Refused error)
+  pub came_to : came ≡ Err (fault.Words error)
+  pub ends : now ≡ looks
+  pub streams : new.streams ≡ old.streams
 
--- an error's line was said, and before it at most what the user can do
-abbrev pub SaysEnd : Result (Unit {0}) RunFault → Coloring → Stream → Stream → Type 0
-SaysEnd (Ok done) coloring old new = new ≡ old
-SaysEnd (Err fault) coloring old new =
-    (mid : Stream) × WritesSome old mid × (text : List ℕ) × WritesText (error_line coloring text) mid new
+-- the same, or memory was refused for the question
+abbrev pub SaysUnread : Result (Unit {0}) RunFault → List Name → Env → Looks → Looks → Scene → Scene → Type 0
+SaysUnread came words env looks now old new =
+    SaysRefusal came words env looks now old new
+    ⊎ ((came ≡ Err fault.Memory) × MayAdd (rustup_asked (string_bytes env.rustup)) old.calls new.calls × (now ≡ looks) × (new.streams ≡ old.streams))
 
--- What a call said, and how it ended: the line of an error, if there is one, comes last.
-pub record SaysCall (quiet talks tells : Type 0) (words : List Name) (env : Env) (held : Contents) (looks : Looks) (coloring : Coloring) (old new : Scene) : Type 0 where
+-- What a call said, and how it ended: the line of an error, if there is one, comes last. An error was reported where one
+-- is told last, or before.
+pub record SaysCall (refused talks tells : Type 0) (words : List Name) (env : Env) (held : Contents) (looks now : Looks) (old new : Scene) : Type 0 where
   pub came : Result (Unit {0}) RunFault
   pub mid : Stream
-  pub said : MaySayRead came quiet talks tells words env held looks old (scene_with new.calls mid new)
-  pub end : SaysEnd came coloring mid new.streams.err
-  pub none : quiet → IsOk came
+  pub at : Looks
+  pub said : SaysUnread came words env looks at old (scene_with new.calls mid new) ⊎ SaysRead came refused talks tells words env held looks at old (scene_with new.calls mid new)
+  pub end : SaysEnd came env at.coloring mid new.streams.err
+  pub ends : now ≡ reported_on (is_err came || at.reported) at

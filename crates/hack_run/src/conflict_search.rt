@@ -1,7 +1,7 @@
 //! The search for conflicts of a call: for each package the least sets of features that fail.
 
-ghost use Rattle.std.specs.Prelude.{◌≡◌, ◌⊎◌, Err, List, None, Ok, OnErr, OnOk, Option, Result};
-ghost use Rattle.std.specs.Prelude.{String, false, true};
+ghost use Rattle.std.specs.Prelude.{◌≡◌, ◌⊎◌, Err, IfErr, List, None, Ok, OnErr, OnOk, Option};
+ghost use Rattle.std.specs.Prelude.{Result, String, false, true};
 ghost use Rattle.std.proofs.Common.{Global as Heap};
 ghost use Rattle.hack_culprits.specs.declared.fault.CulpritsFault.TheVariants.{Ended};
 ghost use Rattle.hack_hunt.specs.Hunts.{came_of};
@@ -10,7 +10,7 @@ ghost use Rattle.hack_load.specs.ContextView.{context_view};
 ghost use Rattle.hack_run.specs.CallTrace.{PerformsOne};
 ghost use Rattle.hack_run.specs.Internal.{PerformsAtMostOne, Reports};
 ghost use Rattle.hack_run.specs.Lanes.{RunsOne};
-ghost use Rattle.hack_run.specs.Shown.{SaysLines, SaysSteps, looks_of, scene_at};
+ghost use Rattle.hack_run.specs.Shown.{HasNoPlan, KeepsLooks, SaysSteps, looks_of, scene_at};
 ghost use Rattle.hack_run.specs.Worlds.{host_of};
 ghost use Rattle.hack_versions.specs.declared.version.Version.{Version};
 
@@ -62,11 +62,11 @@ pub(crate) fn hunt_in_lanes<L: Turns, O: Sink, E: Sink>(
         fault.old (looks_of term.old)
         (scene_at (L.calls lanes.old) O.Sink E.Sink out.old err.old)
         (scene_at (L.calls lanes.new) O.Sink E.Sink out.new err.new)) }
-    ensures unplanned { OnErr result (SaysLines false
+    ensures unplanned { IfErr result (λ e. (stable : Result (Option Version) (String Heap))
+        → HasNoPlan false (context_view cx.now) stable (looks_of term.old) (looks_of term.new)
         (scene_at (L.calls lanes.old) O.Sink E.Sink out.old err.old)
-        (scene_at (L.calls lanes.new) O.Sink E.Sink out.new err.new)) }
-    ensures looks { looks_of term.new
-        ≡ record (looks_of term.old) { reported = term.new.error } }
+        (scene_at (L.calls lanes.new) O.Sink E.Sink out.new err.new) e) }
+    ensures looks { KeepsLooks term.old term.new }
 {
     let (log_group, _) = manner(cx.args());
     let mut starter = Starter::new(alloc, lanes, term, out, err, fault);
@@ -96,8 +96,7 @@ fn settle<E: Sink>(
         × (((fault.old ≡ None) × (came_of hunt.now.found ≡ Err Ended))
         ⊎ ((found : List FoundSets) × (came_of hunt.now.found ≡ Ok found)
         × Reports found fails.old fails.new term.old.warn term.new.warn)) }
-    ensures looks { looks_of term.new
-        ≡ record (looks_of term.old) { reported = term.new.error } }
+    ensures looks { KeepsLooks term.old term.new }
 {
     if refused {
         return cut_off(fault, term);

@@ -1,6 +1,6 @@
 //! The runs of a plan, and the report of those that failed.
 
-ghost use Rattle.std.specs.Prelude.{◌≡◌, ◌⊎◌, ◌||◌, Bool, Contains, IfOk, IsOk, MatchBool, None};
+ghost use Rattle.std.specs.Prelude.{◌≡◌, ◌⊎◌, ◌||◌, Bool, Contains, IfErr, IfOk, IsOk, MatchBool, None};
 ghost use Rattle.std.specs.Prelude.{OnErr, OnOk, Some, false, string_bytes, true};
 ghost use Rattle.std.specs.Option.{unwrap_or};
 ghost use Rattle.hack_load.specs.ContextView.{context_view};
@@ -10,8 +10,8 @@ ghost use Rattle.hack_run.specs.Internal.{MayPerformItsPlan, PerformsAtMostOne, 
 ghost use Rattle.hack_run.specs.Internal.{HandsSteps, ReportsFound};
 ghost use Rattle.hack_run.specs.Lanes.{MayRunInLanes, RunsInLanes, RunsOne};
 ghost use Rattle.hack_drive.specs.Answered.{IsAnswered};
-ghost use Rattle.hack_run.specs.Shown.{MaySayRuns, SaysLines, SaysSteps, looks_of, scene_at};
-ghost use Rattle.hack_run.specs.Shown.{scene_on};
+ghost use Rattle.hack_run.specs.Shown.{HasNoPlan, KeepsLooks, SaysNoPlan, SaysRuns, SaysSteps};
+ghost use Rattle.hack_run.specs.Shown.{looks_of, scene_at, scene_on};
 ghost use Rattle.hack_run.specs.Worlds.{IsSameHost, host_of};
 
 use crate::conflict_search::hunt_in_lanes;
@@ -60,11 +60,14 @@ pub(crate) fn execute<C: Starts, O: Sink, E: Sink>(
         (string_bytes host.old.env.now.rustup) host.old.caller.now host.new.caller.now) }
 
     // The notices of the plan were said, then just what its steps say, and then the report.
-    ensures shown { C.tells → MaySayRuns result C.tells (context_view cx.now) stable
-        (string_bytes host.old.env.now.rustup) (looks_of host.old.term.now)
+    ensures shown { C.tells → SaysNoPlan result false (context_view cx.now) stable
+        (looks_of host.old.term.now) (looks_of host.new.term.now)
+        (scene_on C.Caller O.Sink E.Sink host.old) (scene_on C.Caller O.Sink E.Sink host.new)
+        ⊎ SaysRuns result C.tells (context_view cx.now) stable
+        (string_bytes host.old.env.now.rustup)
+        (looks_of host.old.term.now) (looks_of host.new.term.now)
         (scene_on C.Caller O.Sink E.Sink host.old) (scene_on C.Caller O.Sink E.Sink host.new) }
-    ensures looks { looks_of host.new.term.now
-        ≡ record (looks_of host.old.term.now) { reported = host.new.term.now.error } }
+    ensures looks { KeepsLooks host.old.term.now host.new.term.now }
 {
     let mut fault = None;
     let session = match hand_to_starter(cx, stable, &mut fault, host) {
@@ -100,12 +103,13 @@ fn hand_to_starter<C: Starts, O: Sink, E: Sink>(
         (string_bytes host.old.env.now.rustup) host.old.caller.now host.new.caller.now) }
     ensures shown { C.tells → IfOk result (λ session. HandsSteps C.tells
         (context_view cx.now) stable
-        (string_bytes host.old.env.now.rustup) fault.old fault.new (looks_of host.old.term.now) session
+        (string_bytes host.old.env.now.rustup) fault.old fault.new host.new.term.now.error
+        (looks_of host.old.term.now) session
         (scene_on C.Caller O.Sink E.Sink host.old) (scene_on C.Caller O.Sink E.Sink host.new)) }
-    ensures unplanned { OnErr result (SaysLines false
+    ensures unplanned { C.tells → IfErr result (HasNoPlan false (context_view cx.now) stable
+        (looks_of host.old.term.now) (looks_of host.new.term.now)
         (scene_on C.Caller O.Sink E.Sink host.old) (scene_on C.Caller O.Sink E.Sink host.new)) }
-    ensures looks { looks_of host.new.term.now
-        ≡ record (looks_of host.old.term.now) { reported = host.new.term.now.error } }
+    ensures looks { KeepsLooks host.old.term.now host.new.term.now }
 {
     let rustup = host.env.rustup.as_str();
     let folder = target_folder(host.alloc, cx)?;
@@ -156,14 +160,14 @@ fn hand_out<L: Turns, O: Sink, E: Sink>(
     ensures stays { L.stays lanes.old lanes.new }
     ensures refused { OnErr result (lanes.new ≡ lanes.old) }
     ensures shown { IfOk result (λ session. HandsSteps L.tells (context_view cx.now) stable
-        rustup.now fault.old fault.new (looks_of term.old) session
+        rustup.now fault.old fault.new term.new.error (looks_of term.old) session
         (scene_at (L.calls lanes.old) O.Sink E.Sink out.old err.old)
         (scene_at (L.calls lanes.new) O.Sink E.Sink out.new err.new)) }
-    ensures unplanned { OnErr result (SaysLines false
+    ensures unplanned { IfErr result (HasNoPlan false (context_view cx.now) stable
+        (looks_of term.old) (looks_of term.new)
         (scene_at (L.calls lanes.old) O.Sink E.Sink out.old err.old)
         (scene_at (L.calls lanes.new) O.Sink E.Sink out.new err.new)) }
-    ensures looks { looks_of term.new
-        ≡ record (looks_of term.old) { reported = term.new.error } }
+    ensures looks { KeepsLooks term.old term.new }
 {
     if cx.args().find_conflicts {
         hunt_in_lanes(alloc, cx, rustup, lanes, term, out, err, fault, fails)?;
@@ -206,14 +210,14 @@ fn drive_in_lanes<L: Turns, O: Sink, E: Sink>(
     ensures stays { L.stays lanes.old lanes.new }
     ensures refused { OnErr result (lanes.new ≡ lanes.old) }
     ensures shown { IfOk result (λ session. HandsSteps L.tells (context_view cx.now) stable
-        rustup.now fault.old fault.new (looks_of term.old) (Some session)
+        rustup.now fault.old fault.new term.new.error (looks_of term.old) (Some session)
         (scene_at (L.calls lanes.old) O.Sink E.Sink out.old err.old)
         (scene_at (L.calls lanes.new) O.Sink E.Sink out.new err.new)) }
-    ensures unplanned { OnErr result (SaysLines false
+    ensures unplanned { IfErr result (HasNoPlan false (context_view cx.now) stable
+        (looks_of term.old) (looks_of term.new)
         (scene_at (L.calls lanes.old) O.Sink E.Sink out.old err.old)
         (scene_at (L.calls lanes.new) O.Sink E.Sink out.new err.new)) }
-    ensures looks { looks_of term.new
-        ≡ record (looks_of term.old) { reported = term.new.error } }
+    ensures looks { KeepsLooks term.old term.new }
 {
     let (log_group, keep_going) = manner(cx.args());
     let mut starter = Starter::new(alloc, lanes, term, out, err, fault);
@@ -258,11 +262,11 @@ fn search_in_lanes<L: Turns, O: Sink, E: Sink>(
         fault.old (looks_of term.old)
         (scene_at (L.calls lanes.old) O.Sink E.Sink out.old err.old)
         (scene_at (L.calls lanes.new) O.Sink E.Sink out.new err.new)) }
-    ensures unplanned { OnErr result (SaysLines false
+    ensures unplanned { IfErr result (HasNoPlan false (context_view cx.now) stable
+        (looks_of term.old) (looks_of term.new)
         (scene_at (L.calls lanes.old) O.Sink E.Sink out.old err.old)
         (scene_at (L.calls lanes.new) O.Sink E.Sink out.new err.new)) }
-    ensures looks { looks_of term.new
-        ≡ record (looks_of term.old) { reported = term.new.error } }
+    ensures looks { KeepsLooks term.old term.new }
 {
     let (log_group, _) = manner(cx.args());
     let mut starter = Starter::new(alloc, lanes, term, out, err, fault);
@@ -293,8 +297,7 @@ fn settle<E: Sink>(
         × (((fault.old ≡ None) × Contains found.now Found.Broken)
         ⊎ ReportsFound (context_view cx.now) plan.now found.now
         fails.old fails.new term.old.warn term.new.warn) }
-    ensures looks { looks_of term.new
-        ≡ record (looks_of term.old) { reported = term.new.error } }
+    ensures looks { KeepsLooks term.old term.new }
 {
     if refused {
         return cut_off(fault, term);
@@ -323,8 +326,7 @@ pub(crate) fn keep<E: Sink>(
         → IfOk told (λ noted. (fails.new ≡ (fails.old || noted.fails))
         × (term.new.warn ≡ (term.old.warn || noted.warns))) }
     ensures told { term.new.error ≡ false → IsOk told }
-    ensures looks { looks_of term.new
-        ≡ record (looks_of term.old) { reported = term.new.error } }
+    ensures looks { KeepsLooks term.old term.new }
 {
     match told {
         Ok(noted) => {

@@ -1,5 +1,8 @@
 //! The errors that end a call.
 
+ghost use Rattle.std.specs.Prelude.{◌≡◌, Some, option_copied};
+ghost use Rattle.hack_run.specs.Errors.{failed_command, text_of};
+
 use hack_files::reason::is_of_device;
 use hack_load::context::ContextFault;
 use hack_metadata::metadata::AskFault;
@@ -8,33 +11,26 @@ use hack_prepare::manifest::PrepareFault;
 use hack_process::process::ProcessFault;
 use hack_words::cli::CliFault;
 use std::alloc::{AllocError, AllocFailed};
-use thiserror::Error;
+use std::error::Error;
+use std::fmt;
 
 /// The error that ended a call.
-#[derive(Debug, Drop, Error)]
+#[derive(Debug, Drop)]
 pub enum RunFault {
-    #[error("out of memory")]
     Memory,
     /// The command line is refused.
-    #[error("{0}")]
     Words(CliFault),
     /// What the call needs couldn't be loaded.
-    #[error("{0}")]
     Context(ContextFault),
     /// The manifests couldn't be edited as the call asks.
-    #[error("{0}")]
     Manifests(PrepareFault),
     /// There is no plan.
-    #[error("{0}")]
     Plan(PlanFault),
     /// A command failed.
-    #[error("{0}")]
     Process(ProcessFault),
     /// A line of the command list couldn't be written.
-    #[error("failed to write the command list")]
     Unlisted,
     /// A text couldn't be written.
-    #[error("failed to write to standard output")]
     Unprinted,
 }
 
@@ -48,10 +44,44 @@ impl RunFault {
             _ => false,
         }
     }
+
+    /// The command that failed, where that is the error.
+    pub(crate) fn failed_command(&self) -> Option<&ProcessFault>
+        ensures { option_copied result ≡ failed_command self.now }
+    {
+        match self {
+            RunFault::Process(fault) => Some(fault),
+            RunFault::Context(ContextFault::Process(fault)) => Some(fault),
+            RunFault::Context(ContextFault::Asked(AskFault::Process(fault))) => Some(fault),
+            _ => None,
+        }
+    }
 }
 
+/// Written out, since a call's contract says the text of an error.
+impl fmt::Display for RunFault {
+    ghost output = { λ fault. text_of fault };
+
+    fn fmt<W: fmt::Write>(&self, f: &mut fmt::Formatter<W>) -> fmt::Result {
+        if let Some(fault) = self.failed_command() {
+            return write!(f, "{fault}");
+        }
+        match self {
+            RunFault::Memory => f.write_str("out of memory"),
+            RunFault::Words(fault) => write!(f, "{fault}"),
+            RunFault::Context(fault) => write!(f, "{fault}"),
+            RunFault::Manifests(fault) => write!(f, "{fault}"),
+            RunFault::Plan(fault) => write!(f, "{fault}"),
+            RunFault::Process(fault) => write!(f, "{fault}"),
+            RunFault::Unlisted => f.write_str("failed to write the command list"),
+            RunFault::Unprinted => f.write_str("failed to write to standard output"),
+        }
+    }
+}
+
+impl Error for RunFault {}
+
 impl From<AllocError> for RunFault {
-    ghost use Rattle.std.specs.Prelude.{◌≡◌};
     ghost use Rattle.hack_run.specs.declared.fault.RunFault.TheVariants.{Memory};
 
     ghost from_gives = { λ _ e. e ≡ Memory };
@@ -62,7 +92,6 @@ impl From<AllocError> for RunFault {
 }
 
 impl<T: Drop> From<AllocFailed<T>> for RunFault {
-    ghost use Rattle.std.specs.Prelude.{◌≡◌};
     ghost use Rattle.hack_run.specs.declared.fault.RunFault.TheVariants.{Memory};
 
     ghost from_gives = { λ _ e. e ≡ Memory };

@@ -1,16 +1,19 @@
 //! The command list of a plan.
 
-ghost use Rattle.std.specs.Prelude.{◌≡◌, ◌⊎◌, IfOk, IsErr, List, None, Ok, OnErr, OnOk, false, string_bytes};
+ghost use Rattle.std.specs.Prelude.{◌≡◌, ◌⊎◌, IfErr, IfOk, List, None, Ok, OnErr, OnOk, false, string_bytes};
 ghost use Rattle.std.specs.Prelude.{true};
 ghost use Rattle.hack_base.specs.Notes.{Note};
 ghost use Rattle.hack_load.specs.ContextView.{context_view};
 ghost use Rattle.hack_run.specs.CallTrace.{PerformsOne};
-ghost use Rattle.hack_run.specs.Internal.{HandsOver, HandsOverAtMostOne, ListsOver};
+ghost use Rattle.hack_planner.specs.CallPlan.{IsCauseOf};
+ghost use Rattle.hack_run.specs.Internal.{EndsList, HandsOver, HandsOverAtMostOne, ListsOver};
+ghost use Rattle.hack_run.specs.Internal.{ListsSteps};
 ghost use Rattle.hack_run.specs.Internal.{MayPerformItsPlan, PerformsAtMostOne, PerformsItsPlan};
 ghost use Rattle.hack_run.specs.Internal.{host_writing};
 ghost use Rattle.hack_run.specs.InternalExtensions.{Extends};
 ghost use Rattle.hack_drive.specs.Answered.{IsAnswered};
-ghost use Rattle.hack_run.specs.Shown.{MaySayList, SaysLines, SaysSteps, looks_of, scene_on};
+ghost use Rattle.hack_run.specs.Shown.{HasNoPlan, KeepsLooks, SaysList, SaysNoPlan, SaysStarved};
+ghost use Rattle.hack_run.specs.Shown.{looks_of, scene_on};
 ghost use Rattle.hack_run.specs.Worlds.{IsSameHost, host_view};
 
 use crate::fault::RunFault;
@@ -54,11 +57,16 @@ pub(crate) fn print_list<C: Caller, O: Sink, E: Sink>(
     ensures made { MayPerformItsPlan C.Caller O.Sink true
         (context_view cx.now) stable host.old host.new }
     ensures course { C.course host.old.caller.now host.new.caller.now }
-    ensures shown { C.tells → MaySayList result C.tells (context_view cx.now) stable
-        (string_bytes host.old.env.now.rustup) (looks_of host.old.term.now)
+    ensures shown { C.tells → SaysNoPlan result true (context_view cx.now) stable
+        (looks_of host.old.term.now) (looks_of host.new.term.now)
+        (scene_on C.Caller O.Sink E.Sink host.old) (scene_on C.Caller O.Sink E.Sink host.new)
+        ⊎ SaysStarved result (looks_of host.old.term.now) (looks_of host.new.term.now)
+        (scene_on C.Caller O.Sink E.Sink host.old) (scene_on C.Caller O.Sink E.Sink host.new)
+        ⊎ SaysList result C.tells (context_view cx.now) stable
+        (string_bytes host.old.env.now.rustup)
+        (looks_of host.old.term.now) (looks_of host.new.term.now)
         (scene_on C.Caller O.Sink E.Sink host.old) (scene_on C.Caller O.Sink E.Sink host.new) }
-    ensures looks { looks_of host.new.term.now
-        ≡ record (looks_of host.old.term.now) { reported = host.new.term.now.error } }
+    ensures looks { KeepsLooks host.old.term.now host.new.term.now }
 {
     let mut gathered = room(host.alloc)?;
     let came = hand_to_lister(cx, stable, &mut gathered, host);
@@ -87,13 +95,14 @@ fn hand_to_lister<C: Caller, O: Sink, E: Sink>(
         (host_writing gathered.new.items (host_view C.Caller O.Sink host.new)) }
     ensures course { C.course host.old.caller.now host.new.caller.now }
     ensures grown { Extends (O.contents host.old.out.now) (O.contents host.new.out.now) }
-    ensures shown { IfOk result.refused (λ _. SaysSteps C.tells true (context_view cx.now) stable
-        (string_bytes host.old.env.now.rustup) None (looks_of host.old.term.now)
+    ensures shown { IfOk result.refused (λ _. ListsSteps C.tells (context_view cx.now) stable
+        (string_bytes host.old.env.now.rustup) result.fault host.new.term.now.error
+        (looks_of host.old.term.now)
         (scene_on C.Caller O.Sink E.Sink host.old) (scene_on C.Caller O.Sink E.Sink host.new)) }
-    ensures unplanned { OnErr result.refused (SaysLines true
+    ensures unplanned { IfErr result.refused (HasNoPlan true (context_view cx.now) stable
+        (looks_of host.old.term.now) (looks_of host.new.term.now)
         (scene_on C.Caller O.Sink E.Sink host.old) (scene_on C.Caller O.Sink E.Sink host.new)) }
-    ensures looks { looks_of host.new.term.now
-        ≡ record (looks_of host.old.term.now) { reported = host.new.term.now.error } }
+    ensures looks { KeepsLooks host.old.term.now host.new.term.now }
 {
     let rustup = host.env.rustup.as_str();
     let mut nothing = io::sink();
@@ -139,6 +148,8 @@ fn list_over<'a, W: Lines, R: Teller>(
         R.told R.ran (context_view cx.now) stable rustup.now runner.old runner.new) }
     ensures refused { OnErr result ((runner.new ≡ runner.old)
         ⊎ ((notes : List Note) × R.told notes runner.old runner.new)) }
+    ensures err { IfErr result (λ e. (e ≡ PlanFault.Memory)
+        ⊎ IsCauseOf (context_view cx.now).args.subcommand stable (context_view cx.now) e) }
 {
     let mut lister = Lister {
         alloc,
@@ -154,7 +165,7 @@ fn list_over<'a, W: Lines, R: Teller>(
 fn end_of_list(listed: Listed, flushed: bool) -> Result<(), RunFault>
     ensures ok { OnOk result ((listed.refused ≡ Ok false) × (listed.fault ≡ None)
         × (listed.failed ≡ 0) × (flushed ≡ true)) }
-    ensures err { OnErr listed.refused (IsErr result) }
+    ensures comes { EndsList listed.refused listed.fault result }
 {
     let Listed {
         refused,
@@ -179,7 +190,9 @@ fn end_of_list(listed: Listed, flushed: bool) -> Result<(), RunFault>
 }
 
 /// Returns why a line is missing: memory ran out, or it couldn't be written.
-fn unlisted(short: bool) -> RunFault {
+fn unlisted(short: bool) -> RunFault
+    ensures { (result ≡ RunFault.Memory) ⊎ (result ≡ RunFault.Unlisted) }
+{
     if short {
         RunFault::Memory
     } else {

@@ -1,10 +1,11 @@
 //! A whole call of `cargo hack`: does what its command line asks for, and reports on the way.
 
-ghost use Rattle.std.specs.Prelude.{◌≡◌, IsErr, OnOk, false, true};
+ghost use Rattle.std.specs.Prelude.{◌≡◌, ◌⊎◌, IsErr, OnOk, false, true};
 ghost use Rattle.std.specs.Prelude.{IfSome, map, string_bytes};
 ghost use Rattle.std.specs.Io.KnownBytes.{Appends};
 ghost use Rattle.hack_base.specs.Names.{names_of};
 ghost use Rattle.hack_base.specs.Notes.{note_of};
+ghost use Rattle.hack_base.specs.Streams.{stream_of};
 ghost use Rattle.hack_base.specs.Writes.{AppendsFront};
 ghost use Rattle.hack_files.specs.Files.{KeepsAllBut};
 ghost use Rattle.hack_process.specs.Calls.{IsSuccess, MayAdd};
@@ -18,7 +19,9 @@ ghost use Rattle.hack_run.specs.Readings.{IsEarlyReadingOrRefusal};
 ghost use Rattle.hack_run.specs.TemporaryEdits.{BringsBack, ComesBack, IsClean, RestoresEdits};
 ghost use Rattle.hack_run.specs.Internal.{IsUntoldRefusal};
 ghost use Rattle.hack_run.specs.Refusals.{AreRefused, ReportsRefusal, WritesError};
-ghost use Rattle.hack_run.specs.Shown.{MaySayRead, SaysCall, SaysParsed, looks_of, scene_on};
+ghost use Rattle.hack_run.specs.Shown.{RefusesSome, SaysCall, SaysParsed, SaysRead, SaysText};
+ghost use Rattle.hack_run.specs.Shown.{SaysUnread, looks_of, scene_on};
+ghost use Rattle.hack_run.specs.Standing.{Between, EditsStand, ObeysAndEdits};
 ghost use Rattle.hack_files.specs.View.{files_view};
 ghost use Rattle.hack_run.specs.Worlds.{IsSameHost, IsStatus, host_view, world_of};
 
@@ -66,7 +69,7 @@ pub fn run<F: Files, C: Starts, O: Sink, E: Sink>(
     // which `coloring_asked` says what the command line asks for.
     ensures told { AreRefused host.old.env.now (names_of words.now)
         → WritesError host.old.term.now.coloring
-        (E.contents host.old.err.now) (E.contents host.new.err.now) }
+        (stream_of E.Sink host.old.err.now) (stream_of E.Sink host.new.err.now) }
 
     // Where no error was reported, what the command line asks for was done: the calls end with
     // those of the whole schedule of the plan, which follows from what this call asked and read, or
@@ -89,6 +92,13 @@ pub fn run<F: Files, C: Starts, O: Sink, E: Sink>(
         → IsChangeTrace F.tells (names_of words.now) host.old.env.now
         (world_of F.Files C.Caller O.Sink files.old host.old)
         (world_of F.Files C.Caller O.Sink files.new host.new) }
+
+    // Then each manifest that the arguments have edited held its edit once, and every other path what
+    // it held: what is performed doesn't touch them.
+    ensures stood { host.new.term.now.error ≡ false
+        → EditsStand (Between F.Files files.old files.new) F.tells C.tells
+        (names_of words.now) host.old.env.now (F.bytes_at files.old)
+        (C.calls host.old.caller.now) }
 
     // Whatever comes of the call: after its questions the steps of one history of the plan, or of a
     // search, made just their calls, or no step made one; and a list printed nothing but the lines of the steps
@@ -117,20 +127,22 @@ pub fn run<F: Files, C: Starts, O: Sink, E: Sink>(
     // Where no error was reported, runs of a plan were performed side by side, by the rules of lanes,
     // as many as `--parallel` asks for: their commands were started in order, each at most once, and
     // told in order; and none that was started is left.
-    ensures lanes { host.new.term.now.error ≡ false → IsLaneCall true C.did C.course
-        (names_of words.now) host.old.env.now host.old.caller.now host.new.caller.now }
+    ensures lanes { host.new.term.now.error ≡ false → IsLaneCall C.did C.course C.tells C.calls
+        true F.tells (names_of words.now) host.old.env.now (F.bytes_at files.old)
+        host.old.caller.now host.new.caller.now }
 
     // Whatever comes of the call: nothing else was started, and none is left.
-    ensures in_lanes { IsLaneCall false C.did C.course
-        (names_of words.now) host.old.env.now host.old.caller.now host.new.caller.now }
+    ensures in_lanes { IsLaneCall C.did C.course C.tells C.calls false F.tells
+        (names_of words.now) host.old.env.now (F.bytes_at files.old)
+        host.old.caller.now host.new.caller.now }
 
     // Whatever comes of the call, just this is said, in this order: the notices on the command line,
     // on what was loaded, on edits and on the plan; what each step says; the report of the runs that
     // failed; and an error's line last. Each is written whole, or its stream counted a failure for it.
     // What a search says of what it found is left open.
-    ensures shown { C.tells → SaysCall (host.new.term.now.error ≡ false) F.tells C.tells
-        (names_of words.now) host.old.env.now (F.bytes_at files.old) (looks_of host.old.term.now)
-        host.new.term.now.coloring
+    ensures shown { C.tells → SaysCall (RefusesSome F.Files files.old files.new) F.tells C.tells
+        (names_of words.now) host.old.env.now (F.bytes_at files.old)
+        (looks_of host.old.term.now) (looks_of host.new.term.now)
         (scene_on C.Caller O.Sink E.Sink host.old) (scene_on C.Caller O.Sink E.Sink host.new) }
 {
     let env = host.env;
@@ -162,6 +174,9 @@ fn read<F: Files, C: Starts, O: Sink, E: Sink>(
         → IsChangeTrace F.tells (names_of words.now) host.old.env.now
         (world_of F.Files C.Caller O.Sink files.old host.old)
         (world_of F.Files C.Caller O.Sink files.new host.new)) }
+    ensures stood { OnOk result (EditsStand (Between F.Files files.old files.new) F.tells C.tells
+        (names_of words.now) host.old.env.now (F.bytes_at files.old)
+        (C.calls host.old.caller.now)) }
     ensures made { C.tells → IsCallTrace false F.tells (names_of words.now) host.old.env.now
         (world_of F.Files C.Caller O.Sink files.old host.old)
         (world_of F.Files C.Caller O.Sink files.new host.new) }
@@ -173,12 +188,18 @@ fn read<F: Files, C: Starts, O: Sink, E: Sink>(
     ensures clean { OnOk result (host.new.term.now.error ≡ false
         → IsClean (RestoresEdits host.old.env.now (names_of words.now)) F.tells
         (files_view F.Files files.old) (files_view F.Files files.new)) }
-    ensures lanes { OnOk result (IsLaneCall true C.did C.course (names_of words.now)
-        host.old.env.now host.old.caller.now host.new.caller.now) }
-    ensures in_lanes { IsLaneCall false C.did C.course (names_of words.now)
-        host.old.env.now host.old.caller.now host.new.caller.now }
-    ensures shown { C.tells → MaySayRead result (host.new.term.now.error ≡ false) F.tells C.tells
-        (names_of words.now) host.old.env.now (F.bytes_at files.old) (looks_of host.old.term.now)
+    ensures lanes { OnOk result (IsLaneCall C.did C.course C.tells C.calls true F.tells
+        (names_of words.now) host.old.env.now (F.bytes_at files.old)
+        host.old.caller.now host.new.caller.now) }
+    ensures in_lanes { IsLaneCall C.did C.course C.tells C.calls false F.tells
+        (names_of words.now) host.old.env.now (F.bytes_at files.old)
+        host.old.caller.now host.new.caller.now }
+    ensures shown { C.tells → SaysUnread result (names_of words.now) host.old.env.now
+        (looks_of host.old.term.now) (looks_of host.new.term.now)
+        (scene_on C.Caller O.Sink E.Sink host.old) (scene_on C.Caller O.Sink E.Sink host.new)
+        ⊎ SaysRead result (RefusesSome F.Files files.old files.new) F.tells C.tells
+        (names_of words.now) host.old.env.now (F.bytes_at files.old)
+        (looks_of host.old.term.now) (looks_of host.new.term.now)
         (scene_on C.Caller O.Sink E.Sink host.old) (scene_on C.Caller O.Sink E.Sink host.new) }
 {
     let env = host.env;
@@ -214,6 +235,8 @@ fn obey<F: Files, C: Starts, O: Sink, E: Sink>(
         (warned_by parsed (map note_of notices.now) host.old.term.now.warn)
         (world_of F.Files C.Caller O.Sink files.old host.old)
         (world_of F.Files C.Caller O.Sink files.new host.new)) }
+    ensures stood { OnOk result (ObeysAndEdits (Between F.Files files.old files.new) F.tells C.tells
+        parsed host.old.env.now (F.bytes_at files.old) (C.calls host.old.caller.now)) }
     ensures made { C.tells → Obeys false F.tells parsed host.old.env.now
         (warned_by parsed (map note_of notices.now) host.old.term.now.warn)
         (world_of F.Files C.Caller O.Sink files.old host.old)
@@ -225,13 +248,13 @@ fn obey<F: Files, C: Starts, O: Sink, E: Sink>(
     ensures clean { OnOk result (host.new.term.now.error ≡ false
         → IsClean (ComesBack parsed) F.tells
         (files_view F.Files files.old) (files_view F.Files files.new)) }
-    ensures lanes { OnOk result (ObeysInLanes true C.did C.course parsed host.old.caller.now
-        host.new.caller.now) }
-    ensures in_lanes { ObeysInLanes false C.did C.course parsed host.old.caller.now
-        host.new.caller.now }
-    ensures shown { C.tells → SaysParsed result (host.new.term.now.error ≡ false) F.tells C.tells
-        parsed (map note_of notices.now) host.old.env.now (F.bytes_at files.old)
-        (looks_of host.old.term.now)
+    ensures lanes { OnOk result (ObeysInLanes C.did C.course C.tells C.calls true F.tells parsed
+        host.old.env.now (F.bytes_at files.old) host.old.caller.now host.new.caller.now) }
+    ensures in_lanes { ObeysInLanes C.did C.course C.tells C.calls false F.tells parsed
+        host.old.env.now (F.bytes_at files.old) host.old.caller.now host.new.caller.now }
+    ensures shown { C.tells → SaysParsed result (RefusesSome F.Files files.old files.new)
+        F.tells C.tells parsed (map note_of notices.now) host.old.env.now (F.bytes_at files.old)
+        (looks_of host.old.term.now) (looks_of host.new.term.now)
         (scene_on C.Caller O.Sink E.Sink host.old) (scene_on C.Caller O.Sink E.Sink host.new) }
 {
     match parsed {
@@ -265,6 +288,7 @@ fn dress(term: &mut Term, args: &Args)
 fn print<O: Sink>(text: &str, out: &mut O) -> Result<(), RunFault>
     ensures all { OnOk result (Appends (O.contents out.old) (O.contents out.new) text.now) }
     ensures front { AppendsFront (O.contents out.old) (O.contents out.new) text.now }
+    ensures shown { SaysText result text.now (stream_of O.Sink out.old) (stream_of O.Sink out.new) }
 {
     match write_front(text, out) {
         Ok(()) => Ok(()),

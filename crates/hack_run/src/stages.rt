@@ -1,13 +1,13 @@
 //! The stages of a call after its command line is parsed: loading, edits of manifests, the plan,
 //! and its runs or their list.
 
-ghost use Rattle.std.specs.Prelude.{◌≡◌, ◌⊎◌, IfOk, IfSome, IsOk, OnErr, OnOk, false, map, string_bytes};
+ghost use Rattle.std.specs.Prelude.{◌≡◌, ◌⊎◌, IfErr, IfOk, IfSome, IsOk, OnErr, OnOk, false, map, string_bytes};
 ghost use Rattle.std.specs.Prelude.{true};
 ghost use Rattle.hack_base.specs.Counters.{GrowsBy};
 ghost use Rattle.hack_base.specs.Streams.{WritesAll, WritesSome, stream_of};
 ghost use Rattle.hack_files.specs.Restore.{AreSafe, is_kept, registered_files};
 ghost use Rattle.hack_load.specs.Answers.{IsLoaded};
-ghost use Rattle.hack_load.specs.ContextOf.{IsContextFrom, warnings_of};
+ghost use Rattle.hack_load.specs.ContextOf.{IsContextCause, IsContextFrom, warnings_of};
 ghost use Rattle.hack_load.specs.ContextView.{context_view};
 ghost use Rattle.hack_load.specs.CargoQuestions.{told_version};
 ghost use Rattle.hack_prepare.specs.EditSteps.{KeepsOnly};
@@ -17,11 +17,12 @@ ghost use Rattle.hack_prepare.specs.Writes.{MakesSome};
 ghost use Rattle.hack_files.specs.Files.{Grows, KeepsAllBut};
 ghost use Rattle.hack_run.specs.CallChanges.{LoadsAndChanges};
 ghost use Rattle.hack_run.specs.CallTrace.{AfterLoading, LoadsAndPerforms};
-ghost use Rattle.hack_run.specs.Internal.{EditsAndPerforms, KeepsAsMade, MayPerformItsPlan};
-ghost use Rattle.hack_run.specs.Internal.{PerformsItsPlan};
-ghost use Rattle.hack_run.specs.Lanes.{MayRunInLanes, PerformsInLanes, RunsInLanes};
-ghost use Rattle.hack_run.specs.Shown.{SaysAfterLoading, SaysItsPlan, SaysLoaded, SaysLooks};
+ghost use Rattle.hack_run.specs.Internal.{EditsAndPerforms, FollowsEdits, KeepsAsMade};
+ghost use Rattle.hack_run.specs.Internal.{MayPerformItsPlan, PerformsItsPlan};
+ghost use Rattle.hack_run.specs.Lanes.{FollowsInLanes, LoadsInLanes, MayRunInLanes, RunsInLanes};
+ghost use Rattle.hack_run.specs.Shown.{KeepsLooks, RefusesSome, SaysAfterLoading, SaysItsPlan, SaysLoaded, SaysLooks};
 ghost use Rattle.hack_run.specs.Shown.{SaysNotes, looks_of, scene_on};
+ghost use Rattle.hack_run.specs.Standing.{Between, LoadsAndEdits};
 ghost use Rattle.hack_run.specs.TemporaryEdits.{BringsBack, IsClean};
 ghost use Rattle.hack_term.specs.Lines.{info_line};
 ghost use Rattle.hack_drive.specs.Answered.{IsAnswered};
@@ -39,7 +40,7 @@ use hack_drive::notices::tell_all;
 use hack_files::fs::{Files, FsFault};
 use hack_files::reason::tell_reason;
 use hack_files::restore::Manager;
-use hack_load::context::{Answers, Context};
+use hack_load::context::{Answers, Context, ContextFault};
 use hack_planner::looks::long_looks;
 use hack_prepare::manifest::{PrepareFault, finish, prepare};
 use hack_starts::starts::Starts;
@@ -65,6 +66,8 @@ pub(crate) fn perform<F: Files, C: Starts, O: Sink, E: Sink>(
         → LoadsAndChanges F.tells args host.old.env.now host.old.term.now.warn
         (world_of F.Files C.Caller O.Sink files.old host.old)
         (world_of F.Files C.Caller O.Sink files.new host.new)) }
+    ensures stood { OnOk result (LoadsAndEdits (Between F.Files files.old files.new) F.tells C.tells
+        args host.old.env.now (F.bytes_at files.old) (C.calls host.old.caller.now)) }
     ensures made { C.tells
         → LoadsAndPerforms false F.tells args host.old.env.now host.old.term.now.warn
         (world_of F.Files C.Caller O.Sink files.old host.old)
@@ -76,15 +79,15 @@ pub(crate) fn perform<F: Files, C: Starts, O: Sink, E: Sink>(
     ensures clean { OnOk result (host.new.term.now.error ≡ false
         → IsClean (args.remove_dev_deps ≡ false) F.tells
         (files_view F.Files files.old) (files_view F.Files files.new)) }
-    ensures lanes { OnOk result (PerformsInLanes true C.did C.course args host.old.caller.now
-        host.new.caller.now) }
-    ensures in_lanes { PerformsInLanes false C.did C.course args host.old.caller.now
-        host.new.caller.now }
-    ensures shown { C.tells → SaysLoaded result (host.new.term.now.error ≡ false) F.tells C.tells
-        args host.old.env.now (F.bytes_at files.old) (looks_of host.old.term.now)
+    ensures lanes { OnOk result (LoadsInLanes C.did C.course C.tells C.calls true F.tells args
+        host.old.env.now (F.bytes_at files.old) host.old.caller.now host.new.caller.now) }
+    ensures in_lanes { LoadsInLanes C.did C.course C.tells C.calls false F.tells args
+        host.old.env.now (F.bytes_at files.old) host.old.caller.now host.new.caller.now }
+    ensures shown { C.tells → SaysLoaded result (RefusesSome F.Files files.old files.new)
+        F.tells C.tells args host.old.env.now (F.bytes_at files.old)
+        (looks_of host.old.term.now) (looks_of host.new.term.now)
         (scene_on C.Caller O.Sink E.Sink host.old) (scene_on C.Caller O.Sink E.Sink host.new) }
-    ensures looks { looks_of host.new.term.now
-        ≡ record (looks_of host.old.term.now) { reported = host.new.term.now.error } }
+    ensures looks { KeepsLooks host.old.term.now host.new.term.now }
 {
     let mut manager = Manager::new(host.alloc, !args.remove_dev_deps);
     let answers = Answers::ask(
@@ -139,19 +142,21 @@ fn follow<F: Files, C: Starts, O: Sink, E: Sink>(
         manager.old manager.new
         (world_of F.Files C.Caller O.Sink files.old host.old)
         (world_of F.Files C.Caller O.Sink files.new host.new)) }
+    ensures stood { OnOk result (FollowsEdits F.tells args answers host.old.env.now
+        (F.bytes_at files.old) (F.bytes_at files.new)) }
     ensures made { C.tells → AfterLoading false F.tells args answers
         (string_bytes host.old.env.now.rustup) host.old.term.now.warn
         (world_of F.Files C.Caller O.Sink files.old host.old)
         (world_of F.Files C.Caller O.Sink files.new host.new) }
-    ensures lanes { OnOk result (PerformsInLanes true C.did C.course args host.old.caller.now
-        host.new.caller.now) }
-    ensures in_lanes { PerformsInLanes false C.did C.course args host.old.caller.now
-        host.new.caller.now }
+    ensures lanes { OnOk result (FollowsInLanes C.did C.course C.tells C.calls true args answers
+        (string_bytes host.old.env.now.rustup) host.old.caller.now host.new.caller.now) }
+    ensures in_lanes { FollowsInLanes C.did C.course C.tells C.calls false args answers
+        (string_bytes host.old.env.now.rustup) host.old.caller.now host.new.caller.now }
     ensures shown { C.tells → SaysAfterLoading result C.tells args answers
-        (string_bytes host.old.env.now.rustup) (looks_of host.old.term.now)
+        (string_bytes host.old.env.now.rustup)
+        (looks_of host.old.term.now) (looks_of host.new.term.now)
         (scene_on C.Caller O.Sink E.Sink host.old) (scene_on C.Caller O.Sink E.Sink host.new) }
-    ensures looks { looks_of host.new.term.now
-        ≡ record (looks_of host.old.term.now) { reported = host.new.term.now.error } }
+    ensures looks { KeepsLooks host.old.term.now host.new.term.now }
     ensures unkept { manager.old.needs_restore ≡ false
         → registered_files manager.new ≡ registered_files manager.old }
     ensures grows { Grows (F.failed files.old) (F.failed files.new) }
@@ -184,6 +189,8 @@ fn context<E: Sink>(
         (warnings_of (told_version answers.cargo_version))
         (stream_of E.Sink err.old) (stream_of E.Sink err.new)) }
     ensures untold { OnErr result ((term.new ≡ term.old) × (err.new ≡ err.old)) }
+    ensures error { IfErr result (λ e. (fault : ContextFault) × (e ≡ RunFault.Context fault)
+        × ((fault ≡ ContextFault.Memory) ⊎ IsContextCause args answers fault)) }
 {
     match Context::new(alloc, args, answers) {
         Ok(answer) => {
@@ -206,6 +213,7 @@ fn edit<F: Files, E: Sink>(
 ) -> Result<(), RunFault>
     ensures stays { F.stays files.old files.new }
     ensures grows { Grows (F.failed files.old) (F.failed files.new) }
+    ensures error { IfErr result (λ e. (fault : PrepareFault) × (e ≡ RunFault.Manifests fault)) }
     ensures told { OnOk result (term.new
         ≡ after_notes term.old (notes_in (context_view cx.now))) }
     ensures shown { OnOk result (SaysNotes term.old.coloring (notes_in (context_view cx.now))
@@ -277,10 +285,10 @@ fn run_plan<C: Starts, O: Sink, E: Sink>(
         ⊎ RunsInLanes C.did (context_view cx.now) stable
         (string_bytes host.old.env.now.rustup) host.old.caller.now host.new.caller.now) }
     ensures shown { C.tells → SaysItsPlan result C.tells (context_view cx.now) stable
-        (string_bytes host.old.env.now.rustup) (looks_of host.old.term.now)
+        (string_bytes host.old.env.now.rustup)
+        (looks_of host.old.term.now) (looks_of host.new.term.now)
         (scene_on C.Caller O.Sink E.Sink host.old) (scene_on C.Caller O.Sink E.Sink host.new) }
-    ensures looks { looks_of host.new.term.now
-        ≡ record (looks_of host.old.term.now) { reported = host.new.term.now.error } }
+    ensures looks { KeepsLooks host.old.term.now host.new.term.now }
 {
     tell_looks(host.alloc, cx, host.term, host.err)?;
     if cx.args().print_command_list {

@@ -1,15 +1,11 @@
 //! Errors for the user. An error of writing them is ignored.
 
-ghost use Rattle.std.specs.Prelude.{◌≡◌, Err, IfErr, None, OnErr, OnOk, true};
+ghost use Rattle.std.specs.Prelude.{◌≡◌, Err, None, OnErr, OnOk, option_map, true};
 ghost use Rattle.hack_base.specs.Streams.{stream_of};
-ghost use Rattle.hack_run.specs.Internal.{is_refusal};
-ghost use Rattle.hack_run.specs.Refusals.{WritesError};
-ghost use Rattle.hack_run.specs.Shown.{SaysEnd};
+ghost use Rattle.hack_run.specs.Errors.{SaysEnd, advice_of, choice_of};
 
 use crate::fault::RunFault;
 use hack_base::writes::Sink;
-use hack_load::context::ContextFault;
-use hack_load::metadata::AskFault;
 use hack_planner::fault::PlanFault;
 use hack_process::process::ProcessFault;
 use hack_term::term::Term;
@@ -37,9 +33,7 @@ pub(crate) fn tell<E: Sink>(
     err: &mut E,
 )
     ensures noted { term.new ≡ record term.old { error = true } }
-    ensures line { is_refusal fault.now ≡ true → WritesError term.old.coloring
-        (E.contents err.old) (E.contents err.new) }
-    ensures shown { SaysEnd (Err fault.now) term.old.coloring
+    ensures shown { SaysEnd (Err fault.now) env.now term.old.coloring
         (stream_of E.Sink err.old) (stream_of E.Sink err.new) }
 {
     if let Some(line) = advice(fault, env) {
@@ -58,20 +52,22 @@ pub(crate) fn tell<E: Sink>(
 /// What the user can do: install or choose another program where one couldn't be started, or ask
 /// for fewer runs where there are too many.
 fn advice(fault: &RunFault, env: &Env) -> Option<&'static str>
-    ensures { is_refusal fault.now ≡ true → result ≡ None }
+    ensures { option_map (λ text. text.now) result ≡ advice_of env.now fault.now }
 {
-    if let Some(command) = unstarted(fault) {
-        return Some(choice(command, env));
+    if let RunFault::Plan(PlanFault::TooManyRuns) = fault {
+        return Some(FEWER);
     }
-    match fault {
-        RunFault::Plan(PlanFault::TooManyRuns) => Some(FEWER),
+    match fault.failed_command() {
+        Some(ProcessFault::NeverExecuted(command)) => Some(choice(command.as_str(), env)),
         _ => None,
     }
 }
 
 /// What to say of the program of a command that couldn't be started, which is shown in backquotes:
 /// that none is in the `PATH`, where no variable chose it.
-fn choice(command: &str, env: &Env) -> &'static str {
+fn choice(command: &str, env: &Env) -> &'static str
+    ensures { result.now ≡ choice_of env.now command.now }
+{
     if env.cargo.as_str() == "cargo" && command.starts_with("`cargo ") {
         return NO_CARGO;
     }
@@ -79,25 +75,6 @@ fn choice(command: &str, env: &Env) -> &'static str {
         return NO_RUSTUP;
     }
     CHOICE
-}
-
-/// The command that couldn't be started, where that is the error.
-fn unstarted(fault: &RunFault) -> Option<&str>
-    ensures { is_refusal fault.now ≡ true → result ≡ None }
-{
-    match fault {
-        RunFault::Process(fault) => command_of(fault),
-        RunFault::Context(ContextFault::Process(fault)) => command_of(fault),
-        RunFault::Context(ContextFault::Asked(AskFault::Process(fault))) => command_of(fault),
-        _ => None,
-    }
-}
-
-fn command_of(fault: &ProcessFault) -> Option<&str> {
-    match fault {
-        ProcessFault::NeverExecuted(command) => Some(command.as_str()),
-        _ => None,
-    }
 }
 
 /// Reports the error that a call ended with, if it ended with one.
@@ -110,11 +87,9 @@ pub(crate) fn tell_end<E: Sink>(
 )
     ensures ok { OnOk came (term.new ≡ term.old) }
     ensures err { OnErr came (term.new.error ≡ true) }
-    ensures coloring { term.new.coloring ≡ term.old.coloring }
-    ensures shown { SaysEnd came term.old.coloring
+    ensures term { term.new ≡ record term.old { error = term.new.error } }
+    ensures shown { SaysEnd came env.now term.old.coloring
         (stream_of E.Sink err.old) (stream_of E.Sink err.new) }
-    ensures line { IfErr came (λ fault. is_refusal fault ≡ true → WritesError term.old.coloring
-        (E.contents err.old) (E.contents err.new)) }
 {
     match came {
         Ok(()) => (),

@@ -1,5 +1,5 @@
 -- What may be started at the step of a session.
-use Rattle.std.specs.Prelude.{ℕ, ◌≡◌, ◌⊎◌, ◌≤◌, ◌<◌, List, [], ◌∷◌, Option, Some, None, All, Contains, length, false, true, option_map, slice_get}
+use Rattle.std.specs.Prelude.{ℕ, ◌≡◌, ◌≤◌, ◌<◌, List, [], ◌∷◌, Option, Some, None, All, Contains, length, false, true, option_map, slice_get}
 use Rattle.hack_process.specs.Calls.{Call}
 use Rattle.hack_process.specs.Commands.{asked_of}
 use Rattle.hack_plan.specs.declared.partition.Partition.{Partition}
@@ -36,9 +36,10 @@ AreOffers piece plan place offers = All (MayStart piece plan place) offers
 abbrev pub IsSerial : Turn → Type 0
 IsSerial turn = (turn.place ≡ None) × (turn.offers ≡ [])
 
--- the turn at a step: at all but a run nothing is started ahead
+-- the turn at a step: where several commands go at once a run has its own; else nothing is started ahead
 abbrev pub IsTurnFor : Option Partition → PlanView → Step → Turn → Type 0
-IsTurnFor piece plan (Run place) turn = IsSerial turn ⊎ ((turn.place ≡ Some place) × AreOffers piece plan place turn.offers)
+IsTurnFor piece plan (Run place) turn =
+    (turn.width ≤ 1 → IsSerial turn) × (1 < turn.width → (turn.place ≡ Some place) × AreOffers piece plan place turn.offers)
 IsTurnFor piece plan step turn = IsSerial turn
 
 -- only the turn is another, for as many commands at once

@@ -1,15 +1,17 @@
-use Rattle.std.proofs.Common.{◌≡◌, ◌∙◌, ◌+◌, ap, length, [], true, false, arith, inl, inr, refl, string_bytes, subst, sym}
+use Rattle.std.proofs.Common.{◌≡◌, ◌∙◌, ◌+◌, ℕ, List, ap, length, [], true, false, arith, inl, inr, refl, string_bytes, subst, sym}
 use Rattle.hack_base.specs.Names.{names_of}
 use Rattle.hack_files.specs.Files.{Contents, KeepsAll}
 use Rattle.hack_journal.specs.FileCalls.{spot_in}
-use Rattle.hack_journal.specs.LockfilesApart.{apart}
+use Rattle.hack_journal.proofs.RowLemmas.{apart_from}
+use Rattle.hack_journal.proofs.SafeLemmas.{without_same}
+use Rattle.hack_journal.specs.LockfilesApart.{KeepsLockfiles, apart}
 use Rattle.hack_journal.specs.Rows.{Spot}
 use Rattle.hack_journal.specs.SafeFiles.{without}
 use Rattle.hack_journal.specs.SafeLaws.{stays_join}
 use Rattle.hack_journaled.specs.Journals.{contents_seen, files_seen, world_seen}
 use Rattle.hack_files.specs.View.{FilesView}
 use Rattle.hack_run.specs.Worlds.{host_view}
-use Rattle.hack_journaled.proofs.JournalLemmas.{accounted, entries_back, leaves_end, leaves_nothing, none_before, refused_once, seen_same, spoilt_end}
+use Rattle.hack_journaled.proofs.JournalLemmas.{edits_between, accounted, entries_back, leaves_end, leaves_nothing, none_before, refused_once, seen_same, spoilt_end}
 use Rattle.hack_run.proofs.TraceLemmas.{call_moved, keeps_same, unended}
 use Rattle.hack_journaled.proofs.journaled.run_journaled.Goals as goal
 
@@ -125,3 +127,36 @@ returns-clause-number g c =
     let ran = rw (c.new-files.ensures.files, c.new-files.ensures.lockfiles, c.new-files.ensures.failures, c.new.ensures.files, c.new.ensures.unkept, c.new.ensures.failures) at c.run-status.ensures.stays in
     rw (c.into_inner-below.ensures.files, c.into_inner-below.ensures.unkept, c.end_journal-failed.ensures.unkept)
     (accounted _ _ _ _ _ _ _ _ _ _ ran.0.3 ran.3 (rw c.failures-known.ensures at c.end_journal-failed.ensures.counted))
+
+pub returns-clause-apart : goal.returns-clause-apart
+returns-clause-apart g c = λ tells.
+    let j = string_bytes c.args.place.journal in
+    let named : c.new.result.notes.journal ≡ j = ap (λ (s : Spot). s.journal) c.new.ensures.place in
+    let mid = c.run-status.new.files in
+    let bytes = g.F.Files.bytes_at in
+    let ran = rw c.new-files.ensures.files at c.run-status.ensures.stays in
+    let same : j ≡ mid.files.notes.journal = sym named ∙ ap (λ (s : Spot). s.journal) ran.0.0 in
+    let end = without_same mid.files.notes.journal (bytes mid.files.files) (bytes c.end_journal-failed.new.files.files) (λ q out. c.end_journal-failed.ensures.others tells q (λ i lt. apart_from mid.files.notes.journal i q out)) in
+    let kept = rw (c.new.ensures.files, named) at (ran.2 tells) in
+    rw c.into_inner-below.ensures.files (subst (λ (k : List ℕ). KeepsLockfiles (without j (bytes c.args.files)) (without k (bytes c.end_journal-failed.new.files.files))) (sym same)
+    (subst (λ (m : Contents). KeepsLockfiles (without j (bytes c.args.files)) m) (sym end) kept))
+
+pub returns-clause-stood : goal.returns-clause-stood
+returns-clause-stood g c = λ quiet.
+    let j = string_bytes c.args.place.journal in
+    let named : c.new.result.notes.journal ≡ j = ap (λ (s : Spot). s.journal) c.new.ensures.place in
+    let bytes = g.F.Files.bytes_at in
+    let stood = rw (c.new-files.ensures.files, c.new-files.ensures.lockfiles, named, c.new.ensures.files) at (c.run-status.ensures.stood quiet) in
+    edits_between _ _ _ _ _ _ _ _ (λ held was.
+    let at = was.0 in
+    let first = was.1 in
+    let later = was.2 in
+    (
+      at.files.files,
+      at.lockfiles,
+      rw (c.new-files.ensures.files, c.new.ensures.files) at first.0.2,
+      rw c.into_inner-below.ensures.files (g.F.Files.stays_more _ _ _ later.0.2 c.end_journal-failed.ensures.handed),
+      rw (c.new-files.ensures.lockfiles) at first.1,
+      later.1,
+      was.3 ∙ ap (λ (k : List ℕ). contents_seen k (bytes at.files.files) (g.L.Files.bytes_at at.lockfiles)) (sym (rw (c.new-files.ensures.files, named) at (ap (λ (s : Spot). s.journal) first.0.0))),
+    )) stood

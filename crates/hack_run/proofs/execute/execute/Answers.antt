@@ -1,9 +1,13 @@
-use Rattle.std.proofs.Common.{inl, inr, refl, rules, string_bytes, true, false}
+use Rattle.std.proofs.Common.{◌∙◌, ap, inl, inr, refl, rules, string_bytes, true, false}
 use Rattle.hack_load.specs.ContextView.{context_view}
 use Rattle.hack_run.specs.Shown.{looks_of, scene_at, scene_on}
 use Rattle.hack_run.specs.Worlds.{host_view}
 use Rattle.hack_run.proofs.RunLemmas.{some_told}
-use Rattle.hack_run.proofs.ShownLemmas.{report_of, said_reported, said_stopped, said_unreported}
+use Rattle.hack_run.proofs.ShownLemmas.{looks_later, report_of, said_reported, said_stopped, said_unreported}
+use Rattle.hack_report.specs.Reported.{are_reported}
+use Rattle.hack_session.specs.Histories.{Course}
+use Rattle.std.specs.Option.{option_map_or}
+use Rattle.std.specs.Prelude.{◌||◌, Option}
 use Rattle.hack_run.proofs.TraceLemmas.{one_told}
 use Rattle.hack_run.proofs.execute.execute.Goals as goal
 
@@ -24,20 +28,23 @@ returns-clause-made g c = λ t.
     c.report_all.new.term (c.hand_to_starter.ensures.made t)
 
 pub returns-in-Err-clause-shown : goal.returns-in-Err-clause-shown
-returns-in-Err-clause-shown g c = λ t. inl (refl, c.in-Err.ensures.unplanned)
+returns-in-Err-clause-shown g c = λ t. inl (c.in-Err.fault, refl, c.in-Err.ensures.unplanned t)
 
 pub returns-in-Some-clause-shown : goal.returns-in-Some-clause-shown
 returns-in-Some-clause-shown g c = λ t.
-    inr (said_stopped c.in-Some.fault c.hand_to_starter.new.fault g.C.Caller.tells (context_view c.args.cx.now) c.args.stable (string_bytes c.args.host.now.env.now.rustup) (looks_of c.args.host.now.term.now) c.in-Ok.session
-    (scene_on g.C.Caller g.O.Sink g.E.Sink c.args.host.now) (scene_on g.C.Caller g.O.Sink g.E.Sink c.hand_to_starter.new.host) (c.in-Ok.ensures.shown t) c.in-Some.is)
+    inr (said_stopped c.in-Some.fault c.hand_to_starter.new.fault c.hand_to_starter.new.host.term.now.error g.C.Caller.tells (context_view c.args.cx.now) c.args.stable (string_bytes c.args.host.now.env.now.rustup) (looks_of c.args.host.now.term.now) (looks_of c.hand_to_starter.new.host.term.now) c.in-Ok.session
+    (scene_on g.C.Caller g.O.Sink g.E.Sink c.args.host.now) (scene_on g.C.Caller g.O.Sink g.E.Sink c.hand_to_starter.new.host) (c.in-Ok.ensures.shown t) c.in-Some.is c.hand_to_starter.ensures.looks)
 
 pub returns-in_err-report_all-clause-shown : goal.returns-in_err-report_all-clause-shown
 returns-in_err-report_all-clause-shown g c = λ t.
-    inr (said_unreported c.from_residual.result c.hand_to_starter.new.fault g.C.Caller.tells (context_view c.args.cx.now) c.args.stable (string_bytes c.args.host.now.env.now.rustup) (looks_of c.args.host.now.term.now) c.in-Ok.session
-    (scene_on g.C.Caller g.O.Sink g.E.Sink c.args.host.now) (scene_on g.C.Caller g.O.Sink g.E.Sink c.hand_to_starter.new.host) (scene_at (g.C.Caller.calls c.hand_to_starter.new.host.caller.now) g.O.Sink g.E.Sink c.hand_to_starter.new.host.out.now c.report_all.new.err) (c.in-Ok.ensures.shown t) c.in-None.is (search rules) refl refl c.report_all.ensures.lines)
+    inr (said_unreported _ c.hand_to_starter.new.fault c.hand_to_starter.new.host.term.now.error g.C.Caller.tells (context_view c.args.cx.now) c.args.stable (string_bytes c.args.host.now.env.now.rustup) (looks_of c.args.host.now.term.now) (looks_of c.report_all.new.term) c.in-Ok.session
+    (scene_on g.C.Caller g.O.Sink g.E.Sink c.args.host.now) (scene_on g.C.Caller g.O.Sink g.E.Sink c.hand_to_starter.new.host) (scene_at (g.C.Caller.calls c.hand_to_starter.new.host.caller.now) g.O.Sink g.E.Sink c.hand_to_starter.new.host.out.now c.report_all.new.err) (c.in-Ok.ensures.shown t) c.in-None.is (search rules) refl refl c.report_all.ensures.lines
+    (looks_later c.args.host.now.term.now c.hand_to_starter.new.host.term.now c.report_all.new.term c.hand_to_starter.ensures.looks (ap looks_of c.report_all.ensures.term)))
 
 pub returns-clause-shown : goal.returns-clause-shown
 returns-clause-shown g c = λ t.
-    inr (said_reported c.hand_to_starter.new.fault g.C.Caller.tells (context_view c.args.cx.now) c.args.stable (string_bytes c.args.host.now.env.now.rustup) (looks_of c.args.host.now.term.now) c.in-Ok.session
+    inr (said_reported c.hand_to_starter.new.fault c.hand_to_starter.new.host.term.now.error g.C.Caller.tells (context_view c.args.cx.now) c.args.stable (string_bytes c.args.host.now.env.now.rustup) (looks_of c.args.host.now.term.now) (looks_of c.report_all.new.term) c.in-Ok.session
     (scene_on g.C.Caller g.O.Sink g.E.Sink c.args.host.now) (scene_on g.C.Caller g.O.Sink g.E.Sink c.hand_to_starter.new.host) (scene_at (g.C.Caller.calls c.hand_to_starter.new.host.caller.now) g.O.Sink g.E.Sink c.hand_to_starter.new.host.out.now c.report_all.new.err) (c.in-Ok.ensures.shown t) c.in-None.is refl refl c.report_all.ensures.lines
-    (λ course is. report_of _ c.in-Ok.session course c.hand_to_starter.new.host.term.now c.args.host.now.term.now _ _ c.as_ref.ensures.value is c.hand_to_starter.ensures.looks c.in_ok-report_all.ensures.shown))
+    (λ course is. report_of _ c.in-Ok.session course c.hand_to_starter.new.host.term.now c.args.host.now.term.now _ _ c.as_ref.ensures.value is c.hand_to_starter.ensures.looks c.in_ok-report_all.ensures.shown)
+    (λ course is. c.in_ok-report_all.ensures.error ∙ ap (λ (o : Option Course). c.hand_to_starter.new.host.term.now.error || option_map_or are_reported o false) (c.as_ref.ensures.value ∙ is))
+    (looks_later c.args.host.now.term.now c.hand_to_starter.new.host.term.now c.report_all.new.term c.hand_to_starter.ensures.looks (ap looks_of c.report_all.ensures.term)))

@@ -1,4 +1,4 @@
-use Rattle.std.proofs.Common.{◌≡◌, ◌∙◌, None, ap, false, filter, refl, subst, sym, true}
+use Rattle.std.proofs.Common.{◌≡◌, ◌∙◌, ap, false, filter, refl, subst, sym, true}
 use Rattle.std.specs.Io.KnownBytes.{append_known}
 use Rattle.hack_load.specs.ContextView.{context_view}
 use Rattle.hack_run.specs.Worlds.{HostView}
@@ -11,7 +11,7 @@ use Rattle.hack_base.specs.Streams.{stream_of}
 use Rattle.hack_term.specs.declared.term.Term.{Term}
 use Rattle.hack_words.specs.declared.cli.args.Args.{Args}
 use Rattle.hack_run.specs.Shown.{looks_of, scene_at, scene_on}
-use Rattle.hack_run.proofs.ShownLemmas.{handed_said, list_looks, list_refused, looks_ran, looks_told, not_off, refused_said, steps_said}
+use Rattle.hack_run.proofs.ShownLemmas.{handed_said, list_looks, looks_ran, looks_told, no_plan, not_off, refused_said, steps_listed}
 use Rattle.hack_run.proofs.print_list.hand_to_lister.Goals as goal
 
 pub returns-clause-done : goal.returns-clause-done
@@ -72,20 +72,23 @@ returns-clause-shown g c =
     let fresh = c.new-starter.ensures in
     rw (sym c.as_str-rustup.ensures.value)
     (handed_said c.list_over-refused.result c.list_over-refused.ensures.over (λ l.
-    steps_said g.C.Caller.tells true calls g.E.Sink cx c.args.stable c.as_str-rustup.result.now None l.course l.notes false false c.set_manner.new.self l.mid _ _ c.args.host.now.term.now
+    steps_listed g.C.Caller.tells calls g.E.Sink cx c.args.stable c.as_str-rustup.result.now c.fault-2-1.given.0 last.term.now.error l.course l.notes false false c.set_manner.new.self l.mid _ _ c.args.host.now.term.now
     (scene_on g.C.Caller g.O.Sink g.E.Sink c.args.host.now) (scene_at (calls last.caller.now) g.O.Sink g.E.Sink c.list_over-refused.new.out.out.now last.err.now)
     (l.planned, (l.driven, refl)) (ap (λ s. calls s.caller.now) made ∙ ap calls fresh.caller.1) (ap (λ s. s.term.now) made ∙ fresh.term.1)
     (ap (λ s. stream_of g.E.Sink s.err.now) made ∙ ap (stream_of g.E.Sink) fresh.err.1) (ap (λ s. s.fault.now) made ∙ fresh.fault.1) (ap (λ s. s.refused) made ∙ fresh.refused)
-    (ap (λ s. s.keep_going) made ∙ ap (λ (a : Args). a.keep_going) c.args-2.ensures) (ap (λ s. s.log_group) made) l.told refl (λ off. not_off off) l.ran.9 refl (λ off. not_off off) (λ off. refl)))
+    (ap (λ s. s.keep_going) made ∙ ap (λ (a : Args). a.keep_going) c.args-2.ensures) (ap (λ s. s.log_group) made) l.told refl (λ off. not_off off) l.ran.9 refl (λ off. not_off off) (λ off. refl)
+    (c.fault-2-1.given.1 (sym fresh.fault.0 ∙ ap (λ s. s.fault.ghost_name) (sym made) ∙ l.told.2 ∙ l.ran.2)) refl))
 
 pub returns-clause-unplanned : goal.returns-clause-unplanned
 returns-clause-unplanned g c =
+    let calls = g.C.Caller.calls in
+    let cx = context_view c.args.cx.now in
     let last = c.list_over-refused.new.runner in
     let made = c.set_manner.ensures in
     let fresh = c.new-starter.ensures in
-    let start = ap (λ s. stream_of g.E.Sink s.err.now) made ∙ ap (stream_of g.E.Sink) fresh.err.1 in
-    refused_said c.list_over-refused.result c.list_over-refused.ensures.refused
-    (list_refused g.E.Sink c.set_manner.new.self last (scene_on g.C.Caller g.O.Sink g.E.Sink c.args.host.now) (scene_at (g.C.Caller.calls last.caller.now) g.O.Sink g.E.Sink c.list_over-refused.new.out.out.now last.err.now) start refl)
+    refused_said c.list_over-refused.result c.list_over-refused.ensures.refused c.list_over-refused.ensures.err (λ e refused cause.
+    no_plan true calls g.E.Sink cx c.args.stable e c.args.host.now.term.now c.set_manner.new.self last (scene_on g.C.Caller g.O.Sink g.E.Sink c.args.host.now) (scene_at (calls last.caller.now) g.O.Sink g.E.Sink c.list_over-refused.new.out.out.now last.err.now)
+    (ap (λ s. s.term.now) made ∙ fresh.term.1) (ap (λ s. calls s.caller.now) made ∙ ap calls fresh.caller.1) (ap (λ s. stream_of g.E.Sink s.err.now) made ∙ ap (stream_of g.E.Sink) fresh.err.1) refl (λ off. not_off off) refl cause refused)
 
 pub returns-clause-looks : goal.returns-clause-looks
 returns-clause-looks g c =

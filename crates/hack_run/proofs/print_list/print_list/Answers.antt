@@ -1,4 +1,4 @@
-use Rattle.std.proofs.Common.{refl, string_bytes}
+use Rattle.std.proofs.Common.{inl, inr, refl, rules, string_bytes}
 use Rattle.hack_load.specs.ContextView.{context_view}
 use Rattle.hack_run.specs.Worlds.{host_view}
 use Rattle.hack_run.specs.InternalExtensions.{extends_then}
@@ -22,5 +22,9 @@ returns-clause-made g c = λ t.
 
 pub returns-clause-shown : goal.returns-clause-shown
 returns-clause-shown g c = λ t.
-    list_said c.hand_to_lister-came.result.refused c.end_of_list.result g.C.Caller.tells (context_view c.args.cx.now) c.args.stable (string_bytes c.args.host.now.env.now.rustup) (looks_of c.args.host.now.term.now)
-    (scene_on g.C.Caller g.O.Sink g.E.Sink c.args.host.now) (scene_on g.C.Caller g.O.Sink g.E.Sink c.hand_to_lister-came.new.host) (scene_at (g.C.Caller.calls c.hand_to_lister-came.new.host.caller.now) g.O.Sink g.E.Sink c.write_last-flushed.new.out c.hand_to_lister-came.new.host.err.now) c.hand_to_lister-came.ensures.shown c.hand_to_lister-came.ensures.unplanned c.end_of_list.ensures.err refl refl
+    let last = c.hand_to_lister-came.new.host in
+    list_said c.hand_to_lister-came.result.refused c.hand_to_lister-came.result.fault c.end_of_list.result g.C.Caller.tells (context_view c.args.cx.now) c.args.stable (string_bytes c.args.host.now.env.now.rustup) (looks_of c.args.host.now.term.now) (looks_of last.term.now)
+    (scene_on g.C.Caller g.O.Sink g.E.Sink c.args.host.now) (scene_on g.C.Caller g.O.Sink g.E.Sink last) (scene_at (g.C.Caller.calls last.caller.now) g.O.Sink g.E.Sink c.write_last-flushed.new.out last.err.now) c.hand_to_lister-came.ensures.shown c.hand_to_lister-came.ensures.unplanned c.end_of_list.ensures.comes c.hand_to_lister-came.ensures.looks refl refl
+
+pub returns-in_err-gathered-clause-shown : goal.returns-in_err-gathered-clause-shown
+returns-in_err-gathered-clause-shown g c = λ t. inr (inl (search rules, refl, refl))

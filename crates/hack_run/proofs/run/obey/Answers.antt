@@ -14,7 +14,7 @@ use Rattle.hack_run.proofs.BackLemmas.{clean_rest}
 use Rattle.hack_run.proofs.ChangeLemmas.{obeys_changes, obeys_unloaded}
 use Rattle.hack_run.proofs.TraceLemmas.{dressed, lists, lists_made, obeys, obeys_done, prints, prints_made}
 use Rattle.hack_base.specs.Streams.{stream_of}
-use Rattle.hack_run.specs.Shown.{scene_on}
+use Rattle.hack_run.specs.Shown.{looks_of, scene_on}
 use Rattle.hack_run.proofs.ShownLemmas.{args_said}
 use Rattle.hack_run.proofs.run.obey.Goals as goal
 
@@ -104,12 +104,12 @@ returns-in-List-clause-traced g c =
 
 pub returns-in-Args-clause-shown : goal.returns-in-Args-clause-shown
 returns-in-Args-clause-shown g c = λ t.
-    args_said c.perform.result (c.perform.new.host.term.now.error ≡ false) g.F.Files.tells g.C.Caller.tells c.args.parsed c.in-Args.args (map note_of c.args.notices.now) c.args.host.now.env.now (g.F.Files.bytes_at c.args.files.now)
-    c.args.host.now.term.now c.dress.new.term c.tell_all.new.term (stream_of g.E.Sink c.tell_all.new.err) (scene_on g.C.Caller g.O.Sink g.E.Sink c.args.host.now) (scene_on g.C.Caller g.O.Sink g.E.Sink c.perform.new.host)
+    args_said c.perform.result _ g.F.Files.tells g.C.Caller.tells c.args.parsed c.in-Args.args (map note_of c.args.notices.now) c.args.host.now.env.now (g.F.Files.bytes_at c.args.files.now)
+    c.args.host.now.term.now c.dress.new.term c.tell_all.new.term (looks_of c.perform.new.host.term.now) (stream_of g.E.Sink c.tell_all.new.err) (scene_on g.C.Caller g.O.Sink g.E.Sink c.args.host.now) (scene_on g.C.Caller g.O.Sink g.E.Sink c.perform.new.host)
     c.in-Args.is c.dress.ensures.error c.dress.ensures.verbose c.dress.ensures.coloring c.tell_all.ensures.noted c.tell_all.ensures.shown (c.perform.ensures.shown t)
 
 pub returns-in-Print-clause-shown : goal.returns-in-Print-clause-shown
-returns-in-Print-clause-shown g c = λ t. rw c.in-Print.is refl
+returns-in-Print-clause-shown g c = λ t. rw c.in-Print.is (rw c.as_str.ensures.value at c.print.ensures.shown, refl, refl, refl)
 
 pub returns-in-List-clause-shown : goal.returns-in-List-clause-shown
-returns-in-List-clause-shown g c = λ t. rw c.in-List.is (c.tell_all-in-List.ensures.shown, refl)
+returns-in-List-clause-shown g c = λ t. rw c.in-List.is (c.tell_all-in-List.ensures.shown, ap looks_of c.tell_all-in-List.ensures.noted, refl)

@@ -1,4 +1,4 @@
-use Rattle.std.proofs.Common.{◌≡◌, ap, false, inl, inr, map, refl, rules, true}
+use Rattle.std.proofs.Common.{◌≡◌, ap, false, inl, inr, map, refl, rules}
 use Rattle.hack_base.specs.Names.{names_of}
 use Rattle.hack_base.specs.Notes.{note_of}
 use Rattle.hack_files.proofs.RefusalLemmas.{but_none}
@@ -10,7 +10,7 @@ use Rattle.hack_run.specs.Worlds.{world_of}
 use Rattle.hack_run.proofs.BackLemmas.{clean_by}
 use Rattle.hack_run.proofs.ChangeLemmas.{traces}
 use Rattle.hack_run.proofs.TraceLemmas.{done}
-use Rattle.hack_run.proofs.LaneLemmas.{on_success, reads_in_lanes, unread_in_lanes}
+use Rattle.hack_run.proofs.LaneLemmas.{on_success}
 use Rattle.hack_run.proofs.run.read.Goals as goal
 
 pub returns-in-Accepted-clause-refused : goal.returns-in-Accepted-clause-refused
@@ -59,22 +59,27 @@ returns-in_err-parsed-clause-spoilt g c = λ back. but_none (g.F.Files.refuses c
 pub returns-in-Accepted-clause-lanes : goal.returns-in-Accepted-clause-lanes
 returns-in-Accepted-clause-lanes g c =
     let after = rw c.in-Accepted.is at c.in_ok-parsed.ensures.read in
-    on_success _ _ c.obey.result
-    (reads_in_lanes true g.C.Starts.did g.C.Caller.course (names_of c.args.words.now) c.args.host.now.env.now after.rustup c.in-Accepted.parsed (map note_of c.in-Accepted.notices.items)
-    c.args.host.now.caller.now c.reading_of.new.caller c.obey.new.host.caller.now c.reading_of.ensures.course after.read)
+    on_success _ _ c.obey.result (λ obeyed. record {
+      mid = c.reading_of.new.caller;
+      between = c.reading_of.ensures.course;
+      behind = inr (record { rustup = after.rustup; answer = c.in-Accepted.parsed; notes = map note_of c.in-Accepted.notices.items; told = after.asked; read = after.read; obeyed = obeyed });
+    })
     c.obey.ensures.lanes
 
 pub returns-in-Accepted-clause-in_lanes : goal.returns-in-Accepted-clause-in_lanes
 returns-in-Accepted-clause-in_lanes g c =
     let after = rw c.in-Accepted.is at c.in_ok-parsed.ensures.read in
-    reads_in_lanes false g.C.Starts.did g.C.Caller.course (names_of c.args.words.now) c.args.host.now.env.now after.rustup c.in-Accepted.parsed (map note_of c.in-Accepted.notices.items)
-    c.args.host.now.caller.now c.reading_of.new.caller c.obey.new.host.caller.now c.reading_of.ensures.course after.read c.obey.ensures.in_lanes
+    record {
+      mid = c.reading_of.new.caller;
+      between = c.reading_of.ensures.course;
+      behind = inr (record { rustup = after.rustup; answer = c.in-Accepted.parsed; notes = map note_of c.in-Accepted.notices.items; told = after.asked; read = after.read; obeyed = c.obey.ensures.in_lanes });
+    }
 
 pub returns-in-Refused-clause-in_lanes : goal.returns-in-Refused-clause-in_lanes
-returns-in-Refused-clause-in_lanes g c = unread_in_lanes g.C.Starts.did g.C.Caller.course (names_of c.args.words.now) c.args.host.now.env.now c.args.host.now.caller.now c.reading_of.new.caller c.reading_of.ensures.course
+returns-in-Refused-clause-in_lanes g c = record { mid = c.reading_of.new.caller; between = c.reading_of.ensures.course; behind = inl (refl, refl) }
 
 pub returns-in_err-parsed-clause-in_lanes : goal.returns-in_err-parsed-clause-in_lanes
-returns-in_err-parsed-clause-in_lanes g c = unread_in_lanes g.C.Starts.did g.C.Caller.course (names_of c.args.words.now) c.args.host.now.env.now c.args.host.now.caller.now c.reading_of.new.caller c.reading_of.ensures.course
+returns-in_err-parsed-clause-in_lanes g c = record { mid = c.reading_of.new.caller; between = c.reading_of.ensures.course; behind = inl (refl, refl) }
 
 pub returns-in-Accepted-clause-shown : goal.returns-in-Accepted-clause-shown
 returns-in-Accepted-clause-shown g c = λ t.
@@ -90,7 +95,23 @@ returns-in-Accepted-clause-shown g c = λ t.
     })
 
 pub returns-in-Refused-clause-shown : goal.returns-in-Refused-clause-shown
-returns-in-Refused-clause-shown g c = λ t. inl (refl, refl)
+returns-in-Refused-clause-shown g c = λ t.
+    let after = rw c.in-Refused.is at c.in_ok-parsed.ensures.read in
+    inl (inl (record { error = c.in-Refused.fault; rustup = after.rustup; asked = after.asked t; read = after.read; came_to = refl; ends = refl; streams = refl }))
 
 pub returns-in_err-parsed-clause-shown : goal.returns-in_err-parsed-clause-shown
-returns-in_err-parsed-clause-shown g c = λ t. inl (search rules, refl)
+returns-in_err-parsed-clause-shown g c = λ t. inl (inr (search rules, c.reading_of.ensures.may t, refl, refl))
+
+pub returns-in-Accepted-clause-stood : goal.returns-in-Accepted-clause-stood
+returns-in-Accepted-clause-stood g c =
+    let after = rw c.in-Accepted.is at c.in_ok-parsed.ensures.read in
+    on_success _ _ c.obey.result (λ obeyed. record {
+      mid = g.C.Caller.calls c.reading_of.new.caller;
+      rustup = after.rustup;
+      answer = c.in-Accepted.parsed;
+      notes = map note_of c.in-Accepted.notices.items;
+      told = after.asked;
+      read = after.read;
+      obeyed = obeyed;
+    })
+    c.obey.ensures.stood

@@ -1,4 +1,4 @@
-use Rattle.std.proofs.Common.{◌≡◌, ◌∙◌, true, false, ap, subst, sym, ℕ, List, Option}
+use Rattle.std.proofs.Common.{true, false, subst}
 use Rattle.hack_base.specs.Names.{names_of}
 use Rattle.hack_run.specs.TemporaryEdits.{IsClean, RestoresEdits}
 use Rattle.hack_run.specs.CallChanges.{IsChangeTrace}
@@ -9,10 +9,9 @@ use Rattle.hack_term.specs.declared.term.Term.{Term}
 use Rattle.hack_run.specs.Refusals.{WritesError}
 use Rattle.hack_run.proofs.RefusalLemmas.{refusal_told}
 use Rattle.hack_run.proofs.TraceLemmas.{call_moved, comes, told_fault, unended}
-use Rattle.hack_base.specs.Streams.{stream_of}
-use Rattle.hack_term.specs.declared.term.Coloring.{Coloring}
-use Rattle.hack_run.specs.Shown.{SaysEnd, looks_of, scene_on}
-use Rattle.hack_run.proofs.ShownLemmas.{by_success, none_ended, read_quiet}
+use Rattle.hack_base.specs.Streams.{Stream, stream_of}
+use Rattle.hack_run.specs.Shown.{looks_of}
+use Rattle.hack_run.proofs.ShownLemmas.{by_success, looks_ended, none_ended}
 use Rattle.hack_run.proofs.run.run.Goals as goal
 
 pub returns-clause-refused : goal.returns-clause-refused
@@ -20,12 +19,11 @@ returns-clause-refused g c = λ refused. let h = c.read-came.ensures.refused ref
 
 pub returns-clause-told : goal.returns-clause-told
 returns-clause-told g c = λ refused.
-    let contents = g.E.Sink.contents in
     let quiet = c.read-came.ensures.told refused in
-    let after = contents c.tell_end.new.err in
-    subst (λ (t : Term). WritesError t.coloring (contents c.args.host.now.err.now) after) quiet.1
-    (subst (λ (before : Option (List ℕ)). WritesError c.read-came.new.host.term.now.coloring before after) quiet.2
-    (refusal_told (WritesError c.read-came.new.host.term.now.coloring (contents c.read-came.new.host.err.now) after) c.read-came.result (c.read-came.ensures.refused refused).0 quiet.0 c.tell_end.ensures.line))
+    let after = stream_of g.E.Sink c.tell_end.new.err in
+    subst (λ (t : Term). WritesError t.coloring (stream_of g.E.Sink c.args.host.now.err.now) after) quiet.1
+    (subst (λ (before : Stream). WritesError c.read-came.new.host.term.now.coloring before after) quiet.2
+    (refusal_told c.read-came.result c.args.host.now.env.now _ _ after (c.read-came.ensures.refused refused).0 quiet.0 c.tell_end.ensures.shown))
 
 pub returns-clause-done : goal.returns-clause-done
 returns-clause-done g c =
@@ -51,15 +49,15 @@ returns-clause-clean g c =
 
 pub returns-clause-shown : goal.returns-clause-shown
 returns-clause-shown g c = λ t.
-    let came = c.read-came.result in
     let before = c.read-came.new.host.term.now in
-    let after = c.tell_end.new.term in
-    let mid = stream_of g.E.Sink c.read-came.new.host.err.now in
     record {
-      came = came;
-      mid = mid;
-      said = read_quiet came (before.error ≡ false) (after.error ≡ false) g.F.Files.tells g.C.Caller.tells (names_of c.args.words.now) c.args.host.now.env.now (g.F.Files.bytes_at c.args.files.now) (looks_of c.args.host.now.term.now)
-          (scene_on g.C.Caller g.O.Sink g.E.Sink c.args.host.now) _ (λ ok quiet. sym (ap (λ (k : Term). k.error) (by_success _ came c.tell_end.ensures.ok ok)) ∙ quiet) (c.read-came.ensures.shown t);
-      end = subst (λ (coloring : Coloring). SaysEnd came coloring mid (stream_of g.E.Sink c.tell_end.new.err)) (sym c.tell_end.ensures.coloring) c.tell_end.ensures.shown;
-      none = none_ended came after.error c.tell_end.ensures.err;
+      came = c.read-came.result;
+      mid = stream_of g.E.Sink c.read-came.new.host.err.now;
+      at = looks_of before;
+      said = c.read-came.ensures.shown t;
+      end = c.tell_end.ensures.shown;
+      ends = looks_ended c.read-came.result before c.tell_end.new.term c.tell_end.ensures.ok c.tell_end.ensures.err c.tell_end.ensures.term;
     }
+
+pub returns-clause-stood : goal.returns-clause-stood
+returns-clause-stood g c = λ quiet. by_success _ c.read-came.result c.read-came.ensures.stood (none_ended c.read-came.result c.tell_end.new.term.error c.tell_end.ensures.err quiet)

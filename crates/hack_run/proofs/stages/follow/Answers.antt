@@ -7,7 +7,7 @@ use Rattle.hack_prepare.proofs.HeldLemmas.{loaded-holds}
 use Rattle.hack_words.specs.declared.cli.args.Args.{Args}
 use Rattle.hack_drive.specs.Answered.{NeedsAnswer}
 use Rattle.hack_run.proofs.BackLemmas.{counted_ok}
-use Rattle.hack_run.proofs.LaneLemmas.{follows_in_lanes, may_follow_in_lanes}
+use Rattle.hack_run.proofs.LaneLemmas.{follows_in_lanes, may_follow_in_lanes, on_any}
 use Rattle.hack_run.proofs.LoadingLemmas.{warns_unknown}
 use Rattle.hack_run.proofs.TraceLemmas.{follows, goes_on, plan_follows, shows_nothing, unended}
 use Rattle.hack_run.proofs.ChangeLemmas.{follows_changes}
@@ -16,10 +16,11 @@ use Rattle.hack_load.specs.CargoQuestions.{told_version}
 use Rattle.hack_run.specs.Worlds.{world_of}
 use Rattle.hack_run.proofs.ToldLemmas.{warned_first}
 use Rattle.hack_base.specs.Streams.{stream_of}
-use Rattle.hack_session.specs.StepOutput.{streams}
 use Rattle.hack_prepare.specs.PreparedView.{notes_in}
-use Rattle.hack_run.specs.Shown.{scene_at, scene_on, unloaded, unplanned}
-use Rattle.hack_run.proofs.ShownLemmas.{edits_said, follows_said, looks_followed, nothing_said}
+use Rattle.hack_run.specs.Shown.{looks_of, scene_at, scene_on, unedited, unloaded}
+use Rattle.hack_run.proofs.ShownLemmas.{edits_said, follows_said, looks_followed}
+use Rattle.std.specs.Prelude.{Err}
+use Rattle.std.proofs.lemmas.Result.{err_from_is_err_and}
 use Rattle.hack_run.proofs.stages.follow.Goals as goal
 
 pub returns-clause-done : goal.returns-clause-done
@@ -100,14 +101,14 @@ returns-in_err-cx-clause-stays g c = g.F.Files.stays_none c.args.files.now
 
 pub returns-clause-lanes : goal.returns-clause-lanes
 returns-clause-lanes g c =
-    follows_in_lanes g.C.Starts.did g.C.Caller.course g.C.Caller.course_more c.run_plan.result c.args.args c.args.answers (context_view c.in_ok-cx.cx) c.in_ok-stable.stable (string_bytes c.args.host.now.env.now.rustup) c.args.host.now.caller.now c.stable_for.new.caller c.run_plan.new.host.caller.now
-    c.in_ok-stable.ensures.course c.in_ok-cx.ensures.ok c.run_plan.ensures.listed c.run_plan.ensures.ran
+    follows_in_lanes g.C.Starts.did g.C.Caller.course g.C.Caller.course_more g.C.Caller.tells g.C.Caller.calls c.run_plan.result c.args.args c.args.answers (context_view c.in_ok-cx.cx) c.in_ok-stable.stable (string_bytes c.args.host.now.env.now.rustup) c.args.host.now.caller.now c.stable_for.new.caller c.run_plan.new.host.caller.now
+    c.in_ok-stable.ensures.course c.in_ok-stable.ensures.asked c.in_ok-cx.ensures.ok c.run_plan.ensures.listed c.run_plan.ensures.ran
 
 pub returns-clause-in_lanes : goal.returns-clause-in_lanes
 returns-clause-in_lanes g c =
     let cx = context_view c.in_ok-cx.cx in
-    may_follow_in_lanes g.C.Starts.did g.C.Caller.course g.C.Caller.course_more c.args.args c.args.answers cx c.in_ok-stable.stable (string_bytes c.args.host.now.env.now.rustup) c.args.host.now.caller.now c.stable_for.new.caller c.run_plan.new.host.caller.now
-    cx.args.print_command_list refl c.in_ok-stable.ensures.course c.in_ok-cx.ensures.ok c.run_plan.ensures.listed c.run_plan.ensures.lanes
+    may_follow_in_lanes g.C.Starts.did g.C.Caller.course g.C.Caller.course_more g.C.Caller.tells g.C.Caller.calls c.args.args c.args.answers cx c.in_ok-stable.stable (string_bytes c.args.host.now.env.now.rustup) c.args.host.now.caller.now c.stable_for.new.caller c.run_plan.new.host.caller.now
+    cx.args.print_command_list refl c.in_ok-stable.ensures.course c.in_ok-stable.ensures.asked c.in_ok-cx.ensures.ok c.run_plan.ensures.listed c.run_plan.ensures.lanes
 
 pub returns-in_err-cx-clause-in_lanes : goal.returns-in_err-cx-clause-in_lanes
 returns-in_err-cx-clause-in_lanes g c = inl (g.C.Caller.course_none _, inl refl)
@@ -116,23 +117,38 @@ pub returns-in_err-edit-clause-in_lanes : goal.returns-in_err-edit-clause-in_lan
 returns-in_err-edit-clause-in_lanes g c = inl (g.C.Caller.course_none _, inl refl)
 
 pub returns-in_err-cx-clause-shown : goal.returns-in_err-cx-clause-shown
-returns-in_err-cx-clause-shown g c = λ t. unloaded (search rules) (nothing_said false (scene_on g.C.Caller g.O.Sink g.E.Sink c.args.host.now) (scene_at (g.C.Caller.calls c.args.host.now.caller.now) g.O.Sink g.E.Sink c.args.host.now.out.now c.context.new.err) (ap (streams g.O.Sink g.E.Sink c.args.host.now.out.now) c.in_err-cx.ensures.untold.1))
+returns-in_err-cx-clause-shown g c = λ t.
+    let e = c.in_err-cx.ensures.error in
+    unloaded e.0 e.2 (search rules) (ap looks_of c.in_err-cx.ensures.untold.0) (ap (scene_at (g.C.Caller.calls c.args.host.now.caller.now) g.O.Sink g.E.Sink c.args.host.now.out.now) c.in_err-cx.ensures.untold.1)
 
 pub returns-in_err-edit-clause-shown : goal.returns-in_err-edit-clause-shown
 returns-in_err-edit-clause-shown g c = λ t.
-    unplanned (context_view c.in_ok-cx.cx) (stream_of g.E.Sink c.context.new.err) c.in_ok-cx.ensures.ok c.in_ok-cx.ensures.shown (search rules)
-    (nothing_said false (scene_at (g.C.Caller.calls c.args.host.now.caller.now) g.O.Sink g.E.Sink c.args.host.now.out.now c.context.new.err) (scene_at (g.C.Caller.calls c.args.host.now.caller.now) g.O.Sink g.E.Sink c.args.host.now.out.now c.edit.new.err) (ap (streams g.O.Sink g.E.Sink c.args.host.now.out.now) c.in_err-edit.ensures.untold.1))
+    let e = c.in_err-edit.ensures.error in
+    let p = err_from_is_err_and c.from_residual-in_err-edit.result c.from_residual-in_err-edit.ensures.1 in
+    unedited (context_view c.in_ok-cx.cx) (stream_of g.E.Sink c.context.new.err) c.in_ok-cx.ensures.ok c.in_ok-cx.ensures.shown e.0 (p.1 ∙ ap Err (p.2 ∙ e.1))
+    (ap looks_of (c.in_err-edit.ensures.untold.0 ∙ c.in_ok-cx.ensures.told)) (ap (scene_at (g.C.Caller.calls c.args.host.now.caller.now) g.O.Sink g.E.Sink c.args.host.now.out.now) c.in_err-edit.ensures.untold.1)
 
 pub returns-in_err-stable-clause-shown : goal.returns-in_err-stable-clause-shown
 returns-in_err-stable-clause-shown g c = λ t.
-    edits_said _ g.C.Caller.tells c.args.args c.args.answers (string_bytes c.args.host.now.env.now.rustup) c.args.host.now.term.now c.context.new.term (context_view c.in_ok-cx.cx)
-    (stream_of g.E.Sink c.context.new.err) (stream_of g.E.Sink c.edit.new.err) (scene_on g.C.Caller g.O.Sink g.E.Sink c.args.host.now) (scene_at (g.C.Caller.calls c.stable_for.new.caller) g.O.Sink g.E.Sink c.args.host.now.out.now c.edit.new.err) (search rules) c.in_ok-cx.ensures.told c.in_ok-cx.ensures.ok c.in_ok-cx.ensures.shown c.in_ok-edit.ensures.shown refl refl
+    let p = err_from_is_err_and c.from_residual-in_err-stable.result c.from_residual-in_err-stable.ensures.1 in
+    edits_said _ g.C.Caller.tells c.args.args c.args.answers (string_bytes c.args.host.now.env.now.rustup) c.args.host.now.term.now c.context.new.term c.edit.new.term (context_view c.in_ok-cx.cx)
+    (stream_of g.E.Sink c.context.new.err) (stream_of g.E.Sink c.edit.new.err) (scene_on g.C.Caller g.O.Sink g.E.Sink c.args.host.now) (scene_at (g.C.Caller.calls c.stable_for.new.caller) g.O.Sink g.E.Sink c.args.host.now.out.now c.edit.new.err) (p.1 ∙ ap Err p.2) c.in_ok-cx.ensures.told c.in_ok-edit.ensures.told c.in_ok-cx.ensures.ok c.in_ok-cx.ensures.shown c.in_ok-edit.ensures.shown
+    (c.stable_for.ensures.made t) (λ off. ap g.C.Caller.calls (c.stable_for.ensures.unneeded (subst (λ (a : Args). ¬ NeedsAnswer a) (sym c.in_ok-cx.ensures.ok.2.args ∙ sym c.args-2.ensures) off))) refl
 
 pub returns-clause-shown : goal.returns-clause-shown
 returns-clause-shown g c = λ t.
-    follows_said c.run_plan.result g.C.Caller.tells c.args.args c.args.answers (string_bytes c.args.host.now.env.now.rustup) c.args.host.now.term.now c.context.new.term c.edit.new.term (context_view c.in_ok-cx.cx) c.in_ok-stable.stable
+    follows_said c.run_plan.result g.C.Caller.tells c.args.args c.args.answers (string_bytes c.args.host.now.env.now.rustup) c.args.host.now.term.now c.context.new.term c.edit.new.term (looks_of c.run_plan.new.host.term.now) (context_view c.in_ok-cx.cx) c.in_ok-stable.stable
     (g.C.Caller.calls c.stable_for.new.caller) (stream_of g.E.Sink c.context.new.err) (stream_of g.E.Sink c.edit.new.err) (scene_on g.C.Caller g.O.Sink g.E.Sink c.args.host.now) (scene_on g.C.Caller g.O.Sink g.E.Sink c.run_plan.new.host)
-    c.in_ok-cx.ensures.told c.in_ok-edit.ensures.told c.in_ok-cx.ensures.ok c.in_ok-cx.ensures.shown c.in_ok-edit.ensures.shown (c.in_ok-stable.ensures.asked t) (c.run_plan.ensures.shown t)
+    c.in_ok-cx.ensures.told c.in_ok-edit.ensures.told c.in_ok-cx.ensures.ok c.in_ok-cx.ensures.shown c.in_ok-edit.ensures.shown (c.in_ok-stable.ensures.asked t)
+    (λ off. c.in_ok-stable.ensures.unasked (subst (λ (a : Args). ¬ NeedsAnswer a) (sym c.in_ok-cx.ensures.ok.2.args ∙ sym c.args-2.ensures) off)) (c.run_plan.ensures.shown t)
 
 pub returns-clause-looks : goal.returns-clause-looks
 returns-clause-looks g c = looks_followed c.args.host.now.term.now c.context.new.term c.edit.new.term c.run_plan.new.host.term.now (warnings_of (told_version c.args.answers.cargo_version)) (notes_in (context_view c.in_ok-cx.cx)) c.in_ok-cx.ensures.told c.in_ok-edit.ensures.told c.run_plan.ensures.looks
+
+pub returns-clause-stood : goal.returns-clause-stood
+returns-clause-stood g c =
+    on_any c.run_plan.result (
+      context_view c.in_ok-cx.cx,
+      c.in_ok-cx.ensures.ok,
+      λ t read. c.in_ok-edit.ensures.prepared t (loaded-holds g.F.Files.tells (g.F.Files.bytes_at c.args.files.now) c.args.host.now.env.now c.args.args c.args.answers (context_view c.in_ok-cx.cx) t read c.in_ok-cx.ensures.ok),
+    )

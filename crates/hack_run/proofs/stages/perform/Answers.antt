@@ -1,5 +1,5 @@
-use Rattle.std.proofs.Common.{◌≡◌, ◌<◌, ◌∙◌, ap, false, inr, refl, true}
-use Rattle.std.specs.Prelude.{IfOk, not}
+use Rattle.std.proofs.Common.{◌≡◌, ◌<◌, ◌∙◌, ap, false, inl, inr, refl}
+use Rattle.std.specs.Prelude.{Bool, IfOk, not}
 use Rattle.hack_load.specs.Answers.{IsLoaded}
 use Rattle.hack_files.specs.Restore.{registered_files}
 use Rattle.hack_files.proofs.RefusalLemmas.{but_restored, but_then}
@@ -10,11 +10,17 @@ use Rattle.hack_term.specs.declared.term.Term.{Term}
 use Rattle.hack_run.proofs.ChangeLemmas.{changes}
 use Rattle.hack_run.proofs.LoadingLemmas.{loaded}
 use Rattle.hack_run.proofs.TraceLemmas.{made, performs}
-use Rattle.hack_run.proofs.LaneLemmas.{asked_in_lanes, on_success}
+use Rattle.hack_run.proofs.LaneLemmas.{on_success}
+use Rattle.std.proofs.Common.{OnOk, Result, subst}
+use Rattle.hack_files.specs.Files.{KeepsAll}
+use Rattle.hack_load.specs.declared.fault.ContextFault.{ContextFault}
+use Rattle.hack_load.specs.declared.loaded.Loaded.{Loaded}
+use Rattle.hack_prepare.specs.PreparedView.{member_manifests_in, wanted_in}
+use Rattle.hack_prepare.proofs.RootLemmas.{prepared-moved}
 use Rattle.hack_base.proofs.StreamLemmas.{some_more}
 use Rattle.hack_base.specs.Streams.{stream_of}
-use Rattle.hack_run.specs.Shown.{Looks, looks_of, scene_on}
-use Rattle.hack_run.proofs.ShownLemmas.{by_success, none_refused}
+use Rattle.hack_run.specs.Shown.{Looks, looks_of, reported_on, scene_on}
+use Rattle.hack_run.proofs.ShownLemmas.{by_success, looks_unless, some_refused}
 use Rattle.hack_run.proofs.stages.perform.Goals as goal
 
 pub returns-clause-done : goal.returns-clause-done
@@ -91,16 +97,35 @@ returns-clause-spoilt g c = λ kept.
 
 pub returns-clause-lanes : goal.returns-clause-lanes
 returns-clause-lanes g c =
-    on_success _ _ c.follow-came.result
-    (asked_in_lanes g.C.Starts.did g.C.Caller.course g.C.Caller.course_more true c.args.args c.args.host.now.caller.now c.ask-answers.new.caller c.follow-came.new.host.caller.now c.ask-answers.ensures.course)
+    let calls = g.C.Caller.calls in
+    on_success _ _ c.follow-came.result (λ behind. record {
+      answers = c.ask-answers.result;
+      mid = c.ask-answers.new.caller;
+      between = c.ask-answers.ensures.course;
+      asked = λ t. loaded g.F.Files.tells _ c.args.args c.args.host.now.env.now (g.F.Files.bytes_at c.args.files.now) (g.F.Files.failed c.args.files.now) (g.F.Files.failed c.ask-answers.new.files) (calls c.args.host.now.caller.now) (calls c.ask-answers.new.caller) c.ask-answers.result (c.ask-answers.ensures.asked t);
+      behind = behind;
+    })
     c.follow-came.ensures.lanes
 
 pub returns-clause-in_lanes : goal.returns-clause-in_lanes
 returns-clause-in_lanes g c =
-    asked_in_lanes g.C.Starts.did g.C.Caller.course g.C.Caller.course_more false c.args.args c.args.host.now.caller.now c.ask-answers.new.caller c.follow-came.new.host.caller.now c.ask-answers.ensures.course c.follow-came.ensures.in_lanes
+    let calls = g.C.Caller.calls in
+    record {
+      answers = c.ask-answers.result;
+      mid = c.ask-answers.new.caller;
+      between = c.ask-answers.ensures.course;
+      asked = λ t. loaded g.F.Files.tells _ c.args.args c.args.host.now.env.now (g.F.Files.bytes_at c.args.files.now) (g.F.Files.failed c.args.files.now) (g.F.Files.failed c.ask-answers.new.files) (calls c.args.host.now.caller.now) (calls c.ask-answers.new.caller) c.ask-answers.result (c.ask-answers.ensures.asked t);
+      behind = c.follow-came.ensures.in_lanes;
+    }
 
 pub returns-clause-shown : goal.returns-clause-shown
 returns-clause-shown g c = λ t.
+    let asking = c.ask-answers.ensures.spoilt in
+    let following = g.F.Files.refuses_some _ _ c.follow-came.ensures.grows in
+    let ending = c.finish.ensures.refused in
+    let before_end = c.follow-came.new.host.term.now in
+    let after_end = c.finish.new.term in
+    let back = some_refused g.F.Files (λ x y z ps qs one other. g.F.Files.refuses_more x y z ps qs one other) _ _ _ _ c.finish.result asking.spoilt following.0 ending.spoilt asking.refused following.1 ending.refused ending.number in
     let first = files_view g.F.Files c.args.files.now in
     let asked = files_view g.F.Files c.ask-answers.new.files in
     let calls = g.C.Caller.calls in
@@ -109,13 +134,43 @@ returns-clause-shown g c = λ t.
       calls = calls c.ask-answers.new.caller;
       asked = loaded g.F.Files.tells _ c.args.args c.args.host.now.env.now first.held first.failed asked.failed (calls c.args.host.now.caller.now) (calls c.ask-answers.new.caller) c.ask-answers.result (c.ask-answers.ensures.asked t);
       mid = scene_on g.C.Caller g.O.Sink g.E.Sink c.follow-came.new.host;
+      at = looks_of c.follow-came.new.host.term.now;
       said = c.follow-came.ensures.shown t;
       same = refl;
       out = refl;
       more = some_more _ (stream_of g.E.Sink c.tell_reason_of.new.err) _ c.tell_reason_of.ensures.lines c.finish.ensures.shown;
-      plain = λ ok quiet plain. ap (stream_of g.E.Sink) (c.finish.ensures.quiet (ap (λ l. l.verbose) c.follow-came.ensures.looks ∙ plain) (none_refused _ c.finish.result c.finish.new.term.error c.finish.ensures.noted.1 quiet)
-          ∙ by_success _ c.follow-came.result c.tell_reason_of.ensures.ok ok);
+      plain = λ ok plain. elim back [
+        | inl none ↦ inr (ap (stream_of g.E.Sink) (c.finish.ensures.quiet (ap (λ l. l.verbose) c.follow-came.ensures.looks ∙ plain) none ∙ by_success _ c.follow-came.result c.tell_reason_of.ensures.ok ok))
+        | inr some ↦ inl some.1
+      ];
+      ends = elim back [
+        | inl none ↦ inl (looks_unless before_end after_end c.finish.result c.finish.ensures.term c.finish.ensures.noted none)
+        | inr some ↦ inr (some.1, ap looks_of c.finish.ensures.term ∙ ap (λ (b : Bool). reported_on b (looks_of before_end)) (c.finish.ensures.noted.1 (inr some.0)))
+      ];
     }
 
 pub returns-clause-looks : goal.returns-clause-looks
 returns-clause-looks g c = ap (λ (k : Term). looks_of k) c.finish.ensures.term ∙ ap (λ (l : Looks). record l { reported = c.finish.new.term.error }) c.follow-came.ensures.looks
+
+pub returns-clause-stood : goal.returns-clause-stood
+returns-clause-stood g c =
+    let calls = g.C.Caller.calls in
+    let first = g.F.Files.bytes_at c.args.files.now in
+    let asked = g.F.Files.bytes_at c.ask-answers.new.files in
+    let at = g.F.Files.bytes_at c.follow-came.new.files in
+    let whole = whole_keeps g.F.Files.tells first asked (g.F.Files.failed c.args.files.now) (g.F.Files.failed c.ask-answers.new.files) c.ask-answers.result.loaded c.ask-answers.ensures.whole in
+    on_success _ _ c.follow-came.result (λ h. record {
+      answers = c.ask-answers.result;
+      mid = calls c.ask-answers.new.caller;
+      cx = h.0;
+      asked = λ t. loaded g.F.Files.tells _ c.args.args c.args.host.now.env.now first (g.F.Files.failed c.args.files.now) (g.F.Files.failed c.ask-answers.new.files) (calls c.args.host.now.caller.now) (calls c.ask-answers.new.caller) c.ask-answers.result (c.ask-answers.ensures.asked t);
+      context = h.1;
+      edits = record {
+        at = at;
+        was = (c.follow-came.new.files, g.F.Files.stays_more _ _ _ c.ask-answers.ensures.stays c.follow-came.ensures.stays, c.finish.ensures.stays, refl);
+        stood = λ t.
+            let kept : g.F.Files.tells → KeepsAll first asked = subst (λ (a : Result Loaded ContextFault). OnOk a (g.F.Files.tells → KeepsAll first asked)) h.1.1 whole in
+            prepared-moved (wanted_in h.0) (member_manifests_in h.0) first asked at at (kept t) (λ q. refl) (h.2 t c.ask-answers.ensures.read);
+      };
+    })
+    c.follow-came.ensures.stood

@@ -1,0 +1,68 @@
+-- The errors that end a call, as they are told.
+use Rattle.std.specs.Prelude.{◌≡◌, ◌⊎◌, ◌&&◌, Err, IfSome, List, None, Ok, Option, Result, Some, codes, map, option_map, string_bytes, ℕ, if◌then◌else◌}
+use Rattle.std.specs.List.{starts_with}
+use Rattle.std.specs.Option.{option_to_list}
+use Rattle.std.specs.Prelude.{nat_eq, option_and_then}
+use Rattle.std.specs.Str.{bytes_eq}
+use Rattle.hack_base.specs.Names.{Name}
+use Rattle.hack_base.specs.Streams.{Stream, WritesAll, WritesText}
+use Rattle.hack_load.specs.declared.fault.ContextFault.TheVariants as context
+use Rattle.hack_metadata.specs.declared.ask.fault.AskFault.TheVariants as asked
+use Rattle.hack_planner.specs.declared.fault.PlanFault.TheVariants as plan
+use Rattle.hack_process.specs.Faults.{fault_text}
+use Rattle.hack_process.specs.declared.fault.ProcessFault.{ProcessFault}
+use Rattle.hack_process.specs.declared.fault.ProcessFault.TheVariants.{NeverExecuted}
+use Rattle.hack_term.specs.Lines.{error_line, info_line}
+use Rattle.hack_term.specs.declared.term.Coloring.{Coloring}
+use Rattle.hack_words.specs.declared.cli.env.Env.{Env}
+use Rattle.hack_run.specs.declared.fault.RunFault.{RunFault}
+use Rattle.hack_run.specs.declared.fault.RunFault.TheVariants as fault
+
+-- ---- texts
+
+-- the command that failed, where that is the error
+abbrev pub failed_command : RunFault → Option ProcessFault
+failed_command (fault.Process failed) = Some failed
+failed_command (fault.Context (context.Process failed)) = Some failed
+failed_command (fault.Context (context.Asked (asked.Process failed))) = Some failed
+failed_command other = None
+
+-- the text of an error that is the call's own, or that of a command that failed; that of any other is written by its type
+abbrev pub text_of : RunFault → Option (List ℕ)
+text_of fault.Memory = Some (codes "out of memory")
+text_of fault.Unlisted = Some (codes "failed to write the command list")
+text_of fault.Unprinted = Some (codes "failed to write to standard output")
+text_of other = option_map fault_text (failed_command other)
+
+-- a text is that of the error, where it is known, or says that memory was refused for it
+abbrev pub IsTextOf : RunFault → List ℕ → Type 0
+IsTextOf fault text = IfSome (text_of fault) (λ known. text ≡ known) ⊎ (text ≡ codes "out of memory")
+
+-- ---- advice
+
+-- the command that couldn't be started
+abbrev pub unstarted : ProcessFault → Option Name
+unstarted (NeverExecuted command) = Some (string_bytes command)
+unstarted other = None
+
+-- What to say of it, which is shown in backquotes: that no such program is in the `PATH`, where no variable chose it; else
+-- how another is chosen.
+abbrev pub choice_of : Env → Name → List ℕ
+choice_of env command =
+    if bytes_eq (string_bytes env.cargo) (codes "cargo") && starts_with nat_eq command (codes "`cargo ") then codes "no `cargo` is in the `PATH`"
+    else if bytes_eq (string_bytes env.rustup) (codes "rustup") && starts_with nat_eq command (codes "`rustup ") then codes "no `rustup` is in the `PATH`"
+    else codes "cargo is chosen by CARGO_HACK_CARGO_SRC or CARGO, and rustup by CARGO_HACK_RUSTUP"
+
+-- what the user can do about an error: choose another program where one couldn't be started, or ask for fewer runs
+abbrev pub advice_of : Env → RunFault → Option (List ℕ)
+advice_of env (fault.Plan plan.TooManyRuns) = Some (codes "--depth and --strength make fewer runs")
+advice_of env other = option_map (choice_of env) (option_and_then unstarted (failed_command other))
+
+-- ---- lines
+
+-- an error's line was said, and before it what the user can do, if anything
+abbrev pub SaysEnd : Result (Unit {0}) RunFault → Env → Coloring → Stream → Stream → Type 0
+SaysEnd (Ok done) env coloring old new = new ≡ old
+SaysEnd (Err fault) env coloring old new =
+    (mid : Stream) × WritesAll (map (info_line coloring) (option_to_list (advice_of env fault))) old mid
+    × (text : List ℕ) × IsTextOf fault text × WritesText (error_line coloring text) mid new
