@@ -1,1 +1,1 @@
-mod JournalLemmas
+pub mod JournalLemmas

@@ -8,9 +8,10 @@ use Rattle.hack_journal.specs.Refusing.{AreJust, HoldsByKind, IsRefused, IsRefus
 use Rattle.hack_journal.specs.Rows.{Spot}
 use Rattle.hack_journal.specs.SafeFiles.{StaysSafe}
 use Rattle.hack_journal.specs.declared.unkept.Unkept.{Ghosts as Noting}
-use Rattle.hack_journaled.specs.Journals.{IsAccounted, contents_seen, files_seen, world_seen}
+use Rattle.hack_journaled.specs.Journals.{BetweenBoth, IsAccounted, contents_seen, files_seen, world_seen}
 use Rattle.hack_run.specs.CallChanges.{IsChangeTrace}
 use Rattle.hack_run.specs.CallTrace.{IsCallTrace}
+use Rattle.hack_run.specs.Standing.{Between, EditsStand}
 use Rattle.hack_run.specs.TemporaryEdits.{BringsBack, IsClean, RestoresEdits}
 use Rattle.hack_run.specs.Refusals.{AreRefused, ReportsRefusal}
 use Rattle.hack_files.specs.View.{FilesView}
@@ -77,12 +78,20 @@ pub record RefusesThese {F : Type 0} (f : Filing F) (paths : List Name) : Type 0
   pub after : F
   pub refused : f.refuses before after paths
 
+-- such files, or these and such lockfiles, held this between two of their states
+abbrev pub WasBetween : {F : Type 0} → Filing F → Contents → Type 0
+WasBetween {F} f held = (before : F) × (after : F) × Between f before after held
+
+abbrev pub WereBetween : {F L : Type 0} → Filing F → Filing L → Name → Contents → Type 0
+WereBetween {F} {L} f l journal held = (before : F) × (after : F) × (first : L) × (last : L) × BetweenBoth f l journal before after first last held
+
 -- the call was performed without a journal: it meets what `run` promises of files, calls and reports; a path
 -- that doesn't hold what it held is one whose own write was refused
 pub record PerformsUnjournaled {F : Type 0} (f : Filing F) (talks : Type 0) (words : List Name) (env : Env) (old new : Scene) : Type 0 where
   pub refused : AreRefused env words → ReportsRefusal talks env old.host new.host
   pub done : new.host.term.error ≡ false → talks → IsCallTrace true f.tells words env (world_in old) (world_in new)
   pub traced : new.host.term.error ≡ false → talks → f.whole → IsChangeTrace f.tells words env (world_in old) (world_in new)
+  pub stood : new.host.term.error ≡ false → EditsStand (WasBetween f) f.tells talks words env old.files.held old.host.calls
   pub made : talks → IsCallTrace false f.tells words env (world_in old) (world_in new)
   pub back : RestoresEdits env words → f.tells → BringsBack old.files new.files
   pub spoilt : RestoresEdits env words → KeepsAllBut (RefusesThese f) f.tells old.files.held new.files.held
@@ -105,6 +114,7 @@ pub record Journals {F L U : Type 0} (f : Filing F) (l : Filing L) (u : Noting U
       → KeepsAll (contents_seen spot.journal old.files.held old.lockfiles.held) (contents_seen spot.journal new.files.held new.lockfiles.held)
   pub back : RestoresEdits env words → f.tells → l.tells
       → BringsBack (files_seen spot.journal old.files.held old.lockfiles.held 0) (files_seen spot.journal new.files.held new.lockfiles.held failed)
+  pub stood : new.host.term.error ≡ false → EditsStand (WereBetween f l spot.journal) (f.tells × l.tells) talks words env (contents_seen spot.journal old.files.held old.lockfiles.held) old.host.calls
   pub few : new.host.term.error ≡ false → failed ≤ 1
   pub spoilt : RestoresEdits env words → KeepsAllBut (λ paths. AreJust (HoldsByKind (IsRefusedOrUnkept f u) (IsRefused l)) paths 0 failed) (f.tells × l.tells)
       (contents_seen spot.journal old.files.held old.lockfiles.held) (contents_seen spot.journal new.files.held new.lockfiles.held)

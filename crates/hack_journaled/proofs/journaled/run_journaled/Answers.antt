@@ -150,13 +150,12 @@ returns-clause-stood g c = λ quiet.
     edits_between _ _ _ _ _ _ _ _ (λ held was.
     let at = was.0 in
     let first = was.1 in
-    let later = was.2 in
-    (
+    let later = was.2 in (
       at.files.files,
       at.lockfiles,
-      rw (c.new-files.ensures.files, c.new.ensures.files) at first.0.2,
+      first.0.2,
       rw c.into_inner-below.ensures.files (g.F.Files.stays_more _ _ _ later.0.2 c.end_journal-failed.ensures.handed),
-      rw (c.new-files.ensures.lockfiles) at first.1,
+      first.1,
       later.1,
-      was.3 ∙ ap (λ (k : List ℕ). contents_seen k (bytes at.files.files) (g.L.Files.bytes_at at.lockfiles)) (sym (rw (c.new-files.ensures.files, named) at (ap (λ (s : Spot). s.journal) first.0.0))),
+      was.3 ∙ ap (λ (k : List ℕ). contents_seen k (bytes at.files.files) (g.L.Files.bytes_at at.lockfiles)) (sym (ap (λ (s : Spot). s.journal) first.0.0)),
     )) stood
