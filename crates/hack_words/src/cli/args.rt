@@ -20,7 +20,6 @@ use hack_base::notice::Notice;
 use hack_features::Feature;
 use hack_options::Opt;
 use hack_plan::partition::Partition;
-use hack_rules::checks::has_some;
 use hack_rules::early::Early;
 use hack_rules::fault::CliFault;
 use hack_rules::late::Late;
@@ -169,7 +168,7 @@ fn leaves_no_default(lists: &Lists, uses: &[Use]) -> bool
 {
     given(Opt::ExcludeNoDefaultFeatures, uses)
         || given(Opt::AtLeastOneOf, uses)
-        || has_some(lists.include_features.as_slice())
+        || !lists.include_features.is_empty()
 }
 
 /// Whether the run with all features is left out: it would have features that are excluded, or that
@@ -182,8 +181,8 @@ fn leaves_all(lists: &Lists, uses: &[Use]) -> bool
         || is_given Opt.MutuallyExclusiveFeatures (views uses.now)) }
 {
     given(Opt::ExcludeAllFeatures, uses)
-        || has_some(lists.include_features.as_slice())
-        || has_some(lists.exclude_features.as_slice())
+        || !lists.include_features.is_empty()
+        || !lists.exclude_features.is_empty()
         || given(Opt::MutuallyExclusiveFeatures, uses)
 }
 

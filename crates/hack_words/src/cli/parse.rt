@@ -29,7 +29,6 @@ use crate::cli::start::Start;
 use hack_base::notice::Notice;
 use hack_options::{Help, Opt};
 use hack_rules::bare::lists_commands;
-use hack_rules::checks::has_some;
 use hack_rules::early::{self, Early};
 use hack_rules::fault::{Beside, CliFault};
 use hack_rules::late::{self, Late, is_ranged};
@@ -117,7 +116,7 @@ fn ignores_in_vain(lists: &Lists, uses: &[Use]) -> bool
     ensures { result ≡ (is_given Opt.IgnoreUnknownFeatures (views uses.now)
         && counts Opt.IncludeFeatures (views uses.now)) }
 {
-    given(Opt::IgnoreUnknownFeatures, uses) && has_some(lists.include_features.as_slice())
+    given(Opt::IgnoreUnknownFeatures, uses) && !lists.include_features.is_empty()
 }
 
 /// The notices on a command line that asks for cargo's commands.
