@@ -1,5 +1,5 @@
 //! All that is loaded for one call: what its arguments ask for, what cargo reports of the
-//! workspace, the manifest and the candidates of each member, and the current package.
+//! workspace, the manifest and the features of each member, and the current package.
 
 ghost use Rattle.std.specs.Prelude.{◌≡◌, ◌<◌, ◌⊎◌, ◌↔◌, [], ℕ, true};
 ghost use Rattle.std.specs.Prelude.{Contains, Some, IfOk, IfErr, IsTrue, OnOk};
@@ -139,7 +139,7 @@ impl Context {
         &self.metadata
     }
 
-    /// The members of the workspace, each once. Each has a package, a manifest and candidates.
+    /// The members of the workspace, each once. Each has a package, a manifest and features.
     pub fn workspace_members(&self) -> &[PackageId]
         ensures members { map place_at result.now
             ≡ (context_view self.now).metadata.workspace_members }
@@ -202,7 +202,7 @@ impl Context {
         &self.manifests[place_of(&self.metadata.workspace_members, id)]
     }
 
-    /// The candidates of a member.
+    /// The features of a member.
     pub fn pkg_features(&self, id: PackageId) -> &Features
         requires { Contains (context_view self.now).metadata.workspace_members id.index }
         ensures { features_at (context_view self.now) id.index ≡ Some result.now }
@@ -274,7 +274,7 @@ fn warnings(alloc: Global, version: Result<u32, String>) -> Result<Vec<Notice>, 
     }
 }
 
-/// Collects the candidates of each member, by its manifest.
+/// Collects the features of each member, by its manifest.
 fn features_of(
     alloc: Global,
     metadata: &Metadata,
