@@ -33,7 +33,7 @@ SCRIPTS = [
     ["tests/conflict_search.py", built("cargo_hack_program"), "--cases", "40"],
     ["tests/dist_archive.py", built("cargo_hack_program"), built("powerset_list")],
     ["tests/real_cargo.py", built("cargo_hack_program")],
-    ["tests/refused_memory.py", "--every", "5", built("cargo_hack_program"), built("powerset_list")],
+    ["tests/refused_memory.py", "--every", "5", *map(built, ("cargo_hack_program", "powerset_list", "memory_calls"))],
     ["tests/broken_streams.py", built("cargo_hack_program"), built("powerset_list")],
     ["tests/kill_points.py", "--every", "3", built("cargo_hack_program")],
     ["tests/guarded_calls.py", "--races", "10", built("cargo_hack_program")],

@@ -1,13 +1,14 @@
 #!/usr/bin/env python3
 """Refuses the growths of memory of the built programs, one after the other, and looks at what they do then.
 
-usage: tests/refused_memory.py [--every K] CARGO_HACK [POWERSET_LIST]
+usage: tests/refused_memory.py [--every K] CARGO_HACK [POWERSET_LIST [MEMORY_CALLS]]
 
 A small allocator, built by the machine's C compiler and loaded before the program, refuses its n-th call, or that one and
 all after it, for n from 1 (with K: 1, K + 1, ..) until a run meets no refusal. Each run has to end with the status and the
 bytes of a run with ample memory, or with status 1 and the last line `error: out of memory` (or, where such a run fails,
 its last line), never by a signal; and every file of the workspace has to hold its bytes at the end. So a sample, in whose
-search memory was refused, is the very same or none.
+search memory was refused, is the very same or none. `memory_calls` makes the calls that take memory step by step, and says
+in which one it was refused: each of them has to be among these.
 
 Prints a line for each call. The last line is `N passed, M failed, K skipped`; the status is 1 where one failed.
 """
@@ -110,6 +111,9 @@ MAPS = {
     "an empty map": "{}",
 }
 
+# The calls that `memory_calls` makes, in order.
+STEPS = ["Args::parse", "Answers::ask", "Context::new", "prepare", "plan_of", "Session::new", "pruned", "remove_dev_deps"]
+
 
 def lay_out(folder):
     """The workspace, and two stand-ins beside it. The first tells of three features: so many have more than one sample of
@@ -161,11 +165,12 @@ def fault_of(ended, ample, workspace):
     return None if last and last[0] in allowed else f"its last line is {last}"
 
 
-def try_call(name, words, places, preload, every, given=""):
-    """Tries a call at each number; returns how many, and what was wrong first."""
+def try_call(name, words, places, preload, every, given="", steps=()):
+    """Tries a call at each number; returns how many, and what was wrong first. Some refusal has to be in each of these steps,
+    which the first line of an error names."""
     workspace, cargo = places
     ample = run(words, workspace, cargo, given)
-    tried = 0
+    tried, refused = 0, set()
     for more in ({}, {"REFUSE_ALL": "1"}):
         at = 1
         while True:
@@ -173,11 +178,13 @@ def try_call(name, words, places, preload, every, given=""):
             if not ended[3]:
                 break
             tried += 1
+            refused.update(ended[2].decode().splitlines()[:1])
             fault = fault_of(ended, ample, workspace)
             if fault:
                 return tried, f"{name}: refused at {at}{' and behind' if more else ''}: {fault}"
             at += every
-    return tried, None
+    missed = [it for it in steps if it not in refused]
+    return tried, f"{name}: refused in all but {', '.join(missed)}" if missed else None
 
 
 def main():
@@ -185,13 +192,15 @@ def main():
     every = 1
     if words[:1] == ["--every"] and len(words) > 1:
         every, words = int(words[1]), words[2:]
-    if not words or len(words) > 2:
+    if not words or len(words) > 3:
         sys.exit(__doc__)
-    program = [os.path.realpath(words[0]), "hack"]
-    calls = [(name, [*program, *more], "", 1) for name, more in CALLS.items()]
-    calls += [(name, [*program, *more], "", 2) for name, more in WIDE.items()]
-    if len(words) > 1:
-        calls += [(f"powerset-list of {name}", [os.path.realpath(words[1])], given, 1) for name, given in MAPS.items()]
+    programs = [os.path.realpath(it) for it in words]
+    calls = [(name, [programs[0], "hack", *more], "", 1, ()) for name, more in CALLS.items()]
+    calls += [(name, [programs[0], "hack", *more], "", 2, ()) for name, more in WIDE.items()]
+    if len(programs) > 1:
+        calls += [(f"powerset-list of {name}", programs[1:2], given, 1, ()) for name, given in MAPS.items()]
+    if len(programs) > 2:
+        calls.append(("each call by itself", programs[2:], "", 1, STEPS))
     if shutil.which("cc") is None:
         print(f"no C compiler: {len(calls)} calls skipped")
         print(f"0 passed, 0 failed, {len(calls)} skipped")
@@ -202,8 +211,8 @@ def main():
         places = lay_out(folder)
         preload = f"{folder}/allocator.so"
         library(preload, ALLOCATOR)
-        for name, called, given, tool in calls:
-            tried, fault = try_call(name, called, (places[0], places[tool]), preload, every, given)
+        for name, called, given, tool, steps in calls:
+            tried, fault = try_call(name, called, (places[0], places[tool]), preload, 1 if steps else every, given, steps)
             print(fault or f"{name}: {tried} refusals")
             failed += fault is not None
     print(f"{len(calls) - failed} passed, {failed} failed, 0 skipped")

@@ -42,7 +42,7 @@ fn groups(alloc: Global, rules: &Rules, alone: &[usize]) -> Result<Vec<Vec<bool>
     Ok(rows)
 }
 
-/// A row of marks at the two places, of which the second is greater.
+/// A row of marks at the two positions, of which the second is greater.
 fn pair(alloc: Global, x: usize, last: usize) -> Result<Vec<bool>, AllocError>
     requires { x < last }
     ensures { IfOk result (λ row. (p : ℕ) → Has row.items p ↔ ((p ≡ x) ⊎ (p ≡ last))) }
@@ -53,7 +53,7 @@ fn pair(alloc: Global, x: usize, last: usize) -> Result<Vec<bool>, AllocError>
     Ok(row)
 }
 
-/// For each place below `last` that the row doesn't mark, a row of marks at it and at `last`.
+/// For each position below `last` that the row doesn't mark, a row of marks at it and at `last`.
 fn pairs(alloc: Global, row: &[bool], last: usize) -> Result<Vec<Vec<bool>>, AllocError>
     ensures { IfOk result (λ rows. ArePairs row.now last (rows_of rows.items)) }
 {

@@ -1,4 +1,5 @@
-//! The greatest members of a set: those that no other member enables.
+//! The greatest members of a set: none of them enables another, and each member is enabled by one
+//! of them.
 
 ghost use Rattle.std.specs.Prelude.{◌≡◌, ◌≢◌, ℕ, IfOk, IsTrue, MatchBool};
 ghost use Rattle.hack_conflicts.specs.Sets.{Has};

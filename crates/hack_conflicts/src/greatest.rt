@@ -29,8 +29,8 @@ fn without_inner(
     Ok(left)
 }
 
-/// The other sets with that of the run at the place, if it passed and lies inside none of them and
-/// none of the first, without those that lie inside another.
+/// Adds the set of a run to the other sets, if the run passed and none of the first or the others
+/// contains it. Others that lie inside it are dropped.
 fn add_run(
     alloc: Global,
     first: &[Vec<bool>],

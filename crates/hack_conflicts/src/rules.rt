@@ -18,8 +18,7 @@ pub struct Rules {
     /// A row for each position: whether it enables the entry's position. Each enables itself.
     pub enables: Vec<Vec<bool>>,
     /// A row for each exclusion group: whether the entry's position reaches the group. A set may be
-    /// chosen only if at most one of its greatest members reaches the group, those that no other
-    /// member enables.
+    /// chosen only if for any two of its members that reach the group some member enables both.
     pub exclusive: Vec<Vec<bool>>,
     /// A row for each at-least-one group: whether the entry's position serves the group. A set may be
     /// chosen only if a member serves it.
@@ -58,7 +57,7 @@ impl Rules {
         has(set_at(self.enables.as_slice(), x), y)
     }
 
-    /// Whether the set has a member of each needed group.
+    /// Whether the set has a member of each at-least-one group.
     pub(crate) fn is_required(&self, set: &[bool]) -> bool
         ensures { IsTrue result ↔ IsRequired self.now set.now }
     {

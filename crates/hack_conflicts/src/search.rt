@@ -80,7 +80,8 @@ fn spread(
     Ok(())
 }
 
-/// Adds to the next ones the set without either of two members that exclude one another.
+/// Adds two sets to the next ones: the set without `p` and all that enable `p`, and the set without
+/// `q` and all that enable `q`.
 fn part(
     alloc: Global,
     rules: &Rules,

@@ -10,7 +10,7 @@ use Rattle.hack_plan.specs.View.{PlanView}
 use Rattle.hack_session.specs.Handouts.{HandsOut}
 use Rattle.hack_session.specs.Histories.{Course, IsHistory, next_of}
 use Rattle.hack_session.specs.Schedules.{IsSchedule}
-use Rattle.hack_plan.proofs.PieceLemmas.{in_just_one, joined-all}
+use Rattle.hack_partition.proofs.PieceLemmas.{in_just_one, joined-all}
 use Rattle.hack_base.specs.Notes.{Note}
 use Rattle.hack_versions.specs.declared.version.Version.{Version}
 use Rattle.hack_words.specs.declared.cli.args.Args.{Args}

@@ -8,8 +8,8 @@ use Rattle.hack_rules.specs.declared.uses.behavior.WorkspaceBehavior.TheVariants
 use Rattle.hack_load.specs.Contexts.{ContextRecord}
 use Rattle.hack_session.specs.Handouts.{HandsOut, IsDriven}
 use Rattle.hack_session.specs.Histories.{Course}
-use Rattle.hack_plan.specs.Pieces.{InJustOnePiece, joined_blocks}
-use Rattle.hack_plan.specs.declared.partition.PartitionKind.{PartitionKind}
+use Rattle.hack_partition.specs.Pieces.{InJustOnePiece, joined_blocks}
+use Rattle.hack_partition.specs.declared.partition.PartitionKind.{PartitionKind}
 use Rattle.hack_versions.specs.declared.version.Version.{Version}
 
 -- each place of a plan is in exactly one of its pieces, for each number of them and each kind of

@@ -16,8 +16,8 @@ use std::collections::BTreeMap;
 use std::fmt::Write;
 use std::{fmt, slice};
 
-/// One element of a set of features. Features are ordered by variant, in the order below, and then
-/// by their fields.
+/// A feature, a group of features, or a feature of a dependency: candidates and exclusion groups
+/// have this type. Features are ordered by variant, in the order below, and then by their fields.
 #[derive(PartialEq, Eq, PartialOrd, Ord, Drop)]
 pub enum Feature {
     /// A feature of the package itself; its name is not divided any further.

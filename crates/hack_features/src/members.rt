@@ -34,7 +34,7 @@ pub(crate) fn members_of(alloc: Global, set: &[bool]) -> Result<Vec<usize>, Allo
     Ok(members)
 }
 
-/// Whether the place is a member of the set and the row is true at it.
+/// Whether the position is a member of the set and the row is true at it.
 fn is_both(set: &[bool], row: &[bool], place: usize) -> bool
     ensures { result ≡ (bit set.now place && bit row.now place) }
 {
@@ -53,7 +53,7 @@ fn none_in(row: &[bool], set: &[bool]) -> bool
     true
 }
 
-/// Whether the place is a member of the set, and its row is true at `last`.
+/// Whether the position is a member of the set, and its row is true at `last`.
 fn is_with(rows: &[Vec<bool>], set: &[bool], place: usize, last: usize) -> bool
     ensures { result ≡ (bit set.now place && cell (rows_of rows.now) place last) }
 {
@@ -83,7 +83,7 @@ pub(crate) fn is_clear(rows: &[Vec<bool>], set: &[bool], last: usize) -> bool
     !bit(row, last) && none_in(row, set) && none_at(rows, set, last)
 }
 
-/// The entry of the row at the place if that is a member of the set, else 0.
+/// The element of the row at the position if that is a member of the set, else 0.
 fn entry_at(row: &[usize], set: &[bool], place: usize) -> usize
     ensures { result ≡ cond (bit set.now place) (count_at row.now place) 0 }
 {

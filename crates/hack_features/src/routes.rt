@@ -17,7 +17,7 @@ use crate::reach::Edges;
 use std::alloc::{AllocError, Global};
 use std::collections::BTreeMap;
 
-/// The entry of a row, false past its end.
+/// The element of a row, false past its end.
 pub(crate) fn bit(row: &[bool], place: usize) -> bool
     ensures { result ≡ bit row.now place }
 {

@@ -65,7 +65,8 @@ fn all_providers(alloc: Global, enabled: &Placed) -> Result<Vec<Vec<Vec<usize>>>
     Ok(tables)
 }
 
-/// For each row the places at which it is true, and after these groups one of all places below `n`.
+/// For each row the positions at which it is true, and after these groups one of all positions
+/// below `n`.
 fn groups_of(alloc: Global, rows: &[Vec<bool>], n: usize) -> Result<Vec<Vec<usize>>, AllocError>
     ensures { IfOk result (λ groups. rows_of groups.items
         ≡ map positions_of (rows_of rows.now) ++ positions_of (replicate n true) ∷ []) }

@@ -254,7 +254,7 @@ fn serve_rows(alloc: Global, placed: &Placed) -> Result<Vec<Vec<bool>>, AllocErr
     Ok(rows)
 }
 
-/// The entry of a row, 0 past its end.
+/// The element of a row, 0 past its end.
 pub(crate) fn count(row: &[usize], place: usize) -> usize
     ensures { result ≡ count_at row.now place }
 {

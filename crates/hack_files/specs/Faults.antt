@@ -1,5 +1,5 @@
 -- What the errors of calls of files say.
-use Rattle.std.specs.Prelude.{◌≡◌, ◌⊎◌, ℕ, List, Option, Some, string_bytes}
+use Rattle.std.specs.Prelude.{◌≡◌, ◌⊎◌, [], ◌∷◌, ℕ, List, Option, Some, None, Result, Ok, Err, string_bytes}
 use Rattle.std.specs.Str.{IsUtf8}
 use Rattle.hack_base.specs.Counters.{GrowsBy}
 use Rattle.hack_files.specs.declared.fs.FsFault.{FsFault}
@@ -31,3 +31,12 @@ IsOfText path tells held old new (Write p) = ⊥
 IsOfText path tells held old new (NotText p) =
     (string_bytes p ≡ path) × GrowsBy 0 old new × HoldsNoText tells held
 IsOfText path tells held old new Memory = GrowsBy 0 old new ⊎ GrowsBy 1 old new
+
+-- the path is unseen where it could not be read, unless the files tell that nothing is there; where
+-- memory was refused, it may be; no other path is
+abbrev pub IsUnseenUnlessNoText : {T : Type 0} → (List (List ℕ) → Type 0) → Type 0 → Option (List ℕ) → List ℕ → Result T FsFault → Type 0
+IsUnseenUnlessNoText Unseen tells held path (Ok _) = Unseen []
+IsUnseenUnlessNoText Unseen tells held path (Err (Read p)) = Unseen (path ∷ []) ⊎ (Unseen [] × tells × (held ≡ None))
+IsUnseenUnlessNoText Unseen tells held path (Err (Write p)) = ⊥
+IsUnseenUnlessNoText Unseen tells held path (Err (NotText p)) = Unseen []
+IsUnseenUnlessNoText Unseen tells held path (Err Memory) = Unseen (path ∷ []) ⊎ Unseen []

@@ -44,10 +44,15 @@ abbrev pub CountsFailedCall : {T E : Type 0} → ℕ → ℕ → Result T E → 
 CountsFailedCall old new (Ok _) = GrowsBy 0 old new
 CountsFailedCall old new (Err _) = GrowsBy 1 old new
 
--- the path of a write or removal that was refused; none of one that was made
+-- the path of a call that failed; none of one that didn't
 abbrev pub refused_path : {T E : Type 0} → Result T E → List ℕ → List (List ℕ)
 refused_path (Ok _) path = []
 refused_path (Err _) path = path ∷ []
+
+-- a read that failed leaves its path unseen, unless the files tell that nothing is there
+abbrev pub IsUnseenUnlessAbsent : {T E : Type 0} → (List (List ℕ) → Type 0) → Type 0 → Option (List ℕ) → List ℕ → Result T E → Type 0
+IsUnseenUnlessAbsent Unseen tells held path (Ok _) = Unseen []
+IsUnseenUnlessAbsent Unseen tells held path (Err _) = Unseen (path ∷ []) ⊎ (Unseen [] × tells × (held ≡ None))
 
 -- some calls failed, or none
 abbrev pub Grows : ℕ → ℕ → Type 0
@@ -56,6 +61,11 @@ Grows old new = (k : ℕ) × GrowsBy k old new
 -- a count of failures went up by so many at least
 abbrev pub GrowsAtLeastBy : ℕ → ℕ → ℕ → Type 0
 GrowsAtLeastBy k old new = old < 2 ^ 64 → (min (old + k) (2 ^ 64 - 1) ≤ new) × (new < 2 ^ 64)
+
+-- `Below` holds, or a call failed of itself
+pub record IsOwnOr (Below : Type 0) (old new : ℕ) : Type 0 where
+  pub grown : Grows old new
+  pub why : Below ⊎ GrowsAtLeastBy 1 old new
 
 -- each path but this one holds what it held
 abbrev pub KeepsOthers : List ℕ → Contents → Contents → Type 0

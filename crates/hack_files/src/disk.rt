@@ -1,6 +1,7 @@
 //! The files of the operating system. No contract says what they hold; tests check it.
 
 ghost use Rattle.std.specs.Prelude.{◌≡◌, [], None, length};
+ghost use Rattle.std.proofs.Common.{inr};
 ghost use Rattle.hack_files.specs.Files.{CountsFailedCall, GrowsAtLeastBy};
 ghost use Rattle.hack_files.specs.RefusalLaws.{at_least_none, at_least_more, at_least_some};
 
@@ -259,6 +260,15 @@ impl<R: rt::Files + AllocGlobal + Drop> Files for Disk<R> {
         at_least_more ps qs a.failures b.failures c.failures };
 
     ghost refuses_some = { λ a b grown. at_least_some a.failures b.failures grown };
+
+    ghost unseen = { λ old new paths. GrowsAtLeastBy (length paths) old.failures new.failures };
+
+    ghost unseen_none = { λ files. at_least_none files.failures };
+
+    ghost unseen_more = { λ a b c ps qs.
+        at_least_more ps qs a.failures b.failures c.failures };
+
+    ghost tells_or_not = { inr (λ tells. tells) };
 
     ghost bytes_at = { λ _ _. None };
 

@@ -1,8 +1,10 @@
 //! Files and writers that fail once, for tests of what a failure leaves.
 
-ghost use Rattle.std.specs.Prelude.{◌≡◌, ◌↔◌, IsTrue, length};
-ghost use Rattle.hack_files.specs.Files.{GrowsAtLeastBy};
+ghost use Rattle.std.specs.Prelude.{◌≡◌, ◌↔◌, IsTrue, cond, length};
+ghost use Rattle.hack_base.specs.Counters.{GrowsBy};
+ghost use Rattle.hack_files.specs.Files.{GrowsAtLeastBy, IsOwnOr};
 ghost use Rattle.hack_files.specs.RefusalLaws.{at_least_none, at_least_more, at_least_some};
+ghost use Rattle.hack_files.specs.RefusalLaws.{own_none, own_more};
 
 use crate::fs::{FileFault, Files, count_failure, counted};
 use std::alloc::Global;
@@ -42,6 +44,8 @@ pub struct FailingFiles<F: Files> {
     inner: F,
     turns: Turns,
     failures: u64,
+    /// How many of these were no failures of the other files.
+    own: u64,
 }
 
 impl<F: Files> FailingFiles<F> {
@@ -51,11 +55,13 @@ impl<F: Files> FailingFiles<F> {
         ensures inner { result.inner ≡ inner }
         ensures turns { result.turns ≡ record { next = 1; failing = failing } }
         ensures failures { result.failures ≡ 0 }
+        ensures own { result.own ≡ 0 }
     {
         FailingFiles {
             inner,
             turns: Turns::new(failing),
             failures: 0,
+            own: 0,
         }
     }
 
@@ -64,6 +70,21 @@ impl<F: Files> FailingFiles<F> {
         ensures { result.now ≡ self.now.inner }
     {
         &self.inner
+    }
+
+    /// Whether the call that is made now fails, which is counted.
+    fn fails(&mut self) -> bool
+        ensures failures { GrowsBy (cond result 1 0) self.old.failures self.new.failures }
+        ensures own { GrowsBy (cond result 1 0) self.old.own self.new.own }
+        ensures inner { self.new.inner ≡ self.old.inner }
+        ensures turn { IsTrue result ↔ (self.old.turns.next ≡ self.old.turns.failing) }
+    {
+        if self.turns.fails() {
+            count_failure(&mut self.failures);
+            count_failure(&mut self.own);
+            return true;
+        }
+        false
     }
 }
 
@@ -87,6 +108,17 @@ impl<F: Files> Files for FailingFiles<F> {
 
     ghost refuses_some = { λ a b grown. at_least_some a.failures b.failures grown };
 
+    // The other files left these paths unseen; or a call failed that was to fail here.
+    ghost unseen = { λ old new paths.
+        IsOwnOr (F.unseen old.inner new.inner paths) old.own new.own };
+
+    ghost unseen_none = { λ files. own_none _ files.own (F.unseen_none files.inner) };
+
+    ghost unseen_more = { λ a b c ps qs. own_more _ _ _ a.own b.own c.own
+        (F.unseen_more a.inner b.inner c.inner ps qs) };
+
+    ghost tells_or_not = { F.tells_or_not };
+
     ghost bytes_at = { λ files. F.bytes_at files.inner };
 
     ghost trace = { λ files. F.trace files.inner };
@@ -94,8 +126,7 @@ impl<F: Files> Files for FailingFiles<F> {
     ghost failed = { λ files. files.failures };
 
     fn read(&mut self, alloc: Global, path: &str) -> Result<Vec<u8>, FileFault> {
-        if self.turns.fails() {
-            count_failure(&mut self.failures);
+        if self.fails() {
             return Err(FileFault::Device);
         }
         let outcome = self.inner.read(alloc, path);
@@ -103,8 +134,7 @@ impl<F: Files> Files for FailingFiles<F> {
     }
 
     fn write(&mut self, path: &str, bytes: &[u8]) -> Result<(), FileFault> {
-        if self.turns.fails() {
-            count_failure(&mut self.failures);
+        if self.fails() {
             let _ = self.inner.write(path, b"");
             return Err(FileFault::Device);
         }
@@ -113,8 +143,7 @@ impl<F: Files> Files for FailingFiles<F> {
     }
 
     fn exists(&mut self, path: &str) -> Result<bool, FileFault> {
-        if self.turns.fails() {
-            count_failure(&mut self.failures);
+        if self.fails() {
             return Err(FileFault::Device);
         }
         let outcome = self.inner.exists(path);
@@ -122,8 +151,7 @@ impl<F: Files> Files for FailingFiles<F> {
     }
 
     fn remove(&mut self, path: &str) -> Result<(), FileFault> {
-        if self.turns.fails() {
-            count_failure(&mut self.failures);
+        if self.fails() {
             return Err(FileFault::Device);
         }
         let outcome = self.inner.remove(path);

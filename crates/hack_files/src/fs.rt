@@ -1,13 +1,14 @@
 //! What the program asks of a file system. Code works with any `Files`: the disk, files in memory,
 //! or files that fail when a test wants it.
 
-ghost use Rattle.std.specs.Prelude.{◌≡◌, ◌↔◌, [], ◌∷◌, ◌++◌, List, ℕ, Some, None, string_bytes};
+ghost use Rattle.std.specs.Prelude.{◌≡◌, ◌↔◌, ◌⊎◌, [], ◌∷◌, ◌++◌, List, ℕ, Some, None};
+ghost use Rattle.std.specs.Prelude.{string_bytes};
 ghost use Rattle.std.specs.Prelude.{IfOk, IfErr, OnOk, OnErr, IsTrue, IsSome};
 ghost use Rattle.hack_files.specs.Files.{Change, Contents, CountsFailedCall};
 ghost use Rattle.hack_base.specs.Counters.{GrowsBy};
 ghost use Rattle.hack_files.specs.Files.{KeepsOthers, KeepsAll, Makes, MakesOrNot, puts, removes};
-ghost use Rattle.hack_files.specs.Files.{Grows, refused_path};
-ghost use Rattle.hack_files.specs.Faults.{IsOfRead, IsOfText, IsOfWrite};
+ghost use Rattle.hack_files.specs.Files.{Grows, IsUnseenUnlessAbsent, refused_path};
+ghost use Rattle.hack_files.specs.Faults.{IsOfRead, IsOfText, IsOfWrite, IsUnseenUnlessNoText};
 
 pub use crate::disk::Disk;
 pub use crate::failing::{FailingFiles, FailingWriter};
@@ -52,11 +53,19 @@ pub trait Files {
     /// `refuses_none` and `refuses_more` it holds over any number of calls.
     ghost refuses: { Self → Self → List (List ℕ) → Type 0 };
 
+    /// Which paths were unseen between two states of the files, in order: a read or a look failed
+    /// there, though something is at the path, or it isn't known whether. A read of a path that
+    /// holds nothing adds none, so nobody makes up a failure by it. By `unseen_none` and
+    /// `unseen_more` it holds over any number of calls.
+    ghost unseen: { Self → Self → List (List ℕ) → Type 0 };
+
     /// Returns the bytes at a path. A path that holds nothing is an error.
     fn read(&mut self, alloc: Global, path: &str) -> Result<Vec<u8>, FileFault>
         ensures stays { stays self.old self.new }
         ensures counted { CountsFailedCall (failed self.old) (failed self.new) result }
         ensures refused_none { refuses self.old self.new [] }
+        ensures unseen { IsUnseenUnlessAbsent (unseen self.old self.new) tells
+            (bytes_at self.old path.now) path.now result }
         ensures bytes { IfOk result (λ bytes. tells →
             bytes_at self.old path.now ≡ Some bytes.items) }
         ensures same { tells → KeepsAll (bytes_at self.old) (bytes_at self.new) }
@@ -68,6 +77,7 @@ pub trait Files {
         ensures stays { stays self.old self.new }
         ensures counted { CountsFailedCall (failed self.old) (failed self.new) result }
         ensures refused_path { refuses self.old self.new (refused_path result path.now) }
+        ensures unseen_none { unseen self.old self.new [] }
         ensures written { OnOk result (tells → bytes_at self.new path.now ≡ Some bytes.now) }
         ensures others { tells → KeepsOthers path.now (bytes_at self.old) (bytes_at self.new) }
         ensures traced { OnOk result (whole → Makes (puts path.now bytes.now ∷ [])
@@ -81,6 +91,7 @@ pub trait Files {
         ensures stays { stays self.old self.new }
         ensures counted { CountsFailedCall (failed self.old) (failed self.new) result }
         ensures refused_path { refuses self.old self.new (refused_path result path.now) }
+        ensures unseen_none { unseen self.old self.new [] }
         ensures written { OnOk result (tells → bytes_at self.new path.now ≡ Some bytes.now) }
         ensures others { tells → KeepsOthers path.now (bytes_at self.old) (bytes_at self.new) }
         ensures traced { OnOk result (whole → Makes (puts path.now bytes.now ∷ [])
@@ -96,6 +107,7 @@ pub trait Files {
         ensures stays { stays self.old self.new }
         ensures counted { CountsFailedCall (failed self.old) (failed self.new) result }
         ensures refused_none { refuses self.old self.new [] }
+        ensures unseen_path { unseen self.old self.new (refused_path result path.now) }
         ensures there { IfOk result (λ there. tells →
             IsTrue there ↔ IsSome (bytes_at self.old path.now)) }
         ensures same { tells → KeepsAll (bytes_at self.old) (bytes_at self.new) }
@@ -107,6 +119,7 @@ pub trait Files {
         ensures stays { stays self.old self.new }
         ensures counted { CountsFailedCall (failed self.old) (failed self.new) result }
         ensures refused_path { refuses self.old self.new (refused_path result path.now) }
+        ensures unseen_none { unseen self.old self.new [] }
         ensures removed { OnOk result (tells → bytes_at self.new path.now ≡ None) }
         ensures others { tells → KeepsOthers path.now (bytes_at self.old) (bytes_at self.new) }
         ensures traced { OnOk result (whole → Makes (removes path.now ∷ [])
@@ -126,6 +139,14 @@ pub trait Files {
     /// Whatever calls were made, some paths were refused, or none.
     ghost refuses_some: { (a b : Self) → Grows (failed a) (failed b)
         → (ps : List (List ℕ)) × refuses a b ps };
+
+    ghost unseen_none: { (a : Self) → unseen a a [] };
+
+    ghost unseen_more: { (a b c : Self) (ps qs : List (List ℕ)) → unseen a b ps
+        → unseen b c qs → unseen a c (ps ++ qs) };
+
+    /// It is known of each type whether it says what its paths hold.
+    ghost tells_or_not: { tells ⊎ ¬ tells };
 
     /// How many calls have failed.
     fn failures(&self) -> u64
@@ -212,6 +233,8 @@ pub fn read<F: Files>(alloc: Global, files: &mut F, path: &str) -> Result<Vec<u8
     ensures stays { F.stays files.old files.new }
     ensures counted { CountsFailedCall (F.failed files.old) (F.failed files.new) result }
     ensures refused_none { F.refuses files.old files.new [] }
+    ensures unseen { IsUnseenUnlessAbsent (F.unseen files.old files.new) F.tells
+        (F.bytes_at files.old path.now) path.now result }
     ensures bytes { IfOk result (λ bytes. F.tells →
         F.bytes_at files.old path.now ≡ Some bytes.items) }
     ensures same { F.tells → KeepsAll (F.bytes_at files.old) (F.bytes_at files.new) }
@@ -230,6 +253,8 @@ pub fn read_to_string<F: Files>(alloc: Global, files: &mut F, path: &str) -> Res
     ensures stays { F.stays files.old files.new }
     ensures ok { OnOk result (GrowsBy 0 (F.failed files.old) (F.failed files.new)) }
     ensures refused_none { F.refuses files.old files.new [] }
+    ensures unseen { IsUnseenUnlessNoText (F.unseen files.old files.new) F.tells
+        (F.bytes_at files.old path.now) path.now result }
     ensures text { IfOk result (λ text. F.tells →
         F.bytes_at files.old path.now ≡ Some (string_bytes text)) }
     ensures same { F.tells → KeepsAll (F.bytes_at files.old) (F.bytes_at files.new) }
@@ -251,6 +276,7 @@ pub fn exists<F: Files>(alloc: Global, files: &mut F, path: &str) -> Result<bool
     ensures stays { F.stays files.old files.new }
     ensures counted { CountsFailedCall (F.failed files.old) (F.failed files.new) result }
     ensures refused_none { F.refuses files.old files.new [] }
+    ensures unseen_path { F.unseen files.old files.new (refused_path result path.now) }
     ensures there { IfOk result (λ there. F.tells →
         IsTrue there ↔ IsSome (F.bytes_at files.old path.now)) }
     ensures same { F.tells → KeepsAll (F.bytes_at files.old) (F.bytes_at files.new) }
@@ -275,6 +301,7 @@ pub fn write<F: Files>(
     ensures stays { F.stays files.old files.new }
     ensures counted { CountsFailedCall (F.failed files.old) (F.failed files.new) result }
     ensures refused_path { F.refuses files.old files.new (refused_path result path.now) }
+    ensures unseen_none { F.unseen files.old files.new [] }
     ensures written { OnOk result (F.tells → F.bytes_at files.new path.now ≡ Some bytes.now) }
     ensures others { F.tells → KeepsOthers path.now (F.bytes_at files.old) (F.bytes_at files.new) }
     ensures traced { OnOk result (F.whole → Makes (puts path.now bytes.now ∷ [])

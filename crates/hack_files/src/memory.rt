@@ -1,7 +1,9 @@
 //! Files in memory, which keep each change that was made.
 
 ghost use Rattle.std.specs.Prelude.{◌≡◌, ◌++◌, ◌∷◌, [], List, ℕ, None, OnOk, OnErr, length, map};
+ghost use Rattle.std.proofs.Common.{inl};
 ghost use Rattle.std.specs.Option.{option_map};
+ghost use Rattle.hack_base.specs.Counters.{GrowsBy};
 ghost use Rattle.hack_files.specs.Files.{Change, GrowsAtLeastBy};
 ghost use Rattle.hack_files.specs.RefusalLaws.{at_least_none, at_least_more, at_least_some};
 ghost use Rattle.hack_files.specs.Memory.{held_after, change_of};
@@ -22,6 +24,8 @@ pub struct MemoryFiles {
     alloc: Global,
     steps: Vec<Step>,
     failures: u64,
+    /// How many calls memory was refused for.
+    starved: u64,
 }
 
 /// What the path holds after these steps.
@@ -43,11 +47,13 @@ impl MemoryFiles {
         ensures steps { result.steps.items ≡ [] }
         ensures absent { (path : List ℕ) → held_after result.steps.items path ≡ None }
         ensures failures { result.failures ≡ 0 }
+        ensures starved { result.starved ≡ 0 }
     {
         MemoryFiles {
             alloc,
             steps: Vec::new(alloc),
             failures: 0,
+            starved: 0,
         }
     }
 
@@ -56,6 +62,24 @@ impl MemoryFiles {
         ensures { result.now ≡ self.now.steps.items }
     {
         &self.steps
+    }
+
+    /// How many calls memory was refused for. Where that grows by none, no path was unseen.
+    pub fn starved(&self) -> u64
+        ensures { result ≡ self.now.starved }
+    {
+        self.starved
+    }
+
+    /// Counts a call for which memory was refused.
+    fn starve(&mut self) -> FileFault
+        ensures failures { GrowsBy 1 self.old.failures self.new.failures }
+        ensures starved { GrowsBy 1 self.old.starved self.new.starved }
+        ensures steps { self.new.steps ≡ self.old.steps }
+    {
+        count_failure(&mut self.failures);
+        count_failure(&mut self.starved);
+        FileFault::Memory
     }
 
     /// Adds one change, or none where memory is refused.
@@ -67,6 +91,7 @@ impl MemoryFiles {
             } ∷ []) }
         ensures err { OnErr result (self.new.steps.items ≡ self.old.steps.items) }
         ensures failures { self.new.failures ≡ self.old.failures }
+        ensures starved { self.new.starved ≡ self.old.starved }
     {
         let path = String::from_str(self.alloc, path)?;
         let bytes = match bytes {
@@ -98,6 +123,15 @@ impl Files for MemoryFiles {
 
     ghost refuses_some = { λ a b grown. at_least_some a.failures b.failures grown };
 
+    ghost unseen = { λ old new paths. GrowsAtLeastBy (length paths) old.starved new.starved };
+
+    ghost unseen_none = { λ files. at_least_none files.starved };
+
+    ghost unseen_more = { λ a b c ps qs.
+        at_least_more ps qs a.starved b.starved c.starved };
+
+    ghost tells_or_not = { inl tt };
+
     ghost bytes_at = { λ files. held_after files.steps.items };
 
     ghost trace = { λ files. map change_of files.steps.items };
@@ -111,20 +145,14 @@ impl Files for MemoryFiles {
         };
         match bytes.to_vec(alloc) {
             Ok(copy) => Ok(copy),
-            Err(_) => {
-                count_failure(&mut self.failures);
-                Err(FileFault::Memory)
-            }
+            Err(_) => Err(self.starve()),
         }
     }
 
     fn write(&mut self, path: &str, bytes: &[u8]) -> Result<(), FileFault> {
         match self.add(path, Some(bytes)) {
             Ok(()) => Ok(()),
-            Err(_) => {
-                count_failure(&mut self.failures);
-                Err(FileFault::Memory)
-            }
+            Err(_) => Err(self.starve()),
         }
     }
 
@@ -135,10 +163,7 @@ impl Files for MemoryFiles {
     fn remove(&mut self, path: &str) -> Result<(), FileFault> {
         match self.add(path, None) {
             Ok(()) => Ok(()),
-            Err(_) => {
-                count_failure(&mut self.failures);
-                Err(FileFault::Memory)
-            }
+            Err(_) => Err(self.starve()),
         }
     }
 

@@ -55,8 +55,6 @@ pub(crate) fn hunt_one<R: Judge>(
     ensures fault { IfErr result (λ why. EndsAt R.ran R.ended (context_view cx.now)
         (spot_view spot) most_runs why plan.old plan.new runner.old runner.new) }
 {
-    // This call promises that what was loaded fits together.
-    let _ = cx.workspace_members();
     let features = cx.pkg_features(spot.id);
     let pkg = cx.packages(spot.id);
     let unbound = rules_without_depth(alloc, cx, pkg, features)?;
@@ -182,7 +180,7 @@ fn hunt_aim<R: Judge>(
     }
 }
 
-/// What is told of what a search found.
+/// What is reported of what a search found.
 fn told(alloc: Global, aim: Aim<'_>, found: &Found) -> Result<Hunted, AllocError>
     requires { (most : Option ℕ)
         × IsFinding (search_of aim.closures.now) most (finding_of found.now) }

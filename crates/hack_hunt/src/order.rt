@@ -1,4 +1,4 @@
-//! The order in which sets are told: that in which a powerset lists them.
+//! The order in which sets are reported: that in which a powerset lists them.
 
 ghost use Rattle.std.specs.List.Sorted.{IsPermutation};
 

@@ -149,8 +149,6 @@ fn searched_package(
         ≡ candidate_notes_at (context_view cx.now) single id.index) }
     ensures err { IfErr result (λ e. e ≡ PlanFault.Memory) }
 {
-    // This call promises that what was loaded fits together.
-    let _ = cx.workspace_members();
     let features = cx.pkg_features(id);
     let pkg = cx.packages(id);
     let args = cx.args();

@@ -10,3 +10,5 @@ mod CutLemmas
 mod KnownLemmas
 pub mod OnceLemmas
 pub mod RefusingLemmas
+pub mod FailedLemmas
+mod WayLemmas

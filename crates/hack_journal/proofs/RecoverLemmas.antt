@@ -36,9 +36,6 @@ read_of folder held text raw paths is found only = record {
       ap (placed folder) (only t.raw t.paths one) ∙ t.are;
 }
 
-pub read_none : (s : Spot) (m : Contents) → AreRead s m 0 []
-read_none s m = record { files = refl; only = λ fs h. sym h }
-
 -- one file more was read
 pub read_more : (s : Spot) (m : Contents) (k : ℕ) (es fs : List Edit) → AreRead s m k es → IsReadMore s.folder (m (file_at s.journal k)) es fs → AreRead s m (suc k) fs
 read_more s m k es fs h more = record {
@@ -336,9 +333,6 @@ adds_step j o e es m n w before mid now keeps back rest told more =
         added = more.added ∙ ap (λ (l : List (List ℕ)). l ++ more.paths) other.1 ∙ append_assoc before (e.path ∷ []) more.paths;
       }
     ]
-
-pub adds_none : (m n : Contents) (before : List (List ℕ)) → AddsChanged m n [] before before
-adds_none m n before = record { paths = []; are = refl; added = sym (append-nil before) }
 
 -- what the paths of entries hold is not changed by the removal of the row
 pub changed_along : (j : List ℕ) (o : Contents) (es : List Edit) (m w v : Contents) (paths : List (List ℕ)) → KeepFirst j o es → ((q : List ℕ) → is_of_journal j q ≡ false → v q ≡ w q) → AreChanged m w es paths → AreChanged m v es paths

@@ -218,9 +218,6 @@ without_file j k m n same q = ap (λ f. f q) (without_same j m n (λ p out. same
 pub without_at : (j : List ℕ) (m : Contents) (q : List ℕ) → is_of_journal j q ≡ false → without j m q ≡ m q
 without_at j m q out = ap (λ b. cond b None (m q)) out
 
-pub without_others : (j p : List ℕ) (m n : Contents) → KeepsOthers p m n → KeepsOthers p (without j m) (without j n)
-without_others j p m n keeps q ne = ap (λ x. cond (is_of_journal j q) None x) (keeps q ne)
-
 pub hides : (j : List ℕ) (cs t u : List Change) (m n : Contents) → Makes cs t u m n → Makes (changes_besides j cs) (changes_besides j t) (changes_besides j u) (without j m) (without j n)
 hides j cs t u m n h = record { traced = ap (changes_besides j) h.traced ∙ but_append j t cs; holds = ap (without j) h.holds ∙ without_after j cs m }
 

@@ -21,6 +21,7 @@ pub record ChangesOnly {F T E : Type 0} (f : Filing F) (path : List ℕ) (old ne
   pub stays : f.stays old new
   pub counted : CountsFailedCall (f.failed old) (f.failed new) result
   pub refused_path : f.refuses old new (refused_path result path)
+  pub unseen_none : f.unseen old new []
   pub others : f.tells → KeepsOthers path (f.bytes_at old) (f.bytes_at new)
 
 -- a call at a lockfile leaves the other files alone, and any other call the lockfiles

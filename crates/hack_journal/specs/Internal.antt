@@ -2,6 +2,7 @@
 use Rattle.std.specs.Prelude.{◌≡◌, ◌≢◌, ◌⊎◌, ◌++◌, [], ◌∷◌, ℕ, false, true, List, Option, Some, None, IsSome, string_bytes}
 use Rattle.hack_base.specs.Counters.{GrowsBy}
 use Rattle.hack_files.specs.Files.{Change, Contents, Makes}
+use Rattle.hack_files.specs.declared.fs.FsFault.TheVariants as fs
 use Rattle.hack_journal.specs.Journal.{Edit}
 use Rattle.hack_journal.specs.Rows.{Spot, AreFirst, IsFresh, IsTextOf, file_at, is_of_journal}
 use Rattle.hack_journal.specs.SafeFiles.{KeepFirst, StaysSafe, gives, changes_besides, IsJournaled, first_entry_of}
@@ -44,6 +45,26 @@ FailsAt P Memory = Unit {0}
 FailsAt P (NotJournal j) = ⊥
 FailsAt P (Changed p j) = ⊥
 FailsAt P (Files f) = NamesPath P f
+
+-- this path couldn't be read, or memory was refused
+abbrev pub IsReadFault : List ℕ → RecoverFault → Type 0
+IsReadFault path Memory = Unit {0}
+IsReadFault path (NotJournal j) = ⊥
+IsReadFault path (Changed p j) = ⊥
+IsReadFault path (Files (fs.Read p)) = string_bytes p ≡ path
+IsReadFault path (Files (fs.Write p)) = ⊥
+IsReadFault path (Files (fs.NotText p)) = ⊥
+IsReadFault path (Files fs.Memory) = ⊥
+
+-- this path couldn't be written or removed, or memory was refused
+abbrev pub IsWriteFault : List ℕ → RecoverFault → Type 0
+IsWriteFault path Memory = Unit {0}
+IsWriteFault path (NotJournal j) = ⊥
+IsWriteFault path (Changed p j) = ⊥
+IsWriteFault path (Files (fs.Read p)) = ⊥
+IsWriteFault path (Files (fs.Write p)) = string_bytes p ≡ path
+IsWriteFault path (Files (fs.NotText p)) = ⊥
+IsWriteFault path (Files fs.Memory) = ⊥
 
 -- memory was refused
 abbrev pub IsMemoryRefused : RecoverFault → Type 0

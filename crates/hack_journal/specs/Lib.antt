@@ -7,5 +7,6 @@ pub mod Recovery
 pub mod LockfilesApart
 pub mod FileCalls
 pub mod Internal
+pub mod FailedCalls
 pub mod Refusing
 pub mod RefusingLaws

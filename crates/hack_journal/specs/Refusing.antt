@@ -18,6 +18,16 @@ pub record IsUnkept {U : Type 0} (u : Noting U) (path : List ℕ) : Type 0 where
   pub after : U
   pub missed : u.misses before after path
 
+-- these files left this path unseen
+pub record IsUnseen {F : Type 0} (f : Filing F) (path : List ℕ) : Type 0 where
+  pub before : F
+  pub after : F
+  pub unseen : f.unseen before after (path ∷ [])
+
+-- so they did; or it isn't told whether something is there
+abbrev pub IsUnseenOrUntold : {F : Type 0} → Type 0 → Filing F → List ℕ → Type 0
+IsUnseenOrUntold tells f path = IsUnseen f path ⊎ ¬ tells
+
 -- a write or removal of this path was refused by the files below, or couldn't be kept
 abbrev pub IsRefusedOrUnkept : {F U : Type 0} → Filing F → Noting U → List ℕ → Type 0
 IsRefusedOrUnkept f u path = IsRefused f path ⊎ IsUnkept u path
@@ -30,6 +40,10 @@ TellsItsOwn u path result old new = (new ≡ old) ⊎ (IsErr result × u.misses 
 pub record HoldsByKind (P Q : List ℕ → Type 0) (path : List ℕ) : Type 0 where
   pub files : ¬ IsTrue (is_lockfile path) → P path
   pub lockfiles : IsTrue (is_lockfile path) → Q path
+
+-- the path was left unseen by those of two files that it goes to; or not both tell what they hold
+abbrev pub UnseenByKind : {A B : Type 0} → Filing A → Filing B → List ℕ → Type 0
+UnseenByKind a b = HoldsByKind (IsUnseenOrUntold (a.tells × b.tells) a) (IsUnseenOrUntold (a.tells × b.tells) b)
 
 -- P holds of each of these paths, and at least as many calls failed
 pub record AreJust (P : List ℕ → Type 0) (paths : List (List ℕ)) (old new : ℕ) : Type 0 where

@@ -1,5 +1,5 @@
 -- What the laws of refused writes are proved by.
-use Rattle.std.proofs.Common.{ℕ, List, [], ◌++◌, ◌+◌, arith}
+use Rattle.std.proofs.Common.{◌⊎◌, inl, inr, ℕ, List, [], ◌++◌, ◌+◌, arith}
 use Rattle.std.proofs.lemmas.List.Elements.{All-append, All-nil}
 use Rattle.hack_base.specs.Counters.{GrowsBy}
 use Rattle.hack_files.specs.Files.{Grows}
@@ -14,6 +14,12 @@ just_more P ps qs a b c f g = record { each = All-append P ps qs f.each g.each; 
 
 pub just_some : (P : List ℕ → Type 0) (a b : ℕ) → Grows a b → (ps : List (List ℕ)) × AreJust P ps a b
 just_some P a b grown = ([], record { each = All-nil P; failed = λ low. let now = grown.1 low in (omega (arith, now), omega (arith, now)) })
+
+-- of two it is known whether both are so
+pub both_or_not : (A B : Type 0) → A ⊎ ¬ A → B ⊎ ¬ B → (A × B) ⊎ ¬ (A × B)
+both_or_not A B (inl a) (inl b) = inl (a, b)
+both_or_not A B (inl a) (inr never) = inr (λ both. never both.1)
+both_or_not A B (inr never) h = inr (λ both. never both.0)
 
 pub grows_none : (n : ℕ) → GrowsBy 0 n n
 grows_none n = λ low. omega (arith, low)

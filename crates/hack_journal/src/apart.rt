@@ -47,9 +47,11 @@ impl<A: Files, B: Files> Apart<A, B> {
 
 impl<A: Files, B: Files> Files for Apart<A, B> {
     ghost use Rattle.std.proofs.Common.{refl, ◌∙◌};
+    ghost use Rattle.hack_journal.specs.FailedCalls.{LooksOrUnseen, ReadsOrUnseen};
     ghost use Rattle.hack_journal.specs.FileCalls.{OnlyLooks, ChangesOnly, GoesToOne};
     ghost use Rattle.hack_journal.specs.Refusing.{AreJust, GrowsWithin, HoldsByKind, IsRefused};
-    ghost use Rattle.hack_journal.specs.RefusingLaws.{just_none, just_more, just_some};
+    ghost use Rattle.hack_journal.specs.Refusing.{UnseenByKind};
+    ghost use Rattle.hack_journal.specs.RefusingLaws.{both_or_not, just_none, just_more, just_some};
     ghost use Rattle.hack_journal.specs.RefusingLaws.{within_none, within_more};
 
     ghost tells = { A.tells × B.tells };
@@ -93,6 +95,18 @@ impl<A: Files, B: Files> Files for Apart<A, B> {
     ghost refuses_some = { λ a b grown. just_some (HoldsByKind (IsRefused A.Files) (IsRefused B.Files))
         a.failures b.failures grown };
 
+    // Each of these paths was left unseen by those files that it goes to; or one of the two doesn't
+    // tell what it holds.
+    ghost unseen = { λ old new paths.
+        AreJust (UnseenByKind A.Files B.Files) paths old.failures new.failures };
+
+    ghost unseen_none = { λ files. just_none (UnseenByKind A.Files B.Files) files.failures };
+
+    ghost unseen_more = { λ a b c ps qs. just_more (UnseenByKind A.Files B.Files)
+        ps qs a.failures b.failures c.failures };
+
+    ghost tells_or_not = { both_or_not A.tells B.tells A.tells_or_not B.tells_or_not };
+
     ghost bytes_at = { λ s. apart (A.bytes_at s.files) (B.bytes_at s.lockfiles) };
 
     ghost trace = { λ _. [] };
@@ -104,6 +118,7 @@ impl<A: Files, B: Files> Files for Apart<A, B> {
         ensures bytes { IfOk result (λ bytes. A.tells × B.tells →
             apart (A.bytes_at self.old.files) (B.bytes_at self.old.lockfiles) path.now ≡
             Some bytes.items) }
+        ensures unseen { ReadsOrUnseen ⟦<Apart<A, B> as Files>⟧ path.now self.old self.new result }
         ensures one { GoesToOne path.now self.old self.new }
     {
         let outcome = if is_lockfile(path) {
@@ -137,6 +152,8 @@ impl<A: Files, B: Files> Files for Apart<A, B> {
         ensures looks { OnlyLooks ⟦<Apart<A, B> as Files>⟧ self.old self.new result }
         ensures there { IfOk result (λ there. A.tells × B.tells → IsTrue there ↔
             IsSome (apart (A.bytes_at self.old.files) (B.bytes_at self.old.lockfiles) path.now)) }
+        ensures unseen_path { LooksOrUnseen ⟦<Apart<A, B> as Files>⟧ path.now
+            self.old self.new result }
         ensures one { GoesToOne path.now self.old self.new }
     {
         let outcome = if is_lockfile(path) {

@@ -4,7 +4,9 @@ ghost use Rattle.std.specs.Prelude.{◌≡◌, ◌↔◌, [], ◌∷◌, IfOk, O
 ghost use Rattle.std.specs.Option.{option_map};
 ghost use Rattle.hack_files.specs.Files.{CountsFailedCall, KeepsOthers, KeepsAll, Makes};
 ghost use Rattle.hack_files.specs.Files.{MakesOrNot, refused_path};
+ghost use Rattle.hack_journal.specs.FailedCalls.{FailsRefusedAt, FailsUnseen, FailsUnseenAt};
 ghost use Rattle.hack_journal.specs.Journal.{edit_of, edits_of};
+ghost use Rattle.hack_journal.specs.Recovery.{HasEntry};
 ghost use Rattle.hack_journal.specs.SafeFiles.{AreBack, gives};
 
 use crate::entries::same;
@@ -23,6 +25,7 @@ pub fn look<F: Files>(
     ensures failures { CountsFailedCall (F.failed files.old) (F.failed files.new) result }
     ensures held { IfOk result (λ held. F.tells →
         F.bytes_at files.old path.now ≡ option_map (λ bytes. bytes.items) held) }
+    ensures unseen { FailsUnseenAt F.Files path.now files.old files.new result }
     ensures same { F.tells → KeepsAll (F.bytes_at files.old) (F.bytes_at files.new) }
     ensures untraced { F.whole → Makes [] (F.trace files.old) (F.trace files.new)
         (F.bytes_at files.old) (F.bytes_at files.new) }
@@ -53,6 +56,7 @@ pub fn put<F: Files>(
     ensures stays { F.stays files.old files.new }
     ensures failures { CountsFailedCall (F.failed files.old) (F.failed files.new) result }
     ensures refused_path { F.refuses files.old files.new (refused_path result path.now) }
+    ensures calls { FailsRefusedAt F.Files path.now files.old files.new result }
     ensures put { OnOk result (F.tells →
         F.bytes_at files.new path.now ≡ option_map (λ bytes. bytes.now) bytes.entry) }
     ensures others { F.tells → KeepsOthers path.now (F.bytes_at files.old) (F.bytes_at files.new) }
@@ -76,6 +80,7 @@ fn is_back<F: Files>(alloc: Global, files: &mut F, entry: &Entry) -> Result<bool
     ensures failures { CountsFailedCall (F.failed files.old) (F.failed files.new) result }
     ensures back { IfOk result (λ back. F.tells → IsTrue back ↔
         (F.bytes_at files.old (edit_of entry.now).path ≡ (edit_of entry.now).held)) }
+    ensures unseen { FailsUnseenAt F.Files (edit_of entry.now).path files.old files.new result }
     ensures same { F.tells → KeepsAll (F.bytes_at files.old) (F.bytes_at files.new) }
     ensures untraced { F.whole → Makes [] (F.trace files.old) (F.trace files.new)
         (F.bytes_at files.old) (F.bytes_at files.new) }
@@ -85,7 +90,7 @@ fn is_back<F: Files>(alloc: Global, files: &mut F, entry: &Entry) -> Result<bool
 }
 
 /// Returns whether the paths of all these entries hold what they held at first.
-#[tactic(auto, using(crate::proofs::CountLemmas::grows_then))]
+#[tactic(auto, using(crate::proofs::FailedLemmas::call_steps))]
 pub fn are_back<F: Files>(
     alloc: Global,
     files: &mut F,
@@ -95,6 +100,8 @@ pub fn are_back<F: Files>(
     ensures failures { CountsFailedCall (F.failed files.old) (F.failed files.new) result }
     ensures back { IfOk result (λ back. F.tells →
         IsTrue back ↔ AreBack (edits_of entries.now) (F.bytes_at files.old)) }
+    ensures unseen { FailsUnseen F.Files (HasEntry (edits_of entries.now))
+        files.old files.new result }
     ensures same { F.tells → KeepsAll (F.bytes_at files.old) (F.bytes_at files.new) }
     ensures untraced { F.whole → Makes [] (F.trace files.old) (F.trace files.new)
         (F.bytes_at files.old) (F.bytes_at files.new) }

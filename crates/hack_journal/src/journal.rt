@@ -3,7 +3,7 @@
 //! A person can read it. Each line of a file begins with a space, as does each line of a path but
 //! the first, so a line that begins with a letter is the journal's own.
 
-ghost use Rattle.std.specs.Prelude.{◌≡◌, ◌++◌, ◌<◌, ◌≤◌, [], ◌∷◌, ℕ, List, Option, OnOk, IfOk};
+ghost use Rattle.std.specs.Prelude.{◌≡◌, ◌++◌, ◌<◌, ◌≤◌, [], ◌∷◌, ℕ, List, Option, Some, OnOk, IfOk};
 ghost use Rattle.std.specs.Prelude.{length, string_bytes};
 ghost use Rattle.std.specs.Option.{option_map};
 ghost use Rattle.std.specs.Str.{IsUtf8};
@@ -12,7 +12,10 @@ ghost use Rattle.hack_journal.specs.Journal.{lines, content_text, edit_text, edi
 ghost use Rattle.hack_journal.specs.Journal.{journal_text};
 ghost use Rattle.hack_journal.specs.Journal.{ReadsValue};
 ghost use Rattle.hack_journal.specs.Internal.{BeginsWithoutSpace};
+ghost use Rattle.hack_journal.specs.Rows.{IsNoteOf};
 
+use crate::place::relative;
+use hack_files::fs::FileFault;
 use std::alloc::{AllocError, AllocFailed, Global};
 use thiserror::Error;
 
@@ -116,7 +119,7 @@ pub fn spell(alloc: Global, entries: &[Entry]) -> Result<Vec<u8>, AllocError>
 }
 
 /// Returns the text of a journal of this entry alone, with this path in place of its own.
-pub(crate) fn spell_at(alloc: Global, path: &str, entry: &Entry) -> Result<Vec<u8>, AllocError>
+fn spell_at(alloc: Global, path: &str, entry: &Entry) -> Result<Vec<u8>, AllocError>
     ensures { IfOk result (λ text. text.items ≡
         journal_text (record (edit_of entry.now) { path = path.now } ∷ [])) }
 {
@@ -125,6 +128,20 @@ pub(crate) fn spell_at(alloc: Global, path: &str, entry: &Entry) -> Result<Vec<u
     put_entry(&mut text, path, entry)?;
     text.extend_from_slice(b"end\n")?;
     Ok(text)
+}
+
+/// Returns the text that keeps an entry. It is refused where no way leads from the folder to its path.
+pub(crate) fn note_of(alloc: Global, folder: &str, entry: &Entry) -> Result<Vec<u8>, FileFault>
+    ensures { IfOk result (λ text. IsNoteOf folder.now (Some text.items) (edit_of entry.now)) }
+{
+    match relative(alloc, folder, &entry.path) {
+        Ok(Some(way)) => match spell_at(alloc, &way, entry) {
+            Ok(text) => Ok(text),
+            Err(_) => Err(FileFault::Memory),
+        },
+        Ok(None) => Err(FileFault::Device),
+        Err(_) => Err(FileFault::Memory),
+    }
 }
 
 /// Returns the bytes of lines, and what follows the line feed that ends them.

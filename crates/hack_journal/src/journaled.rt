@@ -1,5 +1,4 @@
-//! Files that keep what they replace: before a path is changed, what it holds is written to a
-//! journal.
+//! Files that keep what they replace: what a path holds is first written to a journal.
 //!
 //! Wherever the program ends, each path holds what it held at first, or the journal has it, and
 //! [`crate::recover::recover`] puts it back.
@@ -15,7 +14,7 @@ ghost use Rattle.std.specs.Option.{option_map};
 ghost use Rattle.hack_files.specs.Files.{Contents, CountsFailedCall, KeepsOthers, KeepsAll};
 ghost use Rattle.hack_files.specs.Files.{Makes, MakesOrNot, Grows, puts, refused_path, removes};
 ghost use Rattle.hack_journal.specs.Journal.{edit_of};
-ghost use Rattle.hack_journal.specs.Rows.{spot_of, file_at, is_of_journal, IsNoteOf, KeepsBeside};
+ghost use Rattle.hack_journal.specs.Rows.{spot_of, file_at, is_of_journal, KeepsBeside};
 ghost use Rattle.hack_journal.specs.SafeFiles.{SomeEntryHasBytes, first_entry_of, AreBack, gives};
 ghost use Rattle.hack_journal.specs.SafeFiles.{IsJournaled, Stays, changes_besides, without};
 ghost use Rattle.hack_journal.specs.Internal.{Hidden, IsHeld, IsNotable, ShortensRow};
@@ -24,9 +23,9 @@ ghost use Rattle.hack_journal.specs.Strangers.{is_edit_of_manifest};
 
 use crate::contents::{Writing, are_back, look, put};
 use crate::entries::{copy, first, tells};
-use crate::journal::{Entry, spell_at};
+use crate::journal::{Entry, note_of};
 use crate::notes::Notes;
-use crate::place::{Place, relative};
+use crate::place::Place;
 use crate::strangers::edit_of_manifest;
 use crate::unkept::Unkept;
 use hack_files::fs::{FileFault, Files, count_failure, counted};
@@ -48,6 +47,7 @@ pub struct Journaled<F: Files, U: Unkept> {
 }
 
 impl<F: Files, U: Unkept> Journaled<F, U> {
+    ghost use Rattle.hack_journal.specs.FailedCalls.{FailsRemoval, FailsToEnd};
     ghost use Rattle.hack_journal.specs.FileCalls.{StaysJournaled, spot_in};
 
     /// Files over these, of which nothing is kept yet, with no failed call counted. The journal is
@@ -72,8 +72,7 @@ impl<F: Files, U: Unkept> Journaled<F, U> {
         }
     }
 
-    /// Returns the files below, and who was told of what couldn't be kept. A journal that is still
-    /// there stays.
+    /// Returns the files below, and who was told of what couldn't be kept. A journal there stays.
     pub fn into_inner(self) -> (F, U)
         ensures files { result.0 ≡ self.files }
         ensures unkept { result.1 ≡ self.unkept }
@@ -125,21 +124,6 @@ impl<F: Files, U: Unkept> Journaled<F, U> {
         edit_of_manifest(self.alloc, path, held, bytes)
     }
 
-    /// The text that keeps an entry. It is refused where no way leads from the folder to the path.
-    fn note_of(&self, entry: &Entry) -> Result<Vec<u8>, FileFault>
-        ensures { IfOk result (λ text. IsNoteOf (string_bytes self.now.folder)
-            (Some text.items) (edit_of entry.now)) }
-    {
-        match relative(self.alloc, &self.folder, &entry.path) {
-            Ok(Some(way)) => match spell_at(self.alloc, &way, entry) {
-                Ok(text) => Ok(text),
-                Err(_) => Err(FileFault::Memory),
-            },
-            Ok(None) => Err(FileFault::Device),
-            Err(_) => Err(FileFault::Memory),
-        }
-    }
-
     /// Looks that the row will end behind the file that comes next, and returns the path there: what
     /// is there already would become part of the row.
     fn look_ahead(&mut self) -> Result<String, FileFault>
@@ -185,7 +169,7 @@ impl<F: Files, U: Unkept> Journaled<F, U> {
             self.old.notes.entries (F.bytes_at self.old.files) (edit_of entry)) →
             StaysJournaled F.Files self.old self.new }
     {
-        let text = self.note_of(&entry)?;
+        let text = note_of(self.alloc, self.folder.as_str(), &entry)?;
         let after = self.look_ahead()?;
         self.files.write(self.notes.next(), &text)?;
         match self.notes.push(entry, after) {
@@ -284,6 +268,7 @@ impl<F: Files, U: Unkept> Journaled<F, U> {
             record self.old { files = self.new.files; notes = self.new.notes } }
         ensures below { CountsFailedCall (F.failed self.old.files)
             (F.failed self.new.files) result }
+        ensures row { FailsRemoval F.Files self.old.notes self.old.files self.new.files result }
         ensures gone { OnOk result (F.tells → (i : ℕ) → i < length self.old.notes.entries + 1 →
             F.bytes_at self.new.files (file_at self.old.notes.journal i) ≡ None) }
         ensures others { F.tells → KeepsBeside self.old.notes.journal
@@ -312,9 +297,10 @@ impl<F: Files, U: Unkept> Journaled<F, U> {
         ensures place { spot_in self.new ≡ spot_in self.old }
         ensures counted { CountsFailedCall self.old.failures self.new.failures result }
 
-        // It fails only where a call of the files below failed.
+        // It fails only where a path that it looks at was unseen, or a removal was refused.
         ensures below { CountsFailedCall (F.failed self.old.files)
             (F.failed self.new.files) result }
+        ensures why { FailsToEnd F.Files self.old.notes self.old.files self.new.files result }
         ensures unkept { self.new.unkept ≡ self.old.unkept }
         // Nothing but the files of the row and the one that would come next is changed.
         ensures others { F.tells → KeepsBeside self.old.notes.journal
@@ -347,12 +333,15 @@ impl<F: Files, U: Unkept> Journaled<F, U> {
 impl<F: Files, U: Unkept> Files for Journaled<F, U> {
     ghost use Rattle.std.proofs.Common.{refl, ◌∙◌};
     ghost use Rattle.hack_journal.specs.SafeLaws.{stays_none, stays_join, makes_none};
+    ghost use Rattle.hack_journal.specs.FailedCalls.{LooksOrUnseen, ReadsOrUnseen};
     ghost use Rattle.hack_journal.specs.FileCalls.{ChangesOnly, OnlyLooks, spot_in};
-    ghost use Rattle.hack_journal.specs.Refusing.{AreJust, GrowsWithin};
+    ghost use Rattle.hack_journal.specs.Refusing.{AreJust, GrowsWithin, IsUnseenOrUntold};
     ghost use Rattle.hack_journal.specs.RefusingLaws.{just_none, just_more, just_some};
     ghost use Rattle.hack_journal.specs.RefusingLaws.{within_none, within_more};
 
     ghost tells = { F.tells };
+
+    ghost tells_or_not = { F.tells_or_not };
 
     ghost whole = { F.tells × F.whole };
 
@@ -394,6 +383,15 @@ impl<F: Files, U: Unkept> Files for Journaled<F, U> {
     ghost refuses_some = { λ a b grown. just_some (IsRefusedOrUnkept F.Files U.Unkept)
         a.failures b.failures grown };
 
+    // Each of these paths was left unseen by the files below, or they don't tell what they hold.
+    ghost unseen = { λ old new paths.
+        AreJust (IsUnseenOrUntold F.tells F.Files) paths old.failures new.failures };
+
+    ghost unseen_none = { λ files. just_none (IsUnseenOrUntold F.tells F.Files) files.failures };
+
+    ghost unseen_more = { λ a b c ps qs. just_more (IsUnseenOrUntold F.tells F.Files)
+        ps qs a.failures b.failures c.failures };
+
     ghost bytes_at = { λ files. without files.notes.journal (F.bytes_at files.files) };
 
     ghost trace = { λ files. changes_besides files.notes.journal (F.trace files.files) };
@@ -404,6 +402,8 @@ impl<F: Files, U: Unkept> Files for Journaled<F, U> {
         ensures looks { OnlyLooks ⟦<Journaled<F, U> as Files>⟧ self.old self.new result }
         ensures bytes { IfOk result (λ bytes. F.tells → without self.old.notes.journal
             (F.bytes_at self.old.files) path.now ≡ Some bytes.items) }
+        ensures unseen { ReadsOrUnseen ⟦<Journaled<F, U> as Files>⟧ path.now
+            self.old self.new result }
         // Not even a journal is written.
         ensures below { F.whole → Makes [] (F.trace self.old.files) (F.trace self.new.files)
             (F.bytes_at self.old.files) (F.bytes_at self.new.files) }
@@ -449,6 +449,8 @@ impl<F: Files, U: Unkept> Files for Journaled<F, U> {
         ensures looks { OnlyLooks ⟦<Journaled<F, U> as Files>⟧ self.old self.new result }
         ensures there { IfOk result (λ there. F.tells → IsTrue there ↔ IsSome
             (without self.old.notes.journal (F.bytes_at self.old.files) path.now)) }
+        ensures unseen_path { LooksOrUnseen ⟦<Journaled<F, U> as Files>⟧ path.now
+            self.old self.new result }
         // Not even a journal is written.
         ensures below { F.whole → Makes [] (F.trace self.old.files) (F.trace self.new.files)
             (F.bytes_at self.old.files) (F.bytes_at self.new.files) }

@@ -17,7 +17,7 @@ use std::marker::Model;
 pub struct Notes {
     journal: String,
     entries: Vec<Entry>,
-    // The paths of the files behind the first: the last one is of the file that comes next.
+    /// The paths of the files behind the first: the last one is of the file that comes next.
     later: Vec<String>,
 }
 

@@ -3,7 +3,9 @@
 //! The first file has the journal's own path. Each later one has that path, a `~` and its number.
 //! So an edit adds one file and rewrites none.
 
-ghost use Rattle.std.specs.Prelude.{◌≡◌, IfOk, IfSome, false, string_bytes};
+ghost use Rattle.std.specs.Prelude.{◌≡◌, ◌≢◌, ◌↔◌, ◌+◌, ◌++◌, ℕ, List, IfNone, IfOk, IfSome, IsTrue};
+ghost use Rattle.std.specs.Prelude.{codes, false, length, string_bytes, true};
+ghost use Rattle.std.specs.List.{repeat};
 ghost use Rattle.hack_base.specs.PathTexts.{is_rooted};
 ghost use Rattle.hack_journal.specs.Rows.{file_at, is_of_journal, leads_to};
 
@@ -34,8 +36,8 @@ pub(crate) fn is_of_journal(journal: &str, path: &str) -> bool
     path.starts_with(journal)
 }
 
-/// The path that leads from a folder to this one. `None` where none is found: the path has detours,
-/// or it doesn't begin at the root and the folder does, or the other way round.
+/// The path that leads from a folder to this one. `None` where none is found: from an absolute folder
+/// none leads to a path that is relative or has detours, and to each other one some does.
 pub(crate) fn relative(
     alloc: Global,
     folder: &str,
@@ -45,13 +47,30 @@ pub(crate) fn relative(
         is_rooted (string_bytes way) ≡ false)) }
     ensures leads { IfOk result (λ found. IfSome found (λ way.
         leads_to folder.now (string_bytes way) ≡ path.now)) }
+    ensures none { is_rooted folder.now ≡ true → IfOk result (λ found. IfNone found
+        ((way : List ℕ) → is_rooted way ≡ false → leads_to folder.now way ≢ path.now)) }
 {
-    let way = way_to(alloc, folder, path)?;
-    let end = absolute(alloc, folder, way.as_str())?;
-    if way.starts_with('/') || end.as_str() != path {
-        return Ok(None);
+    let near = near_way(alloc, folder, path)?;
+    if leads(alloc, folder, near.as_str(), path)? {
+        return Ok(Some(near));
     }
-    Ok(Some(way))
+    let far = far_way(alloc, folder, path)?;
+    if leads(alloc, folder, far.as_str(), path)? {
+        return Ok(Some(far));
+    }
+    Ok(None)
+}
+
+/// Whether a path is relative, and leads from a folder to this one.
+fn leads(alloc: Global, folder: &str, way: &str, path: &str) -> Result<bool, AllocError>
+    ensures { IfOk result (λ leads. IsTrue leads
+        ↔ ((is_rooted way.now ≡ false) × (leads_to folder.now way.now ≡ path.now))) }
+{
+    if way.starts_with('/') {
+        return Ok(false);
+    }
+    let end = absolute(alloc, folder, way)?;
+    Ok(end.as_str() == path)
 }
 
 /// Where a path leads from a folder.
@@ -74,7 +93,7 @@ fn inside<'a>(folder: &str, path: &'a str) -> Option<&'a str> {
 }
 
 /// The way from a folder to a path: up until the path is inside, and then down.
-fn way_to(alloc: Global, folder: &str, path: &str) -> Result<String, AllocError> {
+fn near_way(alloc: Global, folder: &str, path: &str) -> Result<String, AllocError> {
     let mut way = String::new(alloc);
     let mut above = folder;
     for _ in 0..folder.len() {
@@ -85,6 +104,17 @@ fn way_to(alloc: Global, folder: &str, path: &str) -> Result<String, AllocError>
         way.push_str("../")?;
         above = parent(above);
     }
+    way.push_str(path)?;
+    Ok(way)
+}
+
+/// The way from an absolute folder up to the root, and then down: it climbs more often than there
+/// are folders, which at the root has no effect.
+fn far_way(alloc: Global, folder: &str, path: &str) -> Result<String, AllocError>
+    ensures { IfOk result (λ way.
+        string_bytes way ≡ repeat (length folder.now + 1) (codes "../") ++ path.now) }
+{
+    let mut way = "../".repeat(alloc, folder.len() + 1)?;
     way.push_str(path)?;
     Ok(way)
 }

@@ -11,9 +11,10 @@ ghost use Rattle.hack_journal.specs.SafeFiles.{IsSafe, IsSafeBy, StaysSafe, Keep
 ghost use Rattle.hack_journal.specs.SafeFiles.{gives};
 ghost use Rattle.hack_journal.specs.Recovery.{AreTold, AreChanged, IsRestored, IsWhy, HasEntry};
 ghost use Rattle.hack_journal.specs.Recovery.{IsJournalRefusal, IsFailureCounted, IsOwn};
+ghost use Rattle.hack_journal.specs.FailedCalls.{FailsOnlySo};
 ghost use Rattle.hack_journal.specs.Internal.{AddsChanged, AddsIfOther, backs, FailsAt};
 ghost use Rattle.hack_journal.specs.Internal.{FaultsAtPath, IsBackBut, IsMemoryRefused};
-ghost use Rattle.hack_journal.specs.Internal.{IsWhyNotTold};
+ghost use Rattle.hack_journal.specs.Internal.{IsWhyNotTold, IsWriteFault};
 ghost use Rattle.hack_journal.specs.Recovery.{KeepsNoEntry, SparesOthers};
 
 use crate::contents::{Writing, look, put};
@@ -69,7 +70,8 @@ impl From<AllocError> for RecoverFault {
 
 /// The error of a write or a removal.
 fn write_fault(alloc: Global, path: &str, fault: FileFault) -> RecoverFault
-    ensures { FaultsAtPath path.now result }
+    ensures at { FaultsAtPath path.now result }
+    ensures write { IsWriteFault path.now result }
 {
     match fault {
         FileFault::Memory => RecoverFault::Memory,
@@ -92,7 +94,7 @@ fn add_path(alloc: Global, paths: &mut Vec<String>, path: &str) -> Result<(), Re
 }
 
 /// Refuses an entry whose path holds what no call left there.
-#[tactic(auto, using(crate::proofs::CountLemmas::grows_then))]
+#[tactic(auto, using(crate::proofs::FailedLemmas::call_steps))]
 fn check<F: Files>(
     alloc: Global,
     files: &mut F,
@@ -101,6 +103,7 @@ fn check<F: Files>(
     entry: &Entry,
 ) -> Result<(), RecoverFault>
     ensures failures { IsFailureCounted (F.failed files.old) (F.failed files.new) result }
+    ensures calls { FailsOnlySo F.Files files.old files.new result }
     ensures told { OnOk result (F.tells → IsOwn (edits_of all.now) (edit_of entry.now).path
         (F.bytes_at files.old (edit_of entry.now).path)) }
     ensures why { IfErr result (IsWhyNotTold journal.now F.tells (edits_of all.now)
@@ -123,7 +126,7 @@ fn check<F: Files>(
 }
 
 /// Does the same for each of these entries.
-#[tactic(auto, using(crate::proofs::CountLemmas::grows_then))]
+#[tactic(auto, using(crate::proofs::FailedLemmas::call_steps))]
 fn check_all<F: Files>(
     alloc: Global,
     files: &mut F,
@@ -132,6 +135,7 @@ fn check_all<F: Files>(
     entries: &[Entry],
 ) -> Result<(), RecoverFault>
     ensures failures { IsFailureCounted (F.failed files.old) (F.failed files.new) result }
+    ensures calls { FailsOnlySo F.Files files.old files.new result }
     ensures told { OnOk result (F.tells →
         AreTold (edits_of all.now) (edits_of entries.now) (F.bytes_at files.old)) }
     ensures why { IfErr result (IsWhyNotTold journal.now F.tells (edits_of all.now)
@@ -152,7 +156,7 @@ fn check_all<F: Files>(
 /// Puts back what this entry keeps. Where the path held something else, it is added to these. The
 /// last entry is written also where its path holds that already: its edit may have been interrupted,
 /// and a write on the disk removes what an interrupted one left beside the path.
-#[tactic(auto, using(crate::proofs::CountLemmas::grows_then))]
+#[tactic(auto, using(crate::proofs::FailedLemmas::call_steps))]
 fn put_back<F: Files>(
     alloc: Global,
     files: &mut F,
@@ -161,6 +165,7 @@ fn put_back<F: Files>(
     paths: &mut Vec<String>,
 ) -> Result<(), RecoverFault>
     ensures failures { IsFailureCounted (F.failed files.old) (F.failed files.new) result }
+    ensures calls { FailsOnlySo F.Files files.old files.new result }
     ensures back { OnOk result (F.tells → KeepsAll
         (after_change (gives (edit_of entry.now).path (edit_of entry.now).held)
         (F.bytes_at files.old))
@@ -192,7 +197,7 @@ fn put_back<F: Files>(
 
 /// Puts back what these entries keep, in order. The paths that held something else are added to
 /// these.
-#[tactic(auto, using(crate::proofs::CountLemmas::grows_then))]
+#[tactic(auto, using(crate::proofs::FailedLemmas::call_steps))]
 fn put_all_back<F: Files>(
     alloc: Global,
     files: &mut F,
@@ -200,6 +205,7 @@ fn put_all_back<F: Files>(
     paths: &mut Vec<String>,
 ) -> Result<(), RecoverFault>
     ensures failures { IsFailureCounted (F.failed files.old) (F.failed files.new) result }
+    ensures calls { FailsOnlySo F.Files files.old files.new result }
     ensures back { OnOk result (F.tells →
         KeepsAll (after (backs (edits_of entries.now)) (F.bytes_at files.old))
         (F.bytes_at files.new)) }
@@ -228,7 +234,7 @@ fn put_all_back<F: Files>(
 }
 
 /// Removes the first files of the row, so many of them, from the last one on.
-#[tactic(auto, using(crate::proofs::CountLemmas::grows_then))]
+#[tactic(auto, using(crate::proofs::FailedLemmas::call_steps))]
 fn remove_files<F: Files>(
     alloc: Global,
     files: &mut F,
@@ -236,6 +242,7 @@ fn remove_files<F: Files>(
     count: u64,
 ) -> Result<(), RecoverFault>
     ensures failures { IsFailureCounted (F.failed files.old) (F.failed files.new) result }
+    ensures calls { FailsOnlySo F.Files files.old files.new result }
     ensures gone { OnOk result (F.tells → (i : ℕ) → i < count →
         F.bytes_at files.new (file_at journal.now i) ≡ None) }
     ensures others { F.tells →
@@ -260,7 +267,7 @@ fn remove_files<F: Files>(
 
 /// Puts back what the entries of a journal keep, and then removes it. Returns the paths that held
 /// something else.
-#[tactic(auto, using(crate::proofs::CountLemmas::grows_then))]
+#[tactic(auto, using(crate::proofs::FailedLemmas::call_steps))]
 fn take_back<F: Files>(
     alloc: Global,
     files: &mut F,
@@ -268,6 +275,7 @@ fn take_back<F: Files>(
     row: &Row,
 ) -> Result<Vec<String>, RecoverFault>
     ensures failures { IsFailureCounted (F.failed files.old) (F.failed files.new) result }
+    ensures calls { FailsOnlySo F.Files files.old files.new result }
     ensures back { OnOk result (F.tells → KeepsBeside (string_bytes place.now.journal)
         row.now.count
         (after (backs (edits_of row.now.entries.items)) (F.bytes_at files.old))
@@ -305,7 +313,7 @@ fn take_back<F: Files>(
 /// journal isn't one that a call writes, nothing is changed. It may itself be interrupted at any
 /// moment, and called again. So it writes each file as a whole: what a cut write leaves over a text
 /// that was cut before, the next call wouldn't know.
-#[tactic(auto, using(crate::proofs::CountLemmas::grows_then))]
+#[tactic(auto, using(crate::proofs::FailedLemmas::call_steps))]
 pub fn recover<F: Files>(
     alloc: Global,
     files: &mut F,
@@ -313,6 +321,8 @@ pub fn recover<F: Files>(
 ) -> Result<Vec<String>, RecoverFault>
     // It ends at the first failed call of the files, and returns an error for it.
     ensures failures { IsFailureCounted (F.failed files.old) (F.failed files.new) result }
+    // That call wasn't made up: the path that the error names was unseen, or its write was refused.
+    ensures calls { FailsOnlySo F.Files files.old files.new result }
     // Each kept path holds what it held at first, and no other path was changed.
     ensures restored { IfOk result (λ paths. F.tells →
         IsRestored (spot_of place.now) (names_of paths.items)

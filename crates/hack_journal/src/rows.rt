@@ -8,7 +8,8 @@ ghost use Rattle.hack_journal.specs.Journal.{Edit, edits_of};
 ghost use Rattle.hack_journal.specs.Rows.{AreFirst, IsRowRead, file_at, placed, spot_of};
 ghost use Rattle.hack_journal.specs.Recovery.{AreOfCall, CountsRecoverFault, IsFailureCounted};
 ghost use Rattle.hack_journal.specs.Recovery.{IsWhyUnread};
-ghost use Rattle.hack_journal.specs.Internal.{FaultsAtPath, IsReadMore, IsWhyTorn};
+ghost use Rattle.hack_journal.specs.FailedCalls.{FailsOnlySo};
+ghost use Rattle.hack_journal.specs.Internal.{FaultsAtPath, IsReadFault, IsReadMore, IsWhyTorn};
 ghost use Rattle.hack_journal.specs.Internal.{NamesNoJournal};
 
 use crate::contents::look;
@@ -29,7 +30,8 @@ pub struct Row {
 
 /// The error of reading a path.
 pub(crate) fn read_fault(alloc: Global, path: &str, fault: FileFault) -> RecoverFault
-    ensures { FaultsAtPath path.now result }
+    ensures at { FaultsAtPath path.now result }
+    ensures read { IsReadFault path.now result }
 {
     match fault {
         FileFault::Memory => RecoverFault::Memory,
@@ -71,7 +73,7 @@ fn place_all(
 
 /// Reads a file of the row, and adds its entries to those of the files before it. Returns whether it
 /// is there.
-#[tactic(auto, using(crate::proofs::CountLemmas::grows_then))]
+#[tactic(auto, using(crate::proofs::FailedLemmas::call_steps))]
 fn read_file<F: Files>(
     alloc: Global,
     files: &mut F,
@@ -80,6 +82,7 @@ fn read_file<F: Files>(
     entries: &mut Vec<Entry>,
 ) -> Result<bool, RecoverFault>
     ensures failures { IsFailureCounted (F.failed files.old) (F.failed files.new) result }
+    ensures calls { FailsOnlySo F.Files files.old files.new result }
     ensures none { IfOk result (λ there. there ≡ false → F.tells →
         F.bytes_at files.old (file_at (string_bytes place.now.journal) number) ≡ None) }
     ensures kept { IfOk result (λ there. there ≡ false → entries.new ≡ entries.old) }
@@ -109,7 +112,7 @@ fn read_file<F: Files>(
 }
 
 /// Reads the files of the row, up to the first that isn't there, and returns how many there are.
-#[tactic(auto, using(crate::proofs::CountLemmas::grows_then))]
+#[tactic(auto, using(crate::proofs::FailedLemmas::call_steps))]
 fn read_files<F: Files>(
     alloc: Global,
     files: &mut F,
@@ -118,6 +121,7 @@ fn read_files<F: Files>(
 ) -> Result<u64, RecoverFault>
     requires { entries.old.items ≡ [] }
     ensures failures { IsFailureCounted (F.failed files.old) (F.failed files.new) result }
+    ensures calls { FailsOnlySo F.Files files.old files.new result }
     ensures read { IfOk result (λ count. F.tells → IsRowRead (spot_of place.now)
         (F.bytes_at files.old) count (edits_of entries.new.items)) }
     ensures why { IfErr result (IsWhyUnread (spot_of place.now) F.tells (F.bytes_at files.old)) }
@@ -135,13 +139,14 @@ fn read_files<F: Files>(
 
 /// Reads the journal at this place, if there is one. The error says why it can't be read; a row of
 /// files that no call writes is `NotJournal`. Nothing is changed.
-#[tactic(auto, using(crate::proofs::CountLemmas::grows_then))]
+#[tactic(auto, using(crate::proofs::FailedLemmas::call_steps))]
 pub fn row_at<F: Files>(
     alloc: Global,
     files: &mut F,
     place: &Place,
 ) -> Result<Option<Row>, RecoverFault>
     ensures failures { IsFailureCounted (F.failed files.old) (F.failed files.new) result }
+    ensures calls { FailsOnlySo F.Files files.old files.new result }
     ensures none { IfOk result (λ found. found ≡ None → F.tells →
         F.bytes_at files.old (string_bytes place.now.journal) ≡ None) }
     ensures some { IfOk result (λ found. (row : Row) → found ≡ Some row → F.tells →

@@ -1,4 +1,5 @@
-//! How many sets are listed at least, found without a list of them: the sets between two of them.
+//! How many sets are listed at least, found without a list of them: it counts the sets between a
+//! small listed set and a large one.
 //!
 //! Which two these are isn't promised: contracts say only that the sets between them are listed. A
 //! set has here one flag for each candidate.
@@ -40,7 +41,8 @@ fn joins(rules: &mut Rules, set: &[bool], position: usize) -> bool
     rules.may_add(set, position)
 }
 
-/// How many positions can't be in a permitted set together with the members of this one.
+/// How many positions can't be added to the permitted set: its members, and those with which it
+/// isn't permitted.
 fn count_ties(rules: &mut Rules, set: &[bool]) -> usize
     requires size { length set.now ≡ size_of rules.old }
     requires permitted { may_of rules.old (positions_of set.now) ≡ true }

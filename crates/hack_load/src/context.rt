@@ -42,7 +42,7 @@ use std::alloc::{AllocError, Global};
 pub struct Context {
     args: Args,
     metadata: Metadata,
-    // One for each member of the workspace, in their order.
+    /// One for each member of the workspace, in their order, as `features`.
     manifests: Vec<Manifest>,
     features: Vec<Features>,
     cargo: String,
@@ -311,7 +311,7 @@ fn of_node(fault: MetadataFault) -> ContextFault
     }
 }
 
-/// Returns the place of a member among the members, or their number where it is none of them.
+/// Returns the index of a member among the members, or their number where it is none of them.
 fn place_of(members: &[PackageId], id: PackageId) -> usize
     ensures { result ≡ place_among (map place_at members.now) id.index }
 {

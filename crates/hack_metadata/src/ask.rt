@@ -82,7 +82,7 @@ struct Question<'a> {
     args: &'a Args,
     env: &'a Env,
     cargo_version: u32,
-    // The arguments of the full request.
+    /// The arguments of the full request.
     full: Vec<String>,
 }
 

@@ -115,7 +115,7 @@ impl Metadata {
         &self.packages[id.index]
     }
 
-    /// Returns the package at the place of an id. None where there are fewer packages.
+    /// Returns the package at the index of an id. None where there are fewer packages.
     pub fn find(&self, id: PackageId) -> Option<&Package>
         ensures { option_copied result ≡ slice_get self.now.packages.items id.index }
     {

@@ -81,7 +81,7 @@ struct Used<'a> {
 }
 
 impl<'a> Used<'a> {
-    /// The version at a place among them.
+    /// The version at an index among them.
     fn version(self, place: usize) -> Option<&'a PlanVersion>
         ensures { MatchOption result (¬ HasVersion self.entry.plan.now self.entry.uses.now place)
             (λ version. (index : ℕ) × (slice_get self.entry.uses.now place ≡ Some index)
@@ -128,7 +128,7 @@ impl<R: Judge> Tries for Trier<'_, R> {
     ) };
 
     fn try_at(&mut self, place: usize) -> Outcome {
-        // A place without a version is never asked for.
+        // An index without a version is never asked for.
         let Some(version) = self.used.version(place) else {
             return Outcome::Broken;
         };

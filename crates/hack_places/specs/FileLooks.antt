@@ -3,6 +3,8 @@ use Rattle.std.specs.Prelude.{◌≡◌, ◌⊎◌, [], ℕ, List, Result, Ok, E
 use Rattle.hack_files.specs.Files.{KeepsAll, Makes}
 use Rattle.hack_base.specs.Counters.{GrowsBy}
 use Rattle.hack_files.specs.View.{FilesView}
+use Rattle.hack_files.specs.declared.fs.Files.{Ghosts as Filing}
+use Rattle.hack_journal.specs.FailedCalls.{LookFailed, NoneFailed}
 use Rattle.hack_places.specs.declared.look.LookFault.{LookFault}
 use Rattle.hack_places.specs.declared.look.LookFault.TheVariants.{Memory, Device}
 
@@ -15,6 +17,17 @@ pub record Unchanged (tells whole : Type 0) (old new : FilesView) : Type 0 where
 abbrev pub CountsLookFault : ℕ → ℕ → LookFault → Type 0
 CountsLookFault old new Memory = GrowsBy 0 old new ⊎ GrowsBy 1 old new
 CountsLookFault old new (Device path) = GrowsBy 1 old new
+
+-- the error names the path that was unseen, and nothing else failed; where memory was refused, the files
+-- may have refused it
+abbrev pub IsOfUnseen : {F : Type 0} → Filing F → F → F → LookFault → Type 0
+IsOfUnseen f old new Memory = NoneFailed f old new ⊎ ((path : List ℕ) × LookFailed f path old new)
+IsOfUnseen f old new (Device path) = LookFailed f (string_bytes path) old new
+
+-- looks end at the first that fails, whose path the error names
+abbrev pub AreLooksSeen : {F T : Type 0} → Filing F → F → F → Result T LookFault → Type 0
+AreLooksSeen f old new (Ok found) = NoneFailed f old new
+AreLooksSeen f old new (Err fault) = IsOfUnseen f old new fault
 
 -- the error of a look at a path names that path
 abbrev pub IsOfPath : List ℕ → LookFault → Type 0

@@ -3,7 +3,8 @@
 ghost use Rattle.std.specs.Prelude.{◌≡◌, [], ℕ, IfErr, IfOk, is_some, option_map};
 ghost use Rattle.hack_base.specs.Counters.{GrowsBy};
 ghost use Rattle.hack_files.specs.Files.{KeepsAll, Makes};
-ghost use Rattle.hack_places.specs.FileLooks.{AreLooksCounted, CountsLookFault, IsOfPath};
+ghost use Rattle.hack_places.specs.FileLooks.{AreLooksCounted, AreLooksSeen};
+ghost use Rattle.hack_places.specs.FileLooks.{CountsLookFault, IsOfPath};
 
 use hack_files::fs::{FileFault, Files};
 use hack_journal::contents::look;
@@ -52,10 +53,12 @@ fn fault_at(alloc: Global, path: &str, fault: FileFault) -> LookFault
 }
 
 /// Whether a file exists at a path.
+#[tactic(auto, using(crate::proofs::LookLemmas::fault_of))]
 pub fn is_there<F: Files>(alloc: Global, path: &str, files: &mut F) -> Result<bool, LookFault>
     ensures found { IfOk result (λ there. F.tells
         → there ≡ is_some (F.bytes_at files.old path.now)) }
     ensures counted { AreLooksCounted (F.failed files.old) (F.failed files.new) result }
+    ensures seen { AreLooksSeen F.Files files.old files.new result }
     ensures named { IfErr result (IsOfPath path.now) }
     ensures same { F.tells → KeepsAll (F.bytes_at files.old) (F.bytes_at files.new) }
     ensures untraced { F.whole → Makes [] (F.trace files.old) (F.trace files.new)
@@ -68,6 +71,7 @@ pub fn is_there<F: Files>(alloc: Global, path: &str, files: &mut F) -> Result<bo
 }
 
 /// The contents of a file, if there is one.
+#[tactic(auto, using(crate::proofs::LookLemmas::fault_of))]
 pub fn held<F: Files>(
     alloc: Global,
     path: &str,
@@ -76,6 +80,7 @@ pub fn held<F: Files>(
     ensures found { IfOk result (λ found. F.tells
         → F.bytes_at files.old path.now ≡ option_map (λ bytes. bytes.items) found) }
     ensures counted { AreLooksCounted (F.failed files.old) (F.failed files.new) result }
+    ensures seen { AreLooksSeen F.Files files.old files.new result }
     ensures named { IfErr result (IsOfPath path.now) }
     ensures same { F.tells → KeepsAll (F.bytes_at files.old) (F.bytes_at files.new) }
     ensures untraced { F.whole → Makes [] (F.trace files.old) (F.trace files.new)

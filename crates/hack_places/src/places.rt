@@ -2,7 +2,7 @@
 
 ghost use Rattle.std.specs.Prelude.{◌≡◌, ◌||◌, [], IfOk, string_bytes};
 ghost use Rattle.hack_files.specs.Files.{KeepsAll, Makes};
-ghost use Rattle.hack_places.specs.FileLooks.{AreLooksCounted};
+ghost use Rattle.hack_places.specs.FileLooks.{AreLooksCounted, AreLooksSeen};
 ghost use Rattle.hack_places.specs.CallPlaces.{ArePlacesOf, is_left};
 ghost use Rattle.hack_places.specs.PlacesView.{places_view};
 
@@ -31,6 +31,7 @@ impl Places {
         ensures found { IfOk result (λ places. ArePlacesOf F.tells (F.bytes_at files.old)
             folder.now (places_view places)) }
         ensures counted { AreLooksCounted (F.failed files.old) (F.failed files.new) result }
+        ensures seen { AreLooksSeen F.Files files.old files.new result }
         ensures same { F.tells → KeepsAll (F.bytes_at files.old) (F.bytes_at files.new) }
         ensures untraced { F.whole → Makes [] (F.trace files.old) (F.trace files.new)
             (F.bytes_at files.old) (F.bytes_at files.new) }
@@ -48,11 +49,12 @@ impl Places {
     }
 
     /// Whether an interrupted call left anything there.
-    #[tactic(auto, using(crate::proofs::CountLemmas::grows_then))]
+    #[tactic(auto, using(crate::proofs::LookLemmas::look_steps))]
     pub fn is_left<F: Files>(&self, alloc: Global, files: &mut F) -> Result<bool, LookFault>
         ensures found { IfOk result (λ left. F.tells
             → left ≡ is_left (F.bytes_at files.old) (places_view self.now)) }
         ensures counted { AreLooksCounted (F.failed files.old) (F.failed files.new) result }
+        ensures seen { AreLooksSeen F.Files files.old files.new result }
         ensures same { F.tells → KeepsAll (F.bytes_at files.old) (F.bytes_at files.new) }
         ensures untraced { F.whole → Makes [] (F.trace files.old) (F.trace files.new)
             (F.bytes_at files.old) (F.bytes_at files.new) }

@@ -3,7 +3,7 @@
 ghost use Rattle.std.specs.Prelude.{◌≡◌, [], IfOk, option_map};
 ghost use Rattle.hack_base.specs.Names.{optional_text};
 ghost use Rattle.hack_files.specs.Files.{KeepsAll, Makes};
-ghost use Rattle.hack_places.specs.FileLooks.{AreLooksCounted};
+ghost use Rattle.hack_places.specs.FileLooks.{AreLooksCounted, AreLooksSeen};
 ghost use Rattle.hack_places.specs.Repositories.{has_head, is_folder, link_in, linked_by};
 ghost use Rattle.hack_places.specs.Repositories.{own_folder_in, repository_above, repository_in};
 ghost use Rattle.hack_places.specs.RepositoryView.{repository_of};
@@ -24,7 +24,7 @@ pub struct Repository {
 }
 
 /// The nearest repository among a folder and so many folders above it.
-#[tactic(auto, using(crate::proofs::CountLemmas::grows_then))]
+#[tactic(auto, using(crate::proofs::LookLemmas::look_steps))]
 pub fn nearest_repository<F: Files>(
     alloc: Global,
     steps: usize,
@@ -35,6 +35,7 @@ pub fn nearest_repository<F: Files>(
         → option_map repository_of found ≡
         repository_above (F.bytes_at files.old) steps folder.now) }
     ensures counted { AreLooksCounted (F.failed files.old) (F.failed files.new) result }
+    ensures seen { AreLooksSeen F.Files files.old files.new result }
     ensures same { F.tells → KeepsAll (F.bytes_at files.old) (F.bytes_at files.new) }
     ensures untraced { F.whole → Makes [] (F.trace files.old) (F.trace files.new)
         (F.bytes_at files.old) (F.bytes_at files.new) }
@@ -57,6 +58,7 @@ fn repository_in<F: Files>(
     ensures found { IfOk result (λ found. F.tells
         → option_map repository_of found ≡ repository_in (F.bytes_at files.old) folder.now) }
     ensures counted { AreLooksCounted (F.failed files.old) (F.failed files.new) result }
+    ensures seen { AreLooksSeen F.Files files.old files.new result }
     ensures same { F.tells → KeepsAll (F.bytes_at files.old) (F.bytes_at files.new) }
     ensures untraced { F.whole → Makes [] (F.trace files.old) (F.trace files.new)
         (F.bytes_at files.old) (F.bytes_at files.new) }
@@ -71,7 +73,7 @@ fn repository_in<F: Files>(
 }
 
 /// The own folder of the repository whose topmost folder this is.
-#[tactic(auto, using(crate::proofs::CountLemmas::grows_then))]
+#[tactic(auto, using(crate::proofs::LookLemmas::look_steps))]
 fn own_folder<F: Files>(
     alloc: Global,
     folder: &str,
@@ -80,6 +82,7 @@ fn own_folder<F: Files>(
     ensures found { IfOk result (λ found. F.tells
         → optional_text found ≡ own_folder_in (F.bytes_at files.old) folder.now) }
     ensures counted { AreLooksCounted (F.failed files.old) (F.failed files.new) result }
+    ensures seen { AreLooksSeen F.Files files.old files.new result }
     ensures same { F.tells → KeepsAll (F.bytes_at files.old) (F.bytes_at files.new) }
     ensures untraced { F.whole → Makes [] (F.trace files.old) (F.trace files.new)
         (F.bytes_at files.old) (F.bytes_at files.new) }
@@ -107,6 +110,7 @@ fn linked<F: Files>(
     ensures found { IfOk result (λ found. F.tells
         → optional_text found ≡ linked_by (F.bytes_at files.old) folder.now bytes.now) }
     ensures counted { AreLooksCounted (F.failed files.old) (F.failed files.new) result }
+    ensures seen { AreLooksSeen F.Files files.old files.new result }
     ensures same { F.tells → KeepsAll (F.bytes_at files.old) (F.bytes_at files.new) }
     ensures untraced { F.whole → Makes [] (F.trace files.old) (F.trace files.new)
         (F.bytes_at files.old) (F.bytes_at files.new) }
@@ -140,6 +144,7 @@ fn has_head<F: Files>(alloc: Global, folder: &str, files: &mut F) -> Result<bool
     ensures found { IfOk result (λ found. F.tells
         → found ≡ has_head (F.bytes_at files.old) folder.now) }
     ensures counted { AreLooksCounted (F.failed files.old) (F.failed files.new) result }
+    ensures seen { AreLooksSeen F.Files files.old files.new result }
     ensures same { F.tells → KeepsAll (F.bytes_at files.old) (F.bytes_at files.new) }
     ensures untraced { F.whole → Makes [] (F.trace files.old) (F.trace files.new)
         (F.bytes_at files.old) (F.bytes_at files.new) }
@@ -153,6 +158,7 @@ fn is_folder<F: Files>(alloc: Global, path: &str, files: &mut F) -> Result<bool,
     ensures found { IfOk result (λ found. F.tells
         → found ≡ is_folder (F.bytes_at files.old) path.now) }
     ensures counted { AreLooksCounted (F.failed files.old) (F.failed files.new) result }
+    ensures seen { AreLooksSeen F.Files files.old files.new result }
     ensures same { F.tells → KeepsAll (F.bytes_at files.old) (F.bytes_at files.new) }
     ensures untraced { F.whole → Makes [] (F.trace files.old) (F.trace files.new)
         (F.bytes_at files.old) (F.bytes_at files.new) }

@@ -9,7 +9,7 @@ ghost use Rattle.toml.specs.View.{table_view};
 ghost use Rattle.hack_places.specs.Folders.{field_says, manifest_in, start_at};
 ghost use Rattle.hack_places.specs.Internal.{saying_in};
 ghost use Rattle.hack_places.specs.Folders.{text_in_bytes, text_says, tree_says, workspace_from};
-ghost use Rattle.hack_places.specs.FileLooks.{AreLooksCounted};
+ghost use Rattle.hack_places.specs.FileLooks.{AreLooksCounted, AreLooksSeen};
 
 use crate::look::{LookFault, held};
 use hack_base::paths::{join, normal, parent};
@@ -33,6 +33,7 @@ pub fn workspace<F: Files>(
         (start_at (option_map (λ path. path.now) manifest_path.entry) dir.now)) }
     // Nothing is changed.
     ensures counted { AreLooksCounted (F.failed files.old) (F.failed files.new) result }
+    ensures seen { AreLooksSeen F.Files files.old files.new result }
     ensures same { F.tells → KeepsAll (F.bytes_at files.old) (F.bytes_at files.new) }
     ensures untraced { F.whole → Makes [] (F.trace files.old) (F.trace files.new)
         (F.bytes_at files.old) (F.bytes_at files.new) }
@@ -64,11 +65,12 @@ pub(crate) fn within(alloc: Global, folder: &str, path: &str) -> Result<String, 
 }
 
 /// The workspace's folder, at or above this one.
-#[tactic(auto, using(crate::proofs::CountLemmas::grows_then))]
+#[tactic(auto, using(crate::proofs::LookLemmas::look_steps))]
 fn nearest<F: Files>(alloc: Global, start: &str, files: &mut F) -> Result<String, LookFault>
     ensures found { IfOk result (λ folder. F.tells
         → string_bytes folder ≡ workspace_from (F.bytes_at files.old) start.now) }
     ensures counted { AreLooksCounted (F.failed files.old) (F.failed files.new) result }
+    ensures seen { AreLooksSeen F.Files files.old files.new result }
     ensures same { F.tells → KeepsAll (F.bytes_at files.old) (F.bytes_at files.new) }
     ensures untraced { F.whole → Makes [] (F.trace files.old) (F.trace files.new)
         (F.bytes_at files.old) (F.bytes_at files.new) }
@@ -106,6 +108,7 @@ fn said_at<F: Files>(alloc: Global, folder: &str, files: &mut F) -> Result<Said,
     ensures found { IfOk result (λ said. F.tells
         → saying_in said ≡ option_map text_says (manifest_in (F.bytes_at files.old) folder.now)) }
     ensures counted { AreLooksCounted (F.failed files.old) (F.failed files.new) result }
+    ensures seen { AreLooksSeen F.Files files.old files.new result }
     ensures same { F.tells → KeepsAll (F.bytes_at files.old) (F.bytes_at files.new) }
     ensures untraced { F.whole → Makes [] (F.trace files.old) (F.trace files.new)
         (F.bytes_at files.old) (F.bytes_at files.new) }
@@ -161,6 +164,7 @@ fn manifest<F: Files>(
     ensures found { IfOk result (λ found. F.tells
         → optional_text found ≡ manifest_in (F.bytes_at files.old) folder.now) }
     ensures counted { AreLooksCounted (F.failed files.old) (F.failed files.new) result }
+    ensures seen { AreLooksSeen F.Files files.old files.new result }
     ensures same { F.tells → KeepsAll (F.bytes_at files.old) (F.bytes_at files.new) }
     ensures untraced { F.whole → Makes [] (F.trace files.old) (F.trace files.new)
         (F.bytes_at files.old) (F.bytes_at files.new) }

@@ -11,6 +11,3 @@ mod Ready
 mod Shown
 mod Within
 pub mod GrowingPlans
-pub mod PieceLemmas
-mod PieceReading
-mod PieceTexts

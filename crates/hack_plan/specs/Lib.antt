@@ -1,8 +1,6 @@
 pub mod Inputs
 pub mod Entries
 pub mod Blocks
-pub mod Pieces
-pub mod Partitions
 pub mod Parts
 pub mod Spans
 pub mod Runs

@@ -25,7 +25,7 @@ pub struct Block {
     end: usize,
 }
 
-/// A version, and the packages that use it, as indexes into the chosen ones.
+/// A version, and the packages that use it, as indices of the chosen ones.
 #[derive(Clone, Copy)]
 pub struct VersionUse<'a> {
     pub version: Option<Version>,

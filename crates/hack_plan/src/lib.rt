@@ -8,7 +8,6 @@ mod blocks;
 mod commands;
 pub mod laws;
 mod line;
-pub mod partition;
 pub mod parts;
 pub mod places;
 pub mod plan;

@@ -1,10 +1,10 @@
 //! How far a call has got in its plan.
 
 ghost use Rattle.std.specs.Prelude.{◌<◌, ◌↔◌, ℕ, IsTrue};
-ghost use Rattle.hack_plan.specs.Pieces.{InPiece, InJustOnePiece};
-ghost use Rattle.hack_plan.specs.declared.partition.PartitionKind.{PartitionKind as Kind};
+ghost use Rattle.hack_partition.specs.Pieces.{InPiece, InJustOnePiece};
+ghost use Rattle.hack_partition.specs.declared.partition.PartitionKind.{PartitionKind as Kind};
 
-use crate::partition::Partition;
+use hack_partition::partition::Partition;
 
 /// The length of a plan, and how many of its places are done.
 #[derive(Clone, Copy)]

@@ -323,7 +323,7 @@ impl About<'_> {
         Ok(notices)
     }
 
-    /// A warning for each optional dependency that is args for and that the package doesn't have.
+    /// A warning for each optional dependency that is asked for and that the package doesn't have.
     fn dependency_notes(&self, alloc: Global) -> Result<Vec<Notice>, AllocError>
         ensures { IfOk result (λ notices. map note_of notices.items ≡ notes_on_dependencies
             (call_rules self.now.args.now (string_bytes self.now.pkg.now.name)) (string_bytes self.now.pkg.now.name) self.now.features.now) }

@@ -107,8 +107,6 @@ fn chosen_package(
     ensures err { IfErr result (λ e. (e ≡ PlanFault.Memory)
         ⊎ (IsTrue one.is_used × SaysNoSample (context_view cx.now) one.id.index e)) }
 {
-    // This call promises that what was loaded fits together.
-    let _ = cx.workspace_members();
     let features = cx.pkg_features(one.id);
     let pkg = cx.packages(one.id);
     let args = cx.args();

@@ -64,8 +64,6 @@ fn name_at(context: &Context, id: PackageId) -> &str
 fn current_name(context: &Context) -> Option<&str>
     ensures { option_copied result ≡ current_called (context_view context.now) }
 {
-    // This call promises that what was loaded fits together.
-    let _ = context.workspace_members();
     match context.current_package() {
         Some(id) => Some(name_at(context, id)),
         None => None,
@@ -126,8 +124,6 @@ pub fn determine_kind(
         → IfErr result (λ e. (e ≡ RunsFault.Memory)
         ⊎ IsRunsFault (rules_at (context_view context.now) p features) p features e) }
 {
-    // This call promises that what was loaded fits together.
-    let _ = context.workspace_members();
     let pkg = context.packages(id);
     let features = context.pkg_features(id);
     let asked = PackageRules::of(alloc, context, pkg, features)?;

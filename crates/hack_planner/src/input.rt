@@ -55,8 +55,6 @@ fn member(alloc: Global, cx: &Context, id: PackageId) -> Result<PackageVersion, 
         (rust_version_at (context_view cx.now) id.index) e) }
 {
     let rust_version = own_version(alloc, cx, id)?;
-    // This call promises that what was loaded fits together.
-    let _ = cx.workspace_members();
     Ok(PackageVersion {
         name: String::from_str(alloc, cx.packages(id).name.as_str())?,
         rust_version,

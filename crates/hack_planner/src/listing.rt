@@ -1,4 +1,4 @@
-//! The steps by which packages are chosen, each over all members or specifications.
+//! How packages are chosen: functions over all members or specifications.
 
 ghost use Rattle.std.specs.Prelude.{◌≡◌, ◌⊎◌, ◌↔◌, ◌++◌, ◌&&◌, IfOk};
 ghost use Rattle.std.specs.Prelude.{IfErr, OnOk, IsTrue, map, filter, not, string_bytes};

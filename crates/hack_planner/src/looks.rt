@@ -70,8 +70,6 @@ fn look_at(alloc: Global, cx: &Context, id: PackageId) -> Result<Option<String>,
     ensures { IfOk result (λ text. option_map string_bytes text
         ≡ look_at (context_view cx.now) id.index) }
 {
-    // This call promises that what was loaded fits together.
-    let _ = cx.workspace_members();
     let features = cx.pkg_features(id);
     let pkg = cx.packages(id);
     let asked = PackageRules::of(alloc, cx, pkg, features)?;

@@ -38,7 +38,7 @@ pub struct PackageRules {
     pub exclude_features: Vec<String>,
     pub group_features: Vec<Feature>,
     pub optional_deps: Option<Vec<String>>,
-    /// The groups of mutually exclusive features that aren't lifted for the package.
+    /// The exclusion groups that aren't lifted for the package.
     pub exclusive: Vec<Feature>,
     pub at_least_one_of: Vec<Feature>,
     pub exclude_no_default_features: bool,
@@ -308,7 +308,7 @@ fn optional_copies(
     }
 }
 
-/// The groups of mutually exclusive features that aren't lifted for the package of this name.
+/// The exclusion groups that aren't lifted for the package of this name.
 fn held_groups(alloc: Global, args: &Args, name: &str) -> Result<Vec<Feature>, AllocError>
     ensures { IfOk result (λ held. groups_of held.items
         ≡ filter (λ group. not (lifted_for args.now name.now group))

@@ -40,7 +40,7 @@ fn add_package(
     }
 }
 
-/// Reports it for the packages at these indexes, in one slot.
+/// Reports it for the packages at these indices, in one slot.
 fn add_slot(
     alloc: Global,
     cx: &Context,
@@ -60,7 +60,7 @@ fn add_slot(
     Ok(())
 }
 
-/// Reports it for the packages at these indexes, once for each of so many slots.
+/// Reports it for the packages at these indices, once for each of so many slots.
 fn add_slots(
     alloc: Global,
     cx: &Context,
@@ -83,7 +83,7 @@ fn add_slots(
     Ok(())
 }
 
-/// The indexes below a number.
+/// The indices below a number.
 fn below(alloc: Global, n: usize) -> Result<Vec<usize>, AllocError>
     ensures { IfOk result (λ places. places.items ≡ range_with_len 0 n) }
 {

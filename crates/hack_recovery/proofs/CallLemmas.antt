@@ -7,6 +7,8 @@ use Rattle.hack_files.specs.declared.fs.Files.{Ghosts as Filing}
 use Rattle.hack_journal.specs.declared.unkept.Unkept.{Ghosts as Noting}
 use Rattle.hack_process.specs.Calls.{Call}
 use Rattle.hack_files.specs.View.{FilesView}
+use Rattle.hack_run.proofs.LastingLemmas.{leaves_by}
+use Rattle.hack_run.specs.LastingEdits.{LeavesAtMostEdits}
 use Rattle.hack_term.specs.declared.term.Term.{Term}
 use Rattle.hack_words.specs.declared.cli.env.Env.{Env}
 use Rattle.hack_recovery.specs.AskedEdits.{is_change, is_restore}
@@ -62,3 +64,7 @@ unseen_course f l u talks records watched real words env does old ended at new f
 -- a path that isn't as it was is one whose own write such files refused
 pub spoilt_by : {F : Type 0} (f : Filing F) (a b : F) (tells : Type 0) (old new : Contents) → KeepsAllBut (f.refuses a b) tells old new → KeepsAllBut (RefusesThese f) tells old new
 spoilt_by f a b tells old new h = record { spoilt = h.spoilt; refused = record { before = a; after = b; refused = h.refused }; others = h.others }
+
+-- the same of what is left in files
+pub lasting_by : {F : Type 0} (f : Filing F) (a b : F) (tells talks : Type 0) (words : List Name) (env : Env) (calls : List Call) (old new : Contents) → LeavesAtMostEdits (f.refuses a b) tells talks words env calls old new → LeavesAtMostEdits (RefusesThese f) tells talks words env calls old new
+lasting_by f a b tells talks words env calls old new h = leaves_by (f.refuses a b) (RefusesThese f) tells talks words env calls old new (λ paths refused. record { before = a; after = b; refused = refused }) h

@@ -4,3 +4,4 @@ pub mod BackLemmas
 pub mod CountLemmas
 mod CallLemmas
 mod StrangerLemmas
+mod TellingLemmas

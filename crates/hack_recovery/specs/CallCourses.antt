@@ -11,6 +11,7 @@ use Rattle.hack_journal.specs.declared.unkept.Unkept.{Ghosts as Noting}
 use Rattle.hack_journaled.specs.Journals.{BetweenBoth, IsAccounted, contents_seen, files_seen, world_seen}
 use Rattle.hack_run.specs.CallChanges.{IsChangeTrace}
 use Rattle.hack_run.specs.CallTrace.{IsCallTrace}
+use Rattle.hack_run.specs.LastingEdits.{LeavesAtMostEdits}
 use Rattle.hack_run.specs.Standing.{Between, EditsStand}
 use Rattle.hack_run.specs.TemporaryEdits.{BringsBack, IsClean, RestoresEdits}
 use Rattle.hack_run.specs.Refusals.{AreRefused, ReportsRefusal}
@@ -86,7 +87,7 @@ abbrev pub WereBetween : {F L : Type 0} → Filing F → Filing L → Name → C
 WereBetween {F} {L} f l journal held = (before : F) × (after : F) × (first : L) × (last : L) × BetweenBoth f l journal before after first last held
 
 -- the call was performed without a journal: it meets what `run` promises of files, calls and reports; a path
--- that doesn't hold what it held is one whose own write was refused
+-- that doesn't hold what it held, or its edit where that stays, is one whose own write was refused
 pub record PerformsUnjournaled {F : Type 0} (f : Filing F) (talks : Type 0) (words : List Name) (env : Env) (old new : Scene) : Type 0 where
   pub refused : AreRefused env words → ReportsRefusal talks env old.host new.host
   pub done : new.host.term.error ≡ false → talks → IsCallTrace true f.tells words env (world_in old) (world_in new)
@@ -95,6 +96,7 @@ pub record PerformsUnjournaled {F : Type 0} (f : Filing F) (talks : Type 0) (wor
   pub made : talks → IsCallTrace false f.tells words env (world_in old) (world_in new)
   pub back : RestoresEdits env words → f.tells → BringsBack old.files new.files
   pub spoilt : RestoresEdits env words → KeepsAllBut (RefusesThese f) f.tells old.files.held new.files.held
+  pub lasting : LeavesAtMostEdits (RefusesThese f) f.tells talks words env old.host.calls old.files.held new.files.held
   pub clean : new.host.term.error ≡ false → IsClean (RestoresEdits env words) f.tells old.files new.files
   pub lockfiles : new.lockfiles ≡ old.lockfiles
   pub unkept : new.unkept ≡ old.unkept
@@ -158,11 +160,11 @@ pub record RunsOverJournal {F L U : Type 0} (f : Filing F) (l : Filing L) (u : N
   pub closes : Closes f.tells f.whole places last new
 
 -- how a call with a journal goes once its guard was asked for: the lockfile is copied, and then it is
--- performed; or the lockfile can't be copied, and nothing else is changed or called
+-- performed; or the lockfile can't be copied for this reason, and nothing else is changed or called
 pub data CopiesAndRuns {F L U : Type 0} (f : Filing F) (l : Filing L) (u : Noting U) (talks : Type 0) (words : List Name) (env : Env) (places : PlacesAt) (old new : Scene) : Type 0 where
-  copied : (at : Scene) → KeepsCopy f.tells f.whole l.tells true places old at → RunsOverJournal f l u talks words env places at new
+  copied : (at : Scene) → KeepsCopy (RefusesThese f) f.tells f.whole l.tells (Ok tt) places old at → RunsOverJournal f l u talks words env places at new
       → CopiesAndRuns f l u talks words env places old new
-  uncopied : (at : Scene) → KeepsCopy f.tells f.whole l.tells false places old at → new ≡ scene_with at.files new.host.term at → IsFailed new
+  uncopied : (at : Scene) (fault : CallFault) → KeepsCopy (RefusesThese f) f.tells f.whole l.tells (Err fault) places old at → new ≡ scene_with at.files new.host.term at → IsFailed new
       → CopiesAndRuns f l u talks words env places old new
 
 -- how a call with a journal goes: a guard of the workspace's folder is started, and whatever came of
@@ -192,12 +194,12 @@ pub data Continues {F L U : Type 0} (f : Filing F) (l : Filing L) (u : Noting U)
 -- else is changed, and before anything is called
 pub data IsLockedCourse {F L U : Type 0} (f : Filing F) (l : Filing L) (u : Noting U) (talks records watched : Type 0) (words : List Name) (env : Env) (does : Edits) (places : PlacesAt) (old new : Scene) : Type 0 where
   -- that can't be brought back: the call ends
-  ended : TakesBack f.tells f.whole l.tells env.by_guard places old new (Ok false) → IsFailed new → IsLockedCourse f l u talks records watched words env does places old new
+  ended : TakesBack (RefusesThese l) f.tells f.whole l.tells env.by_guard places old new (Ok false) → IsFailed new → IsLockedCourse f l u talks records watched words env does places old new
   -- memory was refused meanwhile: the call ends
-  cut_short : (at : Scene) (fault : CallFault) → TakesBack f.tells f.whole l.tells env.by_guard places old at (Err fault)
+  cut_short : (at : Scene) (fault : CallFault) → TakesBack (RefusesThese l) f.tells f.whole l.tells env.by_guard places old at (Err fault)
       → new ≡ scene_with at.files new.host.term at → IsFailed new → IsLockedCourse f l u talks records watched words env does places old new
   -- it is back: the call is performed
-  went_on : (at : Scene) → TakesBack f.tells f.whole l.tells env.by_guard places old at (Ok true) → Continues f l u talks records watched words env does places at new
+  went_on : (at : Scene) → TakesBack (RefusesThese l) f.tells f.whole l.tells env.by_guard places old at (Ok true) → Continues f l u talks records watched words env does places at new
       → IsLockedCourse f l u talks records watched words env does places old new
 
 -- how a call goes

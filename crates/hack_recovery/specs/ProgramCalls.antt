@@ -1,8 +1,8 @@
 -- How a call of the program goes, from what the system tells of it.
-use Rattle.std.specs.Prelude.{◌≡◌, ℕ, Bool, true, List, Option, Ok, Err}
+use Rattle.std.specs.Prelude.{◌≡◌, ℕ, Bool, true, Ok, Err}
 use Rattle.hack_base.specs.declared.writes.Sink.{Ghosts as Taking}
 use Rattle.hack_base.specs.Names.{Name, names_of, optional_text}
-use Rattle.hack_base.specs.Writes.{AppendsFront}
+use Rattle.hack_base.specs.Streams.{Stream, WritesText}
 use Rattle.hack_files.specs.declared.fs.Files.{Ghosts as Filing}
 use Rattle.hack_journal.specs.declared.unkept.Unkept.{Ghosts as Noting}
 use Rattle.hack_process.specs.declared.caller.Caller.{Ghosts as Calling}
@@ -58,10 +58,10 @@ colored coloring term = record term { coloring = coloring }
 
 -- Arguments and environment were read, and the call was performed with them, on a terminal that is
 -- coloured as they ask, and as it was where they ask for nothing. Or an error says why
--- they could not be read, a front of its line was written after what was written to `err` before,
--- and nothing else was done.
+-- they could not be read: its line was written to `err`, or a front of it, and a failure counted for
+-- that; and nothing else was done.
 pub data IsProgramCall {F L U : Type 0} (f : Filing F) (l : Filing L) (u : Noting U) (informs talks records watched : Type 0) (real : Name → Name) (system : SystemView)
-    (is_terminal : Bool) (err_before err_after : Option (List ℕ)) (old new : Scene) (status : ℕ) : Type 0 where
+    (is_terminal : Bool) (err_before err_after : Stream) (old new : Scene) (status : ℕ) : Type 0 where
   performed : (started : Started) (coloring asked : Coloring) → GivesStart informs system (Ok started)
       → (informs → SetsColoring (auto_coloring_of is_terminal system) old.host.term.coloring coloring (Ok started))
       → AsksColoring (optional_text started.env.term_color) (names_of started.words.items) asked
@@ -71,6 +71,6 @@ pub data IsProgramCall {F L U : Type 0} (f : Filing F) (l : Filing L) (u : Notin
       → IsProgramCall f l u informs talks records watched real system is_terminal err_before err_after old new status
   unread : (fault : StartFault) (coloring : Coloring) → GivesStart informs system (Err fault)
       → (informs → SetsColoring (auto_coloring_of is_terminal system) old.host.term.coloring coloring (Err fault))
-      → AppendsFront err_before err_after (error_line coloring (start_fault_text fault))
+      → WritesText (error_line coloring (start_fault_text fault)) err_before err_after
       → new ≡ scene_on (record (colored coloring old.host.term) { error = true }) old → status ≡ 1
       → IsProgramCall f l u informs talks records watched real system is_terminal err_before err_after old new status

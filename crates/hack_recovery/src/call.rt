@@ -1,6 +1,7 @@
 //! A call of the program, from what the system tells of it.
 
 ghost use Rattle.std.specs.Prelude.{◌≡◌};
+ghost use Rattle.hack_base.specs.Streams.{stream_of};
 ghost use Rattle.hack_recovery.specs.ProgramCalls.{IsProgramCall, IsSameOutside, colored, scene_outside};
 ghost use Rattle.hack_run.specs.CallTrace.{colored_by};
 
@@ -64,7 +65,7 @@ pub fn call<
     ensures outside { IsSameOutside outside.old outside.new }
     ensures goes { IsProgramCall F.Files L.Files U.Unkept S.tells C.tells K.tells G.tells
         (K.real keepers.old.locks) (S.shown system.now) outside.old.is_terminal
-        (E.contents outside.old.err.now) (E.contents outside.new.err.now)
+        (stream_of E.Sink outside.old.err.now) (stream_of E.Sink outside.new.err.now)
         (scene_outside F.Files L.Files U.Unkept C.Caller O.Sink files lockfiles unkept
         (K.shown keepers.old.locks) (G.shown keepers.old.guards) outside.old)
         (scene_outside F.Files L.Files U.Unkept C.Caller O.Sink result.1 result.2 result.3

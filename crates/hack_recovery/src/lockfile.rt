@@ -4,14 +4,17 @@
 //! A guard acts at once, so it gives the lockfile back what the copy has. Any later call can't tell
 //! cargo's change from a person's, so it leaves the lockfile as it is.
 
-ghost use Rattle.std.specs.Prelude.{◌≡◌, ◌≢◌, ◌⊎◌, [], None, Ok, OnOk, Some, false, string_bytes, true};
+ghost use Rattle.std.specs.Prelude.{◌≡◌, ◌≢◌, ◌⊎◌, [], IfErr, None, Ok, OnOk, Some, false};
+ghost use Rattle.std.specs.Prelude.{string_bytes, true};
 ghost use Rattle.std.specs.Option.{option_or};
 ghost use Rattle.hack_base.specs.Counters.{GrowsBy};
 ghost use Rattle.hack_base.specs.Names.{Name};
 ghost use Rattle.hack_files.specs.Files.{CountsFailedCall, KeepsAll, KeepsOthers, Makes};
 ghost use Rattle.hack_files.specs.Files.{MakesOrNot, puts, removes};
+ghost use Rattle.hack_recovery.specs.Restoring.{IsWhyUncopied};
 ghost use Rattle.hack_recovery.specs.Scenes.{OneMayFail};
 ghost use Rattle.hack_recovery.specs.Telling.{Tells};
+ghost use Rattle.hack_run.specs.LastingEdits.{IsSpoilt};
 ghost use Rattle.hack_run.specs.Worlds.{IsSameHost, host_view};
 
 use crate::fault::CallFault;
@@ -42,6 +45,8 @@ pub(crate) fn keep_copy<F: Files, L: Files, E: Sink>(
         → F.bytes_at files.new (string_bytes places.now.copy)
         ≡ option_or (L.bytes_at lockfiles.old (string_bytes places.now.lockfile))
         (F.bytes_at files.old (string_bytes places.now.copy))) }
+    ensures why { IfErr result (IsWhyUncopied (F.refuses files.old files.new)
+        (string_bytes places.now.copy) (L.failed lockfiles.old) (L.failed lockfiles.new)) }
     ensures counted { OnOk result (GrowsBy 0 (F.failed files.old) (F.failed files.new)) }
     ensures lockfiles_counted { OnOk result
         (GrowsBy 0 (L.failed lockfiles.old) (L.failed lockfiles.new)) }
@@ -74,7 +79,9 @@ fn copy_fault<F: Files, E: Sink>(
     files: &F,
     term: &Term,
     err: &mut E,
-) -> CallFault {
+) -> CallFault
+    ensures { (result ≡ CallFault.Memory) ⊎ (result ≡ CallFault.NoCopy) }
+{
     match fault {
         FileFault::Memory => CallFault::Memory,
         FileFault::Device => {
@@ -112,6 +119,10 @@ pub(crate) fn settle<F: Files, L: Files, C: Caller, O: Sink, E: Sink>(
         → (bytes : Name) → F.bytes_at files.old (string_bytes places.now.copy) ≡ Some bytes
         → L.bytes_at lockfiles.new (string_bytes places.now.lockfile) ≡ Some bytes }
 
+    // Where it isn't done, a call of the files failed, or one of the lockfiles.
+    ensures why { result ≡ Ok false → GrowsBy 1 (F.failed files.old) (F.failed files.new)
+        ⊎ GrowsBy 1 (L.failed lockfiles.old) (L.failed lockfiles.new) }
+
     // Whatever comes of it, at most one call of the files failed, and one of the lockfiles; and the
     // guard leaves the copy, or the lockfile has what it had.
     ensures failed { OneMayFail (F.failed files.old) (F.failed files.new) }
@@ -120,6 +131,13 @@ pub(crate) fn settle<F: Files, L: Files, C: Caller, O: Sink, E: Sink>(
         → (bytes : Name) → F.bytes_at files.old (string_bytes places.now.copy) ≡ Some bytes
         → (F.bytes_at files.new (string_bytes places.now.copy) ≡ Some bytes)
         ⊎ (L.bytes_at lockfiles.new (string_bytes places.now.lockfile) ≡ Some bytes) }
+
+    // The lockfile holds what it held, or what the copy has, unless its own write was refused.
+    ensures only { L.tells → (L.bytes_at lockfiles.new (string_bytes places.now.lockfile)
+        ≡ L.bytes_at lockfiles.old (string_bytes places.now.lockfile))
+        ⊎ ((F.tells → L.bytes_at lockfiles.new (string_bytes places.now.lockfile)
+        ≡ F.bytes_at files.old (string_bytes places.now.copy))
+        ⊎ IsSpoilt (L.refuses lockfiles.old lockfiles.new) (string_bytes places.now.lockfile)) }
 
     // Nobody else changes it, and nobody where there is no copy.
     ensures left { host.old.env.now.by_guard ≡ false → L.tells
@@ -167,8 +185,14 @@ fn give_back<L: Files, C: Caller, O: Sink, E: Sink>(
     ensures told { Tells host.old.term.now host.new.term.now result }
     ensures given { result ≡ Ok true → L.tells
         → L.bytes_at lockfiles.new (string_bytes places.now.lockfile) ≡ Some bytes.now }
+    ensures only { L.tells → (L.bytes_at lockfiles.new (string_bytes places.now.lockfile)
+        ≡ L.bytes_at lockfiles.old (string_bytes places.now.lockfile))
+        ⊎ ((L.bytes_at lockfiles.new (string_bytes places.now.lockfile) ≡ Some bytes.now)
+        ⊎ IsSpoilt (L.refuses lockfiles.old lockfiles.new) (string_bytes places.now.lockfile)) }
     ensures counted { result ≡ Ok true
         → GrowsBy 0 (L.failed lockfiles.old) (L.failed lockfiles.new) }
+    ensures why { result ≡ Ok false
+        → GrowsBy 1 (L.failed lockfiles.old) (L.failed lockfiles.new) }
     ensures failed { OneMayFail (L.failed lockfiles.old) (L.failed lockfiles.new) }
     ensures apart { L.tells → KeepsOthers (string_bytes places.now.lockfile)
         (L.bytes_at lockfiles.old) (L.bytes_at lockfiles.new) }
@@ -201,6 +225,8 @@ fn leave<L: Files, C: Caller, O: Sink, E: Sink>(
     ensures told { Tells host.old.term.now host.new.term.now result }
     ensures counted { result ≡ Ok true
         → GrowsBy 0 (L.failed lockfiles.old) (L.failed lockfiles.new) }
+    ensures why { result ≡ Ok false
+        → GrowsBy 1 (L.failed lockfiles.old) (L.failed lockfiles.new) }
     ensures failed { OneMayFail (L.failed lockfiles.old) (L.failed lockfiles.new) }
     ensures same { L.tells → KeepsAll (L.bytes_at lockfiles.old) (L.bytes_at lockfiles.new) }
 {
@@ -246,6 +272,7 @@ fn drop_copy<F: Files, E: Sink>(
     ensures gone { result ≡ Ok true → F.tells
         → F.bytes_at files.new (string_bytes places.now.copy) ≡ None }
     ensures counted { result ≡ Ok true → GrowsBy 0 (F.failed files.old) (F.failed files.new) }
+    ensures why { result ≡ Ok false → GrowsBy 1 (F.failed files.old) (F.failed files.new) }
     ensures failed { OneMayFail (F.failed files.old) (F.failed files.new) }
     ensures others { F.tells → KeepsOthers (string_bytes places.now.copy)
         (F.bytes_at files.old) (F.bytes_at files.new) }

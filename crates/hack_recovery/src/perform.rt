@@ -8,7 +8,8 @@ ghost use Rattle.hack_journal.specs.Rows.{spot_of};
 ghost use Rattle.hack_recovery.specs.AskedEdits.{is_restore};
 ghost use Rattle.hack_recovery.specs.CallCourses.{Continues, IsCallCourse, IsJournalClosed};
 ghost use Rattle.hack_recovery.specs.CallCourses.{CopiesAndRuns, IsJournaledCall, IsLockedCourse};
-ghost use Rattle.hack_recovery.specs.CallCourses.{PerformsUnjournaled, RunsOverJournal, Warns};
+ghost use Rattle.hack_recovery.specs.CallCourses.{PerformsUnjournaled, RefusesThese};
+ghost use Rattle.hack_recovery.specs.CallCourses.{RunsOverJournal, Warns};
 ghost use Rattle.hack_recovery.specs.GuardEvents.{GuardsView};
 ghost use Rattle.hack_recovery.specs.LockEvents.{LocksView};
 ghost use Rattle.hack_places.specs.PlacesView.{places_view};
@@ -197,7 +198,8 @@ fn take_back<F: Files, L: Files, C: Caller, O: Sink, E: Sink>(
     ensures host { IsSameHost host.old host.new }
     ensures stopped { result ≡ Ok false → host.new.term.now.error ≡ true }
     ensures goes { (unkept : ℕ) (locks : LocksView) (guards : GuardsView)
-        → TakesBack F.tells F.whole L.tells host.old.env.now.by_guard (places_view places.now)
+        → TakesBack (RefusesThese L.Files) F.tells F.whole L.tells host.old.env.now.by_guard
+        (places_view places.now)
         (scene_by (files_view F.Files files.old) (files_view L.Files lockfiles.old) unkept
         locks guards (host_view C.Caller O.Sink host.old))
         (scene_by (files_view F.Files files.new) (files_view L.Files lockfiles.new) unkept

@@ -1,10 +1,11 @@
 //! Restores what an interrupted call left edited, and reports it.
 
-ghost use Rattle.std.specs.Prelude.{◌≡◌, ◌≢◌, IfErr, IfOk, Ok, option_and_then, option_map, true};
+ghost use Rattle.std.specs.Prelude.{◌≡◌, ◌≢◌, ◌↔◌, IfErr, IfOk, IsTrue, Ok, option_and_then};
+ghost use Rattle.std.specs.Prelude.{option_map, true};
 ghost use Rattle.hack_journal.specs.Journal.{edit_of, edits_of};
 ghost use Rattle.hack_journal.specs.Rows.{spot_of};
 ghost use Rattle.hack_journal.specs.Strangers.{first_stranger};
-ghost use Rattle.hack_recovery.specs.Restoring.{IsBroughtBack, Restores};
+ghost use Rattle.hack_recovery.specs.Restoring.{IsBroughtBack, IsToldAs, Restores};
 ghost use Rattle.hack_recovery.specs.Telling.{Tells};
 ghost use Rattle.hack_files.specs.View.{files_view};
 
@@ -149,7 +150,7 @@ fn tell_fault<E: Sink>(
     err: &mut E,
 ) -> Result<bool, CallFault>
     ensures told { Tells term.old term.new result }
-    ensures never { result ≢ Ok true }
+    ensures told_as { IsToldAs fault result }
 {
     if is_memory(&fault) {
         return Err(CallFault::Memory);
@@ -183,7 +184,9 @@ fn is_refusal(fault: &RecoverFault) -> bool {
     }
 }
 
-fn is_memory(fault: &RecoverFault) -> bool {
+fn is_memory(fault: &RecoverFault) -> bool
+    ensures { IsTrue result ↔ (fault.now ≡ RecoverFault.Memory) }
+{
     match fault {
         RecoverFault::Memory => true,
         _ => false,

@@ -1,1 +1,4 @@
+pub mod ExplainLemmas
+pub mod FoundLemmas
 pub mod ReportLemmas
+pub mod StrengthLemmas

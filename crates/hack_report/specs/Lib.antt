@@ -1,2 +1,5 @@
+pub mod Conflicts
+pub mod Explained
 pub mod Findings
+pub mod Remarks
 pub mod Reported

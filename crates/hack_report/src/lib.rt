@@ -5,4 +5,5 @@ pub mod conflict_lines;
 mod explain;
 pub mod findings;
 pub mod noted;
+pub mod remarks;
 pub mod report;

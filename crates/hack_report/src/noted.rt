@@ -9,12 +9,12 @@ use hack_term::term::Term;
 pub struct Noted {
     /// Whether something that was searched for fails.
     pub fails: bool,
-    /// Whether a warning was told.
+    /// Whether a warning was reported.
     pub warns: bool,
 }
 
 impl Noted {
-    /// What a terminal on which nothing else was told has noted.
+    /// What a terminal on which nothing else was reported has noted.
     pub(crate) fn by(term: &Term) -> Noted
         ensures { result ≡ record { fails = term.now.error; warns = term.now.warn } }
     {

@@ -1,10 +1,10 @@
 //! The report of the runs that failed.
 
-ghost use Rattle.std.specs.Prelude.{◌≡◌, ◌||◌, IfOk, IfSome, MatchBool, OnErr, OnOk, false, option_copied};
+ghost use Rattle.std.specs.Prelude.{◌≡◌, ◌||◌, IfOk, MatchBool, OnErr, OnOk, false};
 ghost use Rattle.std.specs.List.{list_any};
-ghost use Rattle.std.specs.Option.{option_map_or};
-ghost use Rattle.hack_base.specs.Streams.{WritesSome, stream_of};
-ghost use Rattle.hack_report.specs.Reported.{SaysReport, WritesReport, are_reported};
+ghost use Rattle.hack_base.specs.Streams.{stream_of};
+ghost use Rattle.hack_load.specs.ContextView.{context_view};
+ghost use Rattle.hack_report.specs.Reported.{SaysCutReport, SaysReport, WritesReport, are_reported};
 ghost use Rattle.hack_report.specs.Reported.{is_failed_preparation as has_unprepared};
 
 use crate::explain::explain;
@@ -18,24 +18,21 @@ use std::alloc::{AllocError, Global};
 pub fn report_all<E: Sink>(
     alloc: Global,
     cx: &Context,
-    session: Option<&Session>,
+    session: &Session,
     term: &mut Term,
     err: &mut E,
 ) -> Result<(), AllocError>
-    ensures error { OnOk result (term.new.error
-        ≡ (term.old.error || option_map_or are_reported (option_copied session.entry) false)) }
+    ensures error { OnOk result (term.new.error ≡ (term.old.error || are_reported session.now)) }
     ensures kept { term.new.error ≡ false → term.old.error ≡ false }
     ensures warn { term.new.warn ≡ term.old.warn }
-    ensures shown { OnOk result (IfSome (option_copied session.entry) (λ s.
-        SaysReport term.old.coloring s (stream_of E.Sink err.old) (stream_of E.Sink err.new))) }
+    ensures shown { OnOk result (SaysReport term.old.coloring (context_view cx.now) session.now
+        (stream_of E.Sink err.old) (stream_of E.Sink err.new)) }
 
-    // Where memory is refused too, nothing but lines is written, each whole or with a failure.
-    ensures lines { WritesSome (stream_of E.Sink err.old) (stream_of E.Sink err.new) }
+    // Where memory is refused, the report was written whole before, or nothing was.
+    ensures cut { OnErr result (SaysCutReport term.old.coloring session.now
+        (stream_of E.Sink err.old) (stream_of E.Sink err.new)) }
     ensures term { term.new ≡ record term.old { error = term.new.error } }
 {
-    let Some(session) = session else {
-        return Ok(());
-    };
     if report(alloc, session, term, err)? {
         explain(alloc, cx, session, term, err)?;
     }
@@ -63,7 +60,8 @@ fn report<E: Sink>(
         return Ok(false);
     }
     let report = session.report(alloc)?;
-    if report.count == 0 {
+    // By `len` it is known that the names are in order.
+    if report.commands.len() == 0 {
         return Ok(false);
     }
     let text = format!(in alloc; "{report}")?;

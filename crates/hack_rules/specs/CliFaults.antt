@@ -10,8 +10,8 @@ use Rattle.hack_versions.specs.declared.version.VersionFault.{VersionFault}
 use Rattle.hack_versions.specs.declared.version.VersionFault.TheVariants as version
 use Rattle.hack_term.specs.declared.log_group.LogGroupFault.{LogGroupFault}
 use Rattle.hack_term.specs.declared.log_group.LogGroupFault.TheVariants as log_group
-use Rattle.hack_plan.specs.declared.partition.PartitionFault.{PartitionFault}
-use Rattle.hack_plan.specs.declared.partition.PartitionFault.TheVariants as partition
+use Rattle.hack_partition.specs.declared.partition.PartitionFault.{PartitionFault}
+use Rattle.hack_partition.specs.declared.partition.PartitionFault.TheVariants as partition
 use Rattle.hack_rules.specs.declared.fault.Beside.{Beside}
 use Rattle.hack_rules.specs.declared.fault.CliFault.{CliFault}
 use Rattle.hack_rules.specs.declared.fault.CliFault.TheVariants as code

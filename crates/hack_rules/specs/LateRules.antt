@@ -5,7 +5,7 @@ use Rattle.std.specs.Option.{is_none, option_map_or, option_or}
 use Rattle.std.specs.Result.{result_err}
 use Rattle.hack_base.specs.Numbers.{number_of}
 use Rattle.hack_term.specs.Groups.{log_group_of}
-use Rattle.hack_plan.specs.Partitions.{piece_of, kind_of}
+use Rattle.hack_partition.specs.Partitions.{piece_of, kind_of}
 use Rattle.hack_versions.specs.Readings.{range_of}
 use Rattle.hack_options.specs.declared.opt.Opt.{Opt}
 use Rattle.hack_options.specs.declared.opt.Opt.TheVariants as opt

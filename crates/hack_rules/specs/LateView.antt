@@ -2,8 +2,8 @@
 use Rattle.std.specs.Prelude.{◌≡◌, Bool, List, IfSome, option_map}
 use Rattle.std.specs.Option.{unwrap_or}
 use Rattle.hack_base.specs.Numbers.{number_of}
-use Rattle.hack_plan.specs.Partitions.{piece_of, kind_of}
-use Rattle.hack_plan.specs.declared.partition.PartitionKind.TheVariants.{Block}
+use Rattle.hack_partition.specs.Partitions.{piece_of, kind_of}
+use Rattle.hack_partition.specs.declared.partition.PartitionKind.TheVariants.{Block}
 use Rattle.hack_options.specs.declared.opt.Opt.TheVariants as opt
 use Rattle.hack_rules.specs.Uses.{Use}
 use Rattle.hack_rules.specs.AskedFields.{range_asked, is_old_asked, log_group_asked}

@@ -7,7 +7,7 @@ ghost use Rattle.hack_rules.specs.declared.fault.CliFault.TheVariants.{Memory};
 
 use crate::uses::CutFault;
 use hack_options::Opt;
-use hack_plan::partition::PartitionFault;
+use hack_partition::partition::PartitionFault;
 use hack_term::term::LogGroupFault;
 use hack_versions::version::VersionFault;
 use std::alloc::{AllocError, AllocFailed};

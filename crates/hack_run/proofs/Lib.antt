@@ -5,11 +5,14 @@ mod GatherLemmas
 mod LoadingLemmas
 pub mod ReadingLemmas
 mod LaneLemmas
+pub mod LastingLemmas
 mod RefusalLemmas
 mod RunLemmas
 mod StartedLemmas
 mod ErrorLemmas
 mod FindingLemmas
+mod ConclusionLemmas
+mod BrokenLemmas
 mod ToldLemmas
 mod ShownLemmas
 pub mod TraceLemmas

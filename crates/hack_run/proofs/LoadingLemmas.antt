@@ -46,24 +46,6 @@ pub warns_unknown : (version : Result ℕ (String Global)) → have_warning (war
 warns_unknown (Ok minor) = refl
 warns_unknown (Err warning) = refl
 
-minor_in : (shown answer : Name) (version : Result ℕ (String Global)) → TellsVersion shown answer (told_version version) → IsMinorIn (release_part answer) (result_ok version)
-minor_in shown answer (Ok minor) h = h
-minor_in shown answer (Err warning) h = no_release answer (release_part answer) h.0 h.1
-
-unknown : (version : Result ℕ (String Global)) (warning : Name) → told_version version ≡ Err warning → result_ok version ≡ None
-unknown (Ok minor) warning e = absurd (cc)
-unknown (Err text) warning e = refl
-
--- cargo's own version
-own : (args : Args) (env : Env) (version : Result ℕ (String Global)) (host : Option Name) (old new : List Call) → IsSelf args env (told_version version) host old new
-    → AsksFor (λ text. (host ≡ option_and_then host_of text) × IsMinorIn (option_and_then release_part text) (result_ok version)) (self_command (string_bytes env.cargo)) old new
-own args env version host old new (inl h) = inl (h.0, h.1, (h.2.named, minor_in (shown_self args env) h.0 version h.2.tells))
-own args env version host old new (inr h) = inr (
-  in_vain (Unit {0}) (self_command (string_bytes env.cargo)) _ old new h.0 h.2.memory h.1 tt,
-  unnamed (Unit {0}) (self_command (string_bytes env.cargo)) _ old new h.0 h.1 tt,
-  (h.2.unnamed, subst (IsMinorIn None) (sym (unknown version (unknown_version (fault_text h.0)) h.2.warns)) (λ v told. told)),
-)
-
 -- a question that ended asked at most for one thing more
 stops : (q : Question) (stage : Stage) (mid new : List Call) (e : AskFault) → StopsQuestion q stage mid new e → MayAsk q stage mid new
 stops q stage mid new ask.Memory h = h
@@ -110,7 +92,7 @@ loaded tells W args env held before now old new a (inl h) =
     inl (record {
       host = h.host;
       mid = h.mid;
-      own = own args env a.cargo_version h.host old h.mid h.own;
+      own = h.own;
       loads = loads tells args env held before now q h.mid h.loads.mid new a.loaded h.loads.asked (ends-map tells q held h.mid h.loads.mid W (λ stage made. Unit {0}) (λ stage made w. tt) h.loads.asked h.loads.ends) h.loads.follows;
     })
 loaded tells W args env held before now old new a (inr h) = inr (ap result_ok h.0, h.2)

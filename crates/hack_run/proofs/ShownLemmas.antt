@@ -1,6 +1,6 @@
 -- What a call says, put together from its stages.
 use Rattle.std.proofs.Common.{◌≡◌, ◌⊎◌, ◌∙◌, ◌+◌, ◌∷◌, ℕ, zero, suc, Bool, Err, Global, IfOk, IsOk, List, None, Ok, OnErr, OnOk, Option, Result, Some, String, ap, arith, drop, false, filter, get_or, length, if◌then◌else◌, inl, inr, map, refl, subst, string_bytes, sym, true}
-use Rattle.std.specs.Prelude.{◌<◌, ◌≢◌, ◌↔◌, ◌&&◌, ◌||◌, ◌++◌, [], IfErr, IfSome, IsSome, IsTrue, MatchBool, MatchOption, not}
+use Rattle.std.specs.Prelude.{◌<◌, ◌≢◌, ◌↔◌, ◌&&◌, ◌||◌, ◌++◌, [], IfErr, IfSome, IsSome, IsTrue, MatchBool, MatchOption, nat_lt, not}
 use Rattle.std.specs.Result.{is_err}
 use Rattle.std.proofs.lemmas.List.{drop_more}
 use Rattle.hack_base.proofs.StreamLemmas.{wrote_none}
@@ -23,7 +23,7 @@ use Rattle.hack_planner.specs.declared.fault.PlanFault.{PlanFault}
 use Rattle.hack_planner.specs.declared.fault.PlanFault.TheVariants as plan
 use Rattle.hack_process.specs.Calls.{Call}
 use Rattle.hack_process.specs.declared.fault.ProcessFault.{ProcessFault}
-use Rattle.hack_report.specs.Reported.{SaysReport, are_reported}
+use Rattle.hack_report.specs.Reported.{SaysCutReport, SaysReport, are_reported}
 use Rattle.hack_plan.specs.View.{PlanView}
 use Rattle.hack_session.specs.Histories.{Course}
 use Rattle.hack_session.specs.ListLines.{is_sent}
@@ -31,6 +31,7 @@ use Rattle.hack_session.specs.declared.step.Handed.{Handed}
 use Rattle.hack_session.specs.StepEffects.{DoesAll, Scene, State, state}
 use Rattle.hack_session.specs.StepOutput.{Manner, Streams, manner_of}
 use Rattle.hack_session.specs.declared.starter.Starter.{Starter}
+use Rattle.hack_side.specs.Ends.{has_ended}
 use Rattle.hack_term.specs.Lines.{info_line}
 use Rattle.hack_term.specs.declared.log_group.LogGroup.{LogGroup}
 use Rattle.hack_term.specs.declared.log_group.LogGroup.TheVariants as log
@@ -42,12 +43,16 @@ use Rattle.hack_words.specs.declared.cli.env.Env.{Env}
 use Rattle.hack_words.specs.declared.cli.parse.Parsed.{Parsed}
 use Rattle.hack_words.specs.declared.cli.parse.Parsed.TheVariants as parsed
 use Rattle.hack_run.specs.CallTrace.{colored_by}
+use Rattle.hack_run.specs.Conclusions.{Conclusion, ConcludesSo, SaysSearch}
 use Rattle.hack_run.specs.Handed.{IsPlannedAsAsked, is_hunt, is_search}
 use Rattle.hack_run.specs.Internal.{EndsList, HandsOverAtMostOne, HandsSteps, ListsSteps}
 use Rattle.hack_run.specs.Questions.{AsksStable, MayAskStable}
-use Rattle.hack_run.specs.Shown.{ComesOfList, ComesOfRuns, HasNoPlan, IsNoPlan, Looks, RefusesSome, SaysAfterLoading, SaysItsPlan, SaysLines, SaysList, SaysLoaded, SaysNoPlan, SaysNotes, SaysParsed, SaysPlan, SaysRuns, SaysStarved, SaysSteps, dressed_by, goes_on, looks_of, manner_for, performed_of, planned, reported_on, scene_with, unasked}
+use Rattle.hack_run.specs.Shown.{ComesOfList, ComesOfRuns, ComesOfSearch, HasNoPlan, IsNoPlan, Looks, RefusesSome, SaysAfterLoading, SaysItsPlan, SaysLines, SaysList, SaysLoaded, SaysNoPlan, SaysNotes, SaysParsed, SaysPlan, SaysRuns, SaysStarved, SaysSteps, dressed_by, goes_on, looks_of, manner_for, performed_of, planned, reported_on, scene_with, unasked}
 use Rattle.hack_run.specs.declared.fault.RunFault.{RunFault}
 use Rattle.hack_run.specs.declared.fault.RunFault.TheVariants as fault
+
+by_case : (P Q : Type 0) (case b : Bool) → b ≡ case → MatchBool case P Q → MatchBool b P Q
+by_case P Q case b is h = subst (λ (c : Bool). MatchBool c P Q) (sym is) h
 
 pub not_off : {X : Type 0} → true ≡ false → X
 not_off off = absurd (cc)
@@ -64,7 +69,7 @@ pub steps_said : {C O E : Type 0} (tells : Type 0) (listing : Bool) (calls : C �
     → start.keep_going ≡ goes_on listing cx.args → start.log_group ≡ group_for listing cx.args
     → TellsNotes e notes start mid → begun.err ≡ stream_of e mid.err.now → (listing ≡ false → begun.out ≡ old.streams.out)
     → DoesAll tells mid.keep_going (manner_of mid.log_group mid.term.now) course.plan (performed_of listing course.handed) (state (calls mid.caller.now) begun mid.fault.now mid.term.now.error mid.refused) last
-    → new.calls ≡ last.scene.calls → (listing ≡ false → new.streams.out ≡ last.scene.streams.out) → (is_search listing cx.args ≡ false → new.streams.err ≡ last.scene.streams.err)
+    → new.calls ≡ last.scene.calls → (listing ≡ false → new.streams.out ≡ last.scene.streams.out) → new.streams.err ≡ last.scene.streams.err
     → SaysSteps tells listing cx stable rustup kept (looks_of term) old new
 steps_said {C} {O} {E} tells listing calls e cx stable rustup kept course notes fails warns start mid begun last term old new made caller_is term_is err_is fault_is refused_is keep_is group_is told begun_is first did calls_end out_end err_end =
     let group = group_for listing cx.args in
@@ -96,20 +101,43 @@ steps_said {C} {O} {E} tells listing calls e cx stable rustup kept course notes 
     }
 
 -- the same of a session
-pub steps_handed : {C O E : Type 0} (tells : Type 0) (calls : C → List Call) (e : Taking E) (cx : ContextRecord) (stable : Result (Option Version) (String Global)) (rustup : Name) (kept now : Option ProcessFault) (reported : Bool)
+pub steps_handed : {C O E : Type 0} (tells : Type 0) (calls : C → List Call) (e : Taking E) (cx : ContextRecord) (stable : Result (Option Version) (String Global)) (rustup : Name) (kept : Option ProcessFault)
     (course : Course) (notes : List Note) (fails warns : Bool) (start mid : Starter C O E) (begun : Streams) (last : State) (term : Term) (old new : Scene)
     → IsPlannedAsAsked (IsPlanOf cx.args.subcommand stable cx rustup) false false cx rustup course notes fails warns
     → calls start.caller.now ≡ old.calls → start.term.now ≡ term → stream_of e start.err.now ≡ old.streams.err → start.fault.now ≡ kept → start.refused ≡ 0
     → start.keep_going ≡ goes_on false cx.args → start.log_group ≡ cx.args.log_group
     → TellsNotes e notes start mid → begun.err ≡ stream_of e mid.err.now → (false ≡ false → begun.out ≡ old.streams.out)
     → DoesAll tells mid.keep_going (manner_of mid.log_group mid.term.now) course.plan course.handed (state (calls mid.caller.now) begun mid.fault.now mid.term.now.error mid.refused) last
-    → new.calls ≡ last.scene.calls → (false ≡ false → new.streams.out ≡ last.scene.streams.out) → (is_search false cx.args ≡ false → new.streams.err ≡ last.scene.streams.err) → now ≡ last.kept → reported ≡ last.told
-    → HandsSteps tells cx stable rustup kept now reported (looks_of term) (Some course) old new
+    → new.calls ≡ last.scene.calls → (false ≡ false → new.streams.out ≡ last.scene.streams.out) → new.streams.err ≡ last.scene.streams.err → is_search false cx.args ≡ false
+    → HandsSteps tells cx stable rustup kept last.kept last.told (looks_of term) (Some course) old new
 unfolding steps_said
-steps_handed tells calls e cx stable rustup kept now reported course notes fails warns start mid begun last term old new made caller_is term_is err_is fault_is refused_is keep_is group_is told begun_is first did calls_end out_end err_end kept_end told_end = (
-  steps_said tells false calls e cx stable rustup kept course notes fails warns start mid begun last term old new made caller_is term_is err_is fault_is refused_is keep_is group_is told begun_is first did calls_end out_end err_end,
-  λ off. (refl, kept_end, told_end),
-)
+steps_handed tells calls e cx stable rustup kept course notes fails warns start mid begun last term old new made caller_is term_is err_is fault_is refused_is keep_is group_is told begun_is first did calls_end out_end err_end off = record {
+  mid = new;
+  steps = steps_said tells false calls e cx stable rustup kept course notes fails warns start mid begun last term old new made caller_is term_is err_is fault_is refused_is keep_is group_is told begun_is first did calls_end out_end err_end;
+  calls = refl;
+  out = refl;
+  behind = by_case _ _ false (is_search false cx.args) off (refl, refl, refl, refl);
+}
+
+-- the same of a search, whose conclusion was said behind them
+pub steps_searched : {C O E : Type 0} (tells : Type 0) (calls : C → List Call) (e : Taking E) (cx : ContextRecord) (stable : Result (Option Version) (String Global)) (rustup : Name) (kept left : Option ProcessFault) (reported : Bool)
+    (course : Course) (notes : List Note) (fails warns : Bool) (start mid : Starter C O E) (begun : Streams) (last : State) (term : Term) (old between new : Scene) (conclusion : Conclusion)
+    → IsPlannedAsAsked (IsPlanOf cx.args.subcommand stable cx rustup) false false cx rustup course notes fails warns
+    → calls start.caller.now ≡ old.calls → start.term.now ≡ term → stream_of e start.err.now ≡ old.streams.err → start.fault.now ≡ kept → start.refused ≡ 0
+    → start.keep_going ≡ goes_on false cx.args → start.log_group ≡ cx.args.log_group
+    → TellsNotes e notes start mid → begun.err ≡ stream_of e mid.err.now → (false ≡ false → begun.out ≡ old.streams.out)
+    → DoesAll tells mid.keep_going (manner_of mid.log_group mid.term.now) course.plan course.handed (state (calls mid.caller.now) begun mid.fault.now mid.term.now.error mid.refused) last
+    → between.calls ≡ last.scene.calls → (false ≡ false → between.streams.out ≡ last.scene.streams.out) → between.streams.err ≡ last.scene.streams.err → is_search false cx.args ≡ true
+    → ConcludesSo cx rustup course notes fails warns (has_ended last.kept last.refused) conclusion → SaysSearch (nat_lt 0 last.refused) conclusion term.coloring last.kept last.told left reported between.streams.err new.streams.err
+    → new.calls ≡ between.calls → new.streams.out ≡ between.streams.out → HandsSteps tells cx stable rustup kept left reported (looks_of term) None old new
+unfolding steps_said
+steps_searched tells calls e cx stable rustup kept left reported course notes fails warns start mid begun last term old between new conclusion made caller_is term_is err_is fault_is refused_is keep_is group_is told begun_is first did calls_end out_end err_end on concludes said calls_more out_more = record {
+  mid = between;
+  steps = steps_said tells false calls e cx stable rustup kept course notes fails warns start mid begun last term old between made caller_is term_is err_is fault_is refused_is keep_is group_is told begun_is first did calls_end out_end err_end;
+  calls = calls_more;
+  out = out_more;
+  behind = by_case _ _ true (is_search false cx.args) on (refl, conclusion, concludes, said);
+}
 
 -- the same of a list
 pub steps_listed : {C O E : Type 0} (tells : Type 0) (calls : C → List Call) (e : Taking E) (cx : ContextRecord) (stable : Result (Option Version) (String Global)) (rustup : Name) (now : Option ProcessFault) (reported : Bool)
@@ -119,7 +147,7 @@ pub steps_listed : {C O E : Type 0} (tells : Type 0) (calls : C → List Call) (
     → start.keep_going ≡ goes_on true cx.args → start.log_group ≡ group_for true cx.args
     → TellsNotes e notes start mid → begun.err ≡ stream_of e mid.err.now → (true ≡ false → begun.out ≡ old.streams.out)
     → DoesAll tells mid.keep_going (manner_of mid.log_group mid.term.now) course.plan (performed_of true course.handed) (state (calls mid.caller.now) begun mid.fault.now mid.term.now.error mid.refused) last
-    → new.calls ≡ last.scene.calls → (true ≡ false → new.streams.out ≡ last.scene.streams.out) → (is_search true cx.args ≡ false → new.streams.err ≡ last.scene.streams.err) → now ≡ last.kept → reported ≡ last.told
+    → new.calls ≡ last.scene.calls → (true ≡ false → new.streams.out ≡ last.scene.streams.out) → new.streams.err ≡ last.scene.streams.err → now ≡ last.kept → reported ≡ last.told
     → ListsSteps tells cx stable rustup now reported (looks_of term) old new
 unfolding steps_said
 steps_listed tells calls e cx stable rustup now reported course notes fails warns start mid begun last term old new made caller_is term_is err_is fault_is refused_is keep_is group_is told begun_is first did calls_end out_end err_end kept_end told_end = (
@@ -127,10 +155,6 @@ steps_listed tells calls e cx stable rustup now reported course notes fails warn
   kept_end,
   told_end,
 )
-
--- nothing was said
-pub nothing_said : (listing : Bool) (old new : Scene) → new ≡ old → SaysLines listing old new
-nothing_said listing old new same = (ap (λ s. s.calls) same, λ off. ap (λ s. s.streams.out) same, wrote_none old.streams.err new.streams.err (ap (λ s. s.streams.err) same))
 
 -- what a list says doesn't hang on where its lines go
 pub said_elsewhere : (tells : Type 0) (cx : ContextRecord) (stable : Result (Option Version) (String Global)) (rustup : Name) (kept : Option ProcessFault) (looks : Looks) (old new other : Scene) → other.calls ≡ new.calls → other.streams.err ≡ new.streams.err
@@ -148,11 +172,18 @@ said_elsewhere tells cx stable rustup kept looks old new other calls err h = rec
   does = h.does;
   calls = calls ∙ h.calls;
   out = λ off. not_off off;
-  err = λ off. err ∙ h.err off;
+  err = err ∙ h.err;
 }
 
 lines_elsewhere : (old new other : Scene) → other.calls ≡ new.calls → other.streams.err ≡ new.streams.err → SaysLines true old new → SaysLines true old other
 lines_elsewhere old new other calls err h = (calls ∙ h.0, λ off. not_off off, subst (λ (s : Stream). WritesSome old.streams.err s) (sym err) h.2)
+
+some-same : {s t : Course} → Some s ≡ Some t → s ≡ t
+some-same {s} {t} e = ap (λ (o : Option Course). get_some o s) e
+  where
+    get_some : Option Course → Course → Course
+    get_some None d = d
+    get_some (Some x) d = x
 
 pub on_error : {T E X : Type 0} (r : Result T E) → X → OnErr r X
 on_error (Ok v) x = tt
@@ -161,57 +192,91 @@ on_error (Err e) x = x
 -- what runs come to, by what is kept of their steps
 comes_by : (came : Result (Unit {0}) RunFault) (cx : ContextRecord) (looks now : Looks) (course : Course) (last : State) (kept : Option ProcessFault) (old new : Stream) → last.kept ≡ kept
     → MatchOption kept
-    (((came ≡ Err fault.Memory) × WritesSome old new)
-    ⊎ ((came ≡ Ok tt) × SaysReport looks.coloring course old new × (now.reported ≡ (last.told || are_reported course))))
+    (((came ≡ Err fault.Memory) × SaysCutReport looks.coloring course old new)
+    ⊎ ((came ≡ Ok tt) × SaysReport looks.coloring cx course old new × (now.reported ≡ (last.told || are_reported course))))
     (λ failed. (came ≡ Err (fault.Process failed)) × (new ≡ old))
     → ComesOfRuns came cx looks now course last old new
 comes_by came cx looks now course last kept old new is h = subst (λ (o : Option ProcessFault). MatchOption o
-    (((came ≡ Err fault.Memory) × WritesSome old new)
-    ⊎ ((came ≡ Ok tt) × SaysReport looks.coloring course old new × (now.reported ≡ (last.told || are_reported course))))
+    (((came ≡ Err fault.Memory) × SaysCutReport looks.coloring course old new)
+    ⊎ ((came ≡ Ok tt) × SaysReport looks.coloring cx course old new × (now.reported ≡ (last.told || are_reported course))))
     (λ failed. (came ≡ Err (fault.Process failed)) × (new ≡ old))) (sym is) h
 
--- steps were said, and no report after them, since the session was stopped
-pub said_stopped : (failed : ProcessFault) (kept : Option ProcessFault) (reported : Bool) (tells : Type 0) (cx : ContextRecord) (stable : Result (Option Version) (String Global)) (rustup : Name) (looks now : Looks) (session : Option Course) (old new : Scene)
-    → HandsSteps tells cx stable rustup None kept reported looks session old new → kept ≡ Some failed → now ≡ reported_on now.reported looks → SaysRuns (Err (fault.Process failed)) tells cx stable rustup looks now old new
-said_stopped failed kept reported tells cx stable rustup looks now session old new steps is same = record {
-  mid = new;
-  steps = steps.0;
-  calls = refl;
-  out = refl;
-  comes = λ off. comes_by (Err (fault.Process failed)) cx looks now steps.0.course steps.0.last (Some failed) new.streams.err new.streams.err (sym (steps.1 off).1 ∙ is) (refl, refl);
-  more = wrote_none new.streams.err new.streams.err refl;
-  ends = same;
-}
+-- the session is one where no search is asked for, and none where one is
+module _ (tells : Type 0) (cx : ContextRecord) (stable : Result (Option Version) (String Global)) (rustup : Name) (looks now : Looks) (old hands new : Scene) (left : Option ProcessFault) (came : Result (Unit {0}) RunFault)
+    (calls : new.calls ≡ hands.calls) (out : new.streams.out ≡ hands.streams.out) (same : now ≡ reported_on now.reported looks) where
+  said-by : (session : Option Course) (reported : Bool) (h : HandsSteps tells cx stable rustup None left reported looks session old hands)
+      → ((conclusion : Conclusion) → session ≡ None → ConcludesSo cx rustup h.steps.course h.steps.notes h.steps.fails h.steps.warns (has_ended h.steps.last.kept h.steps.last.refused) conclusion
+      → SaysSearch (nat_lt 0 h.steps.last.refused) conclusion looks.coloring h.steps.last.kept h.steps.last.told left reported h.mid.streams.err hands.streams.err
+      → ComesOfSearch came cx rustup looks now h.steps.course h.steps.notes h.steps.fails h.steps.warns h.steps.last h.mid.streams.err new.streams.err)
+      → (session ≡ Some h.steps.course → left ≡ h.steps.last.kept → reported ≡ h.steps.last.told → hands.streams.err ≡ h.mid.streams.err
+      → ComesOfRuns came cx looks now h.steps.course h.steps.last h.mid.streams.err new.streams.err)
+      → SaysRuns came tells cx stable rustup looks now old new
+  said-by session reported h searched ran = record {
+    mid = h.mid;
+    steps = h.steps;
+    calls = calls ∙ h.calls;
+    out = out ∙ h.out;
+    comes = go (is_search false cx.args) h.behind;
+    ends = same;
+  }
+    where
+      go : (b : Bool)
+          → MatchBool b
+          ((session ≡ None) × (conclusion : Conclusion) × ConcludesSo cx rustup h.steps.course h.steps.notes h.steps.fails h.steps.warns (has_ended h.steps.last.kept h.steps.last.refused) conclusion
+          × SaysSearch (nat_lt 0 h.steps.last.refused) conclusion looks.coloring h.steps.last.kept h.steps.last.told left reported h.mid.streams.err hands.streams.err)
+          ((session ≡ Some h.steps.course) × (left ≡ h.steps.last.kept) × (reported ≡ h.steps.last.told) × (hands.streams.err ≡ h.mid.streams.err))
+          → MatchBool b
+          (ComesOfSearch came cx rustup looks now h.steps.course h.steps.notes h.steps.fails h.steps.warns h.steps.last h.mid.streams.err new.streams.err)
+          (ComesOfRuns came cx looks now h.steps.course h.steps.last h.mid.streams.err new.streams.err)
+      go true p = searched p.1 p.0 p.2 p.3
+      go false p = ran p.0 p.1 p.2 p.3
+
+-- the error that is left ends the call
+left_by : (came : Result (Unit {0}) RunFault) (left known : Option ProcessFault) → left ≡ known → MatchOption known (came ≡ Ok tt) (λ failed. came ≡ Err (fault.Process failed)) → MatchOption left (came ≡ Ok tt) (λ failed. came ≡ Err (fault.Process failed))
+left_by came left known is h = subst (λ (o : Option ProcessFault). MatchOption o (came ≡ Ok tt) (λ failed. came ≡ Err (fault.Process failed))) (sym is) h
+
+-- steps were said, and no report after them, since they were stopped
+pub said_stopped : (failed : ProcessFault) (left : Option ProcessFault) (tells : Type 0) (cx : ContextRecord) (stable : Result (Option Version) (String Global)) (rustup : Name) (looks now : Looks) (session : Option Course) (old new : Scene)
+    → HandsSteps tells cx stable rustup None left now.reported looks session old new → left ≡ Some failed → now ≡ reported_on now.reported looks → SaysRuns (Err (fault.Process failed)) tells cx stable rustup looks now old new
+said_stopped failed left tells cx stable rustup looks now session old new h is same =
+    said-by tells cx stable rustup looks now old new new left (Err (fault.Process failed)) refl refl same session now.reported h
+    (λ conclusion none concludes said. (
+      conclusion,
+      left,
+      concludes,
+      said,
+      left_by (Err (fault.Process failed)) left (Some failed) is refl,
+    ))
+    (λ one kept told quiet. comes_by (Err (fault.Process failed)) cx looks now h.steps.course h.steps.last (Some failed) h.mid.streams.err new.streams.err (sym kept ∙ is) (refl, quiet))
 
 -- ... or since memory was refused for it
-pub said_unreported : (came : Result (Unit {0}) RunFault) (kept : Option ProcessFault) (reported : Bool) (tells : Type 0) (cx : ContextRecord) (stable : Result (Option Version) (String Global)) (rustup : Name) (looks now : Looks) (session : Option Course) (old mid new : Scene)
-    → HandsSteps tells cx stable rustup None kept reported looks session old mid → kept ≡ None → came ≡ Err fault.Memory → new.calls ≡ mid.calls → new.streams.out ≡ mid.streams.out → WritesSome mid.streams.err new.streams.err → now ≡ reported_on now.reported looks
-    → SaysRuns came tells cx stable rustup looks now old new
-said_unreported came kept reported tells cx stable rustup looks now session old mid new steps none is calls out more same = record {
-  mid = mid;
-  steps = steps.0;
-  calls = calls;
-  out = out;
-  comes = λ off. comes_by came cx looks now steps.0.course steps.0.last None mid.streams.err new.streams.err (sym (steps.1 off).1 ∙ none) (inl (is, more));
-  more = more;
-  ends = same;
-}
+pub said_unreported : (came : Result (Unit {0}) RunFault) (left : Option ProcessFault) (reported : Bool) (tells : Type 0) (cx : ContextRecord) (stable : Result (Option Version) (String Global)) (rustup : Name) (looks now : Looks) (course : Course) (old hands new : Scene)
+    → HandsSteps tells cx stable rustup None left reported looks (Some course) old hands → left ≡ None → came ≡ Err fault.Memory → new.calls ≡ hands.calls → new.streams.out ≡ hands.streams.out
+    → SaysCutReport looks.coloring course hands.streams.err new.streams.err → now ≡ reported_on now.reported looks → SaysRuns came tells cx stable rustup looks now old new
+said_unreported came left reported tells cx stable rustup looks now course old hands new h none is calls out cut same =
+    said-by tells cx stable rustup looks now old hands new left came calls out same (Some course) reported h
+    (λ conclusion nothing concludes said. absurd (cc))
+    (λ one kept told quiet. comes_by came cx looks now h.steps.course h.steps.last None h.mid.streams.err new.streams.err (sym kept ∙ none)
+    (inl (is, subst (λ (s : Stream). SaysCutReport looks.coloring h.steps.course s new.streams.err) quiet (subst (λ (t : Course). SaysCutReport looks.coloring t hands.streams.err new.streams.err) (some-same one) cut))))
 
 -- ... and the report
-pub said_reported : (kept : Option ProcessFault) (reported : Bool) (tells : Type 0) (cx : ContextRecord) (stable : Result (Option Version) (String Global)) (rustup : Name) (looks now : Looks) (session : Option Course) (old mid new : Scene)
-    → HandsSteps tells cx stable rustup None kept reported looks session old mid → kept ≡ None → new.calls ≡ mid.calls → new.streams.out ≡ mid.streams.out → WritesSome mid.streams.err new.streams.err
-    → ((t : Course) → session ≡ Some t → SaysReport looks.coloring t mid.streams.err new.streams.err) → ((t : Course) → session ≡ Some t → now.reported ≡ (reported || are_reported t)) → now ≡ reported_on now.reported looks
-    → SaysRuns (Ok tt) tells cx stable rustup looks now old new
-said_reported kept reported tells cx stable rustup looks now session old mid new steps none calls out more report noted same = record {
-  mid = mid;
-  steps = steps.0;
-  calls = calls;
-  out = out;
-  comes = λ off. let at = steps.1 off in comes_by (Ok tt) cx looks now steps.0.course steps.0.last None mid.streams.err new.streams.err (sym at.1 ∙ none)
-      (inr (refl, report steps.0.course at.0, noted steps.0.course at.0 ∙ ap (λ (b : Bool). b || are_reported steps.0.course) at.2));
-  more = more;
-  ends = same;
-}
+pub said_reported : (left : Option ProcessFault) (reported : Bool) (tells : Type 0) (cx : ContextRecord) (stable : Result (Option Version) (String Global)) (rustup : Name) (looks now : Looks) (course : Course) (old hands new : Scene)
+    → HandsSteps tells cx stable rustup None left reported looks (Some course) old hands → left ≡ None → new.calls ≡ hands.calls → new.streams.out ≡ hands.streams.out
+    → SaysReport looks.coloring cx course hands.streams.err new.streams.err → now.reported ≡ (reported || are_reported course) → now ≡ reported_on now.reported looks → SaysRuns (Ok tt) tells cx stable rustup looks now old new
+said_reported left reported tells cx stable rustup looks now course old hands new h none calls out report noted same =
+    said-by tells cx stable rustup looks now old hands new left (Ok tt) calls out same (Some course) reported h
+    (λ conclusion nothing concludes said. absurd (cc))
+    (λ one kept told quiet. comes_by (Ok tt) cx looks now h.steps.course h.steps.last None h.mid.streams.err new.streams.err (sym kept ∙ none)
+    (inr (refl, subst (λ (s : Stream). SaysReport looks.coloring cx h.steps.course s new.streams.err) quiet (subst (λ (t : Course). SaysReport looks.coloring cx t hands.streams.err new.streams.err) (some-same one) report),
+    noted ∙ ap (λ (b : Bool). b || are_reported course) told ∙ ap (λ (t : Course). h.steps.last.told || are_reported t) (some-same one))))
+
+-- a search's steps were said, and its conclusion
+pub said_found : (left : Option ProcessFault) (tells : Type 0) (cx : ContextRecord) (stable : Result (Option Version) (String Global)) (rustup : Name) (looks now : Looks) (session : Option Course) (old new : Scene)
+    → HandsSteps tells cx stable rustup None left now.reported looks session old new → left ≡ None → session ≡ None → now ≡ reported_on now.reported looks → SaysRuns (Ok tt) tells cx stable rustup looks now old new
+said_found left tells cx stable rustup looks now session old new h none nothing same =
+    said-by tells cx stable rustup looks now old new new left (Ok tt) refl refl same session now.reported h
+    (λ conclusion is concludes said. (conclusion, left, concludes, said, left_by (Ok tt) left None none refl))
+    (λ one kept told quiet. let both : None ≡ Some h.steps.course = sym nothing ∙ one in absurd (cc))
 
 -- runs go on where that is asked for, and no search is
 pub goes_on_if : (args : Args) → is_search false args ≡ false → goes_on false args ≡ args.keep_going
@@ -389,13 +454,9 @@ no_plan listing calls e cx stable error term a b old new term_is calls_is start 
   ap looks_of told.1.6 ∙ ap looks_of term_is,
 )
 
--- an error's cause, by what is asked for
-pub no_plan_by : (listing hunts : Bool) (cx : ContextRecord) (stable : Result (Option Version) (String Global)) (e : PlanFault) → is_hunt listing cx.args ≡ hunts
-    → (e ≡ plan.Memory) ⊎ MatchBool hunts (IsSome cx.args.subcommand × IsPackagesCause cx e) (IsCauseOf cx.args.subcommand stable cx e) → IsNoPlan listing cx stable e
-no_plan_by listing hunts cx stable e is h = subst (λ (b : Bool). (e ≡ plan.Memory) ⊎ MatchBool b (IsSome cx.args.subcommand × IsPackagesCause cx e) (IsCauseOf cx.args.subcommand stable cx e)) (sym is) h
+-- a report is coloured as the call's lines
+pub report_of : (cx : ContextRecord) (t : Course) (a b : Term) (old new : Stream) → looks_of a ≡ record (looks_of b) { reported = a.error } → SaysReport a.coloring cx t old new → SaysReport b.coloring cx t old new
+report_of cx t a b old new looks report = subst (λ (coloring : Coloring). SaysReport coloring cx t old new) (ap (λ l. l.coloring) looks) report
 
--- a report is that of the session
-pub report_of : (copied session : Option Course) (t : Course) (a b : Term) (old new : Stream) → copied ≡ session → session ≡ Some t → looks_of a ≡ record (looks_of b) { reported = a.error }
-    → IfSome copied (λ s. SaysReport a.coloring s old new) → SaysReport b.coloring t old new
-report_of copied session t a b old new same is looks report =
-    subst (λ (coloring : Coloring). SaysReport coloring t old new) (ap (λ l. l.coloring) looks) (subst (λ (o : Option Course). IfSome o (λ s. SaysReport a.coloring s old new)) (same ∙ is) report)
+pub cut_of : (t : Course) (a b : Term) (old new : Stream) → looks_of a ≡ record (looks_of b) { reported = a.error } → SaysCutReport a.coloring t old new → SaysCutReport b.coloring t old new
+cut_of t a b old new looks cut = subst (λ (coloring : Coloring). SaysCutReport coloring t old new) (ap (λ l. l.coloring) looks) cut

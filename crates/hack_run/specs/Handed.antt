@@ -19,7 +19,8 @@ use Rattle.hack_session.specs.Handouts.{IsDriven}
 use Rattle.hack_session.specs.Histories.{Course}
 use Rattle.hack_session.specs.declared.step.Handed.{Handed}
 use Rattle.hack_words.specs.declared.cli.args.Args.{Args}
-use Rattle.hack_report.specs.Findings.{has_conflict, is_failing, is_open, some_too_low}
+use Rattle.hack_report.specs.Conflicts.{has_conflict, is_open}
+use Rattle.hack_report.specs.Findings.{is_failing, some_too_low}
 
 -- the arguments ask for a search for conflicts, where they don't ask for a list
 abbrev pub is_hunt : Bool → Args → Bool

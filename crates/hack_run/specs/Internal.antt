@@ -1,5 +1,5 @@
 -- What only private functions of the crate promise each other.
-use Rattle.std.specs.Prelude.{ℕ, ◌≡◌, ◌≢◌, ◌⊎◌, ◌||◌, [], IfErr, IfOk, IfSome, Bool, false, true, List, Option, Result, Some, None, Ok, Err, string_bytes, All, filter}
+use Rattle.std.specs.Prelude.{ℕ, ◌≡◌, ◌≢◌, ◌⊎◌, ◌||◌, [], IfErr, IfOk, IfSome, Bool, false, true, List, Option, Result, Some, None, Ok, Err, string_bytes, All, MatchBool, filter, nat_lt}
 use Rattle.std.specs.Io.KnownBytes.{Keeps, Appends, append_known}
 use Rattle.std.proofs.Common.{Global, String}
 use Rattle.hack_base.specs.Names.{Name}
@@ -20,6 +20,7 @@ use Rattle.hack_session.specs.declared.step.Handed.{Handed}
 use Rattle.hack_base.specs.Notes.{Note}
 use Rattle.hack_base.specs.Streams.{stream_of}
 use Rattle.hack_versions.specs.declared.version.Version.{Version}
+use Rattle.hack_run.specs.LastingEdits.{LeavesEdits}
 use Rattle.hack_run.specs.Worlds.{HostView, World, host_view}
 use Rattle.hack_run.specs.declared.fault.RunFault.{RunFault}
 use Rattle.hack_run.specs.declared.fault.RunFault.TheVariants as fault
@@ -27,7 +28,8 @@ use Rattle.hack_run.specs.declared.host.Host.{Host}
 use Rattle.hack_base.specs.declared.writes.Sink.{Ghosts as Taking}
 use Rattle.hack_process.specs.declared.caller.Caller.{Ghosts as Calling}
 use Rattle.hack_run.specs.CallTrace.{PerformsOne, PerformsPlan, WritesText}
-use Rattle.hack_report.specs.Findings.{has_conflict, is_failing, is_open, some_too_low}
+use Rattle.hack_report.specs.Conflicts.{has_conflict, is_open}
+use Rattle.hack_report.specs.Findings.{is_failing, some_too_low}
 use Rattle.hack_hunt.specs.declared.hunt.Hunted.{Hunted}
 use Rattle.hack_msrv.specs.Searches.{AreUnbroken}
 use Rattle.hack_msrv.specs.declared.found.Found.{Found}
@@ -47,8 +49,10 @@ use Rattle.std.specs.List.{flat_map, list_any}
 use Rattle.hack_planner.specs.CallPlan.{IsPlanOf}
 use Rattle.hack_planner.specs.declared.fault.PlanFault.{PlanFault}
 use Rattle.hack_process.specs.declared.fault.ProcessFault.{ProcessFault}
+use Rattle.hack_run.specs.Conclusions.{Conclusion, ConcludesSo, SaysSearch}
 use Rattle.hack_run.specs.Handed.{is_search}
 use Rattle.hack_run.specs.Shown.{Looks, SaysSteps}
+use Rattle.hack_side.specs.Ends.{has_ended}
 use Rattle.hack_session.specs.Histories.{Course}
 use Rattle.hack_session.specs.StepEffects.{Scene}
 use Rattle.hack_session.specs.ListLines.{is_sent, lines_written}
@@ -166,16 +170,29 @@ IsUntoldRefusal e came old new =
     IfErr came (λ fault. is_refusal fault ≡ true) × (new.term.now ≡ old.term.now)
     × (stream_of e new.err.now ≡ stream_of e old.err.now)
 
--- steps were said, of a session, unless a search is asked for; this error is kept then, and it is noted so whether one was reported
-abbrev pub HandsSteps : Type 0 → ContextRecord → Result (Option Version) (String Global) → Name → Option ProcessFault → Option ProcessFault → Bool → Looks → Option Course → Scene → Scene → Type 0
-HandsSteps tells cx stable rustup kept now reported looks session old new =
-    (steps : SaysSteps tells false cx stable rustup kept looks old new)
-    × (is_search false cx.args ≡ false → (session ≡ Some steps.course) × (now ≡ steps.last.kept) × (reported ≡ steps.last.told))
+-- Steps were said, and behind those of a search what is said of its conclusion. This error is left then, and it is noted so
+-- whether one was reported; the session is that of the steps, and a search has none.
+pub record HandsSteps (tells : Type 0) (cx : ContextRecord) (stable : Result (Option Version) (String Global)) (rustup : Name) (kept left : Option ProcessFault) (reported : Bool) (looks : Looks) (session : Option Course) (old new : Scene) : Type 0 where
+  pub mid : Scene
+  pub steps : SaysSteps tells false cx stable rustup kept looks old mid
+  pub calls : new.calls ≡ mid.calls
+  pub out : new.streams.out ≡ mid.streams.out
+  pub behind : MatchBool (is_search false cx.args)
+      ((session ≡ None) × (conclusion : Conclusion) × ConcludesSo cx rustup steps.course steps.notes steps.fails steps.warns (has_ended steps.last.kept steps.last.refused) conclusion
+      × SaysSearch (nat_lt 0 steps.last.refused) conclusion looks.coloring steps.last.kept steps.last.told left reported mid.streams.err new.streams.err)
+      ((session ≡ Some steps.course) × (left ≡ steps.last.kept) × (reported ≡ steps.last.told) × (new.streams.err ≡ mid.streams.err))
 
 -- a context was made of answers, and its edits, where files hold what was read of them
 abbrev pub FollowsEdits : Type 0 → Args → Answers → Env → Contents → Contents → Type 0
 FollowsEdits tells args answers env old new =
     (cx : ContextRecord) × IsContextFrom args answers cx × (tells → IfOk answers.loaded (IsLoaded tells old env) → IsPreparedIn cx old new)
+
+-- no file was changed; or a context was made of answers, and at most its edits were made, where files hold
+-- what was read of them
+abbrev pub FollowsAndLeaves : (List Name → Type 0) → Type 0 → Args → Answers → Env → Contents → Contents → Type 0
+FollowsAndLeaves Refuses tells args answers env old new =
+    (new ≡ old)
+    ⊎ ((cx : ContextRecord) × IsContextFrom args answers cx × (IfOk answers.loaded (IsLoaded tells old env) → LeavesEdits Refuses tells cx old new))
 
 -- a list's steps were said, this error is kept, and it is noted so whether one was reported
 abbrev pub ListsSteps : Type 0 → ContextRecord → Result (Option Version) (String Global) → Name → Option ProcessFault → Bool → Looks → Scene → Scene → Type 0

@@ -2,6 +2,7 @@ pub mod Errors
 pub mod Handed
 pub mod Started
 pub mod CallTrace
+pub mod Conclusions
 pub mod CallChanges
 pub mod Questions
 pub mod TemporaryEdits
@@ -10,6 +11,7 @@ pub mod Refusals
 pub mod Worlds
 pub mod Shown
 pub mod Standing
+pub mod LastingEdits
 pub mod Lanes
 pub mod Readings
 pub mod InternalExtensions

@@ -18,7 +18,7 @@ use Rattle.hack_metadata.specs.declared.metadata.Metadata.{Metadata}
 use Rattle.hack_words.specs.declared.cli.args.Args.{Args}
 use Rattle.hack_words.specs.declared.cli.env.Env.{Env}
 use Rattle.hack_load.specs.Answers.{IsLoaded}
-use Rattle.hack_load.specs.CargoQuestions.{AreOfMembers, locate, self_command}
+use Rattle.hack_load.specs.CargoQuestions.{AreOfMembers, IsSelf, locate, self_command, told_version}
 use Rattle.hack_load.specs.declared.answers.Answers.{Answers}
 use Rattle.hack_load.specs.declared.loaded.Loaded.{Loaded}
 
@@ -66,9 +66,7 @@ module _ (tells : Type 0) (args : Args) (env : Env) (held : Contents) where
   pub record AsksAll (old new : List Call) (a : Answers) : Type 0 where
     pub host : Option Name
     pub mid : List Call
-    pub own : AsksFor (λ text. (host ≡ option_and_then host_of text)
-        × IsMinorIn (option_and_then release_part text) (result_ok a.cargo_version))
-        (self_command (string_bytes env.cargo)) old mid
+    pub own : IsSelf args env (told_version a.cargo_version) host old mid
     pub loads : Loads (question args env (result_unwrap_or a.cargo_version 0) host) mid new
         (result_ok a.loaded)
 

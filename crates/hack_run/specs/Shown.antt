@@ -1,6 +1,6 @@
 -- What a call says on the way, and in which order: where it comes to its end, all of that and nothing else; where an
 -- error ends it, what was to be said before.
-use Rattle.std.specs.Prelude.{◌≡◌, ◌≢◌, ◌⊎◌, ◌&&◌, ◌||◌, [], ℕ, Bool, Err, IsOk, IsSome, List, MatchBool, MatchOption, None, Ok, Option, Result, false, filter, if◌then◌else◌, map, not, string_bytes, true}
+use Rattle.std.specs.Prelude.{◌≡◌, ◌≢◌, ◌⊎◌, ◌&&◌, ◌||◌, [], ℕ, Bool, Err, IsOk, IsSome, List, MatchBool, MatchOption, None, Ok, Option, Result, false, filter, if◌then◌else◌, map, nat_lt, not, string_bytes, true}
 use Rattle.std.specs.Io.KnownBytes.{Appends}
 use Rattle.std.specs.Result.{is_err}
 use Rattle.std.proofs.Common.{Global, String}
@@ -28,13 +28,14 @@ use Rattle.hack_prepare.specs.declared.fault.PrepareFault.{PrepareFault}
 use Rattle.hack_process.specs.Calls.{Call, MayAdd}
 use Rattle.hack_process.specs.declared.fault.ProcessFault.{ProcessFault}
 use Rattle.hack_process.specs.declared.caller.Caller.{Ghosts as Calling}
-use Rattle.hack_report.specs.Reported.{SaysReport, are_reported}
+use Rattle.hack_report.specs.Reported.{SaysCutReport, SaysReport, are_reported}
 use Rattle.hack_rules.specs.declared.fault.CliFault.{CliFault}
 use Rattle.hack_session.specs.Histories.{Course}
 use Rattle.hack_session.specs.ListLines.{is_sent}
 use Rattle.hack_session.specs.StepEffects.{DoesAll, Scene, State, state}
 use Rattle.hack_session.specs.StepOutput.{Manner, Streams, streams}
 use Rattle.hack_session.specs.declared.step.Handed.{Handed}
+use Rattle.hack_side.specs.Ends.{has_ended}
 use Rattle.hack_term.specs.Lines.{info_line}
 use Rattle.hack_term.specs.declared.log_group.LogGroup.TheVariants as log
 use Rattle.hack_term.specs.declared.term.Coloring.{Coloring}
@@ -49,6 +50,7 @@ use Rattle.hack_words.specs.declared.cli.env.Env.{Env}
 use Rattle.hack_words.specs.declared.cli.parse.Parsed.{Parsed}
 use Rattle.hack_words.specs.declared.cli.parse.Parsed.TheVariants as parsed
 use Rattle.hack_run.specs.CallTrace.{colored_by}
+use Rattle.hack_run.specs.Conclusions.{Conclusion, ConcludesSo, SaysSearch}
 use Rattle.hack_run.specs.Errors.{SaysEnd}
 use Rattle.hack_run.specs.Handed.{IsPlannedAsAsked, is_hunt, is_search}
 use Rattle.hack_run.specs.Loading.{AreLoaded}
@@ -118,8 +120,8 @@ goes_on listing args = not (is_search listing args) && args.keep_going
 abbrev pub performed_of : Bool → List Handed → List Handed
 performed_of listing handed = if listing then filter is_sent handed else handed
 
--- The notices of a plan were said, and then just what the steps say that were handed out; of a search no more is
--- said here. Lines of groups go to `out`, but a list has none. This error was kept before.
+-- The notices of a plan were said, and then just what the steps say that were handed out. Lines of groups go to `out`,
+-- but a list has none. This error was kept before.
 pub record SaysSteps (tells : Type 0) (listing : Bool) (cx : ContextRecord) (stable : Result (Option Version) (String Global)) (rustup : Name) (kept : Option ProcessFault) (looks : Looks) (old new : Scene) : Type 0 where
   pub course : Course
   pub notes : List Note
@@ -133,7 +135,7 @@ pub record SaysSteps (tells : Type 0) (listing : Bool) (cx : ContextRecord) (sta
   pub does : DoesAll tells (goes_on listing cx.args) (manner_for listing cx.args looks) course.plan (performed_of listing course.handed) (state old.calls begun kept looks.reported 0) last
   pub calls : new.calls ≡ last.scene.calls
   pub out : listing ≡ false → new.streams.out ≡ last.scene.streams.out
-  pub err : is_search listing cx.args ≡ false → new.streams.err ≡ last.scene.streams.err
+  pub err : new.streams.err ≡ last.scene.streams.err
 
 -- nothing was called, and lines were said at most
 abbrev pub SaysLines : Bool → Scene → Scene → Type 0
@@ -155,18 +157,26 @@ SaysNoPlan came listing cx stable looks now old new = (e : PlanFault) × (came �
 -- these show, and then an error was reported where one is reported there, or by a step; or memory was refused for that.
 abbrev pub ComesOfRuns : Result (Unit {0}) RunFault → ContextRecord → Looks → Looks → Course → State → Stream → Stream → Type 0
 ComesOfRuns came cx looks now course last old new = MatchOption last.kept
-    (((came ≡ Err fault.Memory) × WritesSome old new)
-    ⊎ ((came ≡ Ok tt) × SaysReport looks.coloring course old new × (now.reported ≡ (last.told || are_reported course))))
+    (((came ≡ Err fault.Memory) × SaysCutReport looks.coloring course old new)
+    ⊎ ((came ≡ Ok tt) × SaysReport looks.coloring cx course old new × (now.reported ≡ (last.told || are_reported course))))
     (λ failed. (came ≡ Err (fault.Process failed)) × (new ≡ old))
 
--- steps were said, and then what they came to; of a search no more is said here
+-- what the steps of a search came to: what is said of its conclusion, and the error that is left, if there is one
+abbrev pub ComesOfSearch : Result (Unit {0}) RunFault → ContextRecord → Name → Looks → Looks → Course → List Note → Bool → Bool → State → Stream → Stream → Type 0
+ComesOfSearch came cx rustup looks now course notes fails warns last old new = (conclusion : Conclusion) × (left : Option ProcessFault)
+    × ConcludesSo cx rustup course notes fails warns (has_ended last.kept last.refused) conclusion
+    × SaysSearch (nat_lt 0 last.refused) conclusion looks.coloring last.kept last.told left now.reported old new
+    × MatchOption left (came ≡ Ok tt) (λ failed. came ≡ Err (fault.Process failed))
+
+-- steps were said, and then what they came to
 pub record SaysRuns (came : Result (Unit {0}) RunFault) (tells : Type 0) (cx : ContextRecord) (stable : Result (Option Version) (String Global)) (rustup : Name) (looks now : Looks) (old new : Scene) : Type 0 where
   pub mid : Scene
   pub steps : SaysSteps tells false cx stable rustup None looks old mid
   pub calls : new.calls ≡ mid.calls
   pub out : new.streams.out ≡ mid.streams.out
-  pub comes : is_search false cx.args ≡ false → ComesOfRuns came cx looks now steps.course steps.last mid.streams.err new.streams.err
-  pub more : WritesSome mid.streams.err new.streams.err
+  pub comes : MatchBool (is_search false cx.args)
+      (ComesOfSearch came cx rustup looks now steps.course steps.notes steps.fails steps.warns steps.last mid.streams.err new.streams.err)
+      (ComesOfRuns came cx looks now steps.course steps.last mid.streams.err new.streams.err)
   pub ends : now ≡ reported_on now.reported looks
 
 -- how a list ends: with the error that stopped its steps; else without one, or with that of a line that is missing

@@ -3,14 +3,16 @@
 ghost use Rattle.std.specs.Prelude.{◌≡◌, ◌⊎◌, Err, IfErr, List, None, Ok, OnErr, OnOk, Option};
 ghost use Rattle.std.specs.Prelude.{Result, String, false, true};
 ghost use Rattle.std.proofs.Common.{Global as Heap};
+ghost use Rattle.hack_base.specs.Streams.{stream_of};
 ghost use Rattle.hack_culprits.specs.declared.fault.CulpritsFault.TheVariants.{Ended};
 ghost use Rattle.hack_hunt.specs.Hunts.{came_of};
 ghost use Rattle.hack_hunt.specs.declared.hunt.Hunted.{Hunted as FoundSets};
 ghost use Rattle.hack_load.specs.ContextView.{context_view};
 ghost use Rattle.hack_run.specs.CallTrace.{PerformsOne};
-ghost use Rattle.hack_run.specs.Internal.{PerformsAtMostOne, Reports};
+ghost use Rattle.hack_run.specs.Conclusions.{SaysSearch, hunt_conclusion, reason_text};
+ghost use Rattle.hack_run.specs.Internal.{HandsSteps, PerformsAtMostOne, Reports};
 ghost use Rattle.hack_run.specs.Lanes.{RunsOne};
-ghost use Rattle.hack_run.specs.Shown.{HasNoPlan, KeepsLooks, SaysSteps, looks_of, scene_at};
+ghost use Rattle.hack_run.specs.Shown.{HasNoPlan, KeepsLooks, looks_of, scene_at};
 ghost use Rattle.hack_run.specs.Worlds.{host_of};
 ghost use Rattle.hack_versions.specs.declared.version.Version.{Version};
 
@@ -58,8 +60,8 @@ pub(crate) fn hunt_in_lanes<L: Turns, O: Sink, E: Sink>(
     ensures stays { L.stays lanes.old lanes.new }
     ensures refused { OnErr result (lanes.new ≡ lanes.old) }
     ensures shown { OnOk result ((stable : Result (Option Version) (String Heap))
-        → SaysSteps L.tells false (context_view cx.now) stable rustup.now
-        fault.old (looks_of term.old)
+        → HandsSteps L.tells (context_view cx.now) stable rustup.now
+        fault.old fault.new term.new.error (looks_of term.old) None
         (scene_at (L.calls lanes.old) O.Sink E.Sink out.old err.old)
         (scene_at (L.calls lanes.new) O.Sink E.Sink out.new err.new)) }
     ensures unplanned { IfErr result (λ e. (stable : Result (Option Version) (String Heap))
@@ -96,6 +98,10 @@ fn settle<E: Sink>(
         × (((fault.old ≡ None) × (came_of hunt.now.found ≡ Err Ended))
         ⊎ ((found : List FoundSets) × (came_of hunt.now.found ≡ Ok found)
         × Reports found fails.old fails.new term.old.warn term.new.warn)) }
+    ensures shown { SaysSearch refused
+        (hunt_conclusion (context_view cx.now).args.verbose hunt.now.plan (came_of hunt.now.found))
+        term.old.coloring fault.old term.old.error fault.new term.new.error
+        (stream_of E.Sink err.old) (stream_of E.Sink err.new) }
     ensures looks { KeepsLooks term.old term.new }
 {
     if refused {
@@ -105,7 +111,8 @@ fn settle<E: Sink>(
         Ok(found) => {
             *fault = None;
             let found = found.as_slice();
-            let told = tell_hunted(alloc, cx, &hunt.plan, found, term.coloring, err);
+            let verbose = cx.args().verbose;
+            let told = tell_hunted(alloc, verbose, &hunt.plan, found, term.coloring, err);
             keep(told, fails, term, err)
         }
         Err(CulpritsFault::Ended) => {}
@@ -117,7 +124,9 @@ fn settle<E: Sink>(
 }
 
 /// Why a search was cut short, where no run has said so.
-fn reason_of(fault: CulpritsFault) -> &'static str {
+fn reason_of(fault: CulpritsFault) -> &'static str
+    ensures { result.now ≡ reason_text fault }
+{
     match fault {
         CulpritsFault::TooManyRuns => "too many runs",
         CulpritsFault::Memory | CulpritsFault::Ended => "out of memory",

@@ -1,18 +1,21 @@
-//! The runs of a plan, and the report of those that failed.
+//! The runs of a plan or of a search, and the report on them.
 
-ghost use Rattle.std.specs.Prelude.{◌≡◌, ◌⊎◌, ◌||◌, Bool, Contains, IfErr, IfOk, IsOk, MatchBool, None};
-ghost use Rattle.std.specs.Prelude.{OnErr, OnOk, Some, false, string_bytes, true};
+ghost use Rattle.std.specs.Prelude.{◌≡◌, ◌⊎◌, ◌||◌, ◌∷◌, [], Bool, Contains, IfErr, IfOk, IsOk, MatchBool};
+ghost use Rattle.std.specs.Prelude.{None, OnErr, OnOk, Some, codes, false, string_bytes, true};
 ghost use Rattle.std.specs.Option.{unwrap_or};
+ghost use Rattle.hack_base.specs.Streams.{WritesAll, stream_of};
 ghost use Rattle.hack_load.specs.ContextView.{context_view};
 ghost use Rattle.hack_msrv.specs.Searches.{AreUnbroken};
 ghost use Rattle.hack_run.specs.CallTrace.{PerformsOne};
+ghost use Rattle.hack_run.specs.Conclusions.{SaysSearch, version_conclusion};
 ghost use Rattle.hack_run.specs.Internal.{MayPerformItsPlan, PerformsAtMostOne, PerformsItsPlan};
 ghost use Rattle.hack_run.specs.Internal.{HandsSteps, ReportsFound};
 ghost use Rattle.hack_run.specs.Lanes.{MayRunInLanes, RunsInLanes, RunsOne};
 ghost use Rattle.hack_drive.specs.Answered.{IsAnswered};
-ghost use Rattle.hack_run.specs.Shown.{HasNoPlan, KeepsLooks, SaysNoPlan, SaysRuns, SaysSteps};
+ghost use Rattle.hack_run.specs.Shown.{HasNoPlan, KeepsLooks, SaysNoPlan, SaysRuns};
 ghost use Rattle.hack_run.specs.Shown.{looks_of, scene_at, scene_on};
 ghost use Rattle.hack_run.specs.Worlds.{IsSameHost, host_of};
+ghost use Rattle.hack_term.specs.Lines.{error_line};
 
 use crate::conflict_search::hunt_in_lanes;
 use crate::fault::RunFault;
@@ -59,7 +62,8 @@ pub(crate) fn execute<C: Starts, O: Sink, E: Sink>(
     ensures ran { OnOk result (RunsInLanes C.did (context_view cx.now) stable
         (string_bytes host.old.env.now.rustup) host.old.caller.now host.new.caller.now) }
 
-    // The notices of the plan were said, then just what its steps say, and then the report.
+    // The notices of the plan were said, then just what its steps say, and then the report, or what a
+    // search found.
     ensures shown { C.tells → SaysNoPlan result false (context_view cx.now) stable
         (looks_of host.old.term.now) (looks_of host.new.term.now)
         (scene_on C.Caller O.Sink E.Sink host.old) (scene_on C.Caller O.Sink E.Sink host.new)
@@ -79,12 +83,18 @@ pub(crate) fn execute<C: Starts, O: Sink, E: Sink>(
         Some(fault) => return Err(RunFault::Process(fault)),
         None => {}
     }
-    report_all(host.alloc, cx, session.as_ref(), host.term, host.err)?;
-    Ok(())
+    match session {
+        Some(session) => {
+            report_all(host.alloc, cx, &session, host.term, host.err)?;
+            Ok(())
+        }
+        // A search said already what it found.
+        None => Ok(()),
+    }
 }
 
-/// Hands the plan to a starter, and returns its session; none after a search, which is reported
-/// already. The error that stopped it goes to `fault`, unless it was reported.
+/// Hands the plan to a starter, and returns its session; none after a search, whose conclusion is
+/// said already. The error that stopped it goes to `fault`, unless it was reported.
 fn hand_to_starter<C: Starts, O: Sink, E: Sink>(
     cx: &Context,
     stable: Result<Option<Version>, String>,
@@ -258,8 +268,8 @@ fn search_in_lanes<L: Turns, O: Sink, E: Sink>(
         (L.scene lanes.old) (L.scene lanes.new)) }
     ensures stays { L.stays lanes.old lanes.new }
     ensures refused { OnErr result (lanes.new ≡ lanes.old) }
-    ensures shown { OnOk result (SaysSteps L.tells false (context_view cx.now) stable rustup.now
-        fault.old (looks_of term.old)
+    ensures shown { OnOk result (HandsSteps L.tells (context_view cx.now) stable rustup.now
+        fault.old fault.new term.new.error (looks_of term.old) None
         (scene_at (L.calls lanes.old) O.Sink E.Sink out.old err.old)
         (scene_at (L.calls lanes.new) O.Sink E.Sink out.new err.new)) }
     ensures unplanned { IfErr result (HasNoPlan false (context_view cx.now) stable
@@ -297,6 +307,10 @@ fn settle<E: Sink>(
         × (((fault.old ≡ None) × Contains found.now Found.Broken)
         ⊎ ReportsFound (context_view cx.now) plan.now found.now
         fails.old fails.new term.old.warn term.new.warn) }
+    ensures shown { SaysSearch refused
+        (version_conclusion (context_view cx.now) plan.now found.now) term.old.coloring
+        fault.old term.old.error fault.new term.new.error
+        (stream_of E.Sink err.old) (stream_of E.Sink err.new) }
     ensures looks { KeepsLooks term.old term.new }
 {
     if refused {
@@ -314,7 +328,7 @@ fn settle<E: Sink>(
     );
 }
 
-/// Keeps what the lines on a search noted.
+/// Keeps what the lines on a search noted, or says that memory was refused for them.
 pub(crate) fn keep<E: Sink>(
     told: Result<Noted, AllocError>,
     fails: &mut bool,
@@ -326,6 +340,10 @@ pub(crate) fn keep<E: Sink>(
         → IfOk told (λ noted. (fails.new ≡ (fails.old || noted.fails))
         × (term.new.warn ≡ (term.old.warn || noted.warns))) }
     ensures told { term.new.error ≡ false → IsOk told }
+    ensures shown { OnOk told ((term.new.error ≡ term.old.error) × (err.new ≡ err.old)) }
+    ensures starved { OnErr told ((term.new.error ≡ true)
+        × WritesAll (error_line term.old.coloring (codes "out of memory") ∷ [])
+        (stream_of E.Sink err.old) (stream_of E.Sink err.new)) }
     ensures looks { KeepsLooks term.old term.new }
 {
     match told {

@@ -14,6 +14,7 @@ ghost use Rattle.hack_run.specs.CallChanges.{IsChangeTrace, ObeysAndChanges};
 ghost use Rattle.hack_run.specs.CallTrace.{IsCallTrace, Obeys, colored_by, listing_asked};
 ghost use Rattle.hack_run.specs.CallTrace.{warned_by};
 ghost use Rattle.hack_run.specs.Lanes.{IsLaneCall, ObeysInLanes};
+ghost use Rattle.hack_run.specs.LastingEdits.{LeavesAtMostEdits, ObeysAndLeaves};
 ghost use Rattle.hack_run.specs.Questions.{rustup_asked};
 ghost use Rattle.hack_run.specs.Readings.{IsEarlyReadingOrRefusal};
 ghost use Rattle.hack_run.specs.TemporaryEdits.{BringsBack, ComesBack, IsClean, RestoresEdits};
@@ -93,8 +94,8 @@ pub fn run<F: Files, C: Starts, O: Sink, E: Sink>(
         (world_of F.Files C.Caller O.Sink files.old host.old)
         (world_of F.Files C.Caller O.Sink files.new host.new) }
 
-    // Then each manifest that the arguments have edited held its edit once, and every other path what
-    // it held: what is performed doesn't touch them.
+    // Then each manifest that the arguments have edited held its edit once, and every other path
+    // what it held: what is performed doesn't touch them.
     ensures stood { host.new.term.now.error ≡ false
         → EditsStand (Between F.Files files.old files.new) F.tells C.tells
         (names_of words.now) host.old.env.now (F.bytes_at files.old)
@@ -118,6 +119,13 @@ pub fn run<F: Files, C: Starts, O: Sink, E: Sink>(
         → KeepsAllBut (F.refuses files.old files.new) F.tells
         (F.bytes_at files.old) (F.bytes_at files.new) }
 
+    // Whatever comes of the call, each path holds what it held, unless its own write was refused. Or
+    // the arguments have manifests edited for good: then each of these holds its edit or what it
+    // held, unless its own write was refused, and every other path what it held.
+    ensures lasting { LeavesAtMostEdits (F.refuses files.old files.new) F.tells C.tells
+        (names_of words.now) host.old.env.now (C.calls host.old.caller.now)
+        (F.bytes_at files.old) (F.bytes_at files.new) }
+
     // A call of the files that failed is reported as an error: where none was reported, none
     // failed, and each path holds what it held, unless the command line asks for edits that stay.
     ensures clean { host.new.term.now.error ≡ false
@@ -138,8 +146,8 @@ pub fn run<F: Files, C: Starts, O: Sink, E: Sink>(
 
     // Whatever comes of the call, just this is said, in this order: the notices on the command line,
     // on what was loaded, on edits and on the plan; what each step says; the report of the runs that
-    // failed; and an error's line last. Each is written whole, or its stream counted a failure for it.
-    // What a search says of what it found is left open.
+    // failed, and what only these have, or what a search found; and an error's line last. Each is
+    // written whole, or its stream counted a failure for it.
     ensures shown { C.tells → SaysCall (RefusesSome F.Files files.old files.new) F.tells C.tells
         (names_of words.now) host.old.env.now (F.bytes_at files.old)
         (looks_of host.old.term.now) (looks_of host.new.term.now)
@@ -184,6 +192,9 @@ fn read<F: Files, C: Starts, O: Sink, E: Sink>(
         → BringsBack (files_view F.Files files.old) (files_view F.Files files.new) }
     ensures spoilt { RestoresEdits host.old.env.now (names_of words.now)
         → KeepsAllBut (F.refuses files.old files.new) F.tells
+        (F.bytes_at files.old) (F.bytes_at files.new) }
+    ensures lasting { LeavesAtMostEdits (F.refuses files.old files.new) F.tells C.tells
+        (names_of words.now) host.old.env.now (C.calls host.old.caller.now)
         (F.bytes_at files.old) (F.bytes_at files.new) }
     ensures clean { OnOk result (host.new.term.now.error ≡ false
         → IsClean (RestoresEdits host.old.env.now (names_of words.now)) F.tells
@@ -244,6 +255,9 @@ fn obey<F: Files, C: Starts, O: Sink, E: Sink>(
     ensures back { ComesBack parsed → F.tells
         → BringsBack (files_view F.Files files.old) (files_view F.Files files.new) }
     ensures spoilt { ComesBack parsed → KeepsAllBut (F.refuses files.old files.new) F.tells
+        (F.bytes_at files.old) (F.bytes_at files.new) }
+    ensures lasting { ObeysAndLeaves (F.refuses files.old files.new) F.tells C.tells
+        parsed host.old.env.now (C.calls host.old.caller.now)
         (F.bytes_at files.old) (F.bytes_at files.new) }
     ensures clean { OnOk result (host.new.term.now.error ≡ false
         → IsClean (ComesBack parsed) F.tells

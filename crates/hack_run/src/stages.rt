@@ -11,15 +11,19 @@ ghost use Rattle.hack_load.specs.ContextOf.{IsContextCause, IsContextFrom, warni
 ghost use Rattle.hack_load.specs.ContextView.{context_view};
 ghost use Rattle.hack_load.specs.CargoQuestions.{told_version};
 ghost use Rattle.hack_prepare.specs.EditSteps.{KeepsOnly};
-ghost use Rattle.hack_prepare.specs.PreparedView.{AreWritesIn, HoldTextsIn, IsPreparedIn};
-ghost use Rattle.hack_prepare.specs.PreparedView.{IsTouchedIn, edits_in, notes_in, wanted_in};
+ghost use Rattle.hack_prepare.specs.FailureCounts.{WriteFails};
+ghost use Rattle.hack_prepare.specs.PreparedView.{AreWritesIn, HoldTextsIn, IsPartlyPreparedIn};
+ghost use Rattle.hack_prepare.specs.PreparedView.{IsPreparedIn, IsTouchedIn, KeepsUneditedIn};
+ghost use Rattle.hack_prepare.specs.PreparedView.{edits_in, notes_in, wanted_in};
 ghost use Rattle.hack_prepare.specs.Writes.{MakesSome};
 ghost use Rattle.hack_files.specs.Files.{Grows, KeepsAllBut};
 ghost use Rattle.hack_run.specs.CallChanges.{LoadsAndChanges};
 ghost use Rattle.hack_run.specs.CallTrace.{AfterLoading, LoadsAndPerforms};
-ghost use Rattle.hack_run.specs.Internal.{EditsAndPerforms, FollowsEdits, KeepsAsMade};
+ghost use Rattle.hack_run.specs.Internal.{EditsAndPerforms, FollowsAndLeaves, FollowsEdits};
+ghost use Rattle.hack_run.specs.Internal.{KeepsAsMade};
 ghost use Rattle.hack_run.specs.Internal.{MayPerformItsPlan, PerformsItsPlan};
 ghost use Rattle.hack_run.specs.Lanes.{FollowsInLanes, LoadsInLanes, MayRunInLanes, RunsInLanes};
+ghost use Rattle.hack_run.specs.LastingEdits.{LeavesAtMost};
 ghost use Rattle.hack_run.specs.Shown.{KeepsLooks, RefusesSome, SaysAfterLoading, SaysItsPlan, SaysLoaded, SaysLooks};
 ghost use Rattle.hack_run.specs.Shown.{SaysNotes, looks_of, scene_on};
 ghost use Rattle.hack_run.specs.Standing.{Between, LoadsAndEdits};
@@ -76,6 +80,9 @@ pub(crate) fn perform<F: Files, C: Starts, O: Sink, E: Sink>(
         → BringsBack (files_view F.Files files.old) (files_view F.Files files.new) }
     ensures spoilt { args.remove_dev_deps ≡ false → KeepsAllBut (F.refuses files.old files.new)
         F.tells (F.bytes_at files.old) (F.bytes_at files.new) }
+    ensures lasting { LeavesAtMost (F.refuses files.old files.new) F.tells C.tells args
+        host.old.env.now (C.calls host.old.caller.now)
+        (F.bytes_at files.old) (F.bytes_at files.new) }
     ensures clean { OnOk result (host.new.term.now.error ≡ false
         → IsClean (args.remove_dev_deps ≡ false) F.tells
         (files_view F.Files files.old) (files_view F.Files files.new)) }
@@ -144,6 +151,8 @@ fn follow<F: Files, C: Starts, O: Sink, E: Sink>(
         (world_of F.Files C.Caller O.Sink files.new host.new)) }
     ensures stood { OnOk result (FollowsEdits F.tells args answers host.old.env.now
         (F.bytes_at files.old) (F.bytes_at files.new)) }
+    ensures lasting { FollowsAndLeaves (F.refuses files.old files.new) F.tells args answers
+        host.old.env.now (F.bytes_at files.old) (F.bytes_at files.new) }
     ensures made { C.tells → AfterLoading false F.tells args answers
         (string_bytes host.old.env.now.rustup) host.old.term.now.warn
         (world_of F.Files C.Caller O.Sink files.old host.old)
@@ -223,6 +232,12 @@ fn edit<F: Files, E: Sink>(
     ensures prepared { OnOk result (F.tells
         → HoldTextsIn (context_view cx.now) (F.bytes_at files.old)
         → IsPreparedIn (context_view cx.now) (F.bytes_at files.old) (F.bytes_at files.new)) }
+    ensures edited { F.tells → HoldTextsIn (context_view cx.now) (F.bytes_at files.old)
+        → IsPartlyPreparedIn (context_view cx.now)
+        (WriteFails (F.refuses files.old files.new) (F.failed files.old) (F.failed files.new))
+        (F.bytes_at files.old) (F.bytes_at files.new) }
+    ensures others { F.tells → KeepsUneditedIn (context_view cx.now)
+        (F.bytes_at files.old) (F.bytes_at files.new) }
     ensures traced { OnOk result (F.whole → MakesSome (λ made.
         AreWritesIn (context_view cx.now) F.tells (F.bytes_at files.old) made
         × KeepsAsMade (context_view cx.now) made manager.old manager.new)

@@ -1,8 +1,9 @@
 //! Errors for the user. An error of writing them is ignored.
 
-ghost use Rattle.std.specs.Prelude.{◌≡◌, Err, None, OnErr, OnOk, option_map, true};
-ghost use Rattle.hack_base.specs.Streams.{stream_of};
+ghost use Rattle.std.specs.Prelude.{◌≡◌, ◌∷◌, [], Err, None, OnErr, OnOk, option_map, true};
+ghost use Rattle.hack_base.specs.Streams.{WritesAll, stream_of};
 ghost use Rattle.hack_run.specs.Errors.{SaysEnd, advice_of, choice_of};
+ghost use Rattle.hack_term.specs.Lines.{error_line};
 
 use crate::fault::RunFault;
 use hack_base::writes::Sink;
@@ -99,13 +100,15 @@ pub(crate) fn tell_end<E: Sink>(
 
 /// Reports what cut a search short.
 pub(crate) fn fail<E: Sink>(text: &str, term: &mut Term, err: &mut E)
-    ensures { term.new ≡ record term.old { error = true } }
+    ensures term { term.new ≡ record term.old { error = true } }
+    ensures shown { WritesAll (error_line term.old.coloring text.now ∷ [])
+        (stream_of E.Sink err.old) (stream_of E.Sink err.new) }
 {
     let _ = term.error(text, err);
 }
 
-/// Leaves a search in which memory was refused, which was told at once. What is kept then is the
-/// error of an earlier run, which is none of the call.
+/// Leaves a search in which memory was refused, which was reported at once. What is kept then is
+/// the error of an earlier run, which is none of the call.
 pub(crate) fn cut_off(fault: &mut Option<ProcessFault>, term: &mut Term)
     ensures fault { fault.new ≡ None }
     ensures term { term.new ≡ record term.old { error = true } }

@@ -4,7 +4,7 @@ use Rattle.std.specs.Prelude.{MatchOption}
 use Rattle.std.specs.List.{flat_map, list_any}
 use Rattle.std.proofs.lemmas.List.{drop-drop, drop_all, drop_more}
 use Rattle.std.proofs.lemmas.Option.{get_or_from_slice_get, slice_get_past, slice_get_within}
-use Rattle.hack_plan.specs.declared.partition.Partition.{Partition}
+use Rattle.hack_partition.specs.declared.partition.Partition.{Partition}
 use Rattle.hack_plan.specs.declared.parts.PlanVersion.{PlanVersion}
 use Rattle.hack_plan.specs.View.{PlanView}
 use Rattle.hack_session.specs.declared.schedule.Cursor.{Cursor}

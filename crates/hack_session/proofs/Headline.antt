@@ -9,10 +9,10 @@ use Rattle.std.proofs.lemmas.List.FromFn.{length-range_with_len, get_or-range_wi
 use Rattle.std.proofs.lemmas.List.Kept.{AllPairs-filter}
 use Rattle.std.proofs.lemmas.Option.{slice_get_cases}
 use Rattle.std.proofs.lemmas.Bool.Decides.{nat_tests}
-use Rattle.hack_plan.specs.declared.partition.Partition.{Partition}
-use Rattle.hack_plan.specs.declared.partition.PartitionKind.{PartitionKind}
-use Rattle.hack_plan.specs.declared.partition.PartitionKind.TheVariants.{Block, Turn}
-use Rattle.hack_plan.specs.Pieces.{InPiece}
+use Rattle.hack_partition.specs.declared.partition.Partition.{Partition}
+use Rattle.hack_partition.specs.declared.partition.PartitionKind.{PartitionKind}
+use Rattle.hack_partition.specs.declared.partition.PartitionKind.TheVariants.{Block, Turn}
+use Rattle.hack_partition.specs.Pieces.{InPiece}
 use Rattle.hack_plan.specs.View.{PlanView}
 use Rattle.hack_session.specs.declared.step.Step.{Step}
 use Rattle.hack_session.specs.declared.step.Step.TheVariants.{Prepare, Skip, Run}

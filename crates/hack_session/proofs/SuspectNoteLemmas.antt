@@ -11,7 +11,7 @@ use Rattle.hack_session.specs.Suspects.{explained_view}
 use Rattle.std.proofs.Common.{false, ◌||◌, Vec}
 use Rattle.hack_samples.specs.Sets.{rows_of}
 use Rattle.std.specs.Prelude.{nat_eq, nat_lt, Option}
-use Rattle.hack_plan.specs.declared.partition.Partition.{Partition}
+use Rattle.hack_partition.specs.declared.partition.Partition.{Partition}
 use Rattle.std.specs.Fmt.{decimal}
 use Rattle.hack_samples.specs.declared.sets.Setting.{Setting}
 use Rattle.hack_session.specs.SuspectNotes.{has_setting, suspect_notes_on, who_text}

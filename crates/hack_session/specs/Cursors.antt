@@ -1,7 +1,7 @@
 -- How the steps of a plan are taken one by one.
 use Rattle.std.specs.Prelude.{ℕ, ◌≡◌, ◌≤◌, Bool, List, [], ◌∷◌, ◌++◌, drop, length, Option}
 use Rattle.std.specs.List.{flat_map, list_any}
-use Rattle.hack_plan.specs.declared.partition.Partition.{Partition}
+use Rattle.hack_partition.specs.declared.partition.Partition.{Partition}
 use Rattle.hack_plan.specs.declared.parts.PlanVersion.{PlanVersion}
 use Rattle.hack_plan.specs.View.{PlanView}
 use Rattle.hack_session.specs.declared.schedule.Cursor.{Cursor}

@@ -1,7 +1,7 @@
 -- The runs that are handed out.
 use Rattle.std.specs.Prelude.{ℕ, ◌≡◌, ◌⊎◌, ◌<◌, ◌↔◌, Bool, true, List, [], ◌++◌, map, AllPairs, Contains, Option, Some, None}
 use Rattle.std.specs.List.{filter_map, list_any}
-use Rattle.hack_plan.specs.declared.partition.Partition.{Partition}
+use Rattle.hack_partition.specs.declared.partition.Partition.{Partition}
 use Rattle.hack_session.specs.declared.step.Step.{Step}
 use Rattle.hack_session.specs.declared.step.Step.TheVariants.{Run}
 use Rattle.hack_session.specs.Histories.{Course, IsHistory, next_of, stops, step_of}

@@ -2,10 +2,10 @@
 use Rattle.std.specs.Prelude.{ℕ, ◌≡◌, ◌-◌, ◌*◌, ◌%◌, ◌<◌, ◌↔◌, Bool, true, false, IsTrue, ◌&&◌, List, ◌++◌, map, filter, length, nat_lt, nat_le, nat_eq, IfSome, Option, Some, None, if◌then◌else◌}
 use Rattle.std.specs.Int.{div_ceil}
 use Rattle.std.specs.List.{flat_map, range_with_len}
-use Rattle.hack_plan.specs.declared.partition.Partition.{Partition}
-use Rattle.hack_plan.specs.declared.partition.PartitionKind.{PartitionKind}
-use Rattle.hack_plan.specs.declared.partition.PartitionKind.TheVariants.{Block, Turn}
-use Rattle.hack_plan.specs.Pieces.{InPiece}
+use Rattle.hack_partition.specs.declared.partition.Partition.{Partition}
+use Rattle.hack_partition.specs.declared.partition.PartitionKind.{PartitionKind}
+use Rattle.hack_partition.specs.declared.partition.PartitionKind.TheVariants.{Block, Turn}
+use Rattle.hack_partition.specs.Pieces.{InPiece}
 use Rattle.hack_plan.specs.declared.parts.PlanVersion.{PlanVersion}
 use Rattle.hack_plan.specs.View.{PlanView}
 use Rattle.hack_session.specs.declared.step.Step.{Step}

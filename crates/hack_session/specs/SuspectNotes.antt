@@ -8,7 +8,7 @@ use Rattle.hack_versions.specs.declared.version.Version.{Version}
 use Rattle.hack_versions.specs.VersionTexts.{version_text}
 use Rattle.hack_plan.specs.View.{PackageView, PlanView}
 use Rattle.hack_plan.specs.Commands.{name_in, slot_target}
-use Rattle.hack_plan.specs.declared.partition.Partition.{Partition}
+use Rattle.hack_partition.specs.declared.partition.Partition.{Partition}
 use Rattle.hack_samples.specs.declared.sets.Setting.{Setting}
 use Rattle.hack_session.specs.declared.suspects.Part.{Part}
 use Rattle.hack_session.specs.Suspects.{ExplainedView}

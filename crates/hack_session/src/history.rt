@@ -7,7 +7,7 @@ ghost use Rattle.hack_session.specs.Schedules.{all_steps};
 
 use crate::schedule::Cursor;
 use crate::step::{Handed, Outcome};
-use hack_plan::partition::Partition;
+use hack_partition::partition::Partition;
 use hack_plan::plan::Plan;
 use std::marker::Model;
 

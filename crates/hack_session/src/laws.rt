@@ -10,7 +10,7 @@ ghost use Rattle.hack_session.specs.declared.step.Handed.{Handed};
 ghost use Rattle.hack_plan.specs.Growth.{IsGrown};
 ghost use Rattle.hack_plan.specs.Plans.{AreRunsOfPackages};
 ghost use Rattle.hack_plan.specs.View.{PlanView};
-ghost use Rattle.hack_plan.specs.declared.partition.Partition.{Partition};
+ghost use Rattle.hack_partition.specs.declared.partition.Partition.{Partition};
 
 use hack_process::process::Caller;
 

@@ -10,7 +10,7 @@ ghost use Rattle.hack_session.specs.Schedules.{IsSchedule};
 
 use crate::session::Session;
 use crate::step::{Outcome, Step};
-use hack_plan::partition::Partition;
+use hack_partition::partition::Partition;
 use hack_plan::plan::Plan;
 use std::alloc::{AllocError, Global};
 

@@ -9,7 +9,7 @@ ghost use Rattle.hack_session.specs.Schedules.{steps_of};
 ghost use Rattle.hack_session.specs.Cursors.{steps_left};
 
 use crate::step::Step;
-use hack_plan::partition::Partition;
+use hack_partition::partition::Partition;
 use hack_plan::parts::PlanVersion;
 use hack_plan::plan::Plan;
 use hack_plan::progress::Progress;

@@ -14,7 +14,7 @@ use crate::schedule::{Cursor, count_steps};
 pub use crate::screen::{Screen, Status};
 pub use crate::starter::Starter;
 pub use crate::step::{Handed, Outcome, Step};
-use hack_plan::partition::Partition;
+use hack_partition::partition::Partition;
 pub use hack_plan::parts::Preparation;
 use hack_plan::plan::Plan;
 use std::alloc::{AllocError, Global};

@@ -1,4 +1,4 @@
-//! The notices on the small patterns that explain failed runs.
+//! The notices on suspects.
 
 ghost use Rattle.std.specs.Prelude.{◌≡◌, ◌++◌, ◌∷◌, ◌-◌, [], IfOk, OnOk, map, nat_lt};
 ghost use Rattle.std.specs.Prelude.{codes, option_map, slice_get, string_bytes, take, unwrap_or};
@@ -22,7 +22,7 @@ ghost use Rattle.hack_session.specs.SuspectNotes.{too_many_text, version_words, 
 use crate::suspects::{Explained, Part};
 use hack_base::notice::{Notice, NoticeKind};
 use hack_features::Feature;
-use hack_plan::partition::Partition;
+use hack_partition::partition::Partition;
 use hack_plan::plan::Plan;
 use hack_samples::Setting;
 use hack_versions::version::Version;

@@ -57,8 +57,8 @@ pub struct Explained {
 }
 
 impl Session {
-    /// Returns for each version, slot and package with a failed run the patterns of at most
-    /// `strength` candidates that explain which runs failed, in the order of the first failures.
+    /// Returns the suspects of at most `strength` candidates for each version, slot and package
+    /// with a failed run, in the order of the first failures.
     pub fn suspects(&self, alloc: Global, strength: usize) -> Result<Vec<Explained>, AllocError>
         ensures { IfOk result (λ all. AreExplained self.now strength
             (map explained_view all.items)) }
@@ -110,7 +110,7 @@ fn add_once(parts: &mut Vec<Part>, part: Part) -> Result<(), AllocError>
     Ok(())
 }
 
-/// Explains each of the parts.
+/// Finds the suspects of each of the parts.
 fn explain_all(
     alloc: Global,
     session: &Session,
@@ -130,7 +130,7 @@ fn explain_all(
     Ok(all)
 }
 
-/// Explains the failed runs of a part.
+/// Finds the suspects of a part.
 fn explain(
     alloc: Global,
     session: &Session,

@@ -3,7 +3,7 @@ use Rattle.std.proofs.Common.{◌≡◌, ℕ, ◌≤◌, List, [], ◌∷◌, �
 use Rattle.std.proofs.lemmas.List.{map-append}
 use Rattle.std.proofs.lemmas.List.Elements.{All-push}
 use Rattle.hack_process.specs.Commands.{asked_of}
-use Rattle.hack_plan.specs.declared.partition.Partition.{Partition}
+use Rattle.hack_partition.specs.declared.partition.Partition.{Partition}
 use Rattle.hack_plan.specs.Commands.{command_of_entry}
 use Rattle.hack_plan.specs.View.{PlanView}
 use Rattle.hack_session.specs.Schedules.{in_piece}

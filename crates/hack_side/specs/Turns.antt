@@ -2,7 +2,7 @@
 use Rattle.std.specs.Prelude.{ℕ, ◌≡◌, ◌≤◌, ◌<◌, List, [], ◌∷◌, Option, Some, None, All, Contains, length, false, true, option_map, slice_get}
 use Rattle.hack_process.specs.Calls.{Call}
 use Rattle.hack_process.specs.Commands.{asked_of}
-use Rattle.hack_plan.specs.declared.partition.Partition.{Partition}
+use Rattle.hack_partition.specs.declared.partition.Partition.{Partition}
 use Rattle.hack_plan.specs.declared.parts.PlanVersion.{PlanVersion}
 use Rattle.hack_plan.specs.Commands.{command_of_entry}
 use Rattle.hack_plan.specs.View.{PlanView}

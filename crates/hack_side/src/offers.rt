@@ -10,7 +10,7 @@ ghost use Rattle.hack_side.specs.Turns.{AreOffers, HasPlace, IsWithin};
 
 use hack_base::copies::copies;
 use hack_lanes::job::Job;
-use hack_plan::partition::Partition;
+use hack_partition::partition::Partition;
 use hack_plan::parts::PlanVersion;
 use hack_plan::plan::Plan;
 use hack_process::process::{End, FakeCaller};
@@ -58,8 +58,8 @@ impl Outlook {
         }
     }
 
-    /// The end of the places that may be offered, not farther from the first than the pieces of a
-    /// plan make necessary.
+    /// Where the search for offers stops: it passes as many places as there is room for, times the
+    /// number of pieces, and ends with the plan.
     fn end(self, first: usize, plan: &Plan) -> usize {
         let pieces = match self.piece {
             Some(piece) => usize::try_from(piece.count).unwrap_or(usize::MAX),

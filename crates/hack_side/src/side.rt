@@ -9,7 +9,7 @@ ghost use Rattle.hack_side.specs.Turns.{IsAtTurn, IsTurnFor, RunsAll};
 use crate::offers::Outlook;
 use hack_base::writes::Sink;
 use hack_lanes::turns::Turns;
-use hack_plan::partition::Partition;
+use hack_partition::partition::Partition;
 use hack_plan::plan::Plan;
 use hack_session::session::{Outcome, Runner, Starter, Step};
 use std::alloc::Global;

@@ -7,7 +7,7 @@ ghost use Rattle.hack_starts.specs.Events.{Event, Ran, Started, Ended, Told, Aba
 use hack_process::process::{Called, Caller};
 use std::alloc::{AllocError, Global};
 
-/// A place to build in, beside others.
+/// Where a command builds, beside others.
 #[derive(Clone, Copy)]
 pub struct Lane<'a> {
     pub number: usize,

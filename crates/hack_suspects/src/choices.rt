@@ -1,4 +1,4 @@
-//! How many choices there are of a few of the candidates.
+//! How many selections there are of a few of the candidates.
 
 ghost use Rattle.std.specs.Prelude.{◌≡◌, ◌+◌, ◌-◌, ◌^◌, ℕ, suc, length, min, IfOk};
 ghost use Rattle.hack_suspects.specs.Suspects.{choices};
@@ -6,7 +6,7 @@ ghost use Rattle.hack_suspects.specs.InternalWalks.{CountsChoices};
 
 use std::alloc::{AllocError, Global};
 
-/// Returns how many choices there are of at most `strength` of the candidates, or the greatest
+/// Returns how many selections there are of at most `strength` of the candidates, or the greatest
 /// `u128` if there are more.
 pub(crate) fn choices(alloc: Global, candidates: usize, strength: usize) -> Result<u128, AllocError>
     ensures { IfOk result (λ n. n ≡ min (choices candidates strength) (2 ^ 128 - 1)) }
@@ -19,8 +19,8 @@ pub(crate) fn choices(alloc: Global, candidates: usize, strength: usize) -> Resu
     Ok(counts.last().copied().unwrap_or(1))
 }
 
-/// Changes the counts to those for one more candidate. The count at place `k` is the number of
-/// choices of at most `k + 1` candidates.
+/// Changes the counts to those for one more candidate. The count at index `k` is the number of
+/// selections of at most `k + 1` candidates.
 fn add_candidate(counts: &mut Vec<u128>)
     ensures size { length counts.new.items ≡ length counts.old.items }
     ensures counts { (n : ℕ) → CountsChoices n counts.old.items

@@ -4,7 +4,7 @@
 use crate::answers::{Found, joined, word, yes};
 use crate::table::Group;
 use hack_base::lists::{has_separator, split_group, split_names};
-use hack_plan::partition::{Partition, PartitionKind};
+use hack_partition::partition::{Partition, PartitionKind};
 use hack_term::term::{Coloring, LogGroup};
 use std::alloc::{AllocError, Global};
 

@@ -1,7 +1,7 @@
 //! Notices and arguments as texts.
 
 use hack_features::Feature;
-use hack_plan::partition::PartitionKind;
+use hack_partition::partition::PartitionKind;
 use hack_words::cli::{Args, WorkspaceBehavior};
 use hack_words::term::{Coloring, LogGroup, Notice, NoticeKind};
 use std::alloc::{AllocError, Global};

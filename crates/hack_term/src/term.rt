@@ -22,7 +22,7 @@ use std::io;
 /// Whether the word that begins a line is coloured.
 #[derive(Clone, Copy, Debug, PartialEq, Eq)]
 pub enum Coloring {
-    /// Same as `Never`: nothing checks whether the writer is a terminal.
+    /// Lines aren't coloured. On a terminal that shows colours the program takes `Always` instead.
     Auto,
     Always,
     Never,

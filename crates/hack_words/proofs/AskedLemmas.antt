@@ -4,9 +4,9 @@ use Rattle.std.proofs.Common.{ap, ◌∙◌, subst, sym}
 use Rattle.hack_base.specs.Names.{names_of}
 use Rattle.hack_base.specs.Numbers.{number_of}
 use Rattle.hack_options.specs.declared.opt.Opt.TheVariants as opt
-use Rattle.hack_plan.specs.declared.partition.Partition.{Partition}
-use Rattle.hack_plan.specs.declared.partition.PartitionKind.TheVariants.{Block}
-use Rattle.hack_plan.specs.Partitions.{kind_of}
+use Rattle.hack_partition.specs.declared.partition.Partition.{Partition}
+use Rattle.hack_partition.specs.declared.partition.PartitionKind.TheVariants.{Block}
+use Rattle.hack_partition.specs.Partitions.{kind_of}
 use Rattle.hack_rules.specs.AskedFields.{coloring_asked}
 use Rattle.hack_rules.specs.CliGroups.{AreLifts}
 use Rattle.hack_rules.specs.CliLists.{lift_of}

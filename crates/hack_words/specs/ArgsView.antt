@@ -3,8 +3,8 @@ use Rattle.std.specs.Prelude.{ℕ, ◌≡◌, ◌↔◌, ◌||◌, ◌++◌, Lis
 use Rattle.std.specs.List.{AllZip, filter, filter_map}
 use Rattle.std.specs.Option.{unwrap_or}
 use Rattle.hack_base.specs.Numbers.{number_of}
-use Rattle.hack_plan.specs.Partitions.{piece_of, kind_of}
-use Rattle.hack_plan.specs.declared.partition.PartitionKind.TheVariants.{Block}
+use Rattle.hack_partition.specs.Partitions.{piece_of, kind_of}
+use Rattle.hack_partition.specs.declared.partition.PartitionKind.TheVariants.{Block}
 use Rattle.hack_base.specs.Names.{names_of, optional_text}
 use Rattle.hack_features.specs.Feature.{IsNormal}
 use Rattle.hack_options.specs.declared.opt.Opt.TheVariants as opt

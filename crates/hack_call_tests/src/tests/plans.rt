@@ -3,7 +3,7 @@
 use crate::tests::shown::push_notices;
 use crate::tests::workspace::push_all;
 use hack_base::notice::Notice;
-use hack_plan::partition::{Partition, PartitionFault};
+use hack_partition::partition::{Partition, PartitionFault};
 use hack_plan::parts::{PlanVersion, Preparation};
 use hack_plan::plan::PlannedCommand;
 use hack_plan::progress::Progress;

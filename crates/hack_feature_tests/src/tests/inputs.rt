@@ -15,7 +15,7 @@ ghost use Rattle.hack_plan.specs.Inputs.{AreVersionsOf};
 use crate::tests::given::{numbers, value, word_at};
 use crate::tests::shown::told;
 use hack_holds::{Ask, Wrong, hold};
-use hack_plan::partition::{Partition, PartitionFault};
+use hack_partition::partition::{Partition, PartitionFault};
 use hack_plan::places::Places;
 use hack_plan::progress::Progress;
 use hack_plan::versions::{PlanInput, Versions};

@@ -93,7 +93,7 @@ pub struct Package {
     pub manifest_path: String,
     /// Whether the package may be published to some registry. True below cargo 1.39.
     pub publish: bool,
-    /// The least Rust version that the package works with. None below cargo 1.58.
+    /// The package's own version, its `rust-version`. None below cargo 1.58.
     pub rust_version: Option<String>,
     /// The rules of the package, or the key of its table that is wrong.
     pub rules: Result<RulesTable, String>,
@@ -280,7 +280,7 @@ fn names_registries(value: Value) -> Option<bool>
     }
 }
 
-/// Takes out the least Rust version. Cargo reports it from 1.58 on.
+/// Takes out the own version. Cargo reports it from 1.58 on.
 fn remove_rust_version(
     object: &mut Object,
     cargo_version: u32,

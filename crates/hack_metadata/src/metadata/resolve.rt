@@ -23,7 +23,7 @@ use std::cmp::Ordering;
 use std::collections::BTreeMap;
 use std::hash::{Hash, Hasher};
 
-/// The id of a package: its place among the packages of the metadata. It is of use only with the
+/// The id of a package: its index among the packages of the metadata. It is of use only with the
 /// metadata that it comes from.
 #[derive(Clone, Copy, PartialEq, Eq, PartialOrd, Ord, Hash)]
 pub struct PackageId {
@@ -40,7 +40,7 @@ impl PackageId {
         self.cmp(&other)
     }
 
-    /// Gives the id to a hasher, as `hash` does: its place alone, so equal ids hash equally.
+    /// Gives the id to a hasher, as `hash` does: its index alone, so equal ids hash equally.
     pub fn feed<H: Hasher>(self, state: &mut H)
         ensures { state.new ≡ fold H.write state.old (place_bytes self.index) }
     {

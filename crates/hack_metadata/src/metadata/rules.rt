@@ -28,21 +28,22 @@ use std::alloc::{AllocError, AllocFailed, Global};
 /// What a table `cargo-hack` in a manifest's metadata says of a package's rules.
 #[derive(Drop)]
 pub struct RulesTable {
-    /// The features that are in no combination.
+    /// The features that are in no set.
     pub exclude_features: Vec<String>,
-    /// Groups of features of which a combination has at most one.
+    /// Groups of features of which a set may reach each by one name at most.
     pub mutually_exclusive_features: Vec<Feature>,
-    /// Groups of features of which each combination has one.
+    /// Groups of features: a set has to enable at least one of each, where the package has a
+    /// feature that does.
     pub at_least_one_of: Vec<Feature>,
-    /// Groups of features that are in a combination together.
+    /// Groups of features that are in a set together.
     pub group_features: Vec<Feature>,
     /// None where none is asked for; empty means all of them, as in `Args`.
     pub optional_deps: Option<Vec<String>>,
-    /// The run without default features is left out.
+    /// The run with no features is left out.
     pub exclude_no_default_features: bool,
     /// The run with all features is left out.
     pub exclude_all_features: bool,
-    /// The largest number of features in one combination.
+    /// The largest number of candidates in one set; a group counts as one.
     pub depth: Option<usize>,
     /// How many candidates a pattern has at most that a sample shows; at least 1.
     pub strength: Option<usize>,

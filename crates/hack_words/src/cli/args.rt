@@ -19,7 +19,7 @@ use hack_base::copies::{copy_of, push_copies};
 use hack_base::notice::Notice;
 use hack_features::Feature;
 use hack_options::Opt;
-use hack_plan::partition::Partition;
+use hack_partition::partition::Partition;
 use hack_rules::early::Early;
 use hack_rules::fault::CliFault;
 use hack_rules::late::Late;
@@ -84,14 +84,14 @@ pub struct Args {
     pub optional_deps: Option<Vec<String>>,
     pub include_features: Vec<Feature>,
     pub include_deps_features: bool,
-    /// The features that are in no combination: those of `--exclude-features`, and those of
+    /// The features that are in no set: those of `--exclude-features`, and those of
     /// `--features`, which every run has anyway.
     pub exclude_features: Vec<String>,
-    /// The run without default features is left out; other options imply it too.
+    /// The run with no features is left out; other options imply it too.
     pub exclude_no_default_features: bool,
     /// The run with all features is left out; other options imply it too.
     pub exclude_all_features: bool,
-    /// The largest number of features in one combination.
+    /// The largest number of candidates in one set; a group counts as one.
     pub depth: Option<usize>,
     /// How many candidates a pattern has at most that the sample of a powerset shows: in place of
     /// all listed sets a few that show each such pattern. `None`: all listed sets.
@@ -100,7 +100,7 @@ pub struct Args {
     pub parallel: Option<usize>,
     pub group_features: Vec<Feature>,
     pub mutually_exclusive_features: Vec<Feature>,
-    /// Packages, each with a group of mutually exclusive features that doesn't apply to it.
+    /// Packages, each with an exclusion group that is lifted for it.
     pub allow_together: Vec<(String, Feature)>,
     pub at_least_one_of: Vec<Feature>,
     /// Features that are enabled in each run.
@@ -159,7 +159,7 @@ fn pass_verbose(alloc: Global, leading: &mut Vec<String>, said: usize) -> Result
     Ok(())
 }
 
-/// Whether the run without default features is left out.
+/// Whether the run with no features is left out.
 fn leaves_no_default(lists: &Lists, uses: &[Use]) -> bool
     requires { AreListsOf (views uses.now) lists.now }
     ensures { result ≡ (is_given Opt.ExcludeNoDefaultFeatures (views uses.now)

@@ -1,12 +1,16 @@
 use Rattle.std.proofs.Common.{◌∙◌, ap, inl, inr}
 use Rattle.std.proofs.lemmas.Result.{IfErr-weaker, IfOk-weaker}
 use Rattle.hack_features.specs.Feature.{groups_of}
+use Rattle.hack_load.proofs.ContextLemmas.{context-whole}
 use Rattle.hack_load.specs.ContextView.{context_view}
 use Rattle.hack_metadata.specs.RecordViews.{package_view}
 use Rattle.hack_planner.specs.PackageRules.{rules_in}
 use Rattle.hack_hunt.specs.SpotView.{spot_view}
 use Rattle.hack_hunt.proofs.RuleLemmas.{aim_at}
 use Rattle.hack_hunt.proofs.one.hunt_one.Goals as goal
+
+pub packages-pkg-requires : goal.packages-pkg-requires
+packages-pkg-requires g c = (context-whole c.args.cx.now).packages c.args.spot.id.index c.requires.id
 
 pub hunt_rules-requires-clause-known : goal.hunt_rules-requires-clause-known
 hunt_rules-requires-clause-known g c = ap groups_of c.deref.ensures.value ∙ c.in_ok-candidates.ensures

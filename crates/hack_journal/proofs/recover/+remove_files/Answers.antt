@@ -1,6 +1,7 @@
 use Rattle.std.proofs.Common.{◌-◌, ◌∙◌, List, ℕ, ap, sym, arith}
 use Rattle.hack_journal.specs.Rows.{file_at}
 use Rattle.hack_journal.specs.SafeLaws.{makes_none, stay_none}
+use Rattle.hack_journal.proofs.FailedLemmas.{ends_then}
 use Rattle.hack_journal.proofs.RecoverLemmas.{back_but_safe, remove_failed, remove_went}
 use Rattle.hack_journal.proofs.recover.+remove_files.Goals as goal
 
@@ -19,3 +20,7 @@ pub returns-clause-safe : goal.returns-clause-safe
 returns-clause-safe g t c = λ whole spot first named but.
     let path = c.deref.ensures ∙ c.in_ok-path.ensures ∙ ap (λ (j : List ℕ). file_at j (c.args.count - 1)) (sym named) in
     remove_failed spot first c.args.count _ _ _ _ _ c.if-count-eq0.false (omega (arith, c.ranges.count)) path (c.in-Err.ensures.refused whole) but
+
+pub returns-in-Ok-clause-calls : goal.returns-in-Ok-clause-calls
+returns-in-Ok-clause-calls g t c =
+    ends_then g.F.Files c.remove_files.result c.args.files.now c.remove.new.self c.remove_files.new.files (record { unseen = c.in-Ok.ensures.unseen_none; refused = c.in-Ok.ensures.refused_path }) c.remove_files.ensures.calls

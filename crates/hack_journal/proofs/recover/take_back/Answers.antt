@@ -4,6 +4,7 @@ use Rattle.hack_journal.specs.Journal.{edits_of}
 use Rattle.hack_journal.specs.Recovery.{AreChanged}
 use Rattle.hack_journal.specs.Rows.{spot_of}
 use Rattle.hack_journal.specs.SafeLaws.{stay_append}
+use Rattle.hack_journal.proofs.FailedLemmas.{none_then}
 use Rattle.hack_journal.proofs.RecoverLemmas.{back_but_of, changed_along}
 use Rattle.hack_journal.proofs.RowLemmas.{apart_from}
 use Rattle.hack_journal.proofs.recover.take_back.Goals as goal
@@ -45,3 +46,6 @@ returns-clause-safe g c = λ tells whole first by is.
     let back = rw (ap edits_of c.deref.ensures.value) at c.in_ok-put_all_back.ensures.back in
     let but = back_but_of s first c.args.row.now.count es (bytes c.args.files.now) (bytes c.put_all_back.new.files) by is (back tells) in
     stay_append s first _ _ _ _ _ _ (safe whole s first es by by.keeps).0 (c.in_ok-remove_files.ensures.safe whole s first (sym c.deref-2.ensures) but)
+
+pub returns-clause-calls : goal.returns-clause-calls
+returns-clause-calls g c = none_then g.F.Files c.args.files.now c.put_all_back.new.files c.remove_files.new.files c.in_ok-put_all_back.ensures.calls c.in_ok-remove_files.ensures.calls

@@ -1,6 +1,7 @@
 use Rattle.std.proofs.Common.{string_bytes}
 use Rattle.std.proofs.lemmas.Result.{IfOk-weaker}
 use Rattle.hack_base.specs.Names.{optional_text}
+use Rattle.hack_places.proofs.LookLemmas.{seen_more}
 use Rattle.hack_places.proofs.RepositoryLemmas.{file_is, folder_is, linked_is}
 use Rattle.hack_places.proofs.repository.own_folder.Goals as goal
 
@@ -24,3 +25,9 @@ returns-clause-found g c =
     c.in_ok-git.ensures c.if-branch.false c.if-branch-2.false (rw c.as_str.ensures.value at c.in_ok-has_head.ensures.found) c.in_ok-has_head.ensures.same
     (rw c.as_str-2.ensures.value at c.in_ok-is_folder.ensures.found) c.in_ok-is_folder.ensures.same
     (rw (c.as_str-3.ensures.value, c.in-None.is) at c.in_ok-bytes.ensures.found)
+
+pub returns-then-branch-2-clause-seen : goal.returns-then-branch-2-clause-seen
+returns-then-branch-2-clause-seen g c = seen_more g.F.Files _ _ _ c.in_ok-has_head.ensures.seen c.in_ok-is_folder.ensures.seen
+
+pub returns-clause-seen : goal.returns-clause-seen
+returns-clause-seen g c = seen_more g.F.Files _ _ _ (seen_more g.F.Files _ _ _ c.in_ok-has_head.ensures.seen c.in_ok-is_folder.ensures.seen) c.in_ok-bytes.ensures.seen

@@ -4,6 +4,7 @@ use Rattle.hack_journal.specs.SafeLaws.{makes_append, makes_none}
 use Rattle.hack_places.specs.Folders.{At, Here, Nothing, workspace_from}
 use Rattle.hack_places.proofs.CountLemmas.{grows_then}
 use Rattle.hack_places.proofs.FolderLemmas.{after_absent, after_unsaid, or_now, rest_here, rest_none, rest_of, rest_there, step_is, unwrap_now}
+use Rattle.hack_places.proofs.LookLemmas.{seen_none, seen_more}
 use Rattle.hack_places.proofs.workspace.nearest.Goals as goal
 use Rattle.hack_places.proofs.workspace.nearest.Goals.{in-Unsaid, in-Absent}
 
@@ -16,6 +17,7 @@ loop-step-init g c =
       utf8 = c.utf8.start;
       found = λ t. sym (ap (λ k. rest_of held start None k start) none);
       counted = λ low. omega (arith, low);
+      seen = seen_none g.F.Files _;
       same = λ t q. refl;
       untraced = λ w. makes_none _ _;
     }
@@ -40,6 +42,7 @@ loop-step-preserved g c =
             (after_absent held (workspace_from held start) start c.loop-step.folder.now c.parent-folder.result.now near later n (ap (option_map (λ k. k.now)) w.nearest-is) c.parent-folder.ensures)
       ];
       counted = grows_then 0 _ _ _ c.loop-step.invariant.counted c.in_ok-said_at.ensures.counted;
+      seen = seen_more g.F.Files _ _ _ c.loop-step.invariant.seen c.in_ok-said_at.ensures.seen;
       same = λ t q. c.in_ok-said_at.ensures.same t q ∙ c.loop-step.invariant.same t q;
       untraced = λ w. makes_append [] [] _ _ _ _ _ _ (c.loop-step.invariant.untraced w) (c.in_ok-said_at.ensures.untraced w);
     }
@@ -74,3 +77,9 @@ returns-clause-found g c = λ t.
     let none : length start - c.loop-step._step ≡ 0 = omega (arith, c.loop-step-test.false) in
     c.in_ok-from_str.ensures.ok ∙ ap (λ k. k.now) c.unwrap_or.ensures ∙ unwrap_now c.loop-step.nearest c.args.start
     ∙ sym (c.loop-step.invariant.found t ∙ ap (λ k. rest_of held start near k c.loop-step.folder.now) none ∙ rest_none held start near c.loop-step.folder.now)
+
+pub returns-in-Here-clause-seen : goal.returns-in-Here-clause-seen
+returns-in-Here-clause-seen g c = seen_more g.F.Files _ _ _ c.loop-step.invariant.seen c.in_ok-said_at.ensures.seen
+
+pub returns-in-At-clause-seen : goal.returns-in-At-clause-seen
+returns-in-At-clause-seen g c = seen_more g.F.Files _ _ _ c.loop-step.invariant.seen c.in_ok-said_at.ensures.seen

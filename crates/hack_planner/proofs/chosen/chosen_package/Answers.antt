@@ -2,6 +2,7 @@ use Rattle.std.proofs.Common.{◌≡◌, ◌⊎◌, ◌∙◌, [], ◌∷◌, Li
 use Rattle.std.proofs.lemmas.Bool.{cases_Bool}
 use Rattle.hack_features.specs.Feature.{groups_of}
 use Rattle.hack_base.specs.Names.{names_behind}
+use Rattle.hack_load.proofs.ContextLemmas.{context-whole}
 use Rattle.hack_load.specs.ContextView.{context_view}
 use Rattle.hack_metadata.specs.RecordViews.{package_view}
 use Rattle.hack_planner.specs.InternalLeastPlaces.{HasRunsAtLeast}
@@ -22,6 +23,9 @@ use Rattle.hack_planner.proofs.PlanLemmas.{of-kind}
 use Rattle.hack_planner.proofs.PlanSampleLemmas.{no-sample}
 use Rattle.hack_planner.proofs.UseLemmas.{not-true}
 use Rattle.hack_planner.proofs.chosen.chosen_package.Goals as goal
+
+pub packages-pkg-requires : goal.packages-pkg-requires
+packages-pkg-requires c = (context-whole c.args.cx.now).packages c.args.one.id.index c.requires.member
 
 pub returns-clause-ok : goal.returns-clause-ok
 returns-clause-ok c =

@@ -1,4 +1,5 @@
 use Rattle.std.proofs.Common.{◌∙◌, ◌≡◌, ◌⊎◌, ap, map, subst}
+use Rattle.hack_load.proofs.ContextLemmas.{context-whole}
 use Rattle.hack_load.specs.ContextView.{context_view}
 use Rattle.hack_load.specs.declared.features.Features.{Features}
 use Rattle.hack_metadata.specs.Records.{PackageRecord}
@@ -14,7 +15,7 @@ use Rattle.hack_planner.proofs.PackageRuleLemmas.{at-place}
 use Rattle.hack_planner.proofs.determine.determine_kind.Goals as goal
 
 pub packages-pkg-requires : goal.packages-pkg-requires
-packages-pkg-requires c = c.workspace_members.ensures.whole.packages c.args.id.index c.requires
+packages-pkg-requires c = (context-whole c.args.context.now).packages c.args.id.index c.requires
 
 pub returns-in-Ok-clause-made : goal.returns-in-Ok-clause-made
 returns-in-Ok-clause-made c = λ (p : PackageRecord) (f : Features) known loaded.

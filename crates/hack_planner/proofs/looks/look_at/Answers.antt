@@ -1,6 +1,7 @@
 use Rattle.std.proofs.Common.{◌≡◌, ◌∙◌, ap, sym}
 use Rattle.std.proofs.lemmas.Result.{IfOk-weaker}
 use Rattle.hack_base.specs.Names.{Name}
+use Rattle.hack_load.proofs.ContextLemmas.{context-whole}
 use Rattle.hack_load.specs.ContextView.{context_view}
 use Rattle.hack_metadata.specs.RecordViews.{package_view}
 use Rattle.hack_planner.specs.Looks.{look_of}
@@ -9,7 +10,7 @@ use Rattle.hack_planner.proofs.LookLemmas.{look-here}
 use Rattle.hack_planner.proofs.looks.look_at.Goals as goal
 
 pub packages-pkg-requires : goal.packages-pkg-requires
-packages-pkg-requires c = c.workspace_members.ensures.whole.packages c.args.id.index c.requires
+packages-pkg-requires c = (context-whole c.args.cx.now).packages c.args.id.index c.requires
 
 pub returns : goal.returns
 returns c =

@@ -1,6 +1,7 @@
 use Rattle.std.proofs.Common.{◌∙◌, ap, inl, refl, subst, ℕ, List}
 use Rattle.hack_base.specs.Names.{Name, names_of, optional_text}
-use Rattle.hack_base.specs.Writes.{AppendsFront}
+use Rattle.hack_base.proofs.StreamLemmas.{wrote}
+use Rattle.hack_base.specs.Streams.{WritesText, stream_of}
 use Rattle.hack_run.specs.CallTrace.{colored_by}
 use Rattle.hack_files.specs.View.{files_view}
 use Rattle.hack_run.specs.Worlds.{IsStatus, host_view}
@@ -19,7 +20,7 @@ returns-in-Err-clause-goes g c =
     let coloring = c.of-came.new.coloring in
     let old = scene_outside g.F.Files g.L.Files g.U.Unkept g.C.Caller g.O.Sink c.args.files c.args.lockfiles c.args.unkept (g.K.Locks.shown c.args.keepers.now.locks) (g.G.Guards.shown c.args.keepers.now.guards) c.args.outside.now in
     unread c.in-Err.fault coloring c.in-Err.ensures.started c.in-Err.ensures.coloring
-    (subst (λ (text : List ℕ). AppendsFront (g.E.Sink.contents c.args.outside.now.err.now) (g.E.Sink.contents c.error.new.out) (error_line coloring text)) c.text.ensures c.error.ensures.front)
+    (subst (λ (text : List ℕ). WritesText (error_line coloring text) (stream_of g.E.Sink c.args.outside.now.err.now) (stream_of g.E.Sink c.error.new.out)) c.text.ensures (wrote g.E.Sink _ _ _ c.error.result c.error.ensures.line c.error.ensures.front c.error.ensures.counted))
     (ap (λ (t : Term). scene_on t old) c.error.ensures.noted) refl
 
 pub returns-in-Err-coloring_asked-clause-goes : goal.returns-in-Err-coloring_asked-clause-goes
@@ -27,7 +28,8 @@ returns-in-Err-coloring_asked-clause-goes g c =
     let coloring = c.of-came.new.coloring in
     let old = scene_outside g.F.Files g.L.Files g.U.Unkept g.C.Caller g.O.Sink c.args.files c.args.lockfiles c.args.unkept (g.K.Locks.shown c.args.keepers.now.locks) (g.G.Guards.shown c.args.keepers.now.guards) c.args.outside.now in
     unread Memory coloring tt (λ i. inl (c.in-Ok.ensures.coloring i))
-    (subst (λ (text : List ℕ). AppendsFront (g.E.Sink.contents c.args.outside.now.err.now) (g.E.Sink.contents c.error-in-Err-coloring_asked.new.out) (error_line coloring text)) c.text-in-Err-coloring_asked.ensures c.error-in-Err-coloring_asked.ensures.front)
+    (subst (λ (text : List ℕ). WritesText (error_line coloring text) (stream_of g.E.Sink c.args.outside.now.err.now) (stream_of g.E.Sink c.error-in-Err-coloring_asked.new.out)) c.text-in-Err-coloring_asked.ensures
+    (wrote g.E.Sink _ _ _ c.error-in-Err-coloring_asked.result c.error-in-Err-coloring_asked.ensures.line c.error-in-Err-coloring_asked.ensures.front c.error-in-Err-coloring_asked.ensures.counted))
     (ap (λ (t : Term). scene_on t old) c.error-in-Err-coloring_asked.ensures.noted) refl
 
 pub returns-clause-goes : goal.returns-clause-goes

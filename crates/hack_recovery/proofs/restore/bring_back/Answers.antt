@@ -15,4 +15,4 @@ returns-in-Ok-clause-told g c = tells_same c.args.term.now c.tell_all.result c.t
 pub returns-in-Err-clause-came : goal.returns-in-Err-clause-came
 returns-in-Err-clause-came g c =
     let came = c.in-Err.ensures in
-    stopped c.in-Err.fault (record { failures = came.failures; why = came.why; spared = came.spared; refused = came.refused; never = came.never; safe = came.safe }) c.tell_fault.ensures.never
+    stopped c.in-Err.fault (record { failures = came.failures; why = came.why; spared = came.spared; refused = came.refused; never = came.never; safe = came.safe }) c.tell_fault.ensures.told_as

@@ -1,6 +1,6 @@
 use Rattle.std.proofs.Math.Bool.{or_comm}
 use Rattle.std.proofs.Common.{◌≡◌, Ok, [], ap, false, inl, inr, length, refl, subst, sym, ◌∙◌}
-use Rattle.std.specs.Prelude.{Bool, List, MatchBool, None, Result}
+use Rattle.std.specs.Prelude.{Bool, List, MatchBool, None, Result, nat_lt}
 use Rattle.std.specs.List.{list_any}
 use Rattle.hack_plan.specs.Commands.{slots_in}
 use Rattle.hack_culprits.specs.Built.{steps_from}
@@ -12,7 +12,7 @@ use Rattle.hack_term.specs.declared.term.Term.{Term}
 use Rattle.hack_load.specs.ContextView.{context_view}
 use Rattle.hack_planner.specs.CallPlan.{IsPlanOf}
 use Rattle.hack_side.specs.Turns.{RunsAll, RunsSerially}
-use Rattle.hack_report.specs.Findings.{has_conflict, is_open}
+use Rattle.hack_report.specs.Conflicts.{has_conflict, is_open}
 use Rattle.hack_run.specs.Internal.{Reports}
 use Rattle.hack_drive.specs.Warnings.{have_warning}
 use Rattle.hack_run.specs.Worlds.{host_of}
@@ -22,13 +22,16 @@ use Rattle.hack_run.proofs.TraceLemmas.{unended}
 use Rattle.hack_run.proofs.StartedLemmas.{builds_by, trial_stopping, whole_hunts}
 use Rattle.hack_session.proofs.StepLemmas.{has_performed, passed_or_told}
 use Rattle.hack_run.proofs.ToldLemmas.{warned_run}
-use Rattle.std.proofs.lemmas.Bool.{true≢false}
 use Rattle.hack_base.specs.Streams.{stream_of}
 use Rattle.hack_session.specs.StepEffects.{state}
 use Rattle.hack_session.specs.StepOutput.{streams}
 use Rattle.hack_words.specs.declared.cli.args.Args.{Args}
 use Rattle.hack_run.specs.Shown.{looks_of, scene_at}
-use Rattle.hack_run.proofs.ShownLemmas.{goes_on_unless, looks_after, looks_later, steps_said}
+use Rattle.hack_side.specs.Ends.{has_ended}
+use Rattle.hack_run.proofs.ConclusionLemmas.{concluded_hunt, search_said}
+use Rattle.hack_run.proofs.ShownLemmas.{goes_on_unless, looks_after, looks_later, steps_searched}
+use Rattle.hack_run.specs.Conclusions.{hunt_conclusion}
+use Rattle.hack_run.specs.Handed.{IsHuntedOut}
 use Rattle.hack_run.proofs.conflict_search.hunt_in_lanes.Goals as goal
 
 pub returns-clause-done : goal.returns-clause-done
@@ -149,17 +152,24 @@ returns-clause-shown g c = λ stable.
     let on = hunted cx.args c.requires in
     let lanes_is = c.lanes-2-1.given.1 (sym fresh.caller.0 ∙ ap (λ s. s.caller.ghost_name) (sym made) ∙ told.0 ∙ ran.0) in
     let out_is = c.out-2-1.given.1 (sym fresh.out.0 ∙ ap (λ s. s.out.ghost_name) (sym made) ∙ told.7 ∙ ran.3) in
+    let err_is = c.err-2-1.given.1 (sym fresh.err.0 ∙ ap (λ s. s.err.ghost_name) (sym made) ∙ told.8 ∙ ran.4) in
+    let fault_is = c.fault-2-1.given.1 (sym fresh.fault.0 ∙ ap (λ s. s.fault.ghost_name) (sym made) ∙ told.2 ∙ ran.2) in
+    let term_is = c.term-2-1.given.1 (sym fresh.term.0 ∙ ap (λ s. s.term.ghost_name) (sym made) ∙ told.1 ∙ ran.1) in
+    let coloring_is = ap (λ l. l.coloring) (looks_after c.args.term.now c.set_manner.new.self.term.now mid.term.now last.term.now notes (ap (λ s. s.term.now) made ∙ fresh.term.1) told.6 ran.7) in
     let end = state (calls last.caller.now) (streams g.O.Sink g.E.Sink last.out.now last.err.now) last.fault.now last.term.now.error last.refused in
+    let found : IsHuntedOut false cx c.args.rustup.now course notes false false = record { ids = course-of.2; start = start; begun = course-of.4; came = came_of hunt.found; built = hunts.built; hunts = hunts.hunts; steps = refl; told = λ e. unended e } in
+    let conclusion = hunt_conclusion cx.args.verbose hunt.plan (came_of hunt.found) in
+    let said = search_said g.E.Sink conclusion (nat_lt 0 last.refused) c.settle.new.fault c.settle.new.term.error c.args.term.now.coloring c.term-2-1.given.0 last.term.now c.fault-2-1.given.0 last.fault.now c.err-2-1.given.0 last.err.now (stream_of g.E.Sink c.settle.new.err) term_is coloring_is fault_is err_is c.settle.ensures.shown in
     rw (lanes_is, out_is)
-    (steps_said g.L.Caller.tells false calls g.E.Sink cx stable c.args.rustup.now c.args.fault.now course notes false false c.set_manner.new.self mid (streams g.O.Sink g.E.Sink mid.out.now mid.err.now) end c.args.term.now
-    (scene_at (calls c.args.lanes.now) g.O.Sink g.E.Sink c.args.out.now c.args.err.now) (scene_at (calls last.caller.now) g.O.Sink g.E.Sink last.out.now c.settle.new.err)
-    (planned_hunt (IsPlanOf cx.args.subcommand stable cx c.args.rustup.now) false cx c.args.rustup.now course notes false false c.requires
-    (record { ids = course-of.2; start = start; begun = course-of.4; came = came_of hunt.found; built = hunts.built; hunts = hunts.hunts; steps = refl; told = λ e. unended e }))
+    (steps_searched g.L.Caller.tells calls g.E.Sink cx stable c.args.rustup.now c.args.fault.now c.settle.new.fault c.settle.new.term.error course notes false false c.set_manner.new.self mid (streams g.O.Sink g.E.Sink mid.out.now mid.err.now) end c.args.term.now
+    (scene_at (calls c.args.lanes.now) g.O.Sink g.E.Sink c.args.out.now c.args.err.now) end.scene (scene_at (calls last.caller.now) g.O.Sink g.E.Sink last.out.now c.settle.new.err) conclusion
+    (planned_hunt (IsPlanOf cx.args.subcommand stable cx c.args.rustup.now) false cx c.args.rustup.now course notes false false c.requires found)
     (ap (λ s. calls s.caller.now) made ∙ ap calls fresh.caller.1) (ap (λ s. s.term.now) made ∙ fresh.term.1)
     (ap (λ s. stream_of g.E.Sink s.err.now) made ∙ ap (stream_of g.E.Sink) fresh.err.1) (ap (λ s. s.fault.now) made ∙ fresh.fault.1) (ap (λ s. s.refused) made ∙ fresh.refused)
     (ap (λ s. s.keep_going) made ∙ sym (goes_on_unless cx.args on))
     (ap (λ s. s.log_group) made ∙ ap (λ m. m.0) c.manner-log_group.ensures ∙ ap (λ (a : Args). a.log_group) c.args-2.ensures)
-    told refl (λ off. ap (stream_of g.O.Sink) (told.9 ∙ ap (λ s. s.out.now) made ∙ fresh.out.1)) ran.8 refl (λ off. refl) (λ off. absurd (true≢false (sym on ∙ off))))
+    told refl (λ off. ap (stream_of g.O.Sink) (told.9 ∙ ap (λ s. s.out.now) made ∙ fresh.out.1)) ran.8 refl (λ off. refl) refl on
+    (concluded_hunt cx c.args.rustup.now course notes false false (has_ended last.fault.now last.refused) c.requires found) said refl refl)
 
 pub returns-clause-looks : goal.returns-clause-looks
 returns-clause-looks g c =

@@ -76,7 +76,7 @@ returns-clause-shown g c =
     (scene_on g.C.Caller g.O.Sink g.E.Sink c.args.host.now) (scene_at (calls last.caller.now) g.O.Sink g.E.Sink c.list_over-refused.new.out.out.now last.err.now)
     (l.planned, (l.driven, refl)) (ap (λ s. calls s.caller.now) made ∙ ap calls fresh.caller.1) (ap (λ s. s.term.now) made ∙ fresh.term.1)
     (ap (λ s. stream_of g.E.Sink s.err.now) made ∙ ap (stream_of g.E.Sink) fresh.err.1) (ap (λ s. s.fault.now) made ∙ fresh.fault.1) (ap (λ s. s.refused) made ∙ fresh.refused)
-    (ap (λ s. s.keep_going) made ∙ ap (λ (a : Args). a.keep_going) c.args-2.ensures) (ap (λ s. s.log_group) made) l.told refl (λ off. not_off off) l.ran.9 refl (λ off. not_off off) (λ off. refl)
+    (ap (λ s. s.keep_going) made ∙ ap (λ (a : Args). a.keep_going) c.args-2.ensures) (ap (λ s. s.log_group) made) l.told refl (λ off. not_off off) l.ran.9 refl (λ off. not_off off) refl
     (c.fault-2-1.given.1 (sym fresh.fault.0 ∙ ap (λ s. s.fault.ghost_name) (sym made) ∙ l.told.2 ∙ l.ran.2)) refl))
 
 pub returns-clause-unplanned : goal.returns-clause-unplanned

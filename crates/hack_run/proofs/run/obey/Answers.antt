@@ -1,4 +1,4 @@
-use Rattle.std.proofs.Common.{◌≡◌, ◌∙◌, OnOk, ap, false, map, refl, subst, sym}
+use Rattle.std.proofs.Common.{◌≡◌, ◌∙◌, OnOk, ap, false, inl, map, refl, subst, sym}
 use Rattle.hack_base.specs.Notes.{note_of}
 use Rattle.hack_files.specs.Files.{KeepsAllBut}
 use Rattle.hack_files.proofs.RefusalLemmas.{but_none}
@@ -12,6 +12,7 @@ use Rattle.hack_run.specs.Worlds.{world_of}
 use Rattle.hack_load.proofs.LeaveLemmas.{makes_none}
 use Rattle.hack_run.proofs.BackLemmas.{clean_rest}
 use Rattle.hack_run.proofs.ChangeLemmas.{obeys_changes, obeys_unloaded}
+use Rattle.hack_run.proofs.LastingLemmas.{obeys_left}
 use Rattle.hack_run.proofs.TraceLemmas.{dressed, lists, lists_made, obeys, obeys_done, prints, prints_made}
 use Rattle.hack_base.specs.Streams.{stream_of}
 use Rattle.hack_run.specs.Shown.{looks_of, scene_on}
@@ -113,3 +114,12 @@ returns-in-Print-clause-shown g c = λ t. rw c.in-Print.is (rw c.as_str.ensures.
 
 pub returns-in-List-clause-shown : goal.returns-in-List-clause-shown
 returns-in-List-clause-shown g c = λ t. rw c.in-List.is (c.tell_all-in-List.ensures.shown, ap looks_of c.tell_all-in-List.ensures.noted, refl)
+
+pub returns-in-Args-clause-lasting : goal.returns-in-Args-clause-lasting
+returns-in-Args-clause-lasting g c = obeys_left _ g.F.Files.tells g.C.Caller.tells c.in-Args.args c.args.parsed c.args.host.now.env.now _ _ _ c.in-Args.is c.perform.ensures.lasting
+
+pub returns-in-Print-clause-lasting : goal.returns-in-Print-clause-lasting
+returns-in-Print-clause-lasting g c = inl (but_none (g.F.Files.refuses c.args.files.now c.args.files.now) _ _ (g.F.Files.refuses_none _))
+
+pub returns-in-List-clause-lasting : goal.returns-in-List-clause-lasting
+returns-in-List-clause-lasting g c = inl (but_none (g.F.Files.refuses c.args.files.now c.args.files.now) _ _ (g.F.Files.refuses_none _))

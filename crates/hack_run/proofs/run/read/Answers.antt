@@ -11,6 +11,7 @@ use Rattle.hack_run.proofs.BackLemmas.{clean_by}
 use Rattle.hack_run.proofs.ChangeLemmas.{traces}
 use Rattle.hack_run.proofs.TraceLemmas.{done}
 use Rattle.hack_run.proofs.LaneLemmas.{on_success}
+use Rattle.hack_run.proofs.LastingLemmas.{reads_left}
 use Rattle.hack_run.proofs.run.read.Goals as goal
 
 pub returns-in-Accepted-clause-refused : goal.returns-in-Accepted-clause-refused
@@ -115,3 +116,14 @@ returns-in-Accepted-clause-stood g c =
       obeyed = obeyed;
     })
     c.obey.ensures.stood
+
+pub returns-in-Accepted-clause-lasting : goal.returns-in-Accepted-clause-lasting
+returns-in-Accepted-clause-lasting g c =
+    let after = rw c.in-Accepted.is at c.in_ok-parsed.ensures.read in
+    reads_left _ g.F.Files.tells g.C.Caller.tells (names_of c.args.words.now) c.args.host.now.env.now _ (g.C.Caller.calls c.reading_of.new.caller) _ _ after.rustup c.in-Accepted.parsed (map note_of c.in-Accepted.notices.items) after.asked after.read c.obey.ensures.lasting
+
+pub returns-in-Refused-clause-lasting : goal.returns-in-Refused-clause-lasting
+returns-in-Refused-clause-lasting g c = inl (but_none (g.F.Files.refuses c.args.files.now c.args.files.now) _ _ (g.F.Files.refuses_none _))
+
+pub returns-in_err-parsed-clause-lasting : goal.returns-in_err-parsed-clause-lasting
+returns-in_err-parsed-clause-lasting g c = inl (but_none (g.F.Files.refuses c.args.files.now c.args.files.now) _ _ (g.F.Files.refuses_none _))

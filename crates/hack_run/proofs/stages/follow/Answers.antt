@@ -11,6 +11,7 @@ use Rattle.hack_run.proofs.LaneLemmas.{follows_in_lanes, may_follow_in_lanes, on
 use Rattle.hack_run.proofs.LoadingLemmas.{warns_unknown}
 use Rattle.hack_run.proofs.TraceLemmas.{follows, goes_on, plan_follows, shows_nothing, unended}
 use Rattle.hack_run.proofs.ChangeLemmas.{follows_changes}
+use Rattle.hack_run.proofs.LastingLemmas.{edits_left}
 use Rattle.hack_load.specs.ContextOf.{warnings_of}
 use Rattle.hack_load.specs.CargoQuestions.{told_version}
 use Rattle.hack_run.specs.Worlds.{world_of}
@@ -152,3 +153,42 @@ returns-clause-stood g c =
       c.in_ok-cx.ensures.ok,
       λ t read. c.in_ok-edit.ensures.prepared t (loaded-holds g.F.Files.tells (g.F.Files.bytes_at c.args.files.now) c.args.host.now.env.now c.args.args c.args.answers (context_view c.in_ok-cx.cx) t read c.in_ok-cx.ensures.ok),
     )
+
+pub returns-in_err-edit-clause-lasting : goal.returns-in_err-edit-clause-lasting
+returns-in_err-edit-clause-lasting g c =
+    let held = g.F.Files.bytes_at c.args.files.now in
+    let at = c.edit.new.files in
+    let cx = context_view c.in_ok-cx.cx in
+    inr (
+      cx,
+      c.in_ok-cx.ensures.ok,
+      λ read. edits_left (g.F.Files.refuses c.args.files.now at) g.F.Files.tells cx held (g.F.Files.bytes_at at) (g.F.Files.failed c.args.files.now) (g.F.Files.failed at)
+          (λ t. c.edit.ensures.edited t (loaded-holds g.F.Files.tells held c.args.host.now.env.now c.args.args c.args.answers cx t read c.in_ok-cx.ensures.ok)) c.edit.ensures.others,
+    )
+
+pub returns-in_err-stable-clause-lasting : goal.returns-in_err-stable-clause-lasting
+returns-in_err-stable-clause-lasting g c =
+    let held = g.F.Files.bytes_at c.args.files.now in
+    let at = c.edit.new.files in
+    let cx = context_view c.in_ok-cx.cx in
+    inr (
+      cx,
+      c.in_ok-cx.ensures.ok,
+      λ read. edits_left (g.F.Files.refuses c.args.files.now at) g.F.Files.tells cx held (g.F.Files.bytes_at at) (g.F.Files.failed c.args.files.now) (g.F.Files.failed at)
+          (λ t. c.edit.ensures.edited t (loaded-holds g.F.Files.tells held c.args.host.now.env.now c.args.args c.args.answers cx t read c.in_ok-cx.ensures.ok)) c.edit.ensures.others,
+    )
+
+pub returns-clause-lasting : goal.returns-clause-lasting
+returns-clause-lasting g c =
+    let held = g.F.Files.bytes_at c.args.files.now in
+    let at = c.edit.new.files in
+    let cx = context_view c.in_ok-cx.cx in
+    inr (
+      cx,
+      c.in_ok-cx.ensures.ok,
+      λ read. edits_left (g.F.Files.refuses c.args.files.now at) g.F.Files.tells cx held (g.F.Files.bytes_at at) (g.F.Files.failed c.args.files.now) (g.F.Files.failed at)
+          (λ t. c.edit.ensures.edited t (loaded-holds g.F.Files.tells held c.args.host.now.env.now c.args.args c.args.answers cx t read c.in_ok-cx.ensures.ok)) c.edit.ensures.others,
+    )
+
+pub returns-in_err-cx-clause-lasting : goal.returns-in_err-cx-clause-lasting
+returns-in_err-cx-clause-lasting g c = inl refl

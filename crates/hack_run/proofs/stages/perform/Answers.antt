@@ -2,7 +2,10 @@ use Rattle.std.proofs.Common.{◌≡◌, ◌<◌, ◌∙◌, ap, false, inl, inr
 use Rattle.std.specs.Prelude.{Bool, IfOk, not}
 use Rattle.hack_load.specs.Answers.{IsLoaded}
 use Rattle.hack_files.specs.Restore.{registered_files}
-use Rattle.hack_files.proofs.RefusalLemmas.{but_restored, but_then}
+use Rattle.std.proofs.Common.{◌++◌}
+use Rattle.std.proofs.lemmas.Bool.{cases_Bool}
+use Rattle.std.proofs.lemmas.List.Elements.{Contains-append_left, Contains-append_right}
+use Rattle.hack_files.proofs.RefusalLemmas.{but_restored, but_same, but_then}
 use Rattle.hack_run.proofs.BackLemmas.{brings_none, cleans, kept_none, leaves, safe_new, whole_keeps}
 use Rattle.hack_files.specs.View.{files_view}
 use Rattle.hack_run.specs.Worlds.{host_view}
@@ -11,6 +14,7 @@ use Rattle.hack_run.proofs.ChangeLemmas.{changes}
 use Rattle.hack_run.proofs.LoadingLemmas.{loaded}
 use Rattle.hack_run.proofs.TraceLemmas.{made, performs}
 use Rattle.hack_run.proofs.LaneLemmas.{on_success}
+use Rattle.hack_run.proofs.LastingLemmas.{left_behind}
 use Rattle.std.proofs.Common.{OnOk, Result, subst}
 use Rattle.hack_files.specs.Files.{KeepsAll}
 use Rattle.hack_load.specs.declared.fault.ContextFault.{ContextFault}
@@ -174,3 +178,34 @@ returns-clause-stood g c =
       };
     })
     c.follow-came.ensures.stood
+
+pub returns-clause-lasting : goal.returns-clause-lasting
+returns-clause-lasting g c =
+    let calls = g.C.Caller.calls in
+    let held = g.F.Files.bytes_at in
+    let refuses = g.F.Files.refuses in
+    let first = c.args.files.now in
+    let asked = c.ask-answers.new.files in
+    let at = c.follow-came.new.files in
+    let last = c.finish.new.files in
+    let asking = c.ask-answers.ensures.spoilt in
+    let following = g.F.Files.refuses_some _ _ c.follow-came.ensures.grows in
+    let ending = c.finish.ensures.refused in
+    elim (cases_Bool c.args.args.remove_dev_deps) [
+      | inl stay ↦ left_behind (refuses asked at) (refuses first last) g.F.Files.tells g.C.Caller.tells c.args.args c.ask-answers.result c.args.host.now.env.now (calls c.args.host.now.caller.now) (calls c.ask-answers.new.caller) (held first) (held asked) (held at) (held last)
+          (λ path bad. (
+            asking.spoilt ++ (bad.0 ++ ending.spoilt),
+            g.F.Files.refuses_more first asked last _ _ asking.refused (g.F.Files.refuses_more asked at last _ _ bad.1 ending.refused),
+            Contains-append_right asking.spoilt (bad.0 ++ ending.spoilt) path (Contains-append_left bad.0 ending.spoilt path bad.2),
+          ))
+          (λ same. but_then (refuses first asked) (refuses asked last) (refuses first last) _ _ _ _ (λ ps qs one other. g.F.Files.refuses_more _ _ _ ps qs one other) asking
+          (but_same (refuses asked last) g.F.Files.tells (held asked) (held last) (following.0 ++ ending.spoilt, g.F.Files.refuses_more asked at last _ _ following.1 ending.refused) same))
+          (whole_keeps g.F.Files.tells (held first) (held asked) (g.F.Files.failed first) (g.F.Files.failed asked) c.ask-answers.result.loaded c.ask-answers.ensures.whole)
+          (λ t. brings_none (registered_files c.follow-came.new.manager) (held at) (held last) c.finish.result
+          (kept_none c.new-manager.result c.ask-answers.new.manager c.follow-came.new.manager c.new-manager.ensures.nothing c.ask-answers.ensures.kept
+          (c.follow-came.ensures.unkept (c.ask-answers.ensures.needs ∙ c.new-manager.ensures.needs ∙ ap not stay)))
+          (c.finish.ensures.restored t))
+          (λ t. loaded g.F.Files.tells _ c.args.args c.args.host.now.env.now (held first) (g.F.Files.failed first) (g.F.Files.failed asked) (calls c.args.host.now.caller.now) (calls c.ask-answers.new.caller) c.ask-answers.result (c.ask-answers.ensures.asked t))
+          c.ask-answers.ensures.read stay c.follow-came.ensures.lasting
+      | inr back ↦ inl (returns-clause-spoilt g c back)
+    ]

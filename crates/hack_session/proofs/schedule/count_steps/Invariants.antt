@@ -1,6 +1,6 @@
 use Rattle.std.proofs.Common.{◌≡◌, Option, length, take}
 use Rattle.std.specs.List.{flat_map}
-use Rattle.hack_plan.specs.declared.partition.Partition.{Partition}
+use Rattle.hack_partition.specs.declared.partition.Partition.{Partition}
 use Rattle.hack_session.specs.Schedules.{in_piece, steps_of}
 use Rattle.hack_session.proofs.schedule.count_steps.Given as goal
 

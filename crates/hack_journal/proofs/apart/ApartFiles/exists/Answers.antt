@@ -1,5 +1,5 @@
 use Rattle.std.proofs.Common.{◌≡◌, ap, refl, rules}
-use Rattle.hack_journal.proofs.RefusingLemmas.{just_looks, within_first, within_second}
+use Rattle.hack_journal.proofs.RefusingLemmas.{just_looks, just_refused, unseen_lockfile, unseen_other, within_first, within_second}
 use Rattle.hack_journal.proofs.apart.ApartFiles.exists.Goals.{then-is_lockfile, else-is_lockfile}
 use Rattle.hack_journal.proofs.apart.ApartFiles.exists.Goals as goal
 
@@ -17,3 +17,12 @@ returns-clause-looks g c =
       same = search rules;
       untraced = λ e. absurd e;
     }
+
+pub returns-clause-unseen_path : goal.returns-clause-unseen_path
+returns-clause-unseen_path g c =
+    let same : c.if-is_lockfile.self.failures ≡ c.args.self.now.failures = elim c.if-is_lockfile.branch [ then-is_lockfile w ↦ ap (λ s. s.failures) w.self-is | else-is_lockfile w ↦ ap (λ s. s.failures) w.self-is ] in
+    let counted = rw same at c.counted.ensures.counted in
+    elim c.if-is_lockfile.branch [
+      | then-is_lockfile w ↦ rw (c.counted.ensures.same, w.outcome-is) (just_refused _ _ w.exists-outcome.result _ _ (rw w.outcome-is at counted) (unseen_lockfile g.A.Files g.B.Files _ w.exists-outcome.result _ _ w.if-is_lockfile.ensures w.exists-outcome.ensures.unseen_path))
+      | else-is_lockfile w ↦ rw (c.counted.ensures.same, w.outcome-is) (just_refused _ _ w.exists-outcome-else-is_lockfile.result _ _ (rw w.outcome-is at counted) (unseen_other g.A.Files g.B.Files _ w.exists-outcome-else-is_lockfile.result _ _ w.if-is_lockfile.ensures w.exists-outcome-else-is_lockfile.ensures.unseen_path))
+    ]

@@ -1,5 +1,5 @@
 use Rattle.std.proofs.Common.{◌≡◌, ap, refl, rules}
-use Rattle.hack_journal.proofs.RefusingLemmas.{just_looks, within_first, within_second}
+use Rattle.hack_journal.proofs.RefusingLemmas.{just_looks, read_lockfile, read_other, within_first, within_second}
 use Rattle.hack_journal.proofs.apart.ApartFiles.read.Goals.{then-is_lockfile, else-is_lockfile}
 use Rattle.hack_journal.proofs.apart.ApartFiles.read.Goals as goal
 
@@ -17,3 +17,12 @@ returns-clause-looks g c =
       same = search rules;
       untraced = λ e. absurd e;
     }
+
+pub returns-clause-unseen : goal.returns-clause-unseen
+returns-clause-unseen g c =
+    let same : c.if-is_lockfile.self.failures ≡ c.args.self.now.failures = elim c.if-is_lockfile.branch [ then-is_lockfile w ↦ ap (λ s. s.failures) w.self-is | else-is_lockfile w ↦ ap (λ s. s.failures) w.self-is ] in
+    let counted = rw same at c.counted.ensures.counted in
+    elim c.if-is_lockfile.branch [
+      | then-is_lockfile w ↦ rw (c.counted.ensures.same, w.outcome-is) (read_lockfile g.A.Files g.B.Files c.args.path.now w.read-outcome.result (g.A.Files.bytes_at c.args.self.now.files) _ _ _ _ w.if-is_lockfile.ensures (rw w.outcome-is at counted) w.read-outcome.ensures.unseen)
+      | else-is_lockfile w ↦ rw (c.counted.ensures.same, w.outcome-is) (read_other g.A.Files g.B.Files c.args.path.now w.read-outcome-else-is_lockfile.result (g.B.Files.bytes_at c.args.self.now.lockfiles) _ _ _ _ w.if-is_lockfile.ensures (rw w.outcome-is at counted) w.read-outcome-else-is_lockfile.ensures.unseen)
+    ]

@@ -1,5 +1,5 @@
 use Rattle.std.proofs.Common.{◌≡◌, ap, refl, rules}
-use Rattle.hack_journal.proofs.RefusingLemmas.{just_refused, other_file, other_lockfile, refused_lockfile, refused_other, within_first, within_second}
+use Rattle.hack_journal.proofs.RefusingLemmas.{just_looks, just_refused, other_file, other_lockfile, refused_lockfile, refused_other, within_first, within_second}
 use Rattle.hack_journal.proofs.apart.ApartFiles.remove.Goals.{then-is_lockfile, else-is_lockfile}
 use Rattle.hack_journal.proofs.apart.ApartFiles.remove.Goals as goal
 
@@ -17,5 +17,6 @@ returns-clause-changes g c =
         | then-is_lockfile w ↦ rw (c.counted.ensures.same, w.outcome-is) (just_refused _ _ w.remove-outcome.result _ _ (rw w.outcome-is at counted) (refused_lockfile g.A.Files g.B.Files _ w.remove-outcome.result _ _ w.if-is_lockfile.ensures w.remove-outcome.ensures.refused_path))
         | else-is_lockfile w ↦ rw (c.counted.ensures.same, w.outcome-is) (just_refused _ _ w.remove-outcome-else-is_lockfile.result _ _ (rw w.outcome-is at counted) (refused_other g.A.Files g.B.Files _ w.remove-outcome-else-is_lockfile.result _ _ w.if-is_lockfile.ensures w.remove-outcome-else-is_lockfile.ensures.refused_path))
       ];
+      unseen_none = just_looks _ _ _ _ counted;
       others = search rules;
     }

@@ -1,10 +1,11 @@
-use Rattle.std.proofs.Common.{◌≡◌, ◌++◌, ◌∷◌, [], sym, ◌∙◌, subst, List, ℕ, true, false, inl, inr, length, string_bytes}
+use Rattle.std.proofs.Common.{◌≡◌, ◌++◌, ◌∷◌, [], ap, arith, length-append, sym, ◌∙◌, subst, List, ℕ, true, false, inl, inr, length, string_bytes}
 use Rattle.std.proofs.lemmas.Bool.{false≢true}
 use Rattle.hack_files.specs.Files.{Makes, MakesOrNot, removes}
 use Rattle.hack_journal.specs.Journal.{Edit}
 use Rattle.hack_journal.specs.FileCalls.{spot_in}
 use Rattle.hack_journal.specs.Rows.{file_at}
 use Rattle.hack_journal.specs.Internal.{ShortensRow}
+use Rattle.hack_journal.proofs.FailedLemmas.{row_then}
 use Rattle.hack_journal.proofs.FinishLemmas.{shorten_err, shorten_last, shorten_more}
 use Rattle.hack_journal.proofs.journaled.Journaled.+remove_row.Goals as goal
 
@@ -38,3 +39,14 @@ returns-else-pop-clause-stays g t c = λ tells whole.
     ] in
     shorten_last (spot_in s) s.notes.entries c.pop.new.self.entries (g.F.Files.trace s.files) (g.F.Files.trace c.remove.new.self) (g.F.Files.bytes_at s.files) (g.F.Files.bytes_at c.remove.new.self) c.next.ensures.low none
     (subst (λ (q : List ℕ). Makes (removes q ∷ []) (g.F.Files.trace s.files) (g.F.Files.trace c.remove.new.self) (g.F.Files.bytes_at s.files) (g.F.Files.bytes_at c.remove.new.self)) {y = file_at s.notes.journal (length s.notes.entries)} c.next.ensures.path (c.in_ok-remove.ensures.traced whole))
+
+pub returns-then-pop-clause-row : goal.returns-then-pop-clause-row
+returns-then-pop-clause-row g t c =
+    let s = c.args.self.now in
+    let fs = c.pop.new.self.entries in
+    let some : (last : Edit) × (s.notes.entries ≡ fs ++ last ∷ []) = elim c.pop.ensures.popped [
+      | inl some ↦ some.1
+      | inr none ↦ let y : true ≡ false = sym c.if-pop.true ∙ none.0 in absurd (false≢true (sym y))
+    ] in
+    row_then g.F.Files s.notes c.pop.new.self c.remove_row.result s.files c.remove.new.self c.remove_row.new.self.files c.pop.ensures.journal (omega (arith, length-append fs (some.0 ∷ []), ap length some.1))
+    (record { unseen = c.in_ok-remove.ensures.unseen_none; refused = c.in_ok-remove.ensures.refused_path }) c.remove_row.ensures.row

@@ -36,7 +36,7 @@ returns-in_err-write-clause-stays g c = λ notable tells whole.
     let notes : c.look_ahead.new.self.notes ≡ s.notes = ap (λ s. s.notes) c.in_ok-after.ensures.rest in
     let path = c.next.ensures.path ∙ ap (λ (n : Noted). file_at n.journal (length n.entries)) notes in
     let text : c.deref.result.now ≡ c.in_ok-text.text.items = c.deref.ensures.value in
-    let ready = ready_of (spot_in s) s.notes.entries (g.F.Files.bytes_at s.files) (g.F.Files.bytes_at c.look_ahead.new.self.files) c.in_ok-text.text.items (edit_of c.args.entry) (all_same _ _ (c.in_ok-after.ensures.same tells)) (notable tells) (IsUtf8-string_bytes c.args.entry.path) c.in_ok-text.ensures (c.in_ok-after.ensures.absent tells) c.in_ok-after.ensures.low in
+    let ready = ready_of (spot_in s) s.notes.entries (g.F.Files.bytes_at s.files) (g.F.Files.bytes_at c.look_ahead.new.self.files) c.in_ok-text.text.items (edit_of c.args.entry) (all_same _ _ (c.in_ok-after.ensures.same tells)) (notable tells) (IsUtf8-string_bytes c.args.entry.path) (rw c.as_str.ensures.value at c.in_ok-text.ensures) (c.in_ok-after.ensures.absent tells) c.in_ok-after.ensures.low in
     subst (λ (n : Noted). Stays (spot_in s) s.notes.entries n.entries (g.F.Files.trace s.files) (g.F.Files.trace c.write.new.self) (g.F.Files.bytes_at s.files) (g.F.Files.bytes_at c.write.new.self)) (sym notes)
     (append_made (spot_in s) s.notes.entries (edit_of c.args.entry) _ c.in_ok-text.text.items _ _ _ _ _ _ path (c.in_ok-after.ensures.untraced whole) ready (rw text at (c.in_err-write.ensures.refused whole)))
 
@@ -70,7 +70,7 @@ returns-in-Ok-clause-stays g c = λ notable tells whole.
     let notes : c.look_ahead.new.self.notes ≡ s.notes = ap (λ s. s.notes) c.in_ok-after.ensures.rest in
     let path = c.next.ensures.path ∙ ap (λ (n : Noted). file_at n.journal (length n.entries)) notes in
     let text : c.deref.result.now ≡ c.in_ok-text.text.items = c.deref.ensures.value in
-    let ready = ready_of (spot_in s) s.notes.entries (g.F.Files.bytes_at s.files) (g.F.Files.bytes_at c.look_ahead.new.self.files) c.in_ok-text.text.items (edit_of c.args.entry) (all_same _ _ (c.in_ok-after.ensures.same tells)) (notable tells) (IsUtf8-string_bytes c.args.entry.path) c.in_ok-text.ensures (c.in_ok-after.ensures.absent tells) c.in_ok-after.ensures.low in
+    let ready = ready_of (spot_in s) s.notes.entries (g.F.Files.bytes_at s.files) (g.F.Files.bytes_at c.look_ahead.new.self.files) c.in_ok-text.text.items (edit_of c.args.entry) (all_same _ _ (c.in_ok-after.ensures.same tells)) (notable tells) (IsUtf8-string_bytes c.args.entry.path) (rw c.as_str.ensures.value at c.in_ok-text.ensures) (c.in_ok-after.ensures.absent tells) c.in_ok-after.ensures.low in
     let added : c.push.new.self.entries ≡ s.notes.entries ++ edit_of c.args.entry ∷ [] = c.in-Ok.ensures.added ∙ ap (λ (n : Noted). n.entries ++ edit_of c.args.entry ∷ []) notes in
     append_noted (spot_in s) s.notes.entries c.push.new.self.entries (edit_of c.args.entry) _ c.in_ok-text.text.items _ _ _ _ _ _ added path (c.in_ok-after.ensures.untraced whole) ready (rw text at (c.in_ok-write.ensures.traced whole))
 
@@ -80,7 +80,7 @@ returns-clause-stays g c = λ notable tells whole.
     let notes : c.look_ahead.new.self.notes ≡ s.notes = ap (λ s. s.notes) c.in_ok-after.ensures.rest in
     let path = c.next.ensures.path ∙ ap (λ (n : Noted). file_at n.journal (length n.entries)) notes in
     let text : c.deref.result.now ≡ c.in_ok-text.text.items = c.deref.ensures.value in
-    let ready = ready_of (spot_in s) s.notes.entries (g.F.Files.bytes_at s.files) (g.F.Files.bytes_at c.look_ahead.new.self.files) c.in_ok-text.text.items (edit_of c.args.entry) (all_same _ _ (c.in_ok-after.ensures.same tells)) (notable tells) (IsUtf8-string_bytes c.args.entry.path) c.in_ok-text.ensures (c.in_ok-after.ensures.absent tells) c.in_ok-after.ensures.low in
+    let ready = ready_of (spot_in s) s.notes.entries (g.F.Files.bytes_at s.files) (g.F.Files.bytes_at c.look_ahead.new.self.files) c.in_ok-text.text.items (edit_of c.args.entry) (all_same _ _ (c.in_ok-after.ensures.same tells)) (notable tells) (IsUtf8-string_bytes c.args.entry.path) (rw c.as_str.ensures.value at c.in_ok-text.ensures) (c.in_ok-after.ensures.absent tells) c.in_ok-after.ensures.low in
     let kept : c.push.new.self.entries ≡ s.notes.entries = c.in-Err.ensures.kept ∙ ap (λ (n : Noted). n.entries) notes in
     subst (λ (es : List Edit). Stays (spot_in s) s.notes.entries es (g.F.Files.trace s.files) (g.F.Files.trace c.write.new.self) (g.F.Files.bytes_at s.files) (g.F.Files.bytes_at c.write.new.self)) (sym kept)
     (append_made (spot_in s) s.notes.entries (edit_of c.args.entry) _ c.in_ok-text.text.items _ _ _ _ _ _ path (c.in_ok-after.ensures.untraced whole) ready (inr (rw text at (c.in_ok-write.ensures.traced whole))))

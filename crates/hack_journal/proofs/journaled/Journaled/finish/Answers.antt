@@ -1,7 +1,9 @@
 use Rattle.std.proofs.Common.{◌∙◌, ap, arith, sym, subst}
+use Rattle.std.proofs.lemmas.Result.{err_from_is_err_and}
 use Rattle.hack_files.specs.Files.{Contents}
 use Rattle.hack_journal.specs.SafeFiles.{AreBack}
 use Rattle.hack_journal.specs.SafeLaws.{stays_none, stays_more}
+use Rattle.hack_journal.proofs.FailedLemmas.{cannot_look, cannot_remove, none_then}
 use Rattle.hack_journal.proofs.FinishLemmas.{absent_first, all_same, finish_stays, none_of, removed_first}
 use Rattle.hack_journal.proofs.RowLemmas.{file_zero}
 use Rattle.hack_journal.specs.FileCalls.{spot_in}
@@ -60,3 +62,37 @@ returns-clause-back g c = λ gone tells first journaled.
     let all : AreBack s.notes.entries old = subst (λ (m : Contents). AreBack s.notes.entries m) (all_same _ _ (c.exists-there.ensures.same tells)) ((back tells).0 c.if-not-branch-2.false) in
     removed_first (spot_in s) first s.notes.entries old (g.F.Files.bytes_at c.remove_row-removed.new.self.files) journaled all (none tells)
     (λ q beside. c.remove_row-removed.ensures.others tells q beside ∙ c.are_back-back.ensures.same tells q ∙ c.exists-there.ensures.same tells q)
+
+pub returns-in_err-counted-2-clause-why : goal.returns-in_err-counted-2-clause-why
+returns-in_err-counted-2-clause-why g c =
+    let s = c.args.self.now in
+    let p = err_from_is_err_and c.from_residual-in_err-counted-2.result c.from_residual-in_err-counted-2.ensures.1 in
+    let seen = rw (sym c.in_ok-counted.ensures.same) at c.exists-there.ensures.unseen_path in
+    let failed = rw (sym c.in_err-counted-2.ensures.same, c.entries.ensures) at c.are_back-back.ensures.unseen in
+    rw p.1 (cannot_look g.F.Files s.notes s.files c.exists-there.new.self c.are_back-back.new.files (record { unseen = seen; refused = c.exists-there.ensures.refused_none }) failed)
+
+pub returns-then-not-branch-2-clause-why : goal.returns-then-not-branch-2-clause-why
+returns-then-not-branch-2-clause-why g c =
+    let s = c.args.self.now in
+    let seen = rw (sym c.in_ok-counted.ensures.same) at c.exists-there.ensures.unseen_path in
+    let unseen = rw (sym c.in_ok-counted-2.ensures.same) at c.are_back-back.ensures.unseen in
+    none_then g.F.Files s.files c.exists-there.new.self c.are_back-back.new.files (record { unseen = seen; refused = c.exists-there.ensures.refused_none }) unseen
+
+pub returns-in_err-counted-3-clause-why : goal.returns-in_err-counted-3-clause-why
+returns-in_err-counted-3-clause-why g c =
+    let s = c.args.self.now in
+    let p = err_from_is_err_and c.from_residual-in_err-counted-3.result c.from_residual-in_err-counted-3.ensures.1 in
+    let seen = rw (sym c.in_ok-counted.ensures.same) at c.exists-there.ensures.unseen_path in
+    let unseen = rw (sym c.in_ok-counted-2.ensures.same) at c.are_back-back.ensures.unseen in
+    let failed = rw (sym c.in_err-counted-3.ensures.same) at c.remove_row-removed.ensures.row in
+    rw p.1 (cannot_remove g.F.Files s.notes s.files c.are_back-back.new.files c.remove_row-removed.new.self.files
+    (none_then g.F.Files s.files c.exists-there.new.self c.are_back-back.new.files (record { unseen = seen; refused = c.exists-there.ensures.refused_none }) unseen) failed)
+
+pub returns-clause-why : goal.returns-clause-why
+returns-clause-why g c =
+    let s = c.args.self.now in
+    let seen = rw (sym c.in_ok-counted.ensures.same) at c.exists-there.ensures.unseen_path in
+    let unseen = rw (sym c.in_ok-counted-2.ensures.same) at c.are_back-back.ensures.unseen in
+    let removed = rw (sym c.in_ok-counted-3.ensures.same) at c.remove_row-removed.ensures.row in
+    none_then g.F.Files s.files c.are_back-back.new.files c.remove_row-removed.new.self.files
+    (none_then g.F.Files s.files c.exists-there.new.self c.are_back-back.new.files (record { unseen = seen; refused = c.exists-there.ensures.refused_none }) unseen) removed

@@ -1,6 +1,6 @@
 use Rattle.std.proofs.Common.{ap, sym, string_bytes}
 use Rattle.std.proofs.lemmas.Result.{on_ok_weaker, on_err_weaker}
-use Rattle.hack_journal.proofs.RefusingLemmas.{just_refused, within_counted}
+use Rattle.hack_journal.proofs.RefusingLemmas.{just_looks, just_refused, within_counted}
 use Rattle.hack_journal.proofs.SafeLemmas.{spot_same}
 use Rattle.hack_journal.proofs.journaled.JournaledFiles.write.Goals as goal
 
@@ -17,6 +17,7 @@ returns-clause-changes g c =
       );
       counted = rw c.counted.ensures.same counted;
       refused_path = rw c.counted.ensures.same (just_refused _ _ c.change-outcome.result _ _ counted change.why);
+      unseen_none = just_looks _ c.change-outcome.result _ _ counted;
       others = rw change.journal change.others;
     }
 

@@ -1,4 +1,4 @@
-use Rattle.hack_places.proofs.LookLemmas.{left_is}
+use Rattle.hack_places.proofs.LookLemmas.{left_is, seen_more}
 use Rattle.hack_places.specs.PlacesView.{places_view}
 use Rattle.hack_places.proofs.places.Places.is_left.Goals as goal
 
@@ -8,3 +8,6 @@ returns-clause-found g c =
     (rw c.as_str.ensures.value at c.in_ok-journal.ensures.found) c.in_ok-journal.ensures.same
     (rw c.as_str-2.ensures.value at c.in_ok-older.ensures.found) c.in_ok-older.ensures.same
     (rw c.as_str-3.ensures.value at c.in_ok-copy.ensures.found)
+
+pub returns-clause-seen : goal.returns-clause-seen
+returns-clause-seen g c = seen_more g.F.Files _ _ _ (seen_more g.F.Files _ _ _ c.in_ok-journal.ensures.seen c.in_ok-older.ensures.seen) c.in_ok-copy.ensures.seen

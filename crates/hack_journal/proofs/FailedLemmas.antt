@@ -1,0 +1,104 @@
+-- Calls of files, one after another, of which at most the last failed.
+use Rattle.std.proofs.Common.{◌≡◌, ◌⊎◌, ◌≤◌, ◌-◌, ◌∙◌, ap, drop, take, inl, inr, ℕ, List, [], ◌∷◌, None, Result, Ok, Err, IfErr, arith, sym, subst, string_bytes, length}
+use Rattle.std.specs.Prelude.{IsSome, slice_index_or}
+use Rattle.std.proofs.lemmas.List.{take_all}
+use Rattle.std.proofs.lemmas.Bool.{false≢true}
+use Rattle.hack_files.specs.declared.fs.Files.{Ghosts as Filing}
+use Rattle.hack_files.specs.declared.fs.FsFault.TheVariants as fs
+use Rattle.hack_journal.specs.FailedCalls.{CannotEnd, FailsOnlySo, FailsRemoval, FailsUnseen, IsOfFailedCall, LookFailed, NoneFailed, RemovalFailed, WriteFailed}
+use Rattle.hack_journal.specs.Journal.{Edit}
+use Rattle.hack_journal.specs.Recovery.{HasEntry}
+use Rattle.hack_journal.specs.Internal.{IsMemoryRefused, IsReadFault, IsWriteFault}
+use Rattle.hack_journal.specs.Rows.{Noted, file_at}
+use Rattle.hack_journal.specs.declared.recover.RecoverFault.{RecoverFault}
+use Rattle.hack_journal.specs.declared.recover.RecoverFault.TheVariants.{Memory, NotJournal, Changed, Files}
+use Rattle.hack_journal.proofs.CountLemmas.{grows_then}
+
+pub none_failed : {F : Type 0} (f : Filing F) (a : F) → NoneFailed f a a
+none_failed f a = record { unseen = f.unseen_none a; refused = f.refuses_none a }
+
+pub none_then : {F : Type 0} (f : Filing F) (a b c : F) → NoneFailed f a b → NoneFailed f b c → NoneFailed f a c
+none_then f a b c p q = record { unseen = f.unseen_more a b c [] [] p.unseen q.unseen; refused = f.refuses_more a b c [] [] p.refused q.refused }
+
+pub look_then : {F : Type 0} (f : Filing F) (path : List ℕ) (a b c : F) → NoneFailed f a b → LookFailed f path b c → LookFailed f path a c
+look_then f path a b c p q = record { unseen = f.unseen_more a b c [] (path ∷ []) p.unseen q.unseen; refused = f.refuses_more a b c [] [] p.refused q.refused }
+
+pub write_then : {F : Type 0} (f : Filing F) (path : List ℕ) (a b c : F) → NoneFailed f a b → WriteFailed f path b c → WriteFailed f path a c
+write_then f path a b c p q = record { unseen = f.unseen_more a b c [] [] p.unseen q.unseen; refused = f.refuses_more a b c [] (path ∷ []) p.refused q.refused }
+
+pub fault_then : {F : Type 0} (f : Filing F) (fault : RecoverFault) (a b c : F) → NoneFailed f a b → IsOfFailedCall f b c fault → IsOfFailedCall f a c fault
+fault_then f Memory a b c p (inl none) = inl (none_then f a b c p none)
+fault_then f Memory a b c p (inr (path, inl look)) = inr (path, inl (look_then f path a b c p look))
+fault_then f Memory a b c p (inr (path, inr write)) = inr (path, inr (write_then f path a b c p write))
+fault_then f (NotJournal j) a b c p q = none_then f a b c p q
+fault_then f (Changed path j) a b c p q = none_then f a b c p q
+fault_then f (Files (fs.Read path)) a b c p q = look_then f (string_bytes path) a b c p q
+fault_then f (Files (fs.Write path)) a b c p q = write_then f (string_bytes path) a b c p q
+fault_then f (Files (fs.NotText path)) a b c p q = absurd q
+fault_then f (Files fs.Memory) a b c p q = absurd q
+
+pub ends_then : {F T : Type 0} (f : Filing F) (r : Result T RecoverFault) (a b c : F) → NoneFailed f a b → FailsOnlySo f b c r → FailsOnlySo f a c r
+ends_then f (Ok v) a b c p q = none_then f a b c p q
+ends_then f (Err fault) a b c p q = fault_then f fault a b c p q
+
+-- a result that says at most that memory was refused
+pub memory_only : {F T : Type 0} (f : Filing F) (r : Result T RecoverFault) (a b : F) → IfErr r IsMemoryRefused → NoneFailed f a b → FailsOnlySo f a b r
+memory_only f (Ok v) a b only p = p
+memory_only f (Err Memory) a b only p = inl p
+memory_only f (Err (NotJournal j)) a b only p = absurd only
+memory_only f (Err (Changed path j)) a b only p = absurd only
+memory_only f (Err (Files fault)) a b only p = absurd only
+
+-- the first of a list, and the rest
+pub rest_is : {X : Type 0} (xs : List X) (x : X) → 1 ≤ length xs → x ≡ slice_index_or xs 0 x → xs ≡ x ∷ take (length xs - 1) (drop 1 xs)
+rest_is [] x le is = absurd (omega (arith, le))
+rest_is (y ∷ ys) x le is = sym (ap (λ z. z ∷ take (length (y ∷ ys) - 1) ys) is ∙ ap (λ l. y ∷ l) (take_all (length (y ∷ ys) - 1) ys (omega arith)))
+
+-- paths of entries are looked at, and then those of the rest
+pub unseen_rest : {F T E : Type 0} (f : Filing F) (e : Edit) (es : List Edit) (r : Result T E) (a b c : F) → NoneFailed f a b → FailsUnseen f (HasEntry es) b c r → FailsUnseen f (HasEntry (e ∷ es)) a c r
+unseen_rest f e es (Ok v) a b c p h = none_then f a b c p h
+unseen_rest f e es (Err fault) a b c p (path, has, h) = (path, inr has, look_then f path a b c p h)
+
+-- what calls of which at most the last failed are put together by
+pub ruleset call_steps = (grows_then, none_failed, none_then, fault_then, ends_then, unseen_rest)
+
+-- ---- why a journal can't be ended
+
+pub cannot_look : {F : Type 0} (f : Filing F) (noted : Noted) (a b c : F) → NoneFailed f a b → (path : List ℕ) × HasEntry noted.entries path × LookFailed f path b c → CannotEnd f noted a c
+cannot_look f noted a b c p (path, has, h) = inl (path, inr has, look_then f path a b c p h)
+
+pub cannot_remove : {F : Type 0} (f : Filing F) (noted : Noted) (a b c : F) → NoneFailed f a b → RemovalFailed f noted.journal (length noted.entries) b c → CannotEnd f noted a c
+cannot_remove f noted a b c p (i, le, h) = inr (i, le, write_then f (file_at noted.journal i) a b c p h)
+
+-- ---- errors
+
+-- the error of a read, or of a write, that failed
+pub read_failed : {F : Type 0} (f : Filing F) (path : List ℕ) (fault : RecoverFault) (a b : F) → IsReadFault path fault → LookFailed f path a b → IsOfFailedCall f a b fault
+read_failed f path Memory a b is h = inr (path, inl h)
+read_failed f path (NotJournal j) a b is h = absurd is
+read_failed f path (Changed p j) a b is h = absurd is
+read_failed f path (Files (fs.Read p)) a b is h = subst (λ (q : List ℕ). LookFailed f q a b) (sym is) h
+read_failed f path (Files (fs.Write p)) a b is h = absurd is
+read_failed f path (Files (fs.NotText p)) a b is h = absurd is
+read_failed f path (Files fs.Memory) a b is h = absurd is
+
+pub write_failed : {F : Type 0} (f : Filing F) (path : List ℕ) (fault : RecoverFault) (a b : F) → IsWriteFault path fault → WriteFailed f path a b → IsOfFailedCall f a b fault
+write_failed f path Memory a b is h = inr (path, inr h)
+write_failed f path (NotJournal j) a b is h = absurd is
+write_failed f path (Changed p j) a b is h = absurd is
+write_failed f path (Files (fs.Read p)) a b is h = absurd is
+write_failed f path (Files (fs.Write p)) a b is h = subst (λ (q : List ℕ). WriteFailed f q a b) (sym is) h
+write_failed f path (Files (fs.NotText p)) a b is h = absurd is
+write_failed f path (Files fs.Memory) a b is h = absurd is
+
+-- after a look that found something, a read that fails leaves the path unseen
+pub unseen_there : {F : Type 0} (f : Filing F) (path : List ℕ) (a b c : F) → (f.tells → IsSome (f.bytes_at b path)) → NoneFailed f a b → f.refuses b c []
+    → f.unseen b c (path ∷ []) ⊎ (f.unseen b c [] × f.tells × (f.bytes_at b path ≡ None)) → LookFailed f path a c
+unseen_there f path a b c there p again (inl h) = record { unseen = f.unseen_more a b c [] (path ∷ []) p.unseen h; refused = f.refuses_more a b c [] [] p.refused again }
+unseen_there f path a b c there p again (inr (h, tells, none)) = absurd (false≢true (subst IsSome none (there tells)))
+
+-- a row is shorter by a file that was removed
+pub row_then : {F T E : Type 0} (f : Filing F) (noted less : Noted) (r : Result T E) (a b c : F) → less.journal ≡ noted.journal → length less.entries ≤ length noted.entries → NoneFailed f a b
+    → FailsRemoval f less b c r → FailsRemoval f noted a c r
+row_then f noted less (Ok v) a b c same le p h = none_then f a b c p h
+row_then f noted less (Err e) a b c same le p (i, at, h) = (i, omega (arith, at, le), write_then f (file_at noted.journal i) a b c p (subst (λ (j : List ℕ). WriteFailed f (file_at j i) b c) same h))

@@ -1,0 +1,3 @@
+pub mod PieceLemmas
+mod PieceReading
+mod PieceTexts
