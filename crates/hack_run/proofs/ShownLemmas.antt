@@ -267,8 +267,11 @@ said_reported left reported tells cx stable rustup looks now course old hands ne
     said-by tells cx stable rustup looks now old hands new left (Ok tt) calls out same (Some course) reported h
     (λ conclusion nothing concludes said. absurd (cc))
     (λ one kept told quiet. comes_by (Ok tt) cx looks now h.steps.course h.steps.last None h.mid.streams.err new.streams.err (sym kept ∙ none)
-    (inr (refl, subst (λ (s : Stream). SaysReport looks.coloring cx h.steps.course s new.streams.err) quiet (subst (λ (t : Course). SaysReport looks.coloring cx t hands.streams.err new.streams.err) (some-same one) report),
-    noted ∙ ap (λ (b : Bool). b || are_reported course) told ∙ ap (λ (t : Course). h.steps.last.told || are_reported t) (some-same one))))
+    (inr (
+      refl,
+      subst (λ (s : Stream). SaysReport looks.coloring cx h.steps.course s new.streams.err) quiet (subst (λ (t : Course). SaysReport looks.coloring cx t hands.streams.err new.streams.err) (some-same one) report),
+      noted ∙ ap (λ (b : Bool). b || are_reported course) told ∙ ap (λ (t : Course). h.steps.last.told || are_reported t) (some-same one),
+    )))
 
 -- a search's steps were said, and its conclusion
 pub said_found : (left : Option ProcessFault) (tells : Type 0) (cx : ContextRecord) (stable : Result (Option Version) (String Global)) (rustup : Name) (looks now : Looks) (session : Option Course) (old new : Scene)

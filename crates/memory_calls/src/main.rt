@@ -46,7 +46,8 @@ d = "1"
 "#;
 
 /// What cargo reports of the workspace.
-const TOLD: &str = r#"{"packages":[{"id":"p","name":"p","version":"0.1.0","dependencies":[],"features":{"a":[],"b":["a"],"c":[]},"manifest_path":"/w/Cargo.toml","publish":null,"rust_version":null}],"workspace_members":["p"],"workspace_root":"/w","resolve":null}"#;
+const TOLD: &str =
+    r#"{"packages":[{"id":"p","name":"p","version":"0.1.0","dependencies":[],"features":{"a":[],"b":["a"],"c":[]},"manifest_path":"/w/Cargo.toml","publish":null,"rust_version":null}],"workspace_members":["p"],"workspace_root":"/w","resolve":null}"#;
 
 /// Why not all calls were made.
 enum Fault {
@@ -73,7 +74,12 @@ fn caller_of(alloc: Global) -> Result<FakeCaller, AllocError> {
     let release = "release: 1.90.0\nhost: h\n";
     caller.answer("cargo -vV", End::Status(0), release.as_bytes(), b"")?;
     caller.answer(metadata, End::Status(0), TOLD.as_bytes(), b"")?;
-    caller.answer("cargo locate-project", End::Status(0), located.as_bytes(), b"")?;
+    caller.answer(
+        "cargo locate-project",
+        End::Status(0),
+        located.as_bytes(),
+        b"",
+    )?;
     Ok(caller)
 }
 
