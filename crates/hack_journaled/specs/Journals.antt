@@ -1,8 +1,10 @@
 -- What a call over files with a journal sees.
-use Rattle.std.specs.Prelude.{◌≡◌, [], ◌+◌, ◌≤◌, ℕ, List}
+use Rattle.std.specs.Prelude.{◌≡◌, ◌⊎◌, [], ◌+◌, ◌≤◌, ℕ, List}
 use Rattle.hack_base.specs.Counters.{GrowsBy}
 use Rattle.hack_files.specs.Files.{Contents}
 use Rattle.hack_journal.specs.LockfilesApart.{apart}
+use Rattle.hack_journal.specs.Refusing.{IsRefused, IsUnseen}
+use Rattle.hack_journal.specs.Rows.{file_at}
 use Rattle.hack_journal.specs.SafeFiles.{without}
 use Rattle.hack_files.specs.View.{FilesView}
 use Rattle.hack_files.specs.declared.fs.Files.{Ghosts as Filing}
@@ -30,6 +32,15 @@ pub record IsAccounted (files_old files_new lockfiles_old lockfiles_new unkept_o
   pub lockfiles : GrowsBy of_lockfiles lockfiles_old lockfiles_new
   pub unkept : GrowsBy of_unkept unkept_old unkept_new
   pub most : number ≤ of_files + of_lockfiles + of_unkept
+
+-- why a journal stays where each path holds what it held: one was left unseen, or a file of the journal
+-- couldn't be removed
+abbrev pub IsWhyItStays : {F : Type 0} → Filing F → List ℕ → Type 0
+IsWhyItStays f journal = ((path : List ℕ) × IsUnseen f path) ⊎ ((i : ℕ) × IsRefused f (file_at journal i))
+
+-- no call failed, or just one that left the journal there
+abbrev pub OnlyEndFailed : {F : Type 0} → Filing F → List ℕ → ℕ → Type 0
+OnlyEndFailed f journal failed = (failed ≡ 0) ⊎ ((failed ≡ 1) × IsWhyItStays f journal)
 
 -- Between two states of files and of lockfiles a call saw this: in code over any of both no other states are to be had
 -- than those that they were in.

@@ -11,7 +11,8 @@ ghost use Rattle.hack_journal.specs.Refusing.{AreJust, HoldsByKind, IsRefused};
 ghost use Rattle.hack_journal.specs.Refusing.{IsRefusedOrUnkept};
 ghost use Rattle.hack_journal.specs.Rows.{KeepsBeside, spot_of};
 ghost use Rattle.hack_journal.specs.SafeFiles.{AreBack, Stays, StaysSafe, without};
-ghost use Rattle.hack_journaled.specs.Journals.{BetweenBoth, IsAccounted};
+ghost use Rattle.hack_journaled.specs.Journals.{BetweenBoth, IsAccounted, IsWhyItStays};
+ghost use Rattle.hack_journaled.specs.Journals.{OnlyEndFailed};
 ghost use Rattle.hack_journaled.specs.Journals.{contents_seen, files_seen, world_seen};
 ghost use Rattle.hack_run.specs.CallTrace.{IsCallTrace};
 ghost use Rattle.hack_run.specs.Readings.{IsEarlyReadingOrRefusal};
@@ -82,13 +83,14 @@ pub fn run_journaled<F: Files, L: Files, U: Unkept, C: Starts, O: Sink, E: Sink>
 
     // The files are restored, lockfiles too: unless the command line asks for edits that stay, each
     // path holds what it held, except for at most as many paths as calls of the files failed. Where
-    // no error was reported, at most one call failed: the removal of the journal.
+    // no error was reported, at most one call failed, and that left the journal there.
     ensures back { RestoresEdits host.old.env.now (names_of words.now) → F.tells → L.tells
         → BringsBack
         (files_seen (string_bytes place.journal) (F.bytes_at files) (L.bytes_at lockfiles) 0)
         (files_seen (string_bytes place.journal) (F.bytes_at result.1) (L.bytes_at result.2)
         result.3) }
-    ensures few { host.new.term.now.error ≡ false → result.3 ≤ 1 }
+    ensures few { host.new.term.now.error ≡ false
+        → OnlyEndFailed F.Files (string_bytes place.journal) result.3 }
 
     // And these are paths whose writes were refused: a lockfile's by `lockfiles`, any other's by
     // `files`, or it couldn't be kept. A failed read leaves no path changed.
@@ -110,6 +112,15 @@ pub fn run_journaled<F: Files, L: Files, U: Unkept, C: Starts, O: Sink, E: Sink>
         → F.tells → F.whole → L.tells → result.3 ≡ 0
         → F.bytes_at files (string_bytes place.journal) ≡ None
         → F.bytes_at result.1 (string_bytes place.journal) ≡ None }
+
+    // So it is where each path holds what it held, unless one is unseen that the end looks at, or a
+    // file of the journal can't be removed.
+    ensures ended { F.tells → F.whole → L.tells → KeepsAll
+        (contents_seen (string_bytes place.journal) (F.bytes_at files) (L.bytes_at lockfiles))
+        (contents_seen (string_bytes place.journal) (F.bytes_at result.1) (L.bytes_at result.2))
+        → F.bytes_at files (string_bytes place.journal) ≡ None
+        → (F.bytes_at result.1 (string_bytes place.journal) ≡ None)
+        ⊎ IsWhyItStays F.Files (string_bytes place.journal) }
 
     // What each single call of the files and of the lockfiles keeps is kept by all of them. Through
     // `lockfiles` no other file is changed, and through `files` no lockfile.
@@ -136,10 +147,12 @@ pub fn run_journaled<F: Files, L: Files, U: Unkept, C: Starts, O: Sink, E: Sink>
 
 /// Removes the journal where all files are restored, and returns the number of failed calls, with
 /// an error of that counted. What the journal still has to keep is left to the next call.
+#[tactic(auto, using(crate::proofs::JournalLemmas::why_it_stays))]
 fn end_journal<F: Files, U: Unkept>(files: &mut Journaled<F, U>, failed: u64) -> u64
     ensures handed { F.stays files.old.files files.new.files }
     ensures place { spot_in files.new ≡ spot_in files.old }
-    ensures failed { (result ≡ failed) ⊎ (result ≡ min (failed + 1) (2 ^ 64 - 1)) }
+    ensures failed { (result ≡ failed) ⊎ ((result ≡ min (failed + 1) (2 ^ 64 - 1))
+        × IsWhyItStays F.Files files.old.notes.journal) }
     ensures counted { (k : ℕ) × GrowsBy k (F.failed files.old.files) (F.failed files.new.files)
         × GrowsBy k failed result }
     ensures unkept { files.new.unkept ≡ files.old.unkept }
@@ -153,6 +166,9 @@ fn end_journal<F: Files, U: Unkept>(files: &mut Journaled<F, U>, failed: u64) ->
     ensures gone { result ≡ 0 → F.tells
         → AreBack files.old.notes.entries (F.bytes_at files.old.files)
         → F.bytes_at files.new.files files.old.notes.journal ≡ None }
+    ensures ended { F.tells → AreBack files.old.notes.entries (F.bytes_at files.old.files)
+        → (F.bytes_at files.new.files files.old.notes.journal ≡ None)
+        ⊎ IsWhyItStays F.Files files.old.notes.journal }
 {
     match files.finish() {
         Ok(_) => failed,

@@ -54,15 +54,15 @@ from_uses one other (Cuts behavior cut trailing) b c t u us vs h k =
 pub same_uses : (one other : Around) (words : List Name) (b c : WorkspaceBehavior) (t u : List Name) (us vs : List Use) → ComesTo one words (Parsed b t us) → ComesTo other words (Parsed c u vs) → us ≡ vs
 same_uses one other words b c t u us vs h k = from_uses one other (start_of words) b c t u us vs h k
 
-not_good : (restores removes leaves : Bool) → edits.Back ≡ (if restores then edits.Restore else (if removes then edits.Good else (if leaves then edits.Back else edits.None))) → removes ≡ false
-not_good true removes leaves e = cc
-not_good false false leaves e = refl
-not_good false true leaves e = cc
+not_permanent : (restores removes leaves : Bool) → edits.Temporary ≡ (if restores then edits.Restore else (if removes then edits.Permanent else (if leaves then edits.Temporary else edits.None))) → removes ≡ false
+not_permanent true removes leaves e = cc
+not_permanent false false leaves e = refl
+not_permanent false true leaves e = cc
 
-pub back_restores : (env : Env) (words : List Name) (does : Edits) (path : Option Name) → AsksForEdits env words does path → does ≡ edits.Back → RestoresEdits env words
+pub back_restores : (env : Env) (words : List Name) (does : Edits) (path : Option Name) → AsksForEdits env words does path → does ≡ edits.Temporary → RestoresEdits env words
 back_restores env words does path (parsed (answer.Args args) notes h is at) back rustup (answer.Args more) told k =
     let same = same_uses (around_of env rustup) (around_of env Unasked) words k.0 h.0 k.1 h.1 k.2 h.2 k.3 h.3 in
-    k.4.flags.remove_dev_deps ∙ ap (λ (us : List Use). is_given opt.RemoveDevDeps us) same ∙ sym h.4.flags.remove_dev_deps ∙ not_good args.restore args.remove_dev_deps (args.no_dev_deps || args.no_private) (sym back ∙ is)
+    k.4.flags.remove_dev_deps ∙ ap (λ (us : List Use). is_given opt.RemoveDevDeps us) same ∙ sym h.4.flags.remove_dev_deps ∙ not_permanent args.restore args.remove_dev_deps (args.no_dev_deps || args.no_private) (sym back ∙ is)
 back_restores env words does path (parsed (answer.Args args) notes h is at) back rustup (answer.Print text) told k = tt
 back_restores env words does path (parsed (answer.Args args) notes h is at) back rustup answer.List told k = tt
 back_restores env words does path (parsed (answer.Print text) notes h is at) back rustup read told k = cc

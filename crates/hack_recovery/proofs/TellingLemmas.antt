@@ -1,20 +1,16 @@
 -- What is told of a fault, and what it says of looks at files.
-use Rattle.std.proofs.Common.{◌≡◌, ◌∙◌, ℕ, List, [], ◌∷◌, ◌++◌, Bool, arith, false, true, inl, inr, refl, sym, zero}
-use Rattle.std.proofs.lemmas.List.Elements.{Contains-append_right}
+use Rattle.std.proofs.Common.{◌≡◌, ◌∙◌, ℕ, Bool, false, true, refl, sym}
 use Rattle.std.specs.Prelude.{◌≢◌, Err, Ok, Result}
 use Rattle.hack_base.specs.Counters.{GrowsBy}
 use Rattle.hack_base.specs.Names.{Name}
 use Rattle.hack_files.specs.Files.{Contents}
-use Rattle.hack_files.specs.declared.fs.Files.{Ghosts as Filing}
 use Rattle.hack_journal.proofs.RecoverLemmas.{never_no_journal}
 use Rattle.hack_journal.specs.Recovery.{CountsRecoverFault, IsWhyUnread}
 use Rattle.hack_journal.specs.Rows.{Spot}
 use Rattle.hack_journal.specs.SafeFiles.{IsSafe}
 use Rattle.hack_journal.specs.declared.recover.RecoverFault.{RecoverFault}
 use Rattle.hack_journal.specs.declared.recover.RecoverFault.TheVariants.{Memory, NotJournal, Changed, Files}
-use Rattle.hack_run.specs.LastingEdits.{IsSpoilt}
-use Rattle.hack_recovery.specs.CallCourses.{RefusesThese}
-use Rattle.hack_recovery.specs.Restoring.{IsToldAs, IsWhyUncopied}
+use Rattle.hack_recovery.specs.Restoring.{IsToldAs}
 use Rattle.hack_recovery.specs.declared.fault.CallFault.{CallFault}
 use Rattle.hack_recovery.specs.declared.fault.CallFault.TheVariants as call
 
@@ -37,18 +33,3 @@ look_failed s tells first held before now Memory came t why counts told safe off
 look_failed s tells first held before now (NotJournal j) came t why counts told safe off = absurd (never_no_journal s tells first held (NotJournal j) t why safe tt)
 look_failed s tells first held before now (Changed p j) came t why counts told safe off = absurd why
 look_failed s tells first held before now (Files f) came t why counts told safe off = counts
-
--- a path that such files refused in these calls
-pub spoilt_these : {F : Type 0} (f : Filing F) (a b : F) (path : Name) → IsSpoilt (f.refuses a b) path → IsSpoilt (RefusesThese f) path
-spoilt_these f a b path bad = (bad.0, record { before = a; after = b; refused = bad.1 }, bad.2)
-
--- a path whose write was refused at last
-pub spoilt_last : (R S T : List Name → Type 0) (path : Name) → ((ps qs : List Name) → R ps → S qs → T (ps ++ qs)) → (ps : List Name) × R ps → S (path ∷ []) → IsSpoilt T path
-spoilt_last R S T path more some last = (some.0 ++ path ∷ [], more some.0 (path ∷ []) some.1 last, Contains-append_right some.0 (path ∷ []) path (zero, omega arith, refl))
-
-pub uncopied_by : {F : Type 0} (f : Filing F) (a b : F) (copy : Name) (before now : ℕ) (fault : CallFault) → IsWhyUncopied (f.refuses a b) copy before now fault → IsWhyUncopied (RefusesThese f) copy before now fault
-uncopied_by f a b copy before now call.Memory h = tt
-uncopied_by f a b copy before now call.Busy h = h
-uncopied_by f a b copy before now call.Unlocked h = h
-uncopied_by f a b copy before now call.NoCopy (inl failed) = inl failed
-uncopied_by f a b copy before now call.NoCopy (inr bad) = inr (spoilt_these f a b copy bad)

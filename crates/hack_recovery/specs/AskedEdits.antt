@@ -17,7 +17,7 @@ use Rattle.hack_recovery.specs.declared.asked.Edits.TheVariants as edits
 -- `--remove-dev-deps` edits them permanently, `--no-dev-deps` and `--no-private` edit them and bring
 -- them back, and all others leave them
 abbrev pub edits_asked : Args → Edits
-edits_asked args = if args.restore then edits.Restore else (if args.remove_dev_deps then edits.Good else (if args.no_dev_deps || args.no_private then edits.Back else edits.None))
+edits_asked args = if args.restore then edits.Restore else (if args.remove_dev_deps then edits.Permanent else (if args.no_dev_deps || args.no_private then edits.Temporary else edits.None))
 
 -- what a parsed command line does to manifests: nothing, where it asks for a text or a list
 abbrev pub edits_by : Parsed → Edits
@@ -28,15 +28,15 @@ edits_by answer.List = edits.None
 -- a call edits manifests, permanently or not
 abbrev pub is_edit : Edits → Bool
 is_edit edits.None = false
-is_edit edits.Back = true
-is_edit edits.Good = true
+is_edit edits.Temporary = true
+is_edit edits.Permanent = true
 is_edit edits.Restore = false
 
 -- a call restores what an interrupted one left, and does nothing else
 abbrev pub is_restore : Edits → Bool
 is_restore edits.None = false
-is_restore edits.Back = false
-is_restore edits.Good = false
+is_restore edits.Temporary = false
+is_restore edits.Permanent = false
 is_restore edits.Restore = true
 
 -- a call changes manifests, by an edit or by restoring them

@@ -4,11 +4,11 @@ use Rattle.hack_base.specs.Counters.{GrowsBy}
 use Rattle.hack_base.specs.Names.{Name}
 use Rattle.hack_files.specs.Files.{Contents, KeepsAll, KeepsAllBut, KeepsOthers, MakesOrNot, removes}
 use Rattle.hack_journal.specs.LockfilesApart.{KeepsOtherFiles}
-use Rattle.hack_journal.specs.Refusing.{AreJust, HoldsByKind, IsRefused, IsRefusedOrUnkept}
+use Rattle.hack_journal.specs.Refusing.{AreJust, HoldsByKind, IsRefused, IsRefusedOrUnkept, IsUnseen}
 use Rattle.hack_journal.specs.Rows.{Spot}
 use Rattle.hack_journal.specs.SafeFiles.{StaysSafe}
 use Rattle.hack_journal.specs.declared.unkept.Unkept.{Ghosts as Noting}
-use Rattle.hack_journaled.specs.Journals.{BetweenBoth, IsAccounted, contents_seen, files_seen, world_seen}
+use Rattle.hack_journaled.specs.Journals.{BetweenBoth, IsAccounted, IsWhyItStays, OnlyEndFailed, contents_seen, files_seen, world_seen}
 use Rattle.hack_run.specs.CallChanges.{IsChangeTrace}
 use Rattle.hack_run.specs.CallTrace.{IsCallTrace}
 use Rattle.hack_run.specs.LastingEdits.{LeavesAtMostEdits}
@@ -29,6 +29,7 @@ use Rattle.hack_recovery.specs.AskedEdits.{AsksForEdits, is_change, is_restore}
 use Rattle.hack_recovery.specs.Admission.{IsAdmitted}
 use Rattle.hack_places.specs.CallPlaces.{ArePlacesOf, PlacesAt, is_left}
 use Rattle.hack_places.specs.Folders.{start_at, workspace_from}
+use Rattle.hack_recovery.specs.FailedFiles.{RefusesThese}
 use Rattle.hack_recovery.specs.GuardEvents.{GuardsView, after_leave, after_start}
 use Rattle.hack_recovery.specs.LockEvents.{LocksView, after_release}
 use Rattle.hack_recovery.specs.Restoring.{KeepsCopy, TakesBack, journal_spot}
@@ -50,7 +51,7 @@ pub record ArePlacesFound (tells records : Type 0) (real : Name → Name) (held 
 pub record Begins (tells records : Type 0) (real : Name → Name) (words : List Name) (env : Env) (does : Edits) (places : PlacesAt) (left : Bool) (old : FilesView) : Type 0 where
   pub path : Option Name
   pub asked : AsksForEdits env words does path
-  pub back : does ≡ edits.Back → RestoresEdits env words
+  pub back : does ≡ edits.Temporary → RestoresEdits env words
   pub found : ArePlacesFound tells records real old.held path (string_bytes env.current_dir) places left
 
 -- with only looks at files, the call came to this answer on how it may go on
@@ -62,22 +63,17 @@ pub record DecidesHowToGoOn (tells whole records : Type 0) (real : Name → Name
   pub counted : GrowsBy 0 old.files.failed new.files.failed
 
 -- it is known what the call does to manifests, but not where its journal is, or whether an
--- interrupted call left one: one call of files failed, and nothing was changed
-pub record CannotSee (tells whole : Type 0) (words : List Name) (env : Env) (does : Edits) (old new : Scene) : Type 0 where
+-- interrupted call left one: one call of files failed, which left a path unseen, and nothing was changed
+pub record CannotSee {F : Type 0} (f : Filing F) (words : List Name) (env : Env) (does : Edits) (old new : Scene) : Type 0 where
   pub path : Option Name
   pub asked : AsksForEdits env words does path
   pub failed : GrowsBy 1 old.files.failed new.files.failed
-  pub untouched : Untouched tells whole old new
+  pub looked : Name
+  pub unseen : IsUnseen f looked
+  pub untouched : Untouched f.tells f.whole old new
   pub locks : new.locks ≡ old.locks
 
 -- ---- the call itself, over files `f` and lockfiles `l`; `u` is told of what a journal refuses on its own
-
--- Writes or removals of these paths were refused by such files, one after the other. In code over any
--- files nothing but calls that were refused shows that.
-pub record RefusesThese {F : Type 0} (f : Filing F) (paths : List Name) : Type 0 where
-  pub before : F
-  pub after : F
-  pub refused : f.refuses before after paths
 
 -- such files, or these and such lockfiles, held this between two of their states
 abbrev pub WasBetween : {F : Type 0} → Filing F → Contents → Type 0
@@ -117,11 +113,13 @@ pub record Journals {F L U : Type 0} (f : Filing F) (l : Filing L) (u : Noting U
   pub back : RestoresEdits env words → f.tells → l.tells
       → BringsBack (files_seen spot.journal old.files.held old.lockfiles.held 0) (files_seen spot.journal new.files.held new.lockfiles.held failed)
   pub stood : new.host.term.error ≡ false → EditsStand (WereBetween f l spot.journal) (f.tells × l.tells) talks words env (contents_seen spot.journal old.files.held old.lockfiles.held) old.host.calls
-  pub few : new.host.term.error ≡ false → failed ≤ 1
+  pub few : new.host.term.error ≡ false → OnlyEndFailed f spot.journal failed
   pub spoilt : RestoresEdits env words → KeepsAllBut (λ paths. AreJust (HoldsByKind (IsRefusedOrUnkept f u) (IsRefused l)) paths 0 failed) (f.tells × l.tells)
       (contents_seen spot.journal old.files.held old.lockfiles.held) (contents_seen spot.journal new.files.held new.lockfiles.held)
   pub number : IsAccounted old.files.failed new.files.failed old.lockfiles.failed new.lockfiles.failed old.unkept new.unkept failed
   pub gone : RestoresEdits env words → f.tells → f.whole → l.tells → failed ≡ 0 → old.files.held spot.journal ≡ None → new.files.held spot.journal ≡ None
+  pub ended : f.tells → f.whole → l.tells → KeepsAll (contents_seen spot.journal old.files.held old.lockfiles.held) (contents_seen spot.journal new.files.held new.lockfiles.held)
+      → old.files.held spot.journal ≡ None → (new.files.held spot.journal ≡ None) ⊎ IsWhyItStays f spot.journal
   pub safe : f.tells → f.whole → old.files.held spot.journal ≡ None → StaysSafe spot old.files.held old.files.trace new.files.trace old.files.held new.files.held
   pub others : l.tells → KeepsOtherFiles old.lockfiles.held new.lockfiles.held
   pub locks : new.locks ≡ old.locks
@@ -134,21 +132,21 @@ Warns was now = (now ≡ record was { warn = true }) ⊎ (now ≡ record was { w
 -- after it no file is at the journal's path, and the lockfile's copy is gone; or one of them stays, or
 -- a look at the journal failed, which is reported as a warning, and so is memory that was refused for it,
 -- which is an error besides
-pub data IsJournalClosed (tells : Type 0) (places : PlacesAt) (old new : FilesView) (was now : Term) : Type 0 where
-  gone : now ≡ was → GrowsBy 0 old.failed new.failed → (tells → old.held places.journal ≡ None) → (tells → new.held places.copy ≡ None) → IsJournalClosed tells places old new was now
-  stays : Warns was now → GrowsBy 0 old.failed new.failed → (tells → IsSome (old.held places.journal)) → IsJournalClosed tells places old new was now
-  unseen : Warns was now → GrowsBy 1 old.failed new.failed → (tells → KeepsAll old.held new.held) → IsJournalClosed tells places old new was now
-  starved : now ≡ record was { warn = true; error = true } → OneMayFail old.failed new.failed → (tells → KeepsAll old.held new.held)
-      → IsJournalClosed tells places old new was now
-  copy_stays : Warns was now → GrowsBy 1 old.failed new.failed → (tells → old.held places.journal ≡ None) → IsJournalClosed tells places old new was now
+pub data IsJournalClosed {F : Type 0} (f : Filing F) (places : PlacesAt) (old new : FilesView) (was now : Term) : Type 0 where
+  gone : now ≡ was → GrowsBy 0 old.failed new.failed → (f.tells → old.held places.journal ≡ None) → (f.tells → new.held places.copy ≡ None) → IsJournalClosed f places old new was now
+  stays : Warns was now → GrowsBy 0 old.failed new.failed → (f.tells → IsSome (old.held places.journal)) → IsJournalClosed f places old new was now
+  unseen : Warns was now → GrowsBy 1 old.failed new.failed → IsUnseen f places.journal → (f.tells → KeepsAll old.held new.held) → IsJournalClosed f places old new was now
+  starved : now ≡ record was { warn = true; error = true } → OneMayFail old.failed new.failed → (f.tells → KeepsAll old.held new.held)
+      → IsJournalClosed f places old new was now
+  copy_stays : Warns was now → GrowsBy 1 old.failed new.failed → IsRefused f places.copy → (f.tells → old.held places.journal ≡ None) → IsJournalClosed f places old new was now
 
 -- after it no other file than the lockfile's copy is changed, and what stays was reported
-pub record Closes (tells whole : Type 0) (places : PlacesAt) (old new : Scene) : Type 0 where
-  pub others : tells → KeepsOthers places.copy old.files.held new.files.held
-  pub made : whole → MakesOrNot (removes places.copy) old.files.trace new.files.trace old.files.held new.files.held
+pub record Closes {F : Type 0} (f : Filing F) (places : PlacesAt) (old new : Scene) : Type 0 where
+  pub others : f.tells → KeepsOthers places.copy old.files.held new.files.held
+  pub made : f.whole → MakesOrNot (removes places.copy) old.files.trace new.files.trace old.files.held new.files.held
   pub lockfiles : new.lockfiles ≡ old.lockfiles
   pub quiet : IsQuiet old new
-  pub told : IsJournalClosed tells places old.files new.files old.host.term new.host.term
+  pub told : IsJournalClosed f places old.files new.files old.host.term new.host.term
 
 -- ---- the ways
 
@@ -157,14 +155,14 @@ pub record RunsOverJournal {F L U : Type 0} (f : Filing F) (l : Filing L) (u : N
   pub failed : ℕ
   pub last : Scene
   pub journals : Journals f l u talks words env (journal_spot places) failed old last
-  pub closes : Closes f.tells f.whole places last new
+  pub closes : Closes f places last new
 
 -- how a call with a journal goes once its guard was asked for: the lockfile is copied, and then it is
 -- performed; or the lockfile can't be copied for this reason, and nothing else is changed or called
 pub data CopiesAndRuns {F L U : Type 0} (f : Filing F) (l : Filing L) (u : Noting U) (talks : Type 0) (words : List Name) (env : Env) (places : PlacesAt) (old new : Scene) : Type 0 where
-  copied : (at : Scene) → KeepsCopy (RefusesThese f) f.tells f.whole l.tells (Ok tt) places old at → RunsOverJournal f l u talks words env places at new
+  copied : (at : Scene) → KeepsCopy f l places (Ok tt) old at → RunsOverJournal f l u talks words env places at new
       → CopiesAndRuns f l u talks words env places old new
-  uncopied : (at : Scene) (fault : CallFault) → KeepsCopy (RefusesThese f) f.tells f.whole l.tells (Err fault) places old at → new ≡ scene_with at.files new.host.term at → IsFailed new
+  uncopied : (at : Scene) (fault : CallFault) → KeepsCopy f l places (Err fault) old at → new ≡ scene_with at.files new.host.term at → IsFailed new
       → CopiesAndRuns f l u talks words env places old new
 
 -- how a call with a journal goes: a guard of the workspace's folder is started, and whatever came of
@@ -184,9 +182,9 @@ pub data Continues {F L U : Type 0} (f : Filing F) (l : Filing L) (u : Noting U)
   unedited : (locks : LocksView) → does ≡ edits.None → (records → locks ≡ after_release old.locks) → PerformsUnjournaled f talks words env (record old { locks = locks }) new
       → Continues f l u talks records watched words env does places old new
   -- edits stay: there is no journal
-  good : does ≡ edits.Good → PerformsUnjournaled f talks words env old new → Continues f l u talks records watched words env does places old new
+  permanent : does ≡ edits.Permanent → PerformsUnjournaled f talks words env old new → Continues f l u talks records watched words env does places old new
   -- edits come back: there is a journal
-  journaled : does ≡ edits.Back → IsJournaledCall f l u talks watched words env places old new → Continues f l u talks records watched words env does places old new
+  journaled : does ≡ edits.Temporary → IsJournaledCall f l u talks watched words env places old new → Continues f l u talks records watched words env does places old new
   -- what was left is restored: that is all
   restored : does ≡ edits.Restore → new ≡ old → Continues f l u talks records watched words env does places old new
 
@@ -194,12 +192,12 @@ pub data Continues {F L U : Type 0} (f : Filing F) (l : Filing L) (u : Noting U)
 -- else is changed, and before anything is called
 pub data IsLockedCourse {F L U : Type 0} (f : Filing F) (l : Filing L) (u : Noting U) (talks records watched : Type 0) (words : List Name) (env : Env) (does : Edits) (places : PlacesAt) (old new : Scene) : Type 0 where
   -- that can't be brought back: the call ends
-  ended : TakesBack (RefusesThese l) f.tells f.whole l.tells env.by_guard places old new (Ok false) → IsFailed new → IsLockedCourse f l u talks records watched words env does places old new
+  ended : TakesBack f l env.by_guard places old new (Ok false) → IsFailed new → IsLockedCourse f l u talks records watched words env does places old new
   -- memory was refused meanwhile: the call ends
-  cut_short : (at : Scene) (fault : CallFault) → TakesBack (RefusesThese l) f.tells f.whole l.tells env.by_guard places old at (Err fault)
+  cut_short : (at : Scene) (fault : CallFault) → TakesBack f l env.by_guard places old at (Err fault)
       → new ≡ scene_with at.files new.host.term at → IsFailed new → IsLockedCourse f l u talks records watched words env does places old new
   -- it is back: the call is performed
-  went_on : (at : Scene) → TakesBack (RefusesThese l) f.tells f.whole l.tells env.by_guard places old at (Ok true) → Continues f l u talks records watched words env does places at new
+  went_on : (at : Scene) → TakesBack f l env.by_guard places old at (Ok true) → Continues f l u talks records watched words env does places at new
       → IsLockedCourse f l u talks records watched words env does places old new
 
 -- how a call goes
@@ -209,9 +207,9 @@ pub data IsCallCourse {F L U : Type 0} (f : Filing F) (l : Filing L) (u : Noting
       → IsCallCourse f l u talks records watched real words env old new
   -- it isn't known whether an interrupted call left anything: a call that would change manifests ends
   -- with an error, and nothing was changed or called
-  blind : (does : Edits) → CannotSee f.tells f.whole words env does old new → is_change does ≡ true → IsFailed new → IsCallCourse f l u talks records watched real words env old new
+  blind : (does : Edits) → CannotSee f words env does old new → is_change does ≡ true → IsFailed new → IsCallCourse f l u talks records watched real words env old new
   -- any other is performed without a journal, after a warning
-  warned : (does : Edits) (at : Scene) → CannotSee f.tells f.whole words env does old at → is_change does ≡ false → at.host.term ≡ record old.host.term { warn = true }
+  warned : (does : Edits) (at : Scene) → CannotSee f words env does old at → is_change does ≡ false → at.host.term ≡ record old.host.term { warn = true }
       → PerformsUnjournaled f talks words env at new → IsCallCourse f l u talks records watched real words env old new
   -- another call has the lock, there is none, or memory was refused: nothing was changed or called
   turned_away : (does : Edits) (places : PlacesAt) (fault : CallFault) → DecidesHowToGoOn f.tells f.whole records real words env does places old new (Err fault) → IsFailed new

@@ -1,7 +1,9 @@
 -- What only private functions of the crate promise each other: why a call doesn't begin.
-use Rattle.std.specs.Prelude.{ℕ, List, IfSome}
+use Rattle.std.specs.Prelude.{ℕ, List, IfSome, string_bytes}
 use Rattle.hack_base.specs.Counters.{GrowsBy}
 use Rattle.hack_base.specs.Names.{Name, optional_text}
+use Rattle.hack_files.specs.declared.fs.Files.{Ghosts as Filing}
+use Rattle.hack_journal.specs.Refusing.{IsUnseen}
 use Rattle.hack_run.specs.Readings.{IsEarlyReading}
 use Rattle.hack_words.specs.declared.cli.env.Env.{Env}
 use Rattle.hack_recovery.specs.AskedEdits.{AsksForEdits}
@@ -9,8 +11,9 @@ use Rattle.hack_recovery.specs.Scenes.{OneMayFail}
 use Rattle.hack_recovery.specs.declared.begin.Halt.{Halt}
 use Rattle.hack_recovery.specs.declared.begin.Halt.TheVariants.{Memory, Unseen}
 
--- memory was refused, and at most one look failed; or a look failed, and this is what the command line asks for
-abbrev pub IsHalt : Env → List Name → ℕ → ℕ → Halt → Type 0
-IsHalt env words before now Memory = OneMayFail before now
-IsHalt env words before now (Unseen asked path) =
-    GrowsBy 1 before now × AsksForEdits env words asked.edits (optional_text asked.manifest_path) × IfSome asked.reading (IsEarlyReading env words)
+-- memory was refused, and at most one look failed; or a look failed, which left this path unseen, and this
+-- is what the command line asks for
+abbrev pub IsHalt : {F : Type 0} → Filing F → Env → List Name → ℕ → ℕ → Halt → Type 0
+IsHalt f env words before now Memory = OneMayFail before now
+IsHalt f env words before now (Unseen asked path) =
+    GrowsBy 1 before now × IsUnseen f (string_bytes path) × AsksForEdits env words asked.edits (optional_text asked.manifest_path) × IfSome asked.reading (IsEarlyReading env words)

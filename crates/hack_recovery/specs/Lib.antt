@@ -5,6 +5,7 @@ pub mod GuardEvents
 pub mod MemoryGuards
 pub mod Admission
 pub mod Scenes
+pub mod FailedFiles
 pub mod Restoring
 pub mod Telling
 pub mod CallCourses

@@ -21,9 +21,9 @@ pub enum Edits {
     /// They stay unchanged.
     None,
     /// They are edited and restored.
-    Back,
+    Temporary,
     /// They are edited permanently.
-    Good,
+    Permanent,
     /// They stay unchanged, but for what an interrupted call left: that is restored, and nothing
     /// else is done.
     Restore,
@@ -36,7 +36,7 @@ impl Edits {
     {
         match self {
             Edits::None | Edits::Restore => false,
-            Edits::Back | Edits::Good => true,
+            Edits::Temporary | Edits::Permanent => true,
         }
     }
 
@@ -46,7 +46,7 @@ impl Edits {
     {
         match self {
             Edits::None => false,
-            Edits::Back | Edits::Good | Edits::Restore => true,
+            Edits::Temporary | Edits::Permanent | Edits::Restore => true,
         }
     }
 }
@@ -69,9 +69,9 @@ pub fn edits_of(args: &Args) -> Edits
     if args.restore {
         Edits::Restore
     } else if args.remove_dev_deps {
-        Edits::Good
+        Edits::Permanent
     } else if args.no_dev_deps || args.no_private {
-        Edits::Back
+        Edits::Temporary
     } else {
         Edits::None
     }

@@ -11,10 +11,13 @@ ghost use Rattle.hack_base.specs.Counters.{GrowsBy};
 ghost use Rattle.hack_base.specs.Names.{Name};
 ghost use Rattle.hack_files.specs.Files.{CountsFailedCall, KeepsAll, KeepsOthers, Makes};
 ghost use Rattle.hack_files.specs.Files.{MakesOrNot, puts, removes};
+ghost use Rattle.hack_journal.specs.FailedCalls.{FailsUnseenAt};
+ghost use Rattle.hack_journal.specs.Refusing.{IsRefused};
+ghost use Rattle.hack_places.specs.PlacesView.{places_view};
+ghost use Rattle.hack_recovery.specs.FailedFiles.{OneFailedAt};
 ghost use Rattle.hack_recovery.specs.Restoring.{IsWhyUncopied};
 ghost use Rattle.hack_recovery.specs.Scenes.{OneMayFail};
 ghost use Rattle.hack_recovery.specs.Telling.{Tells};
-ghost use Rattle.hack_run.specs.LastingEdits.{IsSpoilt};
 ghost use Rattle.hack_run.specs.Worlds.{IsSameHost, host_view};
 
 use crate::fault::CallFault;
@@ -32,7 +35,7 @@ use hack_term::term::Term;
 use std::alloc::Global;
 
 /// Copies the lockfile, if there is one. Where that can't be done, the system's reason is reported.
-#[tactic(auto, using(crate::proofs::CountLemmas::counts))]
+#[tactic(auto, using(crate::proofs::FailedLemmas::calls))]
 pub(crate) fn keep_copy<F: Files, L: Files, E: Sink>(
     alloc: Global,
     places: &Places,
@@ -45,8 +48,8 @@ pub(crate) fn keep_copy<F: Files, L: Files, E: Sink>(
         → F.bytes_at files.new (string_bytes places.now.copy)
         ≡ option_or (L.bytes_at lockfiles.old (string_bytes places.now.lockfile))
         (F.bytes_at files.old (string_bytes places.now.copy))) }
-    ensures why { IfErr result (IsWhyUncopied (F.refuses files.old files.new)
-        (string_bytes places.now.copy) (L.failed lockfiles.old) (L.failed lockfiles.new)) }
+    ensures why { IfErr result (IsWhyUncopied F.Files L.Files (places_view places.now)
+        (L.failed lockfiles.old) (L.failed lockfiles.new)) }
     ensures counted { OnOk result (GrowsBy 0 (F.failed files.old) (F.failed files.new)) }
     ensures lockfiles_counted { OnOk result
         (GrowsBy 0 (L.failed lockfiles.old) (L.failed lockfiles.new)) }
@@ -93,7 +96,7 @@ fn copy_fault<F: Files, E: Sink>(
 
 /// Gives the lockfile back what its copy has, where the guard calls, and removes the copy. Returns
 /// whether that is done; if not, an error was reported.
-#[tactic(auto, using(crate::proofs::CountLemmas::counts))]
+#[tactic(auto, using(crate::proofs::FailedLemmas::calls))]
 pub(crate) fn settle<F: Files, L: Files, C: Caller, O: Sink, E: Sink>(
     places: &Places,
     files: &mut F,
@@ -119,9 +122,11 @@ pub(crate) fn settle<F: Files, L: Files, C: Caller, O: Sink, E: Sink>(
         → (bytes : Name) → F.bytes_at files.old (string_bytes places.now.copy) ≡ Some bytes
         → L.bytes_at lockfiles.new (string_bytes places.now.lockfile) ≡ Some bytes }
 
-    // Where it isn't done, a call of the files failed, or one of the lockfiles.
-    ensures why { result ≡ Ok false → GrowsBy 1 (F.failed files.old) (F.failed files.new)
-        ⊎ GrowsBy 1 (L.failed lockfiles.old) (L.failed lockfiles.new) }
+    // Where it isn't done, a call failed, at the copy or at the lockfile.
+    ensures why { result ≡ Ok false → OneFailedAt F.Files (string_bytes places.now.copy)
+        (F.failed files.old) (F.failed files.new)
+        ⊎ OneFailedAt L.Files (string_bytes places.now.lockfile)
+        (L.failed lockfiles.old) (L.failed lockfiles.new) }
 
     // Whatever comes of it, at most one call of the files failed, and one of the lockfiles; and the
     // guard leaves the copy, or the lockfile has what it had.
@@ -137,7 +142,7 @@ pub(crate) fn settle<F: Files, L: Files, C: Caller, O: Sink, E: Sink>(
         ≡ L.bytes_at lockfiles.old (string_bytes places.now.lockfile))
         ⊎ ((F.tells → L.bytes_at lockfiles.new (string_bytes places.now.lockfile)
         ≡ F.bytes_at files.old (string_bytes places.now.copy))
-        ⊎ IsSpoilt (L.refuses lockfiles.old lockfiles.new) (string_bytes places.now.lockfile)) }
+        ⊎ IsRefused L.Files (string_bytes places.now.lockfile)) }
 
     // Nobody else changes it, and nobody where there is no copy.
     ensures left { host.old.env.now.by_guard ≡ false → L.tells
@@ -172,7 +177,7 @@ pub(crate) fn settle<F: Files, L: Files, C: Caller, O: Sink, E: Sink>(
 
 /// Gives the lockfile these bytes, and reports it, unless it holds them: then it is written all the
 /// same, since a write on the disk removes what an interrupted one left beside it.
-#[tactic(auto, using(crate::proofs::CountLemmas::counts))]
+#[tactic(auto, using(crate::proofs::FailedLemmas::calls))]
 fn give_back<L: Files, C: Caller, O: Sink, E: Sink>(
     bytes: &[u8],
     places: &Places,
@@ -188,11 +193,11 @@ fn give_back<L: Files, C: Caller, O: Sink, E: Sink>(
     ensures only { L.tells → (L.bytes_at lockfiles.new (string_bytes places.now.lockfile)
         ≡ L.bytes_at lockfiles.old (string_bytes places.now.lockfile))
         ⊎ ((L.bytes_at lockfiles.new (string_bytes places.now.lockfile) ≡ Some bytes.now)
-        ⊎ IsSpoilt (L.refuses lockfiles.old lockfiles.new) (string_bytes places.now.lockfile)) }
+        ⊎ IsRefused L.Files (string_bytes places.now.lockfile)) }
     ensures counted { result ≡ Ok true
         → GrowsBy 0 (L.failed lockfiles.old) (L.failed lockfiles.new) }
-    ensures why { result ≡ Ok false
-        → GrowsBy 1 (L.failed lockfiles.old) (L.failed lockfiles.new) }
+    ensures why { result ≡ Ok false → OneFailedAt L.Files (string_bytes places.now.lockfile)
+        (L.failed lockfiles.old) (L.failed lockfiles.new) }
     ensures failed { OneMayFail (L.failed lockfiles.old) (L.failed lockfiles.new) }
     ensures apart { L.tells → KeepsOthers (string_bytes places.now.lockfile)
         (L.bytes_at lockfiles.old) (L.bytes_at lockfiles.new) }
@@ -225,8 +230,8 @@ fn leave<L: Files, C: Caller, O: Sink, E: Sink>(
     ensures told { Tells host.old.term.now host.new.term.now result }
     ensures counted { result ≡ Ok true
         → GrowsBy 0 (L.failed lockfiles.old) (L.failed lockfiles.new) }
-    ensures why { result ≡ Ok false
-        → GrowsBy 1 (L.failed lockfiles.old) (L.failed lockfiles.new) }
+    ensures why { result ≡ Ok false → OneFailedAt L.Files (string_bytes places.now.lockfile)
+        (L.failed lockfiles.old) (L.failed lockfiles.new) }
     ensures failed { OneMayFail (L.failed lockfiles.old) (L.failed lockfiles.new) }
     ensures same { L.tells → KeepsAll (L.bytes_at lockfiles.old) (L.bytes_at lockfiles.new) }
 {
@@ -254,6 +259,7 @@ fn holds<F: Files>(
 ) -> Result<bool, FileFault>
     ensures held { result ≡ Ok true → F.tells → F.bytes_at files.new path.now ≡ Some bytes.now }
     ensures counted { CountsFailedCall (F.failed files.old) (F.failed files.new) result }
+    ensures unseen { FailsUnseenAt F.Files path.now files.old files.new result }
     ensures same { F.tells → KeepsAll (F.bytes_at files.old) (F.bytes_at files.new) }
 {
     let held = look(alloc, files, path)?;
@@ -272,7 +278,8 @@ fn drop_copy<F: Files, E: Sink>(
     ensures gone { result ≡ Ok true → F.tells
         → F.bytes_at files.new (string_bytes places.now.copy) ≡ None }
     ensures counted { result ≡ Ok true → GrowsBy 0 (F.failed files.old) (F.failed files.new) }
-    ensures why { result ≡ Ok false → GrowsBy 1 (F.failed files.old) (F.failed files.new) }
+    ensures why { result ≡ Ok false → OneFailedAt F.Files (string_bytes places.now.copy)
+        (F.failed files.old) (F.failed files.new) }
     ensures failed { OneMayFail (F.failed files.old) (F.failed files.new) }
     ensures others { F.tells → KeepsOthers (string_bytes places.now.copy)
         (F.bytes_at files.old) (F.bytes_at files.new) }

@@ -8,7 +8,7 @@ ghost use Rattle.hack_journal.specs.Rows.{spot_of};
 ghost use Rattle.hack_recovery.specs.AskedEdits.{is_restore};
 ghost use Rattle.hack_recovery.specs.CallCourses.{Continues, IsCallCourse, IsJournalClosed};
 ghost use Rattle.hack_recovery.specs.CallCourses.{CopiesAndRuns, IsJournaledCall, IsLockedCourse};
-ghost use Rattle.hack_recovery.specs.CallCourses.{PerformsUnjournaled, RefusesThese};
+ghost use Rattle.hack_recovery.specs.CallCourses.{PerformsUnjournaled};
 ghost use Rattle.hack_recovery.specs.CallCourses.{RunsOverJournal, Warns};
 ghost use Rattle.hack_recovery.specs.GuardEvents.{GuardsView};
 ghost use Rattle.hack_recovery.specs.LockEvents.{LocksView};
@@ -198,7 +198,7 @@ fn take_back<F: Files, L: Files, C: Caller, O: Sink, E: Sink>(
     ensures host { IsSameHost host.old host.new }
     ensures stopped { result ≡ Ok false → host.new.term.now.error ≡ true }
     ensures goes { (unkept : ℕ) (locks : LocksView) (guards : GuardsView)
-        → TakesBack (RefusesThese L.Files) F.tells F.whole L.tells host.old.env.now.by_guard
+        → TakesBack F.Files L.Files host.old.env.now.by_guard
         (places_view places.now)
         (scene_by (files_view F.Files files.old) (files_view L.Files lockfiles.old) unkept
         locks guards (host_view C.Caller O.Sink host.old))
@@ -257,11 +257,11 @@ fn go_on<F: Files, L: Files, U: Unkept, K: Locks, G: Guards, C: Starts, O: Sink,
             let status = run(words, begun.reading, &mut files, host);
             (status, files, lockfiles, unkept)
         }
-        Edits::Good => {
+        Edits::Permanent => {
             let status = run(words, begun.reading, &mut files, host);
             (status, files, lockfiles, unkept)
         }
-        Edits::Back => {
+        Edits::Temporary => {
             let guards = &mut keepers.guards;
             journaled(words, begun, files, lockfiles, unkept, guards, host)
         }
@@ -406,7 +406,7 @@ fn close<F: Files, E: Sink>(
     term: &mut Term,
     err: &mut E,
 )
-    ensures told { IsJournalClosed F.tells (places_view places.now)
+    ensures told { IsJournalClosed F.Files (places_view places.now)
         (files_view F.Files files.old) (files_view F.Files files.new) term.old term.new }
     ensures others { F.tells → KeepsOthers (string_bytes places.now.copy)
         (F.bytes_at files.old) (F.bytes_at files.new) }

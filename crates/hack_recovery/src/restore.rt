@@ -37,7 +37,7 @@ pub(crate) fn restore<F: Files, E: Sink>(
     term: &mut Term,
     err: &mut E,
 ) -> Result<bool, CallFault>
-    ensures { Restores F.tells F.whole (spot_of place.now)
+    ensures { Restores F.Files (spot_of place.now)
         (files_view F.Files files.old)
         (files_view F.Files files.new)
         term.old term.new result }
@@ -95,7 +95,7 @@ fn bring_back<F: Files, E: Sink>(
     term: &mut Term,
     err: &mut E,
 ) -> Result<bool, CallFault>
-    ensures came { IsBroughtBack F.tells F.whole (spot_of place.now)
+    ensures came { IsBroughtBack F.Files (spot_of place.now)
         (files_view F.Files files.old) (files_view F.Files files.new) result }
     ensures told { Tells term.old term.new result }
 {

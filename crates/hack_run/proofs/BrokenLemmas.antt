@@ -1,7 +1,6 @@
 -- How searches for the least versions end that were broken off.
 use Rattle.std.proofs.Common.{◌≡◌, ◌∙◌, ◌+◌, ◌++◌, ◌∷◌, ◌⊎◌, [], ℕ, Bool, List, ap, append-nil, append_assoc, false, if◌then◌else◌, inl, inr, map, refl, subst, sym, true}
 use Rattle.std.specs.List.{AllZip, list_any}
-use Rattle.std.proofs.lemmas.Bool.{true≢false}
 use Rattle.hack_bisect.specs.Searches.{Trial as Tried}
 use Rattle.hack_bisect.specs.declared.tries.Outcome.{Outcome}
 use Rattle.hack_bisect.specs.declared.tries.Outcome.TheVariants as outcome

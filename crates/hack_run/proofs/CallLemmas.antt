@@ -17,11 +17,11 @@ use Rattle.hack_versions.specs.declared.version.Version.{Version}
 use Rattle.hack_session.proofs.CallLemmas.{EndsOrIsCut}
 use Rattle.hack_session.specs.StepCalls.{MakesCalls}
 use Rattle.hack_session.specs.declared.step.Outcome.{Outcome}
-use Rattle.hack_session.specs.declared.step.Outcome.TheVariants.{Passed}
+use Rattle.hack_session.specs.declared.step.Outcome.TheVariants.{Failed, Passed}
 use Rattle.hack_versions.specs.declared.rustup.Rustup.{Rustup}
 use Rattle.hack_versions.specs.declared.rustup.Rustup.TheVariants as known
 use Rattle.hack_run.specs.Loading.{IsMinorIn}
-use Rattle.hack_run.specs.Questions.{AsksRustup, AsksStable, InstallsStable, MayAskStable, ReadsStable, TellsStable, rustup_command}
+use Rattle.hack_run.specs.Questions.{AsksRustup, CannotReadStable, MayAskStable, ReadsStable, rustup_command}
 use Rattle.hack_run.specs.Internal.{IsLatest, IsUnknown, TellsMinor}
 
 -- a command that failed may have been called
@@ -39,27 +39,25 @@ read_may tells P asked shown old new (Ok text) ok err t = let had = ok t in inr 
 read_may tells P asked shown old new (Err e) ok err t = fault_may tells asked shown old new e err t
 
 -- a version that has a property has each weaker one
-pub latest_map : (P Q : Version → Type 0) (r : Result (Option Version) (String Global)) → ((v : Version) → P v → Q v) → IsLatest P r → IsLatest Q r
-latest_map P Q (Ok None) f p = absurd p
-latest_map P Q (Ok (Some v)) f p = f v p
-latest_map P Q (Err text) f p = tt
+latest_map : (P Q : Version → Type 0) (U V : Type 0) (r : Result (Option Version) (String Global)) → ((v : Version) → P v → Q v) → (U → V) → IsLatest P U r → IsLatest Q V r
+latest_map P Q U V (Ok None) f g p = absurd p
+latest_map P Q U V (Ok (Some v)) f g p = f v p
+latest_map P Q U V (Err text) f g p = g p
 
 -- the same for what a function returns
-pub answer_map : {E : Type 0} (P Q : Version → Type 0) (r : Result (Result (Option Version) (String Global)) E) → ((v : Version) → P v → Q v) → IfOk r (IsLatest P) → IfOk r (IsLatest Q)
-answer_map P Q (Ok s) f p = latest_map P Q s f p
-answer_map P Q (Err e) f p = tt
+pub answer_map : {E : Type 0} (P Q : Version → Type 0) (U V : Type 0) (r : Result (Result (Option Version) (String Global)) E) → ((v : Version) → P v → Q v) → (U → V) → IfOk r (IsLatest P U) → IfOk r (IsLatest Q V)
+answer_map P Q U V (Ok s) f g p = latest_map P Q U V s f g p
+answer_map P Q U V (Err e) f g p = tt
 
--- what was asked of stable, where each version was its answer
-pub asks : (tells : Type 0) (rustup : Name) (old new : List Call) (s : Result (Option Version) (String Global)) → IsLatest (λ v. tells → TellsStable rustup v old new) s → tells → AsksStable rustup s old new
-asks tells rustup old new (Ok None) p t = absurd p
-asks tells rustup old new (Ok (Some v)) p t = p t
-asks tells rustup old new (Err text) p t = tt
-
--- the same for what a function returns
-pub asked_stable : {E : Type 0} (tells : Type 0) (rustup : Name) (old new : List Call) (r : Result (Result (Option Version) (String Global)) E)
-    → IfOk r (IsLatest (λ v. tells → TellsStable rustup v old new)) → IfOk r (λ s. tells → AsksStable rustup s old new)
-asked_stable tells rustup old new (Ok s) p = asks tells rustup old new s p
-asked_stable tells rustup old new (Err e) p = tt
+-- an error other than want of memory ends calls that failed
+pub failed_calls : {T : Type 0} (tells : Type 0) (Ended : List Call → Outcome → Type 0) (Cut : List Call → Type 0) (old new : List Call) (r : Result T ProcessFault)
+    → (tells → MakesCalls (λ calls. EndsOrIsCut (Ended calls) (Cut calls) r) old new) → IfErr r (λ e. e ≢ process.Memory → tells → MakesCalls (λ calls. Ended calls Failed) old new)
+failed_calls tells Ended Cut old new (Ok done) h = tt
+failed_calls tells Ended Cut old new (Err process.Memory) h = λ ne t. absurd (ne refl)
+failed_calls tells Ended Cut old new (Err process.EmptyProgram) h = λ ne t. let m = h t in record { made = m.made; grown = m.grown; such = m.such }
+failed_calls tells Ended Cut old new (Err (process.NeverExecuted text)) h = λ ne t. let m = h t in record { made = m.made; grown = m.grown; such = m.such }
+failed_calls tells Ended Cut old new (Err (process.NotText text)) h = λ ne t. let m = h t in record { made = m.made; grown = m.grown; such = m.such }
+failed_calls tells Ended Cut old new (Err (process.Failed failure)) h = λ ne t. let m = h t in record { made = m.made; grown = m.grown; such = m.such }
 
 -- calls that end without an error passed
 pub installed : {T : Type 0} (tells : Type 0) (Ended : List Call → Outcome → Type 0) (Cut : List Call → Type 0) (old new : List Call) (r : Result T ProcessFault)
@@ -73,17 +71,12 @@ pub reads : (tells : Type 0) (rustup answer : Name) (c : Command) (old new : Lis
     → (v : Version) → TellsRelease (release_part answer) v → tells → ReadsStable rustup v old new
 reads tells rustup answer c old new is had v told t = (answer, subst (λ k. ReadsOutput k answer old new) is (had t), told)
 
--- the same after the toolchain was installed
-pub tells_stable : (tells : Type 0) (rustup : Name) (old mid new : List Call) → (tells → InstallsStable rustup old mid)
-    → (v : Version) → (tells → ReadsStable rustup v mid new) → tells → TellsStable rustup v old new
-tells_stable tells rustup old mid new installed v read t = record { mid = mid; installed = installed t; read = read t }
-
 -- stable's version is known where there is no error
-pub is_known : {E : Type 0} (P : Version → Type 0) (r : Result (Result (Option Version) (String Global)) E) → IfOk r (IsLatest P) → IfOk r (λ s. IfOk s (λ latest. IsSome latest))
-is_known P (Ok (Ok None)) p = absurd p
-is_known P (Ok (Ok (Some v))) p = refl
-is_known P (Ok (Err text)) p = tt
-is_known P (Err e) p = tt
+pub is_known : {E : Type 0} (P : Version → Type 0) (U : Type 0) (r : Result (Result (Option Version) (String Global)) E) → IfOk r (IsLatest P U) → IfOk r (λ s. IfOk s (λ latest. IsSome latest))
+is_known P U (Ok (Ok None)) p = absurd p
+is_known P U (Ok (Ok (Some v))) p = refl
+is_known P U (Ok (Err text)) p = tt
+is_known P U (Err e) p = tt
 
 -- rustup was asked, and its answer read
 pub asks_rustup : {E : Type 0} (tells : Type 0) (wants : Bool) (rustup answer : Name) (c : Command) (old new : List Call) (r : Result Rustup E) → wants ≡ true → c ≡ rustup_command rustup
@@ -110,6 +103,15 @@ unnamed tells c shown old new process.EmptyProgram h t none = h.1 t
 unnamed tells c shown old new (process.NeverExecuted text) h t none = absurd (h.0 none)
 unnamed tells c shown old new (process.Failed failure) h t none = absurd (h.0 none)
 unnamed tells c shown old new (process.NotText text) h t none = absurd (h.0 none)
+
+-- stable's cargo gave no answer
+pub reads_in_vain : (tells : Type 0) (rustup shown : Name) (c : Command) (old new : List Call) (e : ProcessFault) → c ≡ version_command rustup → IsReadFault tells (asked_of true c) shown old new e → e ≢ process.Memory → tells → CannotReadStable rustup old new
+reads_in_vain tells rustup shown c old new e is failed lacks t =
+    inr (subst (λ k. FailsToRead k old new) is (in_vain tells c shown old new e lacks failed t), subst (λ (k : Command). k.program ≡ [] → new ≡ old) is (unnamed tells c shown old new e failed t), λ v none. none)
+
+-- its answer has no version
+pub reads_nothing : (tells : Type 0) (rustup answer : Name) (c : Command) (old new : List Call) → c ≡ version_command rustup → (tells → ReadsOutput c answer old new) → IsMinorIn (release_part answer) None → tells → CannotReadStable rustup old new
+reads_nothing tells rustup answer c old new is had none t = inl (answer, subst (λ k. ReadsOutput k answer old new) is (had t), none)
 
 -- rustup gave no answer
 pub asks_in_vain : {E : Type 0} (tells : Type 0) (wants : Bool) (rustup shown : Name) (c : Command) (old new : List Call) (r : Result Rustup E) (e : ProcessFault) → wants ≡ true → c ≡ rustup_command rustup

@@ -1,20 +1,12 @@
 -- What a call asked while it loaded, whichever error ended that.
-use Rattle.std.proofs.Common.{◌≡◌, inl, inr, refl, sym, subst, ap, ℕ, List, Option, Some, None, Result, Ok, Err, Global, String, string_bytes, true}
-use Rattle.std.specs.Prelude.{MatchResult, option_and_then}
+use Rattle.std.proofs.Common.{◌≡◌, inl, inr, refl, sym, subst, ap, ℕ, List, Result, Ok, Err, Global, String, string_bytes, true}
+use Rattle.std.specs.Prelude.{MatchResult}
 use Rattle.std.specs.Result.{is_err, result_ok, result_unwrap_or}
 use Rattle.hack_base.specs.Names.{Name}
 use Rattle.hack_files.specs.Files.{Change, Contents}
 use Rattle.hack_process.specs.Calls.{Call, MayAdd}
-use Rattle.hack_process.specs.CargoTexts.{host_of, release_part}
 use Rattle.hack_process.specs.CommandTexts.{Command}
 use Rattle.hack_process.specs.Commands.{asked_of}
-use Rattle.hack_process.specs.Faults.{fault_text}
-use Rattle.hack_versions.proofs.RangeLemmas.{version-same}
-use Rattle.hack_versions.proofs.TextLemmas.{no-version_fault}
-use Rattle.hack_versions.specs.ToolTexts.{IsAnswerFault, IsRelease, TellsRelease}
-use Rattle.hack_versions.specs.declared.rustup.VersionTextFault.{VersionTextFault}
-use Rattle.hack_versions.specs.declared.rustup.VersionTextFault.TheVariants as text
-use Rattle.hack_versions.specs.declared.version.Version.{Version}
 use Rattle.hack_metadata.specs.QuestionCalls.{MayAsk, QuestionEndsWith, Stage, StopsQuestion}
 use Rattle.hack_metadata.specs.Requests.{Question, question}
 use Rattle.hack_metadata.specs.declared.ask.fault.AskFault.{AskFault}
@@ -23,23 +15,16 @@ use Rattle.hack_metadata.specs.declared.metadata.Metadata.{Metadata}
 use Rattle.hack_words.specs.declared.cli.args.Args.{Args}
 use Rattle.hack_words.specs.declared.cli.env.Env.{Env}
 use Rattle.hack_load.specs.Answers.{AreAnswers, IsAskFault, LoadsFromMetadata}
-use Rattle.hack_load.specs.CargoQuestions.{FailsLocate, IsSelf, TellsVersion, locate, self_command, shown_self, told_version, unknown_version}
+use Rattle.hack_load.specs.CargoQuestions.{FailsLocate, locate, told_version}
 use Rattle.hack_load.proofs.AnswerLemmas.{ends-map}
 use Rattle.hack_load.specs.ContextOf.{warnings_of}
 use Rattle.hack_load.specs.declared.answers.Answers.{Answers}
 use Rattle.hack_load.specs.declared.fault.ContextFault.{ContextFault}
 use Rattle.hack_load.specs.declared.fault.ContextFault.TheVariants as faults
 use Rattle.hack_load.specs.declared.loaded.Loaded.{Loaded}
-use Rattle.hack_run.specs.Loading.{AnswersMetadata, AreLoaded, AsksFor, IsMinorIn, Loads, at_location, at_manifests, at_metadata}
+use Rattle.hack_run.specs.Loading.{AnswersMetadata, AreLoaded, Loads, at_location, at_manifests, at_metadata}
 use Rattle.hack_drive.specs.Warnings.{have_warning}
-use Rattle.hack_run.proofs.CallLemmas.{fault_may, in_vain, unnamed}
-
--- an answer that can't be read has no release
-pub no_release : (answer : Name) (part : Option Name) (e : VersionTextFault) → IsAnswerFault answer part e → (v : Version) → ¬ TellsRelease part v
-no_release answer None e h v told = absurd told
-no_release answer (Some t) (text.Version e) h v told = no-version_fault t v e told.0 h
-no_release answer (Some t) (text.Unexpected named) h v told = h.1.2 (subst IsRelease (version-same t v h.1.0 told.0 h.1.1) told.1)
-no_release answer (Some t) text.Memory h v told = absurd h
+use Rattle.hack_run.proofs.CallLemmas.{fault_may}
 
 -- a version of cargo that can't be read warns
 pub warns_unknown : (version : Result ℕ (String Global)) → have_warning (warnings_of (told_version version)) ≡ is_err version
@@ -84,6 +69,22 @@ loads tells args env held before now q old mid new r (Ok m) e f = from_metadata 
 loads tells args env held before now q old mid new r (Err x) e f =
     subst (λ (r : Result Loaded ContextFault). Loads tells args env held q old new (result_ok r)) (sym f.3)
     (at_metadata e.0 e.1 e.2 e.3 (stops q e.0 e.1 new x (subst (λ (calls : List Call). StopsQuestion q e.0 e.1 calls x) (sym f.0) e.4)))
+
+-- the answers to the questions of a call, whatever these wrote
+pub answers_given : (tells : Type 0) (W : Stage → List Change → Type 0) (args : Args) (env : Env) (held : Contents) (before now : ℕ) (old new : List Call) (a : Answers) → AreAnswers tells W args env held before now old new a
+    → AreAnswers tells (λ stage made. Unit {0}) args env held before now old new a
+answers_given tells W args env held before now old new a (inl h) = inl (record {
+  host = h.host;
+  mid = h.mid;
+  own = h.own;
+  loads = record {
+    asked = h.loads.asked;
+    mid = h.loads.mid;
+    ends = ends-map tells (question args env (result_unwrap_or a.cargo_version 0) h.host) held h.mid h.loads.mid W (λ stage made. Unit {0}) (λ stage made w. tt) h.loads.asked h.loads.ends;
+    follows = h.loads.follows;
+  };
+})
+answers_given tells W args env held before now old new a (inr h) = inr (h.0, tt, h.2)
 
 -- the questions of a call, whichever error ended them, and whatever they wrote
 pub loaded : (tells : Type 0) (W : Stage → List Change → Type 0) (args : Args) (env : Env) (held : Contents) (before now : ℕ) (old new : List Call) (a : Answers) → AreAnswers tells W args env held before now old new a → AreLoaded tells args env held old new a

@@ -1,12 +1,14 @@
 -- What a call says, put together from its stages.
 use Rattle.std.proofs.Common.{◌≡◌, ◌⊎◌, ◌∙◌, ◌+◌, ◌∷◌, ℕ, zero, suc, Bool, Err, Global, IfOk, IsOk, List, None, Ok, OnErr, OnOk, Option, Result, Some, String, ap, arith, drop, false, filter, get_or, length, if◌then◌else◌, inl, inr, map, refl, subst, string_bytes, sym, true}
-use Rattle.std.specs.Prelude.{◌<◌, ◌≢◌, ◌↔◌, ◌&&◌, ◌||◌, ◌++◌, [], IfErr, IfSome, IsSome, IsTrue, MatchBool, MatchOption, nat_lt, not}
+use Rattle.std.specs.Prelude.{◌<◌, ◌≢◌, ◌↔◌, ◌&&◌, ◌||◌, ◌++◌, [], IfErr, IsTrue, MatchBool, MatchOption, nat_lt, not}
 use Rattle.std.specs.Result.{is_err}
 use Rattle.std.proofs.lemmas.List.{drop_more}
 use Rattle.hack_base.proofs.StreamLemmas.{wrote_none}
+use Rattle.hack_base.proofs.WriteLemmas.{failed-first, failed-later}
 use Rattle.hack_base.specs.Names.{Name}
 use Rattle.hack_base.specs.Notes.{Note}
 use Rattle.hack_base.specs.Streams.{Stream, WritesAll, WritesSome, WritesText, stream_of}
+use Rattle.hack_base.specs.Writes.{HasFailed, NoFewer}
 use Rattle.hack_base.specs.declared.writes.Sink.{Ghosts as Taking}
 use Rattle.hack_drive.specs.Answered.{NeedsAnswer}
 use Rattle.hack_drive.specs.Shown.{note_lines}
@@ -18,7 +20,7 @@ use Rattle.hack_load.specs.ContextOf.{IsContextFrom, warnings_of}
 use Rattle.hack_load.specs.Contexts.{ContextRecord}
 use Rattle.hack_load.specs.declared.answers.Answers.{Answers}
 use Rattle.hack_prepare.specs.PreparedView.{notes_in}
-use Rattle.hack_planner.specs.CallPlan.{IsCauseOf, IsPackagesCause, IsPlanOf}
+use Rattle.hack_planner.specs.CallPlan.{IsPlanOf}
 use Rattle.hack_planner.specs.declared.fault.PlanFault.{PlanFault}
 use Rattle.hack_planner.specs.declared.fault.PlanFault.TheVariants as plan
 use Rattle.hack_process.specs.Calls.{Call}
@@ -44,8 +46,9 @@ use Rattle.hack_words.specs.declared.cli.parse.Parsed.{Parsed}
 use Rattle.hack_words.specs.declared.cli.parse.Parsed.TheVariants as parsed
 use Rattle.hack_run.specs.CallTrace.{colored_by}
 use Rattle.hack_run.specs.Conclusions.{Conclusion, ConcludesSo, SaysSearch}
-use Rattle.hack_run.specs.Handed.{IsPlannedAsAsked, is_hunt, is_search}
+use Rattle.hack_run.specs.Handed.{IsPlannedAsAsked, is_search}
 use Rattle.hack_run.specs.Internal.{EndsList, HandsOverAtMostOne, HandsSteps, ListsSteps}
+use Rattle.hack_run.specs.InternalExtensions.{MissesForACause}
 use Rattle.hack_run.specs.Questions.{AsksStable, MayAskStable}
 use Rattle.hack_run.specs.Shown.{ComesOfList, ComesOfRuns, ComesOfSearch, HasNoPlan, IsNoPlan, Looks, RefusesSome, SaysAfterLoading, SaysItsPlan, SaysLines, SaysList, SaysLoaded, SaysNoPlan, SaysNotes, SaysParsed, SaysPlan, SaysRuns, SaysStarved, SaysSteps, dressed_by, goes_on, looks_of, manner_for, performed_of, planned, reported_on, scene_with, unasked}
 use Rattle.hack_run.specs.declared.fault.RunFault.{RunFault}
@@ -185,10 +188,6 @@ some-same {s} {t} e = ap (λ (o : Option Course). get_some o s) e
     get_some None d = d
     get_some (Some x) d = x
 
-pub on_error : {T E X : Type 0} (r : Result T E) → X → OnErr r X
-on_error (Ok v) x = tt
-on_error (Err e) x = x
-
 -- what runs come to, by what is kept of their steps
 comes_by : (came : Result (Unit {0}) RunFault) (cx : ContextRecord) (looks now : Looks) (course : Course) (last : State) (kept : Option ProcessFault) (old new : Stream) → last.kept ≡ kept
     → MatchOption kept
@@ -299,34 +298,45 @@ pub looks_later : (term mid last : Term) → looks_of mid ≡ record (looks_of t
 looks_later term mid last first later = later ∙ ap (λ (l : Looks). record l { reported = last.error }) first
 
 -- how a list ends, by what is kept of its steps
-list_comes : (short : Bool) (kept : Option ProcessFault) (came : Result (Unit {0}) RunFault) (now : Looks) (last : State) → kept ≡ last.kept → now.reported ≡ last.told → EndsList (Ok short) kept came → ComesOfList came now last
-list_comes short kept came now last is noted ends = subst (λ (o : Option ProcessFault). MatchOption o
-    ((came ≡ Err fault.Memory) ⊎ (came ≡ Err fault.Unlisted) ⊎ ((came ≡ Ok tt) × (now.reported ≡ last.told)))
+list_comes : (Unwritten : Type 0) (short : Bool) (kept : Option ProcessFault) (came : Result (Unit {0}) RunFault) (now : Looks) (last : State) (old new : Stream) → kept ≡ last.kept → now.reported ≡ last.told → (Unwritten → HasFailed old.failed new.failed)
+    → EndsList Unwritten (Ok short) kept came → ComesOfList came now last old new
+list_comes Unwritten short kept came now last old new is noted counted ends = subst (λ (o : Option ProcessFault). MatchOption o
+    ((came ≡ Err fault.Memory) ⊎ ((came ≡ Err fault.Unlisted) × HasFailed old.failed new.failed) ⊎ ((came ≡ Ok tt) × (now.reported ≡ last.told)))
     (λ failed. came ≡ Err (fault.Process failed))) is (go kept ends)
   where
-    go : (kept : Option ProcessFault) → EndsList (Ok short) kept came → MatchOption kept
-        ((came ≡ Err fault.Memory) ⊎ (came ≡ Err fault.Unlisted) ⊎ ((came ≡ Ok tt) × (now.reported ≡ last.told)))
+    go : (kept : Option ProcessFault) → EndsList Unwritten (Ok short) kept came → MatchOption kept
+        ((came ≡ Err fault.Memory) ⊎ ((came ≡ Err fault.Unlisted) × HasFailed old.failed new.failed) ⊎ ((came ≡ Ok tt) × (now.reported ≡ last.told)))
         (λ failed. came ≡ Err (fault.Process failed))
     go None (inl memory) = inl memory
-    go None (inr (inl line)) = inr (inl line)
+    go None (inr (inl line)) = inr (inl (line.0, counted line.1))
     go None (inr (inr fine)) = inr (inr (fine, noted))
     go (Some failed) is = is
 
+-- a line is missing without want of memory only where the writer counted a failure
+pub line_unwritten : (old mid new : Option ℕ) (short flushed : Bool) (missed : ℕ) → MissesForACause old mid false short 0 missed → MatchBool flushed (NoFewer mid new) (HasFailed mid new)
+    → (short ≡ false) × ((0 < missed) ⊎ (flushed ≡ false)) → HasFailed old new
+line_unwritten old mid new short false missed h last (full, why) = failed-later old mid new h.counted last
+line_unwritten old mid new short true missed h last (full, inr unflushed) = absurd (cc)
+line_unwritten old mid new short true missed h last (full, inl some) = elim h.cause [
+  | inl none ↦ absurd (omega (arith, none, some))
+  | inr cause ↦ elim cause [ inl is ↦ absurd (cc) | inr failed ↦ failed-first old mid new failed last ]
+]
+
 -- a list's steps were said, or there is no plan
-pub list_said : (refused : Result Bool PlanFault) (kept : Option ProcessFault) (came : Result (Unit {0}) RunFault) (tells : Type 0) (cx : ContextRecord) (stable : Result (Option Version) (String Global)) (rustup : Name) (looks now : Looks) (old mid new : Scene)
-    → IfOk refused (λ short. ListsSteps tells cx stable rustup kept now.reported looks old mid) → IfErr refused (HasNoPlan true cx stable looks now old mid) → EndsList refused kept came → now ≡ reported_on now.reported looks → new.calls ≡ mid.calls → new.streams.err ≡ mid.streams.err
+pub list_said : (Unwritten : Type 0) (refused : Result Bool PlanFault) (kept : Option ProcessFault) (came : Result (Unit {0}) RunFault) (tells : Type 0) (cx : ContextRecord) (stable : Result (Option Version) (String Global)) (rustup : Name) (looks now : Looks) (old mid new : Scene)
+    → IfOk refused (λ short. ListsSteps tells cx stable rustup kept now.reported looks old mid) → IfErr refused (HasNoPlan true cx stable looks now old mid) → EndsList Unwritten refused kept came → (Unwritten → HasFailed old.streams.out.failed new.streams.out.failed) → now ≡ reported_on now.reported looks → new.calls ≡ mid.calls → new.streams.err ≡ mid.streams.err
     → SaysNoPlan came true cx stable looks now old new ⊎ SaysStarved came looks now old new ⊎ SaysList came tells cx stable rustup looks now old new
 unfolding said_elsewhere
-list_said (Ok short) kept came tells cx stable rustup looks now old mid new steps none ends same calls err =
-    inr (inr (record { steps = said_elsewhere tells cx stable rustup None looks old mid new calls err steps.0; comes = list_comes short kept came now steps.0.last steps.1 steps.2 ends; ends = same }))
-list_said (Err e) kept came tells cx stable rustup looks now old mid new steps none ends same calls err = inl (e, ends, (none.0, lines_elsewhere old mid new calls err none.1, none.2))
+list_said Unwritten (Ok short) kept came tells cx stable rustup looks now old mid new steps none ends counted same calls err =
+    inr (inr (record { steps = said_elsewhere tells cx stable rustup None looks old mid new calls err steps.0; comes = list_comes Unwritten short kept came now steps.0.last old.streams.out new.streams.out steps.1 steps.2 counted ends; ends = same }))
+list_said Unwritten (Err e) kept came tells cx stable rustup looks now old mid new steps none ends counted same calls err = inl (e, ends, (none.0, lines_elsewhere old mid new calls err none.1, none.2, λ ne. err ∙ none.3 ne))
 
 -- a list that was handed over, or what was printed before it was refused
 pub handed_said : {X Y : Type 0} (r : Result Bool PlanFault) → OnOk r X → (X → Y) → IfOk r (λ short. Y)
 handed_said (Ok short) h f = f h
 handed_said (Err fault) h f = tt
 
-pub refused_said : {X : Type 0} {P Q : PlanFault → Type 0} (r : Result Bool PlanFault) → OnErr r X → IfErr r P → ((e : PlanFault) → X → P e → Q e) → IfErr r Q
+pub refused_said : {X P Q : PlanFault → Type 0} (r : Result Bool PlanFault) → IfErr r X → IfErr r P → ((e : PlanFault) → X e → P e → Q e) → IfErr r Q
 refused_said (Ok short) h cause f = tt
 refused_said (Err e) h cause f = f e h cause
 
@@ -347,20 +357,20 @@ plan_run came tells cx stable rustup looks now old new is (inr said) =
 -- ---- a call
 
 -- what follows the questions: the notices, and the plan
-pub follows_said : (came : Result (Unit {0}) RunFault) (tells : Type 0) (args : Args) (answers : Answers) (rustup : Name) (a b d : Term) (now : Looks) (cx : ContextRecord) (stable : Result (Option Version) (String Global)) (calls : List Call) (warned edited : Stream) (old new : Scene)
+pub follows_said : (came : Result (Unit {0}) RunFault) (talks tells : Type 0) (held : Contents) (args : Args) (answers : Answers) (rustup : Name) (a b d : Term) (now : Looks) (cx : ContextRecord) (stable : Result (Option Version) (String Global)) (calls : List Call) (warned edited : Stream) (old new : Scene)
     → b ≡ after_notes a (warnings_of (told_version answers.cargo_version)) → d ≡ after_notes b (notes_in cx) → IsContextFrom args answers cx
     → SaysNotes a.coloring (warnings_of (told_version answers.cargo_version)) old.streams.err warned → SaysNotes b.coloring (notes_in cx) warned edited → AsksStable rustup stable old.calls calls → (¬ NeedsAnswer args → stable ≡ Ok None)
-    → SaysItsPlan came tells cx stable rustup (looks_of d) now (scene_with calls edited old) new → SaysAfterLoading came tells args answers rustup (looks_of a) now old new
-follows_said came tells args answers rustup a b d now cx stable calls warned edited old new first second context told edits asked unneeded plan =
+    → SaysItsPlan came tells cx stable rustup (looks_of d) now (scene_with calls edited old) new → SaysAfterLoading came talks tells held args answers rustup (looks_of a) now old new
+follows_said came talks tells held args answers rustup a b d now cx stable calls warned edited old new first second context told edits asked unneeded plan =
     planned cx warned edited stable calls context told (subst (λ (t : Term). SaysNotes t.coloring (notes_in cx) warned edited) first edits) asked unneeded
     (subst (λ (looks : Looks). SaysItsPlan came tells cx stable rustup looks now (scene_with calls edited old) new) (ap looks_of second ∙ ap looks_of first) plan)
 
 -- memory was refused between the notices and the plan
-pub edits_said : (came : Result (Unit {0}) RunFault) (tells : Type 0) (args : Args) (answers : Answers) (rustup : Name) (a b d : Term) (cx : ContextRecord) (warned edited : Stream) (old new : Scene)
+pub edits_said : (came : Result (Unit {0}) RunFault) (talks tells : Type 0) (held : Contents) (args : Args) (answers : Answers) (rustup : Name) (a b d : Term) (cx : ContextRecord) (warned edited : Stream) (old new : Scene)
     → came ≡ Err fault.Memory → b ≡ after_notes a (warnings_of (told_version answers.cargo_version)) → d ≡ after_notes b (notes_in cx) → IsContextFrom args answers cx
     → SaysNotes a.coloring (warnings_of (told_version answers.cargo_version)) old.streams.err warned → SaysNotes b.coloring (notes_in cx) warned edited → MayAskStable rustup old.calls new.calls → (¬ NeedsAnswer args → new.calls ≡ old.calls)
-    → new ≡ scene_with new.calls edited old → SaysAfterLoading came tells args answers rustup (looks_of a) (looks_of d) old new
-edits_said came tells args answers rustup a b d cx warned edited old new is first second context told edits may unneeded same =
+    → new ≡ scene_with new.calls edited old → SaysAfterLoading came talks tells held args answers rustup (looks_of a) (looks_of d) old new
+edits_said came talks tells held args answers rustup a b d cx warned edited old new is first second context told edits may unneeded same =
     unasked cx warned edited context told (subst (λ (t : Term). SaysNotes t.coloring (notes_in cx) warned edited) first edits) may unneeded is (ap looks_of second ∙ ap looks_of first) same
 
 -- lines look the same after these notices
@@ -445,16 +455,18 @@ looks_ran x y ran = ap (λ (t : Term). looks_of t) ran
 -- there is no plan: its notices were printed at most
 pub no_plan : {C O E : Type 0} (listing : Bool) (calls : C → List Call) (e : Taking E) (cx : ContextRecord) (stable : Result (Option Version) (String Global)) (error : PlanFault) (term : Term) (a b : Starter C O E) (old new : Scene)
     → a.term.now ≡ term → calls a.caller.now ≡ old.calls → stream_of e a.err.now ≡ old.streams.err → new.calls ≡ calls b.caller.now → (listing ≡ false → new.streams.out ≡ old.streams.out) → new.streams.err ≡ stream_of e b.err.now → IsNoPlan listing cx stable error
-    → ((b ≡ a) ⊎ ((notes : List Note) × TellsNotes e notes a b)) → HasNoPlan listing cx stable (looks_of term) (looks_of b.term.now) old new error
+    → ((b ≡ a) ⊎ ((error ≡ plan.Memory) × (notes : List Note) × TellsNotes e notes a b)) → HasNoPlan listing cx stable (looks_of term) (looks_of b.term.now) old new error
 no_plan listing calls e cx stable error term a b old new term_is calls_is start calls_end out end cause (inl same) = (
   cause,
   (calls_end ∙ ap (λ s. calls s.caller.now) same ∙ calls_is, out, wrote_none old.streams.err new.streams.err (end ∙ ap (λ s. stream_of e s.err.now) same ∙ start)),
   ap (λ s. looks_of s.term.now) same ∙ ap looks_of term_is,
+  λ ne. end ∙ ap (λ s. stream_of e s.err.now) same ∙ start,
 )
 no_plan listing calls e cx stable error term a b old new term_is calls_is start calls_end out end cause (inr told) = (
   cause,
-  (calls_end ∙ ap calls told.1.3 ∙ calls_is, out, subst (λ (s : Stream). WritesSome old.streams.err s) (sym end) (subst (λ (s : Stream). WritesSome s (stream_of e b.err.now)) start (note_lines a.term.now.coloring told.0, told.1.12))),
-  ap looks_of told.1.6 ∙ ap looks_of term_is,
+  (calls_end ∙ ap calls told.2.3 ∙ calls_is, out, subst (λ (s : Stream). WritesSome old.streams.err s) (sym end) (subst (λ (s : Stream). WritesSome s (stream_of e b.err.now)) start (note_lines a.term.now.coloring told.1, told.2.12))),
+  ap looks_of told.2.6 ∙ ap looks_of term_is,
+  λ ne. absurd (ne told.0),
 )
 
 -- a report is coloured as the call's lines

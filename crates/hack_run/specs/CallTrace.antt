@@ -14,6 +14,7 @@ use Rattle.hack_load.specs.ContextOf.{IsContextFrom}
 use Rattle.hack_load.specs.Contexts.{ContextRecord}
 use Rattle.hack_load.specs.declared.answers.Answers.{Answers}
 use Rattle.hack_process.specs.Calls.{Asked, Call, IsSuccess, MayAdd}
+use Rattle.hack_process.specs.CommandTexts.{Command}
 use Rattle.hack_process.specs.Commands.{asked_of, plain_command}
 use Rattle.hack_process.specs.Faults.{GotAnswer}
 use Rattle.hack_planner.specs.CallPlan.{IsPerformableOf}
@@ -105,9 +106,13 @@ pub record LoadsAndPerforms (done : Bool) (tells : Type 0) (args : Args) (env : 
   pub behind :
       AfterLoading done tells args answers (string_bytes env.rustup) warned (world_at mid old) new
 
--- what a caller is asked where cargo is to list its commands
+-- the command that has cargo list its commands
+abbrev pub listing_command : Name → Command
+listing_command cargo = plain_command cargo [] (codes "--list" ∷ [])
+
+-- the same, as a caller gets it
 abbrev pub listing_asked : Name → Asked
-listing_asked cargo = asked_of false (plain_command cargo [] (codes "--list" ∷ []))
+listing_asked cargo = asked_of false (listing_command cargo)
 
 -- What a command line asks for: the plan was performed, or a text was printed, or cargo called for
 -- its commands, which are all there at the end of the call, without a further warning or finding.

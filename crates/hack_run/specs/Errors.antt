@@ -1,5 +1,5 @@
 -- The errors that end a call, as they are told.
-use Rattle.std.specs.Prelude.{◌≡◌, ◌⊎◌, ◌&&◌, Err, IfSome, List, None, Ok, Option, Result, Some, codes, map, option_map, string_bytes, ℕ, if◌then◌else◌}
+use Rattle.std.specs.Prelude.{◌≡◌, ◌⊎◌, ◌&&◌, Bool, Err, IfSome, List, None, Ok, Option, Result, Some, codes, false, map, option_map, string_bytes, true, ℕ, if◌then◌else◌}
 use Rattle.std.specs.List.{starts_with}
 use Rattle.std.specs.Option.{option_to_list}
 use Rattle.std.specs.Prelude.{nat_eq, option_and_then}
@@ -9,6 +9,7 @@ use Rattle.hack_base.specs.Streams.{Stream, WritesAll, WritesText}
 use Rattle.hack_load.specs.declared.fault.ContextFault.TheVariants as context
 use Rattle.hack_metadata.specs.declared.ask.fault.AskFault.TheVariants as asked
 use Rattle.hack_planner.specs.declared.fault.PlanFault.TheVariants as plan
+use Rattle.hack_prepare.specs.declared.fault.PrepareFault.TheVariants as prepare
 use Rattle.hack_process.specs.Faults.{fault_text}
 use Rattle.hack_process.specs.declared.fault.ProcessFault.{ProcessFault}
 use Rattle.hack_process.specs.declared.fault.ProcessFault.TheVariants.{NeverExecuted}
@@ -26,6 +27,18 @@ failed_command (fault.Process failed) = Some failed
 failed_command (fault.Context (context.Process failed)) = Some failed
 failed_command (fault.Context (context.Asked (asked.Process failed))) = Some failed
 failed_command other = None
+
+-- the error is that of a file
+abbrev pub is_of_file : RunFault → Bool
+is_of_file (fault.Context (context.Files f)) = true
+is_of_file (fault.Context (context.Asked (asked.Files f))) = true
+is_of_file (fault.Manifests (prepare.Files f)) = true
+is_of_file other = false
+
+-- a call ends with such an error
+abbrev pub ends_at_file : Result (Unit {0}) RunFault → Bool
+ends_at_file (Ok done) = false
+ends_at_file (Err e) = is_of_file e
 
 -- the text of an error that is the call's own, or that of a command that failed; that of any other is written by its type
 abbrev pub text_of : RunFault → Option (List ℕ)

@@ -110,11 +110,11 @@ abbrev pub HandsOverAtMostOne : {R : Type 0} → Type 0 → Option (List ℕ) �
 HandsOverAtMostOne whole had has Told Ran cx stable rustup old new =
     (((new ≡ old) ⊎ ((notes : List Note) × Told notes old new)) × Keeps had has) ⊎ HandsOver whole had has Told Ran cx stable rustup old new
 
--- where there is no error, there is a version, and it has the property
-abbrev pub IsLatest : (Version → Type 0) → Result (Option Version) (String Global) → Type 0
-IsLatest P (Ok None) = ⊥
-IsLatest P (Ok (Some v)) = P v
-IsLatest P (Err text) = Unit {0}
+-- there is a version, and P holds of it; or it is unknown, and Unknown holds
+abbrev pub IsLatest : (Version → Type 0) → Type 0 → Result (Option Version) (String Global) → Type 0
+IsLatest P Unknown (Ok None) = ⊥
+IsLatest P Unknown (Ok (Some v)) = P v
+IsLatest P Unknown (Err text) = Unknown
 
 -- rustup was asked where a word needs it, and with what is then known the words are read into this
 pub record ReadsAfterRustup (IsRead : Around → List Name → Reading → Type 0) (tells : Type 0) (words : List Name) (env : Env) (old new : List Call) (reading : Reading) : Type 0 where
@@ -199,8 +199,9 @@ abbrev pub ListsSteps : Type 0 → ContextRecord → Result (Option Version) (St
 ListsSteps tells cx stable rustup now reported looks old new =
     (steps : SaysSteps tells true cx stable rustup None looks old new) × (now ≡ steps.last.kept) × (reported ≡ steps.last.told)
 
--- how a list ends: as there is no plan, with the error that stopped its steps, or as lines are missing or not
-abbrev pub EndsList : Result Bool PlanFault → Option ProcessFault → Result (Unit {0}) RunFault → Type 0
-EndsList (Err e) stopped came = came ≡ Err (fault.Plan e)
-EndsList (Ok short) (Some failed) came = came ≡ Err (fault.Process failed)
-EndsList (Ok short) None came = (came ≡ Err fault.Memory) ⊎ (came ≡ Err fault.Unlisted) ⊎ (came ≡ Ok tt)
+-- how a list ends: as there is no plan, with the error that stopped its steps, or as lines are missing or not,
+-- for want of memory or since `Unwritten` holds
+abbrev pub EndsList : Type 0 → Result Bool PlanFault → Option ProcessFault → Result (Unit {0}) RunFault → Type 0
+EndsList Unwritten (Err e) stopped came = came ≡ Err (fault.Plan e)
+EndsList Unwritten (Ok short) (Some failed) came = came ≡ Err (fault.Process failed)
+EndsList Unwritten (Ok short) None came = (came ≡ Err fault.Memory) ⊎ ((came ≡ Err fault.Unlisted) × Unwritten) ⊎ (came ≡ Ok tt)

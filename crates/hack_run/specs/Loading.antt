@@ -1,10 +1,9 @@
 -- What a call asks cargo before it has a plan, and what it loads.
-use Rattle.std.specs.Prelude.{◌≡◌, ◌⊎◌, [], ℕ, true, List, Option, Some, None, option_and_then, string_bytes}
+use Rattle.std.specs.Prelude.{◌≡◌, ◌⊎◌, [], ℕ, true, List, Option, Some, None, string_bytes}
 use Rattle.std.specs.Result.{result_ok, result_unwrap_or}
 use Rattle.hack_base.specs.Names.{Name}
 use Rattle.hack_files.specs.Files.{Change, Contents}
 use Rattle.hack_process.specs.Calls.{Call, MayAdd}
-use Rattle.hack_process.specs.CargoTexts.{host_of, release_part}
 use Rattle.hack_process.specs.CommandTexts.{Command}
 use Rattle.hack_process.specs.Commands.{asked_of}
 use Rattle.hack_versions.specs.ToolTexts.{TellsRelease}

@@ -50,11 +50,25 @@ pub record TellsStable (rustup : Name) (v : Version) (old new : List Call) : Typ
   pub installed : InstallsStable rustup old mid
   pub read : ReadsStable rustup v mid new
 
--- stable's version was asked for, or nothing was; of calls where asking failed nothing is said
+-- the toolchain isn't installed: trying it failed, and then adding it
+abbrev pub CannotInstallStable : Name → List Call → List Call → Type 0
+CannotInstallStable rustup old new =
+    MakesCalls (λ calls. Installs [] (asked_of true (trial_of rustup (codes "stable"))) (asked_of true (addition_of rustup (codes "stable") [])) calls Failed) old new
+
+-- stable's cargo gave no answer, or one without a version
+abbrev pub CannotReadStable : Name → List Call → List Call → Type 0
+CannotReadStable rustup old new = AsksFor (λ text. IsMinorIn (option_and_then release_part text) None) (version_command rustup) old new
+
+-- the toolchain couldn't be installed, or it was, and then its version couldn't be read
+abbrev pub AsksStableInVain : Name → List Call → List Call → Type 0
+AsksStableInVain rustup old new =
+    CannotInstallStable rustup old new ⊎ ((mid : List Call) × InstallsStable rustup old mid × CannotReadStable rustup mid new)
+
+-- stable's version was asked for, or nothing was; it is unknown only where it was asked for in vain
 abbrev pub AsksStable : Name → Result (Option Version) (String Global) → List Call → List Call → Type 0
 AsksStable rustup (Ok None) old new = new ≡ old
 AsksStable rustup (Ok (Some v)) old new = TellsStable rustup v old new
-AsksStable rustup (Err text) old new = Unit {0}
+AsksStable rustup (Err text) old new = AsksStableInVain rustup old new
 
 -- installing the toolchain `stable` failed: it was tried, and added where that failed, up to the
 -- command that failed or for which memory was refused

@@ -1,6 +1,6 @@
 -- What a call says on the way, and in which order: where it comes to its end, all of that and nothing else; where an
 -- error ends it, what was to be said before.
-use Rattle.std.specs.Prelude.{◌≡◌, ◌≢◌, ◌⊎◌, ◌&&◌, ◌||◌, [], ℕ, Bool, Err, IsOk, IsSome, List, MatchBool, MatchOption, None, Ok, Option, Result, false, filter, if◌then◌else◌, map, nat_lt, not, string_bytes, true}
+use Rattle.std.specs.Prelude.{◌≡◌, ◌≢◌, ◌⊎◌, ◌&&◌, ◌||◌, [], ℕ, Bool, Err, IsSome, List, MatchBool, MatchOption, None, Ok, OnOk, Option, Result, false, filter, if◌then◌else◌, map, nat_lt, not, string_bytes, true}
 use Rattle.std.specs.Io.KnownBytes.{Appends}
 use Rattle.std.specs.Result.{is_err}
 use Rattle.std.proofs.Common.{Global, String}
@@ -11,21 +11,24 @@ use Rattle.hack_base.specs.Writes.{AppendsFront, HasFailed}
 use Rattle.hack_base.specs.declared.writes.Sink.{Ghosts as Taking}
 use Rattle.hack_drive.specs.Answered.{NeedsAnswer}
 use Rattle.hack_drive.specs.Shown.{note_lines}
+use Rattle.hack_load.specs.Answers.{AreAnswers}
 use Rattle.hack_load.specs.CargoQuestions.{told_version}
 use Rattle.hack_load.specs.ContextOf.{IsContextCause, IsContextFrom, warnings_of}
 use Rattle.hack_load.specs.Contexts.{ContextRecord}
 use Rattle.hack_load.specs.declared.answers.Answers.{Answers}
 use Rattle.hack_load.specs.declared.fault.ContextFault.{ContextFault}
 use Rattle.hack_load.specs.declared.fault.ContextFault.TheVariants as context
-use Rattle.hack_files.specs.Files.{Contents}
+use Rattle.hack_files.specs.Files.{Contents, KeepsAll}
 use Rattle.hack_files.specs.declared.fs.Files.{Ghosts as Filing}
 use Rattle.hack_planner.specs.CallPlan.{IsCauseOf, IsPackagesCause, IsPlanOf}
 use Rattle.hack_planner.specs.Looks.{AreLongLooks}
 use Rattle.hack_planner.specs.declared.fault.PlanFault.{PlanFault}
 use Rattle.hack_planner.specs.declared.fault.PlanFault.TheVariants as plan
-use Rattle.hack_prepare.specs.PreparedView.{notes_in}
+use Rattle.hack_prepare.specs.PreparedView.{IsPrepareFault, notes_in}
 use Rattle.hack_prepare.specs.declared.fault.PrepareFault.{PrepareFault}
-use Rattle.hack_process.specs.Calls.{Call, MayAdd}
+use Rattle.hack_process.specs.Calls.{Call, IsSuccess, MayAdd}
+use Rattle.hack_process.specs.CommandTexts.{text_of}
+use Rattle.hack_process.specs.Faults.{GotAnswer, IsFault}
 use Rattle.hack_process.specs.declared.fault.ProcessFault.{ProcessFault}
 use Rattle.hack_process.specs.declared.caller.Caller.{Ghosts as Calling}
 use Rattle.hack_report.specs.Reported.{SaysCutReport, SaysReport, are_reported}
@@ -49,11 +52,10 @@ use Rattle.hack_words.specs.declared.cli.args.Args.{Args}
 use Rattle.hack_words.specs.declared.cli.env.Env.{Env}
 use Rattle.hack_words.specs.declared.cli.parse.Parsed.{Parsed}
 use Rattle.hack_words.specs.declared.cli.parse.Parsed.TheVariants as parsed
-use Rattle.hack_run.specs.CallTrace.{colored_by}
+use Rattle.hack_run.specs.CallTrace.{colored_by, listing_asked, listing_command}
 use Rattle.hack_run.specs.Conclusions.{Conclusion, ConcludesSo, SaysSearch}
-use Rattle.hack_run.specs.Errors.{SaysEnd}
+use Rattle.hack_run.specs.Errors.{SaysEnd, ends_at_file}
 use Rattle.hack_run.specs.Handed.{IsPlannedAsAsked, is_hunt, is_search}
-use Rattle.hack_run.specs.Loading.{AreLoaded}
 use Rattle.hack_run.specs.Questions.{AsksRustup, AsksStable, MayAskStable, rustup_asked}
 use Rattle.hack_run.specs.Readings.{IsReadingOrRefusal}
 use Rattle.hack_run.specs.declared.fault.RunFault.{RunFault}
@@ -146,9 +148,10 @@ abbrev pub IsNoPlan : Bool → ContextRecord → Result (Option Version) (String
 IsNoPlan listing cx stable e = (e ≡ plan.Memory)
     ⊎ MatchBool (is_hunt listing cx.args) (IsSome cx.args.subcommand × IsPackagesCause cx e) (IsCauseOf cx.args.subcommand stable cx e)
 
--- that is so, nothing was called, and lines were said at most
+-- that is so, nothing was called, and nothing said; where memory was refused, lines were said at most
 abbrev pub HasNoPlan : Bool → ContextRecord → Result (Option Version) (String Global) → Looks → Looks → Scene → Scene → PlanFault → Type 0
-HasNoPlan listing cx stable looks now old new e = IsNoPlan listing cx stable e × SaysLines listing old new × (now ≡ looks)
+HasNoPlan listing cx stable looks now old new e =
+    IsNoPlan listing cx stable e × SaysLines listing old new × (now ≡ looks) × (e ≢ plan.Memory → new.streams.err ≡ old.streams.err)
 
 abbrev pub SaysNoPlan : Result (Unit {0}) RunFault → Bool → ContextRecord → Result (Option Version) (String Global) → Looks → Looks → Scene → Scene → Type 0
 SaysNoPlan came listing cx stable looks now old new = (e : PlanFault) × (came ≡ Err (fault.Plan e)) × HasNoPlan listing cx stable looks now old new e
@@ -179,16 +182,17 @@ pub record SaysRuns (came : Result (Unit {0}) RunFault) (tells : Type 0) (cx : C
       (ComesOfRuns came cx looks now steps.course steps.last mid.streams.err new.streams.err)
   pub ends : now ≡ reported_on now.reported looks
 
--- how a list ends: with the error that stopped its steps; else without one, or with that of a line that is missing
-abbrev pub ComesOfList : Result (Unit {0}) RunFault → Looks → State → Type 0
-ComesOfList came now last = MatchOption last.kept
-    ((came ≡ Err fault.Memory) ⊎ (came ≡ Err fault.Unlisted) ⊎ ((came ≡ Ok tt) × (now.reported ≡ last.told)))
+-- how a list ends: with the error that stopped its steps; else without one, or with that of a line that is missing,
+-- for want of memory or since its stream counted a failure
+abbrev pub ComesOfList : Result (Unit {0}) RunFault → Looks → State → Stream → Stream → Type 0
+ComesOfList came now last old new = MatchOption last.kept
+    ((came ≡ Err fault.Memory) ⊎ ((came ≡ Err fault.Unlisted) × HasFailed old.failed new.failed) ⊎ ((came ≡ Ok tt) × (now.reported ≡ last.told)))
     (λ failed. came ≡ Err (fault.Process failed))
 
 -- the same of a list's steps that aren't listed
 pub record SaysList (came : Result (Unit {0}) RunFault) (tells : Type 0) (cx : ContextRecord) (stable : Result (Option Version) (String Global)) (rustup : Name) (looks now : Looks) (old new : Scene) : Type 0 where
   pub steps : SaysSteps tells true cx stable rustup None looks old new
-  pub comes : ComesOfList came now steps.last
+  pub comes : ComesOfList came now steps.last old.streams.out new.streams.out
   pub ends : now ≡ reported_on now.reported looks
 
 -- a plan's steps were said, or there is none; before a list memory may be refused
@@ -207,18 +211,18 @@ SaysItsPlan came tells cx stable rustup looks now old new =
 
 -- What was said once the questions were answered: the warning of an unknown version of cargo, the notices on edits,
 -- which looks take long, and the plan; an error may have ended it before.
-pub data SaysAfterLoading (came : Result (Unit {0}) RunFault) (tells : Type 0) (args : Args) (answers : Answers) (rustup : Name) (looks now : Looks) (old new : Scene) : Type 0 where
+pub data SaysAfterLoading (came : Result (Unit {0}) RunFault) (talks tells : Type 0) (held : Contents) (args : Args) (answers : Answers) (rustup : Name) (looks now : Looks) (old new : Scene) : Type 0 where
   unloaded : (e : ContextFault) → (e ≡ context.Memory) ⊎ IsContextCause args answers e → came ≡ Err (fault.Context e) → now ≡ looks → new ≡ old
-      → SaysAfterLoading came tells args answers rustup looks now old new
+      → SaysAfterLoading came talks tells held args answers rustup looks now old new
   unedited : (cx : ContextRecord) (warned : Stream) → IsContextFrom args answers cx → SaysNotes looks.coloring (warnings_of (told_version answers.cargo_version)) old.streams.err warned
-      → (e : PrepareFault) → came ≡ Err (fault.Manifests e) → now ≡ looks → new ≡ scene_with old.calls warned old → SaysAfterLoading came tells args answers rustup looks now old new
+      → (e : PrepareFault) → IsPrepareFault cx talks held e → came ≡ Err (fault.Manifests e) → now ≡ looks → new ≡ scene_with old.calls warned old → SaysAfterLoading came talks tells held args answers rustup looks now old new
   unasked : (cx : ContextRecord) (warned edited : Stream) → IsContextFrom args answers cx → SaysNotes looks.coloring (warnings_of (told_version answers.cargo_version)) old.streams.err warned
       → SaysNotes looks.coloring (notes_in cx) warned edited → MayAskStable rustup old.calls new.calls → (¬ NeedsAnswer args → new.calls ≡ old.calls)
-      → came ≡ Err fault.Memory → now ≡ looks → new ≡ scene_with new.calls edited old → SaysAfterLoading came tells args answers rustup looks now old new
+      → came ≡ Err fault.Memory → now ≡ looks → new ≡ scene_with new.calls edited old → SaysAfterLoading came talks tells held args answers rustup looks now old new
   planned : (cx : ContextRecord) (warned edited : Stream) (stable : Result (Option Version) (String Global)) (calls : List Call) → IsContextFrom args answers cx
       → SaysNotes looks.coloring (warnings_of (told_version answers.cargo_version)) old.streams.err warned → SaysNotes looks.coloring (notes_in cx) warned edited
       → AsksStable rustup stable old.calls calls → (¬ NeedsAnswer args → stable ≡ Ok None) → SaysItsPlan came tells cx stable rustup looks now (scene_with calls edited old) new
-      → SaysAfterLoading came tells args answers rustup looks now old new
+      → SaysAfterLoading came talks tells held args answers rustup looks now old new
 
 -- some write or removal was refused between these states of files
 abbrev pub RefusesSome : {F : Type 0} → Filing F → F → F → Type 0
@@ -230,19 +234,30 @@ RefusesSome f old new = (paths : List Name) × (paths ≢ []) × f.refuses old n
 pub record SaysLoaded (came : Result (Unit {0}) RunFault) (refused talks tells : Type 0) (args : Args) (env : Env) (held : Contents) (looks now : Looks) (old new : Scene) : Type 0 where
   pub answers : Answers
   pub calls : List Call
-  pub asked : AreLoaded talks args env held old.calls calls answers
+  pub failed_first : ℕ
+  pub failed_now : ℕ
+  pub asked : AreAnswers talks (λ stage made. Unit {0}) args env held failed_first failed_now old.calls calls answers
+  pub loaded : Contents
+  pub same_loaded : OnOk answers.loaded (talks → KeepsAll held loaded)
   pub mid : Scene
   pub at : Looks
-  pub said : SaysAfterLoading came tells args answers (string_bytes env.rustup) looks at (scene_with calls old.streams.err old) mid
+  pub said : SaysAfterLoading came talks tells loaded args answers (string_bytes env.rustup) looks at (scene_with calls old.streams.err old) mid
   pub same : new.calls ≡ mid.calls
   pub out : new.streams.out ≡ mid.streams.out
   pub more : WritesSome mid.streams.err new.streams.err
-  pub plain : IsOk came → looks.verbose ≡ false → refused ⊎ (new.streams.err ≡ mid.streams.err)
+  pub plain : ends_at_file came ≡ false → looks.verbose ≡ false → refused ⊎ (new.streams.err ≡ mid.streams.err)
   pub ends : (now ≡ at) ⊎ (refused × (now ≡ reported_on true at))
 
 -- the looks that arguments ask for
 abbrev pub dressed_by : Args → Looks → Looks
 dressed_by args looks = record { coloring = colored_by args.coloring looks.coloring; verbose = args.verbose; reported = looks.reported }
+
+-- cargo was called for its commands, and an error is that of this call
+abbrev pub ComesOfListing : Type 0 → Name → Name → Result (Unit {0}) RunFault → List Call → List Call → Type 0
+ComesOfListing tells cargo dir (Ok done) old new = GotAnswer (λ answer. IsSuccess answer.end) (listing_asked cargo) old new
+ComesOfListing tells cargo dir (Err fault.Memory) old new = MayAdd (listing_asked cargo) old new
+ComesOfListing tells cargo dir (Err (fault.Process e)) old new = IsFault tells (listing_asked cargo) (text_of true dir (listing_command cargo)) old new e
+ComesOfListing tells cargo dir (Err other) old new = ⊥
 
 -- a text was printed, or a front of it, and that is the error
 abbrev pub SaysText : Result (Unit {0}) RunFault → List ℕ → Stream → Stream → Type 0
@@ -259,6 +274,7 @@ SaysParsed came refused talks tells (parsed.Print text) notes env held looks now
     SaysText came (string_bytes text) old.streams.out new.streams.out × (now ≡ looks) × (new.calls ≡ old.calls) × (new.streams.err ≡ old.streams.err)
 SaysParsed came refused talks tells parsed.List notes env held looks now old new =
     SaysNotes looks.coloring notes old.streams.err new.streams.err × (now ≡ looks) × (new.streams.out ≡ old.streams.out)
+    × ComesOfListing tells (string_bytes env.cargo) (string_bytes env.current_dir) came old.calls new.calls
 
 -- what was said once rustup was asked where an argument needs it, and the command line was read
 pub record SaysRead (came : Result (Unit {0}) RunFault) (refused talks tells : Type 0) (words : List Name) (env : Env) (held : Contents) (looks now : Looks) (old new : Scene) : Type 0 where

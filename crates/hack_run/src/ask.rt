@@ -1,7 +1,7 @@
 //! What rustup is asked before there is a plan: its own version, and that of the toolchain
 //! `stable`.
 
-ghost use Rattle.std.specs.Prelude.{◌≡◌, ◌≢◌, IfOk, IfSome, IsSome, IsSomeAnd, None, Ok, OnErr};
+ghost use Rattle.std.specs.Prelude.{◌≡◌, ◌≢◌, IfErr, IfOk, IfSome, IsSome, IsSomeAnd, None, Ok, OnErr};
 ghost use Rattle.std.specs.Prelude.{OnOk, false, string_bytes, true};
 ghost use Rattle.hack_base.specs.Names.{names_of};
 ghost use Rattle.hack_metadata.specs.Requests.{version_command as asks_stable};
@@ -11,6 +11,8 @@ ghost use Rattle.hack_process.specs.Commands.{asked_of, command_of};
 ghost use Rattle.hack_versions.specs.RangeSteps.{NeedsStable};
 ghost use Rattle.hack_versions.specs.ToolTexts.{TellsRelease};
 ghost use Rattle.hack_words.specs.Start.{wants_rustup as rustup_wanted};
+ghost use Rattle.hack_run.specs.Loading.{IsMinorIn};
+ghost use Rattle.hack_run.specs.Questions.{CannotInstallStable, CannotReadStable};
 ghost use Rattle.hack_run.specs.Questions.{FailsStable, MayAskStable};
 ghost use Rattle.hack_drive.specs.Answered.{IsAnswered, NeedsAnswer};
 ghost use Rattle.hack_run.specs.Questions.{AsksStable, InstallsStable};
@@ -157,6 +159,9 @@ fn install<C: Caller>(
         (C.calls caller.old) (C.calls caller.new)) }
     ensures err { OnErr result (C.tells → FailsStable (string_bytes env.now.rustup)
         (C.calls caller.old) (C.calls caller.new)) }
+    ensures vain { IfErr result (λ fault. fault ≢ ProcessFault.Memory → C.tells
+        → CannotInstallStable (string_bytes env.now.rustup)
+        (C.calls caller.old) (C.calls caller.new)) }
     ensures course { C.course caller.old caller.new }
 {
     let mut screen = Screen {
@@ -182,7 +187,7 @@ fn stable_fault(
     alloc: Global,
     fault: ProcessFault,
 ) -> Result<Result<Option<Version>, String>, AllocError>
-    ensures { IfOk result (IsLatest (λ _. ⊥)) }
+    ensures { IfOk result (IsLatest (λ _. ⊥) (fault ≢ ProcessFault.Memory)) }
 {
     match fault {
         ProcessFault::Memory => Err(AllocError),
@@ -205,7 +210,10 @@ fn stable_version<C: Caller>(
     verbose: bool,
     caller: &mut C,
 ) -> Result<Result<Option<Version>, String>, AllocError>
-    ensures read { IfOk result (IsLatest (λ v. C.tells → ReadsStable (string_bytes env.now.rustup) v
+    ensures read { IfOk result (IsLatest
+        (λ v. C.tells → ReadsStable (string_bytes env.now.rustup) v
+        (C.calls caller.old) (C.calls caller.new))
+        (C.tells → CannotReadStable (string_bytes env.now.rustup)
         (C.calls caller.old) (C.calls caller.new))) }
     ensures may { C.tells → MayAdd (asked_of true (asks_stable (string_bytes env.now.rustup)))
         (C.calls caller.old) (C.calls caller.new) }
@@ -226,7 +234,8 @@ fn stable_in(
     env: &Env,
     verbose: bool,
 ) -> Result<Result<Option<Version>, String>, AllocError>
-    ensures { IfOk result (IsLatest (TellsRelease (release_part answer.now))) }
+    ensures { IfOk result (IsLatest (TellsRelease (release_part answer.now))
+        (IsMinorIn (release_part answer.now) None)) }
 {
     match version(alloc, answer) {
         Ok(version) => Ok(Ok(Some(version))),

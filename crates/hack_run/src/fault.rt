@@ -1,7 +1,7 @@
 //! The errors that end a call.
 
-ghost use Rattle.std.specs.Prelude.{◌≡◌, Some, option_copied};
-ghost use Rattle.hack_run.specs.Errors.{failed_command, text_of};
+ghost use Rattle.std.specs.Prelude.{◌≡◌, Some, option_copied, true};
+ghost use Rattle.hack_run.specs.Errors.{failed_command, is_of_file, text_of};
 
 use hack_files::reason::is_of_device;
 use hack_load::context::ContextFault;
@@ -36,7 +36,9 @@ pub enum RunFault {
 
 impl RunFault {
     /// Whether a file couldn't be read or written.
-    pub fn is_of_file(&self) -> bool {
+    pub fn is_of_file(&self) -> bool
+        ensures { result ≡ true → is_of_file self.now ≡ true }
+    {
         match self {
             RunFault::Context(ContextFault::Files(fault)) => is_of_device(fault),
             RunFault::Context(ContextFault::Asked(AskFault::Files(fault))) => is_of_device(fault),

@@ -1,10 +1,11 @@
 //! Lines that are gathered before they are written.
 
-ghost use Rattle.std.specs.Prelude.{◌≡◌, ◌≤◌, ◌++◌, [], IfOk, IfSome, OnErr, OnOk, drop, true};
-ghost use Rattle.std.specs.Prelude.{vec_len};
+ghost use Rattle.std.specs.Prelude.{◌≡◌, ◌<◌, ◌≤◌, ◌++◌, [], IfErr, IfOk, IfSome, OnErr, OnOk};
+ghost use Rattle.std.specs.Prelude.{MatchBool, drop, false, length, true, vec_len};
 ghost use Rattle.std.specs.Fmt.{with_newline};
 ghost use Rattle.std.specs.Io.KnownBytes.{Appends, Keeps, append_known};
-ghost use Rattle.hack_run.specs.InternalExtensions.{Extends};
+ghost use Rattle.hack_base.specs.Writes.{CountsErrors, HasFailed, NoFewer};
+ghost use Rattle.hack_run.specs.InternalExtensions.{CountsLine, Extends, MissesForACause};
 
 use hack_base::writes::Sink;
 use hack_session::session::{LineFault, Lines};
@@ -32,6 +33,7 @@ pub(crate) struct GatheredLines<'a, O: Sink> {
 impl<O: Sink> Lines for GatheredLines<'_, O> {
     ghost use Rattle.std.proofs.Common.{◌∙◌, refl};
     ghost use Rattle.hack_run.specs.InternalExtensions.{extends_none, extends_then};
+    ghost use Rattle.hack_run.specs.InternalExtensions.{misses_none, misses_then};
 
     ghost contents = { λ w. append_known (O.contents w.out.now) w.gathered.now.items };
 
@@ -41,14 +43,23 @@ impl<O: Sink> Lines for GatheredLines<'_, O> {
 
     ghost stays = { λ a b. (a.out.ghost_name ≡ b.out.ghost_name)
         × (a.gathered.ghost_name ≡ b.gathered.ghost_name)
-        × Extends (O.contents a.out.now) (O.contents b.out.now) };
+        × Extends (O.contents a.out.now) (O.contents b.out.now)
+        × MissesForACause (O.failed a.out.now) (O.failed b.out.now) a.short b.short
+        a.failed b.failed };
 
-    ghost stays_none = { λ a. (refl, refl, extends_none (O.contents a.out.now)) };
+    ghost stays_none = { λ a. (
+      refl,
+      refl,
+      extends_none (O.contents a.out.now),
+      misses_none (O.failed a.out.now) a.short a.failed,
+    ) };
 
     ghost stays_more = { λ a b c p q. (
       p.0 ∙ q.0,
       p.1 ∙ q.1,
       extends_then (O.contents a.out.now) (O.contents b.out.now) (O.contents c.out.now) p.2 q.2,
+      misses_then (O.failed a.out.now) (O.failed b.out.now) (O.failed c.out.now) a.short b.short
+          c.short a.failed b.failed c.failed p.3 q.3,
     ) };
 
     fn line<D: fmt::Display + Drop>(&mut self, text: D) -> Result<(), fmt::Error> {
@@ -70,8 +81,8 @@ pub(crate) fn room(alloc: Global) -> Result<Vec<u8>, AllocError>
     Vec::with_capacity(alloc, ROOM)
 }
 
-/// Returns lines that are gathered in this buffer, none of which has failed. Each is put together
-/// in `line`.
+/// Returns lines that are gathered in this buffer, none of which is missing. Each is put together in
+/// `line`.
 pub(crate) fn gather_on<'a, O: Sink>(
     out: &'a mut O,
     gathered: &'a mut Vec<u8>,
@@ -81,7 +92,7 @@ pub(crate) fn gather_on<'a, O: Sink>(
         × (result.out.now ≡ out.entry.now) }
     ensures gathered { (result.gathered.ghost_name ≡ gathered.entry.ghost_name)
         × (result.gathered.now ≡ gathered.entry.now) }
-    ensures failed { result.failed ≡ 0 }
+    ensures failed { (result.failed ≡ 0) × (result.short ≡ false) }
 {
     GatheredLines {
         out,
@@ -105,6 +116,7 @@ fn put_line<O: Sink, D: fmt::Display + Drop>(
     ensures missed { OnErr result (Keeps (append_known (O.contents out.old) gathered.old.items)
         (append_known (O.contents out.new) gathered.new.items)) }
     ensures grown { Extends (O.contents out.old) (O.contents out.new) }
+    ensures counted { CountsLine (O.failed out.old) (O.failed out.new) result }
 {
     line.clear();
     match line.writeln(text) {
@@ -120,6 +132,7 @@ fn gather<O: Sink>(out: &mut O, gathered: &mut Vec<u8>, text: &str) -> Result<()
     ensures missed { OnErr result (Keeps (append_known (O.contents out.old) gathered.old.items)
         (append_known (O.contents out.new) gathered.new.items)) }
     ensures grown { Extends (O.contents out.old) (O.contents out.new) }
+    ensures counted { CountsLine (O.failed out.old) (O.failed out.new) result }
 {
     if text.len() <= ROOM.saturating_sub(gathered.len()) {
         return push(gathered, text);
@@ -134,6 +147,7 @@ fn gather<O: Sink>(out: &mut O, gathered: &mut Vec<u8>, text: &str) -> Result<()
 fn push(gathered: &mut Vec<u8>, text: &str) -> Result<(), LineFault>
     ensures written { OnOk result (gathered.new.items ≡ gathered.old.items ++ text.now) }
     ensures missed { OnErr result (gathered.new.items ≡ gathered.old.items) }
+    ensures short { IfErr result (λ fault. fault ≡ LineFault.Memory) }
 {
     match gathered.extend_from_slice(text.as_bytes()) {
         Ok(()) => Ok(()),
@@ -147,35 +161,38 @@ fn write_gathered<O: Sink>(out: &mut O, gathered: &mut Vec<u8>) -> io::Result<()
     ensures bytes { Keeps (append_known (O.contents out.old) gathered.old.items)
         (append_known (O.contents out.new) gathered.new.items) }
     ensures grown { Extends (O.contents out.old) (O.contents out.new) }
+    ensures counted { CountsErrors (O.failed out.old) (O.failed out.new) result }
 {
-    for _ in 0..u64::MAX {
-        if gathered.is_empty() {
-            return Ok(());
-        }
+    while !gathered.is_empty() {
         write_some(out, gathered)?;
     }
-    Err(io::Error::from(ErrorKind::Interrupted))
+    Ok(())
 }
 
-/// Writes as much of what is gathered as the writer takes at once; nothing where it is interrupted.
+/// Writes as much of what is gathered as the writer takes at once, again where that was interrupted.
 fn write_some<O: Sink>(out: &mut O, gathered: &mut Vec<u8>) -> io::Result<()>
+    requires { 0 < length gathered.old.items }
+    ensures less { OnOk result (length gathered.new.items < length gathered.old.items) }
     ensures bytes { Keeps (append_known (O.contents out.old) gathered.old.items)
         (append_known (O.contents out.new) gathered.new.items) }
     ensures grown { Extends (O.contents out.old) (O.contents out.new) }
+    ensures counted { CountsErrors (O.failed out.old) (O.failed out.new) result }
 {
-    match out.put_some(gathered.as_slice()) {
-        Ok(0) => Err(io::Error::from(ErrorKind::WriteZero)),
-        Ok(n) => {
-            drop_front(gathered, n);
-            Ok(())
-        }
-        Err(fault) => {
-            if fault.kind() == ErrorKind::Interrupted {
+    for _ in 0..u64::MAX {
+        match out.put_some(gathered.as_slice()) {
+            Ok(0) => return Err(io::Error::from(ErrorKind::WriteZero)),
+            Ok(n) => {
+                drop_front(gathered, n);
                 return Ok(());
             }
-            Err(fault)
+            Err(fault) => {
+                if fault.kind() != ErrorKind::Interrupted {
+                    return Err(fault);
+                }
+            }
         }
     }
+    Err(io::Error::from(ErrorKind::Interrupted))
 }
 
 /// Drops the first `n` bytes.
@@ -195,6 +212,8 @@ pub(crate) fn write_last<O: Sink>(out: &mut O, gathered: &mut Vec<u8>) -> bool
     ensures grown { Extends (O.contents out.old) (O.contents out.new) }
     ensures all { result ≡ true → Keeps (append_known (O.contents out.old) gathered.old.items)
         (O.contents out.new) }
+    ensures counted { MatchBool result (NoFewer (O.failed out.old) (O.failed out.new))
+        (HasFailed (O.failed out.old) (O.failed out.new)) }
 {
     match write_gathered(out, gathered) {
         Ok(()) => out.finish().is_ok(),

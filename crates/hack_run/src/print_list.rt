@@ -1,7 +1,7 @@
 //! The command list of a plan.
 
-ghost use Rattle.std.specs.Prelude.{◌≡◌, ◌⊎◌, IfErr, IfOk, List, None, Ok, OnErr, OnOk, false, string_bytes};
-ghost use Rattle.std.specs.Prelude.{true};
+ghost use Rattle.std.specs.Prelude.{◌≡◌, ◌<◌, ◌⊎◌, IfErr, IfOk, List, None, Ok, OnErr, OnOk, false};
+ghost use Rattle.std.specs.Prelude.{if◌then◌else◌, string_bytes, true};
 ghost use Rattle.hack_base.specs.Notes.{Note};
 ghost use Rattle.hack_load.specs.ContextView.{context_view};
 ghost use Rattle.hack_run.specs.CallTrace.{PerformsOne};
@@ -10,7 +10,7 @@ ghost use Rattle.hack_run.specs.Internal.{EndsList, HandsOver, HandsOverAtMostOn
 ghost use Rattle.hack_run.specs.Internal.{ListsSteps};
 ghost use Rattle.hack_run.specs.Internal.{MayPerformItsPlan, PerformsAtMostOne, PerformsItsPlan};
 ghost use Rattle.hack_run.specs.Internal.{host_writing};
-ghost use Rattle.hack_run.specs.InternalExtensions.{Extends};
+ghost use Rattle.hack_run.specs.InternalExtensions.{Extends, MissesForACause};
 ghost use Rattle.hack_drive.specs.Answered.{IsAnswered};
 ghost use Rattle.hack_run.specs.Shown.{HasNoPlan, KeepsLooks, SaysList, SaysNoPlan, SaysStarved};
 ghost use Rattle.hack_run.specs.Shown.{looks_of, scene_on};
@@ -95,6 +95,8 @@ fn hand_to_lister<C: Caller, O: Sink, E: Sink>(
         (host_writing gathered.new.items (host_view C.Caller O.Sink host.new)) }
     ensures course { C.course host.old.caller.now host.new.caller.now }
     ensures grown { Extends (O.contents host.old.out.now) (O.contents host.new.out.now) }
+    ensures missed { MissesForACause (O.failed host.old.out.now) (O.failed host.new.out.now)
+        false result.short 0 result.failed }
     ensures shown { IfOk result.refused (λ _. ListsSteps C.tells (context_view cx.now) stable
         (string_bytes host.old.env.now.rustup) result.fault host.new.term.now.error
         (looks_of host.old.term.now)
@@ -146,8 +148,8 @@ fn list_over<'a, W: Lines, R: Teller>(
         R.told R.ran (context_view cx.now) stable rustup.now runner.old runner.new }
     ensures over { OnOk result (HandsOver W.whole (W.contents out.old) (W.contents out.new)
         R.told R.ran (context_view cx.now) stable rustup.now runner.old runner.new) }
-    ensures refused { OnErr result ((runner.new ≡ runner.old)
-        ⊎ ((notes : List Note) × R.told notes runner.old runner.new)) }
+    ensures refused { IfErr result (λ e. (runner.new ≡ runner.old)
+        ⊎ ((e ≡ PlanFault.Memory) × (notes : List Note) × R.told notes runner.old runner.new)) }
     ensures err { IfErr result (λ e. (e ≡ PlanFault.Memory)
         ⊎ IsCauseOf (context_view cx.now).args.subcommand stable (context_view cx.now) e) }
 {
@@ -165,7 +167,9 @@ fn list_over<'a, W: Lines, R: Teller>(
 fn end_of_list(listed: Listed, flushed: bool) -> Result<(), RunFault>
     ensures ok { OnOk result ((listed.refused ≡ Ok false) × (listed.fault ≡ None)
         × (listed.failed ≡ 0) × (flushed ≡ true)) }
-    ensures comes { EndsList listed.refused listed.fault result }
+    ensures comes { EndsList
+        ((listed.short ≡ false) × ((0 < listed.failed) ⊎ (flushed ≡ false)))
+        listed.refused listed.fault result }
 {
     let Listed {
         refused,
@@ -191,7 +195,7 @@ fn end_of_list(listed: Listed, flushed: bool) -> Result<(), RunFault>
 
 /// Returns why a line is missing: memory ran out, or it couldn't be written.
 fn unlisted(short: bool) -> RunFault
-    ensures { (result ≡ RunFault.Memory) ⊎ (result ≡ RunFault.Unlisted) }
+    ensures { result ≡ if short then RunFault.Memory else RunFault.Unlisted }
 {
     if short {
         RunFault::Memory

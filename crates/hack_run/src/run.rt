@@ -20,7 +20,8 @@ ghost use Rattle.hack_run.specs.Readings.{IsEarlyReadingOrRefusal};
 ghost use Rattle.hack_run.specs.TemporaryEdits.{BringsBack, ComesBack, IsClean, RestoresEdits};
 ghost use Rattle.hack_run.specs.Internal.{IsUntoldRefusal};
 ghost use Rattle.hack_run.specs.Refusals.{AreRefused, ReportsRefusal, WritesError};
-ghost use Rattle.hack_run.specs.Shown.{RefusesSome, SaysCall, SaysParsed, SaysRead, SaysText};
+ghost use Rattle.hack_run.specs.Shown.{ComesOfListing, RefusesSome, SaysCall, SaysParsed};
+ghost use Rattle.hack_run.specs.Shown.{SaysRead, SaysText};
 ghost use Rattle.hack_run.specs.Shown.{SaysUnread, looks_of, scene_on};
 ghost use Rattle.hack_run.specs.Standing.{Between, EditsStand, ObeysAndEdits};
 ghost use Rattle.hack_files.specs.View.{files_view};
@@ -316,6 +317,8 @@ fn list_commands<C: Caller>(alloc: Global, env: &Env, caller: &mut C) -> Result<
         (listing_asked (string_bytes env.now.cargo)) (C.calls caller.old) (C.calls caller.new)) }
     ensures made { C.tells → MayAdd (listing_asked (string_bytes env.now.cargo))
         (C.calls caller.old) (C.calls caller.new) }
+    ensures comes { C.tells → ComesOfListing C.tells (string_bytes env.now.cargo)
+        (string_bytes env.now.current_dir) result (C.calls caller.old) (C.calls caller.new) }
     ensures course { C.course caller.old caller.new }
 {
     let mut command = ProcessBuilder::new(alloc, env.cargo.as_str())?;

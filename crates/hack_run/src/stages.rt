@@ -13,12 +13,14 @@ ghost use Rattle.hack_load.specs.CargoQuestions.{told_version};
 ghost use Rattle.hack_prepare.specs.EditSteps.{KeepsOnly};
 ghost use Rattle.hack_prepare.specs.FailureCounts.{WriteFails};
 ghost use Rattle.hack_prepare.specs.PreparedView.{AreWritesIn, HoldTextsIn, IsPartlyPreparedIn};
-ghost use Rattle.hack_prepare.specs.PreparedView.{IsPreparedIn, IsTouchedIn, KeepsUneditedIn};
+ghost use Rattle.hack_prepare.specs.PreparedView.{IsPrepareFault, IsPreparedIn, IsTouchedIn};
+ghost use Rattle.hack_prepare.specs.PreparedView.{KeepsUneditedIn};
 ghost use Rattle.hack_prepare.specs.PreparedView.{edits_in, notes_in, wanted_in};
 ghost use Rattle.hack_prepare.specs.Writes.{MakesSome};
 ghost use Rattle.hack_files.specs.Files.{Grows, KeepsAllBut};
 ghost use Rattle.hack_run.specs.CallChanges.{LoadsAndChanges};
 ghost use Rattle.hack_run.specs.CallTrace.{AfterLoading, LoadsAndPerforms};
+ghost use Rattle.hack_run.specs.Errors.{ends_at_file};
 ghost use Rattle.hack_run.specs.Internal.{EditsAndPerforms, FollowsAndLeaves, FollowsEdits};
 ghost use Rattle.hack_run.specs.Internal.{KeepsAsMade};
 ghost use Rattle.hack_run.specs.Internal.{MayPerformItsPlan, PerformsItsPlan};
@@ -119,7 +121,7 @@ fn tell_reason_of<F: Files, E: Sink>(
     term: &Term,
     err: &mut E,
 )
-    ensures ok { OnOk came.now (err.new ≡ err.old) }
+    ensures silent { ends_at_file came.now ≡ false → err.new ≡ err.old }
     ensures lines { WritesSome (stream_of E.Sink err.old) (stream_of E.Sink err.new) }
 {
     match came {
@@ -161,8 +163,8 @@ fn follow<F: Files, C: Starts, O: Sink, E: Sink>(
         (string_bytes host.old.env.now.rustup) host.old.caller.now host.new.caller.now) }
     ensures in_lanes { FollowsInLanes C.did C.course C.tells C.calls false args answers
         (string_bytes host.old.env.now.rustup) host.old.caller.now host.new.caller.now }
-    ensures shown { C.tells → SaysAfterLoading result C.tells args answers
-        (string_bytes host.old.env.now.rustup)
+    ensures shown { C.tells → SaysAfterLoading result F.tells C.tells (F.bytes_at files.old)
+        args answers (string_bytes host.old.env.now.rustup)
         (looks_of host.old.term.now) (looks_of host.new.term.now)
         (scene_on C.Caller O.Sink E.Sink host.old) (scene_on C.Caller O.Sink E.Sink host.new) }
     ensures looks { KeepsLooks host.old.term.now host.new.term.now }
@@ -222,7 +224,8 @@ fn edit<F: Files, E: Sink>(
 ) -> Result<(), RunFault>
     ensures stays { F.stays files.old files.new }
     ensures grows { Grows (F.failed files.old) (F.failed files.new) }
-    ensures error { IfErr result (λ e. (fault : PrepareFault) × (e ≡ RunFault.Manifests fault)) }
+    ensures error { IfErr result (λ e. (fault : PrepareFault) × (e ≡ RunFault.Manifests fault)
+        × IsPrepareFault (context_view cx.now) F.tells (F.bytes_at files.old) fault) }
     ensures told { OnOk result (term.new
         ≡ after_notes term.old (notes_in (context_view cx.now))) }
     ensures shown { OnOk result (SaysNotes term.old.coloring (notes_in (context_view cx.now))

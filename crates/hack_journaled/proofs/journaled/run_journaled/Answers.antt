@@ -11,7 +11,7 @@ use Rattle.hack_journal.specs.SafeLaws.{stays_join}
 use Rattle.hack_journaled.specs.Journals.{contents_seen, files_seen, world_seen}
 use Rattle.hack_files.specs.View.{FilesView}
 use Rattle.hack_run.specs.Worlds.{host_view}
-use Rattle.hack_journaled.proofs.JournalLemmas.{edits_between, accounted, entries_back, leaves_end, leaves_nothing, none_before, refused_once, seen_same, spoilt_end}
+use Rattle.hack_journaled.proofs.JournalLemmas.{accounted, edits_between, entries_back, leaves_end, leaves_nothing, none_before, one_at_most, only_end, refused_once, seen_same, spoilt_end}
 use Rattle.hack_run.proofs.TraceLemmas.{call_moved, keeps_same, unended}
 use Rattle.hack_journaled.proofs.journaled.run_journaled.Goals as goal
 
@@ -78,15 +78,14 @@ returns-clause-back g c = λ back files lockfiles.
     let left = rw (c.new-files.ensures.files, c.new-files.ensures.lockfiles, c.new-files.ensures.failures, named, c.new.ensures.files, sym c.failures-known.ensures) at (c.run-status.ensures.back back (files, lockfiles)) in
     leaves_end (contents_seen (string_bytes c.args.place.journal) (bytes c.args.files) (g.L.Files.bytes_at c.args.lockfiles)) _ _ c.failures-known.result c.end_journal-failed.result
     (seen_same (string_bytes c.args.place.journal) mid.files.notes.journal (length mid.files.notes.entries + 1) (bytes mid.files.files) (bytes c.end_journal-failed.new.files.files) (bytes c.into_inner-below.result.0) (g.L.Files.bytes_at mid.lockfiles) same (c.end_journal-failed.ensures.others files) (rw c.into_inner-below.ensures.files refl))
-    c.end_journal-failed.ensures.failed left
+    (one_at_most _ _ c.end_journal-failed.ensures.failed) left
 
 pub returns-clause-few : goal.returns-clause-few
 returns-clause-few g c = λ quiet.
-    let none = (c.run-status.ensures.clean quiet).0 in
-    elim c.end_journal-failed.ensures.failed [
-      | inl same ↦ omega (arith, same, c.failures-known.ensures, c.new-files.ensures.failures, none (omega (arith, c.new-files.ensures.failures)))
-      | inr one ↦ omega (arith, one, c.failures-known.ensures, c.new-files.ensures.failures, none (omega (arith, c.new-files.ensures.failures)))
-    ]
+    let named : c.new.result.notes.journal ≡ string_bytes c.args.place.journal = ap (λ (s : Spot). s.journal) c.new.ensures.place in
+    let ran = rw c.new-files.ensures.files at c.run-status.ensures.stays in
+    only_end g.F.Files _ (string_bytes c.args.place.journal) c.failures-known.result c.end_journal-failed.result (sym named ∙ ap (λ (s : Spot). s.journal) ran.0.0)
+    (c.failures-known.ensures ∙ (c.run-status.ensures.clean quiet).0 c.new-files.ensures.failures) c.end_journal-failed.ensures.failed
 
 pub returns-clause-gone : goal.returns-clause-gone
 returns-clause-gone g c = λ back tells whole lockfiles none absent.
@@ -99,10 +98,26 @@ returns-clause-gone g c = λ back tells whole lockfiles none absent.
     let kept = (ran.0.1 tells whole (bytes c.args.files) (c.new.ensures.begun absent)).1 in
     let left = rw (c.new-files.ensures.files, c.new-files.ensures.lockfiles, c.new-files.ensures.failures, begun, c.new.ensures.files, sym c.failures-known.ensures) at (c.run-status.ensures.back back (tells, lockfiles)) in
     let named : mid.files.notes.journal ≡ j = sym (ap (λ (s : Spot). s.journal) ran.0.0) ∙ begun in
-    let all = leaves_nothing _ _ c.failures-known.result (none_before c.failures-known.result c.end_journal-failed.result none c.end_journal-failed.ensures.failed) left in
+    let all = leaves_nothing _ _ c.failures-known.result (none_before c.failures-known.result c.end_journal-failed.result none (one_at_most _ _ c.end_journal-failed.ensures.failed)) left in
     let is_back = entries_back j (bytes c.args.files) (bytes mid.files.files) (g.L.Files.bytes_at c.args.lockfiles) (g.L.Files.bytes_at mid.lockfiles) mid.files.notes.entries kept.more
     (rw begun at kept.keeps) (rw named at all) (rw (c.new.ensures.files, begun, named) at (ran.2 tells)) in
     rw (c.into_inner-below.ensures.files, sym named) (c.end_journal-failed.ensures.gone none tells is_back)
+
+pub returns-clause-ended : goal.returns-clause-ended
+returns-clause-ended g c = λ tells whole lockfiles same absent.
+    let first = c.new.result in
+    let begun : c.new.result.notes.journal ≡ string_bytes c.args.place.journal = ap (λ (s : Spot). s.journal) c.new.ensures.place in
+    let mid = c.run-status.new.files in
+    let bytes = g.F.Files.bytes_at in
+    let j = string_bytes c.args.place.journal in
+    let ran = rw c.new-files.ensures.files at c.run-status.ensures.stays in
+    let kept = (ran.0.1 tells whole (bytes c.args.files) (c.new.ensures.begun absent)).1 in
+    let named : mid.files.notes.journal ≡ j = sym (ap (λ (s : Spot). s.journal) ran.0.0) ∙ begun in
+    let all = subst (λ (held : Contents). KeepsAll (contents_seen j (bytes c.args.files) (g.L.Files.bytes_at c.args.lockfiles)) held)
+    (sym (seen_same j mid.files.notes.journal (length mid.files.notes.entries + 1) (bytes mid.files.files) (bytes c.end_journal-failed.new.files.files) (bytes c.into_inner-below.result.0) (g.L.Files.bytes_at mid.lockfiles) (sym named) (c.end_journal-failed.ensures.others tells) (rw c.into_inner-below.ensures.files refl))) same in
+    let is_back = entries_back j (bytes c.args.files) (bytes mid.files.files) (g.L.Files.bytes_at c.args.lockfiles) (g.L.Files.bytes_at mid.lockfiles) mid.files.notes.entries kept.more
+    (rw begun at kept.keeps) (rw named at all) (rw (c.new.ensures.files, begun, named) at (ran.2 tells)) in
+    rw (c.into_inner-below.ensures.files, sym named) (c.end_journal-failed.ensures.ended tells is_back)
 
 pub returns-clause-stays : goal.returns-clause-stays
 returns-clause-stays g c =
@@ -120,7 +135,7 @@ returns-clause-spoilt g c = λ back.
     spoilt_end _ _ _ (contents_seen (string_bytes c.args.place.journal) (bytes c.args.files) (g.L.Files.bytes_at c.args.lockfiles)) _ _ c.failures-known.result c.end_journal-failed.result
     (λ p. refused_once _ g.F.Files g.U.Unkept g.L.Files p (λ x y ps r. r.each))
     (λ tells. seen_same (string_bytes c.args.place.journal) mid.files.notes.journal (length mid.files.notes.entries + 1) (bytes mid.files.files) (bytes c.end_journal-failed.new.files.files) (bytes c.into_inner-below.result.0) (g.L.Files.bytes_at mid.lockfiles) same (c.end_journal-failed.ensures.others tells.0) (rw c.into_inner-below.ensures.files refl))
-    c.end_journal-failed.ensures.failed kept
+    (one_at_most _ _ c.end_journal-failed.ensures.failed) kept
 
 pub returns-clause-number : goal.returns-clause-number
 returns-clause-number g c =

@@ -15,7 +15,7 @@ returns-clause-goes g c = λ locks guards.
       failed = c.run_journaled-files.result.3;
       last = last;
       journals = subst (λ (s : Spot). Journals g.F.Files g.L.Files g.U.Unkept g.C.Caller.tells (names_of c.args.words.now) c.args.host.now.env.now s c.run_journaled-files.result.3 old last) c.requires.place
-          (record { refused = ran.refused; done = ran.done; made = ran.made; clean = ran.clean; back = ran.back; stood = λ quiet. edits_between _ _ _ _ _ _ _ _ (λ held was. (_, _, _, _, was)) (ran.stood quiet); few = ran.few; spoilt = ran.spoilt; number = ran.number; gone = ran.gone; safe = ran.safe; others = ran.others; locks = refl; guards = refl });
+          (record { refused = ran.refused; done = ran.done; made = ran.made; clean = ran.clean; back = ran.back; stood = λ quiet. edits_between _ _ _ _ _ _ _ _ (λ held was. (_, _, _, _, was)) (ran.stood quiet); few = ran.few; spoilt = ran.spoilt; number = ran.number; gone = ran.gone; ended = ran.ended; safe = ran.safe; others = ran.others; locks = refl; guards = refl });
       closes = record {
         others = c.close.ensures.others;
         made = c.close.ensures.made;

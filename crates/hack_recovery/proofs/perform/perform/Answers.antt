@@ -1,4 +1,4 @@
-use Rattle.std.proofs.Common.{◌∙◌, true, ap, refl}
+use Rattle.std.proofs.Common.{◌∙◌, true, ap, refl, string_bytes}
 use Rattle.hack_base.specs.Names.{names_of, optional_text}
 use Rattle.hack_term.specs.declared.term.Term.{Term}
 use Rattle.hack_files.specs.View.{FilesView, files_view}
@@ -86,10 +86,12 @@ returns-in-Err-Unseen-clause-goes g c =
     let locks = g.K.Locks.shown c.args.keepers.now.locks in
     let guards = g.G.Guards.shown c.args.keepers.now.guards in
     let old : Scene = scene_of g.F.Files g.L.Files g.U.Unkept g.C.Caller g.O.Sink c.args.files c.args.lockfiles c.args.unkept locks guards c.args.host.now in
-    let unseen : (now : Term) → CannotSee g.F.Files.tells g.F.Files.whole (names_of c.args.words.now) c.args.host.now.env.now asked.edits old (scene_with seen now old) = λ now. record {
+    let unseen : (now : Term) → CannotSee g.F.Files (names_of c.args.words.now) c.args.host.now.env.now asked.edits old (scene_with seen now old) = λ now. record {
       path = optional_text asked.manifest_path;
-      asked = halted.1;
+      asked = halted.2;
       failed = halted.0;
+      looked = string_bytes c.in-Err-Unseen.path;
+      unseen = halted.1;
       untouched = record { files = record { same = c.in-Err-Unseen.ensures.same; untraced = c.in-Err-Unseen.ensures.untraced }; lockfiles = refl; unkept = refl; guards = refl; calls = refl; out = refl; fails = refl };
       locks = refl;
     } in

@@ -1,9 +1,8 @@
-use Rattle.std.proofs.Common.{ap, inl, inr, refl}
+use Rattle.std.proofs.Common.{ap, refl}
 use Rattle.hack_files.specs.View.{files_view}
 use Rattle.hack_run.specs.Worlds.{HostView}
 use Rattle.hack_recovery.specs.Restoring.TakesBack.{older_unrestored, settled, unrestored}
 use Rattle.hack_recovery.proofs.WayLemmas.{done_true, not_done}
-use Rattle.hack_recovery.proofs.TellingLemmas.{spoilt_these}
 use Rattle.hack_recovery.proofs.perform.take_back.Goals as goal
 
 pub returns-then-not-is_done-clause-goes : goal.returns-then-not-is_done-clause-goes
@@ -29,10 +28,7 @@ returns-clause-goes g c = λ unkept locks guards.
       why = settled-by.why;
       given = settled-by.given;
       kept = settled-by.kept;
-      only = λ l. elim (settled-by.only l) [
-        | inl same ↦ inl same
-        | inr other ↦ elim other [ inl copied ↦ inr (inl copied) | inr bad ↦ inr (inr (spoilt_these g.L.Files _ _ _ bad)) ]
-      ];
+      only = settled-by.only;
       left = settled-by.left;
       none = settled-by.none;
       apart = settled-by.apart;

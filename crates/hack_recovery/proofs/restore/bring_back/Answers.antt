@@ -1,5 +1,6 @@
 use Rattle.hack_base.specs.Names.{names_of}
 use Rattle.hack_recovery.specs.Restoring.IsBroughtBack.{brought, stopped}
+use Rattle.hack_recovery.proofs.FailedLemmas.{of_failed_path}
 use Rattle.hack_recovery.proofs.WayLemmas.{never_false, tells_same}
 use Rattle.hack_recovery.proofs.restore.bring_back.Goals as goal
 
@@ -15,4 +16,4 @@ returns-in-Ok-clause-told g c = tells_same c.args.term.now c.tell_all.result c.t
 pub returns-in-Err-clause-came : goal.returns-in-Err-clause-came
 returns-in-Err-clause-came g c =
     let came = c.in-Err.ensures in
-    stopped c.in-Err.fault (record { failures = came.failures; why = came.why; spared = came.spared; refused = came.refused; never = came.never; safe = came.safe }) c.tell_fault.ensures.told_as
+    stopped c.in-Err.fault (record { failures = came.failures; cause = of_failed_path g.F.Files c.args.files.now c.recover.new.files c.in-Err.fault came.calls; why = came.why; spared = came.spared; refused = came.refused; never = came.never; safe = came.safe }) c.tell_fault.ensures.told_as

@@ -5,10 +5,8 @@ use Rattle.hack_run.specs.Worlds.{host_view}
 use Rattle.hack_run.proofs.RunLemmas.{some_told}
 use Rattle.hack_run.specs.Internal.{HandsSteps}
 use Rattle.hack_run.proofs.ShownLemmas.{cut_of, looks_later, report_of, said_found, said_reported, said_stopped, said_unreported}
-use Rattle.hack_report.specs.Reported.{are_reported}
 use Rattle.hack_session.specs.Histories.{Course}
-use Rattle.std.specs.Option.{option_map_or}
-use Rattle.std.specs.Prelude.{◌||◌, Option}
+use Rattle.std.specs.Prelude.{Option}
 use Rattle.hack_run.proofs.TraceLemmas.{one_told}
 use Rattle.hack_run.proofs.execute.execute.Goals as goal
 

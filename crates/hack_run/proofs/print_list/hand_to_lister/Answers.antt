@@ -19,7 +19,7 @@ returns-clause-done g c = λ ok none short quiet t.
     let cx = context_view c.args.cx.now in
     let calls = g.C.Caller.calls in
     let contents = g.O.Sink.contents in
-    let list = c.list_over-refused.ensures.done ok c.gather_on-lines.ensures.failed short in
+    let list = c.list_over-refused.ensures.done ok c.gather_on-lines.ensures.failed.0 short in
     let l = list.over in
     let last = c.list_over-refused.new.runner in
     let lines = c.list_over-refused.new.out in
@@ -62,6 +62,11 @@ pub returns-clause-grown : goal.returns-clause-grown
 returns-clause-grown g c =
     let stays = c.list_over-refused.ensures.stays in
     rw (sym c.gather_on-lines.ensures.out.1) stays.2
+
+pub returns-clause-missed : goal.returns-clause-missed
+returns-clause-missed g c =
+    let fresh = c.gather_on-lines.ensures in
+    rw (fresh.out.1, fresh.failed.0, fresh.failed.1) at c.list_over-refused.ensures.stays.3
 
 pub returns-clause-shown : goal.returns-clause-shown
 returns-clause-shown g c =

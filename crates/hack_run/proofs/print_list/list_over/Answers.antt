@@ -5,7 +5,7 @@ use Rattle.std.specs.Io.KnownBytes.{Appends, Keeps}
 use Rattle.std.proofs.KnownBytes.{Keeps-refl}
 use Rattle.hack_session.specs.ListLines.{is_sent, lines_written, page_of}
 use Rattle.hack_run.proofs.RunLemmas.{all_listed, none_refused, passed_written}
-use Rattle.hack_run.proofs.ShownLemmas.{on_error}
+use Rattle.std.proofs.lemmas.Result.{err_from_is_err_and}
 use Rattle.hack_run.proofs.print_list.list_over.Goals as goal
 
 pub returns-clause-done : goal.returns-clause-done
@@ -100,12 +100,14 @@ returns-in_err-_session-clause-stays g c =
     ]
 
 pub returns-in_err-_session-clause-refused : goal.returns-in_err-_session-clause-refused
-returns-in_err-_session-clause-refused g c = on_error c.from_residual.result (elim c.in_err-_session.ensures.refused [
-  | inl same ↦
-      let runner_is = c.in_err-_session.runner-1-own.given.1 (ap (λ l. l.runner.ghost_name) (sym same)) in
-      inl (runner_is ∙ ap (λ l. l.runner.now) same)
-  | inr some ↦
-      let told = some.4 in
-      let runner_is = c.in_err-_session.runner-1-own.given.1 told.1 in
-      inr (some.2, subst (λ r. g.R.Teller.told some.2 c.args.runner.now r) (sym runner_is) told.4)
-])
+returns-in_err-_session-clause-refused g c =
+    let p = err_from_is_err_and c.from_residual.result c.from_residual.ensures.1 in
+    rw (p.1, p.2) (elim c.in_err-_session.ensures.refused [
+      | inl same ↦
+          let runner_is = c.in_err-_session.runner-1-own.given.1 (ap (λ l. l.runner.ghost_name) (sym same)) in
+          inl (runner_is ∙ ap (λ l. l.runner.now) same)
+      | inr some ↦
+          let told = some.4 in
+          let runner_is = c.in_err-_session.runner-1-own.given.1 told.1 in
+          inr (some.0, some.2, subst (λ r. g.R.Teller.told some.2 c.args.runner.now r) (sym runner_is) told.4)
+    ])

@@ -113,7 +113,7 @@ pub returns-in-Print-clause-shown : goal.returns-in-Print-clause-shown
 returns-in-Print-clause-shown g c = λ t. rw c.in-Print.is (rw c.as_str.ensures.value at c.print.ensures.shown, refl, refl, refl)
 
 pub returns-in-List-clause-shown : goal.returns-in-List-clause-shown
-returns-in-List-clause-shown g c = λ t. rw c.in-List.is (c.tell_all-in-List.ensures.shown, ap looks_of c.tell_all-in-List.ensures.noted, refl)
+returns-in-List-clause-shown g c = λ t. rw c.in-List.is (c.tell_all-in-List.ensures.shown, ap looks_of c.tell_all-in-List.ensures.noted, refl, c.list_commands.ensures.comes t)
 
 pub returns-in-Args-clause-lasting : goal.returns-in-Args-clause-lasting
 returns-in-Args-clause-lasting g c = obeys_left _ g.F.Files.tells g.C.Caller.tells c.in-Args.args c.args.parsed c.args.host.now.env.now _ _ _ c.in-Args.is c.perform.ensures.lasting

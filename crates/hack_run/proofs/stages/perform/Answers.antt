@@ -11,7 +11,7 @@ use Rattle.hack_files.specs.View.{files_view}
 use Rattle.hack_run.specs.Worlds.{host_view}
 use Rattle.hack_term.specs.declared.term.Term.{Term}
 use Rattle.hack_run.proofs.ChangeLemmas.{changes}
-use Rattle.hack_run.proofs.LoadingLemmas.{loaded}
+use Rattle.hack_run.proofs.LoadingLemmas.{answers_given, loaded}
 use Rattle.hack_run.proofs.TraceLemmas.{made, performs}
 use Rattle.hack_run.proofs.LaneLemmas.{on_success}
 use Rattle.hack_run.proofs.LastingLemmas.{left_behind}
@@ -24,7 +24,7 @@ use Rattle.hack_prepare.proofs.RootLemmas.{prepared-moved}
 use Rattle.hack_base.proofs.StreamLemmas.{some_more}
 use Rattle.hack_base.specs.Streams.{stream_of}
 use Rattle.hack_run.specs.Shown.{Looks, looks_of, reported_on, scene_on}
-use Rattle.hack_run.proofs.ShownLemmas.{by_success, looks_unless, some_refused}
+use Rattle.hack_run.proofs.ShownLemmas.{looks_unless, some_refused}
 use Rattle.hack_run.proofs.stages.perform.Goals as goal
 
 pub returns-clause-done : goal.returns-clause-done
@@ -136,7 +136,11 @@ returns-clause-shown g c = λ t.
     record {
       answers = c.ask-answers.result;
       calls = calls c.ask-answers.new.caller;
-      asked = loaded g.F.Files.tells _ c.args.args c.args.host.now.env.now first.held first.failed asked.failed (calls c.args.host.now.caller.now) (calls c.ask-answers.new.caller) c.ask-answers.result (c.ask-answers.ensures.asked t);
+      failed_first = first.failed;
+      failed_now = asked.failed;
+      asked = answers_given g.F.Files.tells _ c.args.args c.args.host.now.env.now first.held first.failed asked.failed (calls c.args.host.now.caller.now) (calls c.ask-answers.new.caller) c.ask-answers.result (c.ask-answers.ensures.asked t);
+      loaded = asked.held;
+      same_loaded = whole_keeps g.F.Files.tells first.held asked.held first.failed asked.failed c.ask-answers.result.loaded c.ask-answers.ensures.whole;
       mid = scene_on g.C.Caller g.O.Sink g.E.Sink c.follow-came.new.host;
       at = looks_of c.follow-came.new.host.term.now;
       said = c.follow-came.ensures.shown t;
@@ -144,7 +148,7 @@ returns-clause-shown g c = λ t.
       out = refl;
       more = some_more _ (stream_of g.E.Sink c.tell_reason_of.new.err) _ c.tell_reason_of.ensures.lines c.finish.ensures.shown;
       plain = λ ok plain. elim back [
-        | inl none ↦ inr (ap (stream_of g.E.Sink) (c.finish.ensures.quiet (ap (λ l. l.verbose) c.follow-came.ensures.looks ∙ plain) none ∙ by_success _ c.follow-came.result c.tell_reason_of.ensures.ok ok))
+        | inl none ↦ inr (ap (stream_of g.E.Sink) (c.finish.ensures.quiet (ap (λ l. l.verbose) c.follow-came.ensures.looks ∙ plain) none ∙ c.tell_reason_of.ensures.silent ok))
         | inr some ↦ inl some.1
       ];
       ends = elim back [
