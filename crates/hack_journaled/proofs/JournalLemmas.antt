@@ -1,5 +1,5 @@
 -- What a call over files with a journal did, after the journal is removed.
-use Rattle.std.proofs.Common.{◌≡◌, ◌⊎◌, ◌∙◌, ◌+◌, ◌-◌, ◌^◌, min, inl, inr, ap, arith, refl, sym, ℕ, Bool, true, false, List, [], ◌∷◌, ◌++◌}
+use Rattle.std.proofs.Common.{◌≡◌, ◌⊎◌, ◌∙◌, ◌+◌, ◌-◌, ◌^◌, min, inl, inr, ap, arith, refl, subst, sym, ℕ, Bool, true, false, List, [], ◌∷◌, ◌++◌}
 use Rattle.std.proofs.lemmas.List.{length-append}
 use Rattle.std.proofs.lemmas.List.Elements.{Contains-append_left}
 use Rattle.std.specs.Prelude.{All}
@@ -38,7 +38,7 @@ one_at_most n m (inr one) = inr one.0
 -- where none failed before, that is the only one
 pub only_end : {F : Type 0} (f : Filing F) (j k : List ℕ) (n m : ℕ) → k ≡ j → n ≡ 0 → ((m ≡ n) ⊎ ((m ≡ min (n + 1) (2 ^ 64 - 1)) × IsWhyItStays f j)) → OnlyEndFailed f k m
 only_end f j k n m same none (inl is) = inl (is ∙ none)
-only_end f j k n m same none (inr one) = inr (omega (arith, one.0, none), rw sym same at one.1)
+only_end f j k n m same none (inr one) = inr (omega (arith, one.0, none), subst (λ q. IsWhyItStays f q) (sym same) one.1)
 
 -- where the journal alone was changed the call sees the same, by the journal's first path too
 pub seen_same : (first j : List ℕ) (k : ℕ) (m n last lockfiles : Contents) → first ≡ j → KeepsBeside j k m n → last ≡ n → apart (without j m) lockfiles ≡ contents_seen first last lockfiles

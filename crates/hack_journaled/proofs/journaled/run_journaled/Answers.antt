@@ -1,4 +1,4 @@
-use Rattle.std.proofs.Common.{◌≡◌, ◌∙◌, ◌+◌, ℕ, List, ap, length, [], true, false, arith, inl, inr, refl, string_bytes, subst, sym}
+use Rattle.std.proofs.Common.{◌≡◌, ◌∙◌, ◌+◌, ℕ, List, ap, length, [], true, false, arith, refl, string_bytes, subst, sym}
 use Rattle.hack_base.specs.Names.{names_of}
 use Rattle.hack_files.specs.Files.{Contents, KeepsAll}
 use Rattle.hack_journal.specs.FileCalls.{spot_in}
@@ -85,7 +85,7 @@ returns-clause-few g c = λ quiet.
     let named : c.new.result.notes.journal ≡ string_bytes c.args.place.journal = ap (λ (s : Spot). s.journal) c.new.ensures.place in
     let ran = rw c.new-files.ensures.files at c.run-status.ensures.stays in
     only_end g.F.Files _ (string_bytes c.args.place.journal) c.failures-known.result c.end_journal-failed.result (sym named ∙ ap (λ (s : Spot). s.journal) ran.0.0)
-    (c.failures-known.ensures ∙ (c.run-status.ensures.clean quiet).0 c.new-files.ensures.failures) c.end_journal-failed.ensures.failed
+    (omega (arith, c.failures-known.ensures, c.new-files.ensures.failures, (c.run-status.ensures.clean quiet).0 (omega (arith, c.new-files.ensures.failures)))) c.end_journal-failed.ensures.failed
 
 pub returns-clause-gone : goal.returns-clause-gone
 returns-clause-gone g c = λ back tells whole lockfiles none absent.
