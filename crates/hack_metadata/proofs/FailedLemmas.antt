@@ -1,9 +1,9 @@
 -- Which calls of files failed, and what became of the lockfile.
 use Rattle.std.specs.Prelude.{IfErr, Result}
-use Rattle.std.proofs.Common.{◌≡◌, ◌⊎◌, ◌∙◌, inl, inr, ℕ, List, [], ◌∷◌, None, Some, Ok, Err, refl, sym, subst}
+use Rattle.std.proofs.Common.{◌≡◌, ◌⊎◌, ◌∙◌, inl, inr, ℕ, List, [], ◌∷◌, None, Some, Ok, Err, sym, subst}
 use Rattle.hack_base.specs.Names.{Name}
 use Rattle.hack_files.specs.Faults.{IsOfRead}
-use Rattle.hack_files.specs.Files.{Change, KeepsAll, Makes, MakesOrNot, puts}
+use Rattle.hack_files.specs.Files.{Change, KeepsAll, Makes, puts}
 use Rattle.hack_files.specs.FailedCalls.{LookFailed, NoneFailed, ReadFailed, WriteFailed}
 use Rattle.hack_files.specs.declared.fs.Files.{Ghosts as Filing}
 use Rattle.hack_files.specs.declared.fs.FsFault.{FsFault}
@@ -124,8 +124,8 @@ module _ {F : Type 0} (f : Filing F) where
       → IsPutBack f path still b c → IsPutBack f path now a c
   put-then path still now a b c to p same none (inl h) = inl (to h.0, λ w. makes_more [] [] _ _ _ _ _ _ (none w) (h.1 w))
   put-then path still now a b c to p same none (inr (inl h)) = inr (inl (write_then f path a b c p h))
-  put-then path still now a b c to p same none (inr (inr (h, bytes, held, put))) =
-      inr (inr (none_then f a b c p h, bytes, (λ t. sym (same t path) ∙ held t), λ w. makes_more [] (puts path bytes ∷ []) _ _ _ _ _ _ (none w) (put w)))
+  put-then path still now a b c to p same none (inr (inr h)) =
+      inr (inr (none_then f a b c p h.0, (h.1.0, (λ t. sym (same t path) ∙ h.1.1 t), λ w. makes_more [] (puts path h.1.0 ∷ []) _ _ _ _ _ _ (none w) (h.1.2 w))))
 
   -- ---- where a question ends
 

@@ -191,7 +191,7 @@ returns-clause-course g c =
 pub returns-in_err-first-clause-calls : goal.returns-in_err-first-clause-calls
 returns-in_err-first-clause-calls g c =
     let p = err_from_is_err_and c.from_residual.result c.from_residual.ensures.1 in
-    rw (p.1, p.2) ([], none-only {X = Unit {0}} g.F.Files [] c.args.files.now c.args.files.now (Err c.in_err-first.field-0.0) c.in_err-first.ensures.spares (none_failed g.F.Files c.args.files.now))
+    rw (p.1, p.2) ([], none-only g.F.Files {X = Unit {0}} [] c.args.files.now c.args.files.now (Err c.in_err-first.field-0.0) c.in_err-first.ensures.spares (none_failed g.F.Files c.args.files.now))
 
 pub returns-in_err-first-clause-undone : goal.returns-in_err-first-clause-undone
 returns-in_err-first-clause-undone g c =

@@ -1,6 +1,6 @@
 use Rattle.std.proofs.Common.{inl, inr, refl, Err}
 use Rattle.std.proofs.lemmas.Result.{err_from_is_err_and}
-use Rattle.hack_files.specs.FailedCalls.{NoneFailed, WriteFailed}
+use Rattle.hack_files.specs.FailedCalls.{WriteFailed}
 use Rattle.hack_files.specs.Restore.{Kept, registered_files}
 use Rattle.hack_files.proofs.FailedLemmas.{none_then, write_then}
 use Rattle.hack_files.proofs.RefusalLemmas.{but_same, but_then}

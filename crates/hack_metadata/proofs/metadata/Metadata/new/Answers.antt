@@ -109,3 +109,6 @@ returns-clause-undone g c =
     let le : c.in_ok-stable.stable ≤ c.args.cargo_version = search rules in
     λ called. cargo-fails g.F.Files q c.args.files.now c.args.files.now old new (none_failed g.F.Files c.args.files.now) mid [] c.ask_cargo.result (is_older (tells_minor c.in_ok-stable.stable (c.in_ok-stable.ensures.ok called)) le)
     (subst (λ x. AsksCargo x mid new c.ask_cargo.result) is (c.ask_cargo.ensures.asked called))
+
+pub returns-then-stable-cargo_version-clause-course : goal.returns-then-stable-cargo_version-clause-course
+returns-then-stable-cargo_version-clause-course g c = g.C.Caller.course_more _ _ _ c.in_ok-stable.ensures.course c.ask_stable.ensures.course
