@@ -13,7 +13,7 @@ use Rattle.hack_manifest.specs.declared.manifest.ManifestFault.{ManifestFault}
 use Rattle.hack_manifest.specs.declared.manifest.ManifestFault.TheVariants as manifest
 use Rattle.hack_process.specs.Calls.{Call}
 use Rattle.hack_process.specs.CommandTexts.{Command}
-use Rattle.hack_metadata.specs.FailedQuestions.{IsOfPath}
+use Rattle.hack_metadata.specs.FailedQuestions.{IsOfCallAt}
 use Rattle.hack_metadata.specs.QuestionCalls.{EndsSo, QuestionEndsWith, Stage}
 use Rattle.hack_metadata.specs.Requests.{Question}
 use Rattle.hack_metadata.specs.Records.{MetadataRecord}
@@ -103,7 +103,7 @@ module _ {F : Type 0} (f : Filing F) where
   reads-load P a b c (Err e) p same h = read-loads P a c e (reads-then P P a b c e (λ path here. here) p same h)
 
   -- the question for metadata ended the loading
-  pub asked-loads : (path : Name) (a b : F) (why : AskFault) (e : ContextFault) → IsAskFault why e → IsOfPath f path a b why → IsOfLoading f a b e
+  pub asked-loads : (path : Name) (a b : F) (why : AskFault) (e : ContextFault) → IsAskFault why e → IsOfCallAt f path a b why → IsOfLoading f a b e
   asked-loads path a b ask.Memory e is (inl h) = subst (IsOfLoading f a b) (sym is) (inl h)
   asked-loads path a b ask.Memory e is (inr (inl h)) = subst (IsOfLoading f a b) (sym is) (inr (path, inl h))
   asked-loads path a b ask.Memory e is (inr (inr h)) = subst (IsOfLoading f a b) (sym is) (inr (path, inr h))

@@ -6,7 +6,7 @@ use Rattle.hack_files.specs.FailedCalls.{LookFailed, NoneFailed, ReadFailed, Wri
 use Rattle.hack_files.specs.declared.fs.Files.{Ghosts as Filing}
 use Rattle.hack_files.specs.declared.fs.FsFault.TheVariants as fs
 use Rattle.hack_process.specs.Calls.{Call}
-use Rattle.hack_metadata.specs.FailedQuestions.{FailsSo, IsOfPath}
+use Rattle.hack_metadata.specs.FailedQuestions.{FailsSo, IsOfCallAt}
 use Rattle.hack_metadata.specs.MetadataView.{metadata_view}
 use Rattle.hack_metadata.specs.QuestionCalls.{QuestionEndsWith}
 use Rattle.hack_metadata.specs.Records.{PackageRecord, MetadataRecord}
@@ -50,7 +50,7 @@ module _ {F : Type 0} (f : Filing F) where
   -- read of a manifest; refused memory may be the files', and any other error is of no failed call
   abbrev pub IsOfLoading : F → F → ContextFault → Type 0
   IsOfLoading old new faults.Memory = NoneFailed f old new ⊎ ((path : Name) × (LookFailed f path old new ⊎ WriteFailed f path old new))
-  IsOfLoading old new (faults.Asked e) = (path : Name) × IsOfPath f path old new e
+  IsOfLoading old new (faults.Asked e) = (path : Name) × IsOfCallAt f path old new e
   IsOfLoading old new (faults.Files (fs.Read p)) = ReadFailed f (string_bytes p) old new
   IsOfLoading old new (faults.Files (fs.NotText p)) = NoneFailed f old new
   IsOfLoading old new (faults.Files _) = ⊥

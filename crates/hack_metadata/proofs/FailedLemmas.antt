@@ -14,7 +14,7 @@ use Rattle.hack_process.specs.Calls.{Call}
 use Rattle.hack_process.specs.CommandTexts.{Command}
 use Rattle.hack_process.specs.Commands.{plain_command}
 use Rattle.hack_process.specs.declared.fault.ProcessFault.{ProcessFault}
-use Rattle.hack_metadata.specs.FailedQuestions.{FailsFirstLook, FailsOnlyAt, FailsSo, IsOfLook, IsOfPath, IsPutBack}
+use Rattle.hack_metadata.specs.FailedQuestions.{FailsFirstLook, FailsOnlyAt, FailsSo, IsOfLook, IsOfCallAt, IsPutBack}
 use Rattle.hack_metadata.specs.FileFaults.{IsUnread, IsUnwritten}
 use Rattle.hack_metadata.specs.Internal.{IsAskFaultOfFile, IsFileFault, IsNoFileFault}
 use Rattle.hack_metadata.specs.InternalQuestionCalls.{AsksCargo, FailsAs, FailsFirst, FallsBack, UsesAnswer}
@@ -44,18 +44,18 @@ module _ {F : Type 0} (f : Filing F) where
   read-of path a b refused (inl unseen) = inl (record { unseen = unseen; refused = refused })
   read-of path a b refused (inr (unseen, tells, is)) = inr (record { unseen = unseen; refused = refused }, tells, is)
 
-  read-memory : (path : Name) (a b : F) → ReadFailed f path a b → IsOfPath f path a b fault.Memory
+  read-memory : (path : Name) (a b : F) → ReadFailed f path a b → IsOfCallAt f path a b fault.Memory
   read-memory path a b (inl look) = inr (inl look)
   read-memory path a b (inr h) = inl h.0
 
-  pub read-fails : (path : Name) (a b : F) (r : FsFault) (e : AskFault) → IsAskFaultOfFile r e → IsOfRead path r → ReadFailed f path a b → IsOfPath f path a b e
-  read-fails path a b fs.Memory e is of h = subst (IsOfPath f path a b) (sym is) (read-memory path a b h)
-  read-fails path a b (fs.Read p) e is of h = subst (IsOfPath f path a b) (sym is) (of, h)
+  pub read-fails : (path : Name) (a b : F) (r : FsFault) (e : AskFault) → IsAskFaultOfFile r e → IsOfRead path r → ReadFailed f path a b → IsOfCallAt f path a b e
+  read-fails path a b fs.Memory e is of h = subst (IsOfCallAt f path a b) (sym is) (read-memory path a b h)
+  read-fails path a b (fs.Read p) e is of h = subst (IsOfCallAt f path a b) (sym is) (of, h)
   read-fails path a b (fs.Write p) e is of h = absurd of
   read-fails path a b (fs.NotText p) e is of h = absurd of
 
   -- a write that was refused
-  pub write-of : (path : Name) (a b : F) (e : AskFault) → IsFileFault (IsUnwritten path) e → WriteFailed f path a b → IsOfPath f path a b e
+  pub write-of : (path : Name) (a b : F) (e : AskFault) → IsFileFault (IsUnwritten path) e → WriteFailed f path a b → IsOfCallAt f path a b e
   write-of path a b fault.Memory is h = inr (inr h)
   write-of path a b (fault.Files (fs.Read p)) is h = absurd is
   write-of path a b (fault.Files (fs.Write p)) is h = (is, h)
@@ -76,7 +76,7 @@ module _ {F : Type 0} (f : Filing F) where
   run-looks M P path a b (fault.Field name) is h = absurd is
 
   -- an error that is of no file, where no call failed
-  none-path : (path : Name) (a b : F) (e : AskFault) → IsNoFileFault e → NoneFailed f a b → IsOfPath f path a b e
+  none-path : (path : Name) (a b : F) (e : AskFault) → IsNoFileFault e → NoneFailed f a b → IsOfCallAt f path a b e
   none-path path a b fault.Memory spares h = inl h
   none-path path a b fault.NoHost spares h = h
   none-path path a b (fault.Process p) spares h = h
@@ -89,11 +89,11 @@ module _ {F : Type 0} (f : Filing F) where
   none-only path a b (Err e) spares h = none-path path a b e spares h
 
   -- a question that can't be made
-  pub question-none : {X : Type 0} (path : Name) (a : F) (e : AskFault) → (e ≡ fault.Memory) ⊎ ((e ≡ fault.NoHost) × X) → IsOfPath f path a a e
-  question-none path a e (inl is) = subst (IsOfPath f path a a) (sym is) (inl (none_failed f a))
-  question-none path a e (inr h) = subst (IsOfPath f path a a) (sym h.0) (none_failed f a)
+  pub question-none : {X : Type 0} (path : Name) (a : F) (e : AskFault) → (e ≡ fault.Memory) ⊎ ((e ≡ fault.NoHost) × X) → IsOfCallAt f path a a e
+  question-none path a e (inl is) = subst (IsOfCallAt f path a a) (sym is) (inl (none_failed f a))
+  question-none path a e (inr h) = subst (IsOfCallAt f path a a) (sym h.0) (none_failed f a)
 
-  pub look-path : (path : Name) (a b : F) (e : AskFault) → IsOfLook f path a b e → IsOfPath f path a b e
+  pub look-path : (path : Name) (a b : F) (e : AskFault) → IsOfLook f path a b e → IsOfCallAt f path a b e
   look-path path a b fault.Memory (inl h) = inl h
   look-path path a b fault.Memory (inr h) = inr (inl h)
   look-path path a b (fault.Files (fs.Read p)) h = (h.0, inl h.1)
@@ -107,7 +107,7 @@ module _ {F : Type 0} (f : Filing F) where
 
   -- ---- calls that changed nothing, and then others
 
-  pub path-then : (path : Name) (a b c : F) (e : AskFault) → NoneFailed f a b → (f.tells → KeepsAll (f.bytes_at a) (f.bytes_at b)) → IsOfPath f path b c e → IsOfPath f path a c e
+  pub path-then : (path : Name) (a b c : F) (e : AskFault) → NoneFailed f a b → (f.tells → KeepsAll (f.bytes_at a) (f.bytes_at b)) → IsOfCallAt f path b c e → IsOfCallAt f path a c e
   path-then path a b c fault.Memory p same (inl h) = inl (none_then f a b c p h)
   path-then path a b c fault.Memory p same (inr (inl h)) = inr (inl (look_then f path a b c p h))
   path-then path a b c fault.Memory p same (inr (inr h)) = inr (inr (write_then f path a b c p h))

@@ -21,18 +21,18 @@ module _ {F : Type 0} (f : Filing F) where
   IsOfLook path old new (fault.Files _) = ⊥
   IsOfLook path old new _ = NoneFailed f old new
 
-  -- the error is that of a look at this path, a read or a write of it, and nothing else failed
-  abbrev pub IsOfPath : Name → F → F → AskFault → Type 0
-  IsOfPath path old new fault.Memory = NoneFailed f old new ⊎ LookFailed f path old new ⊎ WriteFailed f path old new
-  IsOfPath path old new (fault.Files (fs.Read p)) = (string_bytes p ≡ path) × ReadFailed f path old new
-  IsOfPath path old new (fault.Files (fs.Write p)) = (string_bytes p ≡ path) × WriteFailed f path old new
-  IsOfPath path old new (fault.Files _) = ⊥
-  IsOfPath path old new _ = NoneFailed f old new
+  -- the error is that of a look at this path, or of a read or write of it, and nothing else failed
+  abbrev pub IsOfCallAt : Name → F → F → AskFault → Type 0
+  IsOfCallAt path old new fault.Memory = NoneFailed f old new ⊎ LookFailed f path old new ⊎ WriteFailed f path old new
+  IsOfCallAt path old new (fault.Files (fs.Read p)) = (string_bytes p ≡ path) × ReadFailed f path old new
+  IsOfCallAt path old new (fault.Files (fs.Write p)) = (string_bytes p ≡ path) × WriteFailed f path old new
+  IsOfCallAt path old new (fault.Files _) = ⊥
+  IsOfCallAt path old new _ = NoneFailed f old new
 
   -- without an error no call failed, and with one at most the one that it is of
   abbrev pub FailsOnlyAt : {X : Type 0} → Name → F → F → Result X AskFault → Type 0
   FailsOnlyAt path old new (Ok x) = NoneFailed f old new
-  FailsOnlyAt path old new (Err e) = IsOfPath path old new e
+  FailsOnlyAt path old new (Err e) = IsOfCallAt path old new e
 
   -- `still`, and nothing was written; or a write of this path was refused; or no call failed, and it
   -- was written with what it held
@@ -49,16 +49,16 @@ module _ {F : Type 0} (f : Filing F) where
   FailsFirstLook text old new (fault.Files e) = (path : Name) × IsLockfile text path × IsOfLook path old new (fault.Files e)
   FailsFirstLook text old new _ = NoneFailed f old new
 
-  -- which call failed, by the stage where an error ended the question: the lockfile is looked at after
-  -- cargo's first answer; then it is read, and put back once stable's cargo may have run, also where
-  -- memory is refused. These calls were made up to the stage, and these in all
+  -- which call failed, by the stage where an error ended the question. After cargo's first answer the
+  -- lockfile is looked at; then it is read, and once stable's cargo may have been called it is put back,
+  -- also where memory is refused. `mid` are the calls up to that stage, `last` are all of them
   abbrev pub FailsAtStage : F → F → Stage → List Call → List Call → AskFault → Type 0
   FailsAtStage old new (first minor text) mid last e = FailsFirstLook text old new e
-  FailsAtStage old new (locked minor text) mid last e = (path : Name) × IsLockfile text path × IsOfPath path old new e × IsPutBack path (last ≡ mid) old new
+  FailsAtStage old new (locked minor text) mid last e = (path : Name) × IsLockfile text path × IsOfCallAt path old new e × IsPutBack path (last ≡ mid) old new
   FailsAtStage old new _ mid last e = NoneFailed f old new
 
-  -- no call failed, and there is no error; or calls and writes led to a stage where this error ended
-  -- the question, and just so a call failed
+  -- without an error no call failed; calls and writes led to a stage where an error ended the question,
+  -- and at most the call failed that it is of
   abbrev pub FailsSo : F → F → Question → List Call → List Call → Result Metadata AskFault → Type 0
   FailsSo before now q old new (Ok m) = NoneFailed f before now
   FailsSo before now q old new (Err e) = (stage : Stage) × (mid : List Call) × (made : List Change)
