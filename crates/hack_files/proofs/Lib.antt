@@ -2,3 +2,4 @@ pub mod FilesLemmas
 pub mod RestoreLemmas
 pub mod SafeLemmas
 pub mod RefusalLemmas
+pub mod FailedLemmas

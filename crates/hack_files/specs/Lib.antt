@@ -4,3 +4,4 @@ pub mod Faults
 pub mod Restore
 pub mod RefusalLaws
 pub mod View
+pub mod FailedCalls

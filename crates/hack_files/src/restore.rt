@@ -132,6 +132,7 @@ impl Manager {
     pub fn restore_last<F: Files>(&mut self, files: &mut F) -> Result<(), FsFault>
         ensures stays { F.stays files.old files.new }
         ensures counted { CountsFailedCall (F.failed files.old) (F.failed files.new) result }
+        ensures unseen_none { F.unseen files.old files.new [] }
         ensures none { registered_files self.old ≡ [] → (result ≡ Ok tt) ×
             (registered_files self.new ≡ []) × F.refuses files.old files.new []
             × (F.tells → KeepsAll (F.bytes_at files.old) (F.bytes_at files.new)) }
@@ -169,6 +170,7 @@ impl Manager {
     pub fn restore_all<F: Files, W: Sink>(self, files: &mut F, term: &mut Term, err: &mut W) -> u64
         ensures stays { F.stays files.old files.new }
         ensures counted { GrowsBy result (F.failed files.old) (F.failed files.new) }
+        ensures unseen_none { F.unseen files.old files.new [] }
         ensures restored { F.tells → Brings (registered_files self)
             (F.bytes_at files.old) (F.bytes_at files.new) result }
         ensures refused { ComesBackBut (F.refuses files.old files.new) F.tells
@@ -212,6 +214,7 @@ impl Saved {
         ensures counted { GrowsBy (cond result 0 1) (F.failed files.old) (F.failed files.new) }
         ensures refused_path { F.refuses files.old files.new
             (cond result [] ((kept_file self.now).path ∷ [])) }
+        ensures unseen_none { F.unseen files.old files.new [] }
         ensures written { OnTrue result (F.tells →
             F.bytes_at files.new (kept_file self.now).path ≡ Some (kept_file self.now).bytes) }
         ensures others { F.tells →

@@ -5,7 +5,9 @@ use Rattle.std.proofs.lemmas.List.{take_all}
 use Rattle.std.proofs.lemmas.Bool.{false≢true}
 use Rattle.hack_files.specs.declared.fs.Files.{Ghosts as Filing}
 use Rattle.hack_files.specs.declared.fs.FsFault.TheVariants as fs
-use Rattle.hack_journal.specs.FailedCalls.{CannotEnd, FailsOnlySo, FailsRemoval, FailsUnseen, IsOfFailedCall, LookFailed, NoneFailed, RemovalFailed, WriteFailed}
+use Rattle.hack_files.specs.FailedCalls.{LookFailed, NoneFailed, WriteFailed}
+use Rattle.hack_files.proofs.FailedLemmas.{none_failed, none_then, look_then, write_then}
+use Rattle.hack_journal.specs.FailedCalls.{CannotEnd, FailsOnlySo, FailsRemoval, FailsUnseen, IsOfFailedCall, RemovalFailed}
 use Rattle.hack_journal.specs.Journal.{Edit}
 use Rattle.hack_journal.specs.Recovery.{HasEntry}
 use Rattle.hack_journal.specs.Internal.{IsMemoryRefused, IsReadFault, IsWriteFault}
@@ -13,18 +15,6 @@ use Rattle.hack_journal.specs.Rows.{Noted, file_at}
 use Rattle.hack_journal.specs.declared.recover.RecoverFault.{RecoverFault}
 use Rattle.hack_journal.specs.declared.recover.RecoverFault.TheVariants.{Memory, NotJournal, Changed, Files}
 use Rattle.hack_journal.proofs.CountLemmas.{grows_then}
-
-pub none_failed : {F : Type 0} (f : Filing F) (a : F) → NoneFailed f a a
-none_failed f a = record { unseen = f.unseen_none a; refused = f.refuses_none a }
-
-pub none_then : {F : Type 0} (f : Filing F) (a b c : F) → NoneFailed f a b → NoneFailed f b c → NoneFailed f a c
-none_then f a b c p q = record { unseen = f.unseen_more a b c [] [] p.unseen q.unseen; refused = f.refuses_more a b c [] [] p.refused q.refused }
-
-pub look_then : {F : Type 0} (f : Filing F) (path : List ℕ) (a b c : F) → NoneFailed f a b → LookFailed f path b c → LookFailed f path a c
-look_then f path a b c p q = record { unseen = f.unseen_more a b c [] (path ∷ []) p.unseen q.unseen; refused = f.refuses_more a b c [] [] p.refused q.refused }
-
-pub write_then : {F : Type 0} (f : Filing F) (path : List ℕ) (a b c : F) → NoneFailed f a b → WriteFailed f path b c → WriteFailed f path a c
-write_then f path a b c p q = record { unseen = f.unseen_more a b c [] [] p.unseen q.unseen; refused = f.refuses_more a b c [] (path ∷ []) p.refused q.refused }
 
 pub fault_then : {F : Type 0} (f : Filing F) (fault : RecoverFault) (a b c : F) → NoneFailed f a b → IsOfFailedCall f b c fault → IsOfFailedCall f a c fault
 fault_then f Memory a b c p (inl none) = inl (none_then f a b c p none)

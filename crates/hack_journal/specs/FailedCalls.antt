@@ -1,28 +1,13 @@
--- Which calls of files failed between two of their states. What is said of a failed look can't be made
--- up: a read of a path that holds nothing leaves none unseen.
-use Rattle.std.specs.Prelude.{◌≡◌, ◌⊎◌, ◌≤◌, [], ◌∷◌, ℕ, List, Result, Ok, Err, length, string_bytes}
+-- Which calls of files failed, by the result of what asked for them.
+use Rattle.std.specs.Prelude.{◌≡◌, ◌⊎◌, ◌≤◌, ℕ, List, Result, Ok, Err, length, string_bytes}
 use Rattle.hack_files.specs.Files.{IsUnseenUnlessAbsent, refused_path}
+use Rattle.hack_files.specs.FailedCalls.{LookFailed, NoneFailed, WriteFailed}
 use Rattle.hack_files.specs.declared.fs.Files.{Ghosts as Filing}
 use Rattle.hack_files.specs.declared.fs.FsFault.TheVariants as fs
 use Rattle.hack_journal.specs.Rows.{Noted, file_at}
 use Rattle.hack_journal.specs.Recovery.{HasEntry}
 use Rattle.hack_journal.specs.declared.recover.RecoverFault.{RecoverFault}
 use Rattle.hack_journal.specs.declared.recover.RecoverFault.TheVariants.{Memory, NotJournal, Changed, Files}
-
--- no path was unseen, and no write or removal was refused
-pub record NoneFailed {F : Type 0} (f : Filing F) (old new : F) : Type 0 where
-  pub unseen : f.unseen old new []
-  pub refused : f.refuses old new []
-
--- one look failed: this path was unseen, and nothing else failed
-pub record LookFailed {F : Type 0} (f : Filing F) (path : List ℕ) (old new : F) : Type 0 where
-  pub unseen : f.unseen old new (path ∷ [])
-  pub refused : f.refuses old new []
-
--- one write or removal was refused, of this path, and nothing else failed
-pub record WriteFailed {F : Type 0} (f : Filing F) (path : List ℕ) (old new : F) : Type 0 where
-  pub unseen : f.unseen old new []
-  pub refused : f.refuses old new (path ∷ [])
 
 -- ---- looks
 

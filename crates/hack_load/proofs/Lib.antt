@@ -2,6 +2,7 @@ pub mod AnswerLemmas
 pub mod AskLemmas
 pub mod BuildLemmas
 pub mod ContextLemmas
+pub mod FailedLemmas
 pub mod FeatureLemmas
 pub mod GivenLemmas
 pub mod LeaveLemmas

@@ -6,6 +6,7 @@ pub mod Contexts
 pub mod Features
 pub mod GivenFeatures
 pub mod FilesAfterLoading
+pub mod FailedLoads
 pub mod CargoQuestions
 pub mod Located
 pub mod Names

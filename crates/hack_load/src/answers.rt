@@ -6,9 +6,13 @@ ghost use Rattle.hack_files.specs.Files.{KeepsAllBut, Makes};
 ghost use Rattle.hack_files.specs.Restore.{registered_files};
 ghost use Rattle.hack_load.specs.Answers.{AreAnswers, LoadsFromMetadata, IsAskFault, IsLoaded};
 ghost use Rattle.hack_load.specs.Answers.{LoadsTo};
+ghost use Rattle.hack_load.specs.FailedLoads.{AnswersFailSo, FailsOnlyReading, FailsToLoad};
+ghost use Rattle.hack_load.specs.FailedLoads.{IsMemberPath, LoadFails};
 ghost use Rattle.hack_load.specs.FilesAfterLoading.{LeavesFew};
 ghost use Rattle.hack_load.specs.Internal.{ReadsOnly};
 ghost use Rattle.hack_metadata.specs.FilesAfterAsking.{Whole};
+ghost use Rattle.hack_metadata.specs.MetadataView.{metadata_view};
+ghost use Rattle.hack_metadata.specs.Requests.{question};
 ghost use Rattle.hack_metadata.specs.QuestionCalls.{WroteWhereKnown};
 
 use crate::cargo_version::{CargoVersion, minor_of};
@@ -49,6 +53,9 @@ impl Answers {
             (F.failed files.old) (F.failed files.new) }
         ensures spoilt { KeepsAllBut (F.refuses files.old files.new) F.tells
             (F.bytes_at files.old) (F.bytes_at files.new) }
+        ensures calls { FailsToLoad F.Files files.old files.new result.loaded }
+        ensures undone { C.tells → AnswersFailSo F.Files files.old files.new args.now env.now
+            (C.calls caller.old) (C.calls caller.new) result }
         ensures whole { OnOk result.loaded (Whole F.tells (F.bytes_at files.old)
             (F.bytes_at files.new) (F.failed files.old) (F.failed files.new)) }
         ensures kept { registered_files manager.new ≡ registered_files manager.old }
@@ -113,6 +120,10 @@ impl<'a, 'h> Asker<'a, 'h> {
             (F.failed files.old) (F.failed files.new) }
         ensures spoilt { KeepsAllBut (F.refuses files.old files.new) F.tells
             (F.bytes_at files.old) (F.bytes_at files.new) }
+        ensures calls { FailsToLoad F.Files files.old files.new result }
+        ensures undone { C.tells → LoadFails F.Files files.old files.new
+            (question self.now.args.now self.now.env.now self.now.minor
+            (option_copied self.now.host)) (C.calls caller.old) (C.calls caller.new) result }
         ensures whole { OnOk result (Whole F.tells (F.bytes_at files.old)
             (F.bytes_at files.new) (F.failed files.old) (F.failed files.new)) }
         ensures kept { registered_files manager.new ≡ registered_files manager.old }
@@ -147,6 +158,9 @@ impl<'a, 'h> Asker<'a, 'h> {
             (F.failed files.old) (F.failed files.new) result }
         ensures untraced { F.whole → Makes [] (F.trace files.old) (F.trace files.new)
             (F.bytes_at files.old) (F.bytes_at files.new) }
+        ensures calls { FailsOnlyReading F.Files (λ path. (C.tells
+            → C.calls caller.new ≡ C.calls caller.old)
+            × IsMemberPath (metadata_view metadata) path) files.old files.new result }
         ensures read { IfOk result (IsLoaded F.tells (F.bytes_at files.old) self.now.env.now) }
         ensures asked { C.tells → LoadsFromMetadata F.tells self.now.args.now self.now.env.now
             (F.bytes_at files.old) (F.failed files.old) (F.failed files.new) metadata

@@ -6,6 +6,7 @@ ghost use Rattle.hack_files.specs.Files.{KeepsAll, Makes};
 ghost use Rattle.hack_base.specs.Counters.{GrowsBy};
 ghost use Rattle.hack_metadata.specs.RecordViews.{package_view, place_at};
 ghost use Rattle.hack_metadata.specs.MetadataView.{metadata_view};
+ghost use Rattle.hack_load.specs.FailedLoads.{FailsOnlyReading, IsManifestAt, IsMemberPath};
 ghost use Rattle.hack_load.specs.Internal.{ReadsOnly};
 ghost use Rattle.hack_load.specs.CargoQuestions.{AreOfMembers, IsMemberFault, IsOfMember};
 ghost use Rattle.hack_load.specs.CargoQuestions.{IsPackageFault};
@@ -28,6 +29,8 @@ pub(crate) fn manifests_of<F: Files>(
         (F.failed files.old) (F.failed files.new) result }
     ensures untraced { F.whole → Makes [] (F.trace files.old) (F.trace files.new)
         (F.bytes_at files.old) (F.bytes_at files.new) }
+    ensures calls { FailsOnlyReading F.Files (IsMemberPath (metadata_view metadata.now))
+        files.old files.new result }
     ensures ok { IfOk result (λ found. AreOfMembers F.tells (F.bytes_at files.old)
         (metadata_view metadata.now) found.items) }
     ensures err { IfErr result (IsMemberFault F.tells (F.bytes_at files.old)
@@ -57,6 +60,8 @@ fn manifest_of<F: Files>(
         (F.failed files.old) (F.failed files.new) result }
     ensures untraced { F.whole → Makes [] (F.trace files.old) (F.trace files.new)
         (F.bytes_at files.old) (F.bytes_at files.new) }
+    ensures calls { FailsOnlyReading F.Files (IsManifestAt (metadata_view metadata.now) id.index)
+        files.old files.new result }
     ensures ok { IfOk result (IsOfMember F.tells (F.bytes_at files.old)
         (metadata_view metadata.now) id.index) }
     ensures err { IfErr result (IsPackageFault F.tells (F.bytes_at files.old)

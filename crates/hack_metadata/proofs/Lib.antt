@@ -10,3 +10,4 @@ mod MatchCases
 mod MatchLemmas
 mod WholeLemmas
 mod SpoiltLemmas
+mod FailedLemmas

@@ -1,5 +1,5 @@
 -- Which paths may hold something else after a question: those of refused writes.
-use Rattle.std.proofs.Common.{◌≡◌, inl, inr, ℕ, List, [], ◌∷◌, Result, Ok, Err, arith, sym}
+use Rattle.std.proofs.Common.{inl, inr, ℕ, List, [], ◌∷◌, Result, Ok, Err, arith, sym}
 use Rattle.hack_base.specs.Names.{Name}
 use Rattle.hack_files.specs.Files.{Contents, Grows, KeepsAllBut, KeepsOthers}
 use Rattle.hack_files.proofs.RefusalLemmas.{but_none}

@@ -14,6 +14,7 @@ pub mod RecordViews
 pub mod MetadataView
 pub mod InternalAskView
 pub mod QuestionCalls
+pub mod FailedQuestions
 pub mod FilesAfterAsking
 pub mod Requests
 pub mod Internal

@@ -4,6 +4,7 @@
 ghost use Rattle.std.specs.Prelude.{◌≡◌, ◌⊎◌, ◌∷◌, [], ℕ, List, Some, None, IfOk, IfErr};
 ghost use Rattle.std.specs.Prelude.{OnOk, OnErr, MatchOption, option_copied, string_bytes, true};
 ghost use Rattle.hack_files.specs.Files.{KeepsAll, KeepsAllBut, Makes};
+ghost use Rattle.hack_files.specs.FailedCalls.{NoneFailed};
 ghost use Rattle.hack_files.specs.Restore.{registered_files};
 ghost use Rattle.hack_process.specs.Calls.{Call, MayAdd};
 ghost use Rattle.hack_process.specs.Commands.{asked_of, command_of};
@@ -14,6 +15,7 @@ ghost use Rattle.hack_metadata.specs.InternalQuestionCalls.{FallsBack};
 ghost use Rattle.hack_metadata.specs.QuestionCalls.{IsLockfile, ReadsOutput, StopsQuestion};
 ghost use Rattle.hack_metadata.specs.QuestionCalls.{LeadsToStage, WroteWhereKnown};
 ghost use Rattle.hack_metadata.specs.QuestionCalls.{first, locked, newer};
+ghost use Rattle.hack_metadata.specs.FailedQuestions.{FailsOnlyAt, FailsSo, IsOfLook, IsPutBack};
 ghost use Rattle.hack_metadata.specs.FilesAfterAsking.{LeavesFiles};
 ghost use Rattle.hack_metadata.specs.Internal.{FailsOver, IsNoFileFault};
 ghost use Rattle.hack_metadata.specs.Internal.{PutsHeld};
@@ -58,6 +60,10 @@ impl Metadata {
             (F.bytes_at files.new) (F.failed files.old) (F.failed files.new) result }
         ensures spoilt { KeepsAllBut (F.refuses files.old files.new) F.tells
             (F.bytes_at files.old) (F.bytes_at files.new) }
+        ensures calls { (path : List ℕ) × FailsOnlyAt F.Files path files.old files.new result }
+        ensures undone { C.tells → FailsSo F.Files files.old files.new
+            (question args.now env.now cargo_version (option_copied host.entry))
+            (C.calls caller.old) (C.calls caller.new) result }
         ensures kept { registered_files manager.new ≡ registered_files manager.old }
         ensures needs { manager.new.needs_restore ≡ manager.old.needs_restore }
         ensures ends { C.tells → EndsSo F.tells
@@ -158,6 +164,12 @@ impl<'a> Question<'a> {
             (F.bytes_at files.new) (F.failed files.old) (F.failed files.new) result }
         ensures spoilt { KeepsAllBut (F.refuses files.old files.new) F.tells
             (F.bytes_at files.old) (F.bytes_at files.new) }
+        ensures calls { (path : List ℕ) × FailsOnlyAt F.Files path files.old files.new result }
+        ensures undone { C.tells → (start : List Call)
+            → LeadsToStage F.tells (question_of self.now) (F.bytes_at files.old) start
+            (newer minor) (C.calls caller.old) []
+            → FailsSo F.Files files.old files.new (question_of self.now) start
+            (C.calls caller.new) result }
         ensures kept { registered_files manager.new ≡ registered_files manager.old }
         ensures needs { manager.new.needs_restore ≡ manager.old.needs_restore }
         ensures ends { C.tells → (start : List Call) → LeadsToStage F.tells (question_of self.now)
@@ -226,6 +238,8 @@ impl<'a> Question<'a> {
         ensures same { F.tells → KeepsAll (F.bytes_at files.old) (F.bytes_at files.new) }
         ensures untraced { F.whole → Makes [] (F.trace files.old) (F.trace files.new)
             (F.bytes_at files.old) (F.bytes_at files.new) }
+        ensures none { OnOk result (NoneFailed F.Files files.old files.new) }
+        ensures looked { IfErr result (IsOfLook F.Files lockfile.now files.old files.new) }
         ensures ok { OnOk result (C.tells → (start : List Call) (minor : ℕ) (text : List ℕ)
             → IsLockfile text lockfile.now → LeadsToStage F.tells (question_of self.now)
             (F.bytes_at files.old)
@@ -262,6 +276,9 @@ impl<'a> Question<'a> {
             (F.failed files.old) (F.failed files.new) result }
         ensures spoilt { KeepsAllBut (F.refuses files.old files.new) F.tells
             (F.bytes_at files.old) (F.bytes_at files.new) }
+        ensures calls { FailsOnlyAt F.Files over.now.lockfile.now files.old files.new result }
+        ensures undone { IsPutBack F.Files over.now.lockfile.now
+            (C.tells → C.calls caller.new ≡ C.calls caller.old) files.old files.new }
         ensures kept { registered_files manager.new ≡ registered_files manager.old }
         ensures needs { manager.new.needs_restore ≡ manager.old.needs_restore }
         ensures ok { IfOk result (λ told. C.tells → MatchOption told

@@ -4,7 +4,7 @@ use Rattle.std.specs.Prelude.{◌↔◌, IsSome, Option, Some, None, List, is_so
 use Rattle.std.proofs.Math.Path.{fun_ext}
 use Rattle.hack_files.specs.Files.{Contents, KeepsAll}
 use Rattle.hack_files.specs.declared.fs.Files.{Ghosts as Filing}
-use Rattle.hack_journal.specs.FailedCalls.{LookFailed, NoneFailed}
+use Rattle.hack_files.specs.FailedCalls.{LookFailed, NoneFailed}
 use Rattle.hack_journal.specs.SafeLaws.{makes_append}
 use Rattle.hack_places.specs.CallPlaces.{PlacesAt, is_left}
 use Rattle.hack_places.specs.FileLooks.{AreLooksSeen, IsOfPath, IsOfUnseen, Unchanged}

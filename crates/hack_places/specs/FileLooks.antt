@@ -4,7 +4,7 @@ use Rattle.hack_files.specs.Files.{KeepsAll, Makes}
 use Rattle.hack_base.specs.Counters.{GrowsBy}
 use Rattle.hack_files.specs.View.{FilesView}
 use Rattle.hack_files.specs.declared.fs.Files.{Ghosts as Filing}
-use Rattle.hack_journal.specs.FailedCalls.{LookFailed, NoneFailed}
+use Rattle.hack_files.specs.FailedCalls.{LookFailed, NoneFailed}
 use Rattle.hack_places.specs.declared.look.LookFault.{LookFault}
 use Rattle.hack_places.specs.declared.look.LookFault.TheVariants.{Memory, Device}
 

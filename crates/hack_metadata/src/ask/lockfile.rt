@@ -4,6 +4,7 @@ ghost use Rattle.std.specs.Prelude.{◌≡◌, ◌↔◌, ◌++◌, ◌∷◌, [
 ghost use Rattle.std.specs.Prelude.{OnErr, IsOk, IsTrue, IsSome};
 ghost use Rattle.hack_files.specs.Files.{KeepsAll, Makes, MakesOrNot, refused_path};
 ghost use Rattle.hack_files.specs.Restore.{Kept, registered_files, write_of};
+ghost use Rattle.hack_metadata.specs.FailedQuestions.{FailsOnlyAt};
 ghost use Rattle.hack_metadata.specs.FileFaults.{IsUnread};
 ghost use Rattle.hack_metadata.specs.FilesAfterAsking.{LeavesFiles};
 ghost use Rattle.hack_metadata.specs.Internal.{IsFileFault, KeepsOneMore};
@@ -20,6 +21,8 @@ pub(crate) fn is_there<F: Files>(alloc: Global, path: &str, files: &mut F) -> Re
     ensures stays { F.stays files.old files.new }
     ensures left { LeavesFiles path.now F.tells (F.bytes_at files.old) (F.bytes_at files.new)
         (F.failed files.old) (F.failed files.new) result }
+    ensures refused_none { F.refuses files.old files.new [] }
+    ensures unseen { F.unseen files.old files.new (refused_path result path.now) }
     ensures there { IfOk result (λ there. F.tells →
         IsTrue there ↔ IsSome (F.bytes_at files.old path.now)) }
     ensures same { F.tells → KeepsAll (F.bytes_at files.old) (F.bytes_at files.new) }
@@ -47,6 +50,8 @@ pub(crate) fn keep<F: Files>(
     ensures stays { F.stays files.old files.new }
     ensures left { LeavesFiles path.now F.tells (F.bytes_at files.old) (F.bytes_at files.new)
         (F.failed files.old) (F.failed files.new) result }
+    ensures refused_none { F.refuses files.old files.new [] }
+    ensures calls { FailsOnlyAt F.Files path.now files.old files.new result }
     ensures ok { OnOk result (KeepsOneMore path.now F.tells (F.bytes_at files.old)
         (registered_files manager.old) (registered_files manager.new)) }
     ensures err { OnErr result (registered_files manager.new ≡ registered_files manager.old) }
@@ -82,6 +87,7 @@ pub(crate) fn put_back<F: Files>(files: &mut F, manager: &mut Manager) -> Result
     ensures refused_path { (file : Kept) (earlier : List Kept)
         → registered_files manager.old ≡ earlier ++ file ∷ []
         → F.refuses files.old files.new (refused_path result file.path) }
+    ensures unseen_none { F.unseen files.old files.new [] }
     ensures none { registered_files manager.old ≡ [] → IsOk result }
     ensures kept { (file : Kept) (earlier : List Kept)
         → registered_files manager.old ≡ earlier ++ file ∷ [] → registered_files manager.new

@@ -1,7 +1,8 @@
 use Rattle.std.proofs.Common.{subst, sym}
 use Rattle.std.specs.Prelude.{IsSome}
 use Rattle.std.proofs.lemmas.Result.{err_from_is_err_and}
-use Rattle.hack_journal.proofs.FailedLemmas.{none_then, unseen_there}
+use Rattle.hack_files.proofs.FailedLemmas.{none_then}
+use Rattle.hack_journal.proofs.FailedLemmas.{unseen_there}
 use Rattle.hack_journal.proofs.contents.look.Goals as goal
 
 pub returns-in_err-read-clause-unseen : goal.returns-in_err-read-clause-unseen

@@ -1,5 +1,6 @@
 use Rattle.hack_journal.specs.Journal.{edit_of}
-use Rattle.hack_journal.proofs.FailedLemmas.{fault_then, memory_only, none_then, write_failed}
+use Rattle.hack_files.proofs.FailedLemmas.{none_then}
+use Rattle.hack_journal.proofs.FailedLemmas.{fault_then, memory_only, write_failed}
 use Rattle.hack_journal.proofs.RecoverLemmas.{on_ok_always, put_keeps}
 use Rattle.hack_journal.proofs.recover.put_back.Goals as goal
 

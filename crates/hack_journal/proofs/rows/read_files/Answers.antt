@@ -4,7 +4,8 @@ use Rattle.std.proofs.lemmas.Grind.{common_steps}
 use Rattle.hack_journal.specs.Journal.{edits_of}
 use Rattle.hack_journal.specs.Rows.{spot_of}
 use Rattle.hack_journal.specs.SafeLaws.{makes_append}
-use Rattle.hack_journal.proofs.FailedLemmas.{fault_then, none_then}
+use Rattle.hack_files.proofs.FailedLemmas.{none_then}
+use Rattle.hack_journal.proofs.FailedLemmas.{fault_then}
 use Rattle.hack_journal.proofs.RecoverLemmas.{read_more_at, why_torn}
 use Rattle.hack_journal.proofs.rows.read_files.Goals as goal
 

@@ -1,7 +1,7 @@
 use Rattle.std.proofs.Common.{[]}
 use Rattle.hack_base.specs.Counters.{GrowsBy}
 use Rattle.hack_files.specs.Files.{KeepsAll, Makes}
-use Rattle.hack_journal.specs.FailedCalls.{NoneFailed}
+use Rattle.hack_files.specs.FailedCalls.{NoneFailed}
 use Rattle.hack_journal.specs.Journal.{edits_of}
 use Rattle.hack_journal.specs.Rows.{AreRead, spot_of}
 use Rattle.hack_journal.proofs.rows.read_files.Given as goal

@@ -7,6 +7,9 @@ use Rattle.hack_metadata.specs.declared.metadata.resolve.PackageId.{PackageId}
 use Rattle.hack_load.specs.CargoQuestions.{IsOfMember, IsPackageFault}
 use Rattle.hack_load.proofs.LeaveLemmas.{makes_still, may-more, whole-more}
 use Rattle.hack_load.proofs.MemberLemmas.{each-more, fault-earlier, id-contained, of-earlier}
+use Rattle.hack_files.proofs.FailedLemmas.{none_then}
+use Rattle.hack_load.specs.FailedLoads.{IsManifestAt, IsMemberPath, IsOfReadAt}
+use Rattle.hack_load.proofs.FailedLemmas.{reads-then}
 use Rattle.hack_load.proofs.members.manifests_of.Goals as goal
 
 pub manifest_of-requires : goal.manifest_of-requires
@@ -58,4 +61,17 @@ loop-id-preserved g c =
           (of-earlier g.F.Files.tells g.F.Files.tells a b (λ t. t) (λ t. whole.1 t) m (get_or ms i (record { index = 0 })).index c.in-Ok.manifest
           (subst (λ (xs : List PackageId). IsOfMember g.F.Files.tells b m (get_or xs i (record { index = 0 })).index c.in-Ok.manifest) is c.in-Ok.ensures.ok)) c.in_ok-push.ensures.items,
       λ w. makes_still [] (g.F.Files.trace c.args.files.now) (g.F.Files.trace c.loop-id.files) (g.F.Files.trace c.manifest_of.new.files) a b (g.F.Files.bytes_at c.manifest_of.new.files) (c.loop-id.invariant.3 w) (c.in-Ok.ensures.untraced w),
+      none_then g.F.Files _ _ _ c.loop-id.invariant.4 c.in-Ok.ensures.calls,
     )
+
+pub returns-in-Err-clause-calls : goal.returns-in-Err-clause-calls
+returns-in-Err-clause-calls g c =
+    let ms = c.args.metadata.now.workspace_members.items in
+    let is = c.deref-id-items.ensures.value in
+    let i = c.loop-id.id-index in
+    let m = metadata_view c.args.metadata.now in
+    let at = (get_or ms i (record { index = 0 })).index in
+    reads-then g.F.Files (IsManifestAt m at) (IsMemberPath m) c.args.files.now c.loop-id.files c.manifest_of.new.files c.in-Err.fault
+    (λ path here. (at, id-contained ms i (record { index = 0 }) (subst (λ (xs : List PackageId). i < length xs) is c.loop-id-test.true), here))
+    c.loop-id.invariant.4 c.loop-id.invariant.1.1
+    (subst (λ (xs : List PackageId). IsOfReadAt g.F.Files (IsManifestAt m (get_or xs i (record { index = 0 })).index) c.loop-id.files c.manifest_of.new.files c.in-Err.fault) is c.in-Err.ensures.calls)

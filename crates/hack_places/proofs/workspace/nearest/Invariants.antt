@@ -3,7 +3,7 @@ use Rattle.std.specs.Option.{option_map}
 use denote.Shadow.{shadow}
 use denote.Text.{Utf8}
 use Rattle.hack_files.specs.Files.{KeepsAll, Makes}
-use Rattle.hack_journal.specs.FailedCalls.{NoneFailed}
+use Rattle.hack_files.specs.FailedCalls.{NoneFailed}
 use Rattle.hack_places.specs.Folders.{workspace_from}
 use Rattle.hack_base.specs.Counters.{GrowsBy}
 use Rattle.hack_places.proofs.FolderLemmas.{rest_of}

@@ -1,4 +1,4 @@
-use Rattle.std.proofs.Common.{length, ap, ◌<◌, ◌∙◌, arith, refl, rules, map, sym}
+use Rattle.std.proofs.Common.{[], length, ap, ◌<◌, ◌∙◌, arith, refl, rules, map, sym}
 use Rattle.hack_base.proofs.StreamLemmas.{some_more, wrote_none}
 use Rattle.hack_base.specs.Streams.{stream_of}
 use Rattle.hack_files.specs.Restore.{kept_file}
@@ -8,7 +8,7 @@ use Rattle.hack_files.proofs.restore.Manager.restore_all.Goals.{then-not-put_bac
 
 pub loop-file-init : goal.loop-file-init
 loop-file-init g c =
-    (omega arith, search rules, (λ low. omega (arith, low)), back_none (g.F.Files.refuses _ _) _ _ _ (g.F.Files.refuses_none _), (λ _. tried_none (map kept_file c.deref-file-items.result.now) _ _), noted_none _, search rules, wrote_none _ _ refl, λ plain none. refl)
+    (omega arith, search rules, (λ low. omega (arith, low)), back_none (g.F.Files.refuses _ _) _ _ _ (g.F.Files.refuses_none _), (λ _. tried_none (map kept_file c.deref-file-items.result.now) _ _), noted_none _, search rules, wrote_none _ _ refl, (λ plain none. refl), g.F.Files.unseen_none _)
 
 pub loop-file-preserved : goal.loop-file-preserved
 loop-file-preserved g c =
@@ -27,6 +27,7 @@ loop-file-preserved g c =
             search rules,
             some_more _ (stream_of g.W.Sink c.loop-file.err) _ before.7 told.shown,
             (λ plain none. absurd (omega (arith, w.failures-is, none))),
+            g.F.Files.unseen_more _ _ _ [] [] before.9 told.unseen_none,
           )
       | else-not-put_back w ↦
           let told = w.if-not-put_back.ensures in (
@@ -39,6 +40,7 @@ loop-file-preserved g c =
             search rules,
             some_more _ (stream_of g.W.Sink c.loop-file.err) _ before.7 told.shown,
             (λ plain none. told.quiet (ap (λ t. t.verbose) before.6 ∙ plain) ∙ before.8 plain (sym w.failures-is ∙ none)),
+            g.F.Files.unseen_more _ _ _ [] [] before.9 told.unseen_none,
           )
     ]
 

@@ -1,4 +1,4 @@
-use Rattle.std.proofs.Common.{◌≡◌, ◌≤◌, ◌<◌, ◌↔◌, ◌⊎◌, IsTrue, false, map}
+use Rattle.std.proofs.Common.{[], ◌≡◌, ◌≤◌, ◌<◌, ◌↔◌, ◌⊎◌, IsTrue, false, map}
 use Rattle.hack_base.specs.Counters.{GrowsBy}
 use Rattle.hack_base.specs.Streams.{WritesSome, stream_of}
 use Rattle.hack_files.specs.Restore.{kept_file}
@@ -16,3 +16,4 @@ invariant-loop-file g l =
     × (l.term ≡ record l.fn.term { error = l.term.error })
     × WritesSome (stream_of g.W.Sink l.fn.err) (stream_of g.W.Sink l.err)
     × (l.fn.term.verbose ≡ false → l.failures ≡ 0 → l.err ≡ l.fn.err)
+    × g.F.Files.unseen l.fn.files l.files []

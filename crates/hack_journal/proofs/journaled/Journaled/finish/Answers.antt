@@ -3,7 +3,8 @@ use Rattle.std.proofs.lemmas.Result.{err_from_is_err_and}
 use Rattle.hack_files.specs.Files.{Contents}
 use Rattle.hack_journal.specs.SafeFiles.{AreBack}
 use Rattle.hack_journal.specs.SafeLaws.{stays_none, stays_more}
-use Rattle.hack_journal.proofs.FailedLemmas.{cannot_look, cannot_remove, none_then}
+use Rattle.hack_files.proofs.FailedLemmas.{none_then}
+use Rattle.hack_journal.proofs.FailedLemmas.{cannot_look, cannot_remove}
 use Rattle.hack_journal.proofs.FinishLemmas.{absent_first, all_same, finish_stays, none_of, removed_first}
 use Rattle.hack_journal.proofs.RowLemmas.{file_zero}
 use Rattle.hack_journal.specs.FileCalls.{spot_in}

@@ -1,10 +1,13 @@
-use Rattle.std.proofs.Common.{refl, Ok, Err}
+use Rattle.std.proofs.Common.{◌≡◌, inl, inr, refl, Ok, Err}
 use Rattle.std.specs.Prelude.{option_copied}
 use Rattle.hack_metadata.specs.QuestionCalls.{WroteWhereKnown}
 use Rattle.hack_metadata.specs.Requests.{question}
 use Rattle.hack_load.proofs.AnswerLemmas.{ends-map, follows-earlier, loaded-later, wrote-still}
 use Rattle.hack_files.proofs.RefusalLemmas.{but_same, but_then}
 use Rattle.hack_load.proofs.LeaveLemmas.{few-left, few-reads, reads-grow}
+use Rattle.hack_metadata.specs.MetadataView.{metadata_view}
+use Rattle.hack_load.specs.FailedLoads.{IsMemberPath}
+use Rattle.hack_load.proofs.FailedLemmas.{asked-loads, ends-with, only-then, reads-load}
 use Rattle.hack_load.proofs.answers.Asker.load.Goals as goal
 
 pub returns-in-Ok-clause-left : goal.returns-in-Ok-clause-left
@@ -59,3 +62,30 @@ returns-in-Ok-clause-stays g c = g.F.Files.stays_more _ _ _ c.in-Ok.ensures.stay
 
 pub returns-in-Ok-clause-course : goal.returns-in-Ok-clause-course
 returns-in-Ok-clause-course g c = g.C.Caller.course_more _ _ _ c.in-Ok.ensures.course c.load_behind.ensures.course
+
+pub returns-in-Ok-clause-calls : goal.returns-in-Ok-clause-calls
+returns-in-Ok-clause-calls g c = reads-load g.F.Files _ c.args.files.now c.new.new.files c.load_behind.new.files c.load_behind.result c.in-Ok.ensures.calls.1 c.in-Ok.ensures.left.1.1 c.load_behind.ensures.calls
+
+pub returns-in-Ok-clause-undone : goal.returns-in-Ok-clause-undone
+returns-in-Ok-clause-undone g c =
+    let q = question c.args.self.now.args.now c.args.self.now.env.now c.args.self.now.minor (option_copied c.args.self.now.host) in
+    let mid = g.C.Caller.calls c.new.new.caller in
+    let last = g.C.Caller.calls c.load_behind.new.caller in
+    λ called. inl (record {
+      metadata = c.in-Ok.metadata;
+      mid = mid;
+      told = ends-with g.F.Files.tells q (g.F.Files.bytes_at c.args.files.now) (g.C.Caller.calls c.args.caller.now) mid _ c.in-Ok.metadata (c.in-Ok.ensures.ends called);
+      reads = only-then g.F.Files _ (λ path. (last ≡ mid) × IsMemberPath (metadata_view c.in-Ok.metadata) path) c.args.files.now c.new.new.files c.load_behind.new.files c.load_behind.result (λ path here. (here.0 called, here.1)) c.in-Ok.ensures.calls.1 c.in-Ok.ensures.left.1.1 c.load_behind.ensures.calls;
+    })
+
+pub returns-in-Err-clause-calls : goal.returns-in-Err-clause-calls
+returns-in-Err-clause-calls g c = asked-loads g.F.Files c.in-Err.ensures.calls.0 _ _ c.in-Err.fault c.of_question.result c.of_question.ensures c.in-Err.ensures.calls.1
+
+pub returns-in-Err-clause-undone : goal.returns-in-Err-clause-undone
+returns-in-Err-clause-undone g c = λ called. inr (record {
+  why = c.in-Err.fault;
+  fault = c.of_question.result;
+  stops = c.in-Err.ensures.undone called;
+  told = c.of_question.ensures;
+  is = refl;
+})

@@ -1,4 +1,4 @@
-use Rattle.std.proofs.Common.{◌≡◌, subst, rules}
+use Rattle.std.proofs.Common.{◌≡◌, inl, subst, rules}
 use Rattle.std.proofs.lemmas.Bool.{iff_false}
 use Rattle.std.proofs.lemmas.Result.{err_from_is_err_and, on_ok_weaker, IfErr-weaker}
 use Rattle.hack_process.specs.CommandTexts.{text_of}
@@ -8,6 +8,7 @@ use Rattle.hack_metadata.specs.InternalAskView.{question_of}
 use Rattle.hack_metadata.specs.QuestionCalls.{Runs, first, is_there, is_made}
 use Rattle.hack_metadata.specs.Requests.{lock_command}
 use Rattle.hack_metadata.proofs.AskWays.{command-stops, run-fails, there-stops}
+use Rattle.hack_metadata.proofs.FailedLemmas.{look-of, run-looks}
 use Rattle.hack_metadata.proofs.ask.Question.make_lockfile.Goals as goal
 
 pub returns-in_err-is_there-clause-err : goal.returns-in_err-is_there-clause-err
@@ -37,3 +38,29 @@ returns-clause-err g c =
     command-stops g.C.Caller.tells q old new (first minor text) asked e called tt is
     (run-fails _ g.C.Caller.tells (asked_of true asked) (text_of true q.dir asked) old new e h))
     c.run.ensures.err
+
+pub returns-in_err-is_there-clause-looked : goal.returns-in_err-is_there-clause-looked
+returns-in_err-is_there-clause-looked g c =
+    let p = err_from_is_err_and c.from_residual.result c.from_residual.ensures.1 in
+    rw (p.1, p.2) (look-of g.F.Files c.args.lockfile.now _ _ c.in_err-is_there.field-0.0 c.in_err-is_there.ensures.fault (record { unseen = c.in_err-is_there.ensures.unseen; refused = c.in_err-is_there.ensures.refused_none }))
+
+pub returns-then-branch-clause-none : goal.returns-then-branch-clause-none
+returns-then-branch-clause-none g c = record { unseen = c.in_ok-is_there.ensures.unseen; refused = c.in_ok-is_there.ensures.refused_none }
+
+pub returns-in_err-rest-clause-looked : goal.returns-in_err-rest-clause-looked
+returns-in_err-rest-clause-looked g c =
+    let p = err_from_is_err_and c.from_residual-in_err-rest.result c.from_residual-in_err-rest.ensures.1 in
+    rw (p.1, p.2) (inl (record { unseen = c.in_ok-is_there.ensures.unseen; refused = c.in_ok-is_there.ensures.refused_none }))
+
+pub returns-in_err-asked-clause-looked : goal.returns-in_err-asked-clause-looked
+returns-in_err-asked-clause-looked g c =
+    let p = err_from_is_err_and c.from_residual-in_err-asked.result c.from_residual-in_err-asked.ensures.1 in
+    rw (p.1, p.2) (inl (record { unseen = c.in_ok-is_there.ensures.unseen; refused = c.in_ok-is_there.ensures.refused_none }))
+
+pub returns-clause-none : goal.returns-clause-none
+returns-clause-none g c =
+    on_ok_weaker c.run.result (λ h. record { unseen = c.in_ok-is_there.ensures.unseen; refused = c.in_ok-is_there.ensures.refused_none }) c.run.ensures.ok
+
+pub returns-clause-looked : goal.returns-clause-looked
+returns-clause-looked g c =
+    IfErr-weaker c.run.result _ _ (λ e h. run-looks g.F.Files _ _ c.args.lockfile.now _ _ e h (record { unseen = c.in_ok-is_there.ensures.unseen; refused = c.in_ok-is_there.ensures.refused_none })) c.run.ensures.err
