@@ -1,5 +1,5 @@
 -- Calls that a question makes, and what its answer says.
-use Rattle.std.proofs.Common.{◌≡◌, ◌≢◌, ◌∙◌, refl, inl, inr, [], List, Option, Some, None, Result, Ok, Err, IfOk, IfErr, OnOk, IsSome, Bool, true, false, sym, subst, append-nil, Global, String}
+use Rattle.std.proofs.Common.{◌≡◌, ◌≢◌, ◌∙◌, refl, inl, inr, [], List, None, Result, Ok, Err, IfOk, IfErr, OnOk, Bool, true, false, sym, subst, append-nil, Global, String}
 use Rattle.hack_base.specs.Names.{Name}
 use Rattle.hack_metadata.specs.QuestionCalls.{FailsToRead, ReadsOutput}
 use Rattle.hack_metadata.specs.Requests.{version_command}
@@ -14,6 +14,8 @@ use Rattle.hack_process.specs.declared.fault.ProcessFault.{ProcessFault}
 use Rattle.hack_process.specs.declared.fault.ProcessFault.TheVariants as process
 use Rattle.hack_versions.specs.ToolTexts.{TellsRelease}
 use Rattle.hack_versions.specs.declared.version.Version.{Version}
+use Rattle.hack_planner.specs.declared.stable.Stable.{Stable}
+use Rattle.hack_planner.specs.declared.stable.Stable.TheVariants.{Unasked, Known, Unknown}
 use Rattle.hack_session.proofs.CallLemmas.{EndsOrIsCut}
 use Rattle.hack_session.specs.StepCalls.{MakesCalls}
 use Rattle.hack_session.specs.declared.step.Outcome.{Outcome}
@@ -39,24 +41,24 @@ read_may tells P asked shown old new (Ok text) ok err t = let had = ok t in inr 
 read_may tells P asked shown old new (Err e) ok err t = fault_may tells asked shown old new e err t
 
 -- a version that has a property has each weaker one
-pub latest_map : (P Q : Version → Type 0) (r : Result (Option Version) (String Global)) → ((v : Version) → P v → Q v) → IsLatest P r → IsLatest Q r
-latest_map P Q (Ok None) f p = absurd p
-latest_map P Q (Ok (Some v)) f p = f v p
-latest_map P Q (Err text) f p = tt
+pub latest_map : (P Q : Version → Type 0) (r : Stable) → ((v : Version) → P v → Q v) → IsLatest P r → IsLatest Q r
+latest_map P Q Unasked f p = absurd p
+latest_map P Q (Known v) f p = f v p
+latest_map P Q (Unknown text) f p = tt
 
 -- the same for what a function returns
-pub answer_map : {E : Type 0} (P Q : Version → Type 0) (r : Result (Result (Option Version) (String Global)) E) → ((v : Version) → P v → Q v) → IfOk r (IsLatest P) → IfOk r (IsLatest Q)
+pub answer_map : {E : Type 0} (P Q : Version → Type 0) (r : Result Stable E) → ((v : Version) → P v → Q v) → IfOk r (IsLatest P) → IfOk r (IsLatest Q)
 answer_map P Q (Ok s) f p = latest_map P Q s f p
 answer_map P Q (Err e) f p = tt
 
 -- what was asked of stable, where each version was its answer
-pub asks : (tells : Type 0) (rustup : Name) (old new : List Call) (s : Result (Option Version) (String Global)) → IsLatest (λ v. tells → TellsStable rustup v old new) s → tells → AsksStable rustup s old new
-asks tells rustup old new (Ok None) p t = absurd p
-asks tells rustup old new (Ok (Some v)) p t = p t
-asks tells rustup old new (Err text) p t = tt
+pub asks : (tells : Type 0) (rustup : Name) (old new : List Call) (s : Stable) → IsLatest (λ v. tells → TellsStable rustup v old new) s → tells → AsksStable rustup s old new
+asks tells rustup old new Unasked p t = absurd p
+asks tells rustup old new (Known v) p t = p t
+asks tells rustup old new (Unknown text) p t = tt
 
 -- the same for what a function returns
-pub asked_stable : {E : Type 0} (tells : Type 0) (rustup : Name) (old new : List Call) (r : Result (Result (Option Version) (String Global)) E)
+pub asked_stable : {E : Type 0} (tells : Type 0) (rustup : Name) (old new : List Call) (r : Result Stable E)
     → IfOk r (IsLatest (λ v. tells → TellsStable rustup v old new)) → IfOk r (λ s. tells → AsksStable rustup s old new)
 asked_stable tells rustup old new (Ok s) p = asks tells rustup old new s p
 asked_stable tells rustup old new (Err e) p = tt
@@ -78,12 +80,12 @@ pub tells_stable : (tells : Type 0) (rustup : Name) (old mid new : List Call) �
     → (v : Version) → (tells → ReadsStable rustup v mid new) → tells → TellsStable rustup v old new
 tells_stable tells rustup old mid new installed v read t = record { mid = mid; installed = installed t; read = read t }
 
--- stable's version is known where there is no error
-pub is_known : {E : Type 0} (P : Version → Type 0) (r : Result (Result (Option Version) (String Global)) E) → IfOk r (IsLatest P) → IfOk r (λ s. IfOk s (λ latest. IsSome latest))
-is_known P (Ok (Ok None)) p = absurd p
-is_known P (Ok (Ok (Some v))) p = refl
-is_known P (Ok (Err text)) p = tt
-is_known P (Err e) p = tt
+-- stable's version was asked for
+pub is_asked : {E : Type 0} (P : Version → Type 0) (r : Result Stable E) → IfOk r (IsLatest P) → IfOk r (λ s. s ≢ Unasked)
+is_asked P (Ok Unasked) p = absurd p
+is_asked P (Ok (Known v)) p = λ none. absurd (cc)
+is_asked P (Ok (Unknown text)) p = λ none. absurd (cc)
+is_asked P (Err e) p = tt
 
 -- rustup was asked, and its answer read
 pub asks_rustup : {E : Type 0} (tells : Type 0) (wants : Bool) (rustup answer : Name) (c : Command) (old new : List Call) (r : Result Rustup E) → wants ≡ true → c ≡ rustup_command rustup
