@@ -27,12 +27,12 @@ use hack_msrv::search::find_versions;
 use hack_plan::plan::Plan;
 use hack_planner::fault::PlanFault;
 use hack_planner::plan::plan_of;
+use hack_planner::stable::Stable;
 use hack_process::process::Caller;
 use hack_session::session::{Lines, Lister, Runner, Session, Starter, drive_plan};
 use hack_side::judge::Judge;
 use hack_side::serial::Serial;
 use hack_side::side::Side;
-use hack_versions::version::Version;
 use std::alloc::Global;
 
 /// A runner that also prints notices for the user.
@@ -46,13 +46,12 @@ pub trait Teller: Runner {
 }
 
 /// Makes the plan of a context, prints its notices, and hands out the steps of the chosen piece to
-/// their end. `rustup` is rustup's program; `stable` is the version of the toolchain `stable` where
-/// the range needs it, or the text of the error of asking for it.
+/// their end. `rustup` is rustup's program; `stable` is asked for where the range needs it.
 pub fn drive_context<R: Teller>(
     alloc: Global,
     cx: &Context,
     rustup: &str,
-    stable: Result<Option<Version>, String>,
+    stable: Stable,
     runner: &mut R,
 ) -> Result<Session, PlanFault>
     requires { IsAnswered (context_view cx.now).args stable }
@@ -101,7 +100,7 @@ pub fn search_context<R: Teller + Judge>(
     alloc: Global,
     cx: &Context,
     rustup: &str,
-    stable: Result<Option<Version>, String>,
+    stable: Stable,
     runner: &mut R,
 ) -> Result<(Plan, Vec<Found>), PlanFault>
     requires { IsAnswered (context_view cx.now).args stable }

@@ -1,6 +1,7 @@
 -- Where there is a plan, no cause holds: what a cause claims of some choice, input and runs, it
 -- would claim of the plan's own.
-use Rattle.std.proofs.Common.{◌≡◌, subst, List, ℕ, Option, Some, None, Result, Ok, String, Global}
+use Rattle.std.proofs.Common.{◌≡◌, subst, List, ℕ, Option, Some, None, Ok, String, Global}
+use Rattle.std.proofs.lemmas.Result.{MatchResult-at_ok}
 use Rattle.std.specs.List.{AllZip}
 use Rattle.hack_load.specs.Contexts.{ContextRecord}
 use Rattle.hack_planner.specs.ContextMembers.{AreChosen, IsChoiceFault}
@@ -14,9 +15,10 @@ use Rattle.hack_versions.specs.declared.version.Version.{Version}
 use Rattle.hack_versions.specs.declared.version.VersionFault.{VersionFault}
 use Rattle.hack_planner.specs.Calls.{HasBadOwn, IsInputOf, IsPackageOf, table_fault}
 use Rattle.hack_planner.specs.RulesFor.{TableFault}
-use Rattle.hack_planner.specs.CallPlan.{IsSureCause, IsSureCauseBy, IsSureCauseOf, run_counts}
+use Rattle.hack_planner.specs.CallPlan.{IsSureCause, IsSureCauseOf, latest_of, run_counts}
 use Rattle.hack_planner.specs.declared.fault.PlanFault.{PlanFault}
 use Rattle.hack_planner.specs.declared.fault.PlanFault.TheVariants as fault
+use Rattle.hack_planner.specs.declared.stable.Stable.{Stable}
 use Rattle.hack_planner.proofs.OnceLemmas.{chosen-once, counts-once, inputs-agree, packages-same}
 use Rattle.hack_planner.proofs.InputLemmas.{fault-same, many-same}
 
@@ -61,7 +63,7 @@ no-cause cx latest h fault.TooManyRuns both =
     let counts = counts-once cx both.0 h.input latest h.ids bad.packages h.packages each h.each in
     h.fits (subst (λ ns. HasTooMany h.input ns latest) counts (many-same bad.input h.input agree (run_counts bad.packages) latest bad.many))
 
--- a sure cause that depends on the answer for `stable` is one for this version
-pub cause-by : (subcommand : Option (String Global)) (stable : Result (Option Version) (String Global)) (latest : Option Version) (cx : ContextRecord) (e : PlanFault) → stable ≡ Ok latest → IsSureCauseOf subcommand stable cx e → IsSureCause cx latest e
+-- a sure cause, given what is known of `stable`, is one where this is the version to plan with
+pub cause-by : (subcommand : Option (String Global)) (stable : Stable) (latest : Option Version) (cx : ContextRecord) (e : PlanFault) → latest_of stable ≡ Ok latest → IsSureCauseOf subcommand stable cx e → IsSureCause cx latest e
 cause-by None stable latest cx e is bad = absurd bad
-cause-by (Some name) stable latest cx e is bad = subst (λ s. IsSureCauseBy s cx e) is bad
+cause-by (Some name) stable latest cx e is bad = MatchResult-at_ok (λ v. IsSureCause cx v e) (λ unknown. e ≡ unknown) latest is bad

@@ -1,5 +1,5 @@
 -- The plan of a call, and the causes to refuse it.
-use Rattle.std.specs.Prelude.{ℕ, ◌≡◌, ◌<◌, ◌^◌, ◌++◌, List, [], map, length, string_bytes, Bool, Option, Some, None, Result, Ok, Err}
+use Rattle.std.specs.Prelude.{ℕ, ◌≡◌, ◌<◌, ◌^◌, ◌++◌, List, [], map, length, string_bytes, Bool, Option, Some, None, Result, Ok, Err, IsOkAnd, MatchResult}
 use Rattle.std.specs.declared.string.String.{String}
 use Rattle.std.specs.declared.alloc.Global.{Global}
 use Rattle.std.specs.List.{AllZip, flat_map}
@@ -23,6 +23,8 @@ use Rattle.hack_plan.specs.Prepared.{ArePrepared, span_of}
 use Rattle.hack_plan.specs.View.{PackageView, PlanView}
 use Rattle.hack_planner.specs.declared.fault.PlanFault.{PlanFault}
 use Rattle.hack_planner.specs.declared.fault.PlanFault.TheVariants as fault
+use Rattle.hack_planner.specs.declared.stable.Stable.{Stable}
+use Rattle.hack_planner.specs.declared.stable.Stable.TheVariants.{Unasked, Known, Unknown}
 
 -- the number of runs of each package
 abbrev pub run_counts : List PackageView → List ℕ
@@ -72,28 +74,30 @@ pub record IsPlan (cx : ContextRecord) (rustup : Name) (latest : Option Version)
   pub readable : (e : VersionFault) → ¬ HasBadOwn cx performed.base.ids e
   pub fits : ¬ HasTooMany performed.base.input (run_counts plan.packages) latest
 
--- what the calls and the notices of a call depend on, given the answer for `stable`: a plan without
+-- the version to plan with, given what is known of `stable`: none where it wasn't asked for; or why there is no plan
+abbrev pub latest_of : Stable → Result (Option Version) PlanFault
+latest_of Unasked = Ok None
+latest_of (Known v) = Ok (Some v)
+latest_of (Unknown text) = Err (fault.Stable text)
+
+-- what the calls and the notices of a call depend on, given what is known of `stable`: a plan without
 -- a version where there is no subcommand
-abbrev pub IsPerformableOf : Option (String Global) → Result (Option Version) (String Global)
-    → ContextRecord → Name → PlanView → List Note → Type 0
+abbrev pub IsPerformableOf : Option (String Global) → Stable → ContextRecord → Name → PlanView → List Note → Type 0
 IsPerformableOf None stable cx rustup plan notes =
     (plan ≡ record { call = call_of cx rustup; packages = []; versions = []; entries = [] })
     × (notes ≡ [])
-IsPerformableOf (Some name) (Ok v) cx rustup plan notes = IsPerformable cx rustup v plan notes
-IsPerformableOf (Some name) (Err text) cx rustup plan notes = ⊥
+IsPerformableOf (Some subcommand) stable cx rustup plan notes = IsOkAnd (latest_of stable) (λ latest. IsPerformable cx rustup latest plan notes)
 
--- the plan of a call, given the answer for `stable`
-abbrev pub IsPlanOf : Option (String Global) → Result (Option Version) (String Global) → ContextRecord → Name → PlanView → List Note → Type 0
+-- the plan of a call, given what is known of `stable`
+abbrev pub IsPlanOf : Option (String Global) → Stable → ContextRecord → Name → PlanView → List Note → Type 0
 IsPlanOf None stable cx rustup plan notes = IsPerformableOf None stable cx rustup plan notes
-IsPlanOf (Some subcommand) (Ok latest) cx rustup plan notes = IsPlan cx rustup latest plan notes
-IsPlanOf (Some subcommand) (Err text) cx rustup plan notes = ⊥
+IsPlanOf (Some subcommand) stable cx rustup plan notes = IsOkAnd (latest_of stable) (λ latest. IsPlan cx rustup latest plan notes)
 
--- the places of a call's plan, given the answer for `stable`: none without a subcommand, else just the admissible runs; with
--- an error in place of stable's version there is no plan
-abbrev pub HasRunsOf : Option (String Global) → Result (Option Version) (String Global) → ContextRecord → PlanView → Type 0
+-- the places of a call's plan, given what is known of `stable`: none without a subcommand, else just the admissible runs;
+-- where stable's version is unknown there is no plan
+abbrev pub HasRunsOf : Option (String Global) → Stable → ContextRecord → PlanView → Type 0
 HasRunsOf None stable cx plan = plan.entries ≡ []
-HasRunsOf (Some subcommand) (Ok latest) cx plan = HasJustRuns cx latest plan
-HasRunsOf (Some subcommand) (Err text) cx plan = ⊥
+HasRunsOf (Some subcommand) stable cx plan = IsOkAnd (latest_of stable) (λ latest. HasJustRuns cx latest plan)
 
 -- the own version of one of the chosen packages can't be read
 pub record IsBadVersion (cx : ContextRecord) (e : VersionFault) : Type 0 where
@@ -173,22 +177,12 @@ IsSureCause cx latest (fault.Range e) = IsBadRange cx latest e
 IsSureCause cx latest (fault.TooManyQuestions name tally) = ⊥
 IsSureCause cx latest fault.TooManyRuns = HaveNoStrength cx × AreTooManyRuns cx latest
 
--- the causes, given the answer for `stable`: its error, or one of the causes above
-abbrev pub IsCauseBy : Result (Option Version) (String Global) → ContextRecord → PlanFault → Type 0
-IsCauseBy (Ok latest) cx e = IsCause cx latest e
-IsCauseBy (Err text) cx e = e ≡ fault.Stable text
-
--- the causes to refuse a call: it has a subcommand, and a cause holds
-abbrev pub IsCauseOf : Option (String Global) → Result (Option Version) (String Global) → ContextRecord → PlanFault → Type 0
+-- the causes to refuse a call: it has a subcommand, and stable's version is unknown, or one of the causes above holds
+abbrev pub IsCauseOf : Option (String Global) → Stable → ContextRecord → PlanFault → Type 0
 IsCauseOf None stable cx e = ⊥
-IsCauseOf (Some subcommand) stable cx e = IsCauseBy stable cx e
+IsCauseOf (Some subcommand) stable cx e = MatchResult (latest_of stable) (λ latest. IsCause cx latest e) (λ unknown. e ≡ unknown)
 
--- the sure causes, given the answer for `stable`: its error, or one of the sure causes above
-abbrev pub IsSureCauseBy : Result (Option Version) (String Global) → ContextRecord → PlanFault → Type 0
-IsSureCauseBy (Ok latest) cx e = IsSureCause cx latest e
-IsSureCauseBy (Err text) cx e = e ≡ fault.Stable text
-
--- the sure causes to refuse a call: it has a subcommand, and a sure cause holds
-abbrev pub IsSureCauseOf : Option (String Global) → Result (Option Version) (String Global) → ContextRecord → PlanFault → Type 0
+-- the sure causes to refuse a call: it has a subcommand, and stable's version is unknown, or one of the sure causes above holds
+abbrev pub IsSureCauseOf : Option (String Global) → Stable → ContextRecord → PlanFault → Type 0
 IsSureCauseOf None stable cx e = ⊥
-IsSureCauseOf (Some subcommand) stable cx e = IsSureCauseBy stable cx e
+IsSureCauseOf (Some subcommand) stable cx e = MatchResult (latest_of stable) (λ latest. IsSureCause cx latest e) (λ unknown. e ≡ unknown)

@@ -1,10 +1,10 @@
 -- What a package's sets are made of: its candidates, from its features and its rules.
-use Rattle.std.specs.Prelude.{◌==◌, ◌++◌, List, [], ◌∷◌, Bool, false, not, ◌&&◌, ◌||◌, Option, Some, filter, map, length, option_map, string_bytes, unwrap_or, if◌then◌else◌}
+use Rattle.std.specs.Prelude.{◌==◌, ◌++◌, List, [], ◌∷◌, Bool, false, not, ◌&&◌, ◌||◌, Option, Some, filter, map, length, unwrap_or, if◌then◌else◌}
 use Rattle.std.specs.List.{list_any, list_all}
 use Rattle.std.specs.Option.{option_map_or}
 use Rattle.std.specs.Str.{bytes_eq}
-use Rattle.hack_base.specs.Names.{Name, names_of}
-use Rattle.hack_features.specs.Feature.{group_of, groups_of}
+use Rattle.hack_base.specs.Names.{Name}
+use Rattle.hack_features.specs.Feature.{groups_of}
 use Rattle.hack_base.specs.Notes.{Note}
 use Rattle.hack_load.specs.declared.features.Features.{Features}
 use Rattle.hack_planner.specs.PackageRules.{PackageRulesRecord}

@@ -1,5 +1,5 @@
 -- What only private functions of the crate promise each other.
-use Rattle.std.specs.Prelude.{Option, None, Some, ℕ, List, true, Contains, IsTrue, IsSome, string_bytes, ◌≡◌, ◌≤◌, length}
+use Rattle.std.specs.Prelude.{Option, None, Some, ℕ, List, true, Contains, IsTrue, IsSome, string_bytes, ◌≡◌}
 use Rattle.hack_load.specs.Contexts.{ContextRecord}
 use Rattle.hack_versions.specs.declared.version.Version.{Version}
 use Rattle.hack_plan.specs.Inputs.{IsVersionsFault}
@@ -14,8 +14,6 @@ use Rattle.hack_planner.specs.Kinds.{most_questions}
 use Rattle.hack_planner.specs.declared.uses.Chosen.{Chosen}
 use Rattle.hack_planner.specs.PackageRules.{PackageRulesRecord}
 use Rattle.hack_features.specs.View.{asked_in}
-use Rattle.hack_features.specs.Sets.{IsListing}
-use Rattle.hack_features.specs.Rules.{Choice, IsListed}
 
 -- the error says that the range is refused
 abbrev pub SaysRangeRefused : PlanInput → Option Version → PlanFault → Type 0

@@ -1,5 +1,5 @@
 -- The rules by which a package's runs are chosen: those of the call, as they hold for the package.
-use Rattle.std.specs.Prelude.{ℕ, ◌&&◌, List, Bool, Option, filter, map, not, option_map, string_bytes}
+use Rattle.std.specs.Prelude.{ℕ, ◌&&◌, List, Bool, Option, filter, not, option_map, string_bytes}
 use Rattle.std.specs.List.{list_any}
 use Rattle.std.specs.Str.{bytes_eq}
 use Rattle.hack_base.specs.Names.{Name, names_of}

@@ -1,6 +1,6 @@
 -- What a package's rules are under `--package-rules`: the call's, those of the package's own table
 -- and those of the workspace's.
-use Rattle.std.specs.Prelude.{◌≡◌, ◌==◌, ◌++◌, ◌&&◌, ◌||◌, [], ◌∷◌, ℕ, List, Bool, true, false, not, Option, None, Some, Result, Ok, Err, filter, flat_map, fold, length, map, option_and_then, option_map, unwrap_or, if◌then◌else◌}
+use Rattle.std.specs.Prelude.{◌==◌, ◌++◌, ◌&&◌, ◌||◌, [], ◌∷◌, ℕ, List, Bool, not, Option, None, Some, Ok, Err, filter, flat_map, fold, length, map, option_map, unwrap_or, if◌then◌else◌}
 use Rattle.std.specs.List.{list_all, list_any}
 use Rattle.std.specs.Option.{option_or}
 use Rattle.std.specs.Result.{result_err}

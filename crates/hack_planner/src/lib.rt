@@ -20,6 +20,7 @@ pub mod parts;
 mod pattern_counts;
 pub mod plan;
 mod plan_notes;
+pub mod stable;
 mod tables;
 mod uses;
 mod words;

@@ -1,7 +1,7 @@
 //! The plan of a call: what is run, in order, given what was loaded.
 
-ghost use Rattle.std.specs.Prelude.{◌≡◌, ◌⊎◌, All, Contains, IfOk, IfErr, IfSome, IsSome, map};
-ghost use Rattle.std.specs.Prelude.{List, ℕ, None, Option, Ok, Some, true};
+ghost use Rattle.std.specs.Prelude.{◌≡◌, ◌≢◌, ◌⊎◌, All, Contains, IfOk, IfErr, IfSome, IsSome, map};
+ghost use Rattle.std.specs.Prelude.{List, ℕ, None, Some, true};
 ghost use Rattle.hack_metadata.specs.RecordViews.{place_at};
 ghost use Rattle.hack_load.specs.ContextView.{context_view};
 ghost use Rattle.hack_planner.specs.ContextMembers.{AreChosen, AreChoiceNotes, IsChoiceFault};
@@ -12,7 +12,7 @@ ghost use Rattle.hack_plan.specs.Inputs.{AreVersionsOf, AreNotices, IsVersionsFa
 ghost use Rattle.hack_plan.specs.View.{call_view};
 ghost use Rattle.hack_planner.specs.Calls.{IsInputOf, HasBadOwn, call_of, table_fault};
 ghost use Rattle.hack_planner.specs.CoveredSets.{AreCovered};
-ghost use Rattle.hack_planner.specs.CallPlan.{IsPlan, IsCause, IsPlanOf, IsCauseOf};
+ghost use Rattle.hack_planner.specs.CallPlan.{IsPlan, IsCause, IsPlanOf, IsCauseOf, latest_of};
 ghost use Rattle.hack_planner.specs.CallPlan.{IsPackagesCause, IsSureCause, IsSureCauseOf};
 ghost use Rattle.hack_planner.specs.Internal.{SaysRangeRefused};
 ghost use Rattle.hack_planner.specs.Powersets.{HavePowersets};
@@ -24,6 +24,7 @@ use crate::fault::{PackagesFault, PlanFault, of_packages, of_places, of_range};
 use crate::input::input;
 use crate::packages::PackageList;
 use crate::plan_notes::left_out;
+use crate::stable::Stable;
 use crate::tables::check_tables;
 use crate::uses::with_uses;
 use crate::words::call_words;
@@ -36,48 +37,47 @@ use hack_versions::rustup::RangeFault;
 use hack_versions::version::Version;
 use std::alloc::Global;
 
-/// The plan of a call, and its notices. `rustup` is the program to run as rustup. `stable` is the
-/// version of the toolchain `stable` where the range needs it, or the text of the error of asking
-/// for it.
+/// The plan of a call, and its notices. `rustup` is the program to run as rustup. `stable` is asked
+/// for where the range needs it.
 pub fn plan_of(
     alloc: Global,
     cx: &Context,
     rustup: &str,
-    stable: Result<Option<Version>, String>,
+    stable: Stable,
 ) -> Result<(Plan, Vec<Notice>), PlanFault>
     requires { IsSome (context_view cx.now).args.subcommand
         → IfSome (context_view cx.now).args.version_range (λ range. NeedsStable range
-        → IfOk stable (λ latest. IsSome latest)) }
+        → stable ≢ Stable.Unasked) }
     ensures ok { IfOk result (λ answer. IsPlanOf (context_view cx.now).args.subcommand stable
         (context_view cx.now) rustup.now answer.0 (map note_of answer.1.items)) }
 
     // Under a powerset each set of a package's candidates that has to be covered has a place.
-    ensures covered { (latest : Option Version) → stable ≡ Ok latest
-        → IsSome (context_view cx.now).args.subcommand
+    ensures covered { IfOk (latest_of stable) (λ latest.
+        IsSome (context_view cx.now).args.subcommand
         → (context_view cx.now).args.feature_powerset ≡ true
         → ¬ ((context_view cx.now).args.workspace_behavior ≡ Cargo)
-        → IfOk result (λ answer. AreCovered (context_view cx.now) latest answer.0) }
+        → IfOk result (λ answer. AreCovered (context_view cx.now) latest answer.0)) }
 
     // Under a powerset the sets of the runs of each chosen package that uses a version and has no
     // strength are exactly the listed ones, each once.
-    ensures powersets { (latest : Option Version) → stable ≡ Ok latest
-        → IsSome (context_view cx.now).args.subcommand
+    ensures powersets { IfOk (latest_of stable) (λ latest.
+        IsSome (context_view cx.now).args.subcommand
         → (context_view cx.now).args.feature_powerset ≡ true
-        → IfOk result (λ answer. HavePowersets (context_view cx.now) latest answer.0) }
+        → IfOk result (λ answer. HavePowersets (context_view cx.now) latest answer.0)) }
 
     // With a strength they are a sample of these: each of its sets is listed, and none is there
     // twice; and each pattern of at most so many candidates that some listed set shows is shown.
-    ensures samples { (latest : Option Version) → stable ≡ Ok latest
-        → IsSome (context_view cx.now).args.subcommand
+    ensures samples { IfOk (latest_of stable) (λ latest.
+        IsSome (context_view cx.now).args.subcommand
         → (context_view cx.now).args.feature_powerset ≡ true
-        → IfOk result (λ answer. HaveSamples (context_view cx.now) latest answer.0) }
+        → IfOk result (λ answer. HaveSamples (context_view cx.now) latest answer.0)) }
 
     // Each such pattern has a place, for each package, each version that it uses and each slot.
-    ensures patterns { (latest : Option Version) → stable ≡ Ok latest
-        → IsSome (context_view cx.now).args.subcommand
+    ensures patterns { IfOk (latest_of stable) (λ latest.
+        IsSome (context_view cx.now).args.subcommand
         → (context_view cx.now).args.feature_powerset ≡ true
         → ¬ ((context_view cx.now).args.workspace_behavior ≡ Cargo)
-        → IfOk result (λ answer. ArePatternsHeld (context_view cx.now) latest answer.0) }
+        → IfOk result (λ answer. ArePatternsHeld (context_view cx.now) latest answer.0)) }
 
     // Where a plan is returned no cause holds: the call is refused exactly where one does. (With a
     // strength the number of runs is that of the sample that was found.)
@@ -90,9 +90,9 @@ pub fn plan_of(
     if cx.args().subcommand.is_none() {
         return Ok((Plan::empty(alloc, words), Vec::new(alloc)));
     }
-    match stable {
+    match stable.latest() {
         Ok(latest) => plan_by(alloc, cx, words, latest),
-        Err(text) => Err(PlanFault::Stable(text)),
+        Err(fault) => Err(fault),
     }
 }
 

@@ -3,9 +3,8 @@ use Rattle.std.proofs.Common.{◌≡◌, List, [], ◌++◌, Option, inl, inr, r
 use Rattle.hack_process.specs.Calls.{Call}
 use Rattle.std.specs.Prelude.{◌⊎◌, Bool, Result, Ok, Err, OnOk, false, true}
 use Rattle.std.specs.Option.{unwrap_or}
-use Rattle.std.proofs.Common.{Global, String}
 use Rattle.hack_base.specs.Names.{Name}
-use Rattle.hack_versions.specs.declared.version.Version.{Version}
+use Rattle.hack_planner.specs.declared.stable.Stable.{Stable}
 use Rattle.hack_words.specs.declared.cli.args.Args.{Args}
 use Rattle.hack_load.specs.ContextOf.{IsContextFrom}
 use Rattle.hack_load.specs.Contexts.{ContextRecord}
@@ -29,7 +28,7 @@ scene_is {S} a turn state s e f h =
     ∙ ap (λ (t : S). record { turn = turn; state = state; starts = t }) h
 
 -- one history from fresh lanes on, and then the end of what is left
-pub ran_in_lanes : {S : Type 0} (did : List Event → S → S → Type 0) (cx : ContextRecord) (stable : Result (Option Version) (String Global)) (rustup : Name) (old : S) (a b c : Scene S)
+pub ran_in_lanes : {S : Type 0} (did : List Event → S → S → Type 0) (cx : ContextRecord) (stable : Stable) (rustup : Name) (old : S) (a b c : Scene S)
     → a.turn ≡ (scene_at (unwrap_or cx.args.parallel 1) old).turn → a.state ≡ (scene_at (unwrap_or cx.args.parallel 1) old).state → a.starts ≡ old
     → RunsOne did cx stable rustup a b → Goes did [] b c → c.state.pending ≡ [] → RunsInLanes did cx stable rustup old c.starts
 ran_in_lanes {S} did cx stable rustup old a b c turn state starts one ended none = record {
@@ -43,7 +42,7 @@ ran_in_lanes {S} did cx stable rustup old a b c turn state starts one ended none
 
 module _ {S : Type 0} (did : List Event → S → S → Type 0) (course : S → S → Type 0) (more : (a b c : S) → course a b → course b c → course a c) (talks : Type 0) (calls : S → List Call) where
   -- a context that was made for the arguments was performed in lanes, or listed
-  pub follows_in_lanes : {T E : Type 0} (r : Result T E) (args : Args) (answers : Answers) (cx : ContextRecord) (stable : Result (Option Version) (String Global)) (rustup : Name) (old before new : S)
+  pub follows_in_lanes : {T E : Type 0} (r : Result T E) (args : Args) (answers : Answers) (cx : ContextRecord) (stable : Stable) (rustup : Name) (old before new : S)
       → course old before → (talks → AsksStable rustup stable (calls old) (calls before)) → IsContextFrom args answers cx → (cx.args.print_command_list ≡ true → course before new)
       → OnOk r ((cx.args.print_command_list ≡ true) ⊎ RunsInLanes did cx stable rustup before new) → OnOk r (FollowsInLanes did course talks calls true args answers rustup old new)
   follows_in_lanes (Err e) args answers cx stable rustup old before new between asked context lists h = tt
@@ -52,7 +51,7 @@ module _ {S : Type 0} (did : List Event → S → S → Type 0) (course : S → 
   follows_in_lanes (Ok v) args answers cx stable rustup old before new between asked context lists (inr ran) = inr (cx, context, stable, before, between, asked, ran)
 
   -- the same, where an error may have ended it
-  pub may_follow_in_lanes : (args : Args) (answers : Answers) (cx : ContextRecord) (stable : Result (Option Version) (String Global)) (rustup : Name) (old before new : S) (lists : Bool)
+  pub may_follow_in_lanes : (args : Args) (answers : Answers) (cx : ContextRecord) (stable : Stable) (rustup : Name) (old before new : S) (lists : Bool)
       → cx.args.print_command_list ≡ lists → course old before → (talks → AsksStable rustup stable (calls old) (calls before)) → IsContextFrom args answers cx → (cx.args.print_command_list ≡ true → course before new)
       → (cx.args.print_command_list ≡ false → MayRunInLanes did cx stable rustup before new) → FollowsInLanes did course talks calls false args answers rustup old new
   may_follow_in_lanes args answers cx stable rustup old before new true is between asked context lists may = inl (more old before new between (lists is), inl refl)

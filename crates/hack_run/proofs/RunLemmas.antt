@@ -1,5 +1,5 @@
 -- One history of a plan: its calls, and what a list writes.
-use Rattle.std.proofs.Common.{◌≡◌, ◌⊎◌, inl, inr, refl, arith, ap, zero, suc, Result, Ok, Err, OnOk, ℕ, Global, String, List, [], ◌∷◌, ◌++◌, filter, All, Bool, Option, Some, None, IsSome, ◌∙◌, sym, subst, append-nil, append_assoc, if◌then◌else◌, true, false}
+use Rattle.std.proofs.Common.{◌≡◌, ◌⊎◌, inl, inr, refl, arith, ap, zero, suc, Result, Ok, Err, OnOk, ℕ, List, [], ◌∷◌, ◌++◌, filter, All, Bool, Option, Some, None, IsSome, ◌∙◌, sym, subst, append-nil, append_assoc, if◌then◌else◌, true, false}
 use Rattle.std.specs.Prelude.{MatchBool, ◌≤◌, ◌<◌, ◌^◌, ◌||◌, nat_lt}
 use Rattle.std.specs.List.{flat_map}
 use Rattle.std.specs.Io.KnownBytes.{Appends, Keeps, append_known}
@@ -26,7 +26,7 @@ use Rattle.hack_session.specs.declared.step.Outcome.TheVariants.{Passed, Failed}
 use Rattle.hack_base.specs.Counters.{GrowsBy}
 use Rattle.hack_base.specs.Names.{Name}
 use Rattle.hack_load.specs.Contexts.{ContextRecord}
-use Rattle.hack_versions.specs.declared.version.Version.{Version}
+use Rattle.hack_planner.specs.declared.stable.Stable.{Stable}
 use Rattle.hack_base.specs.Notes.{Note}
 use Rattle.hack_planner.proofs.Performing.{performable}
 use Rattle.hack_planner.specs.CallPlan.{IsPerformableOf, IsPlanOf}
@@ -158,7 +158,7 @@ wrote_end : (had has out : Option (List ℕ)) (text : List ℕ) → WritesText t
 wrote_end had has out text w kept = Appends-kept had has out text w kept
 
 -- a list whose end was written: its output grew by its lines
-pub list_ends : {T E : Type 0} (r : Result T E) (refused none short flushed quiet tells : Type 0) (cx : ContextRecord) (stable : Result (Option Version) (String Global)) (rustup : Name) (warned : Bool) (old mid : HostView) (begun gathered : List ℕ) (out : Option (List ℕ))
+pub list_ends : {T E : Type 0} (r : Result T E) (refused none short flushed quiet tells : Type 0) (cx : ContextRecord) (stable : Stable) (rustup : Name) (warned : Bool) (old mid : HostView) (begun gathered : List ℕ) (out : Option (List ℕ))
     → begun ≡ [] → OnOk r (refused × none × short × flushed) → (refused → none → short → quiet → tells → PerformsOne true true cx stable rustup warned (host_writing begun old) (host_writing gathered mid))
     → (flushed → Keeps (append_known mid.out gathered) out) → OnOk r (quiet → tells → PerformsOne true true cx stable rustup warned old (record mid { out = out }))
 list_ends (Err e) refused none short flushed quiet tells cx stable rustup warned old mid begun gathered out empty came done kept = tt
@@ -194,7 +194,7 @@ shown_then (Some x) (Some y) (Some z) left text w k g =
     (g.0, left ++ w.1, w.2 ∙ ap (λ l. l ++ w.1) (sym front) ∙ append_assoc g.0 left w.1, g.1)
 
 -- a list whose end was written, or a part of it
-pub list_shows : (cx : ContextRecord) (stable : Result (Option Version) (String Global)) (rustup : Name) (old mid : HostView) (begun gathered left : List ℕ) (out : Option (List ℕ))
+pub list_shows : (cx : ContextRecord) (stable : Stable) (rustup : Name) (old mid : HostView) (begun gathered left : List ℕ) (out : Option (List ℕ))
     → begun ≡ [] → PerformsAtMostOne true cx stable rustup (host_writing begun old) (host_writing gathered mid) → Keeps (append_known mid.out gathered) (append_known out left) → Extends old.out out → PerformsAtMostOne true cx stable rustup old (record mid { out = out })
 list_shows cx stable rustup old mid begun gathered left out empty made kept grown = go made
   where
@@ -221,7 +221,7 @@ list_shows cx stable rustup old mid begun gathered left out empty made kept grow
     })
 
 -- what a runner keeps through notices and steps, it keeps where a list was handed over
-pub handed_keeps : {R N : Type 0} (whole : Type 0) (had has : Option (List ℕ)) (Told : List Note → R → R → Type 0) (Ran : PlanView → List Handed → R → R → Type 0) (cx : ContextRecord) (stable : Result (Option Version) (String Global)) (rustup : Name) (a b : R)
+pub handed_keeps : {R N : Type 0} (whole : Type 0) (had has : Option (List ℕ)) (Told : List Note → R → R → Type 0) (Ran : PlanView → List Handed → R → R → Type 0) (cx : ContextRecord) (stable : Stable) (rustup : Name) (a b : R)
     → HandsOverAtMostOne whole had has Told Ran cx stable rustup a b
     → (name : R → N) → ((notes : List Note) (x y : R) → Told notes x y → name x ≡ name y) → ((plan : PlanView) (steps : List Handed) (x y : R) → Ran plan steps x y → name x ≡ name y) → name a ≡ name b
 handed_keeps whole had has Told Ran cx stable rustup a b (inl (inl same, kept)) name told ran = ap name (sym same)
@@ -229,7 +229,7 @@ handed_keeps whole had has Told Ran cx stable rustup a b (inl (inr some, kept)) 
 handed_keeps whole had has Told Ran cx stable rustup a b (inr l) name told ran = told l.notes a l.mid l.told ∙ ran l.course.plan (filter is_sent l.course.handed) l.mid b l.ran
 
 -- a caller whose course the steps keep is in that course where a list was handed over
-pub handed_in_course : {R S : Type 0} (whole : Type 0) (had has : Option (List ℕ)) (Told : List Note → R → R → Type 0) (Ran : PlanView → List Handed → R → R → Type 0) (cx : ContextRecord) (stable : Result (Option Version) (String Global)) (rustup : Name) (a b : R)
+pub handed_in_course : {R S : Type 0} (whole : Type 0) (had has : Option (List ℕ)) (Told : List Note → R → R → Type 0) (Ran : PlanView → List Handed → R → R → Type 0) (cx : ContextRecord) (stable : Stable) (rustup : Name) (a b : R)
     → HandsOverAtMostOne whole had has Told Ran cx stable rustup a b → (state : R → S) (course : S → S → Type 0) → ((s : S) → course s s)
     → ((notes : List Note) (x y : R) → Told notes x y → state y ≡ state x) → ((plan : PlanView) (steps : List Handed) (x y : R) → Ran plan steps x y → course (state x) (state y)) → course (state a) (state b)
 handed_in_course whole had has Told Ran cx stable rustup a b (inl (inl same, kept)) state course none told ran = subst (λ r. course (state a) (state r)) (sym same) (none (state a))
@@ -238,7 +238,7 @@ handed_in_course whole had has Told Ran cx stable rustup a b (inr l) state cours
     subst (λ s. course s (state b)) (told l.notes a l.mid l.told) (ran l.course.plan (filter is_sent l.course.handed) l.mid b l.ran)
 
 -- a list that was handed over to a runner whose steps make just their calls
-pub handed_makes : {R : Type 0} (whole : Type 0) (had has : Option (List ℕ)) (Told : List Note → R → R → Type 0) (Ran : PlanView → List Handed → R → R → Type 0) (cx : ContextRecord) (stable : Result (Option Version) (String Global)) (rustup : Name) (a b : R)
+pub handed_makes : {R : Type 0} (whole : Type 0) (had has : Option (List ℕ)) (Told : List Note → R → R → Type 0) (Ran : PlanView → List Handed → R → R → Type 0) (cx : ContextRecord) (stable : Stable) (rustup : Name) (a b : R)
     → HandsOverAtMostOne whole had has Told Ran cx stable rustup a b → whole
     → (calls : R → List Call) (refused : R → ℕ) (was now : Term) (fails : Bool) → ((notes : List Note) (x y : R) → Told notes x y → calls y ≡ calls x)
     → ((plan : PlanView) (steps : List Handed) (x y : R) → Ran plan steps x y → HasPerformed plan steps (calls x) (calls y) (refused x) (refused y))
@@ -324,7 +324,7 @@ calls_from course mid old new before now same h =
     subst (λ (calls : List Call). MakesCalls (λ made. PerformsAll course.plan course.handed made h.cut) calls new) same (record { made = h.made; grown = h.grown; such = h.performed })
 
 -- one history of a plan, each step of which passed where no error was reported
-pub runs_one : (cx : ContextRecord) (stable : Result (Option Version) (String Global)) (rustup : Name) (course : Course) (notes : List Note) (old new : HostView) (mid : List Call) (before now : ℕ) (term : Term) (fault : Option ProcessFault) → mid ≡ old.calls
+pub runs_one : (cx : ContextRecord) (stable : Stable) (rustup : Name) (course : Course) (notes : List Note) (old new : HostView) (mid : List Call) (before now : ℕ) (term : Term) (fault : Option ProcessFault) → mid ≡ old.calls
     → IsPlanOf cx.args.subcommand stable cx rustup course.plan notes → cx.args.find_conflicts ≡ false → cx.args.find_rust_version ≡ false → IsDriven cx.args.partition cx.args.keep_going course → HasPerformed course.plan course.handed mid new.calls before now
     → (All HasPassed course.handed → MakesStarted mid new.calls) → (All HasPassed course.handed ⊎ HasTold term.error fault) → Warned notes old.term.warn new.term.warn → new.fails ≡ old.fails → fault ≡ None → term.error ≡ false → PerformsOne true false cx stable rustup old.term.warn old new
 runs_one cx stable rustup course notes old new mid before now term fault same planned apart off driven performed started told warned kept none quiet = record {
@@ -344,7 +344,7 @@ runs_one cx stable rustup course notes old new mid before now term fault same pl
   counted = λ e. warned;
 }
 
-some_search : (cx : ContextRecord) (stable : Result (Option Version) (String Global)) (rustup : Name) (course : Course) (notes : List Note) (fails warns : Bool) (old new : HostView) (mid : List Call) (before now : ℕ) → mid ≡ old.calls
+some_search : (cx : ContextRecord) (stable : Stable) (rustup : Name) (course : Course) (notes : List Note) (fails warns : Bool) (old new : HostView) (mid : List Call) (before now : ℕ) → mid ≡ old.calls
     → IsPlannedAsAsked (IsPerformableOf cx.args.subcommand stable cx rustup) true false cx rustup course notes fails warns → is_search false cx.args ≡ true → HasPerformed course.plan course.handed mid new.calls before now → MakesStarted mid new.calls
     → before ≡ 0 → now ≡ 0 → new.fails ≡ (fails || old.fails) → Warned notes (warns || old.term.warn) new.term.warn → PerformsOne true false cx stable rustup old.term.warn old new
 some_search cx stable rustup course notes fails warns old new mid before now same planned on performed started first last kept warned = record {
@@ -365,21 +365,21 @@ some_search cx stable rustup course notes fails warns old new mid before now sam
 }
 
 -- one search for conflicts, where no error was reported
-pub hunts_one : (cx : ContextRecord) (stable : Result (Option Version) (String Global)) (rustup : Name) (course : Course) (notes : List Note) (fails warns : Bool) (old new : HostView) (mid : List Call) (before now : ℕ) → mid ≡ old.calls
+pub hunts_one : (cx : ContextRecord) (stable : Stable) (rustup : Name) (course : Course) (notes : List Note) (fails warns : Bool) (old new : HostView) (mid : List Call) (before now : ℕ) → mid ≡ old.calls
     → cx.args.find_conflicts ≡ true → IsHuntedOut true cx rustup course notes fails warns → HasPerformed course.plan course.handed mid new.calls before now → MakesStarted mid new.calls
     → before ≡ 0 → now ≡ 0 → new.fails ≡ (fails || old.fails) → Warned notes (warns || old.term.warn) new.term.warn → PerformsOne true false cx stable rustup old.term.warn old new
 hunts_one cx stable rustup course notes fails warns old new mid before now same on out performed started first last kept warned =
     some_search cx stable rustup course notes fails warns old new mid before now same (planned_hunt (IsPerformableOf cx.args.subcommand stable cx rustup) true cx rustup course notes fails warns on out) (hunted cx.args on) performed started first last kept warned
 
 -- one search for versions, where no error was reported
-pub searches_one : (cx : ContextRecord) (stable : Result (Option Version) (String Global)) (rustup : Name) (course : Course) (notes : List Note) (fails warns : Bool) (old new : HostView) (mid : List Call) (before now : ℕ) → mid ≡ old.calls
+pub searches_one : (cx : ContextRecord) (stable : Stable) (rustup : Name) (course : Course) (notes : List Note) (fails warns : Bool) (old new : HostView) (mid : List Call) (before now : ℕ) → mid ≡ old.calls
     → IsPlanOf cx.args.subcommand stable cx rustup course.plan notes → cx.args.find_conflicts ≡ false → cx.args.find_rust_version ≡ true → IsSearchedOut true cx course.plan course.handed fails warns → HasPerformed course.plan course.handed mid new.calls before now → MakesStarted mid new.calls
     → before ≡ 0 → now ≡ 0 → new.fails ≡ (fails || old.fails) → Warned notes (warns || old.term.warn) new.term.warn → PerformsOne true false cx stable rustup old.term.warn old new
 searches_one cx stable rustup course notes fails warns old new mid before now same planned apart on out performed started first last kept warned =
     some_search cx stable rustup course notes fails warns old new mid before now same (planned_search (IsPerformableOf cx.args.subcommand stable cx rustup) true cx rustup course notes fails warns apart on (performable cx.args.subcommand stable cx rustup course.plan notes planned) out) (searched cx.args apart on) performed started first last kept warned
 
 -- what was handed out, whatever came of its steps
-pub runs_some : (cx : ContextRecord) (stable : Result (Option Version) (String Global)) (rustup : Name) (course : Course) (notes : List Note) (old new : HostView) (mid : List Call) (before now : ℕ) → mid ≡ old.calls
+pub runs_some : (cx : ContextRecord) (stable : Stable) (rustup : Name) (course : Course) (notes : List Note) (old new : HostView) (mid : List Call) (before now : ℕ) → mid ≡ old.calls
     → IsPlannedAsAsked (IsPlanOf cx.args.subcommand stable cx rustup) false false cx rustup course notes false false → HasPerformed course.plan course.handed mid new.calls before now → PerformsAtMostOne false cx stable rustup old new
 runs_some cx stable rustup course notes old new mid before now same planned performed = inr (record {
   course = course;
@@ -403,7 +403,7 @@ pub performed_to : (plan : PlanView) (handed : List Handed) (old new other : Lis
 performed_to plan handed old new other before now same h = subst (λ (calls : List Call). HasPerformed plan handed old calls before now) same h
 
 -- a list that was handed over, each step of which passed or was listed where no error was reported
-pub lists_one : {R : Type 0} (had has : Option (List ℕ)) (Told : List Note → R → R → Type 0) (Ran : PlanView → List Handed → R → R → Type 0) (cx : ContextRecord) (stable : Result (Option Version) (String Global)) (rustup : Name) (a b : R) (l : ListsOver (Unit {0}) had has Told Ran cx stable rustup a b)
+pub lists_one : {R : Type 0} (had has : Option (List ℕ)) (Told : List Note → R → R → Type 0) (Ran : PlanView → List Handed → R → R → Type 0) (cx : ContextRecord) (stable : Stable) (rustup : Name) (a b : R) (l : ListsOver (Unit {0}) had has Told Ran cx stable rustup a b)
     → (calls : R → List Call) (before now : ℕ) (was term : Term) (fails : Bool) (fault : Option ProcessFault) → calls l.over.mid ≡ calls a → HasPerformed l.over.course.plan (filter is_sent l.over.course.handed) (calls l.over.mid) (calls b) before now
     → (All HasPassed (filter is_sent l.over.course.handed) → MakesStarted (calls l.over.mid) (calls b)) → (All HasPassed (filter is_sent l.over.course.handed) ⊎ HasTold term.error fault) → Warned l.over.notes was.warn term.warn → fault ≡ None → term.error ≡ false
     → PerformsOne true true cx stable rustup was.warn (record { calls = calls a; out = had; term = was; fails = fails }) (record { calls = calls b; out = has; term = term; fails = fails })
@@ -425,7 +425,7 @@ lists_one had has Told Ran cx stable rustup a b l calls before now was term fail
 }
 
 -- whatever is noted afterwards, one history at most was performed
-pub some_told : (listing : Bool) (cx : ContextRecord) (stable : Result (Option Version) (String Global)) (rustup : Name) (old new : HostView) (now : Term) → PerformsAtMostOne listing cx stable rustup old new
+pub some_told : (listing : Bool) (cx : ContextRecord) (stable : Stable) (rustup : Name) (old new : HostView) (now : Term) → PerformsAtMostOne listing cx stable rustup old new
     → PerformsAtMostOne listing cx stable rustup old (record new { term = now })
 some_told listing cx stable rustup old new now (inl h) = inl h
 some_told listing cx stable rustup old new now (inr h) = inr (one_told false listing cx stable rustup old.term.warn old new old.term now (λ e. unended e) h)

@@ -39,7 +39,8 @@ use Rattle.hack_term.specs.declared.log_group.LogGroup.{LogGroup}
 use Rattle.hack_term.specs.declared.log_group.LogGroup.TheVariants as log
 use Rattle.hack_term.specs.declared.term.Coloring.{Coloring}
 use Rattle.hack_term.specs.declared.term.Term.{Term}
-use Rattle.hack_versions.specs.declared.version.Version.{Version}
+use Rattle.hack_planner.specs.declared.stable.Stable.{Stable}
+use Rattle.hack_planner.specs.declared.stable.Stable.TheVariants.{Unasked}
 use Rattle.hack_words.specs.declared.cli.args.Args.{Args}
 use Rattle.hack_words.specs.declared.cli.env.Env.{Env}
 use Rattle.hack_words.specs.declared.cli.parse.Parsed.{Parsed}
@@ -65,7 +66,7 @@ abbrev pub group_for : Bool → Args → LogGroup
 group_for listing args = if listing then log.None else args.log_group
 
 -- the notices were printed by a starter, and then the steps performed, which began at these streams
-pub steps_said : {C O E : Type 0} (tells : Type 0) (listing : Bool) (calls : C → List Call) (e : Taking E) (cx : ContextRecord) (stable : Result (Option Version) (String Global)) (rustup : Name) (kept : Option ProcessFault)
+pub steps_said : {C O E : Type 0} (tells : Type 0) (listing : Bool) (calls : C → List Call) (e : Taking E) (cx : ContextRecord) (stable : Stable) (rustup : Name) (kept : Option ProcessFault)
     (course : Course) (notes : List Note) (fails warns : Bool) (start mid : Starter C O E) (begun : Streams) (last : State) (term : Term) (old new : Scene)
     → IsPlannedAsAsked (IsPlanOf cx.args.subcommand stable cx rustup) false listing cx rustup course notes fails warns
     → calls start.caller.now ≡ old.calls → start.term.now ≡ term → stream_of e start.err.now ≡ old.streams.err → start.fault.now ≡ kept → start.refused ≡ 0
@@ -104,7 +105,7 @@ steps_said {C} {O} {E} tells listing calls e cx stable rustup kept course notes 
     }
 
 -- the same of a session
-pub steps_handed : {C O E : Type 0} (tells : Type 0) (calls : C → List Call) (e : Taking E) (cx : ContextRecord) (stable : Result (Option Version) (String Global)) (rustup : Name) (kept : Option ProcessFault)
+pub steps_handed : {C O E : Type 0} (tells : Type 0) (calls : C → List Call) (e : Taking E) (cx : ContextRecord) (stable : Stable) (rustup : Name) (kept : Option ProcessFault)
     (course : Course) (notes : List Note) (fails warns : Bool) (start mid : Starter C O E) (begun : Streams) (last : State) (term : Term) (old new : Scene)
     → IsPlannedAsAsked (IsPlanOf cx.args.subcommand stable cx rustup) false false cx rustup course notes fails warns
     → calls start.caller.now ≡ old.calls → start.term.now ≡ term → stream_of e start.err.now ≡ old.streams.err → start.fault.now ≡ kept → start.refused ≡ 0
@@ -123,7 +124,7 @@ steps_handed tells calls e cx stable rustup kept course notes fails warns start 
 }
 
 -- the same of a search, whose conclusion was said behind them
-pub steps_searched : {C O E : Type 0} (tells : Type 0) (calls : C → List Call) (e : Taking E) (cx : ContextRecord) (stable : Result (Option Version) (String Global)) (rustup : Name) (kept left : Option ProcessFault) (reported : Bool)
+pub steps_searched : {C O E : Type 0} (tells : Type 0) (calls : C → List Call) (e : Taking E) (cx : ContextRecord) (stable : Stable) (rustup : Name) (kept left : Option ProcessFault) (reported : Bool)
     (course : Course) (notes : List Note) (fails warns : Bool) (start mid : Starter C O E) (begun : Streams) (last : State) (term : Term) (old between new : Scene) (conclusion : Conclusion)
     → IsPlannedAsAsked (IsPlanOf cx.args.subcommand stable cx rustup) false false cx rustup course notes fails warns
     → calls start.caller.now ≡ old.calls → start.term.now ≡ term → stream_of e start.err.now ≡ old.streams.err → start.fault.now ≡ kept → start.refused ≡ 0
@@ -143,7 +144,7 @@ steps_searched tells calls e cx stable rustup kept left reported course notes fa
 }
 
 -- the same of a list
-pub steps_listed : {C O E : Type 0} (tells : Type 0) (calls : C → List Call) (e : Taking E) (cx : ContextRecord) (stable : Result (Option Version) (String Global)) (rustup : Name) (now : Option ProcessFault) (reported : Bool)
+pub steps_listed : {C O E : Type 0} (tells : Type 0) (calls : C → List Call) (e : Taking E) (cx : ContextRecord) (stable : Stable) (rustup : Name) (now : Option ProcessFault) (reported : Bool)
     (course : Course) (notes : List Note) (fails warns : Bool) (start mid : Starter C O E) (begun : Streams) (last : State) (term : Term) (old new : Scene)
     → IsPlannedAsAsked (IsPlanOf cx.args.subcommand stable cx rustup) false true cx rustup course notes fails warns
     → calls start.caller.now ≡ old.calls → start.term.now ≡ term → stream_of e start.err.now ≡ old.streams.err → start.fault.now ≡ None → start.refused ≡ 0
@@ -160,7 +161,7 @@ steps_listed tells calls e cx stable rustup now reported course notes fails warn
 )
 
 -- what a list says doesn't hang on where its lines go
-pub said_elsewhere : (tells : Type 0) (cx : ContextRecord) (stable : Result (Option Version) (String Global)) (rustup : Name) (kept : Option ProcessFault) (looks : Looks) (old new other : Scene) → other.calls ≡ new.calls → other.streams.err ≡ new.streams.err
+pub said_elsewhere : (tells : Type 0) (cx : ContextRecord) (stable : Stable) (rustup : Name) (kept : Option ProcessFault) (looks : Looks) (old new other : Scene) → other.calls ≡ new.calls → other.streams.err ≡ new.streams.err
     → SaysSteps tells true cx stable rustup kept looks old new → SaysSteps tells true cx stable rustup kept looks old other
 said_elsewhere tells cx stable rustup kept looks old new other calls err h = record {
   course = h.course;
@@ -201,7 +202,7 @@ comes_by came cx looks now course last kept old new is h = subst (λ (o : Option
     (λ failed. (came ≡ Err (fault.Process failed)) × (new ≡ old))) (sym is) h
 
 -- the session is one where no search is asked for, and none where one is
-module _ (tells : Type 0) (cx : ContextRecord) (stable : Result (Option Version) (String Global)) (rustup : Name) (looks now : Looks) (old hands new : Scene) (left : Option ProcessFault) (came : Result (Unit {0}) RunFault)
+module _ (tells : Type 0) (cx : ContextRecord) (stable : Stable) (rustup : Name) (looks now : Looks) (old hands new : Scene) (left : Option ProcessFault) (came : Result (Unit {0}) RunFault)
     (calls : new.calls ≡ hands.calls) (out : new.streams.out ≡ hands.streams.out) (same : now ≡ reported_on now.reported looks) where
   said-by : (session : Option Course) (reported : Bool) (h : HandsSteps tells cx stable rustup None left reported looks session old hands)
       → ((conclusion : Conclusion) → session ≡ None → ConcludesSo cx rustup h.steps.course h.steps.notes h.steps.fails h.steps.warns (has_ended h.steps.last.kept h.steps.last.refused) conclusion
@@ -235,7 +236,7 @@ left_by : (came : Result (Unit {0}) RunFault) (left known : Option ProcessFault)
 left_by came left known is h = subst (λ (o : Option ProcessFault). MatchOption o (came ≡ Ok tt) (λ failed. came ≡ Err (fault.Process failed))) (sym is) h
 
 -- steps were said, and no report after them, since they were stopped
-pub said_stopped : (failed : ProcessFault) (left : Option ProcessFault) (tells : Type 0) (cx : ContextRecord) (stable : Result (Option Version) (String Global)) (rustup : Name) (looks now : Looks) (session : Option Course) (old new : Scene)
+pub said_stopped : (failed : ProcessFault) (left : Option ProcessFault) (tells : Type 0) (cx : ContextRecord) (stable : Stable) (rustup : Name) (looks now : Looks) (session : Option Course) (old new : Scene)
     → HandsSteps tells cx stable rustup None left now.reported looks session old new → left ≡ Some failed → now ≡ reported_on now.reported looks → SaysRuns (Err (fault.Process failed)) tells cx stable rustup looks now old new
 said_stopped failed left tells cx stable rustup looks now session old new h is same =
     said-by tells cx stable rustup looks now old new new left (Err (fault.Process failed)) refl refl same session now.reported h
@@ -249,7 +250,7 @@ said_stopped failed left tells cx stable rustup looks now session old new h is s
     (λ one kept told quiet. comes_by (Err (fault.Process failed)) cx looks now h.steps.course h.steps.last (Some failed) h.mid.streams.err new.streams.err (sym kept ∙ is) (refl, quiet))
 
 -- ... or since memory was refused for it
-pub said_unreported : (came : Result (Unit {0}) RunFault) (left : Option ProcessFault) (reported : Bool) (tells : Type 0) (cx : ContextRecord) (stable : Result (Option Version) (String Global)) (rustup : Name) (looks now : Looks) (course : Course) (old hands new : Scene)
+pub said_unreported : (came : Result (Unit {0}) RunFault) (left : Option ProcessFault) (reported : Bool) (tells : Type 0) (cx : ContextRecord) (stable : Stable) (rustup : Name) (looks now : Looks) (course : Course) (old hands new : Scene)
     → HandsSteps tells cx stable rustup None left reported looks (Some course) old hands → left ≡ None → came ≡ Err fault.Memory → new.calls ≡ hands.calls → new.streams.out ≡ hands.streams.out
     → SaysCutReport looks.coloring course hands.streams.err new.streams.err → now ≡ reported_on now.reported looks → SaysRuns came tells cx stable rustup looks now old new
 said_unreported came left reported tells cx stable rustup looks now course old hands new h none is calls out cut same =
@@ -259,7 +260,7 @@ said_unreported came left reported tells cx stable rustup looks now course old h
     (inl (is, subst (λ (s : Stream). SaysCutReport looks.coloring h.steps.course s new.streams.err) quiet (subst (λ (t : Course). SaysCutReport looks.coloring t hands.streams.err new.streams.err) (some-same one) cut))))
 
 -- ... and the report
-pub said_reported : (left : Option ProcessFault) (reported : Bool) (tells : Type 0) (cx : ContextRecord) (stable : Result (Option Version) (String Global)) (rustup : Name) (looks now : Looks) (course : Course) (old hands new : Scene)
+pub said_reported : (left : Option ProcessFault) (reported : Bool) (tells : Type 0) (cx : ContextRecord) (stable : Stable) (rustup : Name) (looks now : Looks) (course : Course) (old hands new : Scene)
     → HandsSteps tells cx stable rustup None left reported looks (Some course) old hands → left ≡ None → new.calls ≡ hands.calls → new.streams.out ≡ hands.streams.out
     → SaysReport looks.coloring cx course hands.streams.err new.streams.err → now.reported ≡ (reported || are_reported course) → now ≡ reported_on now.reported looks → SaysRuns (Ok tt) tells cx stable rustup looks now old new
 said_reported left reported tells cx stable rustup looks now course old hands new h none calls out report noted same =
@@ -273,7 +274,7 @@ said_reported left reported tells cx stable rustup looks now course old hands ne
     )))
 
 -- a search's steps were said, and its conclusion
-pub said_found : (left : Option ProcessFault) (tells : Type 0) (cx : ContextRecord) (stable : Result (Option Version) (String Global)) (rustup : Name) (looks now : Looks) (session : Option Course) (old new : Scene)
+pub said_found : (left : Option ProcessFault) (tells : Type 0) (cx : ContextRecord) (stable : Stable) (rustup : Name) (looks now : Looks) (session : Option Course) (old new : Scene)
     → HandsSteps tells cx stable rustup None left now.reported looks session old new → left ≡ None → session ≡ None → now ≡ reported_on now.reported looks → SaysRuns (Ok tt) tells cx stable rustup looks now old new
 said_found left tells cx stable rustup looks now session old new h none nothing same =
     said-by tells cx stable rustup looks now old new new left (Ok tt) refl refl same session now.reported h
@@ -323,7 +324,7 @@ line_unwritten old mid new short true missed h last (full, inl some) = elim h.ca
 ]
 
 -- a list's steps were said, or there is no plan
-pub list_said : (Unwritten : Type 0) (refused : Result Bool PlanFault) (kept : Option ProcessFault) (came : Result (Unit {0}) RunFault) (tells : Type 0) (cx : ContextRecord) (stable : Result (Option Version) (String Global)) (rustup : Name) (looks now : Looks) (old mid new : Scene)
+pub list_said : (Unwritten : Type 0) (refused : Result Bool PlanFault) (kept : Option ProcessFault) (came : Result (Unit {0}) RunFault) (tells : Type 0) (cx : ContextRecord) (stable : Stable) (rustup : Name) (looks now : Looks) (old mid new : Scene)
     → IfOk refused (λ short. ListsSteps tells cx stable rustup kept now.reported looks old mid) → IfErr refused (HasNoPlan true cx stable looks now old mid) → EndsList Unwritten refused kept came → (Unwritten → HasFailed old.streams.out.failed new.streams.out.failed) → now ≡ reported_on now.reported looks → new.calls ≡ mid.calls → new.streams.err ≡ mid.streams.err
     → SaysNoPlan came true cx stable looks now old new ⊎ SaysStarved came looks now old new ⊎ SaysList came tells cx stable rustup looks now old new
 unfolding said_elsewhere
@@ -341,14 +342,14 @@ refused_said (Ok short) h cause f = tt
 refused_said (Err e) h cause f = f e h cause
 
 -- a plan is listed, where that is asked for
-pub plan_listed : (came : Result (Unit {0}) RunFault) (tells : Type 0) (cx : ContextRecord) (stable : Result (Option Version) (String Global)) (rustup : Name) (looks now : Looks) (old new : Scene) → cx.args.print_command_list ≡ true
+pub plan_listed : (came : Result (Unit {0}) RunFault) (tells : Type 0) (cx : ContextRecord) (stable : Stable) (rustup : Name) (looks now : Looks) (old new : Scene) → cx.args.print_command_list ≡ true
     → SaysNoPlan came true cx stable looks now old new ⊎ SaysStarved came looks now old new ⊎ SaysList came tells cx stable rustup looks now old new → SaysPlan came tells cx stable rustup looks now old new
 plan_listed came tells cx stable rustup looks now old new is (inl none) = inl (subst (λ (b : Bool). SaysNoPlan came b cx stable looks now old new) (sym is) none)
 plan_listed came tells cx stable rustup looks now old new is (inr said) =
     inr (subst (λ (b : Bool). MatchBool b (SaysStarved came looks now old new ⊎ SaysList came tells cx stable rustup looks now old new) (SaysRuns came tells cx stable rustup looks now old new)) (sym is) said)
 
 -- ... else its runs are performed
-pub plan_run : (came : Result (Unit {0}) RunFault) (tells : Type 0) (cx : ContextRecord) (stable : Result (Option Version) (String Global)) (rustup : Name) (looks now : Looks) (old new : Scene) → cx.args.print_command_list ≡ false
+pub plan_run : (came : Result (Unit {0}) RunFault) (tells : Type 0) (cx : ContextRecord) (stable : Stable) (rustup : Name) (looks now : Looks) (old new : Scene) → cx.args.print_command_list ≡ false
     → SaysNoPlan came false cx stable looks now old new ⊎ SaysRuns came tells cx stable rustup looks now old new → SaysPlan came tells cx stable rustup looks now old new
 plan_run came tells cx stable rustup looks now old new is (inl none) = inl (subst (λ (b : Bool). SaysNoPlan came b cx stable looks now old new) (sym is) none)
 plan_run came tells cx stable rustup looks now old new is (inr said) =
@@ -357,9 +358,9 @@ plan_run came tells cx stable rustup looks now old new is (inr said) =
 -- ---- a call
 
 -- what follows the questions: the notices, and the plan
-pub follows_said : (came : Result (Unit {0}) RunFault) (talks tells : Type 0) (held : Contents) (args : Args) (answers : Answers) (rustup : Name) (a b d : Term) (now : Looks) (cx : ContextRecord) (stable : Result (Option Version) (String Global)) (calls : List Call) (warned edited : Stream) (old new : Scene)
+pub follows_said : (came : Result (Unit {0}) RunFault) (talks tells : Type 0) (held : Contents) (args : Args) (answers : Answers) (rustup : Name) (a b d : Term) (now : Looks) (cx : ContextRecord) (stable : Stable) (calls : List Call) (warned edited : Stream) (old new : Scene)
     → b ≡ after_notes a (warnings_of (told_version answers.cargo_version)) → d ≡ after_notes b (notes_in cx) → IsContextFrom args answers cx
-    → SaysNotes a.coloring (warnings_of (told_version answers.cargo_version)) old.streams.err warned → SaysNotes b.coloring (notes_in cx) warned edited → AsksStable rustup stable old.calls calls → (¬ NeedsAnswer args → stable ≡ Ok None)
+    → SaysNotes a.coloring (warnings_of (told_version answers.cargo_version)) old.streams.err warned → SaysNotes b.coloring (notes_in cx) warned edited → AsksStable rustup stable old.calls calls → (¬ NeedsAnswer args → stable ≡ Unasked)
     → SaysItsPlan came tells cx stable rustup (looks_of d) now (scene_with calls edited old) new → SaysAfterLoading came talks tells held args answers rustup (looks_of a) now old new
 follows_said came talks tells held args answers rustup a b d now cx stable calls warned edited old new first second context told edits asked unneeded plan =
     planned cx warned edited stable calls context told (subst (λ (t : Term). SaysNotes t.coloring (notes_in cx) warned edited) first edits) asked unneeded
@@ -438,7 +439,7 @@ infos_more coloring texts k d one old mid end lt is wrote more =
     (subst (λ n. WritesAll (map (info_line coloring) (map string_bytes (n ∷ drop (k + 1) texts))) old end) is (mid, wrote, more))
 
 -- lines look the same after a list was handed over
-pub list_looks : {R : Type 0} (whole : Type 0) (had has : Option (List ℕ)) (Told : List Note → R → R → Type 0) (Ran : PlanView → List Handed → R → R → Type 0) (cx : ContextRecord) (stable : Result (Option Version) (String Global)) (rustup : Name) (a b : R)
+pub list_looks : {R : Type 0} (whole : Type 0) (had has : Option (List ℕ)) (Told : List Note → R → R → Type 0) (Ran : PlanView → List Handed → R → R → Type 0) (cx : ContextRecord) (stable : Stable) (rustup : Name) (a b : R)
     → HandsOverAtMostOne whole had has Told Ran cx stable rustup a b → (term : R → Term) → ((notes : List Note) (x y : R) → Told notes x y → looks_of (term y) ≡ record (looks_of (term x)) { reported = (term y).error })
     → ((plan : PlanView) (steps : List Handed) (x y : R) → Ran plan steps x y → looks_of (term y) ≡ record (looks_of (term x)) { reported = (term y).error }) → looks_of (term b) ≡ record (looks_of (term a)) { reported = (term b).error }
 list_looks whole had has Told Ran cx stable rustup a b (inl (inl same, kept)) term told ran = subst (λ r. looks_of (term r) ≡ record (looks_of (term a)) { reported = (term r).error }) (sym same) refl
@@ -453,7 +454,7 @@ pub looks_ran : (x y : Term) → y ≡ record x { error = y.error } → looks_of
 looks_ran x y ran = ap (λ (t : Term). looks_of t) ran
 
 -- there is no plan: its notices were printed at most
-pub no_plan : {C O E : Type 0} (listing : Bool) (calls : C → List Call) (e : Taking E) (cx : ContextRecord) (stable : Result (Option Version) (String Global)) (error : PlanFault) (term : Term) (a b : Starter C O E) (old new : Scene)
+pub no_plan : {C O E : Type 0} (listing : Bool) (calls : C → List Call) (e : Taking E) (cx : ContextRecord) (stable : Stable) (error : PlanFault) (term : Term) (a b : Starter C O E) (old new : Scene)
     → a.term.now ≡ term → calls a.caller.now ≡ old.calls → stream_of e a.err.now ≡ old.streams.err → new.calls ≡ calls b.caller.now → (listing ≡ false → new.streams.out ≡ old.streams.out) → new.streams.err ≡ stream_of e b.err.now → IsNoPlan listing cx stable error
     → ((b ≡ a) ⊎ ((error ≡ plan.Memory) × (notes : List Note) × TellsNotes e notes a b)) → HasNoPlan listing cx stable (looks_of term) (looks_of b.term.now) old new error
 no_plan listing calls e cx stable error term a b old new term_is calls_is start calls_end out end cause (inl same) = (

@@ -1,5 +1,5 @@
 -- What a call did, put together from its stages.
-use Rattle.std.proofs.Common.{◌≡◌, ◌⊎◌, inl, inr, refl, sym, subst, ◌∙◌, ap, string_bytes, ℕ, Bool, true, false, List, [], append-nil, None, Option, Result, Ok, Err, OnOk, OnErr, IsErr, IsTrue, Global, String}
+use Rattle.std.proofs.Common.{◌≡◌, ◌⊎◌, inl, inr, refl, sym, subst, ◌∙◌, ap, string_bytes, ℕ, Bool, true, false, List, [], append-nil, Option, Result, Ok, Err, OnOk, OnErr, IsErr, IsTrue, Global, String}
 use Rattle.std.specs.Prelude.{◌||◌}
 use Rattle.std.specs.Result.{is_err}
 use Rattle.std.specs.Io.KnownBytes.{Appends}
@@ -25,7 +25,8 @@ use Rattle.hack_session.specs.declared.step.Outcome.{Outcome}
 use Rattle.hack_session.specs.declared.step.Outcome.TheVariants.{Failed}
 use Rattle.hack_term.specs.declared.term.Term.{Term}
 use Rattle.hack_versions.specs.declared.rustup.Rustup.{Rustup}
-use Rattle.hack_versions.specs.declared.version.Version.{Version}
+use Rattle.hack_planner.specs.declared.stable.Stable.{Stable}
+use Rattle.hack_planner.specs.declared.stable.Stable.TheVariants.{Unasked}
 use Rattle.hack_words.specs.ParseAnswers.{AnswersCommandLine as IsAnswer, around_of}
 use Rattle.hack_words.specs.CommandLine.{ComesTo}
 use Rattle.hack_words.specs.Start.{wants_rustup}
@@ -73,7 +74,7 @@ shows_nothing false had = tt
 
 -- ---- what was reported before doesn't matter, nor after it where no more is warned of
 
-pub one_told : (done listing : Bool) (cx : ContextRecord) (stable : Result (Option Version) (String Global)) (rustup : Name) (warned : Bool) (old new : HostView) (was now : Term) → (done ≡ true → now.warn ≡ new.term.warn)
+pub one_told : (done listing : Bool) (cx : ContextRecord) (stable : Stable) (rustup : Name) (warned : Bool) (old new : HostView) (was now : Term) → (done ≡ true → now.warn ≡ new.term.warn)
     → PerformsOne done listing cx stable rustup warned old new → PerformsOne done listing cx stable rustup warned (record old { term = was }) (record new { term = now })
 one_told done listing cx stable rustup warned old new was now same h = record {
   course = h.course;
@@ -93,7 +94,7 @@ one_told done listing cx stable rustup warned old new was now same h = record {
 }
 
 -- ... nor whether a warning was noted before, where an error may have ended the call
-pub one_made : (listing : Bool) (cx : ContextRecord) (stable : Result (Option Version) (String Global)) (rustup : Name) (warned other : Bool) (old new : HostView) (was now : Term)
+pub one_made : (listing : Bool) (cx : ContextRecord) (stable : Stable) (rustup : Name) (warned other : Bool) (old new : HostView) (was now : Term)
     → PerformsOne false listing cx stable rustup warned old new → PerformsOne false listing cx stable rustup other (record old { term = was }) (record new { term = now })
 one_made listing cx stable rustup warned other old new was now h =
     record { course = h.course; notes = h.notes; cut = h.cut; fails = h.fails; warns = h.warns; planned = h.planned; calls = h.calls; wrote = h.wrote; started = λ e. unended e; uncut = λ e. unended e; passed = λ e. unended e; unreported = h.unreported; noted = λ e. unended e; counted = λ e. unended e }
@@ -140,8 +141,8 @@ quiet_before X true now f quiet = let e : true ≡ false = sym (f (inl refl)) �
 quiet_before X false now f quiet = refl
 
 -- after stable's version was asked for, the plan
-pub goes_on : (T : Type 0) (args : Args) (answers : Answers) (rustup : Name) (warned : Bool) (old new : World) (cx : ContextRecord) (stable : Result (Option Version) (String Global)) (mid : List Call) (term : Term)
-    → IsContextFrom args answers cx → MayAskStable rustup old.host.calls mid → (¬ NeedsAnswer cx.args → mid ≡ old.host.calls) → (¬ NeedsAnswer cx.args → stable ≡ Ok None) → AsksStable rustup stable old.host.calls mid
+pub goes_on : (T : Type 0) (args : Args) (answers : Answers) (rustup : Name) (warned : Bool) (old new : World) (cx : ContextRecord) (stable : Stable) (mid : List Call) (term : Term)
+    → IsContextFrom args answers cx → MayAskStable rustup old.host.calls mid → (¬ NeedsAnswer cx.args → mid ≡ old.host.calls) → (¬ NeedsAnswer cx.args → stable ≡ Unasked) → AsksStable rustup stable old.host.calls mid
     → PerformsAtMostOne cx.args.print_command_list cx stable rustup (record (host_at mid old.host) { term = term }) new.host → AfterLoading false T args answers rustup warned old new
 goes_on T args answers rustup warned old new cx stable mid term context asked needed unasked told performed = inr (cx, context, go performed, λ e. unended e)
   where
@@ -151,8 +152,8 @@ goes_on T args answers rustup warned old new cx stable mid term context asked ne
     go (inr one) = inr (mid, stable, told, unasked, one_made cx.args.print_command_list cx stable rustup term.warn (is_err answers.cargo_version || warned) (record (host_at mid old.host) { term = term }) new.host old.host.term new.host.term one)
 
 -- the same to the end
-pub plan_follows : {T E : Type 0} (tells quiet : Type 0) (r : Result T E) (cx : ContextRecord) (rustup : Name) (warned : Bool) (old new : HostView) (mid : List Call) (term : Term) (stable : Result (Option Version) (String Global))
-    → term.warn ≡ warned → (¬ NeedsAnswer cx.args → stable ≡ Ok None) → (tells → AsksStable rustup stable old.calls mid)
+pub plan_follows : {T E : Type 0} (tells quiet : Type 0) (r : Result T E) (cx : ContextRecord) (rustup : Name) (warned : Bool) (old new : HostView) (mid : List Call) (term : Term) (stable : Stable)
+    → term.warn ≡ warned → (¬ NeedsAnswer cx.args → stable ≡ Unasked) → (tells → AsksStable rustup stable old.calls mid)
     → OnOk r (quiet → tells → PerformsOne true cx.args.print_command_list cx stable rustup term.warn (record (host_at mid old) { term = term }) new)
     → OnOk r (quiet → tells → PerformsPlan true cx rustup warned old new)
 plan_follows tells quiet r cx rustup warned old new mid term stable same unasked stable_told ran =

@@ -1,10 +1,9 @@
 -- What a call did, and how far it got. Where `done` is true it reported no error, and got to its end;
 -- else an error may have ended it at any place.
-use Rattle.std.specs.Prelude.{ℕ, ◌≡◌, ◌⊎◌, ◌||◌, ◌∷◌, [], All, Bool, List, Ok, None, Option, Result, codes, false, filter, if◌then◌else◌, string_bytes, true}
+use Rattle.std.specs.Prelude.{ℕ, ◌≡◌, ◌⊎◌, ◌||◌, ◌∷◌, [], All, Bool, List, Option, codes, false, filter, if◌then◌else◌, string_bytes, true}
 use Rattle.std.specs.List.{flat_map}
 use Rattle.std.specs.Result.{is_err}
 use Rattle.std.specs.Io.KnownBytes.{Appends}
-use Rattle.std.proofs.Common.{Global, String}
 use Rattle.hack_base.specs.Names.{Name}
 use Rattle.hack_base.specs.Notes.{Note}
 use Rattle.hack_base.specs.Writes.{AppendsFront}
@@ -24,7 +23,8 @@ use Rattle.hack_session.specs.Histories.{Course, HasPassed}
 use Rattle.hack_session.specs.ListLines.{is_sent, lines_written}
 use Rattle.hack_session.specs.StepCalls.{MakesCalls, PerformsAll}
 use Rattle.hack_versions.specs.declared.rustup.Rustup.{Rustup}
-use Rattle.hack_versions.specs.declared.version.Version.{Version}
+use Rattle.hack_planner.specs.declared.stable.Stable.{Stable}
+use Rattle.hack_planner.specs.declared.stable.Stable.TheVariants.{Unasked}
 use Rattle.hack_words.specs.ParseAnswers.{AnswersCommandLine as IsAnswer, around_of}
 use Rattle.hack_words.specs.CommandLine.{ComesTo}
 use Rattle.hack_words.specs.Start.{wants_rustup}
@@ -57,7 +57,7 @@ WritesText done false had has text = Unit {0}
 -- search's; it is noted that something fails just where that was so before, or a search found it; and a
 -- warning just where one was before, or where a notice of the plan counts as one, or a search warned.
 pub record PerformsOne (done listing : Bool) (cx : ContextRecord)
-    (stable : Result (Option Version) (String Global)) (rustup : Name) (warned : Bool)
+    (stable : Stable) (rustup : Name) (warned : Bool)
     (old new : HostView) : Type 0 where
   pub course : Course
   pub notes : List Note
@@ -81,8 +81,8 @@ abbrev pub PerformsPlan : Bool → ContextRecord → Name → Bool → HostView 
 PerformsPlan done cx rustup warned old new =
     ((mid : List Call) × MayAskStable rustup old.calls mid × (¬ NeedsAnswer cx.args → mid ≡ old.calls)
     × (done ≡ false) × (new.calls ≡ mid) × WritesText false cx.args.print_command_list old.out new.out [])
-    ⊎ ((mid : List Call) × (stable : Result (Option Version) (String Global))
-    × AsksStable rustup stable old.calls mid × (¬ NeedsAnswer cx.args → stable ≡ Ok None)
+    ⊎ ((mid : List Call) × (stable : Stable)
+    × AsksStable rustup stable old.calls mid × (¬ NeedsAnswer cx.args → stable ≡ Unasked)
     × PerformsOne done cx.args.print_command_list cx stable rustup warned (host_at mid old) new)
 
 -- An error ended the call; or a context was made of what was loaded, where an unknown version of

@@ -1,7 +1,6 @@
 -- What only private functions of the crate promise each other.
 use Rattle.std.specs.Prelude.{ℕ, ◌≡◌, ◌≢◌, ◌⊎◌, ◌||◌, [], IfErr, IfOk, IfSome, Bool, false, true, List, Option, Result, Some, None, Ok, Err, string_bytes, All, MatchBool, filter, nat_lt}
 use Rattle.std.specs.Io.KnownBytes.{Keeps, Appends, append_known}
-use Rattle.std.proofs.Common.{Global, String}
 use Rattle.hack_base.specs.Names.{Name}
 use Rattle.std.specs.Result.{is_err}
 use Rattle.hack_files.specs.Files.{Change, Contents}
@@ -20,6 +19,8 @@ use Rattle.hack_session.specs.declared.step.Handed.{Handed}
 use Rattle.hack_base.specs.Notes.{Note}
 use Rattle.hack_base.specs.Streams.{stream_of}
 use Rattle.hack_versions.specs.declared.version.Version.{Version}
+use Rattle.hack_planner.specs.declared.stable.Stable.{Stable}
+use Rattle.hack_planner.specs.declared.stable.Stable.TheVariants as stable
 use Rattle.hack_run.specs.LastingEdits.{LeavesEdits}
 use Rattle.hack_run.specs.Worlds.{HostView, World, host_view}
 use Rattle.hack_run.specs.declared.fault.RunFault.{RunFault}
@@ -73,21 +74,21 @@ pub record ReportsFound (cx : ContextRecord) (plan : PlanView) (found : List Fou
   pub noted : warn ≡ (warned || some_too_low cx plan 0 found)
 
 -- one history was performed, or nothing was called and nothing listed
-abbrev pub PerformsAtMostOne : Bool → ContextRecord → Result (Option Version) (String Global) → Name → HostView → HostView → Type 0
+abbrev pub PerformsAtMostOne : Bool → ContextRecord → Stable → Name → HostView → HostView → Type 0
 PerformsAtMostOne listing cx stable rustup old new =
     ((new.calls ≡ old.calls) × WritesText false listing old.out new.out [])
     ⊎ PerformsOne false listing cx stable rustup old.term.warn old new
 
 -- where no error was reported, one history of a context's plan was performed to its end
-abbrev pub PerformsItsPlan : {C O E : Type 0} → Calling C → Taking O → Bool → ContextRecord
-    → Result (Option Version) (String Global) → Host C O E → Host C O E → Type 0
+abbrev pub PerformsItsPlan : {C O E : Type 0} → Calling C → Taking O → Bool → ContextRecord → Stable
+    → Host C O E → Host C O E → Type 0
 PerformsItsPlan c o listing cx stable old new = new.term.now.error ≡ false → c.tells
     → PerformsOne true listing cx stable (string_bytes old.env.now.rustup) old.term.now.warn
     (host_view c o old) (host_view c o new)
 
 -- whatever came of it, one history of a context's plan was performed at most
-abbrev pub MayPerformItsPlan : {C O E : Type 0} → Calling C → Taking O → Bool → ContextRecord
-    → Result (Option Version) (String Global) → Host C O E → Host C O E → Type 0
+abbrev pub MayPerformItsPlan : {C O E : Type 0} → Calling C → Taking O → Bool → ContextRecord → Stable
+    → Host C O E → Host C O E → Type 0
 MayPerformItsPlan c o listing cx stable old new = c.tells
     → PerformsAtMostOne listing cx stable (string_bytes old.env.now.rustup)
     (host_view c o old) (host_view c o new)
@@ -95,7 +96,7 @@ MayPerformItsPlan c o listing cx stable old new = c.tells
 -- a context's list was handed out to its end, and its steps that aren't listed to a runner,
 -- whatever came of them; where lines are written whole or not at all, the output grew by just those
 -- of the steps that passed
-pub record HandsOver {R : Type 0} (whole : Type 0) (had has : Option (List ℕ)) (Told : List Note → R → R → Type 0) (Ran : PlanView → List Handed → R → R → Type 0) (cx : ContextRecord) (stable : Result (Option Version) (String Global)) (rustup : Name) (old new : R) : Type 0 where
+pub record HandsOver {R : Type 0} (whole : Type 0) (had has : Option (List ℕ)) (Told : List Note → R → R → Type 0) (Ran : PlanView → List Handed → R → R → Type 0) (cx : ContextRecord) (stable : Stable) (rustup : Name) (old new : R) : Type 0 where
   pub course : Course
   pub driven : IsDriven cx.args.partition cx.args.keep_going course
   pub notes : List Note
@@ -106,15 +107,15 @@ pub record HandsOver {R : Type 0} (whole : Type 0) (had has : Option (List ℕ))
   pub wrote : whole → Appends had has (flat_map (lines_written course.plan) course.handed)
 
 -- a list was handed out to its end; or nothing was, and the runner printed notices at most
-abbrev pub HandsOverAtMostOne : {R : Type 0} → Type 0 → Option (List ℕ) → Option (List ℕ) → (List Note → R → R → Type 0) → (PlanView → List Handed → R → R → Type 0) → ContextRecord → Result (Option Version) (String Global) → Name → R → R → Type 0
+abbrev pub HandsOverAtMostOne : {R : Type 0} → Type 0 → Option (List ℕ) → Option (List ℕ) → (List Note → R → R → Type 0) → (PlanView → List Handed → R → R → Type 0) → ContextRecord → Stable → Name → R → R → Type 0
 HandsOverAtMostOne whole had has Told Ran cx stable rustup old new =
     (((new ≡ old) ⊎ ((notes : List Note) × Told notes old new)) × Keeps had has) ⊎ HandsOver whole had has Told Ran cx stable rustup old new
 
--- there is a version, and P holds of it; or it is unknown, and Unknown holds
-abbrev pub IsLatest : (Version → Type 0) → Type 0 → Result (Option Version) (String Global) → Type 0
-IsLatest P Unknown (Ok None) = ⊥
-IsLatest P Unknown (Ok (Some v)) = P v
-IsLatest P Unknown (Err text) = Unknown
+-- stable's version was asked for: P holds of it, or Q where it is unknown
+abbrev pub IsLatest : (Version → Type 0) → Type 0 → Stable → Type 0
+IsLatest P Q stable.Unasked = ⊥
+IsLatest P Q (stable.Known v) = P v
+IsLatest P Q (stable.Unknown text) = Q
 
 -- rustup was asked where a word needs it, and with what is then known the words are read into this
 pub record ReadsAfterRustup (IsRead : Around → List Name → Reading → Type 0) (tells : Type 0) (words : List Name) (env : Env) (old new : List Call) (reading : Reading) : Type 0 where
@@ -123,7 +124,7 @@ pub record ReadsAfterRustup (IsRead : Around → List Name → Reading → Type 
   pub read : IsRead (around_of env rustup) words reading
 
 -- a list was handed out to its end, and no listed step failed
-pub record ListsOver {R : Type 0} (whole : Type 0) (before now : Option (List ℕ)) (Told : List Note → R → R → Type 0) (Ran : PlanView → List Handed → R → R → Type 0) (cx : ContextRecord) (stable : Result (Option Version) (String Global)) (rustup : Name) (old new : R) : Type 0 where
+pub record ListsOver {R : Type 0} (whole : Type 0) (before now : Option (List ℕ)) (Told : List Note → R → R → Type 0) (Ran : PlanView → List Handed → R → R → Type 0) (cx : ContextRecord) (stable : Stable) (rustup : Name) (old new : R) : Type 0 where
   pub over : HandsOver whole before now Told Ran cx stable rustup old new
   pub listed : All IsListedStep over.course.handed
 
@@ -172,7 +173,7 @@ IsUntoldRefusal e came old new =
 
 -- Steps were said, and behind those of a search what is said of its conclusion. This error is left then, and it is noted so
 -- whether one was reported; the session is that of the steps, and a search has none.
-pub record HandsSteps (tells : Type 0) (cx : ContextRecord) (stable : Result (Option Version) (String Global)) (rustup : Name) (kept left : Option ProcessFault) (reported : Bool) (looks : Looks) (session : Option Course) (old new : Scene) : Type 0 where
+pub record HandsSteps (tells : Type 0) (cx : ContextRecord) (stable : Stable) (rustup : Name) (kept left : Option ProcessFault) (reported : Bool) (looks : Looks) (session : Option Course) (old new : Scene) : Type 0 where
   pub mid : Scene
   pub steps : SaysSteps tells false cx stable rustup kept looks old mid
   pub calls : new.calls ≡ mid.calls
@@ -195,7 +196,7 @@ FollowsAndLeaves Refuses tells args answers env old new =
     ⊎ ((cx : ContextRecord) × IsContextFrom args answers cx × (IfOk answers.loaded (IsLoaded tells old env) → LeavesEdits Refuses tells cx old new))
 
 -- a list's steps were said, this error is kept, and it is noted so whether one was reported
-abbrev pub ListsSteps : Type 0 → ContextRecord → Result (Option Version) (String Global) → Name → Option ProcessFault → Bool → Looks → Scene → Scene → Type 0
+abbrev pub ListsSteps : Type 0 → ContextRecord → Stable → Name → Option ProcessFault → Bool → Looks → Scene → Scene → Type 0
 ListsSteps tells cx stable rustup now reported looks old new =
     (steps : SaysSteps tells true cx stable rustup None looks old new) × (now ≡ steps.last.kept) × (reported ≡ steps.last.told)
 

@@ -1,10 +1,9 @@
 -- What happened to the commands of runs that go side by side.
-use Rattle.std.specs.Prelude.{ℕ, ◌≡◌, ◌⊎◌, Bool, List, [], MatchBool, Option, None, Result, false, string_bytes, true}
+use Rattle.std.specs.Prelude.{ℕ, ◌≡◌, ◌⊎◌, Bool, List, [], MatchBool, None, false, string_bytes, true}
 use Rattle.std.specs.Option.{unwrap_or}
-use Rattle.std.proofs.Common.{Global, String}
 use Rattle.hack_base.specs.Names.{Name}
 use Rattle.hack_base.specs.Notes.{Note}
-use Rattle.hack_versions.specs.declared.version.Version.{Version}
+use Rattle.hack_planner.specs.declared.stable.Stable.{Stable}
 use Rattle.hack_versions.specs.declared.rustup.Rustup.{Rustup}
 use Rattle.hack_words.specs.CommandLine.{ComesTo}
 use Rattle.hack_words.specs.ParseAnswers.{AnswersCommandLine as IsAnswer, around_of}
@@ -38,7 +37,7 @@ scene_at width s = record {
 -- one history of a context's plan, made with this answer on stable's version, was performed by the
 -- rules of lanes; in a search nothing was started ahead
 pub record RunsOne {S : Type 0} (did : List Event → S → S → Type 0) (cx : ContextRecord)
-    (stable : Result (Option Version) (String Global)) (rustup : Name) (old new : Scene S) : Type 0 where
+    (stable : Stable) (rustup : Name) (old new : Scene S) : Type 0 where
   pub course : Course
   pub notes : List Note
   pub fails : Bool
@@ -50,7 +49,7 @@ pub record RunsOne {S : Type 0} (did : List Event → S → S → Type 0) (cx : 
 -- One history was performed in as many lanes as the arguments ask for, from fresh ones on; and then
 -- all that was started and not told was ended.
 pub record RunsInLanes {S : Type 0} (did : List Event → S → S → Type 0) (cx : ContextRecord)
-    (stable : Result (Option Version) (String Global)) (rustup : Name) (old new : S) : Type 0 where
+    (stable : Stable) (rustup : Name) (old new : S) : Type 0 where
   pub mid : Scene S
   pub last : Scene S
   pub one : RunsOne did cx stable rustup (scene_at (unwrap_or cx.args.parallel 1) old) mid
@@ -59,7 +58,7 @@ pub record RunsInLanes {S : Type 0} (did : List Event → S → S → Type 0) (c
   pub now : last.starts ≡ new
 
 -- the same, or nothing was handed out
-abbrev pub MayRunInLanes : {S : Type 0} → (List Event → S → S → Type 0) → ContextRecord → Result (Option Version) (String Global) → Name → S → S → Type 0
+abbrev pub MayRunInLanes : {S : Type 0} → (List Event → S → S → Type 0) → ContextRecord → Stable → Name → S → S → Type 0
 MayRunInLanes did cx stable rustup old new = (new ≡ old) ⊎ RunsInLanes did cx stable rustup old new
 
 -- `did` says what became of commands that were started, `course` which calls were made between, and `calls` which the caller
@@ -70,7 +69,7 @@ module _ {S : Type 0} (did : List Event → S → S → Type 0) (course : S → 
   abbrev pub FollowsInLanes : Bool → Args → Answers → Name → S → S → Type 0
   FollowsInLanes done args answers rustup old new =
       (course old new × ((done ≡ false) ⊎ (args.print_command_list ≡ true)))
-      ⊎ ((cx : ContextRecord) × IsContextFrom args answers cx × (stable : Result (Option Version) (String Global)) × (before : S) × course old before
+      ⊎ ((cx : ContextRecord) × IsContextFrom args answers cx × (stable : Stable) × (before : S) × course old before
       × (talks → AsksStable rustup stable (calls old) (calls before)) × RunsInLanes did cx stable rustup before new)
 
   -- the questions of these arguments were asked, and what follows from the answers was done in lanes

@@ -1,6 +1,5 @@
 -- What rustup is asked before there is a plan.
-use Rattle.std.specs.Prelude.{◌≡◌, ◌≢◌, ◌⊎◌, ◌∷◌, [], Bool, List, Option, Some, None, Result, Ok, Err, codes, false, option_and_then, true}
-use Rattle.std.proofs.Common.{Global, String}
+use Rattle.std.specs.Prelude.{◌≡◌, ◌≢◌, ◌⊎◌, ◌∷◌, [], Bool, List, None, codes, false, option_and_then, true}
 use Rattle.hack_base.specs.Names.{Name}
 use Rattle.hack_metadata.specs.QuestionCalls.{ReadsOutput}
 use Rattle.hack_metadata.specs.Requests.{version_command}
@@ -12,6 +11,8 @@ use Rattle.hack_versions.specs.ToolTexts.{TellsRelease, rustup_part}
 use Rattle.hack_versions.specs.declared.rustup.Rustup.{Rustup}
 use Rattle.hack_versions.specs.declared.rustup.Rustup.TheVariants.{Unasked}
 use Rattle.hack_versions.specs.declared.version.Version.{Version}
+use Rattle.hack_planner.specs.declared.stable.Stable.{Stable}
+use Rattle.hack_planner.specs.declared.stable.Stable.TheVariants as stable
 use Rattle.hack_words.specs.RustupView.{known_of}
 use Rattle.hack_session.specs.StepCalls.{BreaksInstall, Installs, MakesCalls}
 use Rattle.hack_session.specs.Toolchains.{addition_of, trial_of}
@@ -65,10 +66,10 @@ AsksStableInVain rustup old new =
     CannotInstallStable rustup old new ⊎ ((mid : List Call) × InstallsStable rustup old mid × CannotReadStable rustup mid new)
 
 -- stable's version was asked for, or nothing was; it is unknown only where it was asked for in vain
-abbrev pub AsksStable : Name → Result (Option Version) (String Global) → List Call → List Call → Type 0
-AsksStable rustup (Ok None) old new = new ≡ old
-AsksStable rustup (Ok (Some v)) old new = TellsStable rustup v old new
-AsksStable rustup (Err text) old new = AsksStableInVain rustup old new
+abbrev pub AsksStable : Name → Stable → List Call → List Call → Type 0
+AsksStable rustup stable.Unasked old new = new ≡ old
+AsksStable rustup (stable.Known v) old new = TellsStable rustup v old new
+AsksStable rustup (stable.Unknown text) old new = AsksStableInVain rustup old new
 
 -- installing the toolchain `stable` failed: it was tried, and added where that failed, up to the
 -- command that failed or for which memory was refused

@@ -3,7 +3,6 @@
 use Rattle.std.specs.Prelude.{◌≡◌, ◌≢◌, ◌⊎◌, ◌&&◌, ◌||◌, [], ℕ, Bool, Err, IsSome, List, MatchBool, MatchOption, None, Ok, OnOk, Option, Result, false, filter, if◌then◌else◌, map, nat_lt, not, string_bytes, true}
 use Rattle.std.specs.Io.KnownBytes.{Appends}
 use Rattle.std.specs.Result.{is_err}
-use Rattle.std.proofs.Common.{Global, String}
 use Rattle.hack_base.specs.Names.{Name}
 use Rattle.hack_base.specs.Notes.{Note}
 use Rattle.hack_base.specs.Streams.{Stream, WritesAll, WritesSome}
@@ -44,7 +43,8 @@ use Rattle.hack_term.specs.declared.log_group.LogGroup.TheVariants as log
 use Rattle.hack_term.specs.declared.term.Coloring.{Coloring}
 use Rattle.hack_term.specs.declared.term.Term.{Term}
 use Rattle.hack_versions.specs.declared.rustup.Rustup.{Rustup}
-use Rattle.hack_versions.specs.declared.version.Version.{Version}
+use Rattle.hack_planner.specs.declared.stable.Stable.{Stable}
+use Rattle.hack_planner.specs.declared.stable.Stable.TheVariants.{Unasked}
 use Rattle.hack_words.specs.CommandLine.{ComesTo}
 use Rattle.hack_words.specs.ParseAnswers.{AnswersCommandLine as IsAnswer, around_of}
 use Rattle.hack_words.specs.Start.{wants_rustup}
@@ -124,7 +124,7 @@ performed_of listing handed = if listing then filter is_sent handed else handed
 
 -- The notices of a plan were said, and then just what the steps say that were handed out. Lines of groups go to `out`,
 -- but a list has none. This error was kept before.
-pub record SaysSteps (tells : Type 0) (listing : Bool) (cx : ContextRecord) (stable : Result (Option Version) (String Global)) (rustup : Name) (kept : Option ProcessFault) (looks : Looks) (old new : Scene) : Type 0 where
+pub record SaysSteps (tells : Type 0) (listing : Bool) (cx : ContextRecord) (stable : Stable) (rustup : Name) (kept : Option ProcessFault) (looks : Looks) (old new : Scene) : Type 0 where
   pub course : Course
   pub notes : List Note
   pub fails : Bool
@@ -144,16 +144,16 @@ abbrev pub SaysLines : Bool → Scene → Scene → Type 0
 SaysLines listing old new = (new.calls ≡ old.calls) × (listing ≡ false → new.streams.out ≡ old.streams.out) × WritesSome old.streams.err new.streams.err
 
 -- why there is no plan: a cause that the context and stable's answer have, or want of memory
-abbrev pub IsNoPlan : Bool → ContextRecord → Result (Option Version) (String Global) → PlanFault → Type 0
+abbrev pub IsNoPlan : Bool → ContextRecord → Stable → PlanFault → Type 0
 IsNoPlan listing cx stable e = (e ≡ plan.Memory)
     ⊎ MatchBool (is_hunt listing cx.args) (IsSome cx.args.subcommand × IsPackagesCause cx e) (IsCauseOf cx.args.subcommand stable cx e)
 
 -- that is so, nothing was called, and nothing said; where memory was refused, lines were said at most
-abbrev pub HasNoPlan : Bool → ContextRecord → Result (Option Version) (String Global) → Looks → Looks → Scene → Scene → PlanFault → Type 0
+abbrev pub HasNoPlan : Bool → ContextRecord → Stable → Looks → Looks → Scene → Scene → PlanFault → Type 0
 HasNoPlan listing cx stable looks now old new e =
     IsNoPlan listing cx stable e × SaysLines listing old new × (now ≡ looks) × (e ≢ plan.Memory → new.streams.err ≡ old.streams.err)
 
-abbrev pub SaysNoPlan : Result (Unit {0}) RunFault → Bool → ContextRecord → Result (Option Version) (String Global) → Looks → Looks → Scene → Scene → Type 0
+abbrev pub SaysNoPlan : Result (Unit {0}) RunFault → Bool → ContextRecord → Stable → Looks → Looks → Scene → Scene → Type 0
 SaysNoPlan came listing cx stable looks now old new = (e : PlanFault) × (came ≡ Err (fault.Plan e)) × HasNoPlan listing cx stable looks now old new e
 
 -- What steps came to: the error that stopped them; else the report of the runs that failed, with the patterns that only
@@ -172,7 +172,7 @@ ComesOfSearch came cx rustup looks now course notes fails warns last old new = (
     × MatchOption left (came ≡ Ok tt) (λ failed. came ≡ Err (fault.Process failed))
 
 -- steps were said, and then what they came to
-pub record SaysRuns (came : Result (Unit {0}) RunFault) (tells : Type 0) (cx : ContextRecord) (stable : Result (Option Version) (String Global)) (rustup : Name) (looks now : Looks) (old new : Scene) : Type 0 where
+pub record SaysRuns (came : Result (Unit {0}) RunFault) (tells : Type 0) (cx : ContextRecord) (stable : Stable) (rustup : Name) (looks now : Looks) (old new : Scene) : Type 0 where
   pub mid : Scene
   pub steps : SaysSteps tells false cx stable rustup None looks old mid
   pub calls : new.calls ≡ mid.calls
@@ -190,19 +190,19 @@ ComesOfList came now last old new = MatchOption last.kept
     (λ failed. came ≡ Err (fault.Process failed))
 
 -- the same of a list's steps that aren't listed
-pub record SaysList (came : Result (Unit {0}) RunFault) (tells : Type 0) (cx : ContextRecord) (stable : Result (Option Version) (String Global)) (rustup : Name) (looks now : Looks) (old new : Scene) : Type 0 where
+pub record SaysList (came : Result (Unit {0}) RunFault) (tells : Type 0) (cx : ContextRecord) (stable : Stable) (rustup : Name) (looks now : Looks) (old new : Scene) : Type 0 where
   pub steps : SaysSteps tells true cx stable rustup None looks old new
   pub comes : ComesOfList came now steps.last old.streams.out new.streams.out
   pub ends : now ≡ reported_on now.reported looks
 
 -- a plan's steps were said, or there is none; before a list memory may be refused
-abbrev pub SaysPlan : Result (Unit {0}) RunFault → Type 0 → ContextRecord → Result (Option Version) (String Global) → Name → Looks → Looks → Scene → Scene → Type 0
+abbrev pub SaysPlan : Result (Unit {0}) RunFault → Type 0 → ContextRecord → Stable → Name → Looks → Looks → Scene → Scene → Type 0
 SaysPlan came tells cx stable rustup looks now old new =
     SaysNoPlan came cx.args.print_command_list cx stable looks now old new
     ⊎ MatchBool cx.args.print_command_list (SaysStarved came looks now old new ⊎ SaysList came tells cx stable rustup looks now old new) (SaysRuns came tells cx stable rustup looks now old new)
 
 -- which looks take long was said, and then the plan's steps, unless memory was refused for that
-abbrev pub SaysItsPlan : Result (Unit {0}) RunFault → Type 0 → ContextRecord → Result (Option Version) (String Global) → Name → Looks → Looks → Scene → Scene → Type 0
+abbrev pub SaysItsPlan : Result (Unit {0}) RunFault → Type 0 → ContextRecord → Stable → Name → Looks → Looks → Scene → Scene → Type 0
 SaysItsPlan came tells cx stable rustup looks now old new =
     SaysStarved came looks now old new
     ⊎ ((looked : Stream) × SaysLooks cx looks.coloring old.streams.err looked × SaysPlan came tells cx stable rustup looks now (scene_with old.calls looked old) new)
@@ -219,9 +219,9 @@ pub data SaysAfterLoading (came : Result (Unit {0}) RunFault) (talks tells : Typ
   unasked : (cx : ContextRecord) (warned edited : Stream) → IsContextFrom args answers cx → SaysNotes looks.coloring (warnings_of (told_version answers.cargo_version)) old.streams.err warned
       → SaysNotes looks.coloring (notes_in cx) warned edited → MayAskStable rustup old.calls new.calls → (¬ NeedsAnswer args → new.calls ≡ old.calls)
       → came ≡ Err fault.Memory → now ≡ looks → new ≡ scene_with new.calls edited old → SaysAfterLoading came talks tells held args answers rustup looks now old new
-  planned : (cx : ContextRecord) (warned edited : Stream) (stable : Result (Option Version) (String Global)) (calls : List Call) → IsContextFrom args answers cx
+  planned : (cx : ContextRecord) (warned edited : Stream) (stable : Stable) (calls : List Call) → IsContextFrom args answers cx
       → SaysNotes looks.coloring (warnings_of (told_version answers.cargo_version)) old.streams.err warned → SaysNotes looks.coloring (notes_in cx) warned edited
-      → AsksStable rustup stable old.calls calls → (¬ NeedsAnswer args → stable ≡ Ok None) → SaysItsPlan came tells cx stable rustup looks now (scene_with calls edited old) new
+      → AsksStable rustup stable old.calls calls → (¬ NeedsAnswer args → stable ≡ Unasked) → SaysItsPlan came tells cx stable rustup looks now (scene_with calls edited old) new
       → SaysAfterLoading came talks tells held args answers rustup looks now old new
 
 -- some write or removal was refused between these states of files

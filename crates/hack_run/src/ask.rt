@@ -20,13 +20,13 @@ ghost use Rattle.hack_run.specs.Internal.{IsLatest, IsUnknown, TellsMinor};
 ghost use Rattle.hack_run.specs.Questions.{AsksRustup, ReadsStable};
 ghost use Rattle.hack_run.specs.Questions.{rustup_asked, rustup_command as asks_rustup};
 
+use hack_planner::stable::Stable;
 use hack_process::cargo::version;
 use hack_process::process::{Caller, ProcessBuilder, ProcessFault};
 use hack_session::rustup::install_toolchain;
 use hack_session::session::Screen;
 use hack_term::term::{LogGroup, Term};
 use hack_versions::rustup::{AnswerFault, Rustup, VersionTextFault, minor_version, needs_stable};
-use hack_versions::version::Version;
 use hack_words::cli::{Args, Env, wants_rustup};
 use std::alloc::{AllocError, Global};
 use std::io;
@@ -110,7 +110,7 @@ fn shown_fault(alloc: Global, fault: AnswerFault<'_>) -> Result<String, AllocErr
     format!(in alloc; "{fault}")
 }
 
-/// Returns stable's version where the call needs it, or the text of the error of asking for it.
+/// Asks for stable's version where the call needs it.
 #[tactic(auto, using(crate::proofs::CallLemmas::asks_none))]
 pub(crate) fn stable_for<C: Caller>(
     alloc: Global,
@@ -118,10 +118,10 @@ pub(crate) fn stable_for<C: Caller>(
     env: &Env,
     term: &Term,
     caller: &mut C,
-) -> Result<Result<Option<Version>, String>, AllocError>
+) -> Result<Stable, AllocError>
     ensures asked { IfOk result (λ stable. C.tells → AsksStable (string_bytes env.now.rustup)
         stable (C.calls caller.old) (C.calls caller.new)) }
-    ensures unasked { IfOk result (λ stable. ¬ NeedsAnswer args.now → stable ≡ Ok None) }
+    ensures unasked { IfOk result (λ stable. ¬ NeedsAnswer args.now → stable ≡ Stable.Unasked) }
     ensures needed { IfOk result (IsAnswered args.now) }
     ensures made { C.tells → MayAskStable (string_bytes env.now.rustup)
         (C.calls caller.old) (C.calls caller.new) }
@@ -129,7 +129,7 @@ pub(crate) fn stable_for<C: Caller>(
     ensures course { C.course caller.old caller.new }
 {
     if args.subcommand.is_none() || !is_stable_asked(args) {
-        return Ok(Ok(None));
+        return Ok(Stable::Unasked);
     }
     match install(alloc, env, term, caller) {
         Ok(()) => stable_version(alloc, env, term.verbose, caller),
@@ -182,16 +182,13 @@ fn install<C: Caller>(
     )
 }
 
-/// Returns the error of asking, as a text.
-fn stable_fault(
-    alloc: Global,
-    fault: ProcessFault,
-) -> Result<Result<Option<Version>, String>, AllocError>
+/// Returns that stable's version is unknown, with the error of asking for it as the reason.
+fn stable_fault(alloc: Global, fault: ProcessFault) -> Result<Stable, AllocError>
     ensures { IfOk result (IsLatest (λ _. ⊥) (fault ≢ ProcessFault.Memory)) }
 {
     match fault {
         ProcessFault::Memory => Err(AllocError),
-        fault => Ok(Err(format!(in alloc; "{fault}")?)),
+        fault => Ok(Stable::Unknown(format!(in alloc; "{fault}")?)),
     }
 }
 
@@ -209,7 +206,7 @@ fn stable_version<C: Caller>(
     env: &Env,
     verbose: bool,
     caller: &mut C,
-) -> Result<Result<Option<Version>, String>, AllocError>
+) -> Result<Stable, AllocError>
     ensures read { IfOk result (IsLatest
         (λ v. C.tells → ReadsStable (string_bytes env.now.rustup) v
         (C.calls caller.old) (C.calls caller.new))
@@ -233,13 +230,13 @@ fn stable_in(
     answer: &str,
     env: &Env,
     verbose: bool,
-) -> Result<Result<Option<Version>, String>, AllocError>
+) -> Result<Stable, AllocError>
     ensures { IfOk result (IsLatest (TellsRelease (release_part answer.now))
         (IsMinorIn (release_part answer.now) None)) }
 {
     match version(alloc, answer) {
-        Ok(version) => Ok(Ok(Some(version))),
+        Ok(version) => Ok(Stable::Known(version)),
         Err(VersionTextFault::Memory) => Err(AllocError),
-        Err(fault) => Ok(Err(wrong_answer_text(alloc, fault, asked, env, verbose)?)),
+        Err(fault) => Ok(Stable::Unknown(wrong_answer_text(alloc, fault, asked, env, verbose)?)),
     }
 }

@@ -1,20 +1,18 @@
 //! The search for conflicts of a call: for each package the least sets of features that fail.
 
-ghost use Rattle.std.specs.Prelude.{◌≡◌, ◌⊎◌, Err, IfErr, List, None, Ok, OnErr, OnOk, Option};
-ghost use Rattle.std.specs.Prelude.{Result, String, false, true};
-ghost use Rattle.std.proofs.Common.{Global as Heap};
+ghost use Rattle.std.specs.Prelude.{◌≡◌, ◌⊎◌, Err, IfErr, List, None, Ok, OnErr, OnOk, false, true};
 ghost use Rattle.hack_base.specs.Streams.{stream_of};
 ghost use Rattle.hack_culprits.specs.declared.fault.CulpritsFault.TheVariants.{Ended};
 ghost use Rattle.hack_hunt.specs.Hunts.{came_of};
 ghost use Rattle.hack_hunt.specs.declared.hunt.Hunted.{Hunted as FoundSets};
 ghost use Rattle.hack_load.specs.ContextView.{context_view};
+ghost use Rattle.hack_planner.specs.declared.stable.Stable.{Stable};
 ghost use Rattle.hack_run.specs.CallTrace.{PerformsOne};
 ghost use Rattle.hack_run.specs.Conclusions.{SaysSearch, hunt_conclusion, reason_text};
 ghost use Rattle.hack_run.specs.Internal.{HandsSteps, PerformsAtMostOne, Reports};
 ghost use Rattle.hack_run.specs.Lanes.{RunsOne};
 ghost use Rattle.hack_run.specs.Shown.{HasNoPlan, KeepsLooks, looks_of, scene_at};
 ghost use Rattle.hack_run.specs.Worlds.{host_of};
-ghost use Rattle.hack_versions.specs.declared.version.Version.{Version};
 
 use crate::execute::{keep, manner};
 use crate::tell::{cut_off, fail};
@@ -46,25 +44,25 @@ pub(crate) fn hunt_in_lanes<L: Turns, O: Sink, E: Sink>(
 ) -> Result<(), PlanFault>
     requires { (context_view cx.now).args.find_conflicts ≡ true }
     ensures done { OnOk result (fault.new ≡ None → term.new.error ≡ false → L.tells
-        → (stable : Result (Option Version) (String Heap))
+        → (stable : Stable)
         → PerformsOne true false (context_view cx.now) stable rustup.now term.old.warn
         (host_of L.Caller O.Sink lanes.old out.old term.old fails.old)
         (host_of L.Caller O.Sink lanes.new out.new term.new fails.new)) }
-    ensures made { L.tells → (stable : Result (Option Version) (String Heap))
+    ensures made { L.tells → (stable : Stable)
         → PerformsAtMostOne false (context_view cx.now) stable rustup.now
         (host_of L.Caller O.Sink lanes.old out.old term.old fails.old)
         (host_of L.Caller O.Sink lanes.new out.new term.new fails.new) }
-    ensures lanes { OnOk result ((stable : Result (Option Version) (String Heap))
+    ensures lanes { OnOk result ((stable : Stable)
         → RunsOne L.did (context_view cx.now) stable rustup.now
         (L.scene lanes.old) (L.scene lanes.new)) }
     ensures stays { L.stays lanes.old lanes.new }
     ensures refused { OnErr result (lanes.new ≡ lanes.old) }
-    ensures shown { OnOk result ((stable : Result (Option Version) (String Heap))
+    ensures shown { OnOk result ((stable : Stable)
         → HandsSteps L.tells (context_view cx.now) stable rustup.now
         fault.old fault.new term.new.error (looks_of term.old) None
         (scene_at (L.calls lanes.old) O.Sink E.Sink out.old err.old)
         (scene_at (L.calls lanes.new) O.Sink E.Sink out.new err.new)) }
-    ensures unplanned { IfErr result (λ e. (stable : Result (Option Version) (String Heap))
+    ensures unplanned { IfErr result (λ e. (stable : Stable)
         → HasNoPlan false (context_view cx.now) stable (looks_of term.old) (looks_of term.new)
         (scene_at (L.calls lanes.old) O.Sink E.Sink out.old err.old)
         (scene_at (L.calls lanes.new) O.Sink E.Sink out.new err.new) e) }

@@ -29,6 +29,7 @@ use hack_load::context::Context;
 use hack_msrv::found::Found;
 use hack_plan::plan::Plan;
 use hack_planner::fault::PlanFault;
+use hack_planner::stable::Stable;
 use hack_process::process::ProcessFault;
 use hack_report::findings::tell_found;
 use hack_report::noted::Noted;
@@ -38,7 +39,6 @@ use hack_side::serial::Serial;
 use hack_side::side::Side;
 use hack_starts::starts::Starts;
 use hack_term::term::{LogGroup, Term};
-use hack_versions::version::Version;
 use hack_words::cli::Args;
 use std::alloc::{AllocError, Global};
 
@@ -46,7 +46,7 @@ use std::alloc::{AllocError, Global};
 /// the least versions or for conflicts, and reports these.
 pub(crate) fn execute<C: Starts, O: Sink, E: Sink>(
     cx: &Context,
-    stable: Result<Option<Version>, String>,
+    stable: Stable,
     host: &mut Host<'_, C, O, E>,
 ) -> Result<(), RunFault>
     requires { IsAnswered (context_view cx.now).args stable }
@@ -97,7 +97,7 @@ pub(crate) fn execute<C: Starts, O: Sink, E: Sink>(
 /// said already. The error that stopped it goes to `fault`, unless it was reported.
 fn hand_to_starter<C: Starts, O: Sink, E: Sink>(
     cx: &Context,
-    stable: Result<Option<Version>, String>,
+    stable: Stable,
     fault: &mut Option<ProcessFault>,
     host: &mut Host<'_, C, O, E>,
 ) -> Result<Option<Session>, PlanFault>
@@ -149,7 +149,7 @@ fn hand_out<L: Turns, O: Sink, E: Sink>(
     alloc: Global,
     cx: &Context,
     rustup: &str,
-    stable: Result<Option<Version>, String>,
+    stable: Stable,
     lanes: &mut L,
     term: &mut Term,
     out: &mut O,
@@ -198,7 +198,7 @@ fn drive_in_lanes<L: Turns, O: Sink, E: Sink>(
     alloc: Global,
     cx: &Context,
     rustup: &str,
-    stable: Result<Option<Version>, String>,
+    stable: Stable,
     lanes: &mut L,
     term: &mut Term,
     out: &mut O,
@@ -246,7 +246,7 @@ fn search_in_lanes<L: Turns, O: Sink, E: Sink>(
     alloc: Global,
     cx: &Context,
     rustup: &str,
-    stable: Result<Option<Version>, String>,
+    stable: Stable,
     lanes: &mut L,
     term: &mut Term,
     out: &mut O,

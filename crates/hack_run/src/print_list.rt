@@ -23,10 +23,10 @@ use hack_base::writes::Sink;
 use hack_drive::drive::{Teller, drive_context};
 use hack_load::context::Context;
 use hack_planner::fault::PlanFault;
+use hack_planner::stable::Stable;
 use hack_process::process::{Caller, ProcessFault};
 use hack_session::session::{Lines, Lister, Starter};
 use hack_term::term::LogGroup;
-use hack_versions::version::Version;
 use std::alloc::Global;
 use std::io;
 
@@ -47,7 +47,7 @@ struct Listed {
 /// lockfiles still made.
 pub(crate) fn print_list<C: Caller, O: Sink, E: Sink>(
     cx: &Context,
-    stable: Result<Option<Version>, String>,
+    stable: Stable,
     host: &mut Host<'_, C, O, E>,
 ) -> Result<(), RunFault>
     requires { IsAnswered (context_view cx.now).args stable }
@@ -77,7 +77,7 @@ pub(crate) fn print_list<C: Caller, O: Sink, E: Sink>(
 /// Hands the plan to a lister whose lines are gathered for the host's output.
 fn hand_to_lister<C: Caller, O: Sink, E: Sink>(
     cx: &Context,
-    stable: Result<Option<Version>, String>,
+    stable: Stable,
     gathered: &mut Vec<u8>,
     host: &mut Host<'_, C, O, E>,
 ) -> Listed
@@ -135,7 +135,7 @@ fn list_over<'a, W: Lines, R: Teller>(
     alloc: Global,
     cx: &Context,
     rustup: &str,
-    stable: Result<Option<Version>, String>,
+    stable: Stable,
     out: &'a mut W,
     runner: &'a mut R,
 ) -> Result<bool, PlanFault>

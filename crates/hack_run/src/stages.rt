@@ -48,10 +48,10 @@ use hack_files::reason::tell_reason;
 use hack_files::restore::Manager;
 use hack_load::context::{Answers, Context, ContextFault};
 use hack_planner::looks::long_looks;
+use hack_planner::stable::Stable;
 use hack_prepare::manifest::{PrepareFault, finish, prepare};
 use hack_starts::starts::Starts;
 use hack_term::term::Term;
-use hack_versions::version::Version;
 use hack_words::cli::Args;
 use std::alloc::{AllocError, Global};
 
@@ -283,7 +283,7 @@ fn leave_report(alloc: Global, fault: &PrepareFault, manager: &mut Manager)
 /// Lists the plan or performs it.
 fn run_plan<C: Starts, O: Sink, E: Sink>(
     cx: &Context,
-    stable: Result<Option<Version>, String>,
+    stable: Stable,
     host: &mut Host<'_, C, O, E>,
 ) -> Result<(), RunFault>
     requires { IsAnswered (context_view cx.now).args stable }

@@ -11,6 +11,7 @@ use hack_files::restore::Manager;
 use hack_load::context::{Answers, Context, ContextFault};
 use hack_planner::fault::PlanFault;
 use hack_planner::plan::{Plan, plan_of};
+use hack_planner::stable::Stable;
 use hack_prepare::manifest::{PrepareFault, prepare};
 use hack_process::process::{End, FakeCaller};
 use hack_session::session::{Outcome, Session};
@@ -153,7 +154,7 @@ fn edit(alloc: Global, cx: &Context, files: &mut MemoryFiles) -> Result<(), Faul
 }
 
 fn planned(alloc: Global, cx: &Context) -> Result<Plan, Fault> {
-    match plan_of(alloc, cx, "rustup", Ok(Some(STABLE))) {
+    match plan_of(alloc, cx, "rustup", Stable::Known(STABLE)) {
         Ok((plan, _)) => Ok(plan),
         Err(PlanFault::Memory) => Err(Fault::Memory("plan_of")),
         Err(_) => Err(Fault::Other("plan_of")),

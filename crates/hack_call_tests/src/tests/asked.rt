@@ -10,6 +10,7 @@ use hack_holds::{Ask, Wrong, hold};
 use hack_load::context::Context;
 use hack_planner::fault::PlanFault;
 use hack_planner::plan::{Plan, plan_of};
+use hack_planner::stable::Stable;
 use hack_versions::version::Version;
 use std::alloc::{AllocError, Global};
 
@@ -78,10 +79,10 @@ fn planned(
         patch: None,
     };
     match stable {
-        None => plan_of(alloc, cx, "/bin/rustup", Ok(Some(latest))),
+        None => plan_of(alloc, cx, "/bin/rustup", Stable::Known(latest)),
         Some(fault) => {
             let fault = String::from_str(alloc, fault)?;
-            plan_of(alloc, cx, "/bin/rustup", Err(fault))
+            plan_of(alloc, cx, "/bin/rustup", Stable::Unknown(fault))
         }
     }
 }

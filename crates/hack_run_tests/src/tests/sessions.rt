@@ -10,6 +10,7 @@ use hack_drive::drive::{Teller, drive_context};
 use hack_holds::Wrong;
 use hack_load::context::Context;
 use hack_planner::plan::{Plan, plan_of};
+use hack_planner::stable::Stable;
 use hack_process::process::ProcessFault;
 use hack_session::session::{Session, Starter, drive_plan};
 use hack_versions::version::Version;
@@ -24,7 +25,7 @@ const STABLE: Version = Version {
 
 /// The plan of a context.
 pub fn planned(alloc: Global, cx: &Context) -> Result<Plan, Wrong> {
-    match plan_of(alloc, cx, "rustup", Ok(Some(STABLE))) {
+    match plan_of(alloc, cx, "rustup", Stable::Known(STABLE)) {
         Ok((plan, _)) => Ok(plan),
         Err(_) => Err(unanswered(alloc, "no plan")),
     }
@@ -39,7 +40,7 @@ pub fn driven<R: Teller>(alloc: Global, cx: &Context, runner: &mut R) -> Result<
 
 /// Drives a context, and prints its notices.
 fn driven_whole<R: Teller>(alloc: Global, cx: &Context, runner: &mut R) -> Result<Session, Wrong> {
-    match drive_context(alloc, cx, "rustup", Ok(Some(STABLE)), runner) {
+    match drive_context(alloc, cx, "rustup", Stable::Known(STABLE), runner) {
         Ok(session) => Ok(session),
         Err(_) => Err(unanswered(alloc, "no plan")),
     }

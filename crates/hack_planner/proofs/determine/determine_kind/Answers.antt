@@ -1,4 +1,4 @@
-use Rattle.std.proofs.Common.{◌∙◌, ◌≡◌, ◌⊎◌, ap, map, subst}
+use Rattle.std.proofs.Common.{◌∙◌, ◌≡◌, ap, map, subst}
 use Rattle.hack_load.proofs.ContextLemmas.{context-whole}
 use Rattle.hack_load.specs.ContextView.{context_view}
 use Rattle.hack_load.specs.declared.features.Features.{Features}
@@ -8,9 +8,8 @@ use Rattle.hack_base.specs.Notes.{note_of}
 use Rattle.hack_samples.specs.Sets.{rows_of}
 use Rattle.hack_words.specs.declared.cli.args.Args.{Args}
 use Rattle.hack_planner.specs.Calls.{package_notes, rules_at}
-use Rattle.hack_planner.specs.KindsView.{AreRunsBy, IsRunsFault}
+use Rattle.hack_planner.specs.KindsView.{AreRunsBy}
 use Rattle.hack_planner.specs.PackageRules.{PackageRulesRecord, rules_in}
-use Rattle.hack_planner.specs.declared.fault.RunsFault.TheVariants as fault
 use Rattle.hack_planner.proofs.PackageRuleLemmas.{at-place}
 use Rattle.hack_planner.proofs.determine.determine_kind.Goals as goal
 

@@ -1,4 +1,4 @@
-use Rattle.std.proofs.Common.{◌≡◌, ◌∙◌, ap, sym}
+use Rattle.std.proofs.Common.{◌∙◌, ap, sym}
 use Rattle.std.proofs.lemmas.Result.{IfOk-weaker}
 use Rattle.hack_base.specs.Names.{Name}
 use Rattle.hack_load.proofs.ContextLemmas.{context-whole}

@@ -1,11 +1,8 @@
-use Rattle.std.proofs.Common.{◌≡◌, ◌⊎◌, List, None, map, subst}
+use Rattle.std.proofs.Common.{◌≡◌, List, None, map, subst}
 use Rattle.hack_load.specs.ContextView.{context_view}
 use Rattle.hack_metadata.specs.RecordViews.{place_at}
 use Rattle.hack_metadata.specs.declared.metadata.resolve.PackageId.{PackageId}
 use Rattle.hack_planner.specs.Calls.{table_fault}
-use Rattle.hack_planner.specs.Internal.{SaysFault}
-use Rattle.hack_planner.specs.declared.fault.PlanFault.TheVariants.{Memory}
-use Rattle.hack_planner.proofs.CauseLemmas.{table-cause}
 use Rattle.hack_planner.proofs.ChosenLemmas.{ids-in}
 use Rattle.hack_planner.proofs.plan.chosen_list.Goals as goal
 

@@ -2,7 +2,7 @@ use Rattle.std.proofs.Common.{◌≡◌, ◌∙◌, List, [], Bool, Result, Glob
 use Rattle.std.proofs.lemmas.Result.{IfOk-weaker}
 use Rattle.std.specs.Prelude.{filter}
 use Rattle.hack_base.specs.Names.{Name, names_of}
-use Rattle.hack_base.specs.Notes.{Note, note_of}
+use Rattle.hack_base.specs.Notes.{Note}
 use Rattle.hack_metadata.specs.RecordViews.{package_view, rules_reading}
 use Rattle.hack_metadata.specs.declared.metadata.rules.RulesTable.{RulesTable}
 use Rattle.hack_planner.specs.MemberNotes.{warning_note}

@@ -1,4 +1,4 @@
-use Rattle.std.proofs.Common.{◌≡◌, ◌∙◌, List, Option, Global, String, ap, map, not, option_map, string_bytes}
+use Rattle.std.proofs.Common.{◌∙◌, List, Option, Global, String, ap, not, option_map, string_bytes}
 use Rattle.std.specs.Prelude.{Vec, filter}
 use Rattle.hack_features.specs.Feature.{groups_of}
 use Rattle.hack_base.specs.Names.{Name, names_of}
