@@ -84,7 +84,7 @@ impl Asked {
         ensures asks { IfOk result (λ asked. AsksForEdits env.now (names_of words.now)
             asked.edits (optional_text asked.manifest_path)) }
         // Where edits come back, none is asked for that stays, whatever rustup answers.
-        ensures back { IfOk result (λ asked. asked.edits ≡ Edits.Back
+        ensures back { IfOk result (λ asked. asked.edits ≡ Edits.Temporary
             → RestoresEdits env.now (names_of words.now)) }
         ensures reading { IfOk result (λ asked. IfSome asked.reading
             (IsEarlyReading env.now (names_of words.now))) }
