@@ -1,5 +1,5 @@
 -- Which call of files failed.
-use Rattle.std.proofs.Common.{◌≡◌, ◌∷◌, [], ℕ, inl, inr, subst, true, string_bytes}
+use Rattle.std.proofs.Common.{◌≡◌, ◌∷◌, [], ℕ, inl, inr, subst, true}
 use Rattle.std.specs.Prelude.{Err, Ok, Result}
 use Rattle.std.specs.Result.{is_err}
 use Rattle.hack_base.specs.Counters.{GrowsBy}

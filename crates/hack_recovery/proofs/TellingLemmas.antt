@@ -2,7 +2,6 @@
 use Rattle.std.proofs.Common.{◌≡◌, ◌∙◌, ℕ, Bool, false, true, refl, sym}
 use Rattle.std.specs.Prelude.{◌≢◌, Err, Ok, Result}
 use Rattle.hack_base.specs.Counters.{GrowsBy}
-use Rattle.hack_base.specs.Names.{Name}
 use Rattle.hack_files.specs.Files.{Contents}
 use Rattle.hack_journal.proofs.RecoverLemmas.{never_no_journal}
 use Rattle.hack_journal.specs.Recovery.{CountsRecoverFault, IsWhyUnread}

@@ -4,7 +4,7 @@ use Rattle.hack_files.specs.Files.{Contents}
 use Rattle.hack_places.specs.CallPlaces.{ArePlacesOf, PlacesAt, is_left}
 use Rattle.hack_places.specs.JournalPlaces.{journal_of}
 use Rattle.hack_places.specs.PlacesView.{places_view}
-use Rattle.hack_places.proofs.LookLemmas.{seen_first}
+use Rattle.hack_places.proofs.LookLemmas.{seen_first, seen_more}
 use Rattle.hack_recovery.proofs.begin.find.Goals as goal
 
 pub returns-clause-found : goal.returns-clause-found
@@ -31,3 +31,8 @@ returns-clause-found g c =
       });
       seen = seen_first T (λ (m : Contents). left ≡ is_left m places) first late (λ t q. c.in_ok-places.ensures.same t q ∙ c.in_ok-found.ensures.same t q) c.in_ok-is_left.ensures.found;
     }
+
+pub returns-clause-seen : goal.returns-clause-seen
+returns-clause-seen g c =
+    seen_more g.F.Files c.args.files.now c.workspace.new.files c.is_left.new.files c.in_ok-found.ensures.seen
+    (seen_more g.F.Files c.workspace.new.files c.of.new.files c.is_left.new.files c.in_ok-places.ensures.seen c.in_ok-is_left.ensures.seen)
