@@ -1,10 +1,9 @@
 -- Which calls of files failed while what a call needs was loaded.
-use Rattle.std.proofs.Common.{◌≡◌, ◌⊎◌, ◌<◌, inl, inr, ℕ, List, [], ◌∷◌, None, Some, Result, Ok, Err, ap, sym, subst, string_bytes}
-use Rattle.std.specs.Prelude.{Contains, Option, slice_get}
+use Rattle.std.proofs.Common.{inl, inr, ℕ, List, [], Result, Ok, Err, sym, subst, string_bytes}
 use Rattle.hack_base.specs.Names.{Name}
 use Rattle.hack_files.specs.Faults.{IsOfText, IsUnseenUnlessNoText}
 use Rattle.hack_files.specs.Files.{Change, Contents, KeepsAll}
-use Rattle.hack_files.specs.FailedCalls.{LookFailed, NoneFailed, ReadFailed}
+use Rattle.hack_files.specs.FailedCalls.{NoneFailed, ReadFailed}
 use Rattle.hack_files.specs.declared.fs.Files.{Ghosts as Filing}
 use Rattle.hack_files.specs.declared.fs.FsFault.{FsFault}
 use Rattle.hack_files.specs.declared.fs.FsFault.TheVariants as fs
@@ -16,31 +15,30 @@ use Rattle.hack_process.specs.CommandTexts.{Command}
 use Rattle.hack_metadata.specs.FailedQuestions.{IsOfCallAt}
 use Rattle.hack_metadata.specs.QuestionCalls.{EndsSo, QuestionEndsWith, Stage}
 use Rattle.hack_metadata.specs.Requests.{Question}
-use Rattle.hack_metadata.specs.Records.{MetadataRecord}
 use Rattle.hack_metadata.specs.declared.ask.fault.AskFault.{AskFault}
 use Rattle.hack_metadata.specs.declared.ask.fault.AskFault.TheVariants as ask
 use Rattle.hack_metadata.specs.declared.metadata.Metadata.{Metadata}
 use Rattle.hack_load.specs.Answers.{IsAskFault}
 use Rattle.hack_load.specs.CargoQuestions.{FailsLocate}
-use Rattle.hack_load.specs.FailedLoads.{FailsOnlyReading, FailsToLoad, IsManifestAt, IsMemberPath, IsOfLoading, IsOfReadAt}
+use Rattle.hack_load.specs.FailedLoads.{FailsOnlyReading, FailsToLoad, IsOfLoading, IsOfReadAt}
 use Rattle.hack_load.specs.Internal.{IsCallFaultOfFile, IsOfManifest}
 use Rattle.hack_load.specs.declared.fault.ContextFault.{ContextFault}
 use Rattle.hack_load.specs.declared.fault.ContextFault.TheVariants as faults
 
 module _ {F : Type 0} (f : Filing F) where
   -- the read of a manifest failed
-  pub text-of : {T : Type 0} (P : Name → Type 0) (path : Name) (a b : F) (x y : ℕ) (t : FsFault) (e : ContextFault) → P path → IsCallFaultOfFile t e → f.refuses a b []
+  pub text-of : (T : Type 0) (P : Name → Type 0) (path : Name) (a b : F) (x y : ℕ) (t : FsFault) (e : ContextFault) → P path → IsCallFaultOfFile t e → f.refuses a b []
       → IsUnseenUnlessNoText {T = T} (f.unseen a b) f.tells (f.bytes_at a path) path (Err t) → IsOfText path f.tells (f.bytes_at a path) x y t → IsOfReadAt f P a b e
-  text-of P path a b x y fs.Memory e here is refused (inl unseen) of = subst (IsOfReadAt f P a b) (sym is) (inr (path, here, record { unseen = unseen; refused = refused }))
-  text-of P path a b x y fs.Memory e here is refused (inr unseen) of = subst (IsOfReadAt f P a b) (sym is) (inl (record { unseen = unseen; refused = refused }))
-  text-of P path a b x y (fs.Read p) e here is refused (inl unseen) of =
+  text-of T P path a b x y fs.Memory e here is refused (inl unseen) of = subst (IsOfReadAt f P a b) (sym is) (inr (path, here, record { unseen = unseen; refused = refused }))
+  text-of T P path a b x y fs.Memory e here is refused (inr unseen) of = subst (IsOfReadAt f P a b) (sym is) (inl (record { unseen = unseen; refused = refused }))
+  text-of T P path a b x y (fs.Read p) e here is refused (inl unseen) of =
       let failed : ReadFailed f path a b = inl (record { unseen = unseen; refused = refused }) in
       subst (IsOfReadAt f P a b) (sym is) (subst (λ q. P q × ReadFailed f q a b) (sym of.0) (here, failed))
-  text-of P path a b x y (fs.Read p) e here is refused (inr none) of =
+  text-of T P path a b x y (fs.Read p) e here is refused (inr none) of =
       let failed : ReadFailed f path a b = inr (record { unseen = none.0; refused = refused }, none.1, none.2) in
       subst (IsOfReadAt f P a b) (sym is) (subst (λ q. P q × ReadFailed f q a b) (sym of.0) (here, failed))
-  text-of P path a b x y (fs.Write p) e here is refused h of = absurd of
-  text-of P path a b x y (fs.NotText p) e here is refused unseen of = subst (IsOfReadAt f P a b) (sym is) (record { unseen = unseen; refused = refused })
+  text-of T P path a b x y (fs.Write p) e here is refused h of = absurd of
+  text-of T P path a b x y (fs.NotText p) e here is refused unseen of = subst (IsOfReadAt f P a b) (sym is) (record { unseen = unseen; refused = refused })
 
   -- a text is no manifest
   pub manifest-none : (P : Name → Type 0) (a b : F) (t : ManifestFault) (e : ContextFault) → IsOfManifest t e → NoneFailed f a b → IsOfReadAt f P a b e

@@ -31,7 +31,7 @@ returns-in-Err-new-clause-err g c =
 pub returns-in-Err-clause-calls : goal.returns-in-Err-clause-calls
 returns-in-Err-clause-calls g c =
     let m = metadata_view c.args.metadata.now in
-    text-of g.F.Files (IsManifestAt m c.args.id.index) c.as_str-path.result.now c.args.files.now c.read_to_string.new.files _ _ c.in-Err.fault c.of_file.result
+    text-of g.F.Files (Unit {0}) (IsManifestAt m c.args.id.index) c.as_str-path.result.now c.args.files.now c.read_to_string.new.files _ _ c.in-Err.fault c.of_file.result
     (package_view c.get.result.now, package-at c.args.metadata.now.packages.items c.args.id.index c.get.result.now c.get.ensures, c.as_str-path.ensures.value)
     c.of_file.ensures c.in-Err.ensures.refused_none c.in-Err.ensures.unseen c.in-Err.ensures.fault
 

@@ -75,3 +75,8 @@ returns-in-Err-clause-calls g c =
     (λ path here. (at, id-contained ms i (record { index = 0 }) (subst (λ (xs : List PackageId). i < length xs) is c.loop-id-test.true), here))
     c.loop-id.invariant.4 c.loop-id.invariant.1.1
     (subst (λ (xs : List PackageId). IsOfReadAt g.F.Files (IsManifestAt m (get_or xs i (record { index = 0 })).index) c.loop-id.files c.manifest_of.new.files c.in-Err.fault) is c.in-Err.ensures.calls)
+
+pub returns-in_err-push-clause-calls : goal.returns-in_err-push-clause-calls
+returns-in_err-push-clause-calls g c =
+    let p = err_from_is_err_and c.from_residual.result c.from_residual.ensures.1 in
+    rw (p.1, p.2) (inl (none_then g.F.Files _ _ _ c.loop-id.invariant.4 c.in-Ok.ensures.calls))

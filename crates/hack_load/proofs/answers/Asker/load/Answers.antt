@@ -74,7 +74,7 @@ returns-in-Ok-clause-undone g c =
     λ called. inl (record {
       metadata = c.in-Ok.metadata;
       mid = mid;
-      told = ends-with g.F.Files.tells q (g.F.Files.bytes_at c.args.files.now) (g.C.Caller.calls c.args.caller.now) mid _ c.in-Ok.metadata (c.in-Ok.ensures.ends called);
+      told = ends-with g.F.Files.tells q (g.F.Files.bytes_at c.args.files.now) (g.C.Caller.calls c.args.caller.now) mid (WroteWhereKnown g.F.Files.whole g.F.Files.tells (g.F.Files.trace c.args.files.now) (g.F.Files.trace c.new.new.files) (g.F.Files.bytes_at c.args.files.now) (g.F.Files.bytes_at c.new.new.files)) c.in-Ok.metadata (c.in-Ok.ensures.ends called);
       reads = only-then g.F.Files _ (λ path. (last ≡ mid) × IsMemberPath (metadata_view c.in-Ok.metadata) path) c.args.files.now c.new.new.files c.load_behind.new.files c.load_behind.result (λ path here. (here.0 called, here.1)) c.in-Ok.ensures.calls.1 c.in-Ok.ensures.left.1.1 c.load_behind.ensures.calls;
     })
 
