@@ -10,7 +10,8 @@ use Rattle.hack_files.specs.declared.fs.Files.{Ghosts as Filing}
 use Rattle.hack_files.specs.declared.fs.FsFault.{FsFault}
 use Rattle.hack_files.specs.declared.fs.FsFault.TheVariants as fs
 use Rattle.hack_manifest.specs.LineRuns.{has_some}
-use Rattle.hack_prepare.specs.FailedCalls.{FailsOnlySo, IsAbsent, IsOfFailedCall, LookFailed, NoneFailed, WriteFailed}
+use Rattle.hack_files.specs.FailedCalls.{LookFailed, NoneFailed, WriteFailed}
+use Rattle.hack_prepare.specs.FailedCalls.{FailsOnlySo, IsAbsent, IsOfFailedCall}
 use Rattle.hack_prepare.specs.Faults.{IsDevFault, IsPrivateFault}
 use Rattle.hack_prepare.specs.Internal.{IsOfFile, KeepsApart, OnlyIf}
 use Rattle.hack_prepare.specs.Paths.{IsReadRoot}

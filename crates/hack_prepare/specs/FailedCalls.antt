@@ -1,28 +1,14 @@
 -- Which call of files failed. A read of a path that holds nothing leaves none unseen, and only a write
 -- or a removal that is refused adds to those, so no failure can be made up.
-use Rattle.std.specs.Prelude.{◌≡◌, ◌⊎◌, ◌∷◌, [], None, Result, Ok, Err, string_bytes}
+use Rattle.std.specs.Prelude.{◌≡◌, ◌⊎◌, None, Result, Ok, Err, string_bytes}
 use Rattle.hack_base.specs.Names.{Name}
+use Rattle.hack_files.specs.FailedCalls.{LookFailed, NoneFailed, WriteFailed}
 use Rattle.hack_files.specs.Files.{Contents}
 use Rattle.hack_files.specs.declared.fs.Files.{Ghosts as Filing}
 use Rattle.hack_files.specs.declared.fs.FsFault.{FsFault}
 use Rattle.hack_files.specs.declared.fs.FsFault.TheVariants as fs
 use Rattle.hack_prepare.specs.declared.fault.PrepareFault.{PrepareFault}
 use Rattle.hack_prepare.specs.declared.fault.PrepareFault.TheVariants.{Memory, PrivateRoot, Files, Toml, InlineTarget, WorkspaceForm, PathText, ReadBack}
-
--- no path was unseen, and no write or removal was refused
-pub record NoneFailed {F : Type 0} (f : Filing F) (old new : F) : Type 0 where
-  pub unseen : f.unseen old new []
-  pub refused : f.refuses old new []
-
--- this path was unseen, and nothing else failed
-pub record LookFailed {F : Type 0} (f : Filing F) (path : Name) (old new : F) : Type 0 where
-  pub unseen : f.unseen old new (path ∷ [])
-  pub refused : f.refuses old new []
-
--- the write of this path was refused, and nothing else failed
-pub record WriteFailed {F : Type 0} (f : Filing F) (path : Name) (old new : F) : Type 0 where
-  pub unseen : f.unseen old new []
-  pub refused : f.refuses old new (path ∷ [])
 
 -- one call failed, at some path
 abbrev pub OneFailed : {F : Type 0} → Filing F → F → F → Type 0

@@ -7,7 +7,8 @@ use Rattle.hack_base.specs.Names.{Name}
 use Rattle.hack_files.specs.Files.{refused_path}
 use Rattle.hack_files.specs.declared.fs.Files.{Ghosts as Filing}
 use Rattle.hack_files.specs.declared.fs.FsFault.TheVariants as fs
-use Rattle.hack_journal.specs.FailedCalls.{IsOfFailedCall, LookFailed}
+use Rattle.hack_files.specs.FailedCalls.{LookFailed}
+use Rattle.hack_journal.specs.FailedCalls.{IsOfFailedCall}
 use Rattle.hack_journal.specs.Refusing.{IsRefused, IsUnseen}
 use Rattle.hack_journal.specs.declared.recover.RecoverFault.{RecoverFault}
 use Rattle.hack_journal.specs.declared.recover.RecoverFault.TheVariants as unrecovered

@@ -1,7 +1,7 @@
 use Rattle.std.proofs.Common.{map, take}
 use Rattle.hack_base.specs.Names.{names_behind}
 use Rattle.hack_base.specs.Notes.{note_of}
-use Rattle.hack_prepare.specs.FailedCalls.{NoneFailed}
+use Rattle.hack_files.specs.FailedCalls.{NoneFailed}
 use Rattle.hack_prepare.specs.PreparedView.{wanted_view}
 use Rattle.hack_prepare.specs.Internal.{KeepsNext, alone_paths, members_view}
 use Rattle.hack_prepare.specs.Writes.{AreDevWrites, MakesSome}
