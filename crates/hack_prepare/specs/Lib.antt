@@ -1,5 +1,6 @@
 pub mod FailureCounts
 pub mod Faults
+pub mod FailedCalls
 pub mod Paths
 pub mod Prepared
 pub mod PreparedView

@@ -7,7 +7,7 @@ use Rattle.hack_base.specs.Names.{Name}
 use Rattle.hack_files.specs.Files.{Change, Contents}
 use Rattle.hack_base.specs.Notes.{Note}
 use Rattle.hack_prepare.specs.Faults.{IsEditsFault}
-use Rattle.hack_prepare.specs.Paths.{IsTouched}
+use Rattle.hack_prepare.specs.Paths.{IsReadRoot, IsTouched}
 use Rattle.hack_prepare.specs.Prepared.{HasPrivateRoot, HoldTexts, IsPartlyPrepared, IsPrepared, KeepsUnedited, MemberManifest, Wanted, edits}
 use Rattle.hack_prepare.specs.EditNotes.{notes}
 use Rattle.hack_prepare.specs.Writes.{AreWrites, BeginWrites}
@@ -80,6 +80,10 @@ BeginWritesIn cx tells = BeginWrites tells (wanted_in cx) (member_manifests_in c
 -- a path that is edited, or the lockfile, where manifests are edited at all
 abbrev pub IsTouchedIn : ContextRecord → Name → Type 0
 IsTouchedIn cx p = (edits_in cx ≡ true) × IsTouched (wanted_in cx) (member_manifests_in cx) p
+
+-- the manifest in the folder of the workspace, which is edited, and which no member has read
+abbrev pub IsReadRootIn : ContextRecord → Name → Type 0
+IsReadRootIn cx = IsReadRoot (wanted_in cx) (member_manifests_in cx)
 
 -- the notices on the edits
 abbrev pub notes_in : ContextRecord → List Note

@@ -3,6 +3,7 @@
 ghost use Rattle.std.specs.Prelude.{◌≡◌, ◌⊎◌, ◌∷◌, [], OnOk, IfErr, IfSome, true};
 ghost use Rattle.hack_files.specs.Files.{KeepsAll, Makes};
 ghost use Rattle.hack_files.specs.Restore.{is_kept, registered_files};
+ghost use Rattle.hack_prepare.specs.FailedCalls.{FailsOnlySo};
 ghost use Rattle.hack_prepare.specs.FailureCounts.{CountsCalls};
 ghost use Rattle.hack_prepare.specs.Faults.{IsPathFaultOr};
 ghost use Rattle.hack_prepare.specs.Internal.{NoFault};
@@ -15,7 +16,7 @@ use hack_files::restore::Manager;
 use std::alloc::Global;
 
 /// Keeps what the lockfile holds, where there is one.
-#[tactic(auto, using(crate::proofs::StepLemmas::keeps_none))]
+#[tactic(auto, using(crate::proofs::StepLemmas::keeps_none, crate::proofs::FailedLemmas::call_steps))]
 pub(crate) fn keep_lockfile<F: Files>(
     alloc: Global,
     path: &str,
@@ -24,6 +25,7 @@ pub(crate) fn keep_lockfile<F: Files>(
 ) -> Result<(), PrepareFault>
     ensures stays { F.stays files.old files.new }
     ensures counted { CountsCalls (F.failed files.old) (F.failed files.new) result }
+    ensures calls { FailsOnlySo F.Files Nowhere files.old files.new result }
     ensures step { IsStep F.tells AnyStart (Only path.now) manager.old manager.new
         (F.bytes_at files.old) (F.bytes_at files.new) }
     ensures kept { OnOk result (F.tells → manager.old.needs_restore ≡ true

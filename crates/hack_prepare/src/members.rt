@@ -5,6 +5,7 @@ ghost use Rattle.std.specs.List.{flat_map};
 ghost use Rattle.hack_files.specs.Files.{KeepsOthers};
 ghost use Rattle.hack_base.specs.Names.{names_behind};
 ghost use Rattle.hack_base.specs.Notes.{AddsNotes};
+ghost use Rattle.hack_prepare.specs.FailedCalls.{FailsOnlySo};
 ghost use Rattle.hack_prepare.specs.FailureCounts.{CountsCalls, WriteFails};
 ghost use Rattle.hack_prepare.specs.Faults.{AtWrite, IsDevFault, IsPathFaultOr, IsMembersFault};
 ghost use Rattle.hack_prepare.specs.Internal.{IsAlonePath, Nowhere, Only};
@@ -31,7 +32,7 @@ use std::alloc::Global;
 
 /// Removes the development dependencies from the manifests that are edited by themselves, and
 /// returns the manifests of the members that are removed.
-#[tactic(auto, using(crate::proofs::StepLemmas::keeps_none, crate::proofs::WriteLemmas::dev_all))]
+#[tactic(auto, using(crate::proofs::StepLemmas::keeps_none, crate::proofs::WriteLemmas::dev_all, crate::proofs::FailedLemmas::call_steps))]
 pub(crate) fn edit_members<'a, F: Files>(
     alloc: Global,
     wanted: &Wanted<'_>,
@@ -42,6 +43,7 @@ pub(crate) fn edit_members<'a, F: Files>(
 ) -> Result<Vec<&'a str>, PrepareFault>
     ensures stays { F.stays files.old files.new }
     ensures counted { CountsCalls (F.failed files.old) (F.failed files.new) result }
+    ensures calls { FailsOnlySo F.Files Nowhere files.old files.new result }
     ensures step { IsStep F.tells (λ start. HoldTexts start (members_view members.now))
         (IsAlonePath (wanted_view wanted.now) (members_view members.now)) manager.old manager.new
         (F.bytes_at files.old) (F.bytes_at files.new) }
@@ -94,7 +96,7 @@ pub(crate) fn edit_members<'a, F: Files>(
 }
 
 /// Removes the development dependencies from a member's manifest.
-#[tactic(auto, using(crate::proofs::StepLemmas::keeps_none))]
+#[tactic(auto, using(crate::proofs::StepLemmas::keeps_none, crate::proofs::FailedLemmas::call_steps))]
 fn edit_member<F: Files>(
     alloc: Global,
     verbose: bool,
@@ -105,6 +107,7 @@ fn edit_member<F: Files>(
 ) -> Result<(), PrepareFault>
     ensures stays { F.stays files.old files.new }
     ensures counted { CountsCalls (F.failed files.old) (F.failed files.new) result }
+    ensures calls { FailsOnlySo F.Files Nowhere files.old files.new result }
     ensures step { IsStep F.tells (HoldsText (member_manifest_view member.now))
         (Only (member_manifest_view member.now).path) manager.old manager.new
         (F.bytes_at files.old) (F.bytes_at files.new) }

@@ -11,14 +11,16 @@ ghost use Rattle.hack_load.specs.ContextView.{context_view};
 ghost use Rattle.hack_base.specs.Names.{Name};
 ghost use Rattle.hack_base.specs.Notes.{note_of};
 ghost use Rattle.hack_base.specs.Streams.{WritesSome, stream_of};
+ghost use Rattle.hack_prepare.specs.FailedCalls.{FailsOnlySo, IsAbsent};
 ghost use Rattle.hack_prepare.specs.FailureCounts.{CountsCalls, WriteFails};
 ghost use Rattle.hack_prepare.specs.Faults.{AtWrite, IsEditsFault};
-ghost use Rattle.hack_prepare.specs.Paths.{IsTouched};
+ghost use Rattle.hack_prepare.specs.Paths.{IsReadRoot, IsTouched};
 ghost use Rattle.hack_prepare.specs.Prepared.{HasPrivateRoot, HoldTexts, IsPartlyPrepared};
 ghost use Rattle.hack_prepare.specs.Prepared.{IsPrepared, KeepsUnedited};
 ghost use Rattle.hack_prepare.specs.PreparedView.{HasPrivateRootIn, HoldTextsIn};
 ghost use Rattle.hack_prepare.specs.PreparedView.{IsPartlyPreparedIn, IsPrepareFault};
-ghost use Rattle.hack_prepare.specs.PreparedView.{IsPreparedIn, IsTouchedIn, KeepsUneditedIn};
+ghost use Rattle.hack_prepare.specs.PreparedView.{IsPreparedIn, IsReadRootIn};
+ghost use Rattle.hack_prepare.specs.PreparedView.{IsTouchedIn, KeepsUneditedIn};
 ghost use Rattle.hack_prepare.specs.PreparedView.{AreWritesIn, BeginWritesIn};
 ghost use Rattle.hack_prepare.specs.PreparedView.{edits_in, notes_in};
 ghost use Rattle.hack_prepare.specs.Internal.{members_view};
@@ -47,7 +49,7 @@ use std::alloc::Global;
 /// `--remove-dev-deps` remove development dependencies, `--no-private` removes private members. The
 /// manager keeps what a file holds before it is written, and also the lockfile, which cargo may
 /// change; it restores them, unless the edits are to stay. With `--verbose` each edit has a notice.
-#[tactic(auto, using(crate::proofs::StepLemmas::keeps_none))]
+#[tactic(auto, using(crate::proofs::StepLemmas::keeps_none, crate::proofs::FailedLemmas::call_steps))]
 pub fn prepare<F: Files>(
     alloc: Global,
     cx: &Context,
@@ -126,6 +128,11 @@ pub fn prepare<F: Files>(
     // Each error has its cause.
     ensures err { IfErr result
         (IsPrepareFault (context_view cx.now) F.tells (F.bytes_at files.old)) }
+
+    // No call fails but that of the path which the error names: a path that isn't seen, or a write
+    // that is refused. Only the manifest in the folder of the workspace may be absent.
+    ensures calls { FailsOnlySo F.Files (IsAbsent F.tells (F.bytes_at files.old)
+        (IsReadRootIn (context_view cx.now))) files.old files.new result }
 {
     let args = cx.args();
     let drops_dev = drops_dev(args);
@@ -171,6 +178,9 @@ fn edit<F: Files>(
 ) -> Result<Vec<Notice>, PrepareFault>
     ensures stays { F.stays files.old files.new }
     ensures counted { CountsCalls (F.failed files.old) (F.failed files.new) result }
+    ensures calls { FailsOnlySo F.Files (IsAbsent F.tells (F.bytes_at files.old)
+        (IsReadRoot (wanted_view wanted.now) (members_view members.now)))
+        files.old files.new result }
     ensures step { IsStep F.tells (λ start. HoldTexts start (members_view members.now))
         (IsTouched (wanted_view wanted.now) (members_view members.now))
         manager.old manager.new (F.bytes_at files.old) (F.bytes_at files.new) }

@@ -2,6 +2,7 @@
 
 ghost use Rattle.std.specs.Prelude.{◌≡◌, ◌⊎◌, ◌∷◌, [], IfErr, OnOk, OnErr, Some};
 ghost use Rattle.hack_files.specs.Files.{KeepsOthers, Makes, MakesOrNot, puts};
+ghost use Rattle.hack_prepare.specs.FailedCalls.{FailsOnlySo};
 ghost use Rattle.hack_prepare.specs.FailureCounts.{CountsCalls, WriteFails};
 ghost use Rattle.hack_prepare.specs.Faults.{IsPathFaultOr};
 ghost use Rattle.hack_prepare.specs.Internal.{NoFault};
@@ -14,7 +15,7 @@ use hack_files::restore::Manager;
 use std::alloc::Global;
 
 /// Replaces what a manifest holds by a text. What it held is kept first.
-#[tactic(auto, using(crate::proofs::StepLemmas::keeps_none, crate::proofs::WriteLemmas::makes_none))]
+#[tactic(auto, using(crate::proofs::StepLemmas::keeps_none, crate::proofs::WriteLemmas::makes_none, crate::proofs::FailedLemmas::call_steps))]
 pub(crate) fn replace<F: Files>(
     alloc: Global,
     path: &str,
@@ -25,6 +26,7 @@ pub(crate) fn replace<F: Files>(
 ) -> Result<(), PrepareFault>
     ensures stays { F.stays files.old files.new }
     ensures counted { CountsCalls (F.failed files.old) (F.failed files.new) result }
+    ensures calls { FailsOnlySo F.Files Nowhere files.old files.new result }
     ensures step { IsStep F.tells (HeldUnkept manager.old path.now held.now) (Only path.now)
         manager.old manager.new (F.bytes_at files.old) (F.bytes_at files.new) }
     ensures order { OnOk result (KeepsNext (path.now ∷ []) manager.old manager.new) }

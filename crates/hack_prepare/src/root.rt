@@ -10,6 +10,7 @@ ghost use Rattle.hack_base.specs.Notes.{AddsNotes};
 ghost use Rattle.hack_edits.specs.DevDeps.{IsWithoutDev};
 ghost use Rattle.hack_edits.specs.Members.{in_order};
 ghost use Rattle.hack_edits.specs.PrivateCrates.{IsWithoutPrivate};
+ghost use Rattle.hack_prepare.specs.FailedCalls.{FailsOnlySo, IsAbsent};
 ghost use Rattle.hack_prepare.specs.FailureCounts.{CountsCalls, WriteFails};
 ghost use Rattle.hack_prepare.specs.Faults.{IsDevFault, IsPathFaultOr, IsPrivateFault};
 ghost use Rattle.hack_prepare.specs.Internal.{IsHeldFault};
@@ -57,7 +58,7 @@ struct Held<'t, 'g, 'm> {
 }
 
 /// Edits the manifest in the folder of the workspace, where that is wanted.
-#[tactic(auto, using(crate::proofs::StepLemmas::keeps_none))]
+#[tactic(auto, using(crate::proofs::StepLemmas::keeps_none, crate::proofs::FailedLemmas::call_steps))]
 pub(crate) fn edit_root<F: Files>(
     alloc: Global,
     wanted: &Wanted<'_>,
@@ -70,6 +71,9 @@ pub(crate) fn edit_root<F: Files>(
         (members_view members.now.all.now) }
     ensures stays { F.stays files.old files.new }
     ensures counted { CountsCalls (F.failed files.old) (F.failed files.new) result }
+    ensures calls { FailsOnlySo F.Files (IsAbsent F.tells (F.bytes_at files.old)
+        (IsReadRoot (wanted_view wanted.now) (members_view members.now.all.now)))
+        files.old files.new result }
     ensures step { IsStep F.tells (λ start. HoldTexts start (members_view members.now.all.now))
         (OnlyIf (edits_root (wanted_view wanted.now) (members_view members.now.all.now))
         wanted.now.root.now)
@@ -144,7 +148,7 @@ fn root_text<'a>(wanted: &Wanted<'_>, members: &[Member<'a>]) -> Option<&'a str>
 }
 
 /// Edits a virtual manifest, which belongs to no member: it is read here.
-#[tactic(auto, using(crate::proofs::StepLemmas::keeps_none))]
+#[tactic(auto, using(crate::proofs::StepLemmas::keeps_none, crate::proofs::FailedLemmas::call_steps))]
 fn edit_virtual<F: Files>(
     alloc: Global,
     wanted: &Wanted<'_>,
@@ -155,6 +159,9 @@ fn edit_virtual<F: Files>(
 ) -> Result<(), PrepareFault>
     ensures stays { F.stays files.old files.new }
     ensures counted { CountsCalls (F.failed files.old) (F.failed files.new) result }
+    ensures calls { FailsOnlySo F.Files (IsAbsent F.tells (F.bytes_at files.old)
+        (OnlyIf (has_some (names_behind private.now)) wanted.now.root.now))
+        files.old files.new result }
     ensures step { IsStep F.tells AnyStart
         (OnlyIf (has_some (names_behind private.now)) wanted.now.root.now)
         manager.old manager.new (F.bytes_at files.old) (F.bytes_at files.new) }
@@ -211,7 +218,7 @@ fn edit_virtual<F: Files>(
 }
 
 /// Edits what the manifest holds, where there is something to do.
-#[tactic(auto, using(crate::proofs::StepLemmas::keeps_none))]
+#[tactic(auto, using(crate::proofs::StepLemmas::keeps_none, crate::proofs::FailedLemmas::call_steps))]
 fn edit_held<F: Files>(
     alloc: Global,
     wanted: &Wanted<'_>,
@@ -222,6 +229,7 @@ fn edit_held<F: Files>(
 ) -> Result<(), PrepareFault>
     ensures stays { F.stays files.old files.new }
     ensures counted { CountsCalls (F.failed files.old) (F.failed files.new) result }
+    ensures calls { FailsOnlySo F.Files Nowhere files.old files.new result }
     ensures step { IsStep F.tells (HeldUnkept manager.old wanted.now.root.now held.now.text.now)
         (OnlyIf (held.now.drops_dev || has_some (names_behind held.now.gone.now))
         wanted.now.root.now)

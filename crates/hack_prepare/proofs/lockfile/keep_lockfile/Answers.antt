@@ -1,5 +1,8 @@
 use Rattle.std.proofs.Common.{◌≡◌, ◌∙◌, inr, Some, IfSome, true, ap, subst, sym}
 use Rattle.hack_files.specs.Restore.{is_kept, registered_files}
+use Rattle.std.specs.Prelude.{IsSome}
+use Rattle.hack_prepare.proofs.FailedLemmas.{calls-on, look-fails, unseen-there}
+use Rattle.hack_prepare.specs.Internal.{Nowhere}
 use Rattle.hack_prepare.proofs.OrderLemmas.{next-one}
 use Rattle.hack_prepare.proofs.StepLemmas.{locked, locked_now}
 use Rattle.hack_prepare.proofs.lockfile.keep_lockfile.Goals as goal
@@ -21,3 +24,16 @@ returns-clause-kept g c = λ t e.
 pub returns-clause-order : goal.returns-clause-order
 returns-clause-order g c =
     inr (next-one (record { path = c.args.path.now; bytes = c.deref.result.now }) c.args.manager.now c.register_once.new.self c.in_ok-register_once-in-Ok.ensures.ok)
+
+pub returns-in-Err-read-clause-calls : goal.returns-in-Err-read-clause-calls
+returns-in-Err-read-clause-calls g c =
+    look-fails g.F.Files Nowhere c.args.path.now c.in-Err-read.fault c.of_file-in-Err-read.result c.args.files.now c.read.new.files c.in-Err-read.ensures.fault c.of_file-in-Err-read.ensures
+    (unseen-there g.F.Files c.args.path.now c.args.files.now c.exists.new.files c.read.new.files
+    (λ t. subst IsSome (sym (c.exists.ensures.same t c.args.path.now)) ((c.in-Ok-true.ensures.there t).0 c.in-Ok-true.field-0-test))
+    (record { unseen = c.in-Ok-true.ensures.unseen_path; refused = c.exists.ensures.refused_none }) c.read.ensures.refused_none c.in-Err-read.ensures.unseen)
+
+pub returns-clause-calls : goal.returns-clause-calls
+returns-clause-calls g c =
+    calls-on g.F.Files c.args.files.now c.exists.new.files c.read.new.files
+    (record { unseen = c.in-Ok-true.ensures.unseen_path; refused = c.exists.ensures.refused_none })
+    (record { unseen = c.in-Ok.ensures.unseen; refused = c.read.ensures.refused_none })

@@ -10,6 +10,8 @@ use Rattle.hack_prepare.specs.Internal.{members_view}
 use Rattle.hack_prepare.specs.declared.wanted.Member.{Member}
 use Rattle.hack_prepare.specs.FailureCounts.{WriteFails}
 use Rattle.hack_prepare.proofs.CountLemmas.{fault_then, write_then}
+use Rattle.hack_prepare.proofs.FailedLemmas.{calls-on, failed-on, no-call}
+use Rattle.hack_prepare.specs.Internal.{Nowhere}
 use Rattle.hack_prepare.proofs.MemberLemmas.{alone-goes, others-fail, partly-fails, turned-fails, visited-alone, visited-fails, visited-goes, visited-left, visited-none}
 use Rattle.hack_prepare.proofs.members.edit_members.Goals.{then-goes+else-is_root+in_ok-push, else-goes+then-is_alone+in_ok-edit_member, else-goes+else-is_alone}
 use Rattle.hack_prepare.proofs.OrderLemmas.{next-all, next-alone, next-left}
@@ -21,7 +23,7 @@ loop-member-init g c =
     let w = wanted_view c.args.wanted.now in
     let ms = members_view c.args.members.now in
     let held = g.F.Files.bytes_at c.args.files.now in (
-      (g.F.Files.stays_none c.args.files.now, dev_none g.F.Files.whole w (g.F.Files.trace c.args.files.now) held, g.F.Files.refuses_none c.args.files.now, λ _. refl),
+      (g.F.Files.stays_none c.args.files.now, dev_none g.F.Files.whole w (g.F.Files.trace c.args.files.now) held, no-call g.F.Files c.args.files.now, λ _. refl),
       visited-none g.F.Files.tells w ms c.args.manager.now held (g.F.Files.failed c.args.files.now) (names_behind c.new-gone.result.items) (map note_of c.args.notices.now.items) (ap names_behind c.new-gone.ensures.items),
     )
 
@@ -60,7 +62,7 @@ loop-member-preserved g c =
             (
               g.F.Files.stays_more _ _ _ h.0.0 b.edit_member.ensures.stays,
               λ y. alone-made w ms k m one trace so_far (g.F.Files.trace b.edit_member.new.files) start now (g.F.Files.bytes_at b.edit_member.new.files) (sym b.if-is_alone.ensures) (b.in_ok-edit_member.ensures.traced y) (h.0.1 y),
-              g.F.Files.refuses_more _ _ _ [] [] h.0.2 b.in_ok-edit_member.ensures.refused_none,
+              calls-on g.F.Files c.args.files.now c.loop-member.files b.edit_member.new.files h.0.2 b.in_ok-edit_member.ensures.calls,
               next-alone w ms k m one c.args.manager.now c.loop-member.manager b.edit_member.new.manager (sym b.if-is_alone.ensures) h.1.0.needs b.in_ok-edit_member.ensures.order h.0.3,
             ),
             visited-alone tells w ms k m one c.args.manager.now start before told c.loop-member.manager b.edit_member.new.manager now (g.F.Files.bytes_at b.edit_member.new.files) after (g.F.Files.failed b.edit_member.new.files)
@@ -78,6 +80,11 @@ pub returns-in_err-edit_member-clause-counted : goal.returns-in_err-edit_member-
 returns-in_err-edit_member-clause-counted g c =
     let p = err_from_is_err_and c.from_residual-in_err-edit_member.result c.from_residual-in_err-edit_member.ensures.1 in
     rw (p.1, p.2) (fault_then (g.F.Files.failed c.args.files.now) (g.F.Files.failed c.loop-member.files) (g.F.Files.failed c.edit_member.new.files) _ c.loop-member.invariant.1.1 c.in_err-edit_member.ensures.counted)
+
+pub returns-in_err-edit_member-clause-calls : goal.returns-in_err-edit_member-clause-calls
+returns-in_err-edit_member-clause-calls g c =
+    let p = err_from_is_err_and c.from_residual-in_err-edit_member.result c.from_residual-in_err-edit_member.ensures.1 in
+    rw (p.1, p.2) (failed-on g.F.Files Nowhere _ c.args.files.now c.loop-member.files c.edit_member.new.files c.loop-member.invariant.0.2 c.in_err-edit_member.ensures.calls)
 
 pub returns-in_err-edit_member-clause-stays : goal.returns-in_err-edit_member-clause-stays
 returns-in_err-edit_member-clause-stays g c = g.F.Files.stays_more _ _ _ c.loop-member.invariant.0.0 c.edit_member.ensures.stays
@@ -106,7 +113,7 @@ returns-in_err-edit_member-clause-partly g c =
     among c.loop-member.invariant.1.4
     (λ t. turned-fails (member_manifest_view x) _ (fails (member_manifest_view x).path) (g.F.Files.bytes_at c.loop-member.files) (g.F.Files.bytes_at c.edit_member.new.files)
     (write_then (g.F.Files.refuses c.args.files.now c.loop-member.files) (g.F.Files.refuses c.loop-member.files c.edit_member.new.files) (g.F.Files.refuses c.args.files.now c.edit_member.new.files) (g.F.Files.failed c.args.files.now) (g.F.Files.failed c.loop-member.files) (g.F.Files.failed c.edit_member.new.files) (member_manifest_view x).path
-    (λ ps qs one other. g.F.Files.refuses_more _ _ _ ps qs one other) c.loop-member.invariant.1.1 c.loop-member.invariant.0.2) (c.edit_member.ensures.partly t))
+    (λ ps qs one other. g.F.Files.refuses_more _ _ _ ps qs one other) c.loop-member.invariant.1.1 c.loop-member.invariant.0.2.refused) (c.edit_member.ensures.partly t))
     c.edit_member.ensures.others
 
 pub returns-in_err-edit_member-clause-others : goal.returns-in_err-edit_member-clause-others

@@ -5,7 +5,8 @@ use Rattle.hack_words.specs.declared.cli.args.Args.{Args}
 use Rattle.hack_load.specs.ContextView.{context_view}
 use Rattle.hack_base.specs.Notes.{note_of}
 use Rattle.hack_prepare.specs.Faults.{AtWrite, IsEditsFault}
-use Rattle.hack_prepare.specs.Paths.{IsTouched}
+use Rattle.hack_prepare.specs.FailedCalls.{FailsOnlySo, IsAbsent}
+use Rattle.hack_prepare.specs.Paths.{IsReadRoot, IsTouched}
 use Rattle.hack_prepare.specs.Prepared.{HoldTexts, IsPartlyPrepared, KeepsUnedited, MemberManifest, Wanted, edits}
 use Rattle.hack_prepare.specs.PreparedView.{member_manifest_view, member_manifests_in, wanted_in}
 use Rattle.hack_prepare.specs.Internal.{members_view, IsStep}
@@ -104,6 +105,16 @@ returns-clause-err g c =
     asked-fault g.F.Files.tells cx old c.edit.result asked
     (subst (λ (l : List MemberManifest). IfErr c.edit.result (IsEditsFault (wanted_in cx) l g.F.Files.tells old)) are
     (subst (λ (w : Wanted). IfErr c.edit.result (IsEditsFault w (members_view c.as_slice.result.now) g.F.Files.tells old)) is c.edit.ensures.err))
+
+pub returns-clause-calls : goal.returns-clause-calls
+returns-clause-calls g c =
+    let cx = context_view c.args.cx.now in
+    let are = ap (map member_manifest_view) c.as_slice.ensures.value ∙ c.in_ok-members.ensures in
+    let is = wanted-is cx c.args-args.result.now c.drops_dev-drops_dev.result c.workspace_root-folder.result.now c.as_str.result.now c.as_str-2.result.now c.args-args.ensures c.drops_dev-drops_dev.ensures
+    c.workspace_root-folder.ensures (c.as_str.ensures.value ∙ c.in_ok-root.ensures) (c.as_str-2.ensures.value ∙ c.in_ok-lockfile.ensures) in
+    let old = g.F.Files.bytes_at c.args.files.now in
+    subst (λ (l : List MemberManifest). FailsOnlySo g.F.Files (IsAbsent g.F.Files.tells old (IsReadRoot (wanted_in cx) l)) c.args.files.now c.edit.new.files c.edit.result) are
+    (subst (λ (w : Wanted). FailsOnlySo g.F.Files (IsAbsent g.F.Files.tells old (IsReadRoot w (members_view c.as_slice.result.now))) c.args.files.now c.edit.new.files c.edit.result) is c.edit.ensures.calls)
 
 pub returns-clause-traced : goal.returns-clause-traced
 returns-clause-traced g c =

@@ -1,4 +1,4 @@
-use Rattle.std.proofs.Common.{◌∙◌, [], Some, ap, sym, string_bytes}
+use Rattle.std.proofs.Common.{◌∙◌, refl, [], Some, ap, sym, string_bytes}
 use Rattle.std.proofs.lemmas.Result.{on_ok_weaker}
 use Rattle.hack_base.specs.Names.{names_behind}
 use Rattle.hack_prepare.specs.FailureCounts.{WriteFails}
@@ -7,6 +7,7 @@ use Rattle.hack_manifest.specs.LineRuns.{has_some}
 use Rattle.hack_prepare.specs.PreparedView.{wanted_view}
 use Rattle.hack_prepare.proofs.CountLemmas.{calls_then, write_then}
 use Rattle.hack_prepare.proofs.FaultLemmas.{text-fault, virtual-fault}
+use Rattle.hack_prepare.proofs.FailedLemmas.{text-fails}
 use Rattle.hack_prepare.proofs.RootLemmas.{edited-read, partly-read, some-left}
 use Rattle.hack_prepare.proofs.StepLemmas.{step_read}
 use Rattle.hack_prepare.proofs.WriteLemmas.{virtual-begun, virtual-made}
@@ -69,3 +70,9 @@ returns-in-Ok-clause-refused g c =
 
 pub returns-in-Ok-clause-stays : goal.returns-in-Ok-clause-stays
 returns-in-Ok-clause-stays g c = g.F.Files.stays_more _ _ _ c.read_to_string.ensures.stays c.edit_held.ensures.stays
+
+pub returns-in-Err-clause-calls : goal.returns-in-Err-clause-calls
+returns-in-Err-clause-calls g c =
+    let root = c.args.wanted.now.root.now in
+    text-fails g.F.Files (OnlyIf (has_some (names_behind c.args.private.now)) root) root c.in-Err.fault c.of_file.result (g.F.Files.failed c.args.files.now) (g.F.Files.failed c.read_to_string.new.files) c.args.files.now c.read_to_string.new.files
+    (some-left c.args.private.now c.if-is_empty.ensures, refl) c.in-Err.ensures.fault c.of_file.ensures c.read_to_string.ensures.refused_none c.in-Err.ensures.unseen

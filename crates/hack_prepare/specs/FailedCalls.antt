@@ -1,0 +1,57 @@
+-- Which call of files failed. A read of a path that holds nothing leaves none unseen, and only a write
+-- or a removal that is refused adds to those, so no failure can be made up.
+use Rattle.std.specs.Prelude.{◌≡◌, ◌⊎◌, ◌∷◌, [], None, Result, Ok, Err, string_bytes}
+use Rattle.hack_base.specs.Names.{Name}
+use Rattle.hack_files.specs.Files.{Contents}
+use Rattle.hack_files.specs.declared.fs.Files.{Ghosts as Filing}
+use Rattle.hack_files.specs.declared.fs.FsFault.{FsFault}
+use Rattle.hack_files.specs.declared.fs.FsFault.TheVariants as fs
+use Rattle.hack_prepare.specs.declared.fault.PrepareFault.{PrepareFault}
+use Rattle.hack_prepare.specs.declared.fault.PrepareFault.TheVariants.{Memory, PrivateRoot, Files, Toml, InlineTarget, WorkspaceForm, PathText, ReadBack}
+
+-- no path was unseen, and no write or removal was refused
+pub record NoneFailed {F : Type 0} (f : Filing F) (old new : F) : Type 0 where
+  pub unseen : f.unseen old new []
+  pub refused : f.refuses old new []
+
+-- this path was unseen, and nothing else failed
+pub record LookFailed {F : Type 0} (f : Filing F) (path : Name) (old new : F) : Type 0 where
+  pub unseen : f.unseen old new (path ∷ [])
+  pub refused : f.refuses old new []
+
+-- the write of this path was refused, and nothing else failed
+pub record WriteFailed {F : Type 0} (f : Filing F) (path : Name) (old new : F) : Type 0 where
+  pub unseen : f.unseen old new []
+  pub refused : f.refuses old new (path ∷ [])
+
+-- one call failed, at some path
+abbrev pub OneFailed : {F : Type 0} → Filing F → F → F → Type 0
+OneFailed f old new = (path : Name) × (LookFailed f path old new ⊎ WriteFailed f path old new)
+
+-- one of these paths, which are read without a look before, and the files tell that nothing is there
+abbrev pub IsAbsent : Type 0 → Contents → (Name → Type 0) → Name → Type 0
+IsAbsent tells held reads path = reads path × tells × (held path ≡ None)
+
+-- the error of a file is that of the one call that failed, at the path that it names; or that path
+-- may be absent, and is
+abbrev pub IsOfFileCall : {F : Type 0} → Filing F → (Name → Type 0) → F → F → FsFault → Type 0
+IsOfFileCall f absent old new (fs.Read p) = LookFailed f (string_bytes p) old new ⊎ (absent (string_bytes p) × NoneFailed f old new)
+IsOfFileCall f absent old new (fs.Write p) = WriteFailed f (string_bytes p) old new
+IsOfFileCall f absent old new (fs.NotText p) = NoneFailed f old new
+IsOfFileCall f absent old new fs.Memory = ⊥
+
+-- refused memory may be the files'; each other error is no call's
+abbrev pub IsOfFailedCall : {F : Type 0} → Filing F → (Name → Type 0) → F → F → PrepareFault → Type 0
+IsOfFailedCall f absent old new Memory = NoneFailed f old new ⊎ OneFailed f old new
+IsOfFailedCall f absent old new (Files fault) = IsOfFileCall f absent old new fault
+IsOfFailedCall f absent old new PrivateRoot = NoneFailed f old new
+IsOfFailedCall f absent old new (Toml p) = NoneFailed f old new
+IsOfFailedCall f absent old new (InlineTarget p) = NoneFailed f old new
+IsOfFailedCall f absent old new (WorkspaceForm p) = NoneFailed f old new
+IsOfFailedCall f absent old new (PathText p) = NoneFailed f old new
+IsOfFailedCall f absent old new (ReadBack p) = NoneFailed f old new
+
+-- no call failed, or the error is that of the one that did
+abbrev pub FailsOnlySo : {F T : Type 0} → Filing F → (Name → Type 0) → F → F → Result T PrepareFault → Type 0
+FailsOnlySo f absent old new (Ok _) = NoneFailed f old new
+FailsOnlySo f absent old new (Err e) = IsOfFailedCall f absent old new e
