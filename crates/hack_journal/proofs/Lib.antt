@@ -11,4 +11,5 @@ mod KnownLemmas
 pub mod OnceLemmas
 pub mod RefusingLemmas
 pub mod FailedLemmas
+pub mod KeepingLemmas
 mod WayLemmas

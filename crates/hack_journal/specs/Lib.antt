@@ -8,5 +8,6 @@ pub mod LockfilesApart
 pub mod FileCalls
 pub mod Internal
 pub mod FailedCalls
+pub mod Keeping
 pub mod Refusing
 pub mod RefusingLaws

@@ -3,7 +3,7 @@
 //! A person can read it. Each line of a file begins with a space, as does each line of a path but
 //! the first, so a line that begins with a letter is the journal's own.
 
-ghost use Rattle.std.specs.Prelude.{◌≡◌, ◌++◌, ◌<◌, ◌≤◌, [], ◌∷◌, ℕ, List, Option, Some, OnOk, IfOk};
+ghost use Rattle.std.specs.Prelude.{◌≡◌, ◌++◌, ◌<◌, ◌≤◌, [], ◌∷◌, ℕ, List, Option, Some, OnOk, IfErr, IfOk};
 ghost use Rattle.std.specs.Prelude.{length, string_bytes};
 ghost use Rattle.std.specs.Option.{option_map};
 ghost use Rattle.std.specs.Str.{IsUtf8};
@@ -12,6 +12,7 @@ ghost use Rattle.hack_journal.specs.Journal.{lines, content_text, edit_text, edi
 ghost use Rattle.hack_journal.specs.Journal.{journal_text};
 ghost use Rattle.hack_journal.specs.Journal.{ReadsValue};
 ghost use Rattle.hack_journal.specs.Internal.{BeginsWithoutSpace};
+ghost use Rattle.hack_journal.specs.Keeping.{IsOfCause, IsWayless};
 ghost use Rattle.hack_journal.specs.Rows.{IsNoteOf};
 
 use crate::place::relative;
@@ -132,7 +133,9 @@ fn spell_at(alloc: Global, path: &str, entry: &Entry) -> Result<Vec<u8>, AllocEr
 
 /// Returns the text that keeps an entry. It is refused where no way leads from the folder to its path.
 pub(crate) fn note_of(alloc: Global, folder: &str, entry: &Entry) -> Result<Vec<u8>, FileFault>
-    ensures { IfOk result (λ text. IsNoteOf folder.now (Some text.items) (edit_of entry.now)) }
+    ensures note { IfOk result (λ text.
+        IsNoteOf folder.now (Some text.items) (edit_of entry.now)) }
+    ensures why { IfErr result (IsOfCause (IsWayless folder.now (edit_of entry.now).path)) }
 {
     match relative(alloc, folder, &entry.path) {
         Ok(Some(way)) => match spell_at(alloc, &way, entry) {

@@ -7,26 +7,22 @@
 //! replaces: then an [`Unkept`] is told of it. It keeps edits of manifests alone, since the next
 //! call restores nothing for a journal that names anything else.
 
-ghost use Rattle.std.specs.Prelude.{◌≡◌, ◌<◌, ◌++◌, ◌+◌, ◌^◌, [], ◌∷◌, ℕ, None, Some, length};
+ghost use Rattle.std.specs.Prelude.{◌≡◌, ◌<◌, ◌+◌, [], ◌∷◌, ℕ, None, Some, length};
 ghost use Rattle.std.specs.Prelude.{Ok, false, true};
 ghost use Rattle.std.specs.Prelude.{IfOk, OnOk, OnErr, IsTrue, IsSome, ◌↔◌, string_bytes};
 ghost use Rattle.std.specs.Option.{option_map};
 ghost use Rattle.hack_files.specs.Files.{Contents, CountsFailedCall, KeepsOthers, KeepsAll};
-ghost use Rattle.hack_files.specs.Files.{Makes, MakesOrNot, Grows, puts, refused_path, removes};
-ghost use Rattle.hack_journal.specs.Journal.{edit_of};
+ghost use Rattle.hack_files.specs.Files.{Makes, MakesOrNot, puts, refused_path, removes};
+ghost use Rattle.hack_journal.specs.Keeping.{FailsToChange};
 ghost use Rattle.hack_journal.specs.Rows.{spot_of, file_at, is_of_journal, KeepsBeside};
-ghost use Rattle.hack_journal.specs.SafeFiles.{SomeEntryHasBytes, first_entry_of, AreBack, gives};
+ghost use Rattle.hack_journal.specs.SafeFiles.{SomeEntryHasBytes, AreBack, gives};
 ghost use Rattle.hack_journal.specs.SafeFiles.{IsJournaled, Stays, changes_besides, without};
-ghost use Rattle.hack_journal.specs.Internal.{Hidden, IsHeld, IsNotable, ShortensRow};
+ghost use Rattle.hack_journal.specs.Internal.{ShortensRow};
 ghost use Rattle.hack_journal.specs.Refusing.{IsCounted, IsRefusedOrUnkept, TellsItsOwn};
-ghost use Rattle.hack_journal.specs.Strangers.{is_edit_of_manifest};
 
-use crate::contents::{Writing, are_back, look, put};
-use crate::entries::{copy, first, tells};
-use crate::journal::{Entry, note_of};
+use crate::contents::{Writing, are_back, put};
 use crate::notes::Notes;
 use crate::place::Place;
-use crate::strangers::edit_of_manifest;
 use crate::unkept::Unkept;
 use hack_files::fs::{FileFault, Files, count_failure, counted};
 use std::alloc::Global;
@@ -38,10 +34,10 @@ use std::io;
 /// Each edit adds a file to the journal's row, so its cost doesn't grow with the edits before it.
 #[derive(Drop)]
 pub struct Journaled<F: Files, U: Unkept> {
-    alloc: Global,
-    files: F,
-    folder: String,
-    notes: Notes,
+    pub(crate) alloc: Global,
+    pub(crate) files: F,
+    pub(crate) folder: String,
+    pub(crate) notes: Notes,
     failures: u64,
     unkept: U,
 }
@@ -78,133 +74,6 @@ impl<F: Files, U: Unkept> Journaled<F, U> {
         ensures unkept { result.1 ≡ self.unkept }
     {
         (self.files, self.unkept)
-    }
-
-    /// Returns what the path held before its first edit.
-    fn held_at_first(&mut self, path: &str) -> Result<Option<Vec<u8>>, FileFault>
-        ensures handed { F.stays self.old.files self.new.files }
-        ensures below { Grows (F.failed self.old.files) (F.failed self.new.files) }
-        ensures rest { self.new ≡ record self.old { files = self.new.files } }
-        ensures held { IfOk result (λ held. F.tells →
-            IsHeld (first_entry_of self.old.notes.entries path.now)
-            (F.bytes_at self.old.files path.now) (option_map (λ bytes. bytes.items) held)) }
-        ensures same { F.tells →
-            KeepsAll (F.bytes_at self.old.files) (F.bytes_at self.new.files) }
-        ensures untraced { F.whole → Makes [] (F.trace self.old.files) (F.trace self.new.files)
-            (F.bytes_at self.old.files) (F.bytes_at self.new.files) }
-    {
-        match first(self.notes.entries(), path) {
-            Some(entry) => match copy(self.alloc, entry.held.as_deref()) {
-                Ok(held) => Ok(held),
-                Err(_) => Err(FileFault::Memory),
-            },
-            None => look(self.alloc, &mut self.files, path),
-        }
-    }
-
-    /// Makes the entry of a path that is to hold these bytes, or be removed. Unless it is of a
-    /// manifest that was there and is to hold another text, it is refused.
-    fn entry(&mut self, path: &str, bytes: Option<&[u8]>) -> Result<Entry, FileFault>
-        ensures handed { F.stays self.old.files self.new.files }
-        ensures below { Grows (F.failed self.old.files) (F.failed self.new.files) }
-        ensures rest { self.new ≡ record self.old { files = self.new.files } }
-        ensures path { IfOk result (λ entry. (edit_of entry).path ≡ path.now) }
-        ensures wrote { IfOk result (λ entry.
-            (edit_of entry).wrote ≡ option_map (λ bytes. bytes.now) bytes.entry) }
-        ensures held { IfOk result (λ entry. F.tells →
-            IsHeld (first_entry_of self.old.notes.entries path.now)
-            (F.bytes_at self.old.files path.now) (edit_of entry).held) }
-        ensures known { IfOk result (λ entry. is_edit_of_manifest (edit_of entry) ≡ true) }
-        ensures same { F.tells →
-            KeepsAll (F.bytes_at self.old.files) (F.bytes_at self.new.files) }
-        ensures untraced { F.whole → Makes [] (F.trace self.old.files) (F.trace self.new.files)
-            (F.bytes_at self.old.files) (F.bytes_at self.new.files) }
-    {
-        let held = self.held_at_first(path)?;
-        edit_of_manifest(self.alloc, path, held, bytes)
-    }
-
-    /// Looks that the row will end behind the file that comes next, and returns the path there: what
-    /// is there already would become part of the row.
-    fn look_ahead(&mut self) -> Result<String, FileFault>
-        ensures handed { F.stays self.old.files self.new.files }
-        ensures below { Grows (F.failed self.old.files) (F.failed self.new.files) }
-        ensures rest { self.new ≡ record self.old { files = self.new.files } }
-        ensures path { IfOk result (λ path. string_bytes path ≡
-            file_at self.old.notes.journal (length self.old.notes.entries + 1)) }
-        ensures absent { OnOk result (F.tells → F.bytes_at self.old.files
-            (file_at self.old.notes.journal (length self.old.notes.entries + 1)) ≡ None) }
-        ensures low { OnOk result (length self.old.notes.entries + 1 < 2 ^ 64) }
-        ensures same { F.tells →
-            KeepsAll (F.bytes_at self.old.files) (F.bytes_at self.new.files) }
-        ensures untraced { F.whole → Makes [] (F.trace self.old.files) (F.trace self.new.files)
-            (F.bytes_at self.old.files) (F.bytes_at self.new.files) }
-    {
-        let Ok(path) = self.notes.after_next(self.alloc) else {
-            return Err(FileFault::Memory);
-        };
-        match self.files.exists(&path) {
-            Ok(false) => Ok(path),
-            Ok(true) => Err(FileFault::Device),
-            Err(fault) => Err(fault),
-        }
-    }
-
-    /// Adds a file to the row that keeps this entry.
-    fn append(&mut self, entry: Entry) -> Result<(), FileFault>
-        ensures handed { F.stays self.old.files self.new.files }
-        ensures below { Grows (F.failed self.old.files) (F.failed self.new.files) }
-        ensures journal { self.new.notes.journal ≡ self.old.notes.journal }
-        ensures rest { self.new ≡
-            record self.old { files = self.new.files; notes = self.new.notes } }
-        ensures added { OnOk result (self.new.notes.entries ≡
-            self.old.notes.entries ++ edit_of entry ∷ []) }
-        ensures others { F.tells → KeepsAll
-            (without self.old.notes.journal (F.bytes_at self.old.files))
-            (without self.old.notes.journal (F.bytes_at self.new.files)) }
-        ensures hidden { F.whole → Hidden self.old.notes.journal
-            (F.trace self.old.files) (F.trace self.new.files)
-            (F.bytes_at self.old.files) (F.bytes_at self.new.files) }
-        ensures stays { (F.tells → IsNotable self.old.notes.journal
-            self.old.notes.entries (F.bytes_at self.old.files) (edit_of entry)) →
-            StaysJournaled F.Files self.old self.new }
-    {
-        let text = note_of(self.alloc, self.folder.as_str(), &entry)?;
-        let after = self.look_ahead()?;
-        self.files.write(self.notes.next(), &text)?;
-        match self.notes.push(entry, after) {
-            Ok(()) => Ok(()),
-            Err(_) => Err(FileFault::Memory),
-        }
-    }
-
-    /// Keeps what the path holds before it is to hold these bytes, or be removed: adds an entry to
-    /// the journal, unless one of the path has these bytes already.
-    fn keep(&mut self, path: &str, bytes: Option<&[u8]>) -> Result<(), FileFault>
-        ensures handed { F.stays self.old.files self.new.files }
-        ensures below { Grows (F.failed self.old.files) (F.failed self.new.files) }
-        ensures journal { self.new.notes.journal ≡ self.old.notes.journal }
-        ensures rest { self.new ≡
-            record self.old { files = self.new.files; notes = self.new.notes } }
-        ensures told { OnOk result (SomeEntryHasBytes self.new.notes.entries path.now
-            (option_map (λ bytes. bytes.now) bytes.entry)) }
-        ensures sure { SomeEntryHasBytes self.old.notes.entries path.now
-            (option_map (λ bytes. bytes.now) bytes.entry) →
-            (result ≡ Ok tt) × (self.new ≡ self.old) }
-        ensures others { F.tells → KeepsAll
-            (without self.old.notes.journal (F.bytes_at self.old.files))
-            (without self.old.notes.journal (F.bytes_at self.new.files)) }
-        ensures hidden { F.whole → Hidden self.old.notes.journal
-            (F.trace self.old.files) (F.trace self.new.files)
-            (F.bytes_at self.old.files) (F.bytes_at self.new.files) }
-        ensures stays { is_of_journal self.old.notes.journal path.now ≡ false →
-            StaysJournaled F.Files self.old self.new }
-    {
-        if tells(self.notes.entries(), path, bytes) {
-            return Ok(());
-        }
-        let entry = self.entry(path, bytes)?;
-        self.append(entry)
     }
 
     /// Keeps what the path holds, and then gives it these bytes, or removes what is there. What an
@@ -245,6 +114,9 @@ impl<F: Files, U: Unkept> Journaled<F, U> {
             (without self.old.notes.journal (F.bytes_at self.old.files))
             (without self.old.notes.journal (F.bytes_at self.new.files))) }
         ensures stays { StaysJournaled F.Files self.old self.new }
+        ensures cause { FailsToChange F.Files (string_bytes self.old.folder)
+            self.old.notes path.now (option_map (λ bytes. bytes.now) bytes.entry)
+            self.old.files self.new.files result }
     {
         if self.notes.is_of_journal(path) {
             self.unkept.note(path);
@@ -440,6 +312,9 @@ impl<F: Files, U: Unkept> Files for Journaled<F, U> {
         ensures sure { SomeEntryHasBytes self.old.notes.entries path.now (Some bytes.now) →
             is_of_journal self.old.notes.journal path.now ≡ false →
             F.refuses self.old.files self.new.files (refused_path result path.now) }
+        // It fails for memory, or for one of these causes.
+        ensures cause { FailsToChange F.Files (string_bytes self.old.folder) self.old.notes
+            path.now (Some bytes.now) self.old.files self.new.files result }
     {
         let outcome = self.change(path, Some(bytes));
         counted(&mut self.failures, outcome)
@@ -484,6 +359,9 @@ impl<F: Files, U: Unkept> Files for Journaled<F, U> {
         ensures sure { SomeEntryHasBytes self.old.notes.entries path.now None →
             is_of_journal self.old.notes.journal path.now ≡ false →
             F.refuses self.old.files self.new.files (refused_path result path.now) }
+        // It fails for memory, or for one of these causes.
+        ensures cause { FailsToChange F.Files (string_bytes self.old.folder) self.old.notes
+            path.now None self.old.files self.new.files result }
     {
         let outcome = self.change(path, None);
         counted(&mut self.failures, outcome)

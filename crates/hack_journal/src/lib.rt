@@ -7,6 +7,7 @@ pub mod cuts;
 pub mod entries;
 pub mod journal;
 pub mod journaled;
+mod keeping;
 pub mod laws;
 mod notes;
 pub mod place;

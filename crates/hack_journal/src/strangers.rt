@@ -2,10 +2,11 @@
 //!
 //! A journal that has one is not restored, so a call notes none.
 
-ghost use Rattle.std.specs.Prelude.{◌≡◌, IfOk, codes, nat_eq, true};
+ghost use Rattle.std.specs.Prelude.{◌≡◌, IfErr, IfOk, codes, nat_eq, false, true};
 ghost use Rattle.std.specs.List.{ends_with};
 ghost use Rattle.std.specs.Option.{option_map};
 ghost use Rattle.hack_journal.specs.Journal.{edit_of, edits_of};
+ghost use Rattle.hack_journal.specs.Keeping.{IsOfCause};
 ghost use Rattle.hack_journal.specs.Strangers.{first_stranger, is_edit_of_manifest};
 
 use crate::entries::copy;
@@ -44,6 +45,11 @@ pub(crate) fn edit_of_manifest(
     ensures wrote { IfOk result (λ entry.
         (edit_of entry).wrote ≡ option_map (λ bytes. bytes.now) bytes.entry) }
     ensures known { IfOk result (λ entry. is_edit_of_manifest (edit_of entry) ≡ true) }
+    ensures why { IfErr result (IsOfCause (is_edit_of_manifest (record {
+      path = path.now;
+      held = option_map (λ bytes. bytes.items) held;
+      wrote = option_map (λ bytes. bytes.now) bytes.entry;
+    }) ≡ false)) }
 {
     let (Ok(path), Ok(wrote)) = (String::from_str(alloc, path), copy(alloc, bytes)) else {
         return Err(FileFault::Memory);

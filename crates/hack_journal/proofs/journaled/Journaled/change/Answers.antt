@@ -4,7 +4,24 @@ use Rattle.hack_journal.specs.Rows.{is_of_journal}
 use Rattle.hack_journal.specs.SafeLaws.{stays_none, makes_none, stays_more}
 use Rattle.hack_journal.proofs.RefusingLemmas.{counted_below}
 use Rattle.hack_journal.proofs.SafeLemmas.{hidden_put, hidden_alone, hidden_or_not, put_or_not_stays, at_either}
+use Rattle.std.proofs.Common.{inr}
+use Rattle.hack_files.specs.FailedCalls.{WriteFailed}
+use Rattle.hack_journal.proofs.FailedLemmas.{write_then}
+use Rattle.hack_journal.proofs.KeepingLemmas.{cause_wider, fails_then, fails_write}
 use Rattle.hack_journal.proofs.journaled.Journaled.change.Goals as goal
+
+pub returns-then-is_of_journal-clause-cause : goal.returns-then-is_of_journal-clause-cause
+returns-then-is_of_journal-clause-cause g c = inl (sym c.is_of_journal.ensures ∙ c.if-is_of_journal.true)
+
+pub returns-in-Err-clause-cause : goal.returns-in-Err-clause-cause
+returns-in-Err-clause-cause g c = cause_wider _ _ c.in-Err.fault (λ h. inr (inl h)) c.in-Err.ensures.why
+
+pub returns-in-Ok-clause-cause : goal.returns-in-Ok-clause-cause
+returns-in-Ok-clause-cause g c =
+    let s = c.args.self.now in
+    let path = c.args.path.now in
+    fails_then g.F.Files (WriteFailed g.F.Files path c.keep.new.self.files c.put.new.files) _ c.put.result s.files c.keep.new.self.files c.put.new.files c.in-Ok.ensures.why
+    (λ h. inr (inr (write_then g.F.Files path s.files c.keep.new.self.files c.put.new.files c.in-Ok.ensures.why h))) (fails_write g.F.Files path c.put.result c.keep.new.self.files c.put.new.files c.put.ensures.calls)
 
 pub returns-then-is_of_journal-clause-stays : goal.returns-then-is_of_journal-clause-stays
 returns-then-is_of_journal-clause-stays g c = λ tells whole. stays_none _ _ _ _ _ _ (makes_none _ _)

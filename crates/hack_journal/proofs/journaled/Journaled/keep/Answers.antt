@@ -8,7 +8,28 @@ use Rattle.hack_journal.proofs.FinishLemmas.{all_same}
 use Rattle.hack_journal.proofs.RefusingLemmas.{grow_more}
 use Rattle.hack_journal.proofs.SafeLemmas.{notable_of, told_ok}
 use Rattle.hack_journal.specs.Journal.{edit_of}
+use Rattle.std.proofs.Common.{inl, inr, string_bytes}
+use Rattle.std.proofs.lemmas.Result.{err_from_is_err_and}
+use Rattle.hack_journal.specs.Keeping.{CannotAppend}
+use Rattle.hack_journal.proofs.KeepingLemmas.{append_then, cause_wider, fails_then}
 use Rattle.hack_journal.proofs.journaled.Journaled.keep.Goals as goal
+
+pub returns-in_err-entry-clause-why : goal.returns-in_err-entry-clause-why
+returns-in_err-entry-clause-why g c =
+    let p = err_from_is_err_and c.from_residual.result c.from_residual.ensures.1 in
+    rw (p.1, p.2) (cause_wider _ _ _ (λ h. inl h) c.in_err-entry.ensures.why)
+
+pub returns-clause-why : goal.returns-clause-why
+returns-clause-why g c =
+    let s = c.args.self.now in
+    let mid = c.entry.new.self in
+    let new = c.append.new.self.files in
+    let folder : string_bytes mid.folder ≡ string_bytes s.folder = ap (λ s. string_bytes s.folder) c.in_ok-entry.ensures.rest in
+    let notes : mid.notes ≡ s.notes = ap (λ s. s.notes) c.in_ok-entry.ensures.rest in
+    let path = c.args.path.now in
+    fails_then g.F.Files (CannotAppend g.F.Files (string_bytes s.folder) s.notes path mid.files new) _ c.append.result s.files mid.files new c.in_ok-entry.ensures.why
+    (λ h. inr (append_then g.F.Files (string_bytes s.folder) s.notes path s.files mid.files new c.in_ok-entry.ensures.why c.in_ok-entry.ensures.same h))
+    (rw (folder, notes, c.in_ok-entry.ensures.path) at c.append.ensures.why)
 
 pub returns-in_err-entry-clause-stays : goal.returns-in_err-entry-clause-stays
 returns-in_err-entry-clause-stays g c = λ out tells whole.

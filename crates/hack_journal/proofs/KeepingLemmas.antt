@@ -1,0 +1,65 @@
+-- Why an edit is refused, one step after another.
+use Rattle.std.proofs.Common.{◌≡◌, ◌+◌, inl, inr, subst, sym, ℕ, List, Option, Some, None, Result, Ok, Err, IfErr, false, length}
+use Rattle.std.specs.Prelude.{IsSome}
+use Rattle.hack_files.specs.Files.{KeepsAll}
+use Rattle.hack_files.specs.declared.fs.FileFault.{FileFault}
+use Rattle.hack_files.specs.declared.fs.FileFault.TheVariants.{Memory, Device}
+use Rattle.hack_files.specs.declared.fs.Files.{Ghosts as Filing}
+use Rattle.hack_files.specs.FailedCalls.{LookFailed, NoneFailed, WriteFailed}
+use Rattle.hack_journal.specs.FailedCalls.{FailsRefusedAt, FailsUnseenAt}
+use Rattle.hack_journal.specs.Internal.{IsHeld}
+use Rattle.hack_journal.specs.Journal.{Edit}
+use Rattle.hack_journal.specs.Keeping.{CannotAppend, CannotLookAhead, FailsOf, IsOfCause, IsOther, held_first}
+use Rattle.hack_journal.specs.Rows.{Noted, file_at}
+use Rattle.hack_journal.specs.SafeFiles.{first_entry_of}
+use Rattle.hack_journal.specs.Strangers.{is_edit_of_manifest}
+use Rattle.hack_journal.proofs.FailedLemmas.{look_then, none_then, write_then}
+
+-- a cause of a wider kind
+pub cause_wider : (P Q : Type 0) (fault : FileFault) → (P → Q) → IsOfCause P fault → IsOfCause Q fault
+cause_wider P Q Memory to h = tt
+cause_wider P Q Device to h = to h
+
+-- whatever the error is, there is a cause
+pub of_cause : (P : Type 0) (fault : FileFault) → P → IsOfCause P fault
+of_cause P Memory p = tt
+of_cause P Device p = p
+
+-- after calls none of which failed
+pub fails_then : {F T : Type 0} (f : Filing F) (P Q : Type 0) (r : Result T FileFault) (a b c : F) → NoneFailed f a b → (P → Q) → FailsOf f P b c r → FailsOf f Q a c r
+fails_then f P Q (Ok v) a b c none to h = none_then f a b c none h
+fails_then f P Q (Err fault) a b c none to h = cause_wider P Q fault to h
+
+-- a step that calls no files
+pub fails_alone : {F T : Type 0} (f : Filing F) (P Q : Type 0) (r : Result T FileFault) (a b : F) → NoneFailed f a b → (P → Q) → IfErr r (IsOfCause P) → FailsOf f Q a b r
+fails_alone f P Q (Ok v) a b none to h = none
+fails_alone f P Q (Err fault) a b none to h = cause_wider P Q fault to h
+
+-- a look, or a write
+pub fails_look : {F T : Type 0} (f : Filing F) (path : List ℕ) (r : Result T FileFault) (a b : F) → FailsUnseenAt f path a b r → FailsOf f (LookFailed f path a b) a b r
+fails_look f path (Ok v) a b h = h
+fails_look f path (Err fault) a b h = of_cause (LookFailed f path a b) fault h
+
+pub fails_write : {F T : Type 0} (f : Filing F) (path : List ℕ) (r : Result T FileFault) (a b : F) → FailsRefusedAt f path a b r → FailsOf f (WriteFailed f path a b) a b r
+fails_write f path (Ok v) a b h = h
+fails_write f path (Err fault) a b h = of_cause (WriteFailed f path a b) fault h
+
+-- what is held at first is known
+first_is : (o : Option Edit) (now held : Option (List ℕ)) → IsHeld o now held → held ≡ held_first o now
+first_is None now held is = sym is
+first_is (Some e) now held is = sym is
+
+pub is_other : {F : Type 0} (f : Filing F) (noted : Noted) (path : List ℕ) (bytes held : Option (List ℕ)) (old : F) → (f.tells → IsHeld (first_entry_of noted.entries path) (f.bytes_at old path) held)
+    → is_edit_of_manifest (record { path = path; held = held; wrote = bytes }) ≡ false → IsOther f noted path bytes old
+is_other f noted path bytes held old is none = λ t.
+    subst (λ (h : Option (List ℕ)). is_edit_of_manifest (record { path = path; held = h; wrote = bytes }) ≡ false) (first_is (first_entry_of noted.entries path) (f.bytes_at old path) held (is t)) none
+
+-- why the row gets no file, told from before calls that only looked
+pub ahead_then : {F : Type 0} (f : Filing F) (noted : Noted) (a b c : F) → NoneFailed f a b → (f.tells → KeepsAll (f.bytes_at a) (f.bytes_at b)) → CannotLookAhead f noted b c → CannotLookAhead f noted a c
+ahead_then f noted a b c none same (inl look) = inl (look_then f (file_at noted.journal (length noted.entries + 1)) a b c none look)
+ahead_then f noted a b c none same (inr there) = inr (λ t. subst IsSome (same t (file_at noted.journal (length noted.entries + 1))) (there t))
+
+pub append_then : {F : Type 0} (f : Filing F) (folder : List ℕ) (noted : Noted) (path : List ℕ) (a b c : F) → NoneFailed f a b → (f.tells → KeepsAll (f.bytes_at a) (f.bytes_at b)) → CannotAppend f folder noted path b c → CannotAppend f folder noted path a c
+append_then f folder noted path a b c none same (inl way) = inl way
+append_then f folder noted path a b c none same (inr (inl ahead)) = inr (inl (ahead_then f noted a b c none same ahead))
+append_then f folder noted path a b c none same (inr (inr refused)) = inr (inr (write_then f (file_at noted.journal (length noted.entries)) a b c none refused))

@@ -1,0 +1,62 @@
+-- Why an edit is refused. No cause can be made up: a look that failed left its path unseen, and a write
+-- that failed was refused.
+use Rattle.std.specs.Prelude.{◌≡◌, ◌≢◌, ◌⊎◌, ◌+◌, ℕ, List, Option, Some, None, Result, Ok, Err, IsSome, true, false, length}
+use Rattle.hack_base.specs.PathTexts.{is_rooted}
+use Rattle.hack_files.specs.declared.fs.FileFault.{FileFault}
+use Rattle.hack_files.specs.declared.fs.FileFault.TheVariants.{Memory, Device}
+use Rattle.hack_files.specs.declared.fs.Files.{Ghosts as Filing}
+use Rattle.hack_files.specs.FailedCalls.{LookFailed, NoneFailed, WriteFailed}
+use Rattle.hack_journal.specs.Journal.{Edit}
+use Rattle.hack_journal.specs.Rows.{Noted, file_at, is_of_journal, leads_to}
+use Rattle.hack_journal.specs.SafeFiles.{first_entry_of}
+use Rattle.hack_journal.specs.Strangers.{is_edit_of_manifest}
+
+-- memory was refused, or there is this cause
+abbrev pub IsOfCause : Type 0 → FileFault → Type 0
+IsOfCause P Memory = Unit {0}
+IsOfCause P Device = P
+
+-- no call failed; or memory was refused, or there is this cause
+abbrev pub FailsOf : {F T : Type 0} → Filing F → Type 0 → F → F → Result T FileFault → Type 0
+FailsOf f P old new (Ok _) = NoneFailed f old new
+FailsOf f P old new (Err fault) = IsOfCause P fault
+
+-- what a path held at first: what its first entry says, or, without one, what it holds now
+abbrev pub held_first : Option Edit → Option (List ℕ) → Option (List ℕ)
+held_first None now = now
+held_first (Some e) now = e.held
+
+-- giving a path these bytes, or removing it, is no edit of a manifest that was there at first
+abbrev pub IsOther : {F : Type 0} → Filing F → Noted → List ℕ → Option (List ℕ) → F → Type 0
+IsOther f noted path bytes old =
+    f.tells → is_edit_of_manifest (record { path = path; held = held_first (first_entry_of noted.entries path) (f.bytes_at old path); wrote = bytes }) ≡ false
+
+-- from a folder that is absolute no relative path leads to this one
+abbrev pub IsWayless : List ℕ → List ℕ → Type 0
+IsWayless folder path = is_rooted folder ≡ true → (way : List ℕ) → is_rooted way ≡ false → leads_to folder way ≢ path
+
+-- the file behind the one that comes next isn't seen, or is there already
+abbrev pub CannotLookAhead : {F : Type 0} → Filing F → Noted → F → F → Type 0
+CannotLookAhead f noted old new =
+    LookFailed f (file_at noted.journal (length noted.entries + 1)) old new
+    ⊎ (f.tells → IsSome (f.bytes_at old (file_at noted.journal (length noted.entries + 1))))
+
+-- why the row gets no file that keeps an edit of this path
+abbrev pub CannotAppend : {F : Type 0} → Filing F → List ℕ → Noted → List ℕ → F → F → Type 0
+CannotAppend f folder noted path old new =
+    IsWayless folder path ⊎ (CannotLookAhead f noted old new ⊎ WriteFailed f (file_at noted.journal (length noted.entries)) old new)
+
+-- why what a path holds can't be kept
+abbrev pub CannotKeep : {F : Type 0} → Filing F → List ℕ → Noted → List ℕ → Option (List ℕ) → F → F → Type 0
+CannotKeep f folder noted path bytes old new =
+    (LookFailed f path old new ⊎ IsOther f noted path bytes old) ⊎ CannotAppend f folder noted path old new
+
+-- why a path can't be given these bytes, or removed: it is the journal's own, or what it holds can't
+-- be kept, or the files below refuse it
+abbrev pub CannotChange : {F : Type 0} → Filing F → List ℕ → Noted → List ℕ → Option (List ℕ) → F → F → Type 0
+CannotChange f folder noted path bytes old new =
+    (is_of_journal noted.journal path ≡ true) ⊎ (CannotKeep f folder noted path bytes old new ⊎ WriteFailed f path old new)
+
+-- a write or removal fails only so
+abbrev pub FailsToChange : {F T : Type 0} → Filing F → List ℕ → Noted → List ℕ → Option (List ℕ) → F → F → Result T FileFault → Type 0
+FailsToChange f folder noted path bytes old new result = FailsOf f (CannotChange f folder noted path bytes old new) old new result
