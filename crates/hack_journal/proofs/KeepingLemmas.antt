@@ -13,7 +13,7 @@ use Rattle.hack_journal.specs.Keeping.{CannotAppend, CannotLookAhead, FailsOf, I
 use Rattle.hack_journal.specs.Rows.{Noted, file_at}
 use Rattle.hack_journal.specs.SafeFiles.{first_entry_of}
 use Rattle.hack_journal.specs.Strangers.{is_edit_of_manifest}
-use Rattle.hack_journal.proofs.FailedLemmas.{look_then, none_then, write_then}
+use Rattle.hack_files.proofs.FailedLemmas.{look_then, none_then, write_then}
 
 -- a cause of a wider kind
 pub cause_wider : (P Q : Type 0) (fault : FileFault) → (P → Q) → IsOfCause P fault → IsOfCause Q fault

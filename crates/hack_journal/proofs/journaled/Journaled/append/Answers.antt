@@ -11,7 +11,7 @@ use Rattle.hack_journal.proofs.RefusingLemmas.{grow_more}
 use Rattle.std.proofs.Common.{inl, string_bytes}
 use Rattle.std.proofs.lemmas.Result.{err_from_is_err_and}
 use Rattle.hack_journal.specs.Keeping.{CannotAppend, CannotLookAhead, IsWayless}
-use Rattle.hack_journal.proofs.FailedLemmas.{none_then, write_then}
+use Rattle.hack_files.proofs.FailedLemmas.{none_then, write_then}
 use Rattle.hack_journal.proofs.KeepingLemmas.{cause_wider, of_cause}
 use Rattle.hack_journal.proofs.journaled.Journaled.append.Goals as goal
 

@@ -6,7 +6,7 @@ use Rattle.hack_journal.proofs.RefusingLemmas.{counted_below}
 use Rattle.hack_journal.proofs.SafeLemmas.{hidden_put, hidden_alone, hidden_or_not, put_or_not_stays, at_either}
 use Rattle.std.proofs.Common.{inr}
 use Rattle.hack_files.specs.FailedCalls.{WriteFailed}
-use Rattle.hack_journal.proofs.FailedLemmas.{write_then}
+use Rattle.hack_files.proofs.FailedLemmas.{write_then}
 use Rattle.hack_journal.proofs.KeepingLemmas.{cause_wider, fails_then, fails_write}
 use Rattle.hack_journal.proofs.journaled.Journaled.change.Goals as goal
 
