@@ -291,6 +291,11 @@ def on_terminal(program, world, words):
     return shown
 
 
+def heed_interrupts():
+    """What a script starts in the background ignores Ctrl-C, and so would all that it starts."""
+    signal.signal(signal.SIGINT, signal.SIG_DFL)
+
+
 def interrupted(program):
     """Ctrl-C reaches all that runs: the whole group of processes, as from a terminal."""
     with tempfile.TemporaryDirectory(prefix="parallel-runs-") as folder:
@@ -304,6 +309,7 @@ def interrupted(program):
             stdout=subprocess.DEVNULL,
             stderr=subprocess.DEVNULL,
             start_new_session=True,
+            preexec_fn=heed_interrupts,
         ) as it:
             for _ in range(400):
                 if sum(note[0] == "started" for note in world.notes()) == 3:
@@ -311,7 +317,10 @@ def interrupted(program):
                 time.sleep(0.05)
             os.killpg(it.pid, signal.SIGINT)
             it.wait(timeout=30)
-        time.sleep(0.3)
+        for _ in range(100):
+            if not world.left():
+                break
+            time.sleep(0.05)
         if world.left():
             yield f"after Ctrl-C {len(world.left())} processes are left"
         if os.listdir(f"{folder}/tmp"):
