@@ -7,13 +7,14 @@ SHARE = $(DESTDIR)$(PREFIX)/share
 BASH_FILES = $(SHARE)/bash-completion/completions
 
 .DEFAULT_GOAL := help
-.PHONY: help run program programs install install-completions uninstall dist manual test quick planted bench faults stand-ins
+.PHONY: help run program programs install install-completions uninstall dist manual test quick layout planted bench faults stand-ins
 
 help:
 	@echo 'make run      calls cargo hack on the workspace in examples/, over a cargo in memory, by a trial build without proofs'
 	@echo 'make manual   writes the man pages and completions from the table of options of the built cargo-hack'
 	@echo 'make test     proves and tests everything from nothing: the gate'
 	@echo 'make quick    lays out and checks CRATE=NAME and all that use it, and the rows, over what is kept'
+	@echo 'make layout   lays out all crates, without which the gate refuses them'
 	@echo 'make planted  tries the edits that the gate leaves out, of all crates or of CRATE=NAME'
 	@echo 'make install  proves and builds cargo-hack and powerset-list, and installs them in PREFIX/bin (PREFIX=$(PREFIX))'
 	@echo 'make install-completions  installs just the completions of bash, zsh and fish'
@@ -32,6 +33,9 @@ test:
 
 quick:
 	@tests/quick_check '$(CRATE)'
+
+layout:
+	@for crate in crates/*/; do (cd "$$crate" && rt fmt) || exit 1; done
 
 # Each edit is a wrong body that the prover has to refuse.
 planted:
