@@ -26,24 +26,7 @@ of_failed_path f old new (unrecovered.Files (fs.Write p)) h = record { before = 
 of_failed_path f old new (unrecovered.Files (fs.NotText p)) h = h
 of_failed_path f old new (unrecovered.Files fs.Memory) h = h
 
--- the path that a failed look left unseen
-pub unseen_by : {F : Type 0} (f : Filing F) (path named : Name) (old new : F) → named ≡ path → LookFailed f named old new → IsUnseen f path
-unseen_by f path named old new is h = subst (λ q. IsUnseen f q) is (record { before = old; after = new; unseen = h.unseen })
-
 -- the path whose write was refused
 pub refused_by : {F T E : Type 0} (f : Filing F) (path : Name) (old new : F) (r : Result T E) → is_err r ≡ true → f.refuses old new (refused_path r path) → IsRefused f path
 refused_by f path old new (Ok v) failed h = cc
 refused_by f path old new (Err e) failed h = record { before = old; after = new; refused = h }
-
-pub look_at : {F : Type 0} (f : Filing F) (path : Name) (old new : F) (m n : ℕ) → GrowsBy 1 m n → LookFailed f path old new → OneFailedAt f path m n
-look_at f path old new m n counted h = record { counted = counted; cause = inl (record { before = old; after = new; unseen = h.unseen }) }
-
-pub write_at : {F : Type 0} (f : Filing F) (path : Name) (old new : F) (m n : ℕ) → GrowsBy 1 m n → f.refuses old new (path ∷ []) → OneFailedAt f path m n
-write_at f path old new m n counted h = record { counted = counted; cause = inr (record { before = old; after = new; refused = h }) }
-
--- after calls of which none failed
-pub failed_then : {F : Type 0} (f : Filing F) (path : Name) (x y z : ℕ) → GrowsBy 0 x y → OneFailedAt f path y z → OneFailedAt f path x z
-failed_then f path x y z none one = record { counted = grows_then 1 x y z none one.counted; cause = one.cause }
-
--- what calls of which at most the last failed are put together by
-pub ruleset calls = (may_none, may_then, grows_then, look_at, write_at, failed_then)

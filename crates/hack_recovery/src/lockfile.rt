@@ -35,7 +35,7 @@ use hack_term::term::Term;
 use std::alloc::Global;
 
 /// Copies the lockfile, if there is one. Where that can't be done, the system's reason is reported.
-#[tactic(auto, using(crate::proofs::FailedLemmas::calls))]
+#[tactic(auto, using(crate::proofs::CountLemmas::counts))]
 pub(crate) fn keep_copy<F: Files, L: Files, E: Sink>(
     alloc: Global,
     places: &Places,
@@ -96,7 +96,7 @@ fn copy_fault<F: Files, E: Sink>(
 
 /// Gives the lockfile back what its copy has, where the guard calls, and removes the copy. Returns
 /// whether that is done; if not, an error was reported.
-#[tactic(auto, using(crate::proofs::FailedLemmas::calls))]
+#[tactic(auto, using(crate::proofs::CountLemmas::counts))]
 pub(crate) fn settle<F: Files, L: Files, C: Caller, O: Sink, E: Sink>(
     places: &Places,
     files: &mut F,
@@ -177,7 +177,7 @@ pub(crate) fn settle<F: Files, L: Files, C: Caller, O: Sink, E: Sink>(
 
 /// Gives the lockfile these bytes, and reports it, unless it holds them: then it is written all the
 /// same, since a write on the disk removes what an interrupted one left beside it.
-#[tactic(auto, using(crate::proofs::FailedLemmas::calls))]
+#[tactic(auto, using(crate::proofs::CountLemmas::counts))]
 fn give_back<L: Files, C: Caller, O: Sink, E: Sink>(
     bytes: &[u8],
     places: &Places,
