@@ -1,20 +1,16 @@
 -- Which call of files failed.
-use Rattle.std.proofs.Common.{◌≡◌, ◌∷◌, [], ℕ, inl, inr, subst, true}
+use Rattle.std.proofs.Common.{◌≡◌, true}
 use Rattle.std.specs.Prelude.{Err, Ok, Result}
 use Rattle.std.specs.Result.{is_err}
-use Rattle.hack_base.specs.Counters.{GrowsBy}
 use Rattle.hack_base.specs.Names.{Name}
 use Rattle.hack_files.specs.Files.{refused_path}
 use Rattle.hack_files.specs.declared.fs.Files.{Ghosts as Filing}
 use Rattle.hack_files.specs.declared.fs.FsFault.TheVariants as fs
-use Rattle.hack_files.specs.FailedCalls.{LookFailed}
 use Rattle.hack_journal.specs.FailedCalls.{IsOfFailedCall}
-use Rattle.hack_journal.specs.Refusing.{IsRefused, IsUnseen}
+use Rattle.hack_journal.specs.Refusing.{IsRefused}
 use Rattle.hack_journal.specs.declared.recover.RecoverFault.{RecoverFault}
 use Rattle.hack_journal.specs.declared.recover.RecoverFault.TheVariants as unrecovered
-use Rattle.hack_places.proofs.CountLemmas.{grows_then}
-use Rattle.hack_recovery.specs.FailedFiles.{IsOfFailedPath, OneFailedAt}
-use Rattle.hack_recovery.proofs.CountLemmas.{may_none, may_then}
+use Rattle.hack_recovery.specs.FailedFiles.{IsOfFailedPath}
 
 -- the error of a file is of the one call that failed
 pub of_failed_path : {F : Type 0} (f : Filing F) (old new : F) (fault : RecoverFault) → IsOfFailedCall f old new fault → IsOfFailedPath f fault
