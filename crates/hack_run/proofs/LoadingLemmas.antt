@@ -70,22 +70,6 @@ loads tells args env held before now q old mid new r (Err x) e f =
     subst (λ (r : Result Loaded ContextFault). Loads tells args env held q old new (result_ok r)) (sym f.3)
     (at_metadata e.0 e.1 e.2 e.3 (stops q e.0 e.1 new x (subst (λ (calls : List Call). StopsQuestion q e.0 e.1 calls x) (sym f.0) e.4)))
 
--- the answers to the questions of a call, whatever these wrote
-pub answers_given : (tells : Type 0) (W : Stage → List Change → Type 0) (args : Args) (env : Env) (held : Contents) (before now : ℕ) (old new : List Call) (a : Answers) → AreAnswers tells W args env held before now old new a
-    → AreAnswers tells (λ stage made. Unit {0}) args env held before now old new a
-answers_given tells W args env held before now old new a (inl h) = inl (record {
-  host = h.host;
-  mid = h.mid;
-  own = h.own;
-  loads = record {
-    asked = h.loads.asked;
-    mid = h.loads.mid;
-    ends = ends-map tells (question args env (result_unwrap_or a.cargo_version 0) h.host) held h.mid h.loads.mid W (λ stage made. Unit {0}) (λ stage made w. tt) h.loads.asked h.loads.ends;
-    follows = h.loads.follows;
-  };
-})
-answers_given tells W args env held before now old new a (inr h) = inr (h.0, tt, h.2)
-
 -- the questions of a call, whichever error ended them, and whatever they wrote
 pub loaded : (tells : Type 0) (W : Stage → List Change → Type 0) (args : Args) (env : Env) (held : Contents) (before now : ℕ) (old new : List Call) (a : Answers) → AreAnswers tells W args env held before now old new a → AreLoaded tells args env held old new a
 loaded tells W args env held before now old new a (inl h) =

@@ -358,21 +358,21 @@ plan_run came tells cx stable rustup looks now old new is (inr said) =
 -- ---- a call
 
 -- what follows the questions: the notices, and the plan
-pub follows_said : (came : Result (Unit {0}) RunFault) (talks tells : Type 0) (held : Contents) (args : Args) (answers : Answers) (rustup : Name) (a b d : Term) (now : Looks) (cx : ContextRecord) (stable : Stable) (calls : List Call) (warned edited : Stream) (old new : Scene)
+pub follows_said : {F : Type 0} (f : Filing F) (loaded edited : F) (came : Result (Unit {0}) RunFault) (tells : Type 0) (args : Args) (answers : Answers) (rustup : Name) (a b d : Term) (now : Looks) (cx : ContextRecord) (stable : Stable) (calls : List Call) (warned noted : Stream) (old new : Scene)
     → b ≡ after_notes a (warnings_of (told_version answers.cargo_version)) → d ≡ after_notes b (notes_in cx) → IsContextFrom args answers cx
-    → SaysNotes a.coloring (warnings_of (told_version answers.cargo_version)) old.streams.err warned → SaysNotes b.coloring (notes_in cx) warned edited → AsksStable rustup stable old.calls calls → (¬ NeedsAnswer args → stable ≡ Unasked)
-    → SaysItsPlan came tells cx stable rustup (looks_of d) now (scene_with calls edited old) new → SaysAfterLoading came talks tells held args answers rustup (looks_of a) now old new
-follows_said came talks tells held args answers rustup a b d now cx stable calls warned edited old new first second context told edits asked unneeded plan =
-    planned cx warned edited stable calls context told (subst (λ (t : Term). SaysNotes t.coloring (notes_in cx) warned edited) first edits) asked unneeded
-    (subst (λ (looks : Looks). SaysItsPlan came tells cx stable rustup looks now (scene_with calls edited old) new) (ap looks_of second ∙ ap looks_of first) plan)
+    → SaysNotes a.coloring (warnings_of (told_version answers.cargo_version)) old.streams.err warned → SaysNotes b.coloring (notes_in cx) warned noted → NoneFailed f loaded edited → AsksStable rustup stable old.calls calls → (¬ NeedsAnswer args → stable ≡ Unasked)
+    → SaysItsPlan came tells cx stable rustup (looks_of d) now (scene_with calls noted old) new → SaysAfterLoading f loaded edited came tells args answers rustup (looks_of a) now old new
+follows_said f loaded edited came tells args answers rustup a b d now cx stable calls warned noted old new first second context told edits none asked unneeded plan =
+    planned cx warned noted stable calls context told (subst (λ (t : Term). SaysNotes t.coloring (notes_in cx) warned noted) first edits) none asked unneeded
+    (subst (λ (looks : Looks). SaysItsPlan came tells cx stable rustup looks now (scene_with calls noted old) new) (ap looks_of second ∙ ap looks_of first) plan)
 
 -- memory was refused between the notices and the plan
-pub edits_said : (came : Result (Unit {0}) RunFault) (talks tells : Type 0) (held : Contents) (args : Args) (answers : Answers) (rustup : Name) (a b d : Term) (cx : ContextRecord) (warned edited : Stream) (old new : Scene)
+pub edits_said : {F : Type 0} (f : Filing F) (loaded edited : F) (came : Result (Unit {0}) RunFault) (tells : Type 0) (args : Args) (answers : Answers) (rustup : Name) (a b d : Term) (cx : ContextRecord) (warned noted : Stream) (old new : Scene)
     → came ≡ Err fault.Memory → b ≡ after_notes a (warnings_of (told_version answers.cargo_version)) → d ≡ after_notes b (notes_in cx) → IsContextFrom args answers cx
-    → SaysNotes a.coloring (warnings_of (told_version answers.cargo_version)) old.streams.err warned → SaysNotes b.coloring (notes_in cx) warned edited → MayAskStable rustup old.calls new.calls → (¬ NeedsAnswer args → new.calls ≡ old.calls)
-    → new ≡ scene_with new.calls edited old → SaysAfterLoading came talks tells held args answers rustup (looks_of a) (looks_of d) old new
-edits_said came talks tells held args answers rustup a b d cx warned edited old new is first second context told edits may unneeded same =
-    unasked cx warned edited context told (subst (λ (t : Term). SaysNotes t.coloring (notes_in cx) warned edited) first edits) may unneeded is (ap looks_of second ∙ ap looks_of first) same
+    → SaysNotes a.coloring (warnings_of (told_version answers.cargo_version)) old.streams.err warned → SaysNotes b.coloring (notes_in cx) warned noted → NoneFailed f loaded edited → MayAskStable rustup old.calls new.calls → (¬ NeedsAnswer args → new.calls ≡ old.calls)
+    → new ≡ scene_with new.calls noted old → SaysAfterLoading f loaded edited came tells args answers rustup (looks_of a) (looks_of d) old new
+edits_said f loaded edited came tells args answers rustup a b d cx warned noted old new is first second context told edits none may unneeded same =
+    unasked cx warned noted context told (subst (λ (t : Term). SaysNotes t.coloring (notes_in cx) warned noted) first edits) none may unneeded is (ap looks_of second ∙ ap looks_of first) same
 
 -- lines look the same after these notices
 pub looks_followed : (a b d last : Term) (first second : List Note) → b ≡ after_notes a first → d ≡ after_notes b second → looks_of last ≡ record (looks_of d) { reported = last.error }
@@ -407,17 +407,17 @@ pub looks_unless : (a b : Term) (n : ℕ) → b ≡ record a { error = b.error }
 looks_unless a b n term noted none = ap looks_of term ∙ ap (λ (e : Bool). reported_on e (looks_of a)) (same_error a.error b.error n noted none)
 
 -- what arguments ask for was said after their notices
-pub args_said : (came : Result (Unit {0}) RunFault) (refused talks tells : Type 0) (answer : Parsed) (args : Args) (notes : List Note) (env : Env) (held : Contents) (a b d : Term) (now : Looks) (noted : Stream) (old new : Scene)
+pub args_said : {F : Type 0} (f : Filing F) (before after : F) (came : Result (Unit {0}) RunFault) (tells : Type 0) (answer : Parsed) (args : Args) (notes : List Note) (env : Env) (a b d : Term) (now : Looks) (noted : Stream) (old new : Scene)
     → answer ≡ parsed.Args args → b.error ≡ a.error → b.verbose ≡ args.verbose → b.coloring ≡ colored_by args.coloring a.coloring → d ≡ after_notes b notes
-    → SaysNotes b.coloring notes old.streams.err noted → SaysLoaded came refused talks tells args env held (looks_of d) now (scene_with old.calls noted old) new
-    → SaysParsed came refused talks tells answer notes env held (looks_of a) now old new
-args_said came refused talks tells answer args notes env held a b d now noted old new is error verbose coloring told notes_said loaded =
+    → SaysNotes b.coloring notes old.streams.err noted → SaysLoaded f before after came tells args env (looks_of d) now (scene_with old.calls noted old) new
+    → SaysParsed f before after came tells answer notes env (looks_of a) now old new
+args_said f before after came tells answer args notes env a b d now noted old new is error verbose coloring told notes_said loaded =
     let dressed : looks_of d ≡ dressed_by args (looks_of a) = ap looks_of told ∙ ap (λ (x : Coloring). record { coloring = x; verbose = b.verbose; reported = b.error }) coloring
     ∙ ap (λ (x : Bool). record { coloring = colored_by args.coloring a.coloring; verbose = x; reported = b.error }) verbose ∙ ap (λ (x : Bool). record { coloring = colored_by args.coloring a.coloring; verbose = args.verbose; reported = x }) error in
-    subst (λ (p : Parsed). SaysParsed came refused talks tells p notes env held (looks_of a) now old new) (sym is) (
+    subst (λ (p : Parsed). SaysParsed f before after came tells p notes env (looks_of a) now old new) (sym is) (
       noted,
       subst (λ (x : Coloring). SaysNotes x notes old.streams.err noted) coloring notes_said,
-      subst (λ (l : Looks). SaysLoaded came refused talks tells args env held l now (scene_with old.calls noted old) new) dressed loaded,
+      subst (λ (l : Looks). SaysLoaded f before after came tells args env l now (scene_with old.calls noted old) new) dressed loaded,
     )
 
 -- an error was reported where one ended the call

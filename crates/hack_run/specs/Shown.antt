@@ -11,19 +11,23 @@ use Rattle.hack_base.specs.declared.writes.Sink.{Ghosts as Taking}
 use Rattle.hack_drive.specs.Answered.{NeedsAnswer}
 use Rattle.hack_drive.specs.Shown.{note_lines}
 use Rattle.hack_load.specs.Answers.{AreAnswers}
+use Rattle.hack_load.specs.FailedLoads.{AnswersFailSo}
 use Rattle.hack_load.specs.CargoQuestions.{told_version}
 use Rattle.hack_load.specs.ContextOf.{IsContextCause, IsContextFrom, warnings_of}
 use Rattle.hack_load.specs.Contexts.{ContextRecord}
 use Rattle.hack_load.specs.declared.answers.Answers.{Answers}
 use Rattle.hack_load.specs.declared.fault.ContextFault.{ContextFault}
 use Rattle.hack_load.specs.declared.fault.ContextFault.TheVariants as context
+use Rattle.hack_files.specs.FailedCalls.{NoneFailed}
 use Rattle.hack_files.specs.Files.{Contents, KeepsAll}
 use Rattle.hack_files.specs.declared.fs.Files.{Ghosts as Filing}
 use Rattle.hack_planner.specs.CallPlan.{IsCauseOf, IsPackagesCause, IsPlanOf}
 use Rattle.hack_planner.specs.Looks.{AreLongLooks}
 use Rattle.hack_planner.specs.declared.fault.PlanFault.{PlanFault}
 use Rattle.hack_planner.specs.declared.fault.PlanFault.TheVariants as plan
-use Rattle.hack_prepare.specs.PreparedView.{IsPrepareFault, notes_in}
+use Rattle.hack_metadata.specs.QuestionCalls.{WroteWhereKnown}
+use Rattle.hack_prepare.specs.FailedCalls.{IsAbsent, IsOfFailedCall}
+use Rattle.hack_prepare.specs.PreparedView.{IsPrepareFault, IsReadRootIn, notes_in}
 use Rattle.hack_prepare.specs.declared.fault.PrepareFault.{PrepareFault}
 use Rattle.hack_process.specs.Calls.{Call, IsSuccess, MayAdd}
 use Rattle.hack_process.specs.CommandTexts.{text_of}
@@ -210,43 +214,52 @@ SaysItsPlan came tells cx stable rustup looks now old new =
 -- ---- a call
 
 -- What was said once the questions were answered: the warning of an unknown version of cargo, the notices on edits,
--- which looks take long, and the plan; an error may have ended it before.
-pub data SaysAfterLoading (came : Result (Unit {0}) RunFault) (talks tells : Type 0) (held : Contents) (args : Args) (answers : Answers) (rustup : Name) (looks now : Looks) (old new : Scene) : Type 0 where
-  unloaded : (e : ContextFault) → (e ≡ context.Memory) ⊎ IsContextCause args answers e → came ≡ Err (fault.Context e) → now ≡ looks → new ≡ old
-      → SaysAfterLoading came talks tells held args answers rustup looks now old new
+-- which looks take long, and the plan; an error may have ended it before. No call of the files failed, but the one that
+-- an error of edits is of.
+pub data SaysAfterLoading {F : Type 0} (f : Filing F) (loaded edited : F) (came : Result (Unit {0}) RunFault) (tells : Type 0) (args : Args) (answers : Answers) (rustup : Name) (looks now : Looks) (old new : Scene) : Type 0 where
+  unloaded : (e : ContextFault) → (e ≡ context.Memory) ⊎ IsContextCause args answers e → came ≡ Err (fault.Context e) → NoneFailed f loaded edited → now ≡ looks → new ≡ old
+      → SaysAfterLoading f loaded edited came tells args answers rustup looks now old new
   unedited : (cx : ContextRecord) (warned : Stream) → IsContextFrom args answers cx → SaysNotes looks.coloring (warnings_of (told_version answers.cargo_version)) old.streams.err warned
-      → (e : PrepareFault) → IsPrepareFault cx talks held e → came ≡ Err (fault.Manifests e) → now ≡ looks → new ≡ scene_with old.calls warned old → SaysAfterLoading came talks tells held args answers rustup looks now old new
-  unasked : (cx : ContextRecord) (warned edited : Stream) → IsContextFrom args answers cx → SaysNotes looks.coloring (warnings_of (told_version answers.cargo_version)) old.streams.err warned
-      → SaysNotes looks.coloring (notes_in cx) warned edited → MayAskStable rustup old.calls new.calls → (¬ NeedsAnswer args → new.calls ≡ old.calls)
-      → came ≡ Err fault.Memory → now ≡ looks → new ≡ scene_with new.calls edited old → SaysAfterLoading came talks tells held args answers rustup looks now old new
-  planned : (cx : ContextRecord) (warned edited : Stream) (stable : Stable) (calls : List Call) → IsContextFrom args answers cx
-      → SaysNotes looks.coloring (warnings_of (told_version answers.cargo_version)) old.streams.err warned → SaysNotes looks.coloring (notes_in cx) warned edited
-      → AsksStable rustup stable old.calls calls → (¬ NeedsAnswer args → stable ≡ Unasked) → SaysItsPlan came tells cx stable rustup looks now (scene_with calls edited old) new
-      → SaysAfterLoading came talks tells held args answers rustup looks now old new
+      → (e : PrepareFault) → IsPrepareFault cx f.tells (f.bytes_at loaded) e → IsOfFailedCall f (IsAbsent f.tells (f.bytes_at loaded) (IsReadRootIn cx)) loaded edited e
+      → came ≡ Err (fault.Manifests e) → now ≡ looks → new ≡ scene_with old.calls warned old → SaysAfterLoading f loaded edited came tells args answers rustup looks now old new
+  unasked : (cx : ContextRecord) (warned told : Stream) → IsContextFrom args answers cx → SaysNotes looks.coloring (warnings_of (told_version answers.cargo_version)) old.streams.err warned
+      → SaysNotes looks.coloring (notes_in cx) warned told → NoneFailed f loaded edited → MayAskStable rustup old.calls new.calls → (¬ NeedsAnswer args → new.calls ≡ old.calls)
+      → came ≡ Err fault.Memory → now ≡ looks → new ≡ scene_with new.calls told old → SaysAfterLoading f loaded edited came tells args answers rustup looks now old new
+  planned : (cx : ContextRecord) (warned told : Stream) (stable : Stable) (calls : List Call) → IsContextFrom args answers cx
+      → SaysNotes looks.coloring (warnings_of (told_version answers.cargo_version)) old.streams.err warned → SaysNotes looks.coloring (notes_in cx) warned told → NoneFailed f loaded edited
+      → AsksStable rustup stable old.calls calls → (¬ NeedsAnswer args → stable ≡ Unasked) → SaysItsPlan came tells cx stable rustup looks now (scene_with calls told old) new
+      → SaysAfterLoading f loaded edited came tells args answers rustup looks now old new
 
 -- some write or removal was refused between these states of files
 abbrev pub RefusesSome : {F : Type 0} → Filing F → F → F → Type 0
 RefusesSome f old new = (paths : List Name) × (paths ≢ []) × f.refuses old new paths
 
+-- the questions of a call were answered over these files: no call of theirs failed but the one that an error is of
+pub record AsksOver {F : Type 0} (f : Filing F) (before loaded : F) (args : Args) (env : Env) (old new : List Call) (answers : Answers) : Type 0 where
+  pub kept : f.stays before loaded
+  pub asked : AreAnswers f.tells (WroteWhereKnown f.whole f.tells (f.trace before) (f.trace loaded) (f.bytes_at before) (f.bytes_at loaded))
+      args env (f.bytes_at before) (f.failed before) (f.failed loaded) old new answers
+  pub failed : AnswersFailSo f before loaded args env old new answers
+  pub same : OnOk answers.loaded (f.tells → KeepsAll (f.bytes_at before) (f.bytes_at loaded))
+
 -- What was said by a call with these arguments: what follows its questions; then why a file failed, where that ended
 -- it, and of files that are written back. Where an error didn't end it and no write was refused, nothing is said of
 -- these but in verbose mode; and no error is reported but where a write was refused.
-pub record SaysLoaded (came : Result (Unit {0}) RunFault) (refused talks tells : Type 0) (args : Args) (env : Env) (held : Contents) (looks now : Looks) (old new : Scene) : Type 0 where
+pub record SaysLoaded {F : Type 0} (f : Filing F) (before after : F) (came : Result (Unit {0}) RunFault) (tells : Type 0) (args : Args) (env : Env) (looks now : Looks) (old new : Scene) : Type 0 where
   pub answers : Answers
   pub calls : List Call
-  pub failed_first : ℕ
-  pub failed_now : ℕ
-  pub asked : AreAnswers talks (λ stage made. Unit {0}) args env held failed_first failed_now old.calls calls answers
-  pub loaded : Contents
-  pub same_loaded : OnOk answers.loaded (talks → KeepsAll held loaded)
+  pub loaded : F
+  pub over : AsksOver f before loaded args env old.calls calls answers
+  pub edited : F
+  pub kept : f.stays loaded edited × f.stays edited after
   pub mid : Scene
   pub at : Looks
-  pub said : SaysAfterLoading came talks tells loaded args answers (string_bytes env.rustup) looks at (scene_with calls old.streams.err old) mid
+  pub said : SaysAfterLoading f loaded edited came tells args answers (string_bytes env.rustup) looks at (scene_with calls old.streams.err old) mid
   pub same : new.calls ≡ mid.calls
   pub out : new.streams.out ≡ mid.streams.out
   pub more : WritesSome mid.streams.err new.streams.err
-  pub plain : ends_at_file came ≡ false → looks.verbose ≡ false → refused ⊎ (new.streams.err ≡ mid.streams.err)
-  pub ends : (now ≡ at) ⊎ (refused × (now ≡ reported_on true at))
+  pub plain : ends_at_file came ≡ false → looks.verbose ≡ false → RefusesSome f before after ⊎ (new.streams.err ≡ mid.streams.err)
+  pub ends : (now ≡ at) ⊎ (RefusesSome f before after × (now ≡ reported_on true at))
 
 -- the looks that arguments ask for
 abbrev pub dressed_by : Args → Looks → Looks
@@ -266,25 +279,25 @@ SaysText came text old new =
     ⊎ ((came ≡ Err fault.Unprinted) × AppendsFront old.bytes new.bytes text × HasFailed old.failed new.failed)
 
 -- what was said of what a command line asks for: its notices, and what follows them; a text is printed without them
-abbrev pub SaysParsed : Result (Unit {0}) RunFault → Type 0 → Type 0 → Type 0 → Parsed → List Note → Env → Contents → Looks → Looks → Scene → Scene → Type 0
-SaysParsed came refused talks tells (parsed.Args args) notes env held looks now old new =
+abbrev pub SaysParsed : {F : Type 0} → Filing F → F → F → Result (Unit {0}) RunFault → Type 0 → Parsed → List Note → Env → Looks → Looks → Scene → Scene → Type 0
+SaysParsed f before after came tells (parsed.Args args) notes env looks now old new =
     (noted : Stream) × SaysNotes (colored_by args.coloring looks.coloring) notes old.streams.err noted
-    × SaysLoaded came refused talks tells args env held (dressed_by args looks) now (scene_with old.calls noted old) new
-SaysParsed came refused talks tells (parsed.Print text) notes env held looks now old new =
+    × SaysLoaded f before after came tells args env (dressed_by args looks) now (scene_with old.calls noted old) new
+SaysParsed f before after came tells (parsed.Print text) notes env looks now old new =
     SaysText came (string_bytes text) old.streams.out new.streams.out × (now ≡ looks) × (new.calls ≡ old.calls) × (new.streams.err ≡ old.streams.err)
-SaysParsed came refused talks tells parsed.List notes env held looks now old new =
+SaysParsed f before after came tells parsed.List notes env looks now old new =
     SaysNotes looks.coloring notes old.streams.err new.streams.err × (now ≡ looks) × (new.streams.out ≡ old.streams.out)
     × ComesOfListing tells (string_bytes env.cargo) (string_bytes env.current_dir) came old.calls new.calls
 
 -- what was said once rustup was asked where an argument needs it, and the command line was read
-pub record SaysRead (came : Result (Unit {0}) RunFault) (refused talks tells : Type 0) (words : List Name) (env : Env) (held : Contents) (looks now : Looks) (old new : Scene) : Type 0 where
+pub record SaysRead {F : Type 0} (f : Filing F) (before after : F) (came : Result (Unit {0}) RunFault) (tells : Type 0) (words : List Name) (env : Env) (looks now : Looks) (old new : Scene) : Type 0 where
   pub calls : List Call
   pub rustup : Rustup
   pub answer : Parsed
   pub notes : List Note
   pub asked : AsksRustup (wants_rustup words) (string_bytes env.rustup) rustup old.calls calls
   pub read : IsAnswer (around_of env rustup) (ComesTo (around_of env rustup) words) answer notes
-  pub said : SaysParsed came refused talks tells answer notes env held looks now (scene_with calls old.streams.err old) new
+  pub said : SaysParsed f before after came tells answer notes env looks now (scene_with calls old.streams.err old) new
 
 -- nothing was said, since the command line is refused, once rustup was asked where an argument needs it
 pub record SaysRefusal (came : Result (Unit {0}) RunFault) (words : List Name) (env : Env) (looks now : Looks) (old new : Scene) : Type 0 where
@@ -304,10 +317,10 @@ SaysUnread came words env looks now old new =
 
 -- What a call said, and how it ended: the line of an error, if there is one, comes last. An error was reported where one
 -- is told last, or before.
-pub record SaysCall (refused talks tells : Type 0) (words : List Name) (env : Env) (held : Contents) (looks now : Looks) (old new : Scene) : Type 0 where
+pub record SaysCall {F : Type 0} (f : Filing F) (before after : F) (tells : Type 0) (words : List Name) (env : Env) (looks now : Looks) (old new : Scene) : Type 0 where
   pub came : Result (Unit {0}) RunFault
   pub mid : Stream
   pub at : Looks
-  pub said : SaysUnread came words env looks at old (scene_with new.calls mid new) ⊎ SaysRead came refused talks tells words env held looks at old (scene_with new.calls mid new)
+  pub said : SaysUnread came words env looks at old (scene_with new.calls mid new) ⊎ SaysRead f before after came tells words env looks at old (scene_with new.calls mid new)
   pub end : SaysEnd came env at.coloring mid new.streams.err
   pub ends : now ≡ reported_on (is_err came || at.reported) at

@@ -20,7 +20,7 @@ ghost use Rattle.hack_run.specs.Readings.{IsEarlyReadingOrRefusal};
 ghost use Rattle.hack_run.specs.TemporaryEdits.{BringsBack, ComesBack, IsClean, RestoresEdits};
 ghost use Rattle.hack_run.specs.Internal.{IsUntoldRefusal};
 ghost use Rattle.hack_run.specs.Refusals.{AreRefused, ReportsRefusal, WritesError};
-ghost use Rattle.hack_run.specs.Shown.{ComesOfListing, RefusesSome, SaysCall, SaysParsed};
+ghost use Rattle.hack_run.specs.Shown.{ComesOfListing, SaysCall, SaysParsed};
 ghost use Rattle.hack_run.specs.Shown.{SaysRead, SaysText};
 ghost use Rattle.hack_run.specs.Shown.{SaysUnread, looks_of, scene_on};
 ghost use Rattle.hack_run.specs.Standing.{Between, EditsStand, ObeysAndEdits};
@@ -149,8 +149,8 @@ pub fn run<F: Files, C: Starts, O: Sink, E: Sink>(
     // on what was loaded, on edits and on the plan; what each step says; the report of the runs that
     // failed, and what only these have, or what a search found; and an error's line last. Each is
     // written whole, or its stream counted a failure for it.
-    ensures shown { C.tells → SaysCall (RefusesSome F.Files files.old files.new) F.tells C.tells
-        (names_of words.now) host.old.env.now (F.bytes_at files.old)
+    ensures shown { C.tells → SaysCall F.Files files.old files.new C.tells
+        (names_of words.now) host.old.env.now
         (looks_of host.old.term.now) (looks_of host.new.term.now)
         (scene_on C.Caller O.Sink E.Sink host.old) (scene_on C.Caller O.Sink E.Sink host.new) }
 {
@@ -209,8 +209,8 @@ fn read<F: Files, C: Starts, O: Sink, E: Sink>(
     ensures shown { C.tells → SaysUnread result (names_of words.now) host.old.env.now
         (looks_of host.old.term.now) (looks_of host.new.term.now)
         (scene_on C.Caller O.Sink E.Sink host.old) (scene_on C.Caller O.Sink E.Sink host.new)
-        ⊎ SaysRead result (RefusesSome F.Files files.old files.new) F.tells C.tells
-        (names_of words.now) host.old.env.now (F.bytes_at files.old)
+        ⊎ SaysRead F.Files files.old files.new result C.tells
+        (names_of words.now) host.old.env.now
         (looks_of host.old.term.now) (looks_of host.new.term.now)
         (scene_on C.Caller O.Sink E.Sink host.old) (scene_on C.Caller O.Sink E.Sink host.new) }
 {
@@ -267,8 +267,8 @@ fn obey<F: Files, C: Starts, O: Sink, E: Sink>(
         host.old.env.now (F.bytes_at files.old) host.old.caller.now host.new.caller.now) }
     ensures in_lanes { ObeysInLanes C.did C.course C.tells C.calls false F.tells parsed
         host.old.env.now (F.bytes_at files.old) host.old.caller.now host.new.caller.now }
-    ensures shown { C.tells → SaysParsed result (RefusesSome F.Files files.old files.new)
-        F.tells C.tells parsed (map note_of notices.now) host.old.env.now (F.bytes_at files.old)
+    ensures shown { C.tells → SaysParsed F.Files files.old files.new result
+        C.tells parsed (map note_of notices.now) host.old.env.now
         (looks_of host.old.term.now) (looks_of host.new.term.now)
         (scene_on C.Caller O.Sink E.Sink host.old) (scene_on C.Caller O.Sink E.Sink host.new) }
 {

@@ -13,10 +13,12 @@ ghost use Rattle.hack_load.specs.CargoQuestions.{told_version};
 ghost use Rattle.hack_prepare.specs.EditSteps.{KeepsOnly};
 ghost use Rattle.hack_prepare.specs.FailureCounts.{WriteFails};
 ghost use Rattle.hack_prepare.specs.PreparedView.{AreWritesIn, HoldTextsIn, IsPartlyPreparedIn};
-ghost use Rattle.hack_prepare.specs.PreparedView.{IsPrepareFault, IsPreparedIn, IsTouchedIn};
+ghost use Rattle.hack_prepare.specs.FailedCalls.{IsAbsent, IsOfFailedCall};
+ghost use Rattle.hack_prepare.specs.PreparedView.{IsPrepareFault, IsPreparedIn, IsReadRootIn, IsTouchedIn};
 ghost use Rattle.hack_prepare.specs.PreparedView.{KeepsUneditedIn};
 ghost use Rattle.hack_prepare.specs.PreparedView.{edits_in, notes_in, wanted_in};
 ghost use Rattle.hack_prepare.specs.Writes.{MakesSome};
+ghost use Rattle.hack_files.specs.FailedCalls.{NoneFailed};
 ghost use Rattle.hack_files.specs.Files.{Grows, KeepsAllBut};
 ghost use Rattle.hack_run.specs.CallChanges.{LoadsAndChanges};
 ghost use Rattle.hack_run.specs.CallTrace.{AfterLoading, LoadsAndPerforms};
@@ -26,7 +28,7 @@ ghost use Rattle.hack_run.specs.Internal.{KeepsAsMade};
 ghost use Rattle.hack_run.specs.Internal.{MayPerformItsPlan, PerformsItsPlan};
 ghost use Rattle.hack_run.specs.Lanes.{FollowsInLanes, LoadsInLanes, MayRunInLanes, RunsInLanes};
 ghost use Rattle.hack_run.specs.LastingEdits.{LeavesAtMost};
-ghost use Rattle.hack_run.specs.Shown.{KeepsLooks, RefusesSome, SaysAfterLoading, SaysItsPlan, SaysLoaded, SaysLooks};
+ghost use Rattle.hack_run.specs.Shown.{KeepsLooks, SaysAfterLoading, SaysItsPlan, SaysLoaded, SaysLooks};
 ghost use Rattle.hack_run.specs.Shown.{SaysNotes, looks_of, scene_on};
 ghost use Rattle.hack_run.specs.Standing.{Between, LoadsAndEdits};
 ghost use Rattle.hack_run.specs.TemporaryEdits.{BringsBack, IsClean};
@@ -92,8 +94,8 @@ pub(crate) fn perform<F: Files, C: Starts, O: Sink, E: Sink>(
         host.old.env.now (F.bytes_at files.old) host.old.caller.now host.new.caller.now) }
     ensures in_lanes { LoadsInLanes C.did C.course C.tells C.calls false F.tells args
         host.old.env.now (F.bytes_at files.old) host.old.caller.now host.new.caller.now }
-    ensures shown { C.tells → SaysLoaded result (RefusesSome F.Files files.old files.new)
-        F.tells C.tells args host.old.env.now (F.bytes_at files.old)
+    ensures shown { C.tells → SaysLoaded F.Files files.old files.new result
+        C.tells args host.old.env.now
         (looks_of host.old.term.now) (looks_of host.new.term.now)
         (scene_on C.Caller O.Sink E.Sink host.old) (scene_on C.Caller O.Sink E.Sink host.new) }
     ensures looks { KeepsLooks host.old.term.now host.new.term.now }
@@ -163,7 +165,7 @@ fn follow<F: Files, C: Starts, O: Sink, E: Sink>(
         (string_bytes host.old.env.now.rustup) host.old.caller.now host.new.caller.now) }
     ensures in_lanes { FollowsInLanes C.did C.course C.tells C.calls false args answers
         (string_bytes host.old.env.now.rustup) host.old.caller.now host.new.caller.now }
-    ensures shown { C.tells → SaysAfterLoading result F.tells C.tells (F.bytes_at files.old)
+    ensures shown { C.tells → SaysAfterLoading F.Files files.old files.new result C.tells
         args answers (string_bytes host.old.env.now.rustup)
         (looks_of host.old.term.now) (looks_of host.new.term.now)
         (scene_on C.Caller O.Sink E.Sink host.old) (scene_on C.Caller O.Sink E.Sink host.new) }
@@ -225,7 +227,10 @@ fn edit<F: Files, E: Sink>(
     ensures stays { F.stays files.old files.new }
     ensures grows { Grows (F.failed files.old) (F.failed files.new) }
     ensures error { IfErr result (λ e. (fault : PrepareFault) × (e ≡ RunFault.Manifests fault)
-        × IsPrepareFault (context_view cx.now) F.tells (F.bytes_at files.old) fault) }
+        × IsPrepareFault (context_view cx.now) F.tells (F.bytes_at files.old) fault
+        × IsOfFailedCall F.Files (IsAbsent F.tells (F.bytes_at files.old)
+        (IsReadRootIn (context_view cx.now))) files.old files.new fault) }
+    ensures none { OnOk result (NoneFailed F.Files files.old files.new) }
     ensures told { OnOk result (term.new
         ≡ after_notes term.old (notes_in (context_view cx.now))) }
     ensures shown { OnOk result (SaysNotes term.old.coloring (notes_in (context_view cx.now))

@@ -105,7 +105,7 @@ returns-in-List-clause-traced g c =
 
 pub returns-in-Args-clause-shown : goal.returns-in-Args-clause-shown
 returns-in-Args-clause-shown g c = λ t.
-    args_said c.perform.result _ g.F.Files.tells g.C.Caller.tells c.args.parsed c.in-Args.args (map note_of c.args.notices.now) c.args.host.now.env.now (g.F.Files.bytes_at c.args.files.now)
+    args_said g.F.Files c.args.files.now c.perform.new.files c.perform.result g.C.Caller.tells c.args.parsed c.in-Args.args (map note_of c.args.notices.now) c.args.host.now.env.now
     c.args.host.now.term.now c.dress.new.term c.tell_all.new.term (looks_of c.perform.new.host.term.now) (stream_of g.E.Sink c.tell_all.new.err) (scene_on g.C.Caller g.O.Sink g.E.Sink c.args.host.now) (scene_on g.C.Caller g.O.Sink g.E.Sink c.perform.new.host)
     c.in-Args.is c.dress.ensures.error c.dress.ensures.verbose c.dress.ensures.coloring c.tell_all.ensures.noted c.tell_all.ensures.shown (c.perform.ensures.shown t)
 

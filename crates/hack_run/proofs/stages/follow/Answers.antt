@@ -120,27 +120,27 @@ returns-in_err-edit-clause-in_lanes g c = inl (g.C.Caller.course_none _, inl ref
 pub returns-in_err-cx-clause-shown : goal.returns-in_err-cx-clause-shown
 returns-in_err-cx-clause-shown g c = λ t.
     let e = c.in_err-cx.ensures.error in
-    unloaded e.0 e.2 (search rules) (ap looks_of c.in_err-cx.ensures.untold.0) (ap (scene_at (g.C.Caller.calls c.args.host.now.caller.now) g.O.Sink g.E.Sink c.args.host.now.out.now) c.in_err-cx.ensures.untold.1)
+    unloaded e.0 e.2 (search rules) (record { unseen = g.F.Files.unseen_none _; refused = g.F.Files.refuses_none _ }) (ap looks_of c.in_err-cx.ensures.untold.0) (ap (scene_at (g.C.Caller.calls c.args.host.now.caller.now) g.O.Sink g.E.Sink c.args.host.now.out.now) c.in_err-cx.ensures.untold.1)
 
 pub returns-in_err-edit-clause-shown : goal.returns-in_err-edit-clause-shown
 returns-in_err-edit-clause-shown g c = λ t.
     let e = c.in_err-edit.ensures.error in
     let p = err_from_is_err_and c.from_residual-in_err-edit.result c.from_residual-in_err-edit.ensures.1 in
-    unedited (context_view c.in_ok-cx.cx) (stream_of g.E.Sink c.context.new.err) c.in_ok-cx.ensures.ok c.in_ok-cx.ensures.shown e.0 e.2 (p.1 ∙ ap Err (p.2 ∙ e.1))
+    unedited (context_view c.in_ok-cx.cx) (stream_of g.E.Sink c.context.new.err) c.in_ok-cx.ensures.ok c.in_ok-cx.ensures.shown e.0 e.2.0 e.2.1 (p.1 ∙ ap Err (p.2 ∙ e.1))
     (ap looks_of (c.in_err-edit.ensures.untold.0 ∙ c.in_ok-cx.ensures.told)) (ap (scene_at (g.C.Caller.calls c.args.host.now.caller.now) g.O.Sink g.E.Sink c.args.host.now.out.now) c.in_err-edit.ensures.untold.1)
 
 pub returns-in_err-stable-clause-shown : goal.returns-in_err-stable-clause-shown
 returns-in_err-stable-clause-shown g c = λ t.
     let p = err_from_is_err_and c.from_residual-in_err-stable.result c.from_residual-in_err-stable.ensures.1 in
-    edits_said _ g.F.Files.tells g.C.Caller.tells (g.F.Files.bytes_at c.args.files.now) c.args.args c.args.answers (string_bytes c.args.host.now.env.now.rustup) c.args.host.now.term.now c.context.new.term c.edit.new.term (context_view c.in_ok-cx.cx)
+    edits_said g.F.Files c.args.files.now c.edit.new.files _ g.C.Caller.tells c.args.args c.args.answers (string_bytes c.args.host.now.env.now.rustup) c.args.host.now.term.now c.context.new.term c.edit.new.term (context_view c.in_ok-cx.cx)
     (stream_of g.E.Sink c.context.new.err) (stream_of g.E.Sink c.edit.new.err) (scene_on g.C.Caller g.O.Sink g.E.Sink c.args.host.now) (scene_at (g.C.Caller.calls c.stable_for.new.caller) g.O.Sink g.E.Sink c.args.host.now.out.now c.edit.new.err) (p.1 ∙ ap Err p.2) c.in_ok-cx.ensures.told c.in_ok-edit.ensures.told c.in_ok-cx.ensures.ok c.in_ok-cx.ensures.shown c.in_ok-edit.ensures.shown
-    (c.stable_for.ensures.made t) (λ off. ap g.C.Caller.calls (c.stable_for.ensures.unneeded (subst (λ (a : Args). ¬ NeedsAnswer a) (sym c.in_ok-cx.ensures.ok.2.args ∙ sym c.args-2.ensures) off))) refl
+    c.in_ok-edit.ensures.none (c.stable_for.ensures.made t) (λ off. ap g.C.Caller.calls (c.stable_for.ensures.unneeded (subst (λ (a : Args). ¬ NeedsAnswer a) (sym c.in_ok-cx.ensures.ok.2.args ∙ sym c.args-2.ensures) off))) refl
 
 pub returns-clause-shown : goal.returns-clause-shown
 returns-clause-shown g c = λ t.
-    follows_said c.run_plan.result g.F.Files.tells g.C.Caller.tells (g.F.Files.bytes_at c.args.files.now) c.args.args c.args.answers (string_bytes c.args.host.now.env.now.rustup) c.args.host.now.term.now c.context.new.term c.edit.new.term (looks_of c.run_plan.new.host.term.now) (context_view c.in_ok-cx.cx) c.in_ok-stable.stable
+    follows_said g.F.Files c.args.files.now c.edit.new.files c.run_plan.result g.C.Caller.tells c.args.args c.args.answers (string_bytes c.args.host.now.env.now.rustup) c.args.host.now.term.now c.context.new.term c.edit.new.term (looks_of c.run_plan.new.host.term.now) (context_view c.in_ok-cx.cx) c.in_ok-stable.stable
     (g.C.Caller.calls c.stable_for.new.caller) (stream_of g.E.Sink c.context.new.err) (stream_of g.E.Sink c.edit.new.err) (scene_on g.C.Caller g.O.Sink g.E.Sink c.args.host.now) (scene_on g.C.Caller g.O.Sink g.E.Sink c.run_plan.new.host)
-    c.in_ok-cx.ensures.told c.in_ok-edit.ensures.told c.in_ok-cx.ensures.ok c.in_ok-cx.ensures.shown c.in_ok-edit.ensures.shown (c.in_ok-stable.ensures.asked t)
+    c.in_ok-cx.ensures.told c.in_ok-edit.ensures.told c.in_ok-cx.ensures.ok c.in_ok-cx.ensures.shown c.in_ok-edit.ensures.shown c.in_ok-edit.ensures.none (c.in_ok-stable.ensures.asked t)
     (λ off. c.in_ok-stable.ensures.unasked (subst (λ (a : Args). ¬ NeedsAnswer a) (sym c.in_ok-cx.ensures.ok.2.args ∙ sym c.args-2.ensures) off)) (c.run_plan.ensures.shown t)
 
 pub returns-clause-looks : goal.returns-clause-looks

@@ -11,7 +11,7 @@ use Rattle.hack_files.specs.View.{files_view}
 use Rattle.hack_run.specs.Worlds.{host_view}
 use Rattle.hack_term.specs.declared.term.Term.{Term}
 use Rattle.hack_run.proofs.ChangeLemmas.{changes}
-use Rattle.hack_run.proofs.LoadingLemmas.{answers_given, loaded}
+use Rattle.hack_run.proofs.LoadingLemmas.{loaded}
 use Rattle.hack_run.proofs.TraceLemmas.{made, performs}
 use Rattle.hack_run.proofs.LaneLemmas.{on_success}
 use Rattle.hack_run.proofs.LastingLemmas.{left_behind}
@@ -130,17 +130,20 @@ returns-clause-shown g c = λ t.
     let before_end = c.follow-came.new.host.term.now in
     let after_end = c.finish.new.term in
     let back = some_refused g.F.Files (λ x y z ps qs one other. g.F.Files.refuses_more x y z ps qs one other) _ _ _ _ c.finish.result asking.spoilt following.0 ending.spoilt asking.refused following.1 ending.refused ending.number in
-    let first = files_view g.F.Files c.args.files.now in
-    let asked = files_view g.F.Files c.ask-answers.new.files in
-    let calls = g.C.Caller.calls in
+    let held = g.F.Files.bytes_at in
+    let failed = g.F.Files.failed in
     record {
       answers = c.ask-answers.result;
-      calls = calls c.ask-answers.new.caller;
-      failed_first = first.failed;
-      failed_now = asked.failed;
-      asked = answers_given g.F.Files.tells _ c.args.args c.args.host.now.env.now first.held first.failed asked.failed (calls c.args.host.now.caller.now) (calls c.ask-answers.new.caller) c.ask-answers.result (c.ask-answers.ensures.asked t);
-      loaded = asked.held;
-      same_loaded = whole_keeps g.F.Files.tells first.held asked.held first.failed asked.failed c.ask-answers.result.loaded c.ask-answers.ensures.whole;
+      calls = g.C.Caller.calls c.ask-answers.new.caller;
+      loaded = c.ask-answers.new.files;
+      over = record {
+        kept = c.ask-answers.ensures.stays;
+        asked = c.ask-answers.ensures.asked t;
+        failed = c.ask-answers.ensures.undone t;
+        same = whole_keeps g.F.Files.tells (held c.args.files.now) (held c.ask-answers.new.files) (failed c.args.files.now) (failed c.ask-answers.new.files) c.ask-answers.result.loaded c.ask-answers.ensures.whole;
+      };
+      edited = c.follow-came.new.files;
+      kept = (c.follow-came.ensures.stays, c.finish.ensures.stays);
       mid = scene_on g.C.Caller g.O.Sink g.E.Sink c.follow-came.new.host;
       at = looks_of c.follow-came.new.host.term.now;
       said = c.follow-came.ensures.shown t;
