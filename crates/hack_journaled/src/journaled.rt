@@ -18,6 +18,7 @@ ghost use Rattle.hack_run.specs.CallTrace.{IsCallTrace};
 ghost use Rattle.hack_run.specs.Readings.{IsEarlyReadingOrRefusal};
 ghost use Rattle.hack_run.specs.TemporaryEdits.{BringsBack, RestoresEdits};
 ghost use Rattle.hack_run.specs.Refusals.{AreRefused, ReportsRefusal};
+ghost use Rattle.hack_run.specs.Shown.{SaysCallOver, looks_of, scene_on};
 ghost use Rattle.hack_run.specs.Standing.{EditsStand};
 ghost use Rattle.hack_run.specs.Worlds.{IsSameHost, IsStatus, host_view};
 
@@ -130,6 +131,14 @@ pub fn run_journaled<F: Files, L: Files, U: Unkept, C: Starts, O: Sink, E: Sink>
     ensures apart { F.tells → KeepsLockfiles
         (without (string_bytes place.journal) (F.bytes_at files))
         (without (string_bytes place.journal) (F.bytes_at result.1)) }
+
+    // And just what `run` says is said.
+    ensures shown { C.tells → SaysCallOver ⟦<Apart<Journaled<F, U>, L> as Files>⟧
+        (contents_seen (string_bytes place.journal) (F.bytes_at files) (L.bytes_at lockfiles))
+        (contents_seen (string_bytes place.journal) (F.bytes_at result.1) (L.bytes_at result.2))
+        C.tells (names_of words.now) host.old.env.now
+        (looks_of host.old.term.now) (looks_of host.new.term.now)
+        (scene_on C.Caller O.Sink E.Sink host.old) (scene_on C.Caller O.Sink E.Sink host.new) }
 
     // After each front of its changes each path holds what it held at first, or the journal has it:
     // wherever the call is interrupted, `recover` restores everything.

@@ -174,3 +174,18 @@ returns-clause-stood g c = λ quiet.
       later.1,
       was.3 ∙ ap (λ (k : List ℕ). contents_seen k (bytes at.files.files) (g.L.Files.bytes_at at.lockfiles)) (sym (ap (λ (s : Spot). s.journal) first.0.0)),
     )) stood
+
+pub returns-clause-shown : goal.returns-clause-shown
+returns-clause-shown g c = λ t.
+    let named : c.new.result.notes.journal ≡ string_bytes c.args.place.journal = ap (λ (s : Spot). s.journal) c.new.ensures.place in
+    let mid = c.run-status.new.files in
+    let bytes = g.F.Files.bytes_at in
+    let ran = rw c.new-files.ensures.files at c.run-status.ensures.stays in
+    let same : string_bytes c.args.place.journal ≡ mid.files.notes.journal = sym named ∙ ap (λ (s : Spot). s.journal) ran.0.0 in
+    record {
+      before = c.new-files.result;
+      after = mid;
+      first = rw (c.new-files.ensures.files, c.new-files.ensures.lockfiles, named, c.new.ensures.files) refl;
+      last = λ tells. seen_same (string_bytes c.args.place.journal) mid.files.notes.journal (length mid.files.notes.entries + 1) (bytes mid.files.files) (bytes c.end_journal-failed.new.files.files) (bytes c.into_inner-below.result.0) (g.L.Files.bytes_at mid.lockfiles) same (c.end_journal-failed.ensures.others tells.0) (rw c.into_inner-below.ensures.files refl);
+      said = c.run-status.ensures.shown t;
+    }
