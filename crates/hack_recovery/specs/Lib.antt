@@ -11,3 +11,4 @@ pub mod Telling
 pub mod CallCourses
 pub mod ProgramCalls
 pub mod InternalHalts
+pub mod ShownCalls

@@ -3,6 +3,7 @@
 
 ghost use Rattle.std.specs.Prelude.{◌≡◌, ◌↔◌, ℕ, IfSome, IsTrue, Ok, false, string_bytes, true};
 ghost use Rattle.hack_base.specs.Names.{names_of};
+ghost use Rattle.hack_base.specs.Streams.{WritesSome, stream_of};
 ghost use Rattle.hack_files.specs.Files.{KeepsOthers, MakesOrNot, removes};
 ghost use Rattle.hack_journal.specs.Rows.{spot_of};
 ghost use Rattle.hack_recovery.specs.AskedEdits.{is_restore};
@@ -15,7 +16,9 @@ ghost use Rattle.hack_recovery.specs.LockEvents.{LocksView};
 ghost use Rattle.hack_places.specs.PlacesView.{places_view};
 ghost use Rattle.hack_recovery.specs.Restoring.{TakesBack};
 ghost use Rattle.hack_recovery.specs.Scenes.{scene_by, scene_of};
+ghost use Rattle.hack_recovery.specs.ShownCalls.{SaysWhole, TellsLines};
 ghost use Rattle.hack_run.specs.Readings.{IsEarlyReading};
+ghost use Rattle.hack_run.specs.Shown.{SaysCall, looks_of, scene_on};
 ghost use Rattle.hack_files.specs.View.{FilesView, files_view};
 ghost use Rattle.hack_run.specs.Worlds.{IsSameHost, IsStatus, host_view};
 
@@ -31,6 +34,8 @@ use crate::restore::restore;
 use crate::unseen::blindly;
 use hack_base::writes::Sink;
 use hack_files::fs::Files;
+use hack_journal::apart::Apart;
+use hack_journal::journaled::Journaled;
 use hack_journal::unkept::Unkept;
 use hack_journaled::journaled::run_journaled;
 use hack_places::look::{LookFault, is_there};
@@ -67,6 +72,12 @@ pub fn perform<F: Files, L: Files, U: Unkept, K: Locks, G: Guards, C: Starts, O:
         (K.shown keepers.old.locks) (G.shown keepers.old.guards) host.old)
         (scene_of F.Files L.Files U.Unkept C.Caller O.Sink result.1 result.2 result.3
         (K.shown keepers.new.locks) (G.shown keepers.new.guards) host.new) }
+
+    // What `run` says of the call is said, if it is performed, and lines before and behind that.
+    ensures shown { C.tells → SaysWhole F.Files ⟦<Apart<Journaled<F, U>, L> as Files>⟧
+        C.tells (names_of words.now) host.old.env.now
+        (looks_of host.old.term.now) (looks_of host.new.term.now)
+        (scene_on C.Caller O.Sink E.Sink host.old) (scene_on C.Caller O.Sink E.Sink host.new) }
 {
     let mut files = files;
     let begun = match begin(host.alloc, words, host.env, &mut files, &keepers.locks) {
@@ -104,6 +115,10 @@ fn report<C: Caller, O: Sink, E: Sink>(fault: CallFault, host: &mut Host<'_, C, 
     ensures view { host_view C.Caller O.Sink host.new
         ≡ record (host_view C.Caller O.Sink host.old) { term = host.new.term.now } }
     ensures error { host.new.term.now.error ≡ true }
+    ensures lines { TellsLines host.old.term.now host.new.term.now
+        (stream_of E.Sink host.old.err.now) (stream_of E.Sink host.new.err.now) }
+    ensures still { (host.new.caller.now ≡ host.old.caller.now)
+        × (host.new.out.now ≡ host.old.out.now) }
 {
     let _ = host.term.error(fault.text(), host.err);
     host.status()
@@ -131,6 +146,13 @@ fn plainly<F: Files, C: Starts, O: Sink, E: Sink>(
         (host_view C.Caller O.Sink host.old))
         (scene_by (files_view F.Files files.new) lockfiles unkept locks guards
         (host_view C.Caller O.Sink host.new)) }
+    ensures said { is_restore begun.edits ≡ true
+        → WritesSome (stream_of E.Sink host.old.err.now) (stream_of E.Sink host.new.err.now)
+        × (host.new.caller.now ≡ host.old.caller.now) × (host.new.out.now ≡ host.old.out.now) }
+    ensures shown { is_restore begun.edits ≡ false → C.tells
+        → SaysCall F.Files files.old files.new C.tells (names_of words.now) host.old.env.now
+        (looks_of host.old.term.now) (looks_of host.new.term.now)
+        (scene_on C.Caller O.Sink E.Sink host.old) (scene_on C.Caller O.Sink E.Sink host.new) }
 {
     if begun.edits == Edits::Restore {
         if !host.env.by_guard {
@@ -173,6 +195,11 @@ fn guarded<F: Files, L: Files, U: Unkept, K: Locks, G: Guards, C: Starts, O: Sin
         (K.shown keepers.old.locks) (G.shown keepers.old.guards) host.old)
         (scene_of F.Files L.Files U.Unkept C.Caller O.Sink result.1 result.2 result.3
         (K.shown keepers.new.locks) (G.shown keepers.new.guards) host.new) }
+    ensures { WritesSome (stream_of E.Sink err.old) (stream_of E.Sink err.new) }
+    ensures shown { C.tells → SaysWhole F.Files ⟦<Apart<Journaled<F, U>, L> as Files>⟧
+        C.tells (names_of words.now) host.old.env.now
+        (looks_of host.old.term.now) (looks_of host.new.term.now)
+        (scene_on C.Caller O.Sink E.Sink host.old) (scene_on C.Caller O.Sink E.Sink host.new) }
 {
     let mut files = files;
     let mut lockfiles = lockfiles;
@@ -204,6 +231,10 @@ fn take_back<F: Files, L: Files, C: Caller, O: Sink, E: Sink>(
         locks guards (host_view C.Caller O.Sink host.old))
         (scene_by (files_view F.Files files.new) (files_view L.Files lockfiles.new) unkept
         locks guards (host_view C.Caller O.Sink host.new)) result }
+    ensures lines { TellsLines host.old.term.now host.new.term.now
+        (stream_of E.Sink host.old.err.now) (stream_of E.Sink host.new.err.now) }
+    ensures still { (host.new.caller.now ≡ host.old.caller.now)
+        × (host.new.out.now ≡ host.old.out.now) }
 {
     let dir = host.env.current_dir.as_str();
     let journal = restore(host.alloc, dir, &places.place, files, host.term, host.err);
@@ -249,6 +280,10 @@ fn go_on<F: Files, L: Files, U: Unkept, K: Locks, G: Guards, C: Starts, O: Sink,
         (K.shown keepers.old.locks) (G.shown keepers.old.guards) host.old)
         (scene_of F.Files L.Files U.Unkept C.Caller O.Sink result.1 result.2 result.3
         (K.shown keepers.new.locks) (G.shown keepers.new.guards) host.new) }
+    ensures shown { C.tells → SaysWhole F.Files ⟦<Apart<Journaled<F, U>, L> as Files>⟧
+        C.tells (names_of words.now) host.old.env.now
+        (looks_of host.old.term.now) (looks_of host.new.term.now)
+        (scene_on C.Caller O.Sink E.Sink host.old) (scene_on C.Caller O.Sink E.Sink host.new) }
 {
     let mut files = files;
     match begun.edits {
@@ -294,6 +329,10 @@ fn journaled<F: Files, L: Files, U: Unkept, G: Guards, C: Starts, O: Sink, E: Si
         (G.shown guards.old) host.old)
         (scene_of F.Files L.Files U.Unkept C.Caller O.Sink result.1 result.2 result.3 locks
         (G.shown guards.new) host.new) }
+    ensures shown { C.tells → SaysWhole F.Files ⟦<Apart<Journaled<F, U>, L> as Files>⟧
+        C.tells (names_of words.now) host.old.env.now
+        (looks_of host.old.term.now) (looks_of host.new.term.now)
+        (scene_on C.Caller O.Sink E.Sink host.old) (scene_on C.Caller O.Sink E.Sink host.new) }
 {
     match guards.start(host.alloc, begun.places.place.folder.as_str()) {
         Ok(watches) => {
@@ -333,6 +372,10 @@ fn copied<F: Files, L: Files, U: Unkept, C: Starts, O: Sink, E: Sink>(
         host.old)
         (scene_of F.Files L.Files U.Unkept C.Caller O.Sink result.1 result.2 result.3 locks guards
         host.new) }
+    ensures shown { C.tells → SaysWhole F.Files ⟦<Apart<Journaled<F, U>, L> as Files>⟧
+        C.tells (names_of words.now) host.old.env.now
+        (looks_of host.old.term.now) (looks_of host.new.term.now)
+        (scene_on C.Caller O.Sink E.Sink host.old) (scene_on C.Caller O.Sink E.Sink host.new) }
 {
     let mut files = files;
     let mut lockfiles = lockfiles;
@@ -382,6 +425,11 @@ fn over_journal<F: Files, L: Files, U: Unkept, C: Starts, O: Sink, E: Sink>(
         host.old)
         (scene_of F.Files L.Files U.Unkept C.Caller O.Sink result.1 result.2 result.3 locks guards
         host.new) }
+    ensures shown { C.tells → SaysWhole F.Files ⟦<Apart<Journaled<F, U>, L> as Files>⟧
+        C.tells (names_of words.now) host.old.env.now
+        (looks_of host.old.term.now) (looks_of host.new.term.now)
+        (scene_on C.Caller O.Sink E.Sink host.old) (scene_on C.Caller O.Sink E.Sink host.new) }
+    ensures { WritesSome (stream_of E.Sink err.old) (stream_of E.Sink err.new) }
 {
     let Begun {
         places,
@@ -412,6 +460,8 @@ fn close<F: Files, E: Sink>(
         (F.bytes_at files.old) (F.bytes_at files.new) }
     ensures made { F.whole → MakesOrNot (removes (string_bytes places.now.copy))
         (F.trace files.old) (F.trace files.new) (F.bytes_at files.old) (F.bytes_at files.new) }
+    ensures lines { TellsLines term.old term.new
+        (stream_of E.Sink err.old) (stream_of E.Sink err.new) }
 {
     let journal = places.place.journal.as_str();
     match is_there(alloc, journal, files) {
@@ -434,7 +484,8 @@ fn close<F: Files, E: Sink>(
 
 /// Warns of a file that stays, or may. Where memory is refused for that, it is an error besides.
 fn tell_stay<E: Sink>(alloc: Global, path: &str, how: &str, term: &mut Term, err: &mut E)
-    ensures { Warns term.old term.new }
+    ensures noted { Warns term.old term.new }
+    ensures lines { WritesSome (stream_of E.Sink err.old) (stream_of E.Sink err.new) }
 {
     match format!(in alloc; "`{path}` {how}") {
         Ok(text) => {
@@ -446,7 +497,8 @@ fn tell_stay<E: Sink>(alloc: Global, path: &str, how: &str, term: &mut Term, err
 
 /// Reports that memory was refused, and warns of what may stay.
 fn tell_memory<E: Sink>(term: &mut Term, err: &mut E)
-    ensures { term.new ≡ record term.old { warn = true; error = true } }
+    ensures noted { term.new ≡ record term.old { warn = true; error = true } }
+    ensures lines { WritesSome (stream_of E.Sink err.old) (stream_of E.Sink err.new) }
 {
     let _ = term.warn(
         "what a journal keeps may stay: the next call looks after it",

@@ -3,12 +3,15 @@
 
 ghost use Rattle.std.specs.Prelude.{◌≡◌, ℕ, IfSome, false, true};
 ghost use Rattle.hack_base.specs.Names.{names_of};
+ghost use Rattle.hack_base.specs.Streams.{WritesSome, stream_of};
 ghost use Rattle.hack_recovery.specs.AskedEdits.{is_change};
 ghost use Rattle.hack_recovery.specs.CallCourses.{PerformsUnjournaled};
 ghost use Rattle.hack_recovery.specs.GuardEvents.{GuardsView};
 ghost use Rattle.hack_recovery.specs.LockEvents.{LocksView};
 ghost use Rattle.hack_recovery.specs.Scenes.{scene_by, scene_with};
+ghost use Rattle.hack_recovery.specs.ShownCalls.{SaysBehindLines};
 ghost use Rattle.hack_run.specs.Readings.{IsEarlyReading};
+ghost use Rattle.hack_run.specs.Shown.{looks_of, scene_on};
 ghost use Rattle.hack_files.specs.View.{FilesView, files_view};
 ghost use Rattle.hack_run.specs.Worlds.{IsSameHost, IsStatus, host_view};
 
@@ -47,6 +50,13 @@ pub(crate) fn blindly<F: Files, C: Starts, O: Sink, E: Sink>(
         (host_view C.Caller O.Sink host.old)))
         (scene_by (files_view F.Files files.new) lockfiles unkept locks guards
         (host_view C.Caller O.Sink host.new)) }
+    ensures lines { is_change asked.edits ≡ true
+        → WritesSome (stream_of E.Sink host.old.err.now) (stream_of E.Sink host.new.err.now)
+        × (host.new.caller.now ≡ host.old.caller.now) × (host.new.out.now ≡ host.old.out.now) }
+    ensures shown { is_change asked.edits ≡ false → C.tells
+        → SaysBehindLines F.Files files.old files.new C.tells (names_of words.now)
+        host.old.env.now (looks_of host.old.term.now) (looks_of host.new.term.now)
+        (scene_on C.Caller O.Sink E.Sink host.old) (scene_on C.Caller O.Sink E.Sink host.new) }
 {
     tell_reason(host.alloc, files, host.term, host.err);
     if asked.edits.is_change() {
@@ -59,7 +69,8 @@ pub(crate) fn blindly<F: Files, C: Starts, O: Sink, E: Sink>(
 
 /// Reports that this path can't be looked at, as an error.
 fn refuse<E: Sink>(alloc: Global, path: &str, term: &mut Term, err: &mut E)
-    ensures { term.new ≡ record term.old { error = true } }
+    ensures noted { term.new ≡ record term.old { error = true } }
+    ensures lines { WritesSome (stream_of E.Sink err.old) (stream_of E.Sink err.new) }
 {
     match format!(in alloc; "failed to read from file `{path}`") {
         Ok(text) => {
@@ -73,7 +84,8 @@ fn refuse<E: Sink>(alloc: Global, path: &str, term: &mut Term, err: &mut E)
 
 /// Warns that this path can't be looked at.
 fn warn<E: Sink>(alloc: Global, path: &str, term: &mut Term, err: &mut E)
-    ensures { term.new ≡ record term.old { warn = true } }
+    ensures noted { term.new ≡ record term.old { warn = true } }
+    ensures lines { WritesSome (stream_of E.Sink err.old) (stream_of E.Sink err.new) }
 {
     match format!(in alloc;
         "failed to read from file `{path}`: edits of an interrupted call may stand"

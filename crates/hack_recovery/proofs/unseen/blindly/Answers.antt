@@ -6,5 +6,5 @@ use Rattle.hack_recovery.proofs.unseen.blindly.Goals as goal
 pub returns-clause-runs : goal.returns-clause-runs
 returns-clause-runs g c = λ off lockfiles unkept locks guards.
     let ran = c.run.ensures in
-    let warned = c.warn.ensures in
+    let warned = c.warn.ensures.noted in
     record { refused = ran.refused; done = rw warned at ran.done; traced = rw warned at ran.traced; made = rw warned at ran.made; back = ran.back; stood = λ quiet. edits_between _ _ _ _ _ _ _ _ (λ held was. (_, _, was)) (ran.stood quiet); spoilt = λ back. spoilt_by g.F.Files _ _ _ _ _ (ran.spoilt back); lasting = lasting_by g.F.Files _ _ _ _ _ _ _ _ _ ran.lasting; clean = ran.clean; lockfiles = refl; unkept = refl; locks = refl; guards = refl }
