@@ -1,9 +1,9 @@
 //! A call of the program, from what the system tells of it.
 
 ghost use Rattle.std.specs.Prelude.{◌≡◌};
-ghost use Rattle.hack_base.specs.Streams.{stream_of};
 ghost use Rattle.hack_recovery.specs.ProgramCalls.{IsProgramCall, IsSameOutside, colored, scene_outside};
 ghost use Rattle.hack_run.specs.CallTrace.{colored_by};
+ghost use Rattle.hack_run.specs.Shown.{scene_at};
 
 use crate::guards::Guards;
 use crate::keepers::Keepers;
@@ -11,6 +11,8 @@ use crate::locks::Locks;
 use crate::perform::perform;
 use hack_base::writes::Sink;
 use hack_files::fs::Files;
+use hack_journal::apart::Apart;
+use hack_journal::journaled::Journaled;
 use hack_journal::unkept::Unkept;
 use hack_process::process::Caller;
 use hack_run::host::Host;
@@ -63,9 +65,13 @@ pub fn call<
     outside: &mut Outside<'_, C, O, E>,
 ) -> (u8, F, L, U)
     ensures outside { IsSameOutside outside.old outside.new }
-    ensures goes { IsProgramCall F.Files L.Files U.Unkept S.tells C.tells K.tells G.tells
+    ensures goes { IsProgramCall F.Files L.Files U.Unkept ⟦<Apart<Journaled<F, U>, L> as Files>⟧
+        S.tells C.tells K.tells G.tells
         (K.real keepers.old.locks) (S.shown system.now) outside.old.is_terminal
-        (stream_of E.Sink outside.old.err.now) (stream_of E.Sink outside.new.err.now)
+        (scene_at (C.calls outside.old.caller.now) O.Sink E.Sink
+        outside.old.out.now outside.old.err.now)
+        (scene_at (C.calls outside.new.caller.now) O.Sink E.Sink
+        outside.new.out.now outside.new.err.now)
         (scene_outside F.Files L.Files U.Unkept C.Caller O.Sink files lockfiles unkept
         (K.shown keepers.old.locks) (G.shown keepers.old.guards) outside.old)
         (scene_outside F.Files L.Files U.Unkept C.Caller O.Sink result.1 result.2 result.3
