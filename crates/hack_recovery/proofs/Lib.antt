@@ -6,3 +6,4 @@ pub mod FailedLemmas
 mod CallLemmas
 mod StrangerLemmas
 mod TellingLemmas
+pub mod SaidLemmas

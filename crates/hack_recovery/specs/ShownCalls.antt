@@ -4,7 +4,7 @@ use Rattle.hack_base.specs.Names.{Name}
 use Rattle.hack_base.specs.Streams.{Stream, WritesSome}
 use Rattle.hack_files.specs.Files.{Contents}
 use Rattle.hack_files.specs.declared.fs.Files.{Ghosts as Filing}
-use Rattle.hack_run.specs.Shown.{KeepsLooks, Looks, SaysCall, SaysCallOver, SaysLines, reported_on}
+use Rattle.hack_run.specs.Shown.{KeepsLooks, Looks, SaysCallOver, SaysLines, reported_on}
 use Rattle.hack_session.specs.StepEffects.{Scene as Said}
 use Rattle.hack_term.specs.declared.term.Term.{Term}
 use Rattle.hack_words.specs.declared.cli.env.Env.{Env}
@@ -13,17 +13,16 @@ use Rattle.hack_words.specs.declared.cli.env.Env.{Env}
 abbrev pub TellsLines : Term → Term → Stream → Stream → Type 0
 TellsLines was now old new = KeepsLooks was now × WritesSome old new
 
--- lines were said at most, and then what `run` says of the call
-abbrev pub SaysBehindLines : {F : Type 0} → Filing F → F → F → Type 0 → List Name → Env → Looks → Looks → Said → Said → Type 0
-SaysBehindLines f before after tells words env looks now old new =
-    (first : Said) × SaysLines false old first × SaysCall f before after tells words env looks now first new
+-- lines were said at most, and how lines look stays
+abbrev pub SaysOnlyLines : Looks → Looks → Said → Said → Type 0
+SaysOnlyLines looks now old new = SaysLines false old new × (now ≡ reported_on now.reported looks)
 
 -- The call isn't performed, and lines say why. Or lines say what was restored, or what isn't known of that; then just
 -- what `run` says is said, over the files `f`; or it is said over those with a journal, `j`, and lines on what stays of
 -- that follow.
 pub data SaysWhole {F J : Type 0} (f : Filing F) (j : Filing J) (tells : Type 0) (words : List Name) (env : Env) (looks now : Looks) (old new : Said) : Type 0 where
-  unperformed : SaysLines false old new → now ≡ reported_on now.reported looks → SaysWhole f j tells words env looks now old new
-  performed : (first : Said) (held left : Contents) → SaysLines false old first → SaysCallOver f held left tells words env looks now first new
+  unperformed : SaysOnlyLines looks now old new → SaysWhole f j tells words env looks now old new
+  performed : (first : Said) (at : Looks) (held left : Contents) → SaysOnlyLines looks at old first → SaysCallOver f held left tells words env at now first new
       → SaysWhole f j tells words env looks now old new
-  journaled : (first last : Said) (at : Looks) (held left : Contents) → SaysLines false old first → SaysCallOver j held left tells words env looks at first last
-      → SaysLines false last new → now ≡ reported_on now.reported at → SaysWhole f j tells words env looks now old new
+  journaled : (first last : Said) (at later : Looks) (held left : Contents) → SaysOnlyLines looks at old first → SaysCallOver j held left tells words env at later first last
+      → SaysOnlyLines later now last new → SaysWhole f j tells words env looks now old new

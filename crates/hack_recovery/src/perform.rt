@@ -146,9 +146,11 @@ fn plainly<F: Files, C: Starts, O: Sink, E: Sink>(
         (host_view C.Caller O.Sink host.old))
         (scene_by (files_view F.Files files.new) lockfiles unkept locks guards
         (host_view C.Caller O.Sink host.new)) }
-    ensures said { is_restore begun.edits ≡ true
-        → WritesSome (stream_of E.Sink host.old.err.now) (stream_of E.Sink host.new.err.now)
-        × (host.new.caller.now ≡ host.old.caller.now) × (host.new.out.now ≡ host.old.out.now) }
+    ensures lines { is_restore begun.edits ≡ true
+        → TellsLines host.old.term.now host.new.term.now
+        (stream_of E.Sink host.old.err.now) (stream_of E.Sink host.new.err.now) }
+    ensures still { is_restore begun.edits ≡ true
+        → (host.new.caller.now ≡ host.old.caller.now) × (host.new.out.now ≡ host.old.out.now) }
     ensures shown { is_restore begun.edits ≡ false → C.tells
         → SaysCall F.Files files.old files.new C.tells (names_of words.now) host.old.env.now
         (looks_of host.old.term.now) (looks_of host.new.term.now)

@@ -9,10 +9,11 @@ ghost use Rattle.hack_recovery.specs.CallCourses.{PerformsUnjournaled};
 ghost use Rattle.hack_recovery.specs.GuardEvents.{GuardsView};
 ghost use Rattle.hack_recovery.specs.LockEvents.{LocksView};
 ghost use Rattle.hack_recovery.specs.Scenes.{scene_by, scene_with};
-ghost use Rattle.hack_recovery.specs.ShownCalls.{SaysBehindLines};
+ghost use Rattle.hack_recovery.specs.ShownCalls.{TellsLines};
 ghost use Rattle.hack_run.specs.Readings.{IsEarlyReading};
-ghost use Rattle.hack_run.specs.Shown.{looks_of, scene_on};
+ghost use Rattle.hack_run.specs.Shown.{SaysCall, SaysLines, looks_of, scene_on};
 ghost use Rattle.hack_files.specs.View.{FilesView, files_view};
+ghost use Rattle.hack_session.specs.StepEffects.{Scene as Said};
 ghost use Rattle.hack_run.specs.Worlds.{IsSameHost, IsStatus, host_view};
 
 use crate::asked::Asked;
@@ -51,12 +52,15 @@ pub(crate) fn blindly<F: Files, C: Starts, O: Sink, E: Sink>(
         (scene_by (files_view F.Files files.new) lockfiles unkept locks guards
         (host_view C.Caller O.Sink host.new)) }
     ensures lines { is_change asked.edits ≡ true
-        → WritesSome (stream_of E.Sink host.old.err.now) (stream_of E.Sink host.new.err.now)
-        × (host.new.caller.now ≡ host.old.caller.now) × (host.new.out.now ≡ host.old.out.now) }
-    ensures shown { is_change asked.edits ≡ false → C.tells
-        → SaysBehindLines F.Files files.old files.new C.tells (names_of words.now)
-        host.old.env.now (looks_of host.old.term.now) (looks_of host.new.term.now)
-        (scene_on C.Caller O.Sink E.Sink host.old) (scene_on C.Caller O.Sink E.Sink host.new) }
+        → TellsLines host.old.term.now host.new.term.now
+        (stream_of E.Sink host.old.err.now) (stream_of E.Sink host.new.err.now) }
+    ensures still { is_change asked.edits ≡ true
+        → (host.new.caller.now ≡ host.old.caller.now) × (host.new.out.now ≡ host.old.out.now) }
+    ensures shown { is_change asked.edits ≡ false → C.tells → (first : Said)
+        × SaysLines false (scene_on C.Caller O.Sink E.Sink host.old) first
+        × SaysCall F.Files files.old files.new C.tells (names_of words.now) host.old.env.now
+        (looks_of host.old.term.now) (looks_of host.new.term.now)
+        first (scene_on C.Caller O.Sink E.Sink host.new) }
 {
     tell_reason(host.alloc, files, host.term, host.err);
     if asked.edits.is_change() {

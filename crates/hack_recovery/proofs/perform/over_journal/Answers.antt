@@ -4,6 +4,9 @@ use Rattle.hack_journal.specs.Rows.{Spot}
 use Rattle.hack_journaled.proofs.JournalLemmas.{edits_between}
 use Rattle.hack_recovery.specs.CallCourses.{Journals}
 use Rattle.hack_recovery.specs.Scenes.{Scene, scene_of}
+use Rattle.hack_base.proofs.StreamLemmas.{wrote_none}
+use Rattle.hack_run.specs.Shown.{looks_of, scene_on}
+use Rattle.hack_recovery.specs.ShownCalls.SaysWhole.{journaled}
 use Rattle.hack_recovery.proofs.perform.over_journal.Goals as goal
 
 pub returns-clause-goes : goal.returns-clause-goes
@@ -24,3 +27,9 @@ returns-clause-goes g c = λ locks guards.
         told = c.close.ensures.told;
       };
     }
+
+pub returns-clause-shown : goal.returns-clause-shown
+returns-clause-shown g c = λ t.
+    journaled (scene_on g.C.Caller g.O.Sink g.E.Sink c.args.host.now) (scene_on g.C.Caller g.O.Sink g.E.Sink c.run_journaled-files.new.host)
+    (looks_of c.args.host.now.term.now) (looks_of c.run_journaled-files.new.host.term.now) _ _
+    ((refl, λ e. refl, wrote_none _ _ refl), refl) (c.run_journaled-files.ensures.shown t) ((refl, λ e. refl, c.close.ensures.lines.1), c.close.ensures.lines.0)

@@ -9,6 +9,12 @@ use Rattle.hack_recovery.specs.Scenes.{Scene, scene_by, scene_of, scene_with}
 use Rattle.hack_recovery.specs.CallCourses.{CannotSee}
 use Rattle.hack_recovery.specs.CallCourses.IsCallCourse.{starved, turned_away, under_its_lock}
 use Rattle.hack_recovery.proofs.CallLemmas.{plain_course, unseen_course}
+use Rattle.std.proofs.Common.{inl, inr}
+use Rattle.std.proofs.lemmas.Bool.{cases_Bool}
+use Rattle.hack_base.proofs.StreamLemmas.{wrote_none}
+use Rattle.hack_run.specs.Shown.{looks_of, scene_on}
+use Rattle.hack_recovery.proofs.SaidLemmas.{behind_run, only_lines}
+use Rattle.hack_recovery.specs.ShownCalls.SaysWhole.{unperformed}
 use Rattle.hack_recovery.proofs.perform.perform.Goals as goal
 
 pub returns-in-Ok-Plain-clause-goes : goal.returns-in-Ok-Plain-clause-goes
@@ -100,3 +106,27 @@ returns-in-Err-Unseen-clause-goes g c =
     (λ on. ap (λ files. scene_by (files_view g.F.Files files) lockfiles unkept locks guards (host_view g.C.Caller g.O.Sink c.blindly-status.new.host)) (came.refused on).0
     ∙ ap (λ (host : HostView). scene_by seen lockfiles unkept locks guards host) (came.refused on).1)
     (λ off. came.runs off lockfiles unkept locks guards)
+
+pub returns-in-Ok-Guarded-clause-shown : goal.returns-in-Ok-Guarded-clause-shown
+returns-in-Ok-Guarded-clause-shown g c = c.guarded.ensures.shown
+
+pub returns-in-Err-clause-shown : goal.returns-in-Err-clause-shown
+returns-in-Err-clause-shown g c = λ t. unperformed (only_lines g.C.Caller g.O.Sink g.E.Sink c.args.host.now c.report.new.host c.report.ensures.lines c.report.ensures.still)
+
+pub returns-in-Err-Memory-clause-shown : goal.returns-in-Err-Memory-clause-shown
+returns-in-Err-Memory-clause-shown g c = λ t. unperformed (only_lines g.C.Caller g.O.Sink g.E.Sink c.args.host.now c.report-status.new.host c.report-status.ensures.lines c.report-status.ensures.still)
+
+pub returns-in-Ok-Plain-clause-shown : goal.returns-in-Ok-Plain-clause-shown
+returns-in-Ok-Plain-clause-shown g c = λ t. elim (cases_Bool (is_restore c.in-Ok.begun.edits)) [
+  | inl on ↦ unperformed (only_lines g.C.Caller g.O.Sink g.E.Sink c.args.host.now c.plainly-status.new.host (c.plainly-status.ensures.lines on) (c.plainly-status.ensures.still on))
+  | inr off ↦ behind_run g.F.Files _ c.begin.new.files c.plainly-status.new.files g.C.Caller.tells _ _ _ (looks_of c.args.host.now.term.now) _ (scene_on g.C.Caller g.O.Sink g.E.Sink c.args.host.now) _ _
+    ((refl, λ e. refl, wrote_none _ _ refl), refl) (c.plainly-status.ensures.shown off t)
+]
+
+pub returns-in-Err-Unseen-clause-shown : goal.returns-in-Err-Unseen-clause-shown
+returns-in-Err-Unseen-clause-shown g c = λ t. elim (cases_Bool (is_change c.in-Err-Unseen.asked.edits)) [
+  | inl on ↦ unperformed (only_lines g.C.Caller g.O.Sink g.E.Sink c.args.host.now c.blindly-status.new.host (c.blindly-status.ensures.lines on) (c.blindly-status.ensures.still on))
+  | inr off ↦ let said = c.blindly-status.ensures.shown off t in
+    behind_run g.F.Files _ c.begin.new.files c.blindly-status.new.files g.C.Caller.tells _ _ _ (looks_of c.args.host.now.term.now) _ (scene_on g.C.Caller g.O.Sink g.E.Sink c.args.host.now) said.0 _
+    (said.1, refl) said.2
+]
