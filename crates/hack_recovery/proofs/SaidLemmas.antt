@@ -1,5 +1,5 @@
 -- What a whole call says, step by step.
-use Rattle.std.proofs.Common.{◌≡◌, ◌∙◌, ℕ, List, Result, OnOk, false, ap, refl}
+use Rattle.std.proofs.Common.{◌≡◌, ◌∙◌, ℕ, List, Result, OnOk, false, ap, refl, subst}
 use Rattle.std.specs.Io.KnownBytes.{Appends}
 use Rattle.hack_base.proofs.StreamLemmas.{some_more, wrote, wrote_one}
 use Rattle.hack_base.specs.Names.{Name}
@@ -7,7 +7,7 @@ use Rattle.hack_base.specs.Streams.{Stream, WritesSome, stream_of}
 use Rattle.hack_base.specs.Writes.{AppendsFront, CountsErrors}
 use Rattle.hack_base.specs.declared.writes.Sink.{Ghosts as Taking}
 use Rattle.hack_files.specs.declared.fs.Files.{Ghosts as Filing}
-use Rattle.hack_run.specs.Shown.{Looks, SaysCall, looks_of, reported_on, scene_on}
+use Rattle.hack_run.specs.Shown.{Looks, SaysCall, looks_of, reported_on, scene_at, scene_on}
 use Rattle.hack_session.specs.StepEffects.{Scene}
 use Rattle.hack_term.specs.declared.term.Term.{Term}
 use Rattle.hack_words.specs.declared.cli.env.Env.{Env}
@@ -48,3 +48,15 @@ pub behind_run : {F J : Type 0} (f : Filing F) (j : Filing J) (before after : F)
     → SaysOnlyLines looks at old mid → SaysCall f before after tells words env at now mid new → SaysWhole f j tells words env looks now old new
 behind_run f j before after tells words env looks at now old mid new lines said =
     performed mid at (f.bytes_at before) (f.bytes_at after) lines (record { before = before; after = after; first = refl; last = λ t. refl; said = said })
+
+-- the same of arguments, an environment, looks and a scene that are known to be these
+pub whole-known : {F J : Type 0} (f : Filing F) (j : Filing J) (tells : Type 0) (ws vs : List Name) (d e : Env) (k l now : Looks) (old first new : Scene) → ws ≡ vs → d ≡ e → k ≡ l → old ≡ first
+    → SaysWhole f j tells ws d k now old new → SaysWhole f j tells vs e l now first new
+whole-known f j tells ws vs d e k l now old first new words env looks scene h =
+    subst (λ x. SaysWhole f j tells x e l now first new) words (subst (λ x. SaysWhole f j tells ws x l now first new) env
+    (subst (λ x. SaysWhole f j tells ws d x now first new) looks (subst (λ x. SaysWhole f j tells ws d k now x new) scene h)))
+
+-- a host that has just these says what they say
+pub same_said : {C O E : Type 0} (c : Calling C) (o : Taking O) (e : Taking E) (host : Host C O E) (caller : C) (out : O) (err : E) → host.caller.now ≡ caller → host.out.now ≡ out → host.err.now ≡ err
+    → scene_on c o e host ≡ scene_at (c.calls caller) o e out err
+same_said c o e host caller out err p q r = rw (p, q, r) refl
