@@ -1,14 +1,15 @@
 -- Changes of a call, put together from those of its stages.
-use Rattle.std.proofs.Common.{◌≡◌, ◌⊎◌, ◌<◌, ◌∙◌, inl, inr, refl, sym, subst, ap, arith, string_bytes, ℕ, Bool, true, false, List, [], ◌∷◌, ◌++◌, cond, get_or, map, Option, Some, None, Result, Ok, Err, OnOk, IfOk, IsTrue}
+use Rattle.std.proofs.Common.{◌≡◌, ◌⊎◌, ◌<◌, ◌∙◌, inl, inr, refl, sym, subst, ap, arith, string_bytes, ℕ, Bool, true, false, List, [], ◌∷◌, ◌++◌, cond, get_or, length, map, Option, Some, None, Result, Ok, Err, OnOk, IfOk, IsTrue}
 use Rattle.std.specs.Prelude.{◌||◌, IfSome, MatchBool, MatchOption, MatchResult, not}
 use Rattle.std.specs.List.{find}
 use Rattle.std.specs.Result.{is_err, result_unwrap_or}
 use Rattle.std.specs.Str.{bytes_eq}
-use Rattle.std.proofs.lemmas.List.{map-append}
+use Rattle.std.proofs.lemmas.List.{length-append, map-append}
 use Rattle.hack_base.specs.Names.{Name}
 use Rattle.hack_base.specs.Notes.{Note}
 use Rattle.hack_files.specs.Files.{Change, Contents, KeepsAll, Makes, after, after_change}
-use Rattle.hack_files.specs.Restore.{AreSafe, Kept, Tried, failed, is_kept, made_and_failed, none, paths, registered_files, write_of, written}
+use Rattle.hack_files.specs.Restore.{AreSafe, Brings, ComesBackBut, Kept, Tried, failed, is_kept, made_and_failed, none, paths, registered_files, write_of, written}
+use Rattle.hack_files.specs.declared.fs.Files.{Ghosts as Filing}
 use Rattle.hack_files.specs.declared.restore.Manager.{Manager}
 use Rattle.hack_files.proofs.FilesLemmas.{makes_more}
 use Rattle.hack_load.specs.Answers.{AreAnswers, IsAskFault, IsLoaded, LoadsFromMetadata, LoadsTo}
@@ -37,13 +38,13 @@ use Rattle.hack_words.specs.declared.cli.args.Args.{Args}
 use Rattle.hack_words.specs.declared.cli.env.Env.{Env}
 use Rattle.hack_words.specs.declared.cli.parse.Parsed.{Parsed}
 use Rattle.hack_words.specs.declared.cli.parse.Parsed.TheVariants as parsed
-use Rattle.hack_run.specs.CallChanges.{AreChanges, IsChangeTrace, LoadsAndChanges, ObeysAndChanges, UndoesEdits}
+use Rattle.hack_run.specs.CallChanges.{AreChanges, AreKept, EditsAndBack, IsChangeTrace, LoadsAndChanges, ObeysAndChanges, TriesToUndo, UndoesEdits}
 use Rattle.hack_run.specs.CallTrace.{PerformsPlan, warned_by}
-use Rattle.hack_run.specs.Internal.{EditsAndPerforms, KeepsAsMade}
+use Rattle.hack_run.specs.Internal.{EditsAndPerforms, EditsDone, KeepsAsMade}
 use Rattle.hack_run.specs.Questions.{AsksRustup}
 use Rattle.hack_files.specs.View.{FilesView}
 use Rattle.hack_run.specs.Worlds.{HostView, World, host_at, world_at}
-use Rattle.hack_run.proofs.BackLemmas.{none_told}
+use Rattle.hack_run.proofs.BackLemmas.{brings_none, none_told}
 use Rattle.hack_run.proofs.TraceLemmas.{on_ok, plan_told, quiet_before}
 
 -- ---- writes that put files back
@@ -142,6 +143,21 @@ by_bool false X Y x y = y refl
 held_lockfile : (before now : Option (List ℕ)) (P : Type 0) → before ≡ now → IfSome before (λ _. P) → IfSome now (λ _. P)
 held_lockfile before now P same h = subst (λ (o : Option (List ℕ)). IfSome o (λ _. P)) same h
 
+-- the files that are kept after edits, where they are to come back
+kept_after : (tells : Type 0) (args : Args) (cx : ContextRecord) (first asked prepared : Contents) (before now : Manager) (edits : List Change)
+    → (tells → KeepsAll first asked) → prepared ≡ after edits asked → registered_files before ≡ [] → before.needs_restore ≡ not args.remove_dev_deps → KeepsAsMade cx edits before now → args.remove_dev_deps ≡ false
+    → (tells → args.remove_dev_deps ≡ false → AreSafe (registered_files now) asked prepared) → KeepsOnly (IsTouchedIn cx) before now
+    → (tells → before.needs_restore ≡ true → edits_in cx ≡ true → IfSome (prepared (wanted_in cx).lockfile) (λ _. is_kept (registered_files now) (wanted_in cx).lockfile ≡ true))
+    → AreKept tells cx first edits (registered_files now)
+kept_after tells args cx first asked prepared before now edits same is empty needs order returns safe only lockfile =
+    let path = (wanted_in cx).lockfile in
+    record {
+      order = subst (λ (files : List Kept). KeepsInOrder path edits (paths files) (paths (registered_files now))) empty (order (needs ∙ ap not returns));
+      safe = λ t. safe_first (registered_files now) edits first asked prepared (same t) is (safe t returns);
+      lockfile = λ t edited. held_lockfile (prepared path) (after edits first path) (is_kept (registered_files now) path ≡ true) (after_held edits first asked prepared (same t) is path) (lockfile t (needs ∙ ap not returns) edited);
+      only = kept_later (IsTouchedIn cx) (registered_files before) (registered_files now) empty only;
+    }
+
 -- what is written back undoes the edits, unless these stay
 undone : (tells : Type 0) (args : Args) (cx : ContextRecord) (first asked prepared : Contents) (before now : Manager) (edits back : List Change)
     → cx.args ≡ args → (tells → KeepsAll first asked) → prepared ≡ after edits asked → back ≡ map write_of (registered_files now) → registered_files before ≡ [] → before.needs_restore ≡ not args.remove_dev_deps → KeepsAsMade cx edits before now
@@ -149,16 +165,12 @@ undone : (tells : Type 0) (args : Args) (cx : ContextRecord) (first asked prepar
     → (tells → before.needs_restore ≡ true → edits_in cx ≡ true → IfSome (prepared (wanted_in cx).lockfile) (λ _. is_kept (registered_files now) (wanted_in cx).lockfile ≡ true))
     → MatchBool cx.args.remove_dev_deps (back ≡ []) (UndoesEdits tells cx first edits back)
 undone tells args cx first asked prepared before now edits back of same is wrote empty needs order unkept safe only lockfile =
-    let path = (wanted_in cx).lockfile in
     by_bool cx.args.remove_dev_deps (back ≡ []) (UndoesEdits tells cx first edits back)
     (λ stay. wrote ∙ ap (map write_of) (unkept (ap (λ (a : Args). a.remove_dev_deps) (sym of) ∙ stay)))
-    (λ back. let returns : args.remove_dev_deps ≡ false = ap (λ (a : Args). a.remove_dev_deps) (sym of) ∙ back in record {
+    (λ back. record {
       files = registered_files now;
       writes = wrote;
-      order = subst (λ (files : List Kept). KeepsInOrder path edits (paths files) (paths (registered_files now))) empty (order (needs ∙ ap not returns));
-      safe = λ t. safe_first (registered_files now) edits first asked prepared (same t) is (safe t returns);
-      lockfile = λ t edited. held_lockfile (prepared path) (after edits first path) (is_kept (registered_files now) path ≡ true) (after_held edits first asked prepared (same t) is path) (lockfile t (needs ∙ ap not returns) edited);
-      only = kept_later (IsTouchedIn cx) (registered_files before) (registered_files now) empty only;
+      kept = kept_after tells args cx first asked prepared before now edits same is empty needs order (ap (λ (a : Args). a.remove_dev_deps) (sym of) ∙ back) safe only lockfile;
     })
 
 -- the changes of the questions, the edits, and what is written back
@@ -212,6 +224,49 @@ changes tells told whole r args env first asked prepared last begun ended mid te
       context = e.context;
       performed = plan_told true e.cx (string_bytes env.rustup) (is_err answers.cargo_version || begun.term.warn) (host_at mid begun) ended begun.term term (λ d. same_warn) e.performed;
     }) follows
+
+not_empty : {X : Type 0} (files : List Kept) (file : Kept) → files ++ file ∷ [] ≡ [] → X
+not_empty files file empty = let none = ap length empty in let long = length-append files (file ∷ []) in absurd (omega (arith, none, long))
+
+-- nothing is written back where nothing is kept
+tried_none : {files : List Kept} {made : List Change} {k : ℕ} → Tried files made k → files ≡ [] → made ≡ []
+tried_none none empty = refl
+tried_none (written {files} file t) empty = not_empty files file empty
+tried_none (failed {files} file t) empty = not_empty files file empty
+tried_none (made_and_failed {files} file t) empty = not_empty files file empty
+
+-- a call whose edits were made and whose files were written back, whatever came of its plan
+pub edits_back : {F : Type 0} (f : Filing F) (args : Args) (answers : Answers) (env : Env) (before now : Manager) (loaded edited last : F) (count : ℕ)
+    → registered_files before ≡ [] → before.needs_restore ≡ not args.remove_dev_deps → (args.remove_dev_deps ≡ true → registered_files now ≡ [])
+    → (f.tells → args.remove_dev_deps ≡ false → AreSafe (registered_files now) (f.bytes_at loaded) (f.bytes_at edited)) → IfOk answers.loaded (IsLoaded f.tells (f.bytes_at loaded) env)
+    → (f.whole → (made : List Change) × Tried (registered_files now) made count × Makes made (f.trace edited) (f.trace last) (f.bytes_at edited) (f.bytes_at last))
+    → ComesBackBut (f.refuses edited last) f.tells (registered_files now) (f.bytes_at edited) (f.bytes_at last) count → (f.tells → Brings (registered_files now) (f.bytes_at edited) (f.bytes_at last) count)
+    → EditsDone f args answers env before now loaded edited → (cx : ContextRecord) × IsContextFrom args answers cx × EditsAndBack f cx loaded edited last
+edits_back f args answers env before now loaded edited last count empty needs unkept safe read tried refused restored done =
+    let same_args : args.remove_dev_deps ≡ done.cx.args.remove_dev_deps = ap (λ (a : Args). a.remove_dev_deps) (sym done.context.2.args) in
+    (done.cx, done.context, record {
+      prepared = λ t. done.prepared t read;
+      stay = λ stays t. brings_none (registered_files now) (f.bytes_at edited) (f.bytes_at last) count (unkept (same_args ∙ stays)) (restored t);
+      changes = λ w.
+          let made = done.edited w in
+          let back = tried w in
+          record {
+            edits = made.0;
+            back = back.0;
+            writes = made.1.0;
+            made = made.2;
+            undone = by_bool done.cx.args.remove_dev_deps (back.0 ≡ []) (TriesToUndo f done.cx made.0 back.0 loaded edited last)
+                (λ stays. tried_none back.1 (unkept (same_args ∙ stays)))
+                (λ returns. record {
+                  files = registered_files now;
+                  spoilt = refused.spoilt;
+                  refused = refused.refused;
+                  tried = subst (λ (n : ℕ). Tried (registered_files now) back.0 n) (sym refused.number) back.1;
+                  kept = kept_after f.tells args done.cx (f.bytes_at loaded) (f.bytes_at loaded) (f.bytes_at edited) before now made.0 (λ t q. refl) made.2.holds empty needs made.1.1 (same_args ∙ returns) safe done.only done.lockfile;
+                });
+            last = back.2;
+          };
+    })
 
 -- ---- what was reported before doesn't matter, nor after it where no more is warned of
 

@@ -61,6 +61,9 @@ by_case P Q case b is h = subst (λ (c : Bool). MatchBool c P Q) (sym is) h
 pub not_off : {X : Type 0} → true ≡ false → X
 not_off off = absurd (cc)
 
+pub off_on : {X : Type 0} → false ≡ true → X
+off_on on = absurd (cc)
+
 -- the group of a starter's lines
 abbrev pub group_for : Bool → Args → LogGroup
 group_for listing args = if listing then log.None else args.log_group

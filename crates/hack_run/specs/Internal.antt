@@ -5,6 +5,7 @@ use Rattle.hack_base.specs.Names.{Name}
 use Rattle.std.specs.Result.{is_err}
 use Rattle.hack_files.specs.Files.{Change, Contents}
 use Rattle.hack_files.specs.Restore.{is_kept, paths, registered_files}
+use Rattle.hack_files.specs.declared.fs.Files.{Ghosts as Filing}
 use Rattle.hack_files.specs.declared.restore.Manager.{Manager}
 use Rattle.hack_load.specs.Answers.{IsLoaded}
 use Rattle.hack_load.specs.ContextOf.{IsContextFrom}
@@ -157,6 +158,20 @@ pub record EditsAndPerforms (tells : Type 0) (args : Args) (answers : Answers) (
   pub only : KeepsOnly (IsTouchedIn cx) before now
   pub lockfile : tells → before.needs_restore ≡ true → edits_in cx ≡ true
       → IfSome (new.files.held (wanted_in cx).lockfile) (λ _.
+      is_kept (registered_files now) (wanted_in cx).lockfile ≡ true)
+
+-- the same of any plan, whatever came of it
+pub record EditsDone {F : Type 0} (f : Filing F) (args : Args) (answers : Answers) (env : Env)
+    (before now : Manager) (old new : F) : Type 0 where
+  pub cx : ContextRecord
+  pub context : IsContextFrom args answers cx
+  pub prepared : f.tells → IfOk answers.loaded (IsLoaded f.tells (f.bytes_at old) env)
+      → IsPreparedIn cx (f.bytes_at old) (f.bytes_at new)
+  pub edited : f.whole → MakesSome (λ made. AreWritesIn cx f.tells (f.bytes_at old) made × KeepsAsMade cx made before now)
+      (f.trace old) (f.trace new) (f.bytes_at old) (f.bytes_at new)
+  pub only : KeepsOnly (IsTouchedIn cx) before now
+  pub lockfile : f.tells → before.needs_restore ≡ true → edits_in cx ≡ true
+      → IfSome (f.bytes_at new (wanted_in cx).lockfile) (λ _.
       is_kept (registered_files now) (wanted_in cx).lockfile ≡ true)
 
 -- the command line is refused, or memory is: no other line stands before that of such an error

@@ -56,6 +56,7 @@ use Rattle.hack_words.specs.declared.cli.args.Args.{Args}
 use Rattle.hack_words.specs.declared.cli.env.Env.{Env}
 use Rattle.hack_words.specs.declared.cli.parse.Parsed.{Parsed}
 use Rattle.hack_words.specs.declared.cli.parse.Parsed.TheVariants as parsed
+use Rattle.hack_run.specs.CallChanges.{EditsAndBack}
 use Rattle.hack_run.specs.CallTrace.{colored_by, listing_asked, listing_command}
 use Rattle.hack_run.specs.Conclusions.{Conclusion, ConcludesSo, SaysSearch}
 use Rattle.hack_run.specs.Errors.{SaysEnd, ends_at_file}
@@ -234,6 +235,12 @@ pub data SaysAfterLoading {F : Type 0} (f : Filing F) (loaded edited : F) (came 
 abbrev pub RefusesSome : {F : Type 0} → Filing F → F → F → Type 0
 RefusesSome f old new = (paths : List Name) × (paths ≢ []) × f.refuses old new paths
 
+-- the call didn't end before its edits were made
+abbrev pub has_edited : Result (Unit {0}) RunFault → Bool
+has_edited (Err (fault.Context e)) = false
+has_edited (Err (fault.Manifests e)) = false
+has_edited came = true
+
 -- the questions of a call were answered over these files: no call of theirs failed but the one that an error is of
 pub record AsksOver {F : Type 0} (f : Filing F) (before loaded : F) (args : Args) (env : Env) (old new : List Call) (answers : Answers) : Type 0 where
   pub kept : f.stays before loaded
@@ -252,6 +259,7 @@ pub record SaysLoaded {F : Type 0} (f : Filing F) (before after : F) (came : Res
   pub over : AsksOver f before loaded args env old.calls calls answers
   pub edited : F
   pub kept : f.stays loaded edited × f.stays edited after
+  pub edits : has_edited came ≡ true → (cx : ContextRecord) × IsContextFrom args answers cx × EditsAndBack f cx loaded edited after
   pub mid : Scene
   pub at : Looks
   pub said : SaysAfterLoading f loaded edited came tells args answers (string_bytes env.rustup) looks at (scene_with calls old.streams.err old) mid

@@ -23,13 +23,13 @@ ghost use Rattle.hack_files.specs.Files.{Grows, KeepsAllBut};
 ghost use Rattle.hack_run.specs.CallChanges.{LoadsAndChanges};
 ghost use Rattle.hack_run.specs.CallTrace.{AfterLoading, LoadsAndPerforms};
 ghost use Rattle.hack_run.specs.Errors.{ends_at_file};
-ghost use Rattle.hack_run.specs.Internal.{EditsAndPerforms, FollowsAndLeaves, FollowsEdits};
+ghost use Rattle.hack_run.specs.Internal.{EditsAndPerforms, EditsDone, FollowsAndLeaves, FollowsEdits};
 ghost use Rattle.hack_run.specs.Internal.{KeepsAsMade};
 ghost use Rattle.hack_run.specs.Internal.{MayPerformItsPlan, PerformsItsPlan};
 ghost use Rattle.hack_run.specs.Lanes.{FollowsInLanes, LoadsInLanes, MayRunInLanes, RunsInLanes};
 ghost use Rattle.hack_run.specs.LastingEdits.{LeavesAtMost};
 ghost use Rattle.hack_run.specs.Shown.{KeepsLooks, SaysAfterLoading, SaysItsPlan, SaysLoaded, SaysLooks};
-ghost use Rattle.hack_run.specs.Shown.{SaysNotes, looks_of, scene_on};
+ghost use Rattle.hack_run.specs.Shown.{SaysNotes, has_edited, looks_of, scene_on};
 ghost use Rattle.hack_run.specs.Standing.{Between, LoadsAndEdits};
 ghost use Rattle.hack_run.specs.TemporaryEdits.{BringsBack, IsClean};
 ghost use Rattle.hack_term.specs.Lines.{info_line};
@@ -170,6 +170,8 @@ fn follow<F: Files, C: Starts, O: Sink, E: Sink>(
         (looks_of host.old.term.now) (looks_of host.new.term.now)
         (scene_on C.Caller O.Sink E.Sink host.old) (scene_on C.Caller O.Sink E.Sink host.new) }
     ensures looks { KeepsLooks host.old.term.now host.new.term.now }
+    ensures edits { has_edited result ≡ true → EditsDone F.Files args answers host.old.env.now
+        manager.old manager.new files.old files.new }
     ensures unkept { manager.old.needs_restore ≡ false
         → registered_files manager.new ≡ registered_files manager.old }
     ensures grows { Grows (F.failed files.old) (F.failed files.new) }

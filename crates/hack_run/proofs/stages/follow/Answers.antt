@@ -18,8 +18,8 @@ use Rattle.hack_run.specs.Worlds.{world_of}
 use Rattle.hack_run.proofs.ToldLemmas.{warned_first}
 use Rattle.hack_base.specs.Streams.{stream_of}
 use Rattle.hack_prepare.specs.PreparedView.{notes_in}
-use Rattle.hack_run.specs.Shown.{looks_of, scene_at, scene_on, unedited, unloaded}
-use Rattle.hack_run.proofs.ShownLemmas.{edits_said, follows_said, looks_followed}
+use Rattle.hack_run.specs.Shown.{has_edited, looks_of, scene_at, scene_on, unedited, unloaded}
+use Rattle.hack_run.proofs.ShownLemmas.{edits_said, follows_said, looks_followed, off_on}
 use Rattle.std.specs.Prelude.{Err}
 use Rattle.std.proofs.lemmas.Result.{err_from_is_err_and}
 use Rattle.hack_run.proofs.stages.follow.Goals as goal
@@ -192,3 +192,35 @@ returns-clause-lasting g c =
 
 pub returns-in_err-cx-clause-lasting : goal.returns-in_err-cx-clause-lasting
 returns-in_err-cx-clause-lasting g c = inl refl
+
+pub returns-in_err-cx-clause-edits : goal.returns-in_err-cx-clause-edits
+returns-in_err-cx-clause-edits g c = λ edited.
+    let e = c.in_err-cx.ensures.error in
+    let p = err_from_is_err_and c.from_residual-in_err-cx.result c.from_residual-in_err-cx.ensures.1 in
+    off_on (sym (ap has_edited (p.1 ∙ ap Err (p.2 ∙ e.1))) ∙ edited)
+
+pub returns-in_err-edit-clause-edits : goal.returns-in_err-edit-clause-edits
+returns-in_err-edit-clause-edits g c = λ edited.
+    let e = c.in_err-edit.ensures.error in
+    let p = err_from_is_err_and c.from_residual-in_err-edit.result c.from_residual-in_err-edit.ensures.1 in
+    off_on (sym (ap has_edited (p.1 ∙ ap Err (p.2 ∙ e.1))) ∙ edited)
+
+pub returns-in_err-stable-clause-edits : goal.returns-in_err-stable-clause-edits
+returns-in_err-stable-clause-edits g c = λ edited. record {
+  cx = context_view c.in_ok-cx.cx;
+  context = c.in_ok-cx.ensures.ok;
+  prepared = λ t read. c.in_ok-edit.ensures.prepared t (loaded-holds g.F.Files.tells (g.F.Files.bytes_at c.args.files.now) c.args.host.now.env.now c.args.args c.args.answers (context_view c.in_ok-cx.cx) t read c.in_ok-cx.ensures.ok);
+  edited = c.in_ok-edit.ensures.traced;
+  only = c.in_ok-edit.ensures.kept;
+  lockfile = c.in_ok-edit.ensures.lockfile;
+}
+
+pub returns-clause-edits : goal.returns-clause-edits
+returns-clause-edits g c = λ edited. record {
+  cx = context_view c.in_ok-cx.cx;
+  context = c.in_ok-cx.ensures.ok;
+  prepared = λ t read. c.in_ok-edit.ensures.prepared t (loaded-holds g.F.Files.tells (g.F.Files.bytes_at c.args.files.now) c.args.host.now.env.now c.args.args c.args.answers (context_view c.in_ok-cx.cx) t read c.in_ok-cx.ensures.ok);
+  edited = c.in_ok-edit.ensures.traced;
+  only = c.in_ok-edit.ensures.kept;
+  lockfile = c.in_ok-edit.ensures.lockfile;
+}

@@ -10,7 +10,7 @@ use Rattle.hack_run.proofs.BackLemmas.{brings_none, cleans, kept_none, leaves, s
 use Rattle.hack_files.specs.View.{files_view}
 use Rattle.hack_run.specs.Worlds.{host_view}
 use Rattle.hack_term.specs.declared.term.Term.{Term}
-use Rattle.hack_run.proofs.ChangeLemmas.{changes}
+use Rattle.hack_run.proofs.ChangeLemmas.{changes, edits_back}
 use Rattle.hack_run.proofs.LoadingLemmas.{loaded}
 use Rattle.hack_run.proofs.TraceLemmas.{made, performs}
 use Rattle.hack_run.proofs.LaneLemmas.{on_success}
@@ -144,6 +144,12 @@ returns-clause-shown g c = λ t.
       };
       edited = c.follow-came.new.files;
       kept = (c.follow-came.ensures.stays, c.finish.ensures.stays);
+      edits = λ edited. edits_back g.F.Files c.args.args c.ask-answers.result c.args.host.now.env.now c.ask-answers.new.manager c.follow-came.new.manager c.ask-answers.new.files c.follow-came.new.files c.finish.new.files c.finish.result
+          (c.ask-answers.ensures.kept ∙ c.new-manager.ensures.nothing) (c.ask-answers.ensures.needs ∙ c.new-manager.ensures.needs)
+          (λ stay. kept_none c.new-manager.result c.ask-answers.new.manager c.follow-came.new.manager c.new-manager.ensures.nothing c.ask-answers.ensures.kept
+          (c.follow-came.ensures.unkept (c.ask-answers.ensures.needs ∙ c.new-manager.ensures.needs ∙ ap not stay)))
+          (λ u back. c.follow-came.ensures.safe u c.ask-answers.ensures.read (c.ask-answers.ensures.needs ∙ c.new-manager.ensures.needs ∙ ap not back) (safe_new c.new-manager.result c.ask-answers.new.manager (held c.ask-answers.new.files) c.new-manager.ensures.nothing c.ask-answers.ensures.kept))
+          c.ask-answers.ensures.read c.finish.ensures.tried c.finish.ensures.refused c.finish.ensures.restored (c.follow-came.ensures.edits edited);
       mid = scene_on g.C.Caller g.O.Sink g.E.Sink c.follow-came.new.host;
       at = looks_of c.follow-came.new.host.term.now;
       said = c.follow-came.ensures.shown t;
