@@ -1,17 +1,19 @@
 -- What happened between scenes, one thing after another.
-use Rattle.std.proofs.Common.{◌≡◌, ℕ, ◌<◌, ◌*◌, length, map, sym, List, [], ◌∷◌, ◌++◌, refl, ◌∙◌, ap, subst, append-nil, inl, inr}
-use Rattle.std.specs.Prelude.{Contains, Result, Ok, Err, IfOk, OnErr, ◌⊎◌, Option, None, Some, slice_get, slice_set, IsSomeAnd, option_map, true, false, IfSome}
+use Rattle.std.proofs.Common.{◌≡◌, ℕ, ◌<◌, ◌+◌, ◌*◌, cond, length, map, sym, List, [], ◌∷◌, ◌++◌, refl, ◌∙◌, ap, subst, append-nil, inl, inr}
+use Rattle.std.specs.Prelude.{Contains, Result, Ok, Err, IfOk, OnErr, ◌⊎◌, Option, Some, slice_get, slice_set, option_map, Bool, true, false, not, IfSome}
+use Rattle.std.specs.List.{count_by}
+use Rattle.std.proofs.lemmas.List.Folds.{fold-map}
 use Rattle.std.proofs.lemmas.Result.{IfOk-weaker, on_err_weaker}
 use Rattle.std.proofs.lemmas.List.{map-set, map-append, length-map}
 use Rattle.std.proofs.lemmas.List.Elements.{Contains-get_or}
 use Rattle.std.proofs.lemmas.Option.{slice_get-map, slice_get_within, get_or_from_slice_get}
 use Rattle.hack_process.specs.Calls.{Asked, Answer, Call, answer_of}
 use Rattle.hack_process.specs.declared.caller.Called.{Called}
-use Rattle.hack_starts.specs.Events.{Event, Ran, Started, Ended, calls_of}
+use Rattle.hack_starts.specs.Events.{Event, Layout, Ran, Started, Ended, Waited, calls_of}
 use Rattle.hack_lanes.specs.declared.job.Job.{Job}
 use Rattle.hack_lanes.specs.declared.child.Child.{Child}
 use Rattle.hack_lanes.specs.Views.{offer_of, pending_of}
-use Rattle.hack_lanes.specs.Lanes.{Offer, Pending, is_free, Turn, State, IsNew, Moves, Scene, Goes, MayGo}
+use Rattle.hack_lanes.specs.Lanes.{Pending, is_free, Turn, State, IsNew, Moves, Scene, Goes, MayGo}
 use Rattle.hack_lanes.specs.JoinedScenes.{goes_more}
 
 -- somebody was called, and nothing happened
@@ -85,25 +87,42 @@ goes_ended did turn last children index child s t there h =
     }) h
 
 -- an offered command starts in a free lane
-pub goes_started : {S : Type 0} (did : List Event → S → S → Type 0) (turn : Option ℕ) (offers : List Job) (width : ℕ) (last : Option ℕ) (children : List Child) (index : ℕ) (job : Job) (child : Child) (s t : S)
+pub goes_started : {S : Type 0} (did : List Event → S → S → Type 0) (turn : Option ℕ) (offers : List Job) (layout : Layout) (last : Option ℕ) (children : List Child) (index : ℕ) (job : Job) (child : Child) (s t : S)
     → slice_get offers index ≡ Some job
     → pending_of child ≡ record { place = job.place; lane = child.lane; asked = (offer_of job).asked; over = false }
-    → IsNew last child.place → child.lane < width → length children < 2 * width → is_free child.lane (map pending_of children) ≡ true
-    → did (Started child.place child.lane (offer_of job).asked ∷ []) s t
-    → Goes did [] (record { turn = record { place = turn; offers = map offer_of offers; width = width }; state = record { last = last; pending = map pending_of children }; starts = s })
-    (record { turn = record { place = turn; offers = map offer_of offers; width = width }; state = record { last = Some child.place; pending = map pending_of (children ++ child ∷ []) }; starts = t })
-goes_started did turn offers width last children index job child s t there same new within ahead alone h =
-    goes_one did (record { place = turn; offers = map offer_of offers; width = width }) (Started child.place child.lane (offer_of job).asked)
+    → IsNew last child.place → child.lane < layout.count → length children < 2 * layout.count → is_free child.lane (map pending_of children) ≡ true
+    → did (Started child.place child.lane layout (offer_of job).asked ∷ []) s t
+    → Goes did [] (record { turn = record { place = turn; offers = map offer_of offers; layout = layout }; state = record { last = last; pending = map pending_of children }; starts = s })
+    (record { turn = record { place = turn; offers = map offer_of offers; layout = layout }; state = record { last = Some child.place; pending = map pending_of (children ++ child ∷ []) }; starts = t })
+goes_started did turn offers layout last children index job child s t there same new within ahead alone h =
+    goes_one did (record { place = turn; offers = map offer_of offers; layout = layout }) (Started child.place child.lane layout (offer_of job).asked)
     (record { last = last; pending = map pending_of children }) (record { last = Some child.place; pending = map pending_of (children ++ child ∷ []) }) s t
     (record {
       offered = subst (λ (n : ℕ). Contains (map offer_of offers) (record { place = n; asked = (offer_of job).asked })) (sym (ap (λ (p : Pending). p.place) same))
           (contains_at (map offer_of offers) index (offer_of job) (slice_get-map offer_of offers index ∙ ap (option_map offer_of) there));
       behind = new;
+      same = refl;
       within = within;
       alone = alone;
-      ahead = subst (λ (n : ℕ). n < 2 * width) (sym (length-map children pending_of)) ahead;
+      ahead = subst (λ (n : ℕ). n < 2 * layout.count) (sym (length-map children pending_of)) ahead;
       after = ap (λ (p : List Pending). record { last = Some child.place; pending = p }) (map-append pending_of children (child ∷ []) ∙ ap (λ (p : Pending). map pending_of children ++ p ∷ []) (same ∙ ap (λ (n : ℕ). record { place = n; lane = child.lane; asked = (offer_of job).asked; over = false }) (sym (ap (λ (p : Pending). p.place) same))));
     }) h
+
+-- as many of the children as of the commands that they are
+count-views : (q : Pending → Bool) (children : List Child) → count_by (λ (c : Child). q (pending_of c)) children ≡ count_by q (map pending_of children)
+count-views q children = sym (fold-map (λ (n : ℕ) (p : Pending). n + cond (q p) 1 0) pending_of 0 children)
+
+-- a moment passed, while so many had ended and so many ran
+pub goes_waited : {S : Type 0} (did : List Event → S → S → Type 0) (turn : Turn) (last : Option ℕ) (children : List Child) (ended running : ℕ) (s t : S)
+    → ended ≡ count_by (λ (c : Child). c.over) children → running ≡ count_by (λ (c : Child). not c.over) children → did (Waited ended running ∷ []) s t
+    → Goes did [] (record { turn = turn; state = record { last = last; pending = map pending_of children }; starts = s })
+    (record { turn = turn; state = record { last = last; pending = map pending_of children }; starts = t })
+goes_waited did turn last children ended running s t over runs h =
+    goes_one did turn (Waited ended running) (record { last = last; pending = map pending_of children }) (record { last = last; pending = map pending_of children }) s t (
+      over ∙ count-views (λ (p : Pending). p.over) children,
+      runs ∙ count-views (λ (p : Pending). not p.over) children,
+      refl,
+    ) h
 
 -- what came of a call, whether it was answered or not
 pub goes_told : {S E : Type 0} (did : List Event → S → S → Type 0) (a b : Scene S) (asked : Asked) (came : Result Called E)

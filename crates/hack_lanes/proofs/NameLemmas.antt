@@ -1,5 +1,5 @@
 -- Names that are the same.
-use Rattle.std.proofs.Common.{◌≡◌, ℕ, List, [], ◌∷◌, true, ap, ◌∙◌, refl, String, string_bytes, string_eq}
+use Rattle.std.proofs.Common.{◌≡◌, List, [], ◌∷◌, true, ap, ◌∙◌, refl, String, string_bytes, string_eq}
 use Rattle.std.specs.Cmp.Lexicographic.{pointwise}
 use Rattle.std.proofs.lemmas.Bool.{and_parts}
 use Rattle.std.proofs.lemmas.Slice.Eq.{bytes_eq-Decides}

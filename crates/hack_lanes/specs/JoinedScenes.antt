@@ -1,6 +1,6 @@
 -- What happened between scenes, joined.
-use Rattle.std.specs.Prelude.{◌≡◌, ℕ, List, [], ◌∷◌, ◌++◌}
-use Rattle.std.proofs.Common.{refl, sym, ◌∙◌, ap, subst}
+use Rattle.std.specs.Prelude.{List, [], ◌∷◌, ◌++◌}
+use Rattle.std.proofs.Common.{refl, ◌∙◌, ap, subst}
 use Rattle.hack_process.specs.Calls.{Call}
 use Rattle.hack_starts.specs.Events.{Event, calls_of}
 use Rattle.hack_starts.specs.JoinedCalls.{calls_joined}

@@ -1,19 +1,19 @@
 -- The rules by which commands are started ahead of their turn, told, and ended.
 use Rattle.std.specs.Prelude.{ℕ, ◌≡◌, ◌==◌, ◌⊎◌, ◌<◌, ◌*◌, ◌||◌, Bool, true, false, not, List, [], ◌∷◌, ◌++◌, Option, Some, Contains, IfSome, length, slice_get, slice_set}
-use Rattle.std.specs.List.{list_all}
+use Rattle.std.specs.List.{count_by, list_all}
 use Rattle.hack_process.specs.Calls.{Asked, Answer, Call}
-use Rattle.hack_starts.specs.Events.{Event, Ran, Started, Ended, Told, Abandoned, calls_of}
+use Rattle.hack_starts.specs.Events.{Event, Layout, Ran, Started, Ended, Told, Abandoned, Waited, calls_of}
 
 -- a command that may be started, and its place
 pub record Offer : Type 0 where
   pub place : ℕ
   pub asked : Asked
 
--- the place whose turn it is, if any, what may be started meanwhile, and how many may run at once
+-- the place whose turn it is, if any, what may be started meanwhile, and in which lanes
 pub record Turn : Type 0 where
   pub place : Option ℕ
   pub offers : List Offer
-  pub width : ℕ
+  pub layout : Layout
 
 -- a command that was started and isn't told yet, its lane, and whether it was seen to have ended
 pub record Pending : Type 0 where
@@ -39,14 +39,16 @@ leaves lane p = p.over || not (p.lane == lane)
 abbrev pub is_free : ℕ → List Pending → Bool
 is_free lane pending = list_all (leaves lane) pending
 
--- an offered command starts behind all others, in a lane that no other is in
-pub record Starts (turn : Turn) (old : State) (place lane : ℕ) (asked : Asked) (new : State) : Type 0 where
+-- an offered command starts behind all others, in one of the lanes that no other is in, and is told
+-- which lanes there are
+pub record Starts (turn : Turn) (old : State) (place number : ℕ) (layout : Layout) (asked : Asked) (new : State) : Type 0 where
   pub offered : Contains turn.offers (record { place = place; asked = asked })
   pub behind : IsNew old.last place
-  pub within : lane < turn.width
-  pub alone : is_free lane old.pending ≡ true
-  pub ahead : length old.pending < 2 * turn.width
-  pub after : new ≡ record { last = Some place; pending = old.pending ++ record { place = place; lane = lane; asked = asked; over = false } ∷ [] }
+  pub same : layout ≡ turn.layout
+  pub within : number < turn.layout.count
+  pub alone : is_free number old.pending ≡ true
+  pub ahead : length old.pending < 2 * turn.layout.count
+  pub after : new ≡ record { last = Some place; pending = old.pending ++ record { place = place; lane = number; asked = asked; over = false } ∷ [] }
 
 -- a command is seen to have ended
 pub record Ends (old : State) (place : ℕ) (new : State) : Type 0 where
@@ -63,15 +65,21 @@ pub record Leaves (old : State) (place : ℕ) (asked : Asked) (new : State) : Ty
   pub first : old.pending ≡ record { place = place; lane = lane; asked = asked; over = over } ∷ new.pending
   pub last : new.last ≡ old.last
 
+-- a moment passes, while so many of the commands were seen to have ended, and so many run
+abbrev pub Waits : State → (ended running : ℕ) → State → Type 0
+Waits old ended running new =
+    (ended ≡ count_by (λ p. p.over) old.pending) × (running ≡ count_by (λ p. not p.over) old.pending) × (new ≡ old)
+
 -- Which event may come next, and what is so after it. A command is run to its end at once only where
 -- none is pending, and at a turn only where the turn's own wasn't started before. Only the turn's
 -- own command is told.
 abbrev pub Moves : Turn → State → Event → State → Type 0
 Moves turn old (Ran asked answer) new = (old.pending ≡ []) × IfSome turn.place (IsNew old.last) × (new ≡ old)
-Moves turn old (Started place lane asked) new = Starts turn old place lane asked new
+Moves turn old (Started place number layout asked) new = Starts turn old place number layout asked new
 Moves turn old (Ended place) new = Ends old place new
 Moves turn old (Told place asked answer) new = (turn.place ≡ Some place) × Leaves old place asked new
 Moves turn old (Abandoned place) new = (asked : Asked) × Leaves old place asked new
+Moves turn old (Waited ended running) new = Waits old ended running new
 
 -- these events, each by the rules, lead from a state to another
 abbrev pub Follows : Turn → State → List Event → State → Type 0

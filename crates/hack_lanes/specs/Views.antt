@@ -1,8 +1,7 @@
 -- The lanes as plain data.
-use Rattle.std.specs.Prelude.{ℕ, ◌≡◌, List, ◌++◌, map, false, string_bytes}
-use Rattle.hack_base.specs.Names.{names_of}
-use Rattle.hack_process.specs.Calls.{Call, asked_call}
-use Rattle.hack_starts.specs.Events.{Event}
+use Rattle.std.specs.Prelude.{map, false, string_bytes}
+use Rattle.hack_process.specs.Calls.{asked_call}
+use Rattle.hack_starts.specs.Events.{Layout}
 use Rattle.hack_lanes.specs.declared.job.Job.{Job}
 use Rattle.hack_lanes.specs.declared.child.Child.{Child}
 use Rattle.hack_lanes.specs.declared.lanes.Lanes.{Lanes}
@@ -15,8 +14,11 @@ offer_of job = record { place = job.place; asked = asked_call (string_bytes job.
 abbrev pub pending_of : Child → Pending
 pending_of child = record { place = child.place; lane = child.lane; asked = asked_call (string_bytes child.program) child.words.items false; over = child.over }
 
+abbrev pub layout_of : Window → Layout
+layout_of window = record { count = window.width; folder = string_bytes window.folder }
+
 abbrev pub turn_of : Window → Turn
-turn_of window = record { place = window.turn; offers = map offer_of window.offers.items; width = window.width }
+turn_of window = record { place = window.turn; offers = map offer_of window.offers.items; layout = layout_of window }
 
 abbrev pub state_of : Window → State
 state_of window = record { last = window.last; pending = map pending_of window.children.items }

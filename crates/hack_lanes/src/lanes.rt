@@ -1,8 +1,8 @@
 //! The lanes of a call: what was offered for the turn, and what was started of it.
 
 ghost use Rattle.std.specs.Prelude.{◌≡◌, ◌<◌, ◌≤◌, ◌+◌, ◌*◌, ◌∷◌, [], IfOk, IfSome, IsSomeAnd, MatchBool};
-ghost use Rattle.std.specs.Prelude.{None, OnErr, Some, false, length, map};
-ghost use Rattle.std.specs.Prelude.{slice_get, true};
+ghost use Rattle.std.specs.Prelude.{None, OnErr, Some, count_by, false, length, map};
+ghost use Rattle.std.specs.Prelude.{not, slice_get, string_bytes, true};
 ghost use Rattle.hack_process.specs.Calls.{WroteNothing, answer_of, asked_call};
 ghost use Rattle.hack_lanes.specs.Lanes.{Goes, IsNew, MayGo, is_free};
 ghost use Rattle.hack_lanes.specs.Views.{offer_of, pending_of, scene_of, state_of, turn_of};
@@ -33,7 +33,11 @@ impl Window {
     /// A window in which so many commands run at once, and in which none was started. Lanes other
     /// than 0 build into folders of their own below `folder`.
     pub fn new(alloc: Global, width: usize, folder: String) -> Window
-        ensures turn { turn_of result ≡ record { place = None; offers = []; width = width } }
+        ensures turn { turn_of result ≡ record {
+          place = None;
+          offers = [];
+          layout = record { count = width; folder = string_bytes folder };
+        } }
         ensures state { state_of result ≡ record { last = None; pending = [] } }
     {
         Window {
@@ -48,7 +52,7 @@ impl Window {
 
     /// How many commands run at once.
     pub fn width(&self) -> usize
-        ensures { result ≡ (turn_of self.now).width }
+        ensures { result ≡ (turn_of self.now).layout.count }
     {
         self.width
     }
@@ -81,10 +85,9 @@ impl Window {
 
     /// Gives a place its turn, at which these commands may be started.
     pub fn give_turn(&mut self, place: usize, offers: Vec<Job>)
-        ensures turn { turn_of self.new ≡ record {
+        ensures turn { turn_of self.new ≡ record (turn_of self.old) {
           place = Some place;
           offers = map offer_of offers.items;
-          width = (turn_of self.old).width;
         } }
         ensures state { state_of self.new ≡ state_of self.old }
     {
@@ -94,10 +97,9 @@ impl Window {
 
     /// Ends the turn.
     pub fn take_turn(&mut self)
-        ensures turn { turn_of self.new ≡ record {
+        ensures turn { turn_of self.new ≡ record (turn_of self.old) {
           place = None;
           offers = [];
-          width = (turn_of self.old).width;
         } }
         ensures state { state_of self.new ≡ state_of self.old }
     {
@@ -327,9 +329,7 @@ impl Window {
                 return;
             }
             self.fill(alloc, starts);
-            let running = self.count_running();
-            let ended = self.children.len().saturating_sub(running);
-            starts.pause(alloc, ended, running);
+            starts.pause(alloc, self.count_ended(), self.count_running());
         }
     }
 
@@ -341,7 +341,17 @@ impl Window {
         }
     }
 
-    fn count_running(&self) -> usize {
+    /// How many of the started commands have been seen to have ended.
+    fn count_ended(&self) -> usize
+        ensures { result ≡ count_by (λ child. child.over) self.now.children.items }
+    {
+        self.children.iter().filter(|child| child.over).count()
+    }
+
+    /// How many of the started commands haven't.
+    fn count_running(&self) -> usize
+        ensures { result ≡ count_by (λ child. not child.over) self.now.children.items }
+    {
         self.children.iter().filter(|child| !child.over).count()
     }
 

@@ -29,7 +29,7 @@ pub trait Turns: Caller {
 
     /// How many commands run at once.
     fn width(&self) -> usize
-        ensures { result ≡ (scene self.now).turn.width };
+        ensures { result ≡ (scene self.now).turn.layout.count };
 
     /// How many more commands may be started before the first one is told.
     fn room(&self) -> usize;
@@ -40,10 +40,9 @@ pub trait Turns: Caller {
     /// Gives a place its turn, at which these commands may be started.
     fn give_turn(&mut self, place: usize, offers: Vec<Job>)
         ensures scene { scene self.new ≡ record (scene self.old) {
-          turn = record {
+          turn = record (scene self.old).turn {
             place = Some place;
             offers = map offer_of offers.items;
-            width = (scene self.old).turn.width;
           };
         } }
         ensures calls { Self.calls self.new ≡ Self.calls self.old }
@@ -52,11 +51,7 @@ pub trait Turns: Caller {
     /// Ends the turn.
     fn take_turn(&mut self)
         ensures scene { scene self.new ≡ record (scene self.old) {
-          turn = record {
-            place = None;
-            offers = [];
-            width = (scene self.old).turn.width;
-          };
+          turn = record (scene self.old).turn { place = None; offers = [] };
         } }
         ensures calls { Self.calls self.new ≡ Self.calls self.old }
         ensures stays { stays self.old self.new };

@@ -2,7 +2,8 @@
 
 ghost use Rattle.std.specs.Prelude.{◌≡◌, ◌⊎◌, ◌∷◌, ◌++◌, [], List, IfOk, MatchBool, OnErr, false};
 ghost use Rattle.hack_process.specs.Calls.{Answer, WroteNothing, answer_of, asked_call};
-ghost use Rattle.hack_starts.specs.Events.{Event, Ran, Started, Ended, Told, Abandoned, calls_of};
+ghost use Rattle.hack_starts.specs.Events.{Event, Ran, Started, Ended, Told, Abandoned, Waited};
+ghost use Rattle.hack_starts.specs.Events.{calls_of};
 
 use hack_process::process::{Called, Caller};
 use std::alloc::{AllocError, Global};
@@ -59,6 +60,7 @@ pub trait Starts: Caller {
         words: &[String],
     ) -> bool
         ensures { MatchBool result (did (Started place lane.entry.number
+            (record { count = lane.entry.count; folder = lane.entry.folder.now })
             (asked_call program.now words.now false) ∷ []) self.old self.new)
             (did [] self.old self.new) };
 
@@ -89,7 +91,7 @@ pub trait Starts: Caller {
 
     /// Waits a moment. So many commands that were started have ended, and so many run.
     fn pause(&mut self, alloc: Global, ended: usize, running: usize)
-        ensures { did [] self.old self.new };
+        ensures { did (Waited ended running ∷ []) self.old self.new };
 
     /// The calls with their answers are those that came of what happened.
     ghost did_calls: { (events : List Event) (a b : Self) → did events a b → Self.tells

@@ -1,4 +1,4 @@
-use Rattle.std.proofs.Common.{◌≡◌, [], length}
+use Rattle.std.proofs.Common.{[]}
 use Rattle.hack_lanes.specs.Lanes.{Goes}
 use Rattle.hack_lanes.specs.Views.{scene_of}
 use Rattle.hack_lanes.proofs.lanes.Window.fill.Given as goal

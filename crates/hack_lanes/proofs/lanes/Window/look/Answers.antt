@@ -1,4 +1,4 @@
-use Rattle.std.proofs.Common.{◌≡◌, [], ◌∷◌, refl, ◌∙◌, inl, inr}
+use Rattle.std.proofs.Common.{[]}
 use Rattle.hack_lanes.specs.Views.{scene_of}
 use Rattle.hack_lanes.proofs.GoLemmas.{goes_on}
 use Rattle.hack_lanes.proofs.lanes.Window.look.Goals as goal

@@ -1,9 +1,8 @@
-use Rattle.std.proofs.Common.{◌≡◌, ℕ, ◌<◌, List, [], ◌∷◌, Option, Some, false, length, slice_get, slice_index_or, subst, refl, sym, ap, ◌∙◌}
+use Rattle.std.proofs.Common.{◌≡◌, ◌<◌, List, Option, Some, false, length, slice_get, slice_index_or, subst, refl, sym}
 use Rattle.std.specs.Prelude.{IsSomeAnd}
 use Rattle.std.proofs.lemmas.Option.{slice_get_read}
 use Rattle.hack_lanes.specs.declared.job.Job.{Job}
-use Rattle.hack_lanes.specs.Lanes.{Pending}
-use Rattle.hack_lanes.specs.Views.{offer_of, pending_of}
+use Rattle.hack_lanes.specs.Views.{layout_of, offer_of, pending_of}
 use Rattle.hack_lanes.proofs.GoLemmas.{goes_started}
 use Rattle.hack_lanes.proofs.lanes.Window.start_in.Goals as goal
 
@@ -17,6 +16,6 @@ returns-then-start g c =
     let there : slice_get offers c.args.index ≡ Some job = slice_get_read offers (length offers) c.args.index job refl within read in
     let same : pending_of c.args.child ≡ record { place = job.place; lane = c.args.child.lane; asked = (offer_of job).asked; over = false } =
     subst (λ (o : Option Job). IsSomeAnd o (λ (j : Job). pending_of c.args.child ≡ record { place = j.place; lane = c.args.child.lane; asked = (offer_of j).asked; over = false })) there c.requires.offered in
-    rw c.in-Ok.ensures.items (goes_started g.S.Starts.did c.args.self.now.turn offers c.args.self.now.width c.args.self.now.last c.args.self.now.children.items c.args.index job c.args.child c.args.starts.now c.start.new.self
+    rw c.in-Ok.ensures.items (goes_started g.S.Starts.did c.args.self.now.turn offers (layout_of c.args.self.now) c.args.self.now.last c.args.self.now.children.items c.args.index job c.args.child c.args.starts.now c.start.new.self
     there same c.requires.behind c.requires.within c.requires.ahead c.requires.alone
-    (rw (sym c.as_str-program.ensures.value, sym c.as_slice-words.ensures.value) c.if-start.ensures))
+    (rw (sym c.as_str-program.ensures.value, sym c.as_slice-words.ensures.value, sym c.as_str.ensures.value) c.if-start.ensures))
