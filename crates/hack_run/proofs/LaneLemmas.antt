@@ -2,7 +2,6 @@
 use Rattle.std.proofs.Common.{◌≡◌, List, [], ◌++◌, Option, inl, inr, refl, ◌∙◌, ap, subst, sym, append-nil}
 use Rattle.hack_process.specs.Calls.{Call}
 use Rattle.std.specs.Prelude.{◌⊎◌, Bool, Result, Ok, Err, OnOk, false, true}
-use Rattle.std.specs.Option.{unwrap_or}
 use Rattle.hack_base.specs.Names.{Name}
 use Rattle.hack_planner.specs.declared.stable.Stable.{Stable}
 use Rattle.hack_words.specs.declared.cli.args.Args.{Args}
@@ -11,7 +10,7 @@ use Rattle.hack_load.specs.Contexts.{ContextRecord}
 use Rattle.hack_load.specs.declared.answers.Answers.{Answers}
 use Rattle.hack_starts.specs.Events.{Event, calls_of}
 use Rattle.hack_lanes.specs.Lanes.{Goes, Scene, State, Turn}
-use Rattle.hack_run.specs.Lanes.{FollowsInLanes, MayRunInLanes, RunsInLanes, RunsOne, scene_at}
+use Rattle.hack_run.specs.Lanes.{FollowsInLanes, MayRunInLanes, RunsInLanes, RunsOne, layout_for, scene_at}
 use Rattle.hack_run.specs.Questions.{AsksStable}
 
 -- ending what is left makes no call
@@ -29,12 +28,12 @@ scene_is {S} a turn state s e f h =
 
 -- one history from fresh lanes on, and then the end of what is left
 pub ran_in_lanes : {S : Type 0} (did : List Event → S → S → Type 0) (cx : ContextRecord) (stable : Stable) (rustup : Name) (old : S) (a b c : Scene S)
-    → a.turn ≡ (scene_at (unwrap_or cx.args.parallel 1) old).turn → a.state ≡ (scene_at (unwrap_or cx.args.parallel 1) old).state → a.starts ≡ old
+    → a.turn ≡ (scene_at (layout_for cx) old).turn → a.state ≡ (scene_at (layout_for cx) old).state → a.starts ≡ old
     → RunsOne did cx stable rustup a b → Goes did [] b c → c.state.pending ≡ [] → RunsInLanes did cx stable rustup old c.starts
 ran_in_lanes {S} did cx stable rustup old a b c turn state starts one ended none = record {
   mid = b;
   last = c;
-  one = subst (λ (s : Scene S). RunsOne did cx stable rustup s b) (scene_is a (scene_at (unwrap_or cx.args.parallel 1) old).turn (scene_at (unwrap_or cx.args.parallel 1) old).state old turn state starts) one;
+  one = subst (λ (s : Scene S). RunsOne did cx stable rustup s b) (scene_is a (scene_at (layout_for cx) old).turn (scene_at (layout_for cx) old).state old turn state starts) one;
   ended = ended;
   none = none;
   now = refl;

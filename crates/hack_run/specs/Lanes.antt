@@ -1,5 +1,5 @@
 -- What happened to the commands of runs that go side by side.
-use Rattle.std.specs.Prelude.{ℕ, ◌≡◌, ◌⊎◌, Bool, List, [], MatchBool, None, false, string_bytes, true}
+use Rattle.std.specs.Prelude.{◌≡◌, ◌++◌, ◌⊎◌, Bool, List, [], MatchBool, None, codes, false, string_bytes, true}
 use Rattle.std.specs.Option.{unwrap_or}
 use Rattle.hack_base.specs.Names.{Name}
 use Rattle.hack_base.specs.Notes.{Note}
@@ -22,14 +22,22 @@ use Rattle.hack_run.specs.Handed.{IsPlannedAsAsked, is_search}
 use Rattle.hack_run.specs.Loading.{AreLoaded}
 use Rattle.hack_run.specs.Questions.{AsksRustup, AsksStable}
 use Rattle.hack_session.specs.Histories.{Course}
-use Rattle.hack_starts.specs.Events.{Event}
+use Rattle.hack_starts.specs.Events.{Event, Layout}
 use Rattle.hack_lanes.specs.Lanes.{Scene, Goes}
 use Rattle.hack_side.specs.Turns.{RunsAll, RunsSerially}
 
--- the lanes before anything was started, of which so many run at once
-abbrev pub scene_at : {S : Type 0} → ℕ → S → Scene S
-scene_at width s = record {
-  turn = record { place = None; offers = []; width = width };
+-- the folder that cargo builds into: the one that it reports, or `target` in that of the workspace
+abbrev pub target_folder : ContextRecord → Name
+target_folder cx = unwrap_or cx.metadata.target_directory (cx.metadata.workspace_root ++ codes "/target")
+
+-- as many lanes as the arguments ask for, the first of which builds where cargo does
+abbrev pub layout_for : ContextRecord → Layout
+layout_for cx = record { count = unwrap_or cx.args.parallel 1; folder = target_folder cx }
+
+-- these lanes before anything was started
+abbrev pub scene_at : {S : Type 0} → Layout → S → Scene S
+scene_at layout s = record {
+  turn = record { place = None; offers = []; layout = layout };
   state = record { last = None; pending = [] };
   starts = s;
 }
@@ -46,13 +54,13 @@ pub record RunsOne {S : Type 0} (did : List Event → S → S → Type 0) (cx : 
   pub ran : MatchBool (is_search false cx.args) (RunsSerially did course.handed old new)
       (RunsAll did cx.args.partition course.plan course.handed old new)
 
--- One history was performed in as many lanes as the arguments ask for, from fresh ones on; and then
--- all that was started and not told was ended.
+-- One history was performed in the lanes that a context asks for, from fresh ones on; and then all
+-- that was started and not told was ended.
 pub record RunsInLanes {S : Type 0} (did : List Event → S → S → Type 0) (cx : ContextRecord)
     (stable : Stable) (rustup : Name) (old new : S) : Type 0 where
   pub mid : Scene S
   pub last : Scene S
-  pub one : RunsOne did cx stable rustup (scene_at (unwrap_or cx.args.parallel 1) old) mid
+  pub one : RunsOne did cx stable rustup (scene_at (layout_for cx) old) mid
   pub ended : Goes did [] mid last
   pub none : last.state.pending ≡ []
   pub now : last.starts ≡ new

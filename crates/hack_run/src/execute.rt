@@ -11,6 +11,7 @@ ghost use Rattle.hack_run.specs.Conclusions.{SaysSearch, version_conclusion};
 ghost use Rattle.hack_run.specs.Internal.{MayPerformItsPlan, PerformsAtMostOne, PerformsItsPlan};
 ghost use Rattle.hack_run.specs.Internal.{HandsSteps, ReportsFound};
 ghost use Rattle.hack_run.specs.Lanes.{MayRunInLanes, RunsInLanes, RunsOne};
+ghost use Rattle.hack_run.specs.Lanes.{target_folder as target};
 ghost use Rattle.hack_drive.specs.Answered.{IsAnswered};
 ghost use Rattle.hack_run.specs.Shown.{HasNoPlan, KeepsLooks, SaysNoPlan, SaysRuns};
 ghost use Rattle.hack_run.specs.Shown.{looks_of, scene_at, scene_on};
@@ -375,7 +376,9 @@ fn width(args: &Args) -> usize
 }
 
 /// The folder that cargo builds into.
-fn target_folder(alloc: Global, cx: &Context) -> Result<String, AllocError> {
+fn target_folder(alloc: Global, cx: &Context) -> Result<String, AllocError>
+    ensures { IfOk result (λ folder. string_bytes folder ≡ target (context_view cx.now)) }
+{
     match &cx.metadata().target_directory {
         Some(folder) => String::from_str(alloc, folder.as_str()),
         None => {

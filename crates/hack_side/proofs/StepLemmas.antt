@@ -18,11 +18,11 @@ state_by o e calls s = state calls (streams o e s.out.now s.err.now) s.fault.now
 -- a turn was given, something happened at it, and it was taken back
 pub ran_step : {S : Type 0} (did : List Event → S → S → Type 0) (Fits : Turn → Type 0) (old given came new : Scene S)
     → IsAtTurn old given → Fits given.turn → ((told : List Call) × Goes did told given came)
-    → new ≡ record came { turn = record { place = None; offers = []; width = came.turn.width } } → RunsAt did Fits old new
+    → new ≡ record came { turn = record came.turn { place = None; offers = [] } } → RunsAt did Fits old new
 ran_step {S} did Fits old given came new at fits went taken = record {
   turn = given.turn;
   fits = fits;
-  width = at.1;
+  layout = at.1;
   told = went.0;
   goes = record {
     events = went.1.events;
@@ -31,7 +31,7 @@ ran_step {S} did Fits old given came new at fits went taken = record {
     calls = went.1.calls;
     turn = refl;
   };
-  kept = ap (λ (s : Scene S). s.turn.width) taken ∙ ap (λ (t : Turn). t.width) went.1.turn ∙ at.1;
+  over = ap (λ (s : Scene S). s.turn) taken ∙ ap (λ (t : Turn). record t { place = None; offers = [] }) went.1.turn;
 }
 
 -- steps at a turn made no other calls than the steps

@@ -39,21 +39,21 @@ IsSerial turn = (turn.place ≡ None) × (turn.offers ≡ [])
 -- the turn at a step: where several commands go at once a run has its own; else nothing is started ahead
 abbrev pub IsTurnFor : Option Partition → PlanView → Step → Turn → Type 0
 IsTurnFor piece plan (Run place) turn =
-    (turn.width ≤ 1 → IsSerial turn) × (1 < turn.width → (turn.place ≡ Some place) × AreOffers piece plan place turn.offers)
+    (turn.layout.count ≤ 1 → IsSerial turn) × (1 < turn.layout.count → (turn.place ≡ Some place) × AreOffers piece plan place turn.offers)
 IsTurnFor piece plan step turn = IsSerial turn
 
--- only the turn is another, for as many commands at once
+-- only the turn is another, with the same lanes
 abbrev pub IsAtTurn : {S : Type 0} → Scene S → Scene S → Type 0
-IsAtTurn old new = (new ≡ record old { turn = new.turn }) × (new.turn.width ≡ old.turn.width)
+IsAtTurn old new = (new ≡ record old { turn = new.turn }) × (new.turn.layout ≡ old.turn.layout)
 
--- at a turn that fits something was done by the rules of lanes
+-- at a turn that fits, with the same lanes, something was done by their rules; then the turn is over
 pub record RunsAt {S : Type 0} (did : List Event → S → S → Type 0) (Fits : Turn → Type 0) (old new : Scene S) : Type 0 where
   pub turn : Turn
   pub fits : Fits turn
-  pub width : turn.width ≡ old.turn.width
+  pub layout : turn.layout ≡ old.turn.layout
   pub told : List Call
   pub goes : Goes did told (record old { turn = turn }) (record new { turn = turn })
-  pub kept : new.turn.width ≡ old.turn.width
+  pub over : new.turn ≡ record turn { place = None; offers = [] }
 
 -- a step did something at its turn
 abbrev pub RunsStep : {S : Type 0} → (List Event → S → S → Type 0) → Option Partition → PlanView → Step → Scene S → Scene S → Type 0

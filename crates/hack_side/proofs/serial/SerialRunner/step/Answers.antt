@@ -12,8 +12,8 @@ returns g c =
     let scene = g.L.Turns.scene in
     let mid = c.take_turn.new.self in
     let went = g.met.L.Turns.goes mid new.caller.now ran.8 in
-    let is_turn : (scene mid).turn ≡ record { place = None; offers = []; width = (scene old.caller.now).turn.width } = ap (λ (s : Scene g.L.Turns.Below). s.turn) c.take_turn.ensures.scene in
-    let is_at : IsAtTurn (scene old.caller.now) (scene mid) = (c.take_turn.ensures.scene ∙ ap (λ (t : Turn). record (scene old.caller.now) { turn = t }) (sym is_turn), ap (λ (t : Turn). t.width) is_turn) in
+    let is_turn : (scene mid).turn ≡ record (scene old.caller.now).turn { place = None; offers = [] } = ap (λ (s : Scene g.L.Turns.Below). s.turn) c.take_turn.ensures.scene in
+    let is_at : IsAtTurn (scene old.caller.now) (scene mid) = (c.take_turn.ensures.scene ∙ ap (λ (t : Turn). record (scene old.caller.now) { turn = t }) (sym is_turn), ap (λ (t : Turn). t.layout) is_turn) in
     let serial : IsSerial (scene mid).turn = (ap (λ (t : Turn). t.place) is_turn, ap (λ (t : Turn). t.offers) is_turn) in (
       g.L.Turns.stays_more old.caller.now new.caller.now c.take_turn-2.new.self (g.L.Turns.stays_more old.caller.now mid new.caller.now c.take_turn.ensures.stays went.0) c.take_turn-2.ensures.stays,
       (
