@@ -1,7 +1,7 @@
 -- What a call says on the way, and in which order: where it comes to its end, all of that and nothing else; where an
 -- error ends it, what was to be said before.
 use Rattle.std.specs.Prelude.{◌≡◌, ◌≢◌, ◌⊎◌, ◌&&◌, ◌||◌, [], ℕ, Bool, Err, IsSome, List, MatchBool, MatchOption, None, Ok, OnOk, Option, Result, false, filter, if◌then◌else◌, map, nat_lt, not, string_bytes, true}
-use Rattle.std.specs.Io.KnownBytes.{Appends}
+use Rattle.std.specs.Io.KnownBytes.{Appends, Keeps}
 use Rattle.std.specs.Result.{is_err}
 use Rattle.hack_base.specs.Names.{Name}
 use Rattle.hack_base.specs.Notes.{Note}
@@ -21,6 +21,7 @@ use Rattle.hack_load.specs.declared.fault.ContextFault.TheVariants as context
 use Rattle.hack_files.specs.FailedCalls.{NoneFailed}
 use Rattle.hack_files.specs.Files.{Contents, KeepsAll}
 use Rattle.hack_files.specs.declared.fs.Files.{Ghosts as Filing}
+use Rattle.hack_plan.specs.View.{PlanView}
 use Rattle.hack_planner.specs.CallPlan.{IsCauseOf, IsPackagesCause, IsPlanOf}
 use Rattle.hack_planner.specs.Looks.{AreLongLooks}
 use Rattle.hack_planner.specs.declared.fault.PlanFault.{PlanFault}
@@ -143,22 +144,30 @@ pub record SaysSteps (tells : Type 0) (listing : Bool) (cx : ContextRecord) (sta
   pub out : listing ≡ false → new.streams.out ≡ last.scene.streams.out
   pub err : new.streams.err ≡ last.scene.streams.err
 
--- nothing was called, and lines were said at most
-abbrev pub SaysLines : Bool → Scene → Scene → Type 0
-SaysLines listing old new = (new.calls ≡ old.calls) × (listing ≡ false → new.streams.out ≡ old.streams.out) × WritesSome old.streams.err new.streams.err
+-- nothing was called, and nothing printed
+abbrev pub CallsNothing : Bool → Scene → Scene → Type 0
+CallsNothing listing old new =
+    (new.calls ≡ old.calls) × (listing ≡ false → new.streams.out ≡ old.streams.out) × Keeps old.streams.out.bytes new.streams.out.bytes
 
 -- why there is no plan: a cause that the context and stable's answer have, or want of memory
 abbrev pub IsNoPlan : Bool → ContextRecord → Stable → PlanFault → Type 0
 IsNoPlan listing cx stable e = (e ≡ plan.Memory)
     ⊎ MatchBool (is_hunt listing cx.args) (IsSome cx.args.subcommand × IsPackagesCause cx e) (IsCauseOf cx.args.subcommand stable cx e)
 
--- that is so, nothing was called, and nothing said; where memory was refused, lines were said at most
-abbrev pub HasNoPlan : Bool → ContextRecord → Stable → Looks → Looks → Scene → Scene → PlanFault → Type 0
-HasNoPlan listing cx stable looks now old new e =
-    IsNoPlan listing cx stable e × SaysLines listing old new × (now ≡ looks) × (e ≢ plan.Memory → new.streams.err ≡ old.streams.err)
+-- a plan was made, its notices were said, and then memory was refused
+abbrev pub SaysPlanNotes : ContextRecord → Stable → Name → Coloring → PlanFault → Stream → Stream → Type 0
+SaysPlanNotes cx stable rustup coloring e old new =
+    (e ≡ plan.Memory) × (made : PlanView) × (notes : List Note) × IsPlanOf cx.args.subcommand stable cx rustup made notes × SaysNotes coloring notes old new
 
-abbrev pub SaysNoPlan : Result (Unit {0}) RunFault → Bool → ContextRecord → Stable → Looks → Looks → Scene → Scene → Type 0
-SaysNoPlan came listing cx stable looks now old new = (e : PlanFault) × (came ≡ Err (fault.Plan e)) × HasNoPlan listing cx stable looks now old new e
+-- That is so, nothing was called and nothing said; or, unless a search for conflicts is asked for, memory was refused
+-- behind the notices of a plan.
+abbrev pub HasNoPlan : Bool → ContextRecord → Stable → Name → Looks → Looks → Scene → Scene → PlanFault → Type 0
+HasNoPlan listing cx stable rustup looks now old new e =
+    IsNoPlan listing cx stable e × CallsNothing listing old new × (now ≡ looks)
+    × ((new.streams.err ≡ old.streams.err) ⊎ ((is_hunt listing cx.args ≡ false) × SaysPlanNotes cx stable rustup looks.coloring e old.streams.err new.streams.err))
+
+abbrev pub SaysNoPlan : Result (Unit {0}) RunFault → Bool → ContextRecord → Stable → Name → Looks → Looks → Scene → Scene → Type 0
+SaysNoPlan came listing cx stable rustup looks now old new = (e : PlanFault) × (came ≡ Err (fault.Plan e)) × HasNoPlan listing cx stable rustup looks now old new e
 
 -- What steps came to: the error that stopped them; else the report of the runs that failed, with the patterns that only
 -- these show, and then an error was reported where one is reported there, or by a step; or memory was refused for that.
@@ -202,7 +211,7 @@ pub record SaysList (came : Result (Unit {0}) RunFault) (tells : Type 0) (cx : C
 -- a plan's steps were said, or there is none; before a list memory may be refused
 abbrev pub SaysPlan : Result (Unit {0}) RunFault → Type 0 → ContextRecord → Stable → Name → Looks → Looks → Scene → Scene → Type 0
 SaysPlan came tells cx stable rustup looks now old new =
-    SaysNoPlan came cx.args.print_command_list cx stable looks now old new
+    SaysNoPlan came cx.args.print_command_list cx stable rustup looks now old new
     ⊎ MatchBool cx.args.print_command_list (SaysStarved came looks now old new ⊎ SaysList came tells cx stable rustup looks now old new) (SaysRuns came tells cx stable rustup looks now old new)
 
 -- which looks take long was said, and then the plan's steps, unless memory was refused for that

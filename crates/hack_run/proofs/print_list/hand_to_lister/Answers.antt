@@ -1,5 +1,6 @@
 use Rattle.std.proofs.Common.{◌≡◌, ◌∙◌, ap, false, filter, refl, subst, sym, true}
-use Rattle.std.specs.Io.KnownBytes.{append_known}
+use Rattle.std.specs.Io.KnownBytes.{Keeps, append_known}
+use Rattle.std.proofs.KnownBytes.{Keeps-refl}
 use Rattle.hack_load.specs.ContextView.{context_view}
 use Rattle.hack_run.specs.Worlds.{HostView}
 use Rattle.hack_run.proofs.RunLemmas.{handed_in_course, handed_makes, lists_one}
@@ -11,7 +12,7 @@ use Rattle.hack_base.specs.Streams.{stream_of}
 use Rattle.hack_term.specs.declared.term.Term.{Term}
 use Rattle.hack_words.specs.declared.cli.args.Args.{Args}
 use Rattle.hack_run.specs.Shown.{looks_of, scene_at, scene_on}
-use Rattle.hack_run.proofs.ShownLemmas.{handed_said, list_looks, looks_ran, looks_told, no_plan, not_off, refused_said, steps_listed}
+use Rattle.hack_run.proofs.ShownLemmas.{handed_said, list_looks, looks_ran, looks_told, no_plan, not_off, on_error, refused_said, steps_listed}
 use Rattle.hack_run.proofs.print_list.hand_to_lister.Goals as goal
 
 pub returns-clause-done : goal.returns-clause-done
@@ -84,16 +85,24 @@ returns-clause-shown g c =
     (ap (λ s. s.keep_going) made ∙ ap (λ (a : Args). a.keep_going) c.args-2.ensures) (ap (λ s. s.log_group) made) l.told refl (λ off. not_off off) l.ran.9 refl (λ off. not_off off) refl
     (c.fault-2-1.given.1 (sym fresh.fault.0 ∙ ap (λ s. s.fault.ghost_name) (sym made) ∙ l.told.2 ∙ l.ran.2)) refl))
 
+pub returns-clause-idle : goal.returns-clause-idle
+returns-clause-idle g c =
+    let gathered_is = c.gathered-1.given.1 (sym c.gather_on-lines.ensures.gathered.0 ∙ c.list_over-refused.ensures.stays.1) in
+    on_error c.list_over-refused.result c.list_over-refused.ensures.idle (λ same. ap (λ v. v.items) (gathered_is ∙ ap (λ l. l.gathered.now) same ∙ c.gather_on-lines.ensures.gathered.1))
+
 pub returns-clause-unplanned : goal.returns-clause-unplanned
 returns-clause-unplanned g c =
     let calls = g.C.Caller.calls in
+    let contents = g.O.Sink.contents in
     let cx = context_view c.args.cx.now in
     let last = c.list_over-refused.new.runner in
     let made = c.set_manner.ensures in
     let fresh = c.new-starter.ensures in
-    refused_said c.list_over-refused.result c.list_over-refused.ensures.refused c.list_over-refused.ensures.err (λ e refused cause.
-    no_plan true calls g.E.Sink cx c.args.stable e c.args.host.now.term.now c.set_manner.new.self last (scene_on g.C.Caller g.O.Sink g.E.Sink c.args.host.now) (scene_at (calls last.caller.now) g.O.Sink g.E.Sink c.list_over-refused.new.out.out.now last.err.now)
-    (ap (λ s. s.term.now) made ∙ fresh.term.1) (ap (λ s. calls s.caller.now) made ∙ ap calls fresh.caller.1) (ap (λ s. stream_of g.E.Sink s.err.now) made ∙ ap (stream_of g.E.Sink) fresh.err.1) refl (λ off. not_off off) refl cause refused)
+    rw (sym c.as_str-rustup.ensures.value)
+    (refused_said c.list_over-refused.result c.list_over-refused.ensures.idle c.list_over-refused.ensures.refused c.list_over-refused.ensures.err (λ e same refused cause.
+    no_plan true calls g.E.Sink cx c.args.stable c.as_str-rustup.result.now e c.args.host.now.term.now c.set_manner.new.self last (scene_on g.C.Caller g.O.Sink g.E.Sink c.args.host.now) (scene_at (calls last.caller.now) g.O.Sink g.E.Sink c.list_over-refused.new.out.out.now last.err.now)
+    (ap (λ s. s.term.now) made ∙ fresh.term.1) (ap (λ s. calls s.caller.now) made ∙ ap calls fresh.caller.1) (ap (λ s. stream_of g.E.Sink s.err.now) made ∙ ap (stream_of g.E.Sink) fresh.err.1) refl (λ off. not_off off)
+    (subst (λ o. Keeps (contents c.args.host.now.out.now) (contents o)) (sym (ap (λ l. l.out.now) same ∙ c.gather_on-lines.ensures.out.1)) (Keeps-refl (contents c.args.host.now.out.now))) refl refl cause refused))
 
 pub returns-clause-looks : goal.returns-clause-looks
 returns-clause-looks g c =
