@@ -1,7 +1,8 @@
 -- What a call says, put together from its stages.
 use Rattle.std.proofs.Common.{◌≡◌, ◌⊎◌, ◌∙◌, ◌+◌, ◌∷◌, ℕ, zero, suc, Bool, Err, Global, IfOk, IsOk, List, None, Ok, OnErr, OnOk, Option, Result, Some, String, ap, arith, drop, false, filter, get_or, length, if◌then◌else◌, inl, inr, map, refl, subst, string_bytes, sym, true}
 use Rattle.std.specs.Prelude.{◌<◌, ◌≢◌, ◌↔◌, ◌&&◌, ◌||◌, ◌++◌, [], IfErr, IsTrue, MatchBool, MatchOption, nat_lt, not}
-use Rattle.std.specs.Io.KnownBytes.{Keeps}
+use Rattle.std.specs.List.{flat_map}
+use Rattle.std.specs.Io.KnownBytes.{Appends, Keeps}
 use Rattle.std.specs.Result.{is_err}
 use Rattle.std.proofs.lemmas.List.{drop_more}
 use Rattle.hack_base.proofs.StreamLemmas.{wrote_none}
@@ -29,7 +30,7 @@ use Rattle.hack_process.specs.declared.fault.ProcessFault.{ProcessFault}
 use Rattle.hack_report.specs.Reported.{SaysCutReport, SaysReport, are_reported}
 use Rattle.hack_plan.specs.View.{PlanView}
 use Rattle.hack_session.specs.Histories.{Course}
-use Rattle.hack_session.specs.ListLines.{is_sent}
+use Rattle.hack_session.specs.ListLines.{is_sent, lines_written}
 use Rattle.hack_session.specs.declared.step.Handed.{Handed}
 use Rattle.hack_session.specs.StepEffects.{DoesAll, Scene, State, state}
 use Rattle.hack_session.specs.StepOutput.{Manner, Streams, manner_of}
@@ -145,20 +146,21 @@ steps_searched tells calls e cx stable rustup kept left reported course notes fa
 }
 
 -- the same of a list
-pub steps_listed : {C O E : Type 0} (tells : Type 0) (calls : C → List Call) (e : Taking E) (cx : ContextRecord) (stable : Stable) (rustup : Name) (now : Option ProcessFault) (reported : Bool)
+pub steps_listed : {C O E : Type 0} (tells : Type 0) (calls : C → List Call) (e : Taking E) (cx : ContextRecord) (stable : Stable) (rustup : Name) (now : Option ProcessFault) (reported : Bool) (had has : Option (List ℕ))
     (course : Course) (notes : List Note) (fails warns : Bool) (start mid : Starter C O E) (begun : Streams) (last : State) (term : Term) (old new : Scene)
     → IsPlannedAsAsked (IsPlanOf cx.args.subcommand stable cx rustup) false true cx rustup course notes fails warns
     → calls start.caller.now ≡ old.calls → start.term.now ≡ term → stream_of e start.err.now ≡ old.streams.err → start.fault.now ≡ None → start.refused ≡ 0
     → start.keep_going ≡ goes_on true cx.args → start.log_group ≡ group_for true cx.args
     → TellsNotes e notes start mid → begun.err ≡ stream_of e mid.err.now → (true ≡ false → begun.out ≡ old.streams.out)
     → DoesAll tells mid.keep_going (manner_of mid.log_group mid.term.now) course.plan (performed_of true course.handed) (state (calls mid.caller.now) begun mid.fault.now mid.term.now.error mid.refused) last
-    → new.calls ≡ last.scene.calls → (true ≡ false → new.streams.out ≡ last.scene.streams.out) → new.streams.err ≡ last.scene.streams.err → now ≡ last.kept → reported ≡ last.told
-    → ListsSteps tells cx stable rustup now reported (looks_of term) old new
+    → new.calls ≡ last.scene.calls → (true ≡ false → new.streams.out ≡ last.scene.streams.out) → new.streams.err ≡ last.scene.streams.err → now ≡ last.kept → reported ≡ last.told → Appends had has (flat_map (lines_written course.plan) course.handed)
+    → ListsSteps tells cx stable rustup now reported (looks_of term) had has old new
 unfolding steps_said
-steps_listed tells calls e cx stable rustup now reported course notes fails warns start mid begun last term old new made caller_is term_is err_is fault_is refused_is keep_is group_is told begun_is first did calls_end out_end err_end kept_end told_end = (
+steps_listed tells calls e cx stable rustup now reported had has course notes fails warns start mid begun last term old new made caller_is term_is err_is fault_is refused_is keep_is group_is told begun_is first did calls_end out_end err_end kept_end told_end wrote = (
   steps_said tells true calls e cx stable rustup None course notes fails warns start mid begun last term old new made caller_is term_is err_is fault_is refused_is keep_is group_is told begun_is first did calls_end out_end err_end,
   kept_end,
   told_end,
+  wrote,
 )
 
 -- what a list says doesn't hang on where its lines go
@@ -322,13 +324,13 @@ line_unwritten old mid new short true missed h last (full, inl some) = elim h.ca
 ]
 
 -- a list's steps were said, or there is no plan
-pub list_said : (Unwritten : Type 0) (refused : Result Bool PlanFault) (kept : Option ProcessFault) (came : Result (Unit {0}) RunFault) (tells : Type 0) (cx : ContextRecord) (stable : Stable) (rustup : Name) (looks now : Looks) (old mid new : Scene)
-    → IfOk refused (λ short. ListsSteps tells cx stable rustup kept now.reported looks old mid) → IfErr refused (HasNoPlan true cx stable rustup looks now old mid) → EndsList Unwritten refused kept came → (Unwritten → HasFailed old.streams.out.failed new.streams.out.failed) → now ≡ reported_on now.reported looks → new.calls ≡ mid.calls → new.streams.err ≡ mid.streams.err
-    → OnErr refused (Keeps old.streams.out.bytes new.streams.out.bytes) → SaysNoPlan came true cx stable rustup looks now old new ⊎ SaysStarved came looks now old new ⊎ SaysList came tells cx stable rustup looks now old new
+pub list_said : (Unwritten : Type 0) (refused : Result Bool PlanFault) (kept : Option ProcessFault) (came : Result (Unit {0}) RunFault) (tells : Type 0) (cx : ContextRecord) (stable : Stable) (rustup : Name) (looks now : Looks) (had has : Option (List ℕ)) (old mid new : Scene)
+    → IfOk refused (λ short. ListsSteps tells cx stable rustup kept now.reported looks had has old mid) → IfErr refused (HasNoPlan true cx stable rustup looks now old mid) → EndsList Unwritten refused kept came → (Unwritten → HasFailed old.streams.out.failed new.streams.out.failed) → now ≡ reported_on now.reported looks → new.calls ≡ mid.calls → new.streams.err ≡ mid.streams.err
+    → OnErr refused (Keeps old.streams.out.bytes new.streams.out.bytes) → ((text : List ℕ) → Appends had has text → WritesText text old.streams.out new.streams.out) → SaysNoPlan came true cx stable rustup looks now old new ⊎ SaysStarved came looks now old new ⊎ SaysList came tells cx stable rustup looks now old new
 unfolding said_elsewhere
-list_said Unwritten (Ok short) kept came tells cx stable rustup looks now old mid new steps none ends counted same calls err out =
-    inr (inr (record { steps = said_elsewhere tells cx stable rustup None looks old mid new calls err steps.0; comes = list_comes Unwritten short kept came now steps.0.last old.streams.out new.streams.out steps.1 steps.2 counted ends; ends = same }))
-list_said Unwritten (Err e) kept came tells cx stable rustup looks now old mid new steps none ends counted same calls err out = inl (
+list_said Unwritten (Ok short) kept came tells cx stable rustup looks now had has old mid new steps none ends counted same calls err out wrote =
+    inr (inr (record { steps = said_elsewhere tells cx stable rustup None looks old mid new calls err steps.0; wrote = wrote (flat_map (lines_written steps.0.course.plan) steps.0.course.handed) steps.3; comes = list_comes Unwritten short kept came now steps.0.last old.streams.out new.streams.out steps.1 steps.2 counted ends; ends = same }))
+list_said Unwritten (Err e) kept came tells cx stable rustup looks now had has old mid new steps none ends counted same calls err out wrote = inl (
   e,
   ends,
   none.0,

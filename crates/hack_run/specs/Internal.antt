@@ -195,10 +195,12 @@ FollowsAndLeaves Refuses tells args answers env old new =
     (new ≡ old)
     ⊎ ((cx : ContextRecord) × IsContextFrom args answers cx × (IfOk answers.loaded (IsLoaded tells old env) → LeavesEdits Refuses tells cx old new))
 
--- a list's steps were said, this error is kept, and it is noted so whether one was reported
-abbrev pub ListsSteps : Type 0 → ContextRecord → Stable → Name → Option ProcessFault → Bool → Looks → Scene → Scene → Type 0
-ListsSteps tells cx stable rustup now reported looks old new =
+-- a list's steps were said, this error is kept, and it is noted so whether one was reported; what is known to be written
+-- or gathered grew by just the lines of those that passed
+abbrev pub ListsSteps : Type 0 → ContextRecord → Stable → Name → Option ProcessFault → Bool → Looks → Option (List ℕ) → Option (List ℕ) → Scene → Scene → Type 0
+ListsSteps tells cx stable rustup now reported looks had has old new =
     (steps : SaysSteps tells true cx stable rustup None looks old new) × (now ≡ steps.last.kept) × (reported ≡ steps.last.told)
+    × Appends had has (flat_map (lines_written steps.course.plan) steps.course.handed)
 
 -- how a list ends: as there is no plan, with the error that stopped its steps, or as lines are missing or not,
 -- for want of memory or since `Unwritten` holds

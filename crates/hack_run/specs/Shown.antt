@@ -2,10 +2,11 @@
 -- error ends it, what was to be said before.
 use Rattle.std.specs.Prelude.{◌≡◌, ◌≢◌, ◌⊎◌, ◌&&◌, ◌||◌, [], ℕ, Bool, Err, IsSome, List, MatchBool, MatchOption, None, Ok, OnOk, Option, Result, false, filter, if◌then◌else◌, map, nat_lt, not, string_bytes, true}
 use Rattle.std.specs.Io.KnownBytes.{Appends, Keeps}
+use Rattle.std.specs.List.{flat_map}
 use Rattle.std.specs.Result.{is_err}
 use Rattle.hack_base.specs.Names.{Name}
 use Rattle.hack_base.specs.Notes.{Note}
-use Rattle.hack_base.specs.Streams.{Stream, WritesAll, WritesSome}
+use Rattle.hack_base.specs.Streams.{Stream, WritesAll, WritesSome, WritesText}
 use Rattle.hack_base.specs.Writes.{AppendsFront, HasFailed}
 use Rattle.hack_base.specs.declared.writes.Sink.{Ghosts as Taking}
 use Rattle.hack_drive.specs.Answered.{NeedsAnswer}
@@ -38,7 +39,7 @@ use Rattle.hack_process.specs.declared.caller.Caller.{Ghosts as Calling}
 use Rattle.hack_report.specs.Reported.{SaysCutReport, SaysReport, are_reported}
 use Rattle.hack_rules.specs.declared.fault.CliFault.{CliFault}
 use Rattle.hack_session.specs.Histories.{Course}
-use Rattle.hack_session.specs.ListLines.{is_sent}
+use Rattle.hack_session.specs.ListLines.{is_sent, lines_written}
 use Rattle.hack_session.specs.StepEffects.{DoesAll, Scene, State, state}
 use Rattle.hack_session.specs.StepOutput.{Manner, Streams, streams}
 use Rattle.hack_session.specs.declared.step.Handed.{Handed}
@@ -202,9 +203,11 @@ ComesOfList came now last old new = MatchOption last.kept
     ((came ≡ Err fault.Memory) ⊎ ((came ≡ Err fault.Unlisted) × HasFailed old.failed new.failed) ⊎ ((came ≡ Ok tt) × (now.reported ≡ last.told)))
     (λ failed. came ≡ Err (fault.Process failed))
 
--- the same of a list's steps that aren't listed
+-- The same of a list's steps that aren't listed. Whatever came of them, just the lines of the steps that passed were
+-- printed, in order; or a front of these lines, and their stream counted a failure.
 pub record SaysList (came : Result (Unit {0}) RunFault) (tells : Type 0) (cx : ContextRecord) (stable : Stable) (rustup : Name) (looks now : Looks) (old new : Scene) : Type 0 where
   pub steps : SaysSteps tells true cx stable rustup None looks old new
+  pub wrote : WritesText (flat_map (lines_written steps.course.plan) steps.course.handed) old.streams.out new.streams.out
   pub comes : ComesOfList came now steps.last old.streams.out new.streams.out
   pub ends : now ≡ reported_on now.reported looks
 

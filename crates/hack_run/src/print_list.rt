@@ -2,6 +2,7 @@
 
 ghost use Rattle.std.specs.Prelude.{◌≡◌, ◌<◌, ◌⊎◌, IfErr, IfOk, List, None, Ok, OnErr, OnOk, false};
 ghost use Rattle.std.specs.Prelude.{if◌then◌else◌, string_bytes, true};
+ghost use Rattle.std.specs.Io.KnownBytes.{append_known};
 ghost use Rattle.hack_base.specs.Notes.{Note};
 ghost use Rattle.hack_load.specs.ContextView.{context_view};
 ghost use Rattle.hack_run.specs.CallTrace.{PerformsOne};
@@ -102,6 +103,8 @@ fn hand_to_lister<C: Caller, O: Sink, E: Sink>(
     ensures shown { IfOk result.refused (λ _. ListsSteps C.tells (context_view cx.now) stable
         (string_bytes host.old.env.now.rustup) result.fault host.new.term.now.error
         (looks_of host.old.term.now)
+        (append_known (O.contents host.old.out.now) gathered.old.items)
+        (append_known (O.contents host.new.out.now) gathered.new.items)
         (scene_on C.Caller O.Sink E.Sink host.old) (scene_on C.Caller O.Sink E.Sink host.new)) }
     ensures idle { OnErr result.refused (gathered.new.items ≡ gathered.old.items) }
     ensures unplanned { IfErr result.refused (HasNoPlan true (context_view cx.now) stable
