@@ -145,6 +145,10 @@ pub record SaysSteps (tells : Type 0) (listing : Bool) (cx : ContextRecord) (sta
   pub out : listing ≡ false → new.streams.out ≡ last.scene.streams.out
   pub err : new.streams.err ≡ last.scene.streams.err
 
+-- nothing was called, and lines were said at most
+abbrev pub SaysLines : Bool → Scene → Scene → Type 0
+SaysLines listing old new = (new.calls ≡ old.calls) × (listing ≡ false → new.streams.out ≡ old.streams.out) × WritesSome old.streams.err new.streams.err
+
 -- nothing was called, and nothing printed
 abbrev pub CallsNothing : Bool → Scene → Scene → Type 0
 CallsNothing listing old new =
