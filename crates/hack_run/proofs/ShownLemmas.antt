@@ -52,7 +52,7 @@ use Rattle.hack_run.specs.Conclusions.{Conclusion, ConcludesSo, SaysSearch}
 use Rattle.hack_run.specs.Handed.{IsPlannedAsAsked, is_hunt, is_search}
 use Rattle.hack_run.specs.Internal.{EndsList, HandsOverAtMostOne, HandsSteps, ListsSteps}
 use Rattle.hack_run.specs.InternalExtensions.{MissesForACause}
-use Rattle.hack_run.specs.Questions.{AsksStable, MayAskStable}
+use Rattle.hack_run.specs.Questions.{AsksStable, MayAskStable, TellsStableReason}
 use Rattle.hack_run.specs.Shown.{ComesOfList, ComesOfRuns, ComesOfSearch, HasNoPlan, IsNoPlan, Looks, RefusesSome, SaysAfterLoading, SaysItsPlan, SaysList, SaysLoaded, SaysNoPlan, SaysNotes, SaysParsed, SaysPlan, SaysPlanNotes, SaysRuns, SaysStarved, SaysSteps, dressed_by, goes_on, looks_of, manner_for, performed_of, planned, reported_on, scene_with, unasked}
 use Rattle.hack_run.specs.declared.fault.RunFault.{RunFault}
 use Rattle.hack_run.specs.declared.fault.RunFault.TheVariants as fault
@@ -375,10 +375,11 @@ plan_run came tells cx stable rustup looks now old new is (inr said) =
 -- what follows the questions: the notices, and the plan
 pub follows_said : {F : Type 0} (f : Filing F) (loaded edited : F) (came : Result (Unit {0}) RunFault) (tells : Type 0) (args : Args) (answers : Answers) (rustup : Name) (a b d : Term) (now : Looks) (cx : ContextRecord) (stable : Stable) (calls : List Call) (warned noted : Stream) (old new : Scene)
     → b ≡ after_notes a (warnings_of (told_version answers.cargo_version)) → d ≡ after_notes b (notes_in cx) → IsContextFrom args answers cx
-    → SaysNotes a.coloring (warnings_of (told_version answers.cargo_version)) old.streams.err warned → SaysNotes b.coloring (notes_in cx) warned noted → NoneFailed f loaded edited → AsksStable rustup stable old.calls calls → (¬ NeedsAnswer args → stable ≡ Unasked)
+    → SaysNotes a.coloring (warnings_of (told_version answers.cargo_version)) old.streams.err warned → SaysNotes b.coloring (notes_in cx) warned noted → NoneFailed f loaded edited → AsksStable rustup stable old.calls calls → TellsStableReason d.verbose rustup stable old.calls calls → (¬ NeedsAnswer args → stable ≡ Unasked)
     → SaysItsPlan came tells cx stable rustup (looks_of d) now (scene_with calls noted old) new → SaysAfterLoading f loaded edited came tells args answers rustup (looks_of a) now old new
-follows_said f loaded edited came tells args answers rustup a b d now cx stable calls warned noted old new first second context told edits none asked unneeded plan =
-    planned cx warned noted stable calls context told (subst (λ (t : Term). SaysNotes t.coloring (notes_in cx) warned noted) first edits) none asked unneeded
+follows_said f loaded edited came tells args answers rustup a b d now cx stable calls warned noted old new first second context told edits none asked reason unneeded plan =
+    planned cx warned noted stable calls context told (subst (λ (t : Term). SaysNotes t.coloring (notes_in cx) warned noted) first edits) none asked
+    (subst (λ (verbose : Bool). TellsStableReason verbose rustup stable old.calls calls) (ap (λ (t : Term). t.verbose) second ∙ ap (λ (t : Term). t.verbose) first) reason) unneeded
     (subst (λ (looks : Looks). SaysItsPlan came tells cx stable rustup looks now (scene_with calls noted old) new) (ap looks_of second ∙ ap looks_of first) plan)
 
 -- memory was refused between the notices and the plan

@@ -1,7 +1,7 @@
 -- The errors that end a call, as they are told.
 use Rattle.std.specs.Prelude.{◌≡◌, ◌⊎◌, ◌&&◌, Bool, Err, IfSome, List, None, Ok, Option, Result, Some, codes, false, map, option_map, string_bytes, true, ℕ, if◌then◌else◌}
 use Rattle.std.specs.List.{starts_with}
-use Rattle.std.specs.Option.{option_to_list}
+use Rattle.std.specs.Option.{option_or, option_to_list}
 use Rattle.std.specs.Prelude.{nat_eq, option_and_then}
 use Rattle.std.specs.Str.{bytes_eq}
 use Rattle.hack_base.specs.Names.{Name}
@@ -50,11 +50,17 @@ is_memory (fault.Manifests prepare.Memory) = true
 is_memory (fault.Plan plan.Memory) = true
 is_memory other = false
 
--- the text of an error that is the call's own, or that of a command that failed; that of any other is written by its type
+-- why stable's version isn't known, where that is the error
+abbrev pub stable_reason : RunFault → Option (List ℕ)
+stable_reason (fault.Plan (plan.Stable text)) = Some (string_bytes text)
+stable_reason other = None
+
+-- the text of an error that is the call's own, that of a command that failed, or why stable's version isn't known; that
+-- of any other is written by its type
 abbrev pub own_text : RunFault → Option (List ℕ)
 own_text fault.Unlisted = Some (codes "failed to write the command list")
 own_text fault.Unprinted = Some (codes "failed to write to standard output")
-own_text other = option_map fault_text (failed_command other)
+own_text other = option_or (option_map fault_text (failed_command other)) (stable_reason other)
 
 -- the same, and what is said where memory was refused
 abbrev pub text_of : RunFault → Option (List ℕ)

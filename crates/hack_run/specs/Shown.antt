@@ -62,7 +62,7 @@ use Rattle.hack_run.specs.CallTrace.{colored_by, listing_asked, listing_command}
 use Rattle.hack_run.specs.Conclusions.{Conclusion, ConcludesSo, SaysSearch}
 use Rattle.hack_run.specs.Errors.{SaysEnd, ends_at_file}
 use Rattle.hack_run.specs.Handed.{IsPlannedAsAsked, is_hunt, is_search}
-use Rattle.hack_run.specs.Questions.{AsksRustup, AsksStable, MayAskStable, rustup_asked}
+use Rattle.hack_run.specs.Questions.{AsksRustup, AsksStable, MayAskStable, TellsReason, TellsStableReason, rustup_asked}
 use Rattle.hack_run.specs.Readings.{IsReadingOrRefusal}
 use Rattle.hack_run.specs.declared.fault.RunFault.{RunFault}
 use Rattle.hack_run.specs.declared.fault.RunFault.TheVariants as fault
@@ -243,7 +243,7 @@ pub data SaysAfterLoading {F : Type 0} (f : Filing F) (loaded edited : F) (came 
       → came ≡ Err fault.Memory → now ≡ looks → new ≡ scene_with new.calls told old → SaysAfterLoading f loaded edited came tells args answers rustup looks now old new
   planned : (cx : ContextRecord) (warned told : Stream) (stable : Stable) (calls : List Call) → IsContextFrom args answers cx
       → SaysNotes looks.coloring (warnings_of (told_version answers.cargo_version)) old.streams.err warned → SaysNotes looks.coloring (notes_in cx) warned told → NoneFailed f loaded edited
-      → AsksStable rustup stable old.calls calls → (¬ NeedsAnswer args → stable ≡ Unasked) → SaysItsPlan came tells cx stable rustup looks now (scene_with calls told old) new
+      → AsksStable rustup stable old.calls calls → TellsStableReason looks.verbose rustup stable old.calls calls → (¬ NeedsAnswer args → stable ≡ Unasked) → SaysItsPlan came tells cx stable rustup looks now (scene_with calls told old) new
       → SaysAfterLoading f loaded edited came tells args answers rustup looks now old new
 
 -- some write or removal was refused between these states of files
@@ -305,13 +305,15 @@ SaysParsed f before after came tells parsed.List notes env looks now old new =
     SaysNotes looks.coloring notes old.streams.err new.streams.err × (now ≡ looks) × (new.streams.out ≡ old.streams.out)
     × ComesOfListing tells (string_bytes env.cargo) (string_bytes env.current_dir) came old.calls new.calls
 
--- what was said once rustup was asked where an argument needs it, and the command line was read
+-- what was said once rustup was asked where an argument needs it, and the command line was read; a notice may say why
+-- rustup's version isn't known
 pub record SaysRead {F : Type 0} (f : Filing F) (before after : F) (came : Result (Unit {0}) RunFault) (tells : Type 0) (words : List Name) (env : Env) (looks now : Looks) (old new : Scene) : Type 0 where
   pub calls : List Call
   pub rustup : Rustup
   pub answer : Parsed
   pub notes : List Note
   pub asked : AsksRustup (wants_rustup words) (string_bytes env.rustup) rustup old.calls calls
+  pub reason : TellsReason looks.verbose (string_bytes env.rustup) rustup old.calls calls
   pub read : IsAnswer (around_of env rustup) (ComesTo (around_of env rustup) words) answer notes
   pub said : SaysParsed f before after came tells answer notes env looks now (scene_with calls old.streams.err old) new
 
@@ -320,6 +322,7 @@ pub record SaysRefusal (came : Result (Unit {0}) RunFault) (words : List Name) (
   pub error : CliFault
   pub rustup : Rustup
   pub asked : AsksRustup (wants_rustup words) (string_bytes env.rustup) rustup old.calls new.calls
+  pub reason : TellsReason looks.verbose (string_bytes env.rustup) rustup old.calls new.calls
   pub read : IsReadingOrRefusal (around_of env rustup) words (Refused error)
   pub came_to : came ≡ Err (fault.Words error)
   pub ends : now ≡ looks

@@ -90,6 +90,7 @@ impl fmt::Display for RunFault {
             RunFault::Words(fault) => write!(f, "{fault}"),
             RunFault::Context(fault) => write!(f, "{fault}"),
             RunFault::Manifests(fault) => write!(f, "{fault}"),
+            RunFault::Plan(PlanFault::Stable(why)) => f.write_str(why.as_str()),
             RunFault::Plan(fault) => write!(f, "{fault}"),
             RunFault::Process(fault) => write!(f, "{fault}"),
             RunFault::Unlisted => f.write_str("failed to write the command list"),
