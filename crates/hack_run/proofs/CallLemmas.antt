@@ -1,5 +1,5 @@
 -- Calls that a question makes, and what its answer says.
-use Rattle.std.proofs.Common.{◌≡◌, ◌≢◌, ◌∙◌, refl, inl, inr, [], List, None, Result, Ok, Err, IfOk, IfErr, OnOk, Bool, true, false, sym, subst, append-nil, Global, String}
+use Rattle.std.proofs.Common.{◌≡◌, ◌≢◌, ◌∙◌, refl, inl, inr, [], List, None, Result, Ok, Err, IfOk, IfErr, OnOk, Bool, true, false, sym, subst, string_bytes, append-nil, Global, String}
 use Rattle.hack_base.specs.Names.{Name}
 use Rattle.hack_metadata.specs.QuestionCalls.{FailsToRead, ReadsOutput}
 use Rattle.hack_metadata.specs.Requests.{version_command}
@@ -41,13 +41,13 @@ read_may tells P asked shown old new (Ok text) ok err t = let had = ok t in inr 
 read_may tells P asked shown old new (Err e) ok err t = fault_may tells asked shown old new e err t
 
 -- a version that has a property has each weaker one
-latest_map : (P Q : Version → Type 0) (U V : Type 0) (r : Stable) → ((v : Version) → P v → Q v) → (U → V) → IsLatest P U r → IsLatest Q V r
+latest_map : (P Q : Version → Type 0) (U V : Name → Type 0) (r : Stable) → ((v : Version) → P v → Q v) → ((why : Name) → U why → V why) → IsLatest P U r → IsLatest Q V r
 latest_map P Q U V Unasked f g p = absurd p
 latest_map P Q U V (Known v) f g p = f v p
-latest_map P Q U V (Unknown text) f g p = g p
+latest_map P Q U V (Unknown text) f g p = g (string_bytes text) p
 
 -- the same for what a function returns
-pub answer_map : {E : Type 0} (P Q : Version → Type 0) (U V : Type 0) (r : Result Stable E) → ((v : Version) → P v → Q v) → (U → V) → IfOk r (IsLatest P U) → IfOk r (IsLatest Q V)
+pub answer_map : {E : Type 0} (P Q : Version → Type 0) (U V : Name → Type 0) (r : Result Stable E) → ((v : Version) → P v → Q v) → ((why : Name) → U why → V why) → IfOk r (IsLatest P U) → IfOk r (IsLatest Q V)
 answer_map P Q U V (Ok s) f g p = latest_map P Q U V s f g p
 answer_map P Q U V (Err e) f g p = tt
 
@@ -74,7 +74,7 @@ pub reads : (tells : Type 0) (rustup answer : Name) (c : Command) (old new : Lis
 reads tells rustup answer c old new is had v told t = (answer, subst (λ k. ReadsOutput k answer old new) is (had t), told)
 
 -- stable's version was asked for
-pub is_asked : {E : Type 0} (P : Version → Type 0) (U : Type 0) (r : Result Stable E) → IfOk r (IsLatest P U) → IfOk r (λ s. s ≢ Unasked)
+pub is_asked : {E : Type 0} (P : Version → Type 0) (U : Name → Type 0) (r : Result Stable E) → IfOk r (IsLatest P U) → IfOk r (λ s. s ≢ Unasked)
 is_asked P U (Ok Unasked) p = absurd p
 is_asked P U (Ok (Known v)) p = λ none. absurd (cc)
 is_asked P U (Ok (Unknown text)) p = λ none. absurd (cc)

@@ -6,6 +6,7 @@ mod LoadingLemmas
 pub mod ReadingLemmas
 mod LaneLemmas
 pub mod LastingLemmas
+mod ReasonLemmas
 mod RefusalLemmas
 mod RunLemmas
 mod StartedLemmas

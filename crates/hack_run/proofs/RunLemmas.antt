@@ -40,7 +40,7 @@ use Rattle.hack_run.specs.Started.{MakesStarted}
 use Rattle.hack_drive.specs.Warnings.{Warned}
 use Rattle.hack_run.proofs.TraceLemmas.{all_shown, one_told, unended}
 use Rattle.hack_run.specs.Worlds.{HostView}
-use Rattle.hack_run.proofs.GatherLemmas.{known-none}
+use Rattle.hack_run.proofs.GatherLemmas.{front_written, known-none}
 
 none_kept : (fault : Option ProcessFault) → fault ≡ None → IsSome fault → ⊥
 none_kept None n s = cc
@@ -183,23 +183,13 @@ list_ends (Ok v) refused none short flushed quiet tells cx stable rustup warned 
       counted = d.counted;
     }
 
--- of a front that was written or gathered, what was written is a front, where the output only grew
-shown_then : (a b c : Option (List ℕ)) (left text : List ℕ) → WritesText false true a b text → Keeps b (append_known c left) → Extends a c → WritesText false true a c text
-shown_then None b c left text w k g = (text, [], sym (append-nil text), tt)
-shown_then (Some x) None c left text w k g = absurd w.3
-shown_then (Some x) (Some y) None left text w k g = absurd k
-shown_then (Some x) (Some y) (Some z) left text w k g =
-    let wrote : x ++ (g.0 ++ left) ≡ x ++ w.0 = sym (append_assoc x g.0 left) ∙ ap (λ l. l ++ left) (sym g.1) ∙ k ∙ w.3 in
-    let front : g.0 ++ left ≡ w.0 = append_cancel_left x (g.0 ++ left) w.0 wrote in
-    (g.0, left ++ w.1, w.2 ∙ ap (λ l. l ++ w.1) (sym front) ∙ append_assoc g.0 left w.1, g.1)
-
 -- a list whose end was written, or a part of it
 pub list_shows : (cx : ContextRecord) (stable : Stable) (rustup : Name) (old mid : HostView) (begun gathered left : List ℕ) (out : Option (List ℕ))
     → begun ≡ [] → PerformsAtMostOne true cx stable rustup (host_writing begun old) (host_writing gathered mid) → Keeps (append_known mid.out gathered) (append_known out left) → Extends old.out out → PerformsAtMostOne true cx stable rustup old (record mid { out = out })
 list_shows cx stable rustup old mid begun gathered left out empty made kept grown = go made
   where
     shown : (text : List ℕ) → WritesText false true (append_known old.out begun) (append_known mid.out gathered) text → WritesText false true old.out out text
-    shown text w = shown_then old.out (append_known mid.out gathered) out left text (subst (λ (o : Option (List ℕ)). WritesText false true o (append_known mid.out gathered) text) (ap (append_known old.out) empty ∙ known-none old.out) w) kept grown
+    shown text w = front_written old.out (append_known mid.out gathered) out left text (subst (λ (o : Option (List ℕ)). WritesText false true o (append_known mid.out gathered) text) (ap (append_known old.out) empty ∙ known-none old.out) w) kept grown
 
     go : PerformsAtMostOne true cx stable rustup (host_writing begun old) (host_writing gathered mid) → PerformsAtMostOne true cx stable rustup old (record mid { out = out })
     go (inl none) = inl (none.0, shown [] none.1)

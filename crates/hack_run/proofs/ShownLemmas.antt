@@ -1,6 +1,8 @@
 -- What a call says, put together from its stages.
 use Rattle.std.proofs.Common.{◌≡◌, ◌⊎◌, ◌∙◌, ◌+◌, ◌∷◌, ℕ, zero, suc, Bool, Err, Global, IfOk, IsOk, List, None, Ok, OnErr, OnOk, Option, Result, Some, String, ap, arith, drop, false, filter, get_or, length, if◌then◌else◌, inl, inr, map, refl, subst, string_bytes, sym, true}
 use Rattle.std.specs.Prelude.{◌<◌, ◌≢◌, ◌↔◌, ◌&&◌, ◌||◌, ◌++◌, [], IfErr, IsTrue, MatchBool, MatchOption, nat_lt, not}
+use Rattle.std.specs.List.{flat_map}
+use Rattle.std.specs.Io.KnownBytes.{Appends, Keeps}
 use Rattle.std.specs.Result.{is_err}
 use Rattle.std.proofs.lemmas.List.{drop_more}
 use Rattle.hack_base.proofs.StreamLemmas.{wrote_none}
@@ -28,7 +30,7 @@ use Rattle.hack_process.specs.declared.fault.ProcessFault.{ProcessFault}
 use Rattle.hack_report.specs.Reported.{SaysCutReport, SaysReport, are_reported}
 use Rattle.hack_plan.specs.View.{PlanView}
 use Rattle.hack_session.specs.Histories.{Course}
-use Rattle.hack_session.specs.ListLines.{is_sent}
+use Rattle.hack_session.specs.ListLines.{is_sent, lines_written}
 use Rattle.hack_session.specs.declared.step.Handed.{Handed}
 use Rattle.hack_session.specs.StepEffects.{DoesAll, Scene, State, state}
 use Rattle.hack_session.specs.StepOutput.{Manner, Streams, manner_of}
@@ -47,11 +49,11 @@ use Rattle.hack_words.specs.declared.cli.parse.Parsed.{Parsed}
 use Rattle.hack_words.specs.declared.cli.parse.Parsed.TheVariants as parsed
 use Rattle.hack_run.specs.CallTrace.{colored_by}
 use Rattle.hack_run.specs.Conclusions.{Conclusion, ConcludesSo, SaysSearch}
-use Rattle.hack_run.specs.Handed.{IsPlannedAsAsked, is_search}
+use Rattle.hack_run.specs.Handed.{IsPlannedAsAsked, is_hunt, is_search}
 use Rattle.hack_run.specs.Internal.{EndsList, HandsOverAtMostOne, HandsSteps, ListsSteps}
 use Rattle.hack_run.specs.InternalExtensions.{MissesForACause}
-use Rattle.hack_run.specs.Questions.{AsksStable, MayAskStable}
-use Rattle.hack_run.specs.Shown.{ComesOfList, ComesOfRuns, ComesOfSearch, HasNoPlan, IsNoPlan, Looks, RefusesSome, SaysAfterLoading, SaysItsPlan, SaysLines, SaysList, SaysLoaded, SaysNoPlan, SaysNotes, SaysParsed, SaysPlan, SaysRuns, SaysStarved, SaysSteps, dressed_by, goes_on, looks_of, manner_for, performed_of, planned, reported_on, scene_with, unasked}
+use Rattle.hack_run.specs.Questions.{AsksStable, MayAskStable, TellsStableReason}
+use Rattle.hack_run.specs.Shown.{ComesOfList, ComesOfRuns, ComesOfSearch, HasNoPlan, IsNoPlan, Looks, RefusesSome, SaysAfterLoading, SaysItsPlan, SaysList, SaysLoaded, SaysNoPlan, SaysNotes, SaysParsed, SaysPlan, SaysPlanNotes, SaysRuns, SaysStarved, SaysSteps, dressed_by, goes_on, looks_of, manner_for, performed_of, planned, reported_on, scene_with, unasked}
 use Rattle.hack_run.specs.declared.fault.RunFault.{RunFault}
 use Rattle.hack_run.specs.declared.fault.RunFault.TheVariants as fault
 
@@ -147,20 +149,21 @@ steps_searched tells calls e cx stable rustup kept left reported course notes fa
 }
 
 -- the same of a list
-pub steps_listed : {C O E : Type 0} (tells : Type 0) (calls : C → List Call) (e : Taking E) (cx : ContextRecord) (stable : Stable) (rustup : Name) (now : Option ProcessFault) (reported : Bool)
+pub steps_listed : {C O E : Type 0} (tells : Type 0) (calls : C → List Call) (e : Taking E) (cx : ContextRecord) (stable : Stable) (rustup : Name) (now : Option ProcessFault) (reported : Bool) (had has : Option (List ℕ))
     (course : Course) (notes : List Note) (fails warns : Bool) (start mid : Starter C O E) (begun : Streams) (last : State) (term : Term) (old new : Scene)
     → IsPlannedAsAsked (IsPlanOf cx.args.subcommand stable cx rustup) false true cx rustup course notes fails warns
     → calls start.caller.now ≡ old.calls → start.term.now ≡ term → stream_of e start.err.now ≡ old.streams.err → start.fault.now ≡ None → start.refused ≡ 0
     → start.keep_going ≡ goes_on true cx.args → start.log_group ≡ group_for true cx.args
     → TellsNotes e notes start mid → begun.err ≡ stream_of e mid.err.now → (true ≡ false → begun.out ≡ old.streams.out)
     → DoesAll tells mid.keep_going (manner_of mid.log_group mid.term.now) course.plan (performed_of true course.handed) (state (calls mid.caller.now) begun mid.fault.now mid.term.now.error mid.refused) last
-    → new.calls ≡ last.scene.calls → (true ≡ false → new.streams.out ≡ last.scene.streams.out) → new.streams.err ≡ last.scene.streams.err → now ≡ last.kept → reported ≡ last.told
-    → ListsSteps tells cx stable rustup now reported (looks_of term) old new
+    → new.calls ≡ last.scene.calls → (true ≡ false → new.streams.out ≡ last.scene.streams.out) → new.streams.err ≡ last.scene.streams.err → now ≡ last.kept → reported ≡ last.told → Appends had has (flat_map (lines_written course.plan) course.handed)
+    → ListsSteps tells cx stable rustup now reported (looks_of term) had has old new
 unfolding steps_said
-steps_listed tells calls e cx stable rustup now reported course notes fails warns start mid begun last term old new made caller_is term_is err_is fault_is refused_is keep_is group_is told begun_is first did calls_end out_end err_end kept_end told_end = (
+steps_listed tells calls e cx stable rustup now reported had has course notes fails warns start mid begun last term old new made caller_is term_is err_is fault_is refused_is keep_is group_is told begun_is first did calls_end out_end err_end kept_end told_end wrote = (
   steps_said tells true calls e cx stable rustup None course notes fails warns start mid begun last term old new made caller_is term_is err_is fault_is refused_is keep_is group_is told begun_is first did calls_end out_end err_end,
   kept_end,
   told_end,
+  wrote,
 )
 
 -- what a list says doesn't hang on where its lines go
@@ -181,9 +184,6 @@ said_elsewhere tells cx stable rustup kept looks old new other calls err h = rec
   out = λ off. not_off off;
   err = err ∙ h.err;
 }
-
-lines_elsewhere : (old new other : Scene) → other.calls ≡ new.calls → other.streams.err ≡ new.streams.err → SaysLines true old new → SaysLines true old other
-lines_elsewhere old new other calls err h = (calls ∙ h.0, λ off. not_off off, subst (λ (s : Stream). WritesSome old.streams.err s) (sym err) h.2)
 
 some-same : {s t : Course} → Some s ≡ Some t → s ≡ t
 some-same {s} {t} e = ap (λ (o : Option Course). get_some o s) e
@@ -327,34 +327,49 @@ line_unwritten old mid new short true missed h last (full, inl some) = elim h.ca
 ]
 
 -- a list's steps were said, or there is no plan
-pub list_said : (Unwritten : Type 0) (refused : Result Bool PlanFault) (kept : Option ProcessFault) (came : Result (Unit {0}) RunFault) (tells : Type 0) (cx : ContextRecord) (stable : Stable) (rustup : Name) (looks now : Looks) (old mid new : Scene)
-    → IfOk refused (λ short. ListsSteps tells cx stable rustup kept now.reported looks old mid) → IfErr refused (HasNoPlan true cx stable looks now old mid) → EndsList Unwritten refused kept came → (Unwritten → HasFailed old.streams.out.failed new.streams.out.failed) → now ≡ reported_on now.reported looks → new.calls ≡ mid.calls → new.streams.err ≡ mid.streams.err
-    → SaysNoPlan came true cx stable looks now old new ⊎ SaysStarved came looks now old new ⊎ SaysList came tells cx stable rustup looks now old new
+pub list_said : (Unwritten : Type 0) (refused : Result Bool PlanFault) (kept : Option ProcessFault) (came : Result (Unit {0}) RunFault) (tells : Type 0) (cx : ContextRecord) (stable : Stable) (rustup : Name) (looks now : Looks) (had has : Option (List ℕ)) (old mid new : Scene)
+    → IfOk refused (λ short. ListsSteps tells cx stable rustup kept now.reported looks had has old mid) → IfErr refused (HasNoPlan true cx stable rustup looks now old mid) → EndsList Unwritten refused kept came → (Unwritten → HasFailed old.streams.out.failed new.streams.out.failed) → now ≡ reported_on now.reported looks → new.calls ≡ mid.calls → new.streams.err ≡ mid.streams.err
+    → OnErr refused (Keeps old.streams.out.bytes new.streams.out.bytes) → ((text : List ℕ) → Appends had has text → WritesText text old.streams.out new.streams.out) → SaysNoPlan came true cx stable rustup looks now old new ⊎ SaysStarved came looks now old new ⊎ SaysList came tells cx stable rustup looks now old new
 unfolding said_elsewhere
-list_said Unwritten (Ok short) kept came tells cx stable rustup looks now old mid new steps none ends counted same calls err =
-    inr (inr (record { steps = said_elsewhere tells cx stable rustup None looks old mid new calls err steps.0; comes = list_comes Unwritten short kept came now steps.0.last old.streams.out new.streams.out steps.1 steps.2 counted ends; ends = same }))
-list_said Unwritten (Err e) kept came tells cx stable rustup looks now old mid new steps none ends counted same calls err = inl (e, ends, (none.0, lines_elsewhere old mid new calls err none.1, none.2, λ ne. err ∙ none.3 ne))
+list_said Unwritten (Ok short) kept came tells cx stable rustup looks now had has old mid new steps none ends counted same calls err out wrote =
+    inr (inr (record { steps = said_elsewhere tells cx stable rustup None looks old mid new calls err steps.0; wrote = wrote (flat_map (lines_written steps.0.course.plan) steps.0.course.handed) steps.3; comes = list_comes Unwritten short kept came now steps.0.last old.streams.out new.streams.out steps.1 steps.2 counted ends; ends = same }))
+list_said Unwritten (Err e) kept came tells cx stable rustup looks now had has old mid new steps none ends counted same calls err out wrote = inl (
+  e,
+  ends,
+  none.0,
+  (calls ∙ none.1.0, λ off. not_off off, out),
+  none.2,
+  subst (λ (s : Stream). (s ≡ old.streams.err) ⊎ ((is_hunt true cx.args ≡ false) × SaysPlanNotes cx stable rustup looks.coloring e old.streams.err s)) (sym err) none.3,
+)
 
 -- a list that was handed over, or what was printed before it was refused
 pub handed_said : {X Y : Type 0} (r : Result Bool PlanFault) → OnOk r X → (X → Y) → IfOk r (λ short. Y)
 handed_said (Ok short) h f = f h
 handed_said (Err fault) h f = tt
 
-pub refused_said : {X P Q : PlanFault → Type 0} (r : Result Bool PlanFault) → IfErr r X → IfErr r P → ((e : PlanFault) → X e → P e → Q e) → IfErr r Q
-refused_said (Ok short) h cause f = tt
-refused_said (Err e) h cause f = f e h cause
+pub on_error : {X Y T E : Type 0} (r : Result T E) → OnErr r X → (X → Y) → OnErr r Y
+on_error (Ok v) h f = tt
+on_error (Err e) h f = f h
+
+pub refused_said : {K : Type 0} {X P Q : PlanFault → Type 0} (r : Result Bool PlanFault) → OnErr r K → IfErr r X → IfErr r P → ((e : PlanFault) → K → X e → P e → Q e) → IfErr r Q
+refused_said (Ok short) kept h cause f = tt
+refused_said (Err e) kept h cause f = f e kept h cause
+
+pub refused_kept : {K Q : Type 0} {X : PlanFault → Type 0} (r : Result Bool PlanFault) → OnErr r K → IfErr r X → ((e : PlanFault) → K → X e → Q) → OnErr r Q
+refused_kept (Ok short) kept h f = tt
+refused_kept (Err e) kept h f = f e kept h
 
 -- a plan is listed, where that is asked for
 pub plan_listed : (came : Result (Unit {0}) RunFault) (tells : Type 0) (cx : ContextRecord) (stable : Stable) (rustup : Name) (looks now : Looks) (old new : Scene) → cx.args.print_command_list ≡ true
-    → SaysNoPlan came true cx stable looks now old new ⊎ SaysStarved came looks now old new ⊎ SaysList came tells cx stable rustup looks now old new → SaysPlan came tells cx stable rustup looks now old new
-plan_listed came tells cx stable rustup looks now old new is (inl none) = inl (subst (λ (b : Bool). SaysNoPlan came b cx stable looks now old new) (sym is) none)
+    → SaysNoPlan came true cx stable rustup looks now old new ⊎ SaysStarved came looks now old new ⊎ SaysList came tells cx stable rustup looks now old new → SaysPlan came tells cx stable rustup looks now old new
+plan_listed came tells cx stable rustup looks now old new is (inl none) = inl (subst (λ (b : Bool). SaysNoPlan came b cx stable rustup looks now old new) (sym is) none)
 plan_listed came tells cx stable rustup looks now old new is (inr said) =
     inr (subst (λ (b : Bool). MatchBool b (SaysStarved came looks now old new ⊎ SaysList came tells cx stable rustup looks now old new) (SaysRuns came tells cx stable rustup looks now old new)) (sym is) said)
 
 -- ... else its runs are performed
 pub plan_run : (came : Result (Unit {0}) RunFault) (tells : Type 0) (cx : ContextRecord) (stable : Stable) (rustup : Name) (looks now : Looks) (old new : Scene) → cx.args.print_command_list ≡ false
-    → SaysNoPlan came false cx stable looks now old new ⊎ SaysRuns came tells cx stable rustup looks now old new → SaysPlan came tells cx stable rustup looks now old new
-plan_run came tells cx stable rustup looks now old new is (inl none) = inl (subst (λ (b : Bool). SaysNoPlan came b cx stable looks now old new) (sym is) none)
+    → SaysNoPlan came false cx stable rustup looks now old new ⊎ SaysRuns came tells cx stable rustup looks now old new → SaysPlan came tells cx stable rustup looks now old new
+plan_run came tells cx stable rustup looks now old new is (inl none) = inl (subst (λ (b : Bool). SaysNoPlan came b cx stable rustup looks now old new) (sym is) none)
 plan_run came tells cx stable rustup looks now old new is (inr said) =
     inr (subst (λ (b : Bool). MatchBool b (SaysStarved came looks now old new ⊎ SaysList came tells cx stable rustup looks now old new) (SaysRuns came tells cx stable rustup looks now old new)) (sym is) said)
 
@@ -363,10 +378,11 @@ plan_run came tells cx stable rustup looks now old new is (inr said) =
 -- what follows the questions: the notices, and the plan
 pub follows_said : {F : Type 0} (f : Filing F) (loaded edited : F) (came : Result (Unit {0}) RunFault) (tells : Type 0) (args : Args) (answers : Answers) (rustup : Name) (a b d : Term) (now : Looks) (cx : ContextRecord) (stable : Stable) (calls : List Call) (warned noted : Stream) (old new : Scene)
     → b ≡ after_notes a (warnings_of (told_version answers.cargo_version)) → d ≡ after_notes b (notes_in cx) → IsContextFrom args answers cx
-    → SaysNotes a.coloring (warnings_of (told_version answers.cargo_version)) old.streams.err warned → SaysNotes b.coloring (notes_in cx) warned noted → NoneFailed f loaded edited → AsksStable rustup stable old.calls calls → (¬ NeedsAnswer args → stable ≡ Unasked)
+    → SaysNotes a.coloring (warnings_of (told_version answers.cargo_version)) old.streams.err warned → SaysNotes b.coloring (notes_in cx) warned noted → NoneFailed f loaded edited → AsksStable rustup stable old.calls calls → TellsStableReason d.verbose rustup stable old.calls calls → (¬ NeedsAnswer args → stable ≡ Unasked)
     → SaysItsPlan came tells cx stable rustup (looks_of d) now (scene_with calls noted old) new → SaysAfterLoading f loaded edited came tells args answers rustup (looks_of a) now old new
-follows_said f loaded edited came tells args answers rustup a b d now cx stable calls warned noted old new first second context told edits none asked unneeded plan =
-    planned cx warned noted stable calls context told (subst (λ (t : Term). SaysNotes t.coloring (notes_in cx) warned noted) first edits) none asked unneeded
+follows_said f loaded edited came tells args answers rustup a b d now cx stable calls warned noted old new first second context told edits none asked reason unneeded plan =
+    planned cx warned noted stable calls context told (subst (λ (t : Term). SaysNotes t.coloring (notes_in cx) warned noted) first edits) none asked
+    (subst (λ (verbose : Bool). TellsStableReason verbose rustup stable old.calls calls) (ap (λ (t : Term). t.verbose) second ∙ ap (λ (t : Term). t.verbose) first) reason) unneeded
     (subst (λ (looks : Looks). SaysItsPlan came tells cx stable rustup looks now (scene_with calls noted old) new) (ap looks_of second ∙ ap looks_of first) plan)
 
 -- memory was refused between the notices and the plan
@@ -456,22 +472,26 @@ looks_told x y notes told = subst (λ (t : Term). looks_of t ≡ record (looks_o
 pub looks_ran : (x y : Term) → y ≡ record x { error = y.error } → looks_of y ≡ record (looks_of x) { reported = y.error }
 looks_ran x y ran = ap (λ (t : Term). looks_of t) ran
 
--- there is no plan: its notices were printed at most
-pub no_plan : {C O E : Type 0} (listing : Bool) (calls : C → List Call) (e : Taking E) (cx : ContextRecord) (stable : Stable) (error : PlanFault) (term : Term) (a b : Starter C O E) (old new : Scene)
-    → a.term.now ≡ term → calls a.caller.now ≡ old.calls → stream_of e a.err.now ≡ old.streams.err → new.calls ≡ calls b.caller.now → (listing ≡ false → new.streams.out ≡ old.streams.out) → new.streams.err ≡ stream_of e b.err.now → IsNoPlan listing cx stable error
-    → ((b ≡ a) ⊎ ((error ≡ plan.Memory) × (notes : List Note) × TellsNotes e notes a b)) → HasNoPlan listing cx stable (looks_of term) (looks_of b.term.now) old new error
-no_plan listing calls e cx stable error term a b old new term_is calls_is start calls_end out end cause (inl same) = (
+-- there is no plan: nothing was printed, or the notices of one that was made
+pub no_plan : {C O E : Type 0} (listing : Bool) (calls : C → List Call) (e : Taking E) (cx : ContextRecord) (stable : Stable) (rustup : Name) (error : PlanFault) (term : Term) (a b : Starter C O E) (old new : Scene)
+    → a.term.now ≡ term → calls a.caller.now ≡ old.calls → stream_of e a.err.now ≡ old.streams.err → new.calls ≡ calls b.caller.now → (listing ≡ false → new.streams.out ≡ old.streams.out) → Keeps old.streams.out.bytes new.streams.out.bytes → new.streams.err ≡ stream_of e b.err.now → is_hunt listing cx.args ≡ false → IsNoPlan listing cx stable error
+    → ((b ≡ a) ⊎ ((error ≡ plan.Memory) × (made : PlanView) × (notes : List Note) × IsPlanOf cx.args.subcommand stable cx rustup made notes × TellsNotes e notes a b)) → HasNoPlan listing cx stable rustup (looks_of term) (looks_of b.term.now) old new error
+no_plan listing calls e cx stable rustup error term a b old new term_is calls_is start calls_end out kept end apart cause (inl same) = (
   cause,
-  (calls_end ∙ ap (λ s. calls s.caller.now) same ∙ calls_is, out, wrote_none old.streams.err new.streams.err (end ∙ ap (λ s. stream_of e s.err.now) same ∙ start)),
+  (calls_end ∙ ap (λ s. calls s.caller.now) same ∙ calls_is, out, kept),
   ap (λ s. looks_of s.term.now) same ∙ ap looks_of term_is,
-  λ ne. end ∙ ap (λ s. stream_of e s.err.now) same ∙ start,
+  inl (end ∙ ap (λ s. stream_of e s.err.now) same ∙ start),
 )
-no_plan listing calls e cx stable error term a b old new term_is calls_is start calls_end out end cause (inr told) = (
-  cause,
-  (calls_end ∙ ap calls told.2.3 ∙ calls_is, out, subst (λ (s : Stream). WritesSome old.streams.err s) (sym end) (subst (λ (s : Stream). WritesSome s (stream_of e b.err.now)) start (note_lines a.term.now.coloring told.1, told.2.12))),
-  ap looks_of told.2.6 ∙ ap looks_of term_is,
-  λ ne. absurd (ne told.0),
-)
+no_plan listing calls e cx stable rustup error term a b old new term_is calls_is start calls_end out kept end apart cause (inr some) =
+    let told = some.4 in
+    let said = subst (λ (t : Term). WritesAll (note_lines t.coloring some.2) (stream_of e a.err.now) (stream_of e b.err.now)) term_is told.12 in
+    (
+      cause,
+      (calls_end ∙ ap calls told.3 ∙ calls_is, out, kept),
+      ap looks_of told.6 ∙ ap looks_of term_is,
+      inr (apart, some.0, some.1, some.2, some.3, subst (λ (s : Stream). WritesAll (note_lines term.coloring some.2) old.streams.err s) (sym end)
+      (subst (λ (s : Stream). WritesAll (note_lines term.coloring some.2) s (stream_of e b.err.now)) start said)),
+    )
 
 -- a report is coloured as the call's lines
 pub report_of : (cx : ContextRecord) (t : Course) (a b : Term) (old new : Stream) → looks_of a ≡ record (looks_of b) { reported = a.error } → SaysReport a.coloring cx t old new → SaysReport b.coloring cx t old new

@@ -1,7 +1,7 @@
 -- The errors that end a call, as they are told.
 use Rattle.std.specs.Prelude.{◌≡◌, ◌⊎◌, ◌&&◌, Bool, Err, IfSome, List, None, Ok, Option, Result, Some, codes, false, map, option_map, string_bytes, true, ℕ, if◌then◌else◌}
 use Rattle.std.specs.List.{starts_with}
-use Rattle.std.specs.Option.{option_to_list}
+use Rattle.std.specs.Option.{option_or, option_to_list}
 use Rattle.std.specs.Prelude.{nat_eq, option_and_then}
 use Rattle.std.specs.Str.{bytes_eq}
 use Rattle.hack_base.specs.Names.{Name}
@@ -13,6 +13,7 @@ use Rattle.hack_prepare.specs.declared.fault.PrepareFault.TheVariants as prepare
 use Rattle.hack_process.specs.Faults.{fault_text}
 use Rattle.hack_process.specs.declared.fault.ProcessFault.{ProcessFault}
 use Rattle.hack_process.specs.declared.fault.ProcessFault.TheVariants.{NeverExecuted}
+use Rattle.hack_rules.specs.declared.fault.CliFault.TheVariants as words
 use Rattle.hack_term.specs.Lines.{error_line, info_line}
 use Rattle.hack_term.specs.declared.term.Coloring.{Coloring}
 use Rattle.hack_words.specs.declared.cli.env.Env.{Env}
@@ -40,12 +41,30 @@ abbrev pub ends_at_file : Result (Unit {0}) RunFault → Bool
 ends_at_file (Ok done) = false
 ends_at_file (Err e) = is_of_file e
 
--- the text of an error that is the call's own, or that of a command that failed; that of any other is written by its type
+-- the error says that memory was refused
+abbrev pub is_memory : RunFault → Bool
+is_memory fault.Memory = true
+is_memory (fault.Words words.Memory) = true
+is_memory (fault.Context context.Memory) = true
+is_memory (fault.Manifests prepare.Memory) = true
+is_memory (fault.Plan plan.Memory) = true
+is_memory other = false
+
+-- why stable's version isn't known, where that is the error
+abbrev pub stable_reason : RunFault → Option (List ℕ)
+stable_reason (fault.Plan (plan.Stable text)) = Some (string_bytes text)
+stable_reason other = None
+
+-- the text of an error that is the call's own, that of a command that failed, or why stable's version isn't known; that
+-- of any other is written by its type
+abbrev pub own_text : RunFault → Option (List ℕ)
+own_text fault.Unlisted = Some (codes "failed to write the command list")
+own_text fault.Unprinted = Some (codes "failed to write to standard output")
+own_text other = option_or (option_map fault_text (failed_command other)) (stable_reason other)
+
+-- the same, and what is said where memory was refused
 abbrev pub text_of : RunFault → Option (List ℕ)
-text_of fault.Memory = Some (codes "out of memory")
-text_of fault.Unlisted = Some (codes "failed to write the command list")
-text_of fault.Unprinted = Some (codes "failed to write to standard output")
-text_of other = option_map fault_text (failed_command other)
+text_of fault = if is_memory fault then Some (codes "out of memory") else own_text fault
 
 -- a text is that of the error, where it is known, or says that memory was refused for it
 abbrev pub IsTextOf : RunFault → List ℕ → Type 0

@@ -44,7 +44,7 @@ use Rattle.hack_run.specs.Loading.{IsMinorIn}
 use Rattle.hack_words.specs.ParseAnswers.{around_of}
 use Rattle.hack_words.specs.Start.{wants_rustup}
 use Rattle.hack_words.specs.declared.cli.env.Env.{Env}
-use Rattle.hack_run.specs.Questions.{AsksRustup}
+use Rattle.hack_run.specs.Questions.{AsksRustup, TellsReason}
 use Rattle.hack_run.specs.declared.reading.Reading.{Reading}
 use Rattle.hack_words.specs.CommandLine.{Around}
 use Rattle.std.specs.List.{flat_map, list_any}
@@ -112,16 +112,17 @@ abbrev pub HandsOverAtMostOne : {R : Type 0} → Type 0 → Option (List ℕ) �
 HandsOverAtMostOne whole had has Told Ran cx stable rustup old new =
     (((new ≡ old) ⊎ ((notes : List Note) × Told notes old new)) × Keeps had has) ⊎ HandsOver whole had has Told Ran cx stable rustup old new
 
--- stable's version was asked for: P holds of it, or Q where it is unknown
-abbrev pub IsLatest : (Version → Type 0) → Type 0 → Stable → Type 0
+-- stable's version was asked for: P holds of it, or Q of the reason where it is unknown
+abbrev pub IsLatest : (Version → Type 0) → (Name → Type 0) → Stable → Type 0
 IsLatest P Q stable.Unasked = ⊥
 IsLatest P Q (stable.Known v) = P v
-IsLatest P Q (stable.Unknown text) = Q
+IsLatest P Q (stable.Unknown text) = Q (string_bytes text)
 
--- rustup was asked where a word needs it, and with what is then known the words are read into this
-pub record ReadsAfterRustup (IsRead : Around → List Name → Reading → Type 0) (tells : Type 0) (words : List Name) (env : Env) (old new : List Call) (reading : Reading) : Type 0 where
+-- rustup was asked where a word needs it, and with what is then known, or why it isn't, the words are read into this
+pub record ReadsAfterRustup (IsRead : Around → List Name → Reading → Type 0) (tells : Type 0) (words : List Name) (env : Env) (verbose : Bool) (old new : List Call) (reading : Reading) : Type 0 where
   pub rustup : Rustup
   pub asked : tells → AsksRustup (wants_rustup words) (string_bytes env.rustup) rustup old new
+  pub reason : tells → TellsReason verbose (string_bytes env.rustup) rustup old new
   pub read : IsRead (around_of env rustup) words reading
 
 -- a list was handed out to its end, and no listed step failed
@@ -210,10 +211,12 @@ FollowsAndLeaves Refuses tells args answers env old new =
     (new ≡ old)
     ⊎ ((cx : ContextRecord) × IsContextFrom args answers cx × (IfOk answers.loaded (IsLoaded tells old env) → LeavesEdits Refuses tells cx old new))
 
--- a list's steps were said, this error is kept, and it is noted so whether one was reported
-abbrev pub ListsSteps : Type 0 → ContextRecord → Stable → Name → Option ProcessFault → Bool → Looks → Scene → Scene → Type 0
-ListsSteps tells cx stable rustup now reported looks old new =
+-- a list's steps were said, this error is kept, and it is noted so whether one was reported; what is known to be written
+-- or gathered grew by just the lines of those that passed
+abbrev pub ListsSteps : Type 0 → ContextRecord → Stable → Name → Option ProcessFault → Bool → Looks → Option (List ℕ) → Option (List ℕ) → Scene → Scene → Type 0
+ListsSteps tells cx stable rustup now reported looks had has old new =
     (steps : SaysSteps tells true cx stable rustup None looks old new) × (now ≡ steps.last.kept) × (reported ≡ steps.last.told)
+    × Appends had has (flat_map (lines_written steps.course.plan) steps.course.handed)
 
 -- how a list ends: as there is no plan, with the error that stopped its steps, or as lines are missing or not,
 -- for want of memory or since `Unwritten` holds

@@ -1,11 +1,12 @@
 -- What a call says on the way, and in which order: where it comes to its end, all of that and nothing else; where an
 -- error ends it, what was to be said before.
 use Rattle.std.specs.Prelude.{◌≡◌, ◌≢◌, ◌⊎◌, ◌&&◌, ◌||◌, [], ℕ, Bool, Err, IsSome, List, MatchBool, MatchOption, None, Ok, OnOk, Option, Result, false, filter, if◌then◌else◌, map, nat_lt, not, string_bytes, true}
-use Rattle.std.specs.Io.KnownBytes.{Appends}
+use Rattle.std.specs.Io.KnownBytes.{Appends, Keeps}
+use Rattle.std.specs.List.{flat_map}
 use Rattle.std.specs.Result.{is_err}
 use Rattle.hack_base.specs.Names.{Name}
 use Rattle.hack_base.specs.Notes.{Note}
-use Rattle.hack_base.specs.Streams.{Stream, WritesAll, WritesSome}
+use Rattle.hack_base.specs.Streams.{Stream, WritesAll, WritesSome, WritesText}
 use Rattle.hack_base.specs.Writes.{AppendsFront, HasFailed}
 use Rattle.hack_base.specs.declared.writes.Sink.{Ghosts as Taking}
 use Rattle.hack_drive.specs.Answered.{NeedsAnswer}
@@ -21,6 +22,7 @@ use Rattle.hack_load.specs.declared.fault.ContextFault.TheVariants as context
 use Rattle.hack_files.specs.FailedCalls.{NoneFailed}
 use Rattle.hack_files.specs.Files.{Contents, KeepsAll}
 use Rattle.hack_files.specs.declared.fs.Files.{Ghosts as Filing}
+use Rattle.hack_plan.specs.View.{PlanView}
 use Rattle.hack_planner.specs.CallPlan.{IsCauseOf, IsPackagesCause, IsPlanOf}
 use Rattle.hack_planner.specs.Looks.{AreLongLooks}
 use Rattle.hack_planner.specs.declared.fault.PlanFault.{PlanFault}
@@ -37,7 +39,7 @@ use Rattle.hack_process.specs.declared.caller.Caller.{Ghosts as Calling}
 use Rattle.hack_report.specs.Reported.{SaysCutReport, SaysReport, are_reported}
 use Rattle.hack_rules.specs.declared.fault.CliFault.{CliFault}
 use Rattle.hack_session.specs.Histories.{Course}
-use Rattle.hack_session.specs.ListLines.{is_sent}
+use Rattle.hack_session.specs.ListLines.{is_sent, lines_written}
 use Rattle.hack_session.specs.StepEffects.{DoesAll, Scene, State, state}
 use Rattle.hack_session.specs.StepOutput.{Manner, Streams, streams}
 use Rattle.hack_session.specs.declared.step.Handed.{Handed}
@@ -61,7 +63,7 @@ use Rattle.hack_run.specs.CallTrace.{colored_by, listing_asked, listing_command}
 use Rattle.hack_run.specs.Conclusions.{Conclusion, ConcludesSo, SaysSearch}
 use Rattle.hack_run.specs.Errors.{SaysEnd, ends_at_file}
 use Rattle.hack_run.specs.Handed.{IsPlannedAsAsked, is_hunt, is_search}
-use Rattle.hack_run.specs.Questions.{AsksRustup, AsksStable, MayAskStable, rustup_asked}
+use Rattle.hack_run.specs.Questions.{AsksRustup, AsksStable, MayAskStable, TellsReason, TellsStableReason, rustup_asked}
 use Rattle.hack_run.specs.Readings.{IsReadingOrRefusal}
 use Rattle.hack_run.specs.declared.fault.RunFault.{RunFault}
 use Rattle.hack_run.specs.declared.fault.RunFault.TheVariants as fault
@@ -148,18 +150,30 @@ pub record SaysSteps (tells : Type 0) (listing : Bool) (cx : ContextRecord) (sta
 abbrev pub SaysLines : Bool → Scene → Scene → Type 0
 SaysLines listing old new = (new.calls ≡ old.calls) × (listing ≡ false → new.streams.out ≡ old.streams.out) × WritesSome old.streams.err new.streams.err
 
+-- nothing was called, and nothing printed
+abbrev pub CallsNothing : Bool → Scene → Scene → Type 0
+CallsNothing listing old new =
+    (new.calls ≡ old.calls) × (listing ≡ false → new.streams.out ≡ old.streams.out) × Keeps old.streams.out.bytes new.streams.out.bytes
+
 -- why there is no plan: a cause that the context and stable's answer have, or want of memory
 abbrev pub IsNoPlan : Bool → ContextRecord → Stable → PlanFault → Type 0
 IsNoPlan listing cx stable e = (e ≡ plan.Memory)
     ⊎ MatchBool (is_hunt listing cx.args) (IsSome cx.args.subcommand × IsPackagesCause cx e) (IsCauseOf cx.args.subcommand stable cx e)
 
--- that is so, nothing was called, and nothing said; where memory was refused, lines were said at most
-abbrev pub HasNoPlan : Bool → ContextRecord → Stable → Looks → Looks → Scene → Scene → PlanFault → Type 0
-HasNoPlan listing cx stable looks now old new e =
-    IsNoPlan listing cx stable e × SaysLines listing old new × (now ≡ looks) × (e ≢ plan.Memory → new.streams.err ≡ old.streams.err)
+-- a plan was made, its notices were said, and then memory was refused
+abbrev pub SaysPlanNotes : ContextRecord → Stable → Name → Coloring → PlanFault → Stream → Stream → Type 0
+SaysPlanNotes cx stable rustup coloring e old new =
+    (e ≡ plan.Memory) × (made : PlanView) × (notes : List Note) × IsPlanOf cx.args.subcommand stable cx rustup made notes × SaysNotes coloring notes old new
 
-abbrev pub SaysNoPlan : Result (Unit {0}) RunFault → Bool → ContextRecord → Stable → Looks → Looks → Scene → Scene → Type 0
-SaysNoPlan came listing cx stable looks now old new = (e : PlanFault) × (came ≡ Err (fault.Plan e)) × HasNoPlan listing cx stable looks now old new e
+-- That is so, nothing was called and nothing said; or, unless a search for conflicts is asked for, memory was refused
+-- behind the notices of a plan.
+abbrev pub HasNoPlan : Bool → ContextRecord → Stable → Name → Looks → Looks → Scene → Scene → PlanFault → Type 0
+HasNoPlan listing cx stable rustup looks now old new e =
+    IsNoPlan listing cx stable e × CallsNothing listing old new × (now ≡ looks)
+    × ((new.streams.err ≡ old.streams.err) ⊎ ((is_hunt listing cx.args ≡ false) × SaysPlanNotes cx stable rustup looks.coloring e old.streams.err new.streams.err))
+
+abbrev pub SaysNoPlan : Result (Unit {0}) RunFault → Bool → ContextRecord → Stable → Name → Looks → Looks → Scene → Scene → Type 0
+SaysNoPlan came listing cx stable rustup looks now old new = (e : PlanFault) × (came ≡ Err (fault.Plan e)) × HasNoPlan listing cx stable rustup looks now old new e
 
 -- What steps came to: the error that stopped them; else the report of the runs that failed, with the patterns that only
 -- these show, and then an error was reported where one is reported there, or by a step; or memory was refused for that.
@@ -194,16 +208,18 @@ ComesOfList came now last old new = MatchOption last.kept
     ((came ≡ Err fault.Memory) ⊎ ((came ≡ Err fault.Unlisted) × HasFailed old.failed new.failed) ⊎ ((came ≡ Ok tt) × (now.reported ≡ last.told)))
     (λ failed. came ≡ Err (fault.Process failed))
 
--- the same of a list's steps that aren't listed
+-- The same of a list's steps that aren't listed. Whatever came of them, just the lines of the steps that passed were
+-- printed, in order; or a front of these lines, and their stream counted a failure.
 pub record SaysList (came : Result (Unit {0}) RunFault) (tells : Type 0) (cx : ContextRecord) (stable : Stable) (rustup : Name) (looks now : Looks) (old new : Scene) : Type 0 where
   pub steps : SaysSteps tells true cx stable rustup None looks old new
+  pub wrote : WritesText (flat_map (lines_written steps.course.plan) steps.course.handed) old.streams.out new.streams.out
   pub comes : ComesOfList came now steps.last old.streams.out new.streams.out
   pub ends : now ≡ reported_on now.reported looks
 
 -- a plan's steps were said, or there is none; before a list memory may be refused
 abbrev pub SaysPlan : Result (Unit {0}) RunFault → Type 0 → ContextRecord → Stable → Name → Looks → Looks → Scene → Scene → Type 0
 SaysPlan came tells cx stable rustup looks now old new =
-    SaysNoPlan came cx.args.print_command_list cx stable looks now old new
+    SaysNoPlan came cx.args.print_command_list cx stable rustup looks now old new
     ⊎ MatchBool cx.args.print_command_list (SaysStarved came looks now old new ⊎ SaysList came tells cx stable rustup looks now old new) (SaysRuns came tells cx stable rustup looks now old new)
 
 -- which looks take long was said, and then the plan's steps, unless memory was refused for that
@@ -228,7 +244,7 @@ pub data SaysAfterLoading {F : Type 0} (f : Filing F) (loaded edited : F) (came 
       → came ≡ Err fault.Memory → now ≡ looks → new ≡ scene_with new.calls told old → SaysAfterLoading f loaded edited came tells args answers rustup looks now old new
   planned : (cx : ContextRecord) (warned told : Stream) (stable : Stable) (calls : List Call) → IsContextFrom args answers cx
       → SaysNotes looks.coloring (warnings_of (told_version answers.cargo_version)) old.streams.err warned → SaysNotes looks.coloring (notes_in cx) warned told → NoneFailed f loaded edited
-      → AsksStable rustup stable old.calls calls → (¬ NeedsAnswer args → stable ≡ Unasked) → SaysItsPlan came tells cx stable rustup looks now (scene_with calls told old) new
+      → AsksStable rustup stable old.calls calls → TellsStableReason looks.verbose rustup stable old.calls calls → (¬ NeedsAnswer args → stable ≡ Unasked) → SaysItsPlan came tells cx stable rustup looks now (scene_with calls told old) new
       → SaysAfterLoading f loaded edited came tells args answers rustup looks now old new
 
 -- some write or removal was refused between these states of files
@@ -297,13 +313,15 @@ SaysParsed f before after came tells parsed.List notes env looks now old new =
     SaysNotes looks.coloring notes old.streams.err new.streams.err × (now ≡ looks) × (new.streams.out ≡ old.streams.out)
     × ComesOfListing tells (string_bytes env.cargo) (string_bytes env.current_dir) came old.calls new.calls
 
--- what was said once rustup was asked where an argument needs it, and the command line was read
+-- what was said once rustup was asked where an argument needs it, and the command line was read; a notice may say why
+-- rustup's version isn't known
 pub record SaysRead {F : Type 0} (f : Filing F) (before after : F) (came : Result (Unit {0}) RunFault) (tells : Type 0) (words : List Name) (env : Env) (looks now : Looks) (old new : Scene) : Type 0 where
   pub calls : List Call
   pub rustup : Rustup
   pub answer : Parsed
   pub notes : List Note
   pub asked : AsksRustup (wants_rustup words) (string_bytes env.rustup) rustup old.calls calls
+  pub reason : TellsReason looks.verbose (string_bytes env.rustup) rustup old.calls calls
   pub read : IsAnswer (around_of env rustup) (ComesTo (around_of env rustup) words) answer notes
   pub said : SaysParsed f before after came tells answer notes env looks now (scene_with calls old.streams.err old) new
 
@@ -312,6 +330,7 @@ pub record SaysRefusal (came : Result (Unit {0}) RunFault) (words : List Name) (
   pub error : CliFault
   pub rustup : Rustup
   pub asked : AsksRustup (wants_rustup words) (string_bytes env.rustup) rustup old.calls new.calls
+  pub reason : TellsReason looks.verbose (string_bytes env.rustup) rustup old.calls new.calls
   pub read : IsReadingOrRefusal (around_of env rustup) words (Refused error)
   pub came_to : came ≡ Err (fault.Words error)
   pub ends : now ≡ looks

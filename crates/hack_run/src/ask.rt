@@ -1,15 +1,18 @@
 //! What rustup is asked before there is a plan: its own version, and that of the toolchain
 //! `stable`.
 
-ghost use Rattle.std.specs.Prelude.{◌≡◌, ◌≢◌, IfErr, IfOk, IfSome, IsSome, IsSomeAnd, None, Ok, OnErr};
+ghost use Rattle.std.specs.Prelude.{◌≡◌, ◌≢◌, IfErr, IfOk, IfSome, IsSome, IsSomeAnd, None, Ok, OnErr, Some};
 ghost use Rattle.std.specs.Prelude.{OnOk, false, string_bytes, true};
 ghost use Rattle.hack_base.specs.Names.{names_of};
 ghost use Rattle.hack_metadata.specs.Requests.{version_command as asks_stable};
 ghost use Rattle.hack_process.specs.Calls.{MayAdd};
 ghost use Rattle.hack_process.specs.CargoTexts.{release_part};
 ghost use Rattle.hack_process.specs.Commands.{asked_of, command_of};
+ghost use Rattle.hack_process.specs.CommandTexts.{text_of};
+ghost use Rattle.hack_process.specs.Faults.{fault_text};
 ghost use Rattle.hack_versions.specs.RangeSteps.{NeedsStable};
-ghost use Rattle.hack_versions.specs.ToolTexts.{TellsRelease};
+ghost use Rattle.hack_versions.specs.ToolTexts.{TellsRelease, answer_fault_text, rustup_part};
+ghost use Rattle.hack_words.specs.RustupView.{unknown_of};
 ghost use Rattle.hack_words.specs.Start.{wants_rustup as rustup_wanted};
 ghost use Rattle.hack_run.specs.Loading.{IsMinorIn};
 ghost use Rattle.hack_run.specs.Questions.{CannotInstallStable, CannotReadStable};
@@ -18,6 +21,8 @@ ghost use Rattle.hack_drive.specs.Answered.{IsAnswered, NeedsAnswer};
 ghost use Rattle.hack_run.specs.Questions.{AsksStable, InstallsStable};
 ghost use Rattle.hack_run.specs.Internal.{IsLatest, IsUnknown, TellsMinor};
 ghost use Rattle.hack_run.specs.Questions.{AsksRustup, ReadsStable};
+ghost use Rattle.hack_run.specs.Questions.{IsAnswerReason, IsInstallReason, IsReason};
+ghost use Rattle.hack_run.specs.Questions.{TellsReason, TellsStableReason};
 ghost use Rattle.hack_run.specs.Questions.{rustup_asked, rustup_command as asks_rustup};
 
 use hack_planner::stable::Stable;
@@ -45,6 +50,8 @@ pub(crate) fn rustup_for<C: Caller>(
     ensures asked { IfOk result (λ known. C.tells → AsksRustup
         (rustup_wanted (names_of words.now)) (string_bytes env.now.rustup) known
         (C.calls caller.old) (C.calls caller.new)) }
+    ensures reason { IfOk result (λ known. C.tells → TellsReason verbose
+        (string_bytes env.now.rustup) known (C.calls caller.old) (C.calls caller.new)) }
     ensures unneeded { rustup_wanted (names_of words.now) ≡ false → caller.new ≡ caller.old }
     ensures course { C.course caller.old caller.new }
 {
@@ -69,6 +76,7 @@ fn rustup_command<'a>(alloc: Global, env: &Env) -> Result<ProcessBuilder<'a>, Al
 /// Returns that rustup's version is unknown, with the error of asking for it as the reason.
 fn unknown_rustup(alloc: Global, fault: ProcessFault) -> Result<Rustup, AllocError>
     ensures unknown { IfOk result IsUnknown }
+    ensures why { IfOk result (λ known. unknown_of known ≡ Some (fault_text fault)) }
     ensures failed { OnOk result (fault ≢ ProcessFault.Memory) }
 {
     match fault {
@@ -85,7 +93,10 @@ fn rustup_in(
     env: &Env,
     verbose: bool,
 ) -> Result<Rustup, AllocError>
-    ensures { IfOk result (TellsMinor answer.now) }
+    ensures minor { IfOk result (TellsMinor answer.now) }
+    ensures why { IfOk result (λ known. IfSome (unknown_of known) (IsAnswerReason answer.now
+        (rustup_part answer.now)
+        (text_of verbose (string_bytes env.now.current_dir) (command_of asked.now)))) }
 {
     match minor_version(alloc, answer) {
         Ok(minor) => Ok(Rustup::Known(minor)),
@@ -101,12 +112,18 @@ fn wrong_answer_text(
     asked: &ProcessBuilder<'_>,
     env: &Env,
     verbose: bool,
-) -> Result<String, AllocError> {
+) -> Result<String, AllocError>
+    ensures { IfOk result (λ text. string_bytes text ≡ answer_fault_text
+        (text_of verbose (string_bytes env.now.current_dir) (command_of asked.now)) fault) }
+{
     let command = asked.text(alloc, false, verbose, env.current_dir.as_str())?;
     shown_fault(alloc, fault.of(command.as_str()))
 }
 
-fn shown_fault(alloc: Global, fault: AnswerFault<'_>) -> Result<String, AllocError> {
+fn shown_fault(alloc: Global, fault: AnswerFault<'_>) -> Result<String, AllocError>
+    ensures { IfOk result (λ text. string_bytes text
+        ≡ answer_fault_text fault.command.now fault.fault.now) }
+{
     format!(in alloc; "{fault}")
 }
 
@@ -121,6 +138,8 @@ pub(crate) fn stable_for<C: Caller>(
 ) -> Result<Stable, AllocError>
     ensures asked { IfOk result (λ stable. C.tells → AsksStable (string_bytes env.now.rustup)
         stable (C.calls caller.old) (C.calls caller.new)) }
+    ensures reason { IfOk result (λ stable. C.tells → TellsStableReason term.now.verbose
+        (string_bytes env.now.rustup) stable (C.calls caller.old) (C.calls caller.new)) }
     ensures unasked { IfOk result (λ stable. ¬ NeedsAnswer args.now → stable ≡ Stable.Unasked) }
     ensures needed { IfOk result (IsAnswered args.now) }
     ensures made { C.tells → MayAskStable (string_bytes env.now.rustup)
@@ -162,6 +181,9 @@ fn install<C: Caller>(
     ensures vain { IfErr result (λ fault. fault ≢ ProcessFault.Memory → C.tells
         → CannotInstallStable (string_bytes env.now.rustup)
         (C.calls caller.old) (C.calls caller.new)) }
+    ensures why { IfErr result (λ fault. fault ≢ ProcessFault.Memory → C.tells
+        → IsInstallReason (string_bytes env.now.rustup)
+        (C.calls caller.old) (C.calls caller.new) (fault_text fault)) }
     ensures course { C.course caller.old caller.new }
 {
     let mut screen = Screen {
@@ -184,7 +206,8 @@ fn install<C: Caller>(
 
 /// Returns that stable's version is unknown, with the error of asking for it as the reason.
 fn stable_fault(alloc: Global, fault: ProcessFault) -> Result<Stable, AllocError>
-    ensures { IfOk result (IsLatest (λ _. ⊥) (fault ≢ ProcessFault.Memory)) }
+    ensures { IfOk result (IsLatest (λ _. ⊥)
+        (λ why. (fault ≢ ProcessFault.Memory) × (why ≡ fault_text fault))) }
 {
     match fault {
         ProcessFault::Memory => Err(AllocError),
@@ -210,8 +233,12 @@ fn stable_version<C: Caller>(
     ensures read { IfOk result (IsLatest
         (λ v. C.tells → ReadsStable (string_bytes env.now.rustup) v
         (C.calls caller.old) (C.calls caller.new))
-        (C.tells → CannotReadStable (string_bytes env.now.rustup)
+        (λ _. C.tells → CannotReadStable (string_bytes env.now.rustup)
         (C.calls caller.old) (C.calls caller.new))) }
+    ensures why { IfOk result (IsLatest (λ _. Unit {0})
+        (λ why. C.tells → IsReason release_part verbose
+        (asks_stable (string_bytes env.now.rustup))
+        (C.calls caller.old) (C.calls caller.new) why)) }
     ensures may { C.tells → MayAdd (asked_of true (asks_stable (string_bytes env.now.rustup)))
         (C.calls caller.old) (C.calls caller.new) }
     ensures course { C.course caller.old caller.new }
@@ -232,7 +259,9 @@ fn stable_in(
     verbose: bool,
 ) -> Result<Stable, AllocError>
     ensures { IfOk result (IsLatest (TellsRelease (release_part answer.now))
-        (IsMinorIn (release_part answer.now) None)) }
+        (λ why. IsMinorIn (release_part answer.now) None
+        × IsAnswerReason answer.now (release_part answer.now)
+        (text_of verbose (string_bytes env.now.current_dir) (command_of asked.now)) why)) }
 {
     match version(alloc, answer) {
         Ok(version) => Ok(Stable::Known(version)),

@@ -63,7 +63,8 @@ pub(crate) fn hunt_in_lanes<L: Turns, O: Sink, E: Sink>(
         (scene_at (L.calls lanes.old) O.Sink E.Sink out.old err.old)
         (scene_at (L.calls lanes.new) O.Sink E.Sink out.new err.new)) }
     ensures unplanned { IfErr result (λ e. (stable : Stable)
-        → HasNoPlan false (context_view cx.now) stable (looks_of term.old) (looks_of term.new)
+        → HasNoPlan false (context_view cx.now) stable rustup.now
+        (looks_of term.old) (looks_of term.new)
         (scene_at (L.calls lanes.old) O.Sink E.Sink out.old err.old)
         (scene_at (L.calls lanes.new) O.Sink E.Sink out.new err.new) e) }
     ensures looks { KeepsLooks term.old term.new }

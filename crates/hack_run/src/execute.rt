@@ -66,6 +66,7 @@ pub(crate) fn execute<C: Starts, O: Sink, E: Sink>(
     // The notices of the plan were said, then just what its steps say, and then the report, or what a
     // search found.
     ensures shown { C.tells → SaysNoPlan result false (context_view cx.now) stable
+        (string_bytes host.old.env.now.rustup)
         (looks_of host.old.term.now) (looks_of host.new.term.now)
         (scene_on C.Caller O.Sink E.Sink host.old) (scene_on C.Caller O.Sink E.Sink host.new)
         ⊎ SaysRuns result C.tells (context_view cx.now) stable
@@ -118,6 +119,7 @@ fn hand_to_starter<C: Starts, O: Sink, E: Sink>(
         (looks_of host.old.term.now) session
         (scene_on C.Caller O.Sink E.Sink host.old) (scene_on C.Caller O.Sink E.Sink host.new)) }
     ensures unplanned { C.tells → IfErr result (HasNoPlan false (context_view cx.now) stable
+        (string_bytes host.old.env.now.rustup)
         (looks_of host.old.term.now) (looks_of host.new.term.now)
         (scene_on C.Caller O.Sink E.Sink host.old) (scene_on C.Caller O.Sink E.Sink host.new)) }
     ensures looks { KeepsLooks host.old.term.now host.new.term.now }
@@ -175,7 +177,7 @@ fn hand_out<L: Turns, O: Sink, E: Sink>(
         (scene_at (L.calls lanes.old) O.Sink E.Sink out.old err.old)
         (scene_at (L.calls lanes.new) O.Sink E.Sink out.new err.new)) }
     ensures unplanned { IfErr result (HasNoPlan false (context_view cx.now) stable
-        (looks_of term.old) (looks_of term.new)
+        rustup.now (looks_of term.old) (looks_of term.new)
         (scene_at (L.calls lanes.old) O.Sink E.Sink out.old err.old)
         (scene_at (L.calls lanes.new) O.Sink E.Sink out.new err.new)) }
     ensures looks { KeepsLooks term.old term.new }
@@ -225,7 +227,7 @@ fn drive_in_lanes<L: Turns, O: Sink, E: Sink>(
         (scene_at (L.calls lanes.old) O.Sink E.Sink out.old err.old)
         (scene_at (L.calls lanes.new) O.Sink E.Sink out.new err.new)) }
     ensures unplanned { IfErr result (HasNoPlan false (context_view cx.now) stable
-        (looks_of term.old) (looks_of term.new)
+        rustup.now (looks_of term.old) (looks_of term.new)
         (scene_at (L.calls lanes.old) O.Sink E.Sink out.old err.old)
         (scene_at (L.calls lanes.new) O.Sink E.Sink out.new err.new)) }
     ensures looks { KeepsLooks term.old term.new }
@@ -274,7 +276,7 @@ fn search_in_lanes<L: Turns, O: Sink, E: Sink>(
         (scene_at (L.calls lanes.old) O.Sink E.Sink out.old err.old)
         (scene_at (L.calls lanes.new) O.Sink E.Sink out.new err.new)) }
     ensures unplanned { IfErr result (HasNoPlan false (context_view cx.now) stable
-        (looks_of term.old) (looks_of term.new)
+        rustup.now (looks_of term.old) (looks_of term.new)
         (scene_at (L.calls lanes.old) O.Sink E.Sink out.old err.old)
         (scene_at (L.calls lanes.new) O.Sink E.Sink out.new err.new)) }
     ensures looks { KeepsLooks term.old term.new }

@@ -1,7 +1,7 @@
 //! The errors that end a call.
 
 ghost use Rattle.std.specs.Prelude.{◌≡◌, Some, option_copied, true};
-ghost use Rattle.hack_run.specs.Errors.{failed_command, is_of_file, text_of};
+ghost use Rattle.hack_run.specs.Errors.{failed_command, is_memory, is_of_file, text_of};
 
 use hack_files::reason::is_of_device;
 use hack_load::context::ContextFault;
@@ -47,6 +47,20 @@ impl RunFault {
         }
     }
 
+    /// Whether memory was refused.
+    pub(crate) fn is_memory(&self) -> bool
+        ensures { result ≡ is_memory self.now }
+    {
+        match self {
+            RunFault::Memory
+            | RunFault::Words(CliFault::Memory)
+            | RunFault::Context(ContextFault::Memory)
+            | RunFault::Manifests(PrepareFault::Memory)
+            | RunFault::Plan(PlanFault::Memory) => true,
+            _ => false,
+        }
+    }
+
     /// The command that failed, where that is the error.
     pub(crate) fn failed_command(&self) -> Option<&ProcessFault>
         ensures { option_copied result ≡ failed_command self.now }
@@ -65,6 +79,9 @@ impl fmt::Display for RunFault {
     ghost output = { λ fault. text_of fault };
 
     fn fmt<W: fmt::Write>(&self, f: &mut fmt::Formatter<W>) -> fmt::Result {
+        if self.is_memory() {
+            return f.write_str("out of memory");
+        }
         if let Some(fault) = self.failed_command() {
             return write!(f, "{fault}");
         }
@@ -73,6 +90,7 @@ impl fmt::Display for RunFault {
             RunFault::Words(fault) => write!(f, "{fault}"),
             RunFault::Context(fault) => write!(f, "{fault}"),
             RunFault::Manifests(fault) => write!(f, "{fault}"),
+            RunFault::Plan(PlanFault::Stable(why)) => f.write_str(why.as_str()),
             RunFault::Plan(fault) => write!(f, "{fault}"),
             RunFault::Process(fault) => write!(f, "{fault}"),
             RunFault::Unlisted => f.write_str("failed to write the command list"),

@@ -2,10 +2,12 @@
 
 ghost use Rattle.std.specs.Prelude.{◌≡◌, ◌<◌, ◌⊎◌, IfErr, IfOk, List, None, Ok, OnErr, OnOk, false};
 ghost use Rattle.std.specs.Prelude.{if◌then◌else◌, string_bytes, true};
+ghost use Rattle.std.specs.Io.KnownBytes.{append_known};
 ghost use Rattle.hack_base.specs.Notes.{Note};
 ghost use Rattle.hack_load.specs.ContextView.{context_view};
 ghost use Rattle.hack_run.specs.CallTrace.{PerformsOne};
-ghost use Rattle.hack_planner.specs.CallPlan.{IsCauseOf};
+ghost use Rattle.hack_plan.specs.View.{PlanView};
+ghost use Rattle.hack_planner.specs.CallPlan.{IsCauseOf, IsPlanOf};
 ghost use Rattle.hack_run.specs.Internal.{EndsList, HandsOver, HandsOverAtMostOne, ListsOver};
 ghost use Rattle.hack_run.specs.Internal.{ListsSteps};
 ghost use Rattle.hack_run.specs.Internal.{MayPerformItsPlan, PerformsAtMostOne, PerformsItsPlan};
@@ -58,6 +60,7 @@ pub(crate) fn print_list<C: Caller, O: Sink, E: Sink>(
         (context_view cx.now) stable host.old host.new }
     ensures course { C.course host.old.caller.now host.new.caller.now }
     ensures shown { C.tells → SaysNoPlan result true (context_view cx.now) stable
+        (string_bytes host.old.env.now.rustup)
         (looks_of host.old.term.now) (looks_of host.new.term.now)
         (scene_on C.Caller O.Sink E.Sink host.old) (scene_on C.Caller O.Sink E.Sink host.new)
         ⊎ SaysStarved result (looks_of host.old.term.now) (looks_of host.new.term.now)
@@ -100,8 +103,12 @@ fn hand_to_lister<C: Caller, O: Sink, E: Sink>(
     ensures shown { IfOk result.refused (λ _. ListsSteps C.tells (context_view cx.now) stable
         (string_bytes host.old.env.now.rustup) result.fault host.new.term.now.error
         (looks_of host.old.term.now)
+        (append_known (O.contents host.old.out.now) gathered.old.items)
+        (append_known (O.contents host.new.out.now) gathered.new.items)
         (scene_on C.Caller O.Sink E.Sink host.old) (scene_on C.Caller O.Sink E.Sink host.new)) }
+    ensures idle { OnErr result.refused (gathered.new.items ≡ gathered.old.items) }
     ensures unplanned { IfErr result.refused (HasNoPlan true (context_view cx.now) stable
+        (string_bytes host.old.env.now.rustup)
         (looks_of host.old.term.now) (looks_of host.new.term.now)
         (scene_on C.Caller O.Sink E.Sink host.old) (scene_on C.Caller O.Sink E.Sink host.new)) }
     ensures looks { KeepsLooks host.old.term.now host.new.term.now }
@@ -148,8 +155,11 @@ fn list_over<'a, W: Lines, R: Teller>(
         R.told R.ran (context_view cx.now) stable rustup.now runner.old runner.new }
     ensures over { OnOk result (HandsOver W.whole (W.contents out.old) (W.contents out.new)
         R.told R.ran (context_view cx.now) stable rustup.now runner.old runner.new) }
+    ensures idle { OnErr result (out.new ≡ out.old) }
     ensures refused { IfErr result (λ e. (runner.new ≡ runner.old)
-        ⊎ ((e ≡ PlanFault.Memory) × (notes : List Note) × R.told notes runner.old runner.new)) }
+        ⊎ ((e ≡ PlanFault.Memory) × (plan : PlanView) × (notes : List Note)
+        × IsPlanOf (context_view cx.now).args.subcommand stable (context_view cx.now) rustup.now
+        plan notes × R.told notes runner.old runner.new)) }
     ensures err { IfErr result (λ e. (e ≡ PlanFault.Memory)
         ⊎ IsCauseOf (context_view cx.now).args.subcommand stable (context_view cx.now) e) }
 {

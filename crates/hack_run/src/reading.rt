@@ -56,10 +56,10 @@ pub(crate) fn reading_of<C: Caller>(
     ensures may { C.tells → MayAdd (rustup_asked (string_bytes env.now.rustup))
         (C.calls caller.old) (C.calls caller.new) }
     ensures read { IfOk result (ReadsAfterRustup IsReadingOrRefusal C.tells (names_of words.now)
-        env.now (C.calls caller.old) (C.calls caller.new)) }
+        env.now verbose (C.calls caller.old) (C.calls caller.new)) }
     // Of what it reads itself it says which error refuses it.
     ensures own { known ≡ None → IfOk result (ReadsAfterRustup IsReading C.tells
-        (names_of words.now) env.now (C.calls caller.old) (C.calls caller.new)) }
+        (names_of words.now) env.now verbose (C.calls caller.old) (C.calls caller.new)) }
     ensures unneeded { rustup_wanted (names_of words.now) ≡ false → caller.new ≡ caller.old }
     ensures course { C.course caller.old caller.new }
 {

@@ -1,9 +1,11 @@
 use Rattle.std.proofs.Common.{◌≡◌, ◌∙◌, ap, false, filter, refl, subst, sym, true}
-use Rattle.std.specs.Io.KnownBytes.{append_known}
+use Rattle.std.specs.List.{flat_map}
+use Rattle.std.specs.Io.KnownBytes.{Appends, Keeps, append_known}
+use Rattle.std.proofs.KnownBytes.{Keeps-refl}
 use Rattle.hack_load.specs.ContextView.{context_view}
 use Rattle.hack_run.specs.Worlds.{HostView}
 use Rattle.hack_run.proofs.RunLemmas.{handed_in_course, handed_makes, lists_one}
-use Rattle.hack_session.specs.ListLines.{is_sent}
+use Rattle.hack_session.specs.ListLines.{is_sent, lines_written}
 use Rattle.hack_run.proofs.StartedLemmas.{all_started}
 use Rattle.hack_session.proofs.StepLemmas.{has_performed, passed_or_told}
 use Rattle.hack_run.proofs.ToldLemmas.{warned_run}
@@ -11,7 +13,7 @@ use Rattle.hack_base.specs.Streams.{stream_of}
 use Rattle.hack_term.specs.declared.term.Term.{Term}
 use Rattle.hack_words.specs.declared.cli.args.Args.{Args}
 use Rattle.hack_run.specs.Shown.{looks_of, scene_at, scene_on}
-use Rattle.hack_run.proofs.ShownLemmas.{handed_said, list_looks, looks_ran, looks_told, no_plan, not_off, refused_said, steps_listed}
+use Rattle.hack_run.proofs.ShownLemmas.{handed_said, list_looks, looks_ran, looks_told, no_plan, not_off, on_error, refused_said, steps_listed}
 use Rattle.hack_run.proofs.print_list.hand_to_lister.Goals as goal
 
 pub returns-clause-done : goal.returns-clause-done
@@ -75,6 +77,12 @@ returns-clause-shown g c =
     let last = c.list_over-refused.new.runner in
     let made = c.set_manner.ensures in
     let fresh = c.new-starter.ensures in
+    let contents = g.O.Sink.contents in
+    let lines = c.list_over-refused.new.out in
+    let begun = c.gather_on-lines.ensures in
+    let gathered_is = c.gathered-1.given.1 (sym begun.gathered.0 ∙ c.list_over-refused.ensures.stays.1) in
+    let had = append_known (contents c.args.host.now.out.now) c.args.gathered.now.items in
+    let has = append_known (contents lines.out.now) c.gathered-1.given.0.items in
     rw (sym c.as_str-rustup.ensures.value)
     (handed_said c.list_over-refused.result c.list_over-refused.ensures.over (λ l.
     steps_listed g.C.Caller.tells calls g.E.Sink cx c.args.stable c.as_str-rustup.result.now c.fault-2-1.given.0 last.term.now.error l.course l.notes false false c.set_manner.new.self l.mid _ _ c.args.host.now.term.now
@@ -82,18 +90,29 @@ returns-clause-shown g c =
     (l.planned, (l.driven, refl)) (ap (λ s. calls s.caller.now) made ∙ ap calls fresh.caller.1) (ap (λ s. s.term.now) made ∙ fresh.term.1)
     (ap (λ s. stream_of g.E.Sink s.err.now) made ∙ ap (stream_of g.E.Sink) fresh.err.1) (ap (λ s. s.fault.now) made ∙ fresh.fault.1) (ap (λ s. s.refused) made ∙ fresh.refused)
     (ap (λ s. s.keep_going) made ∙ ap (λ (a : Args). a.keep_going) c.args-2.ensures) (ap (λ s. s.log_group) made) l.told refl (λ off. not_off off) l.ran.9 refl (λ off. not_off off) refl
-    (c.fault-2-1.given.1 (sym fresh.fault.0 ∙ ap (λ s. s.fault.ghost_name) (sym made) ∙ l.told.2 ∙ l.ran.2)) refl))
+    (c.fault-2-1.given.1 (sym fresh.fault.0 ∙ ap (λ s. s.fault.ghost_name) (sym made) ∙ l.told.2 ∙ l.ran.2)) refl
+    (subst (λ o. Appends (append_known (contents o) c.args.gathered.now.items) has (flat_map (lines_written l.course.plan) l.course.handed)) begun.out.1
+    (subst (λ v. Appends (append_known (contents c.gather_on-lines.result.out.now) v.items) has (flat_map (lines_written l.course.plan) l.course.handed)) begun.gathered.1
+    (subst (λ v. Appends (append_known (contents c.gather_on-lines.result.out.now) c.gather_on-lines.result.gathered.now.items) (append_known (contents lines.out.now) v.items) (flat_map (lines_written l.course.plan) l.course.handed)) (sym gathered_is) (l.wrote tt))))))
+
+pub returns-clause-idle : goal.returns-clause-idle
+returns-clause-idle g c =
+    let gathered_is = c.gathered-1.given.1 (sym c.gather_on-lines.ensures.gathered.0 ∙ c.list_over-refused.ensures.stays.1) in
+    on_error c.list_over-refused.result c.list_over-refused.ensures.idle (λ same. ap (λ v. v.items) (gathered_is ∙ ap (λ l. l.gathered.now) same ∙ c.gather_on-lines.ensures.gathered.1))
 
 pub returns-clause-unplanned : goal.returns-clause-unplanned
 returns-clause-unplanned g c =
     let calls = g.C.Caller.calls in
+    let contents = g.O.Sink.contents in
     let cx = context_view c.args.cx.now in
     let last = c.list_over-refused.new.runner in
     let made = c.set_manner.ensures in
     let fresh = c.new-starter.ensures in
-    refused_said c.list_over-refused.result c.list_over-refused.ensures.refused c.list_over-refused.ensures.err (λ e refused cause.
-    no_plan true calls g.E.Sink cx c.args.stable e c.args.host.now.term.now c.set_manner.new.self last (scene_on g.C.Caller g.O.Sink g.E.Sink c.args.host.now) (scene_at (calls last.caller.now) g.O.Sink g.E.Sink c.list_over-refused.new.out.out.now last.err.now)
-    (ap (λ s. s.term.now) made ∙ fresh.term.1) (ap (λ s. calls s.caller.now) made ∙ ap calls fresh.caller.1) (ap (λ s. stream_of g.E.Sink s.err.now) made ∙ ap (stream_of g.E.Sink) fresh.err.1) refl (λ off. not_off off) refl cause refused)
+    rw (sym c.as_str-rustup.ensures.value)
+    (refused_said c.list_over-refused.result c.list_over-refused.ensures.idle c.list_over-refused.ensures.refused c.list_over-refused.ensures.err (λ e same refused cause.
+    no_plan true calls g.E.Sink cx c.args.stable c.as_str-rustup.result.now e c.args.host.now.term.now c.set_manner.new.self last (scene_on g.C.Caller g.O.Sink g.E.Sink c.args.host.now) (scene_at (calls last.caller.now) g.O.Sink g.E.Sink c.list_over-refused.new.out.out.now last.err.now)
+    (ap (λ s. s.term.now) made ∙ fresh.term.1) (ap (λ s. calls s.caller.now) made ∙ ap calls fresh.caller.1) (ap (λ s. stream_of g.E.Sink s.err.now) made ∙ ap (stream_of g.E.Sink) fresh.err.1) refl (λ off. not_off off)
+    (subst (λ o. Keeps (contents c.args.host.now.out.now) (contents o)) (sym (ap (λ l. l.out.now) same ∙ c.gather_on-lines.ensures.out.1)) (Keeps-refl (contents c.args.host.now.out.now))) refl refl cause refused))
 
 pub returns-clause-looks : goal.returns-clause-looks
 returns-clause-looks g c =

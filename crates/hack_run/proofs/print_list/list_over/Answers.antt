@@ -109,5 +109,18 @@ returns-in_err-_session-clause-refused g c =
       | inr some ↦
           let told = some.4 in
           let runner_is = c.in_err-_session.runner-1-own.given.1 told.1 in
-          inr (some.0, some.2, subst (λ r. g.R.Teller.told some.2 c.args.runner.now r) (sym runner_is) told.4)
+          inr (some.0, some.1, some.2, some.3, subst (λ r. g.R.Teller.told some.2 c.args.runner.now r) (sym runner_is) told.4)
+    ])
+
+pub returns-in_err-_session-clause-idle : goal.returns-in_err-_session-clause-idle
+returns-in_err-_session-clause-idle g c =
+    let p = err_from_is_err_and c.from_residual.result c.from_residual.ensures.1 in
+    rw (p.1) (elim c.in_err-_session.ensures.refused [
+      | inl same ↦
+          let out_is = c.in_err-_session.out-1-own.given.1 (ap (λ l. l.out.ghost_name) (sym same)) in
+          out_is ∙ ap (λ l. l.out.now) same
+      | inr some ↦
+          let told = some.4 in
+          let out_is = c.in_err-_session.out-1-own.given.1 told.0 in
+          out_is ∙ told.2
     ])

@@ -11,6 +11,7 @@ returns-in-Some-clause-read g c =
     record {
       rustup = Unasked;
       asked = λ _. asks_nothing (wants_rustup (names_of c.args.words.now)) (string_bytes c.args.env.now.rustup) (g.C.Caller.calls c.args.caller.now) early.0;
+      reason = λ _. tt;
       read = early.1;
     }
 

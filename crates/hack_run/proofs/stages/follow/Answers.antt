@@ -140,7 +140,7 @@ pub returns-clause-shown : goal.returns-clause-shown
 returns-clause-shown g c = λ t.
     follows_said g.F.Files c.args.files.now c.edit.new.files c.run_plan.result g.C.Caller.tells c.args.args c.args.answers (string_bytes c.args.host.now.env.now.rustup) c.args.host.now.term.now c.context.new.term c.edit.new.term (looks_of c.run_plan.new.host.term.now) (context_view c.in_ok-cx.cx) c.in_ok-stable.stable
     (g.C.Caller.calls c.stable_for.new.caller) (stream_of g.E.Sink c.context.new.err) (stream_of g.E.Sink c.edit.new.err) (scene_on g.C.Caller g.O.Sink g.E.Sink c.args.host.now) (scene_on g.C.Caller g.O.Sink g.E.Sink c.run_plan.new.host)
-    c.in_ok-cx.ensures.told c.in_ok-edit.ensures.told c.in_ok-cx.ensures.ok c.in_ok-cx.ensures.shown c.in_ok-edit.ensures.shown c.in_ok-edit.ensures.none (c.in_ok-stable.ensures.asked t)
+    c.in_ok-cx.ensures.told c.in_ok-edit.ensures.told c.in_ok-cx.ensures.ok c.in_ok-cx.ensures.shown c.in_ok-edit.ensures.shown c.in_ok-edit.ensures.none (c.in_ok-stable.ensures.asked t) (c.in_ok-stable.ensures.reason t)
     (λ off. c.in_ok-stable.ensures.unasked (subst (λ (a : Args). ¬ NeedsAnswer a) (sym c.in_ok-cx.ensures.ok.2.args ∙ sym c.args-2.ensures) off)) (c.run_plan.ensures.shown t)
 
 pub returns-clause-looks : goal.returns-clause-looks
