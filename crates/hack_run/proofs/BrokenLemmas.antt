@@ -1,5 +1,5 @@
--- How searches for the least versions end that were broken off.
-use Rattle.std.proofs.Common.{◌≡◌, ◌∙◌, ◌+◌, ◌++◌, ◌∷◌, ◌⊎◌, [], ℕ, Bool, List, ap, append-nil, append_assoc, false, if◌then◌else◌, inl, inr, map, refl, subst, sym, true}
+-- How searches end that were broken off.
+use Rattle.std.proofs.Common.{◌≡◌, ◌∙◌, ◌+◌, ◌++◌, ◌∷◌, ◌⊎◌, [], ℕ, Bool, Err, List, Ok, Option, Result, ap, append-nil, append_assoc, false, if◌then◌else◌, inl, inr, length, map, refl, subst, sym, true}
 use Rattle.std.specs.List.{AllZip, list_any}
 use Rattle.hack_bisect.specs.Searches.{Trial as Tried}
 use Rattle.hack_bisect.specs.declared.tries.Outcome.{Outcome}
@@ -15,7 +15,16 @@ use Rattle.hack_plan.specs.View.{PlanView}
 use Rattle.hack_session.specs.Histories.{passed_step}
 use Rattle.hack_session.specs.Schedules.{is_place}
 use Rattle.hack_session.specs.declared.step.Handed.{Handed}
-use Rattle.hack_run.specs.Conclusions.{AreBrokenOff, broken_off, finds, is_broken, version_conclusion}
+use Rattle.hack_conflicts.specs.declared.tried.Outcome.{Outcome as Built}
+use Rattle.hack_conflicts.specs.declared.tried.Outcome.TheVariants as built
+use Rattle.hack_culprits.specs.Built.{AreBrokenLast, AreHanded, Made, Tells, step_at, step_outcome, steps_from}
+use Rattle.hack_culprits.specs.declared.fault.CulpritsFault.{CulpritsFault}
+use Rattle.hack_culprits.specs.declared.fault.CulpritsFault.TheVariants as cause
+use Rattle.hack_hunt.specs.Hunts.{EndsSo, RanHunts, Spot}
+use Rattle.hack_hunt.specs.declared.hunt.Hunted.{Hunted}
+use Rattle.hack_report.specs.Conflicts.{hunted_remarks}
+use Rattle.hack_session.specs.declared.step.Step.TheVariants.{Run}
+use Rattle.hack_run.specs.Conclusions.{AreBrokenOff, broken_off, cut_short, finds, hunt_conclusion, is_broken, reason_text, version_conclusion}
 use Rattle.hack_report.specs.Findings.{found_remarks}
 use Rattle.hack_run.proofs.ConclusionLemmas.{none_broken}
 
@@ -90,3 +99,30 @@ module _ {R : Type 0} (ran : PlanView → List Handed → R → R → Type 0) (e
     where
       concludes : list_any is_broken found ≡ false → ⊥
       concludes off = let e : finds (found_remarks cx plan 0 found) ≡ broken_off = sym (ap (λ (y : Bool). if y then broken_off else finds (found_remarks cx plan 0 found)) off) ∙ is in cc
+
+-- ---- searches for conflicts
+
+-- a search for conflicts was broken off only where the call is at its end
+broken-cause : (verbose : Bool) (plan : PlanView) (came : Result (List Hunted) CulpritsFault) → hunt_conclusion verbose plan came ≡ broken_off → came ≡ Err cause.Ended
+broken-cause verbose plan (Ok found) is = let e : finds (hunted_remarks verbose plan found) ≡ broken_off = is in absurd (cc)
+broken-cause verbose plan (Err cause.Ended) is = refl
+broken-cause verbose plan (Err cause.TooManyRuns) is = let e : cut_short (reason_text cause.TooManyRuns) ≡ broken_off = is in absurd (cc)
+broken-cause verbose plan (Err cause.Memory) is = let e : cut_short (reason_text cause.Memory) ≡ broken_off = is in absurd (cc)
+
+module _ {R : Type 0} (ran : PlanView → List Handed → R → R → Type 0) (ended : R → Bool) where
+  -- the last run that was built is broken: the call is at its end with it
+  last-built : (plan : PlanView) (place : ℕ) (front : List Made) (last : Made) (a b : R) → last.outcome ≡ built.Broken → AreHanded ran ended plan place (front ++ last ∷ []) a b
+      → AreBrokenOff (steps_from place (front ++ last ∷ [])) (ended b)
+  last-built plan place [] last a b broken h =
+      ([], Run place, ap (λ (o : Built). record { step = Run place; outcome = step_outcome o } ∷ []) broken,
+      inr (ap ended h.3 ∙ subst (λ (o : Built). Tells (ended h.0) o) broken h.2))
+  last-built plan place (m ∷ front) last a b broken h =
+      behind (step_at place m ∷ []) (steps_from (place + 1) (front ++ last ∷ [])) (ended b) (last-built plan (place + 1) front last h.0 b broken h.3)
+
+  pub hunt_broken : (cx : ContextRecord) (most : Option ℕ) (spots : List Spot) (came : Result (List Hunted) CulpritsFault) (verbose : Bool) (old new : PlanView) (a b : R) → (h : RanHunts ran ended cx most spots came old new a b)
+      → hunt_conclusion verbose new came ≡ broken_off → AreBrokenOff (steps_from (length old.entries) h.built) (ended b)
+  hunt_broken cx most spots came verbose old new a b h is =
+      let why = broken-cause verbose new came is in
+      let last : AreBrokenLast h.built = subst (λ (c : Result (List Hunted) CulpritsFault). EndsSo c h.hunts.left h.hunts.hunted h.built new) why h.hunts.end in
+      subst (λ (made : List Made). AreBrokenOff (steps_from (length old.entries) made) (ended b)) (sym last.2)
+      (last-built new (length old.entries) last.0 last.1 a b last.4 (subst (λ (made : List Made). AreHanded ran ended new (length old.entries) made a b) last.2 h.handed))

@@ -28,6 +28,7 @@ use Rattle.hack_session.specs.StepOutput.{streams}
 use Rattle.hack_words.specs.declared.cli.args.Args.{Args}
 use Rattle.hack_run.specs.Shown.{looks_of, scene_at}
 use Rattle.hack_side.specs.Ends.{has_ended}
+use Rattle.hack_run.proofs.BrokenLemmas.{hunt_broken}
 use Rattle.hack_run.proofs.ConclusionLemmas.{concluded_hunt, search_said}
 use Rattle.hack_run.proofs.ShownLemmas.{goes_on_unless, looks_after, looks_later, steps_searched}
 use Rattle.hack_run.specs.Conclusions.{hunt_conclusion}
@@ -169,7 +170,8 @@ returns-clause-shown g c = λ stable.
     (ap (λ s. s.keep_going) made ∙ sym (goes_on_unless cx.args on))
     (ap (λ s. s.log_group) made ∙ ap (λ m. m.0) c.manner-log_group.ensures ∙ ap (λ (a : Args). a.log_group) c.args-2.ensures)
     told refl (λ off. ap (stream_of g.O.Sink) (told.9 ∙ ap (λ s. s.out.now) made ∙ fresh.out.1)) ran.8 refl (λ off. refl) refl on
-    (concluded_hunt cx c.args.rustup.now course notes false false (has_ended last.fault.now last.refused) c.requires found) said refl refl)
+    (concluded_hunt cx c.args.rustup.now course notes false false (has_ended last.fault.now last.refused) c.requires found
+    (hunt_broken _ _ cx cx.args.most_runs _ (came_of hunt.found) cx.args.verbose start hunt.plan _ c.hunt_context.new.runner hunts)) said refl refl)
 
 pub returns-clause-looks : goal.returns-clause-looks
 returns-clause-looks g c =
