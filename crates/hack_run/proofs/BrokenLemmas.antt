@@ -113,9 +113,12 @@ module _ {R : Type 0} (ran : PlanView → List Handed → R → R → Type 0) (e
   -- the last run that was built is broken: the call is at its end with it
   last-built : (plan : PlanView) (place : ℕ) (front : List Made) (last : Made) (a b : R) → last.outcome ≡ built.Broken → AreHanded ran ended plan place (front ++ last ∷ []) a b
       → AreBrokenOff (steps_from place (front ++ last ∷ [])) (ended b)
-  last-built plan place [] last a b broken h =
-      ([], Run place, ap (λ (o : Built). record { step = Run place; outcome = step_outcome o } ∷ []) broken,
-      inr (ap ended h.3 ∙ subst (λ (o : Built). Tells (ended h.0) o) broken h.2))
+  last-built plan place [] last a b broken h = (
+    [],
+    Run place,
+    ap (λ (o : Built). record { step = Run place; outcome = step_outcome o } ∷ []) broken,
+    inr (ap ended h.3 ∙ subst (λ (o : Built). Tells (ended h.0) o) broken h.2),
+  )
   last-built plan place (m ∷ front) last a b broken h =
       behind (step_at place m ∷ []) (steps_from (place + 1) (front ++ last ∷ [])) (ended b) (last-built plan (place + 1) front last h.0 b broken h.3)
 

@@ -243,30 +243,33 @@ pub edits_back : {F : Type 0} (f : Filing F) (args : Args) (answers : Answers) (
     → ComesBackBut (f.refuses edited last) f.tells (registered_files now) (f.bytes_at edited) (f.bytes_at last) count → (f.tells → Brings (registered_files now) (f.bytes_at edited) (f.bytes_at last) count)
     → EditsDone f args answers env before now loaded edited → (cx : ContextRecord) × IsContextFrom args answers cx × EditsAndBack f cx loaded edited last
 edits_back f args answers env before now loaded edited last count empty needs unkept safe read tried refused restored done =
-    let same_args : args.remove_dev_deps ≡ done.cx.args.remove_dev_deps = ap (λ (a : Args). a.remove_dev_deps) (sym done.context.2.args) in
-    (done.cx, done.context, record {
-      prepared = λ t. done.prepared t read;
-      stay = λ stays t. brings_none (registered_files now) (f.bytes_at edited) (f.bytes_at last) count (unkept (same_args ∙ stays)) (restored t);
-      changes = λ w.
-          let made = done.edited w in
-          let back = tried w in
-          record {
-            edits = made.0;
-            back = back.0;
-            writes = made.1.0;
-            made = made.2;
-            undone = by_bool done.cx.args.remove_dev_deps (back.0 ≡ []) (TriesToUndo f done.cx made.0 back.0 loaded edited last)
-                (λ stays. tried_none back.1 (unkept (same_args ∙ stays)))
-                (λ returns. record {
-                  files = registered_files now;
-                  spoilt = refused.spoilt;
-                  refused = refused.refused;
-                  tried = subst (λ (n : ℕ). Tried (registered_files now) back.0 n) (sym refused.number) back.1;
-                  kept = kept_after f.tells args done.cx (f.bytes_at loaded) (f.bytes_at loaded) (f.bytes_at edited) before now made.0 (λ t q. refl) made.2.holds empty needs made.1.1 (same_args ∙ returns) safe done.only done.lockfile;
-                });
-            last = back.2;
-          };
-    })
+    let same_args : args.remove_dev_deps ≡ done.cx.args.remove_dev_deps = ap (λ (a : Args). a.remove_dev_deps) (sym done.context.2.args) in (
+      done.cx,
+      done.context,
+      record {
+        prepared = λ t. done.prepared t read;
+        stay = λ stays t. brings_none (registered_files now) (f.bytes_at edited) (f.bytes_at last) count (unkept (same_args ∙ stays)) (restored t);
+        changes = λ w.
+            let made = done.edited w in
+            let back = tried w in
+            record {
+              edits = made.0;
+              back = back.0;
+              writes = made.1.0;
+              made = made.2;
+              undone = by_bool done.cx.args.remove_dev_deps (back.0 ≡ []) (TriesToUndo f done.cx made.0 back.0 loaded edited last)
+                  (λ stays. tried_none back.1 (unkept (same_args ∙ stays)))
+                  (λ returns. record {
+                    files = registered_files now;
+                    spoilt = refused.spoilt;
+                    refused = refused.refused;
+                    tried = subst (λ (n : ℕ). Tried (registered_files now) back.0 n) (sym refused.number) back.1;
+                    kept = kept_after f.tells args done.cx (f.bytes_at loaded) (f.bytes_at loaded) (f.bytes_at edited) before now made.0 (λ t q. refl) made.2.holds empty needs made.1.1 (same_args ∙ returns) safe done.only done.lockfile;
+                  });
+              last = back.2;
+            };
+      },
+    )
 
 -- ---- what was reported before doesn't matter, nor after it where no more is warned of
 

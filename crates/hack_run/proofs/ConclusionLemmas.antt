@@ -24,16 +24,22 @@ use Rattle.hack_run.specs.Handed.{IsHuntedOut, IsSearchedOut}
 -- searches for the least versions
 pub concluded_search : (cx : ContextRecord) (rustup : Name) (course : Course) (notes : List Note) (fails warns ended : Bool) → cx.args.find_conflicts ≡ false → (s : IsSearchedOut false cx course.plan course.handed fails warns)
     → (version_conclusion cx course.plan s.found ≡ broken_off → AreBrokenOff course.handed ended) → ConcludesSo cx rustup course notes fails warns ended (version_conclusion cx course.plan s.found)
-concluded_search cx rustup course notes fails warns ended apart s broken = (subst (λ (b : Bool). MatchBool b
-    ((hunt : IsHuntedOut false cx rustup course notes fails warns) × (version_conclusion cx course.plan s.found ≡ hunt_conclusion cx.args.verbose course.plan hunt.came))
-    ((search : IsSearchedOut false cx course.plan course.handed fails warns) × (version_conclusion cx course.plan s.found ≡ version_conclusion cx course.plan search.found))) (sym apart) (s, refl), broken)
+concluded_search cx rustup course notes fails warns ended apart s broken = (
+  subst (λ (b : Bool). MatchBool b
+      ((hunt : IsHuntedOut false cx rustup course notes fails warns) × (version_conclusion cx course.plan s.found ≡ hunt_conclusion cx.args.verbose course.plan hunt.came))
+      ((search : IsSearchedOut false cx course.plan course.handed fails warns) × (version_conclusion cx course.plan s.found ≡ version_conclusion cx course.plan search.found))) (sym apart) (s, refl),
+  broken,
+)
 
 -- searches for conflicts
 pub concluded_hunt : (cx : ContextRecord) (rustup : Name) (course : Course) (notes : List Note) (fails warns ended : Bool) → cx.args.find_conflicts ≡ true → (h : IsHuntedOut false cx rustup course notes fails warns)
     → (hunt_conclusion cx.args.verbose course.plan h.came ≡ broken_off → AreBrokenOff course.handed ended) → ConcludesSo cx rustup course notes fails warns ended (hunt_conclusion cx.args.verbose course.plan h.came)
-concluded_hunt cx rustup course notes fails warns ended on h broken = (subst (λ (b : Bool). MatchBool b
-    ((hunt : IsHuntedOut false cx rustup course notes fails warns) × (hunt_conclusion cx.args.verbose course.plan h.came ≡ hunt_conclusion cx.args.verbose course.plan hunt.came))
-    ((search : IsSearchedOut false cx course.plan course.handed fails warns) × (hunt_conclusion cx.args.verbose course.plan h.came ≡ version_conclusion cx course.plan search.found))) (sym on) (h, refl), broken)
+concluded_hunt cx rustup course notes fails warns ended on h broken = (
+  subst (λ (b : Bool). MatchBool b
+      ((hunt : IsHuntedOut false cx rustup course notes fails warns) × (hunt_conclusion cx.args.verbose course.plan h.came ≡ hunt_conclusion cx.args.verbose course.plan hunt.came))
+      ((search : IsSearchedOut false cx course.plan course.handed fails warns) × (hunt_conclusion cx.args.verbose course.plan h.came ≡ version_conclusion cx course.plan search.found))) (sym on) (h, refl),
+  broken,
+)
 
 -- what is said of a search, where its lines go after its steps
 pub search_said : {E : Type 0} (e : Taking E) (conclusion : Conclusion) (starved : Bool) (left : Option ProcessFault) (reported : Bool) (coloring : Coloring) (a b : Term) (was kept : Option ProcessFault) (x y : E) (new : Stream)

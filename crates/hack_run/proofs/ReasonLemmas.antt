@@ -14,8 +14,7 @@ use Rattle.hack_process.specs.declared.fault.ProcessFault.{ProcessFault}
 use Rattle.hack_process.specs.declared.fault.ProcessFault.TheVariants as process
 use Rattle.hack_planner.specs.declared.stable.Stable.{Stable}
 use Rattle.hack_planner.specs.declared.stable.Stable.TheVariants.{Unasked, Known, Unknown}
-use Rattle.hack_session.specs.StepEffects.{DoesTask, Scene, Task, TriesFirst, adding_task, task_of}
-use Rattle.hack_session.specs.StepOutput.{Manner}
+use Rattle.hack_session.specs.StepEffects.{DoesTask, Scene, Task, TriesFirst, task_of}
 use Rattle.hack_session.specs.Toolchains.{addition_of, trial_of}
 use Rattle.hack_versions.specs.ToolTexts.{rustup_part}
 use Rattle.hack_versions.specs.declared.rustup.Rustup.{Rustup}
@@ -28,15 +27,24 @@ use Rattle.hack_run.specs.Questions.{InstallsStable, IsAnswerReason, IsInstallRe
 call_failed : (part : Name → Option Name) (tells : Type 0) (dir why : Name) (verbose : Bool) (c own : Command) (old new : List Call) (e : ProcessFault) → c ≡ own → text_of true dir own ≡ text_of true [] own
     → IsReadFault tells (asked_of true c) (text_of true dir c) old new e → e ≢ process.Memory → why ≡ fault_text e → tells → IsReason part verbose own old new why
 call_failed part tells dir why verbose c own old new e is shown failed lacks told t =
-    inl (e, lacks, subst (λ (text : Name). IsReadFault (Unit {0}) (asked_of true own) text old new e) shown
-    (subst (λ (k : Command). IsReadFault (Unit {0}) (asked_of true k) (text_of true dir k) old new e) is (fault-told tells (asked_of true c) (text_of true dir c) old new e t failed)), told)
+    inl (
+      e,
+      lacks,
+      subst (λ (text : Name). IsReadFault (Unit {0}) (asked_of true own) text old new e) shown
+          (subst (λ (k : Command). IsReadFault (Unit {0}) (asked_of true k) (text_of true dir k) old new e) is (fault-told tells (asked_of true c) (text_of true dir c) old new e t failed)),
+      told,
+    )
 
 -- its answer has no version
 call_unread : (part : Name → Option Name) (tells : Type 0) (dir answer why : Name) (verbose : Bool) (c own : Command) (old new : List Call) → c ≡ own → text_of verbose dir own ≡ text_of verbose [] own
     → (tells → ReadsOutput c answer old new) → IsAnswerReason answer (part answer) (text_of verbose dir c) why → tells → IsReason part verbose own old new why
 call_unread part tells dir answer why verbose c own old new is shown had told t =
-    inr (answer, subst (λ (k : Command). ReadsOutput k answer old new) is (had t), subst (λ (text : Name). IsAnswerReason answer (part answer) text why) shown
-    (subst (λ (k : Command). IsAnswerReason answer (part answer) (text_of verbose dir k) why) is told))
+    inr (
+      answer,
+      subst (λ (k : Command). ReadsOutput k answer old new) is (had t),
+      subst (λ (text : Name). IsAnswerReason answer (part answer) text why) shown
+          (subst (λ (k : Command). IsAnswerReason answer (part answer) (text_of verbose dir k) why) is told),
+    )
 
 -- rustup gave no answer
 pub rustup_failed : {E : Type 0} (tells : Type 0) (rustup dir : Name) (verbose : Bool) (c : Command) (old new : List Call) (r : Result Rustup E) (e : ProcessFault) → c ≡ rustup_command rustup → IsReadFault tells (asked_of true c) (text_of true dir c) old new e
@@ -83,17 +91,17 @@ task_failed tells task e old new lacks t (inl starved) = let is : e ≡ process.
 task_failed tells task e old new lacks t (inr did) = fault_told tells task.asked task.shown old.calls new.calls e t did.1.0
 
 -- the toolchain couldn't be installed
-pub install_failed : (tells : Type 0) (rustup dir : Name) (m : Manner) (r : Result (Unit {0}) ProcessFault) (old new : Scene)
-    → TriesFirst tells [] (task_of [] true dir (trial_of rustup (codes "stable"))) (adding_task false m dir (addition_of rustup (codes "stable") [])) r old new
+pub install_failed : (tells : Type 0) (rustup dir : Name) (r : Result (Unit {0}) ProcessFault) (old new : Scene)
+    → TriesFirst tells [] (task_of [] true dir (trial_of rustup (codes "stable"))) (task_of [] true dir (addition_of rustup (codes "stable") [])) r old new
     → IfErr r (λ e. e ≢ process.Memory → tells → IsInstallReason rustup old.calls new.calls (fault_text e))
-install_failed tells rustup dir m (Ok done) old new h = tt
-install_failed tells rustup dir m (Err e) old new (inl tried) = λ lacks t. absurd (lacks tried.0)
-install_failed tells rustup dir m (Err e) old new (inr both) = λ lacks t. (
+install_failed tells rustup dir (Ok done) old new h = tt
+install_failed tells rustup dir (Err e) old new (inl tried) = λ lacks t. absurd (lacks tried.0)
+install_failed tells rustup dir (Err e) old new (inr both) = λ lacks t. (
   both.1.calls,
   both.0,
   e,
   (both.2, task_failed tells (task_of [] true dir (trial_of rustup (codes "stable"))) both.0 old both.1 both.2 t both.3),
-  (lacks, task_failed tells (adding_task false m dir (addition_of rustup (codes "stable") [])) e both.1 new lacks t both.4),
+  (lacks, task_failed tells (task_of [] true dir (addition_of rustup (codes "stable") [])) e both.1 new lacks t both.4),
   refl,
 )
 

@@ -16,6 +16,7 @@ use Rattle.hack_drive.specs.Answered.{NeedsAnswer}
 use Rattle.hack_drive.specs.Shown.{note_lines}
 use Rattle.hack_drive.specs.Warnings.{TellsNotes, after_notes}
 use Rattle.hack_files.specs.Files.{Contents}
+use Rattle.hack_files.specs.FailedCalls.{NoneFailed}
 use Rattle.hack_files.specs.declared.fs.Files.{Ghosts as Filing}
 use Rattle.hack_load.specs.CargoQuestions.{told_version}
 use Rattle.hack_load.specs.ContextOf.{IsContextFrom, warnings_of}
@@ -336,10 +337,12 @@ list_said Unwritten (Ok short) kept came tells cx stable rustup looks now had ha
 list_said Unwritten (Err e) kept came tells cx stable rustup looks now had has old mid new steps none ends counted same calls err out wrote = inl (
   e,
   ends,
-  none.0,
-  (calls ∙ none.1.0, λ off. not_off off, out),
-  none.2,
-  subst (λ (s : Stream). (s ≡ old.streams.err) ⊎ ((is_hunt true cx.args ≡ false) × SaysPlanNotes cx stable rustup looks.coloring e old.streams.err s)) (sym err) none.3,
+  (
+    none.0,
+    (calls ∙ none.1.0, λ off. not_off off, out),
+    none.2,
+    subst (λ (s : Stream). (s ≡ old.streams.err) ⊎ ((is_hunt true cx.args ≡ false) × SaysPlanNotes cx stable rustup looks.coloring e old.streams.err s)) (sym err) none.3,
+  ),
 )
 
 -- a list that was handed over, or what was printed before it was refused
@@ -484,13 +487,21 @@ no_plan listing calls e cx stable rustup error term a b old new term_is calls_is
 )
 no_plan listing calls e cx stable rustup error term a b old new term_is calls_is start calls_end out kept end apart cause (inr some) =
     let told = some.4 in
-    let said = subst (λ (t : Term). WritesAll (note_lines t.coloring some.2) (stream_of e a.err.now) (stream_of e b.err.now)) term_is told.12 in
-    (
+    let said = subst (λ (t : Term). WritesAll (note_lines t.coloring some.2) (stream_of e a.err.now) (stream_of e b.err.now)) term_is told.12 in (
       cause,
       (calls_end ∙ ap calls told.3 ∙ calls_is, out, kept),
       ap looks_of told.6 ∙ ap looks_of term_is,
-      inr (apart, some.0, some.1, some.2, some.3, subst (λ (s : Stream). WritesAll (note_lines term.coloring some.2) old.streams.err s) (sym end)
-      (subst (λ (s : Stream). WritesAll (note_lines term.coloring some.2) s (stream_of e b.err.now)) start said)),
+      inr (
+        apart,
+        (
+          some.0,
+          some.1,
+          some.2,
+          some.3,
+          subst (λ (s : Stream). WritesAll (note_lines term.coloring some.2) old.streams.err s) (sym end)
+              (subst (λ (s : Stream). WritesAll (note_lines term.coloring some.2) s (stream_of e b.err.now)) start said),
+        ),
+      ),
     )
 
 -- a report is coloured as the call's lines

@@ -122,7 +122,7 @@ fn wrong_answer_text(
 
 fn shown_fault(alloc: Global, fault: AnswerFault<'_>) -> Result<String, AllocError>
     ensures { IfOk result (λ text. string_bytes text
-        ≡ answer_fault_text fault.command.now fault.fault.now) }
+        ≡ answer_fault_text fault.entry.command.now fault.entry.fault.now) }
 {
     format!(in alloc; "{fault}")
 }

@@ -43,4 +43,4 @@ returns-clause-vain g c =
 pub returns-clause-why : goal.returns-clause-why
 returns-clause-why g c =
     subst (λ rustup. IfErr c.install_toolchain.result (λ fault. fault ≢ Memory → g.C.Caller.tells → IsInstallReason rustup (g.C.Caller.calls c.args.caller.now) (g.C.Caller.calls c.install_toolchain.new.caller) (fault_text fault))) c.as_str.ensures.value
-    (install_failed g.C.Caller.tells c.as_str.result.now _ _ c.install_toolchain.result _ _ c.install_toolchain.ensures.does)
+    (install_failed g.C.Caller.tells c.as_str.result.now c.as_str-2.result.now c.install_toolchain.result _ _ c.install_toolchain.ensures.does)

@@ -85,7 +85,7 @@ returns-clause-shown g c =
     let has = append_known (contents lines.out.now) c.gathered-1.given.0.items in
     rw (sym c.as_str-rustup.ensures.value)
     (handed_said c.list_over-refused.result c.list_over-refused.ensures.over (λ l.
-    steps_listed g.C.Caller.tells calls g.E.Sink cx c.args.stable c.as_str-rustup.result.now c.fault-2-1.given.0 last.term.now.error l.course l.notes false false c.set_manner.new.self l.mid _ _ c.args.host.now.term.now
+    steps_listed g.C.Caller.tells calls g.E.Sink cx c.args.stable c.as_str-rustup.result.now c.fault-2-1.given.0 last.term.now.error had has l.course l.notes false false c.set_manner.new.self l.mid _ _ c.args.host.now.term.now
     (scene_on g.C.Caller g.O.Sink g.E.Sink c.args.host.now) (scene_at (calls last.caller.now) g.O.Sink g.E.Sink c.list_over-refused.new.out.out.now last.err.now)
     (l.planned, (l.driven, refl)) (ap (λ s. calls s.caller.now) made ∙ ap calls fresh.caller.1) (ap (λ s. s.term.now) made ∙ fresh.term.1)
     (ap (λ s. stream_of g.E.Sink s.err.now) made ∙ ap (stream_of g.E.Sink) fresh.err.1) (ap (λ s. s.fault.now) made ∙ fresh.fault.1) (ap (λ s. s.refused) made ∙ fresh.refused)

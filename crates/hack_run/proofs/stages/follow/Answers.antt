@@ -126,7 +126,7 @@ pub returns-in_err-edit-clause-shown : goal.returns-in_err-edit-clause-shown
 returns-in_err-edit-clause-shown g c = λ t.
     let e = c.in_err-edit.ensures.error in
     let p = err_from_is_err_and c.from_residual-in_err-edit.result c.from_residual-in_err-edit.ensures.1 in
-    unedited (context_view c.in_ok-cx.cx) (stream_of g.E.Sink c.context.new.err) c.in_ok-cx.ensures.ok c.in_ok-cx.ensures.shown e.0 e.2.0 e.2.1 (p.1 ∙ ap Err (p.2 ∙ e.1))
+    unedited (context_view c.in_ok-cx.cx) (stream_of g.E.Sink c.context.new.err) c.in_ok-cx.ensures.ok c.in_ok-cx.ensures.shown e.0 e.2 e.3 (p.1 ∙ ap Err (p.2 ∙ e.1))
     (ap looks_of (c.in_err-edit.ensures.untold.0 ∙ c.in_ok-cx.ensures.told)) (ap (scene_at (g.C.Caller.calls c.args.host.now.caller.now) g.O.Sink g.E.Sink c.args.host.now.out.now) c.in_err-edit.ensures.untold.1)
 
 pub returns-in_err-stable-clause-shown : goal.returns-in_err-stable-clause-shown
@@ -196,7 +196,7 @@ returns-in_err-cx-clause-lasting g c = inl refl
 pub returns-in_err-cx-clause-edits : goal.returns-in_err-cx-clause-edits
 returns-in_err-cx-clause-edits g c = λ edited.
     let e = c.in_err-cx.ensures.error in
-    let p = err_from_is_err_and c.from_residual-in_err-cx.result c.from_residual-in_err-cx.ensures.1 in
+    let p = err_from_is_err_and c.from_residual.result c.from_residual.ensures.1 in
     off_on (sym (ap has_edited (p.1 ∙ ap Err (p.2 ∙ e.1))) ∙ edited)
 
 pub returns-in_err-edit-clause-edits : goal.returns-in_err-edit-clause-edits
