@@ -10,4 +10,5 @@ pub mod Restoring
 pub mod Telling
 pub mod CallCourses
 pub mod ProgramCalls
+pub mod LaneCalls
 pub mod InternalHalts

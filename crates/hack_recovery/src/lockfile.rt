@@ -151,6 +151,8 @@ pub(crate) fn settle<F: Files, L: Files, C: Caller, O: Sink, E: Sink>(
         → L.tells → KeepsAll (L.bytes_at lockfiles.old) (L.bytes_at lockfiles.new) }
     ensures apart { L.tells → KeepsOthers (string_bytes places.now.lockfile)
         (L.bytes_at lockfiles.old) (L.bytes_at lockfiles.new) }
+    ensures still { (host.new.caller.now ≡ host.old.caller.now)
+        × (host.new.out.now ≡ host.old.out.now) }
 {
     let bytes = match look(host.alloc, files, places.copy.as_str()) {
         Ok(None) => return Ok(true),
@@ -201,6 +203,8 @@ fn give_back<L: Files, C: Caller, O: Sink, E: Sink>(
     ensures failed { OneMayFail (L.failed lockfiles.old) (L.failed lockfiles.new) }
     ensures apart { L.tells → KeepsOthers (string_bytes places.now.lockfile)
         (L.bytes_at lockfiles.old) (L.bytes_at lockfiles.new) }
+    ensures still { (host.new.caller.now ≡ host.old.caller.now)
+        × (host.new.out.now ≡ host.old.out.now) }
 {
     let path = places.lockfile.as_str();
     let is_back = match holds(host.alloc, path, bytes, lockfiles) {
@@ -234,6 +238,8 @@ fn leave<L: Files, C: Caller, O: Sink, E: Sink>(
         (L.failed lockfiles.old) (L.failed lockfiles.new) }
     ensures failed { OneMayFail (L.failed lockfiles.old) (L.failed lockfiles.new) }
     ensures same { L.tells → KeepsAll (L.bytes_at lockfiles.old) (L.bytes_at lockfiles.new) }
+    ensures still { (host.new.caller.now ≡ host.old.caller.now)
+        × (host.new.out.now ≡ host.old.out.now) }
 {
     let path = places.lockfile.as_str();
     match holds(host.alloc, path, bytes, lockfiles) {

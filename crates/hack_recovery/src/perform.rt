@@ -1,20 +1,24 @@
 //! A whole call: what an interrupted one left is restored first, and what this one edits is kept in
 //! a journal meanwhile, under the eyes of a guard.
 
-ghost use Rattle.std.specs.Prelude.{◌≡◌, ◌↔◌, ℕ, IfSome, IsTrue, Ok, false, string_bytes, true};
+ghost use Rattle.std.specs.Prelude.{◌≡◌, ◌↔◌, ℕ, IfSome, IsTrue, Ok, false, not, string_bytes};
+ghost use Rattle.std.specs.Prelude.{true};
 ghost use Rattle.hack_base.specs.Names.{names_of};
 ghost use Rattle.hack_files.specs.Files.{KeepsOthers, MakesOrNot, removes};
 ghost use Rattle.hack_journal.specs.Rows.{spot_of};
+ghost use Rattle.hack_journaled.specs.Journals.{contents_seen};
 ghost use Rattle.hack_recovery.specs.AskedEdits.{is_restore};
 ghost use Rattle.hack_recovery.specs.CallCourses.{Continues, IsCallCourse, IsJournalClosed};
 ghost use Rattle.hack_recovery.specs.CallCourses.{CopiesAndRuns, IsJournaledCall, IsLockedCourse};
 ghost use Rattle.hack_recovery.specs.CallCourses.{PerformsUnjournaled};
 ghost use Rattle.hack_recovery.specs.CallCourses.{RunsOverJournal, Warns};
 ghost use Rattle.hack_recovery.specs.GuardEvents.{GuardsView};
+ghost use Rattle.hack_recovery.specs.LaneCalls.{AsksToRestore, CallsInLanes};
 ghost use Rattle.hack_recovery.specs.LockEvents.{LocksView};
 ghost use Rattle.hack_places.specs.PlacesView.{places_view};
 ghost use Rattle.hack_recovery.specs.Restoring.{TakesBack};
 ghost use Rattle.hack_recovery.specs.Scenes.{scene_by, scene_of};
+ghost use Rattle.hack_run.specs.Lanes.{IsLaneCall};
 ghost use Rattle.hack_run.specs.Readings.{IsEarlyReading};
 ghost use Rattle.hack_files.specs.View.{FilesView, files_view};
 ghost use Rattle.hack_run.specs.Worlds.{IsSameHost, IsStatus, host_view};
@@ -67,6 +71,14 @@ pub fn perform<F: Files, L: Files, U: Unkept, K: Locks, G: Guards, C: Starts, O:
         (K.shown keepers.old.locks) (G.shown keepers.old.guards) host.old)
         (scene_of F.Files L.Files U.Unkept C.Caller O.Sink result.1 result.2 result.3
         (K.shown keepers.new.locks) (G.shown keepers.new.guards) host.new) }
+
+    // Commands were started by the rules of lanes alone, and none that was started is left; or the
+    // call isn't performed, and nothing was started.
+    ensures in_lanes { CallsInLanes F.Files L.Files C.did C.course C.tells C.calls
+        (AsksToRestore host.old.env.now (names_of words.now)) (not host.new.term.now.error)
+        (names_of words.now) host.old.env.now
+        (files_view F.Files files, files_view L.Files lockfiles)
+        host.old.caller.now host.new.caller.now }
 {
     let mut files = files;
     let begun = match begin(host.alloc, words, host.env, &mut files, &keepers.locks) {
@@ -104,6 +116,8 @@ fn report<C: Caller, O: Sink, E: Sink>(fault: CallFault, host: &mut Host<'_, C, 
     ensures view { host_view C.Caller O.Sink host.new
         ≡ record (host_view C.Caller O.Sink host.old) { term = host.new.term.now } }
     ensures error { host.new.term.now.error ≡ true }
+    ensures still { (host.new.caller.now ≡ host.old.caller.now)
+        × (host.new.out.now ≡ host.old.out.now) }
 {
     let _ = host.term.error(fault.text(), host.err);
     host.status()
@@ -131,6 +145,11 @@ fn plainly<F: Files, C: Starts, O: Sink, E: Sink>(
         (host_view C.Caller O.Sink host.old))
         (scene_by (files_view F.Files files.new) lockfiles unkept locks guards
         (host_view C.Caller O.Sink host.new)) }
+    ensures still { is_restore begun.edits ≡ true
+        → (host.new.caller.now ≡ host.old.caller.now) × (host.new.out.now ≡ host.old.out.now) }
+    ensures in_lanes { is_restore begun.edits ≡ false → IsLaneCall C.did C.course C.tells C.calls
+        (not host.new.term.now.error) F.tells (names_of words.now) host.old.env.now
+        (F.bytes_at files.old) host.old.caller.now host.new.caller.now }
 {
     if begun.edits == Edits::Restore {
         if !host.env.by_guard {
@@ -173,6 +192,11 @@ fn guarded<F: Files, L: Files, U: Unkept, K: Locks, G: Guards, C: Starts, O: Sin
         (K.shown keepers.old.locks) (G.shown keepers.old.guards) host.old)
         (scene_of F.Files L.Files U.Unkept C.Caller O.Sink result.1 result.2 result.3
         (K.shown keepers.new.locks) (G.shown keepers.new.guards) host.new) }
+    ensures in_lanes { CallsInLanes F.Files L.Files C.did C.course C.tells C.calls
+        (begun.edits ≡ Edits.Restore) (not host.new.term.now.error)
+        (names_of words.now) host.old.env.now
+        (files_view F.Files files, files_view L.Files lockfiles)
+        host.old.caller.now host.new.caller.now }
 {
     let mut files = files;
     let mut lockfiles = lockfiles;
@@ -204,6 +228,8 @@ fn take_back<F: Files, L: Files, C: Caller, O: Sink, E: Sink>(
         locks guards (host_view C.Caller O.Sink host.old))
         (scene_by (files_view F.Files files.new) (files_view L.Files lockfiles.new) unkept
         locks guards (host_view C.Caller O.Sink host.new)) result }
+    ensures still { (host.new.caller.now ≡ host.old.caller.now)
+        × (host.new.out.now ≡ host.old.out.now) }
 {
     let dir = host.env.current_dir.as_str();
     let journal = restore(host.alloc, dir, &places.place, files, host.term, host.err);
@@ -249,6 +275,11 @@ fn go_on<F: Files, L: Files, U: Unkept, K: Locks, G: Guards, C: Starts, O: Sink,
         (K.shown keepers.old.locks) (G.shown keepers.old.guards) host.old)
         (scene_of F.Files L.Files U.Unkept C.Caller O.Sink result.1 result.2 result.3
         (K.shown keepers.new.locks) (G.shown keepers.new.guards) host.new) }
+    ensures in_lanes { CallsInLanes F.Files L.Files C.did C.course C.tells C.calls
+        (begun.edits ≡ Edits.Restore) (not host.new.term.now.error)
+        (names_of words.now) host.old.env.now
+        (files_view F.Files files, files_view L.Files lockfiles)
+        host.old.caller.now host.new.caller.now }
 {
     let mut files = files;
     match begun.edits {
@@ -294,6 +325,11 @@ fn journaled<F: Files, L: Files, U: Unkept, G: Guards, C: Starts, O: Sink, E: Si
         (G.shown guards.old) host.old)
         (scene_of F.Files L.Files U.Unkept C.Caller O.Sink result.1 result.2 result.3 locks
         (G.shown guards.new) host.new) }
+    ensures in_lanes { CallsInLanes F.Files L.Files C.did C.course C.tells C.calls
+        (begun.edits ≡ Edits.Restore) (not host.new.term.now.error)
+        (names_of words.now) host.old.env.now
+        (files_view F.Files files, files_view L.Files lockfiles)
+        host.old.caller.now host.new.caller.now }
 {
     match guards.start(host.alloc, begun.places.place.folder.as_str()) {
         Ok(watches) => {
@@ -333,6 +369,11 @@ fn copied<F: Files, L: Files, U: Unkept, C: Starts, O: Sink, E: Sink>(
         host.old)
         (scene_of F.Files L.Files U.Unkept C.Caller O.Sink result.1 result.2 result.3 locks guards
         host.new) }
+    ensures in_lanes { CallsInLanes F.Files L.Files C.did C.course C.tells C.calls
+        (begun.edits ≡ Edits.Restore) (not host.new.term.now.error)
+        (names_of words.now) host.old.env.now
+        (files_view F.Files files, files_view L.Files lockfiles)
+        host.old.caller.now host.new.caller.now }
 {
     let mut files = files;
     let mut lockfiles = lockfiles;
@@ -382,6 +423,10 @@ fn over_journal<F: Files, L: Files, U: Unkept, C: Starts, O: Sink, E: Sink>(
         host.old)
         (scene_of F.Files L.Files U.Unkept C.Caller O.Sink result.1 result.2 result.3 locks guards
         host.new) }
+    ensures in_lanes { IsLaneCall C.did C.course C.tells C.calls (not host.new.term.now.error)
+        (F.tells × L.tells) (names_of words.now) host.old.env.now
+        (contents_seen (string_bytes begun.place.journal) (F.bytes_at files) (L.bytes_at lockfiles))
+        host.old.caller.now host.new.caller.now }
 {
     let Begun {
         places,

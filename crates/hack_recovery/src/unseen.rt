@@ -1,13 +1,14 @@
 //! A call of which it isn't known whether an interrupted one left anything, since a look at a file
 //! failed.
 
-ghost use Rattle.std.specs.Prelude.{◌≡◌, ℕ, IfSome, false, true};
+ghost use Rattle.std.specs.Prelude.{◌≡◌, ℕ, IfSome, false, not, true};
 ghost use Rattle.hack_base.specs.Names.{names_of};
 ghost use Rattle.hack_recovery.specs.AskedEdits.{is_change};
 ghost use Rattle.hack_recovery.specs.CallCourses.{PerformsUnjournaled};
 ghost use Rattle.hack_recovery.specs.GuardEvents.{GuardsView};
 ghost use Rattle.hack_recovery.specs.LockEvents.{LocksView};
 ghost use Rattle.hack_recovery.specs.Scenes.{scene_by, scene_with};
+ghost use Rattle.hack_run.specs.Lanes.{IsLaneCall};
 ghost use Rattle.hack_run.specs.Readings.{IsEarlyReading};
 ghost use Rattle.hack_files.specs.View.{FilesView, files_view};
 ghost use Rattle.hack_run.specs.Worlds.{IsSameHost, IsStatus, host_view};
@@ -47,6 +48,11 @@ pub(crate) fn blindly<F: Files, C: Starts, O: Sink, E: Sink>(
         (host_view C.Caller O.Sink host.old)))
         (scene_by (files_view F.Files files.new) lockfiles unkept locks guards
         (host_view C.Caller O.Sink host.new)) }
+    ensures still { is_change asked.edits ≡ true
+        → (host.new.caller.now ≡ host.old.caller.now) × (host.new.out.now ≡ host.old.out.now) }
+    ensures in_lanes { is_change asked.edits ≡ false → IsLaneCall C.did C.course C.tells C.calls
+        (not host.new.term.now.error) F.tells (names_of words.now) host.old.env.now
+        (F.bytes_at files.old) host.old.caller.now host.new.caller.now }
 {
     tell_reason(host.alloc, files, host.term, host.err);
     if asked.edits.is_change() {

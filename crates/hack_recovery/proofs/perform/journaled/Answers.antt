@@ -1,8 +1,10 @@
-use Rattle.std.proofs.Common.{ap, refl}
+use Rattle.std.proofs.Common.{ap, inl, refl}
+use Rattle.std.specs.Prelude.{not}
 use Rattle.hack_files.specs.View.{files_view}
 use Rattle.hack_run.specs.Worlds.{HostView}
 use Rattle.hack_recovery.specs.CallCourses.IsJournaledCall.{performed, unwatched}
 use Rattle.hack_recovery.specs.Scenes.{Scene, scene_by, scene_of}
+use Rattle.hack_recovery.specs.LaneCalls.{unperformed}
 use Rattle.hack_recovery.proofs.perform.journaled.Goals as goal
 
 pub returns-in-Ok-clause-goes : goal.returns-in-Ok-clause-goes
@@ -14,3 +16,9 @@ returns-in-Ok-clause-goes g c = λ locks.
 pub returns-in-Err-clause-goes : goal.returns-in-Err-clause-goes
 returns-in-Err-clause-goes g c = λ locks. unwatched (g.G.Guards.shown c.start.new.self) c.in-Err.ensures.refused
     (ap (λ (host : HostView). scene_by (files_view g.F.Files c.args.files) (files_view g.L.Files c.args.lockfiles) (g.U.Unkept.told c.args.unkept) locks (g.G.Guards.shown c.start.new.self) host) c.report.ensures.view) c.report.ensures.error
+
+pub returns-in-Ok-clause-in_lanes : goal.returns-in-Ok-clause-in_lanes
+returns-in-Ok-clause-in_lanes g c = c.copied-ended.ensures.in_lanes
+
+pub returns-in-Err-clause-in_lanes : goal.returns-in-Err-clause-in_lanes
+returns-in-Err-clause-in_lanes g c = unperformed (inl (ap not c.report.ensures.error)) c.report.ensures.still.0

@@ -4,6 +4,7 @@ use Rattle.hack_journal.specs.Rows.{Spot}
 use Rattle.hack_journaled.proofs.JournalLemmas.{edits_between}
 use Rattle.hack_recovery.specs.CallCourses.{Journals}
 use Rattle.hack_recovery.specs.Scenes.{Scene, scene_of}
+use Rattle.hack_recovery.proofs.LaneLemmas.{closed_quiet, lanes_by_error}
 use Rattle.hack_recovery.proofs.perform.over_journal.Goals as goal
 
 pub returns-clause-goes : goal.returns-clause-goes
@@ -24,3 +25,8 @@ returns-clause-goes g c = λ locks guards.
         told = c.close.ensures.told;
       };
     }
+
+pub returns-clause-in_lanes : goal.returns-clause-in_lanes
+returns-clause-in_lanes g c =
+    lanes_by_error g.C.Starts.did g.C.Caller.course g.C.Caller.tells g.C.Caller.calls _ _ _ _ _ _ c.close.new.term.error
+    (λ quiet. c.run_journaled-files.ensures.lanes (closed_quiet g.F.Files _ _ _ _ _ c.close.ensures.told quiet)) c.run_journaled-files.ensures.in_lanes
