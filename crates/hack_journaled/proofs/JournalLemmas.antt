@@ -1,5 +1,5 @@
 -- What a call over files with a journal did, after the journal is removed.
-use Rattle.std.proofs.Common.{◌≡◌, ◌⊎◌, ◌∙◌, ◌+◌, ◌-◌, ◌^◌, min, inl, inr, ap, arith, refl, subst, sym, ℕ, Bool, true, false, List, [], ◌∷◌, ◌++◌}
+use Rattle.std.proofs.Common.{◌≡◌, ◌⊎◌, ◌∙◌, ◌+◌, ◌-◌, ◌^◌, min, inl, inr, ap, arith, refl, subst, sym, ℕ, Bool, true, false, List, None, [], ◌∷◌, ◌++◌}
 use Rattle.std.proofs.lemmas.List.{length-append}
 use Rattle.std.proofs.lemmas.List.Elements.{Contains-append_left}
 use Rattle.std.specs.Prelude.{All}
@@ -12,7 +12,7 @@ use Rattle.hack_journal.specs.Journal.{Edit}
 use Rattle.hack_journal.specs.SafeFiles.{AreBack, KeepFirst, without}
 use Rattle.hack_journal.specs.Refusing.{AreJust, GrowsWithin, HoldsByKind, IsRefused, IsRefusedOrUnkept}
 use Rattle.hack_journal.specs.RefusingLaws.{grows_more}
-use Rattle.hack_journal.specs.Rows.{KeepsBeside, Noted, is_of_journal}
+use Rattle.hack_journal.specs.Rows.{AreEach, KeepsBeside, Noted, Spot, file_at, is_of_journal}
 use Rattle.hack_journal.specs.declared.unkept.Unkept.{Ghosts as Noting}
 use Rattle.hack_journal.proofs.RowLemmas.{apart_from}
 use Rattle.hack_journal.proofs.SafeLemmas.{without_at, without_same}
@@ -23,12 +23,25 @@ use Rattle.hack_words.specs.declared.cli.env.Env.{Env}
 use Rattle.hack_words.specs.declared.cli.parse.Parsed.{Parsed}
 use Rattle.hack_words.specs.declared.cli.parse.Parsed.TheVariants as parsed
 use Rattle.hack_base.specs.Names.{Name}
-use Rattle.hack_journaled.specs.Journals.{IsAccounted, IsWhyItStays, OnlyEndFailed, contents_seen}
+use Rattle.hack_journaled.specs.Journals.{IsAccounted, IsWhyItStays, contents_seen}
 
 -- a journal that can't be ended stays for this cause
-pub why_it_stays : {F : Type 0} (f : Filing F) (noted : Noted) (old new : F) → CannotEnd f noted old new → IsWhyItStays f noted.journal
-why_it_stays f noted old new (inl look) = inl (look.0, record { before = old; after = new; unseen = look.2.unseen })
-why_it_stays f noted old new (inr removal) = inr (removal.0, record { before = old; after = new; refused = removal.2.refused })
+pub why_it_stays : {F : Type 0} (f : Filing F) (spot : Spot) (first : Contents) (noted : Noted) (old new : F) → spot.journal ≡ noted.journal
+    → (f.tells → f.whole → first spot.journal ≡ None → AreEach spot (f.bytes_at old) 0 noted.entries) → CannotEnd f noted old new → IsWhyItStays f spot first
+why_it_stays f spot first noted old new named each (inl look) = inl (look.0, record {
+  before = old;
+  after = new;
+  unseen = look.2.unseen;
+  kept = elim look.1 [
+    | inl at ↦ inl (at ∙ sym named)
+    | inr one ↦ inr (λ tells whole absent. record { entries = noted.entries; each = each tells whole absent; one = one })
+  ];
+})
+why_it_stays f spot first noted old new named each (inr removal) = inr (removal.0, record {
+  before = old;
+  after = new;
+  refused = subst (λ (j : List ℕ). f.refuses old new (file_at j removal.0 ∷ [])) (sym named) removal.2.refused;
+})
 
 -- one more call failed at the end, or none
 pub one_at_most : {Why : Type 0} (n m : ℕ) → ((m ≡ n) ⊎ ((m ≡ min (n + 1) (2 ^ 64 - 1)) × Why)) → (m ≡ n) ⊎ (m ≡ min (n + 1) (2 ^ 64 - 1))
@@ -36,9 +49,9 @@ one_at_most n m (inl same) = inl same
 one_at_most n m (inr one) = inr one.0
 
 -- where none failed before, that is the only one
-pub only_end : {F : Type 0} (f : Filing F) (j k : List ℕ) (n m : ℕ) → k ≡ j → n ≡ 0 → ((m ≡ n) ⊎ ((m ≡ min (n + 1) (2 ^ 64 - 1)) × IsWhyItStays f j)) → OnlyEndFailed f k m
-only_end f j k n m same none (inl is) = inl (is ∙ none)
-only_end f j k n m same none (inr one) = inr (omega (arith, one.0, none), subst (λ q. IsWhyItStays f q) (sym same) one.1)
+pub only_end : {Why Stays : Type 0} (n m : ℕ) → n ≡ 0 → (Why → Stays) → ((m ≡ n) ⊎ ((m ≡ min (n + 1) (2 ^ 64 - 1)) × Why)) → (m ≡ 0) ⊎ ((m ≡ 1) × Stays)
+only_end n m none turn (inl is) = inl (is ∙ none)
+only_end n m none turn (inr one) = inr (omega (arith, one.0, none), turn one.1)
 
 -- where the journal alone was changed the call sees the same, by the journal's first path too
 pub seen_same : (first j : List ℕ) (k : ℕ) (m n last lockfiles : Contents) → first ≡ j → KeepsBeside j k m n → last ≡ n → apart (without j m) lockfiles ≡ contents_seen first last lockfiles

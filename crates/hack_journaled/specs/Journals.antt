@@ -1,10 +1,12 @@
 -- What a call over files with a journal sees.
-use Rattle.std.specs.Prelude.{◌≡◌, ◌⊎◌, [], ◌+◌, ◌≤◌, ℕ, List}
+use Rattle.std.specs.Prelude.{◌≡◌, ◌⊎◌, [], ◌∷◌, ◌+◌, ◌≤◌, ℕ, List, None}
 use Rattle.hack_base.specs.Counters.{GrowsBy}
 use Rattle.hack_files.specs.Files.{Contents}
+use Rattle.hack_journal.specs.Journal.{Edit}
 use Rattle.hack_journal.specs.LockfilesApart.{apart}
-use Rattle.hack_journal.specs.Refusing.{IsRefused, IsUnseen}
-use Rattle.hack_journal.specs.Rows.{file_at}
+use Rattle.hack_journal.specs.Recovery.{HasEntry}
+use Rattle.hack_journal.specs.Refusing.{IsRefused}
+use Rattle.hack_journal.specs.Rows.{AreEach, Spot, file_at}
 use Rattle.hack_journal.specs.SafeFiles.{without}
 use Rattle.hack_files.specs.View.{FilesView}
 use Rattle.hack_files.specs.declared.fs.Files.{Ghosts as Filing}
@@ -33,14 +35,28 @@ pub record IsAccounted (files_old files_new lockfiles_old lockfiles_new unkept_o
   pub unkept : GrowsBy of_unkept unkept_old unkept_new
   pub most : number ≤ of_files + of_lockfiles + of_unkept
 
--- why a journal stays where each path holds what it held: one was left unseen, or a file of the journal
--- couldn't be removed
-abbrev pub IsWhyItStays : {F : Type 0} → Filing F → List ℕ → Type 0
-IsWhyItStays f journal = ((path : List ℕ) × IsUnseen f path) ⊎ ((i : ℕ) × IsRefused f (file_at journal i))
+-- the journal's files, in order, hold entries of which one is of this path
+pub record IsInJournal (spot : Spot) (held : Contents) (path : List ℕ) : Type 0 where
+  pub entries : List Edit
+  pub each : AreEach spot held 0 entries
+  pub one : HasEntry entries path
+
+-- at its end such files left this path unseen: the journal's own, or that of an entry of the journal, where none was
+-- there at `first`
+pub record IsUnseenAtEnd {F : Type 0} (f : Filing F) (spot : Spot) (first : Contents) (path : List ℕ) : Type 0 where
+  pub before : F
+  pub after : F
+  pub unseen : f.unseen before after (path ∷ [])
+  pub kept : (path ≡ spot.journal) ⊎ (f.tells → f.whole → first spot.journal ≡ None → IsInJournal spot (f.bytes_at before) path)
+
+-- why a journal stays where each path holds what it held: one that the end looks at was left unseen, or a file of the
+-- journal couldn't be removed
+abbrev pub IsWhyItStays : {F : Type 0} → Filing F → Spot → Contents → Type 0
+IsWhyItStays f spot first = ((path : List ℕ) × IsUnseenAtEnd f spot first path) ⊎ ((i : ℕ) × IsRefused f (file_at spot.journal i))
 
 -- no call failed, or just one that left the journal there
-abbrev pub OnlyEndFailed : {F : Type 0} → Filing F → List ℕ → ℕ → Type 0
-OnlyEndFailed f journal failed = (failed ≡ 0) ⊎ ((failed ≡ 1) × IsWhyItStays f journal)
+abbrev pub OnlyEndFailed : {F : Type 0} → Filing F → Spot → Contents → ℕ → Type 0
+OnlyEndFailed f spot first failed = (failed ≡ 0) ⊎ ((failed ≡ 1) × IsWhyItStays f spot first)
 
 -- Between two states of files and of lockfiles a call saw this: in code over any of both no other states are to be had
 -- than those that they were in.

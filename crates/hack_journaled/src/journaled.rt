@@ -5,6 +5,7 @@ ghost use Rattle.std.specs.Prelude.{IfSome, length, string_bytes, true};
 ghost use Rattle.hack_base.specs.Names.{names_of};
 ghost use Rattle.hack_base.specs.Counters.{GrowsBy};
 ghost use Rattle.hack_files.specs.Files.{KeepsAll, KeepsAllBut};
+ghost use Rattle.hack_journal.specs.FailedCalls.{CannotEnd};
 ghost use Rattle.hack_journal.specs.FileCalls.{spot_in};
 ghost use Rattle.hack_journal.specs.LockfilesApart.{KeepsLockfiles, KeepsOtherFiles};
 ghost use Rattle.hack_journal.specs.Refusing.{AreJust, HoldsByKind, IsRefused};
@@ -15,6 +16,7 @@ ghost use Rattle.hack_journaled.specs.Journals.{BetweenBoth, IsAccounted, IsWhyI
 ghost use Rattle.hack_journaled.specs.Journals.{OnlyEndFailed};
 ghost use Rattle.hack_journaled.specs.Journals.{contents_seen, files_seen, world_seen};
 ghost use Rattle.hack_run.specs.CallTrace.{IsCallTrace};
+ghost use Rattle.hack_run.specs.Lanes.{IsLaneCall};
 ghost use Rattle.hack_run.specs.Readings.{IsEarlyReadingOrRefusal};
 ghost use Rattle.hack_run.specs.TemporaryEdits.{BringsBack, RestoresEdits};
 ghost use Rattle.hack_run.specs.Refusals.{AreRefused, ReportsRefusal};
@@ -82,6 +84,17 @@ pub fn run_journaled<F: Files, L: Files, U: Unkept, C: Starts, O: Sink, E: Sink>
         (contents_seen (string_bytes place.journal) (F.bytes_at files) (L.bytes_at lockfiles))
         (contents_seen (string_bytes place.journal) (F.bytes_at result.1) (L.bytes_at result.2)) }
 
+    // Where no error was reported, runs of a plan were performed side by side, by the rules of lanes;
+    // whatever comes of the call, nothing else was started, and none is left.
+    ensures lanes { host.new.term.now.error ≡ false → IsLaneCall C.did C.course C.tells C.calls
+        true (F.tells × L.tells) (names_of words.now) host.old.env.now
+        (contents_seen (string_bytes place.journal) (F.bytes_at files) (L.bytes_at lockfiles))
+        host.old.caller.now host.new.caller.now }
+    ensures in_lanes { IsLaneCall C.did C.course C.tells C.calls false (F.tells × L.tells)
+        (names_of words.now) host.old.env.now
+        (contents_seen (string_bytes place.journal) (F.bytes_at files) (L.bytes_at lockfiles))
+        host.old.caller.now host.new.caller.now }
+
     // The files are restored, lockfiles too: unless the command line asks for edits that stay, each
     // path holds what it held, except for at most as many paths as calls of the files failed. Where
     // no error was reported, at most one call failed, and that left the journal there.
@@ -91,7 +104,7 @@ pub fn run_journaled<F: Files, L: Files, U: Unkept, C: Starts, O: Sink, E: Sink>
         (files_seen (string_bytes place.journal) (F.bytes_at result.1) (L.bytes_at result.2)
         result.3) }
     ensures few { host.new.term.now.error ≡ false
-        → OnlyEndFailed F.Files (string_bytes place.journal) result.3 }
+        → OnlyEndFailed F.Files (spot_of place) (F.bytes_at files) result.3 }
 
     // And these are paths whose writes were refused: a lockfile's by `lockfiles`, any other's by
     // `files`, or it couldn't be kept. A failed read leaves no path changed.
@@ -114,14 +127,14 @@ pub fn run_journaled<F: Files, L: Files, U: Unkept, C: Starts, O: Sink, E: Sink>
         → F.bytes_at files (string_bytes place.journal) ≡ None
         → F.bytes_at result.1 (string_bytes place.journal) ≡ None }
 
-    // So it is where each path holds what it held, unless one is unseen that the end looks at, or a
-    // file of the journal can't be removed.
+    // So it is where each path holds what it held, unless a look of the end fails, at the journal or
+    // at a path that it keeps, or a file of the journal can't be removed.
     ensures ended { F.tells → F.whole → L.tells → KeepsAll
         (contents_seen (string_bytes place.journal) (F.bytes_at files) (L.bytes_at lockfiles))
         (contents_seen (string_bytes place.journal) (F.bytes_at result.1) (L.bytes_at result.2))
         → F.bytes_at files (string_bytes place.journal) ≡ None
         → (F.bytes_at result.1 (string_bytes place.journal) ≡ None)
-        ⊎ IsWhyItStays F.Files (string_bytes place.journal) }
+        ⊎ IsWhyItStays F.Files (spot_of place) (F.bytes_at files) }
 
     // What each single call of the files and of the lockfiles keeps is kept by all of them. Through
     // `lockfiles` no other file is changed, and through `files` no lockfile.
@@ -156,12 +169,11 @@ pub fn run_journaled<F: Files, L: Files, U: Unkept, C: Starts, O: Sink, E: Sink>
 
 /// Removes the journal where all files are restored, and returns the number of failed calls, with
 /// an error of that counted. What the journal still has to keep is left to the next call.
-#[tactic(auto, using(crate::proofs::JournalLemmas::why_it_stays))]
 fn end_journal<F: Files, U: Unkept>(files: &mut Journaled<F, U>, failed: u64) -> u64
     ensures handed { F.stays files.old.files files.new.files }
     ensures place { spot_in files.new ≡ spot_in files.old }
     ensures failed { (result ≡ failed) ⊎ ((result ≡ min (failed + 1) (2 ^ 64 - 1))
-        × IsWhyItStays F.Files files.old.notes.journal) }
+        × CannotEnd F.Files files.old.notes files.old.files files.new.files) }
     ensures counted { (k : ℕ) × GrowsBy k (F.failed files.old.files) (F.failed files.new.files)
         × GrowsBy k failed result }
     ensures unkept { files.new.unkept ≡ files.old.unkept }
@@ -177,7 +189,7 @@ fn end_journal<F: Files, U: Unkept>(files: &mut Journaled<F, U>, failed: u64) ->
         → F.bytes_at files.new.files files.old.notes.journal ≡ None }
     ensures ended { F.tells → AreBack files.old.notes.entries (F.bytes_at files.old.files)
         → (F.bytes_at files.new.files files.old.notes.journal ≡ None)
-        ⊎ IsWhyItStays F.Files files.old.notes.journal }
+        ⊎ CannotEnd F.Files files.old.notes files.old.files files.new.files }
 {
     match files.finish() {
         Ok(_) => failed,

@@ -1,6 +1,8 @@
 //! A call of the program, from what the system tells of it.
 
-ghost use Rattle.std.specs.Prelude.{◌≡◌};
+ghost use Rattle.std.specs.Prelude.{◌≡◌, not};
+ghost use Rattle.hack_files.specs.View.{files_view};
+ghost use Rattle.hack_recovery.specs.LaneCalls.{ProgramCallsInLanes};
 ghost use Rattle.hack_recovery.specs.ProgramCalls.{IsProgramCall, IsSameOutside, colored, scene_outside};
 ghost use Rattle.hack_run.specs.CallTrace.{colored_by};
 ghost use Rattle.hack_run.specs.Shown.{scene_at};
@@ -76,6 +78,12 @@ pub fn call<
         (K.shown keepers.old.locks) (G.shown keepers.old.guards) outside.old)
         (scene_outside F.Files L.Files U.Unkept C.Caller O.Sink result.1 result.2 result.3
         (K.shown keepers.new.locks) (G.shown keepers.new.guards) outside.new) result.0 }
+
+    // Commands were started by the rules of lanes alone, and none that was started is left.
+    ensures in_lanes { ProgramCallsInLanes F.Files L.Files C.did C.course C.tells C.calls S.tells
+        (S.shown system.now) (not outside.new.term.now.error)
+        (files_view F.Files files, files_view L.Files lockfiles)
+        outside.old.caller.now outside.new.caller.now }
 {
     let is_terminal = outside.is_terminal;
     let came = Started::of(alloc, system, is_terminal, &mut outside.term.coloring);

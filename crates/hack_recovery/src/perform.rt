@@ -1,22 +1,26 @@
 //! A whole call: what an interrupted one left is restored first, and what this one edits is kept in
 //! a journal meanwhile, under the eyes of a guard.
 
-ghost use Rattle.std.specs.Prelude.{◌≡◌, ◌↔◌, ℕ, IfSome, IsTrue, Ok, false, string_bytes, true};
+ghost use Rattle.std.specs.Prelude.{◌≡◌, ◌↔◌, ℕ, IfSome, IsTrue, Ok, false, not, string_bytes};
+ghost use Rattle.std.specs.Prelude.{true};
 ghost use Rattle.hack_base.specs.Names.{names_of};
 ghost use Rattle.hack_base.specs.Streams.{WritesSome, stream_of};
 ghost use Rattle.hack_files.specs.Files.{KeepsOthers, MakesOrNot, removes};
 ghost use Rattle.hack_journal.specs.Rows.{spot_of};
+ghost use Rattle.hack_journaled.specs.Journals.{contents_seen};
 ghost use Rattle.hack_recovery.specs.AskedEdits.{is_restore};
 ghost use Rattle.hack_recovery.specs.CallCourses.{Continues, IsCallCourse, IsJournalClosed};
 ghost use Rattle.hack_recovery.specs.CallCourses.{CopiesAndRuns, IsJournaledCall, IsLockedCourse};
 ghost use Rattle.hack_recovery.specs.CallCourses.{PerformsUnjournaled};
 ghost use Rattle.hack_recovery.specs.CallCourses.{RunsOverJournal, Warns};
 ghost use Rattle.hack_recovery.specs.GuardEvents.{GuardsView};
+ghost use Rattle.hack_recovery.specs.LaneCalls.{AsksToRestore, CallsInLanes};
 ghost use Rattle.hack_recovery.specs.LockEvents.{LocksView};
 ghost use Rattle.hack_places.specs.PlacesView.{places_view};
 ghost use Rattle.hack_recovery.specs.Restoring.{TakesBack};
 ghost use Rattle.hack_recovery.specs.Scenes.{scene_by, scene_of};
 ghost use Rattle.hack_recovery.specs.ShownCalls.{SaysWhole, TellsLines};
+ghost use Rattle.hack_run.specs.Lanes.{IsLaneCall};
 ghost use Rattle.hack_run.specs.Readings.{IsEarlyReading};
 ghost use Rattle.hack_run.specs.Shown.{SaysCall, looks_of, scene_on};
 ghost use Rattle.hack_files.specs.View.{FilesView, files_view};
@@ -78,6 +82,13 @@ pub fn perform<F: Files, L: Files, U: Unkept, K: Locks, G: Guards, C: Starts, O:
         C.tells (names_of words.now) host.old.env.now
         (looks_of host.old.term.now) (looks_of host.new.term.now)
         (scene_on C.Caller O.Sink E.Sink host.old) (scene_on C.Caller O.Sink E.Sink host.new) }
+    // Commands were started by the rules of lanes alone, and none that was started is left; or the
+    // call isn't performed, and nothing was started.
+    ensures in_lanes { CallsInLanes F.Files L.Files C.did C.course C.tells C.calls
+        (AsksToRestore host.old.env.now (names_of words.now)) (not host.new.term.now.error)
+        (names_of words.now) host.old.env.now
+        (files_view F.Files files, files_view L.Files lockfiles)
+        host.old.caller.now host.new.caller.now }
 {
     let mut files = files;
     let begun = match begin(host.alloc, words, host.env, &mut files, &keepers.locks) {
@@ -155,6 +166,9 @@ fn plainly<F: Files, C: Starts, O: Sink, E: Sink>(
         → SaysCall F.Files files.old files.new C.tells (names_of words.now) host.old.env.now
         (looks_of host.old.term.now) (looks_of host.new.term.now)
         (scene_on C.Caller O.Sink E.Sink host.old) (scene_on C.Caller O.Sink E.Sink host.new) }
+    ensures in_lanes { is_restore begun.edits ≡ false → IsLaneCall C.did C.course C.tells C.calls
+        (not host.new.term.now.error) F.tells (names_of words.now) host.old.env.now
+        (F.bytes_at files.old) host.old.caller.now host.new.caller.now }
 {
     if begun.edits == Edits::Restore {
         if !host.env.by_guard {
@@ -166,7 +180,9 @@ fn plainly<F: Files, C: Starts, O: Sink, E: Sink>(
 }
 
 /// Says why nothing is restored.
-fn tell_unrestored<E: Sink>(is_left: bool, term: &Term, err: &mut E) {
+fn tell_unrestored<E: Sink>(is_left: bool, term: &Term, err: &mut E)
+    ensures { WritesSome (stream_of E.Sink err.old) (stream_of E.Sink err.new) }
+{
     let text = if is_left {
         "another call is editing the manifests of this workspace, and restores them"
     } else {
@@ -197,11 +213,15 @@ fn guarded<F: Files, L: Files, U: Unkept, K: Locks, G: Guards, C: Starts, O: Sin
         (K.shown keepers.old.locks) (G.shown keepers.old.guards) host.old)
         (scene_of F.Files L.Files U.Unkept C.Caller O.Sink result.1 result.2 result.3
         (K.shown keepers.new.locks) (G.shown keepers.new.guards) host.new) }
-    ensures { WritesSome (stream_of E.Sink err.old) (stream_of E.Sink err.new) }
     ensures shown { C.tells → SaysWhole F.Files ⟦<Apart<Journaled<F, U>, L> as Files>⟧
         C.tells (names_of words.now) host.old.env.now
         (looks_of host.old.term.now) (looks_of host.new.term.now)
         (scene_on C.Caller O.Sink E.Sink host.old) (scene_on C.Caller O.Sink E.Sink host.new) }
+    ensures in_lanes { CallsInLanes F.Files L.Files C.did C.course C.tells C.calls
+        (begun.edits ≡ Edits.Restore) (not host.new.term.now.error)
+        (names_of words.now) host.old.env.now
+        (files_view F.Files files, files_view L.Files lockfiles)
+        host.old.caller.now host.new.caller.now }
 {
     let mut files = files;
     let mut lockfiles = lockfiles;
@@ -286,6 +306,11 @@ fn go_on<F: Files, L: Files, U: Unkept, K: Locks, G: Guards, C: Starts, O: Sink,
         C.tells (names_of words.now) host.old.env.now
         (looks_of host.old.term.now) (looks_of host.new.term.now)
         (scene_on C.Caller O.Sink E.Sink host.old) (scene_on C.Caller O.Sink E.Sink host.new) }
+    ensures in_lanes { CallsInLanes F.Files L.Files C.did C.course C.tells C.calls
+        (begun.edits ≡ Edits.Restore) (not host.new.term.now.error)
+        (names_of words.now) host.old.env.now
+        (files_view F.Files files, files_view L.Files lockfiles)
+        host.old.caller.now host.new.caller.now }
 {
     let mut files = files;
     match begun.edits {
@@ -335,6 +360,11 @@ fn journaled<F: Files, L: Files, U: Unkept, G: Guards, C: Starts, O: Sink, E: Si
         C.tells (names_of words.now) host.old.env.now
         (looks_of host.old.term.now) (looks_of host.new.term.now)
         (scene_on C.Caller O.Sink E.Sink host.old) (scene_on C.Caller O.Sink E.Sink host.new) }
+    ensures in_lanes { CallsInLanes F.Files L.Files C.did C.course C.tells C.calls
+        (begun.edits ≡ Edits.Restore) (not host.new.term.now.error)
+        (names_of words.now) host.old.env.now
+        (files_view F.Files files, files_view L.Files lockfiles)
+        host.old.caller.now host.new.caller.now }
 {
     match guards.start(host.alloc, begun.places.place.folder.as_str()) {
         Ok(watches) => {
@@ -378,6 +408,11 @@ fn copied<F: Files, L: Files, U: Unkept, C: Starts, O: Sink, E: Sink>(
         C.tells (names_of words.now) host.old.env.now
         (looks_of host.old.term.now) (looks_of host.new.term.now)
         (scene_on C.Caller O.Sink E.Sink host.old) (scene_on C.Caller O.Sink E.Sink host.new) }
+    ensures in_lanes { CallsInLanes F.Files L.Files C.did C.course C.tells C.calls
+        (begun.edits ≡ Edits.Restore) (not host.new.term.now.error)
+        (names_of words.now) host.old.env.now
+        (files_view F.Files files, files_view L.Files lockfiles)
+        host.old.caller.now host.new.caller.now }
 {
     let mut files = files;
     let mut lockfiles = lockfiles;
@@ -395,7 +430,9 @@ fn copied<F: Files, L: Files, U: Unkept, C: Starts, O: Sink, E: Sink>(
 }
 
 /// Says, where more is asked for, that nobody restores the manifests where this call ends early.
-fn tell_watch<E: Sink>(watches: bool, verbose: bool, term: &Term, err: &mut E) {
+fn tell_watch<E: Sink>(watches: bool, verbose: bool, term: &Term, err: &mut E)
+    ensures { WritesSome (stream_of E.Sink err.old) (stream_of E.Sink err.new) }
+{
     if watches || !verbose {
         return;
     }
@@ -431,7 +468,10 @@ fn over_journal<F: Files, L: Files, U: Unkept, C: Starts, O: Sink, E: Sink>(
         C.tells (names_of words.now) host.old.env.now
         (looks_of host.old.term.now) (looks_of host.new.term.now)
         (scene_on C.Caller O.Sink E.Sink host.old) (scene_on C.Caller O.Sink E.Sink host.new) }
-    ensures { WritesSome (stream_of E.Sink err.old) (stream_of E.Sink err.new) }
+    ensures in_lanes { IsLaneCall C.did C.course C.tells C.calls (not host.new.term.now.error)
+        (F.tells × L.tells) (names_of words.now) host.old.env.now
+        (contents_seen (string_bytes begun.place.journal) (F.bytes_at files) (L.bytes_at lockfiles))
+        host.old.caller.now host.new.caller.now }
 {
     let Begun {
         places,

@@ -1,7 +1,7 @@
 //! A call of which it isn't known whether an interrupted one left anything, since a look at a file
 //! failed.
 
-ghost use Rattle.std.specs.Prelude.{◌≡◌, ℕ, IfSome, false, true};
+ghost use Rattle.std.specs.Prelude.{◌≡◌, ℕ, IfSome, false, not, true};
 ghost use Rattle.hack_base.specs.Names.{names_of};
 ghost use Rattle.hack_base.specs.Streams.{WritesSome, stream_of};
 ghost use Rattle.hack_recovery.specs.AskedEdits.{is_change};
@@ -10,6 +10,7 @@ ghost use Rattle.hack_recovery.specs.GuardEvents.{GuardsView};
 ghost use Rattle.hack_recovery.specs.LockEvents.{LocksView};
 ghost use Rattle.hack_recovery.specs.Scenes.{scene_by, scene_with};
 ghost use Rattle.hack_recovery.specs.ShownCalls.{TellsLines};
+ghost use Rattle.hack_run.specs.Lanes.{IsLaneCall};
 ghost use Rattle.hack_run.specs.Readings.{IsEarlyReading};
 ghost use Rattle.hack_run.specs.Shown.{SaysCall, SaysLines, looks_of, scene_on};
 ghost use Rattle.hack_files.specs.View.{FilesView, files_view};
@@ -61,6 +62,9 @@ pub(crate) fn blindly<F: Files, C: Starts, O: Sink, E: Sink>(
         × SaysCall F.Files files.old files.new C.tells (names_of words.now) host.old.env.now
         (looks_of host.old.term.now) (looks_of host.new.term.now)
         first (scene_on C.Caller O.Sink E.Sink host.new) }
+    ensures in_lanes { is_change asked.edits ≡ false → IsLaneCall C.did C.course C.tells C.calls
+        (not host.new.term.now.error) F.tells (names_of words.now) host.old.env.now
+        (F.bytes_at files.old) host.old.caller.now host.new.caller.now }
 {
     tell_reason(host.alloc, files, host.term, host.err);
     if asked.edits.is_change() {

@@ -1,17 +1,19 @@
-use Rattle.std.proofs.Common.{◌≡◌, ◌∙◌, ◌+◌, ℕ, List, ap, length, [], true, false, arith, refl, string_bytes, subst, sym}
+use Rattle.std.proofs.Common.{◌≡◌, ◌∙◌, ◌+◌, ℕ, List, None, ap, length, [], true, false, arith, inl, inr, refl, string_bytes, subst, sym}
 use Rattle.hack_base.specs.Names.{names_of}
 use Rattle.hack_files.specs.Files.{Contents, KeepsAll}
+use Rattle.hack_files.specs.declared.fs.Files.{Ghosts as Filing}
+use Rattle.hack_journal.specs.FailedCalls.{CannotEnd}
 use Rattle.hack_journal.specs.FileCalls.{spot_in}
 use Rattle.hack_journal.proofs.RowLemmas.{apart_from}
 use Rattle.hack_journal.proofs.SafeLemmas.{without_same}
 use Rattle.hack_journal.specs.LockfilesApart.{KeepsLockfiles, apart}
-use Rattle.hack_journal.specs.Rows.{Spot}
+use Rattle.hack_journal.specs.Rows.{AreEach, Noted, Spot, spot_of}
 use Rattle.hack_journal.specs.SafeFiles.{without}
 use Rattle.hack_journal.specs.SafeLaws.{stays_join}
-use Rattle.hack_journaled.specs.Journals.{contents_seen, files_seen, world_seen}
+use Rattle.hack_journaled.specs.Journals.{IsWhyItStays, contents_seen, files_seen, world_seen}
 use Rattle.hack_files.specs.View.{FilesView}
 use Rattle.hack_run.specs.Worlds.{host_view}
-use Rattle.hack_journaled.proofs.JournalLemmas.{accounted, edits_between, entries_back, leaves_end, leaves_nothing, none_before, one_at_most, only_end, refused_once, seen_same, spoilt_end}
+use Rattle.hack_journaled.proofs.JournalLemmas.{accounted, edits_between, entries_back, leaves_end, leaves_nothing, none_before, one_at_most, only_end, refused_once, seen_same, spoilt_end, why_it_stays}
 use Rattle.hack_run.proofs.TraceLemmas.{call_moved, keeps_same, unended}
 use Rattle.hack_journaled.proofs.journaled.run_journaled.Goals as goal
 
@@ -80,12 +82,24 @@ returns-clause-back g c = λ back files lockfiles.
     (seen_same (string_bytes c.args.place.journal) mid.files.notes.journal (length mid.files.notes.entries + 1) (bytes mid.files.files) (bytes c.end_journal-failed.new.files.files) (bytes c.into_inner-below.result.0) (g.L.Files.bytes_at mid.lockfiles) same (c.end_journal-failed.ensures.others files) (rw c.into_inner-below.ensures.files refl))
     (one_at_most _ _ c.end_journal-failed.ensures.failed) left
 
+-- the cause by which the end leaves the journal there
+stays-since : {F : Type 0} (f : Filing F) (place spot at : Spot) (first : Contents) (noted : Noted) (old new : F) → place ≡ spot → spot ≡ at → at.journal ≡ noted.journal
+    → (f.tells → f.whole → first place.journal ≡ None → AreEach spot (f.bytes_at old) 0 noted.entries) → CannotEnd f noted old new → IsWhyItStays f place first
+stays-since f place spot at first noted old new begun same named each cannot =
+    why_it_stays f place first noted old new (ap (λ (s : Spot). s.journal) (begun ∙ same) ∙ named)
+    (λ tells whole absent. subst (λ (s : Spot). AreEach s (f.bytes_at old) 0 noted.entries) (sym begun) (each tells whole absent)) cannot
+
 pub returns-clause-few : goal.returns-clause-few
 returns-clause-few g c = λ quiet.
-    let named : c.new.result.notes.journal ≡ string_bytes c.args.place.journal = ap (λ (s : Spot). s.journal) c.new.ensures.place in
+    let first = c.new.result in
+    let mid = c.run-status.new.files.files in
+    let bytes = g.F.Files.bytes_at in
     let ran = rw c.new-files.ensures.files at c.run-status.ensures.stays in
-    only_end g.F.Files _ (string_bytes c.args.place.journal) c.failures-known.result c.end_journal-failed.result (sym named ∙ ap (λ (s : Spot). s.journal) ran.0.0)
-    (omega (arith, c.failures-known.ensures, c.new-files.ensures.failures, (c.run-status.ensures.clean quiet).0 (omega (arith, c.new-files.ensures.failures)))) c.end_journal-failed.ensures.failed
+    only_end c.failures-known.result c.end_journal-failed.result
+    (omega (arith, c.failures-known.ensures, c.new-files.ensures.failures, (c.run-status.ensures.clean quiet).0 (omega (arith, c.new-files.ensures.failures))))
+    (stays-since g.F.Files (spot_of c.args.place) (spot_in first) (spot_in mid) (bytes c.args.files) mid.notes mid.files c.end_journal-failed.new.files.files (sym c.new.ensures.place) ran.0.0 refl
+    (λ tells whole absent. (ran.0.1 tells whole (bytes c.args.files) (c.new.ensures.begun absent)).1.each))
+    c.end_journal-failed.ensures.failed
 
 pub returns-clause-gone : goal.returns-clause-gone
 returns-clause-gone g c = λ back tells whole lockfiles none absent.
@@ -117,7 +131,11 @@ returns-clause-ended g c = λ tells whole lockfiles same absent.
     (sym (seen_same j mid.files.notes.journal (length mid.files.notes.entries + 1) (bytes mid.files.files) (bytes c.end_journal-failed.new.files.files) (bytes c.into_inner-below.result.0) (g.L.Files.bytes_at mid.lockfiles) (sym named) (c.end_journal-failed.ensures.others tells) (rw c.into_inner-below.ensures.files refl))) same in
     let is_back = entries_back j (bytes c.args.files) (bytes mid.files.files) (g.L.Files.bytes_at c.args.lockfiles) (g.L.Files.bytes_at mid.lockfiles) mid.files.notes.entries kept.more
     (rw begun at kept.keeps) (rw named at all) (rw (c.new.ensures.files, begun, named) at (ran.2 tells)) in
-    rw (c.into_inner-below.ensures.files, sym named) (c.end_journal-failed.ensures.ended tells is_back)
+    elim (c.end_journal-failed.ensures.ended tells is_back) [
+      | inl gone ↦ inl (rw (c.into_inner-below.ensures.files, sym named) gone)
+      | inr cannot ↦ inr (stays-since g.F.Files (spot_of c.args.place) (spot_in first) (spot_in mid.files) (bytes c.args.files) mid.files.notes mid.files.files c.end_journal-failed.new.files.files (sym c.new.ensures.place) ran.0.0 refl
+          (λ tells whole absent. (ran.0.1 tells whole (bytes c.args.files) (c.new.ensures.begun absent)).1.each) cannot)
+    ]
 
 pub returns-clause-stays : goal.returns-clause-stays
 returns-clause-stays g c =
@@ -189,3 +207,13 @@ returns-clause-shown g c = λ t.
       last = λ tells. seen_same (string_bytes c.args.place.journal) mid.files.notes.journal (length mid.files.notes.entries + 1) (bytes mid.files.files) (bytes c.end_journal-failed.new.files.files) (bytes c.into_inner-below.result.0) (g.L.Files.bytes_at mid.lockfiles) same (c.end_journal-failed.ensures.others tells.0) (rw c.into_inner-below.ensures.files refl);
       said = c.run-status.ensures.shown t;
     }
+
+pub returns-clause-lanes : goal.returns-clause-lanes
+returns-clause-lanes g c = λ quiet.
+    let named : c.new.result.notes.journal ≡ string_bytes c.args.place.journal = ap (λ (s : Spot). s.journal) c.new.ensures.place in
+    rw (c.new-files.ensures.files, c.new-files.ensures.lockfiles, named, c.new.ensures.files) at (c.run-status.ensures.lanes quiet)
+
+pub returns-clause-in_lanes : goal.returns-clause-in_lanes
+returns-clause-in_lanes g c =
+    let named : c.new.result.notes.journal ≡ string_bytes c.args.place.journal = ap (λ (s : Spot). s.journal) c.new.ensures.place in
+    rw (c.new-files.ensures.files, c.new-files.ensures.lockfiles, named, c.new.ensures.files) at c.run-status.ensures.in_lanes

@@ -1,4 +1,5 @@
 use Rattle.std.proofs.Common.{◌∙◌, ap, inl, refl, subst, ℕ, List}
+use Rattle.std.specs.Prelude.{not}
 use Rattle.hack_base.specs.Names.{Name, names_of, optional_text}
 use Rattle.hack_base.proofs.StreamLemmas.{wrote}
 use Rattle.hack_base.specs.Streams.{WritesText, stream_of}
@@ -15,6 +16,8 @@ use Rattle.hack_recovery.specs.ProgramCalls.IsProgramCall.{performed, unread}
 use Rattle.hack_run.specs.Shown.{looks_of, scene_at, scene_on as saying}
 use Rattle.hack_recovery.proofs.CallLemmas.{course-known}
 use Rattle.hack_recovery.proofs.SaidLemmas.{same_said, whole-known}
+use Rattle.hack_recovery.proofs.LaneLemmas.{lanes_known}
+use Rattle.hack_recovery.specs.LaneCalls.{read, unread as not_read}
 use Rattle.hack_recovery.proofs.call.call.Goals as goal
 
 pub returns-in-Err-clause-goes : goal.returns-in-Err-clause-goes
@@ -53,3 +56,16 @@ returns-clause-goes g c =
     (saying g.C.Caller g.O.Sink g.E.Sink host) (scene_at (calls outside.caller.now) g.O.Sink g.E.Sink outside.out.now outside.err.now) _
     (ap names_of c.deref-2.ensures.value) c.new-host.ensures.env (ap looks_of (c.new-host.ensures.term.1 ∙ c.color.ensures))
     (same_said g.C.Caller g.O.Sink g.E.Sink host outside.caller.now outside.out.now outside.err.now c.new-host.ensures.caller.1 c.new-host.ensures.out.1 c.new-host.ensures.err.1) (c.perform-ended.ensures.shown t))
+
+
+pub returns-in-Err-clause-in_lanes : goal.returns-in-Err-clause-in_lanes
+returns-in-Err-clause-in_lanes g c = not_read (ap (λ (t : Term). not t.error) c.error.ensures.noted) refl
+
+pub returns-in-Err-coloring_asked-clause-in_lanes : goal.returns-in-Err-coloring_asked-clause-in_lanes
+returns-in-Err-coloring_asked-clause-in_lanes g c = not_read (ap (λ (t : Term). not t.error) c.error-in-Err-coloring_asked.ensures.noted) refl
+
+pub returns-clause-in_lanes : goal.returns-clause-in_lanes
+returns-clause-in_lanes g c =
+    read c.in-Ok.started c.in-Ok.ensures.started
+    (lanes_known g.C.Starts.did g.C.Caller.course g.C.Caller.tells g.C.Caller.calls g.F.Files g.L.Files (names_of c.deref-2.result.now) (names_of c.in-Ok.started.words.items) c.new-host.result.env.now c.in-Ok.started.env _ _ c.new-host.result.caller.now c.args.outside.now.caller.now _
+    (ap names_of c.deref-2.ensures.value) c.new-host.ensures.env c.new-host.ensures.caller.1 c.perform-ended.ensures.in_lanes)

@@ -1,4 +1,5 @@
-use Rattle.std.proofs.Common.{refl}
+use Rattle.std.proofs.Common.{inr, refl}
+use Rattle.hack_files.specs.View.{files_view}
 use Rattle.hack_recovery.specs.CallCourses.Continues.{journaled, permanent, unedited}
 use Rattle.hack_journaled.proofs.JournalLemmas.{edits_between}
 use Rattle.hack_recovery.proofs.CallLemmas.{lasting_by, spoilt_by}
@@ -6,6 +7,8 @@ use Rattle.hack_base.proofs.StreamLemmas.{wrote_none}
 use Rattle.hack_run.specs.Shown.{looks_of, scene_on}
 use Rattle.hack_recovery.proofs.SaidLemmas.{behind_run}
 use Rattle.hack_recovery.specs.ShownCalls.SaysWhole.{unperformed}
+use Rattle.hack_recovery.proofs.LaneLemmas.{lanes_by_error, ready_now}
+use Rattle.hack_recovery.specs.LaneCalls.{plain, unperformed}
 use Rattle.hack_recovery.proofs.perform.go_on.Goals as goal
 
 pub returns-in-None-clause-goes : goal.returns-in-None-clause-goes
@@ -32,3 +35,19 @@ returns-in-Permanent-clause-shown g c = λ t.
 
 pub returns-in-Restore-clause-shown : goal.returns-in-Restore-clause-shown
 returns-in-Restore-clause-shown g c = λ t. unperformed ((refl, λ e. refl, wrote_none _ _ refl), refl)
+
+pub returns-in-None-clause-in_lanes : goal.returns-in-None-clause-in_lanes
+returns-in-None-clause-in_lanes g c =
+    plain (files_view g.F.Files c.args.files, files_view g.L.Files c.args.lockfiles) (ready_now g.F.Files g.L.Files _ _)
+    (lanes_by_error g.C.Starts.did g.C.Caller.course g.C.Caller.tells g.C.Caller.calls _ _ _ _ _ _ c.run-status.new.host.term.now.error c.run-status.ensures.lanes c.run-status.ensures.in_lanes)
+
+pub returns-in-Permanent-clause-in_lanes : goal.returns-in-Permanent-clause-in_lanes
+returns-in-Permanent-clause-in_lanes g c =
+    plain (files_view g.F.Files c.args.files, files_view g.L.Files c.args.lockfiles) (ready_now g.F.Files g.L.Files _ _)
+    (lanes_by_error g.C.Starts.did g.C.Caller.course g.C.Caller.tells g.C.Caller.calls _ _ _ _ _ _ c.run-status-in-Permanent.new.host.term.now.error c.run-status-in-Permanent.ensures.lanes c.run-status-in-Permanent.ensures.in_lanes)
+
+pub returns-in-Temporary-clause-in_lanes : goal.returns-in-Temporary-clause-in_lanes
+returns-in-Temporary-clause-in_lanes g c = c.journaled.ensures.in_lanes
+
+pub returns-in-Restore-clause-in_lanes : goal.returns-in-Restore-clause-in_lanes
+returns-in-Restore-clause-in_lanes g c = unperformed (inr c.in-Restore.is) refl

@@ -1,4 +1,5 @@
-use Rattle.std.proofs.Common.{ap, refl}
+use Rattle.std.proofs.Common.{ap, inl, refl}
+use Rattle.std.specs.Prelude.{not}
 use Rattle.hack_files.specs.View.{files_view}
 use Rattle.hack_run.specs.Worlds.{HostView}
 use Rattle.hack_recovery.specs.CallCourses.IsJournaledCall.{performed, unwatched}
@@ -6,6 +7,7 @@ use Rattle.hack_recovery.specs.Scenes.{Scene, scene_by, scene_of}
 use Rattle.hack_run.specs.Shown.{looks_of, scene_at, scene_on}
 use Rattle.hack_recovery.proofs.SaidLemmas.{behind_lines, only_lines}
 use Rattle.hack_recovery.specs.ShownCalls.SaysWhole.{unperformed}
+use Rattle.hack_recovery.specs.LaneCalls.{unperformed}
 use Rattle.hack_recovery.proofs.perform.journaled.Goals as goal
 
 pub returns-in-Ok-clause-goes : goal.returns-in-Ok-clause-goes
@@ -25,3 +27,9 @@ returns-in-Ok-clause-shown g c = λ t.
 
 pub returns-in-Err-clause-shown : goal.returns-in-Err-clause-shown
 returns-in-Err-clause-shown g c = λ t. unperformed (only_lines g.C.Caller g.O.Sink g.E.Sink c.args.host.now c.report.new.host c.report.ensures.lines c.report.ensures.still)
+
+pub returns-in-Ok-clause-in_lanes : goal.returns-in-Ok-clause-in_lanes
+returns-in-Ok-clause-in_lanes g c = c.copied-ended.ensures.in_lanes
+
+pub returns-in-Err-clause-in_lanes : goal.returns-in-Err-clause-in_lanes
+returns-in-Err-clause-in_lanes g c = unperformed (inl (ap not c.report.ensures.error)) c.report.ensures.still.0
