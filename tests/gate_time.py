@@ -92,13 +92,13 @@ def table(log):
     shares = ", ".join(f"{name} {seconds / 60:.0f}" for name, seconds in parts.items())
     lines = [
         f"`{counts[0]}` in **{int(used) / 60:.0f} processor minutes** ({shares}) and {int(clock) / 60:.0f} of the clock,",
-        f"on {len(os.sched_getaffinity(0))} processors. Seconds by crate: its proof alone, and with its tests and edits.",
+        f"on {len(os.sched_getaffinity(0))} processors. Seconds by crate, from a minute up: its proof alone, and with its tests and edits.",
         "",
         "| crate | s | crate | s | crate | s | crate | s |",
         "|---|---|---|---|---|---|---|---|",
     ]
     dearest = sorted(sums.items(), key=lambda it: -sum(it[1].values()))
-    cells = [f"`{name}` | {row['proof']}/{sum(row.values())}" for name, row in dearest]
+    cells = [f"`{name}` | {row['proof']}/{sum(row.values())}" for name, row in dearest if sum(row.values()) >= 60]
     quarter = -(-len(cells) // 4)
     for row in range(quarter):
         lines.append(f"| {' | '.join(cells[row::quarter])} |")

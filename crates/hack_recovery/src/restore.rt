@@ -182,7 +182,9 @@ fn tell_reason_of<F: Files, E: Sink>(
     files: &F,
     term: &Term,
     err: &mut E,
-) {
+)
+    ensures { WritesSome (stream_of E.Sink err.old) (stream_of E.Sink err.new) }
+{
     match fault {
         RecoverFault::Files(fault) if is_of_device(fault) => tell_reason(alloc, files, term, err),
         _ => {}
@@ -198,7 +200,6 @@ fn is_refusal(fault: &RecoverFault) -> bool {
 
 fn is_memory(fault: &RecoverFault) -> bool
     ensures { IsTrue result ↔ (fault.now ≡ RecoverFault.Memory) }
-    ensures lines { WritesSome (stream_of E.Sink err.old) (stream_of E.Sink err.new) }
 {
     match fault {
         RecoverFault::Memory => true,
