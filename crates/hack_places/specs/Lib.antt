@@ -5,5 +5,4 @@ pub mod RepositoryView
 pub mod JournalPlaces
 pub mod CallPlaces
 pub mod PlacesView
-pub mod LookedPaths
 pub mod Internal

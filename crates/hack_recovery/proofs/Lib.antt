@@ -4,7 +4,5 @@ pub mod BackLemmas
 pub mod CountLemmas
 pub mod FailedLemmas
 mod CallLemmas
-mod LaneLemmas
 mod StrangerLemmas
 mod TellingLemmas
-pub mod SaidLemmas
