@@ -3,10 +3,10 @@ use Rattle.std.specs.Prelude.{ℕ, ◌≡◌, ◌≢◌, ◌<◌, ◌+◌, ◌-�
 use Rattle.std.proofs.Common.{refl, sym, ap, ◌∙◌, subst, inl, inr, arith}
 use Rattle.std.proofs.lemmas.List.{append-nil, map-append}
 use Rattle.std.proofs.lemmas.List.Quantifiers.{all_pairs_push}
-use Rattle.std.proofs.lemmas.List.Elements.{All-cons, All-nil, Contains-append_right}
+use Rattle.std.proofs.lemmas.List.Elements.{All-cons, All-contains, All-nil, Contains-append_right}
 use Rattle.hack_base.proofs.Members.{Contains-head}
 use Rattle.hack_closures.specs.View.{search_of}
-use Rattle.hack_conflicts.specs.Runs.{Finding, IsCourse, IsFinding, Run as Asked}
+use Rattle.hack_conflicts.specs.Runs.{AreWhole, Finding, IsCourse, IsFinding, Run as Asked}
 use Rattle.hack_conflicts.specs.declared.tried.Outcome.{Outcome}
 use Rattle.hack_conflicts.specs.declared.tried.Outcome.TheVariants.{Broken, Failed, Passed}
 use Rattle.hack_plan.proofs.GrowingPlans.{runs-grown}
@@ -16,8 +16,9 @@ use Rattle.hack_plan.specs.View.{PlanView}
 use Rattle.hack_plan.specs.declared.places.PlacesFault.{PlacesFault}
 use Rattle.hack_plan.specs.declared.places.PlacesFault.TheVariants as places
 use Rattle.hack_session.specs.declared.step.Handed.{Handed}
-use Rattle.hack_culprits.specs.Built.{Answers, AreDistinct, AreHanded, AreMade, Explains, IsAsked, IsBuilt, IsCutShort, IsRunFor, Made, RanHunt, Tells, run_for, fault_of, step_at, steps_from}
-use Rattle.hack_culprits.specs.Internal.{Builds, BuildsOne, IsReady, KeepsWhy, has_broken, is_broken, kept_of, made_in, outcome_of, told_of}
+use Rattle.hack_culprits.specs.Built.{Answers, AreBrokenLast, AreDistinct, AreHanded, AreMade, AreUnbroken, Explains, IsAsked, IsBuilt, IsCutShort, IsRunFor, Made, RanHunt, Tells, run_for, fault_of, step_at, steps_from}
+use Rattle.hack_culprits.specs.Internal.{Builds, BuildsOne, IsReady, KeepsWhy, MayBreakLast, has_broken, is_broken, kept_of, made_in, outcome_of, told_of}
+use Rattle.hack_culprits.specs.JoinedBuilds.{none_broken, unbroken_added}
 use Rattle.hack_culprits.specs.declared.aim.Aim.{Aim}
 use Rattle.hack_culprits.specs.declared.built.Built.{Built}
 use Rattle.hack_culprits.specs.declared.fault.CulpritsFault.{CulpritsFault}
@@ -42,7 +43,7 @@ still_ready aim run plan ready = record {
 
 -- nothing was built, since memory was refused or the plan is full
 pub nothing_built : {R : Type 0} (ran : PlanView → List Handed → R → R → Type 0) (ended : R → Bool) (aim : Aim) (set : List Bool) (why : CulpritsFault) (built : List Made) (plan : PlanView) (a : R)
-    → Explains why built plan → IsReady aim plan → BuildsOne ran ended aim set (Err why) built built plan plan a a
+    → (AreUnbroken built → Explains why built plan) → IsReady aim plan → BuildsOne ran ended aim set (Err why) built built plan plan a a
 nothing_built ran ended aim set why built plan a explained ready = record {
   ready = ready;
   built = record {
@@ -68,12 +69,12 @@ refused_build ran ended aim set (Err why) before after old new a refused same st
     subst (λ (w : CulpritsFault). BuildsOne ran ended aim set (Err w) before after old new a a) (sym refused)
     (subst (λ (l : List Made). BuildsOne ran ended aim set (Err fault.Memory) before l old new a a) (sym same)
     (subst (λ (p : PlanView). BuildsOne ran ended aim set (Err fault.Memory) before before old p a a) (sym stays)
-    (nothing_built ran ended aim set fault.Memory before old a tt ready)))
+    (nothing_built ran ended aim set fault.Memory before old a (λ unbroken. unbroken) ready)))
 
-explained-growth : (why : PlacesFault) (made : List Made) (plan : PlanView) → RefusesRun plan.entries why → Explains (fault_of why) made plan
-explained-growth places.Memory made plan refused = tt
-explained-growth places.TooManyRuns made plan (inl full) = let is = full.0 in omega (arith, is)
-explained-growth places.TooManyRuns made plan (inr other) = let e = other.1 in absurd cc
+explained-growth : (why : PlacesFault) (made : List Made) (plan : PlanView) → RefusesRun plan.entries why → AreUnbroken made → Explains (fault_of why) made plan
+explained-growth places.Memory made plan refused unbroken = unbroken
+explained-growth places.TooManyRuns made plan (inl full) unbroken = (unbroken, let is = full.0 in omega (arith, is))
+explained-growth places.TooManyRuns made plan (inr other) unbroken = let e = other.1 in absurd cc
 
 -- a plan that can't grow
 pub refused_growth : {R : Type 0} (ran : PlanView → List Handed → R → R → Type 0) (ended : R → Bool) (aim : Aim) (set : List Bool) (came : Result Outcome CulpritsFault) (given : PlacesFault) (before after : List Made) (old new : PlanView) (a : R)
@@ -93,10 +94,10 @@ told-outcome Passed = refl
 told-outcome Failed = refl
 told-outcome Broken = refl
 
-told-kept : (o : Outcome) (run : PackageRun) (made : List Made) (plan : PlanView) → Contains made (record { run = run; outcome = o }) → (first : Option CulpritsFault) → KeepsWhy (is_broken (outcome_of (told_of o))) made plan first (kept_of (told_of o) first)
-told-kept Passed run made plan there first = refl
-told-kept Failed run made plan there first = refl
-told-kept Broken run made plan there first = (record { run = run; outcome = Broken }, there, refl)
+told-kept : (o : Outcome) (built made : List Made) (plan : PlanView) → (o ≡ Broken → AreUnbroken built → AreBrokenLast made) → (first : Option CulpritsFault) → KeepsWhy (AreUnbroken built) (is_broken (outcome_of (told_of o))) made plan first (kept_of (told_of o) first)
+told-kept Passed built made plan last first = refl
+told-kept Failed built made plan last first = refl
+told-kept Broken built made plan last first = last refl
 
 -- what stands for the set was built before
 pub built_before : {R : Type 0} (ran : PlanView → List Handed → R → R → Type 0) (ended : R → Bool) (aim : Aim) (set : List Bool) (run : PackageRun) (o : Outcome) (built : List Made) (plan : PlanView) (a : R)
@@ -118,7 +119,7 @@ built_before ran ended aim set run o built plan a fits there ready =
         };
         handed = refl;
       };
-      kept = told-kept o run built plan there;
+      kept = told-kept o built built plan (λ is unbroken. absurd (All-contains (λ (m : Made). m.outcome ≢ Broken) built m unbroken there is));
     }
 
 -- the run was added to the plan, handed out, and ended so
@@ -144,7 +145,7 @@ built_now ran ended aim set run o built after old new a b fits fresh is grown di
         };
         handed = (b, did, tells, refl);
       };
-      kept = told-kept o run after new there;
+      kept = told-kept o built after new (λ broken unbroken. (built, m, is, unbroken, broken));
     }
 
 -- the steps of runs, one after the other
@@ -158,14 +159,19 @@ or-false : (b : Bool) → b || false ≡ b
 or-false true = refl
 or-false false = refl
 
+kept-under : (P Q : Type 0) (broken : Bool) (made : List Made) (plan : PlanView) (before now : Option CulpritsFault) → (Q → P) → KeepsWhy P broken made plan before now → KeepsWhy Q broken made plan before now
+kept-under P Q true made plan before now under kept = λ q. kept (under q)
+kept-under P Q false made plan before now under kept = kept
+
 -- one set was built, and why it was broken is kept
 pub built_alone : {R : Type 0} (ran : PlanView → List Handed → R → R → Type 0) (ended : R → Bool) (aim : Aim) (set : List Bool) (came : Result Outcome CulpritsFault) (before after : List Made) (why now : Option CulpritsFault) (old new : PlanView) (a b : R)
     → BuildsOne ran ended aim set came before after old new a b → now ≡ kept_of came why → Builds ran ended aim (record { set = set; outcome = outcome_of came } ∷ []) before after why now old new a b
 built_alone ran ended aim set came before after why now old new a b one kept = record {
   ready = one.ready;
   built = one.built;
-  kept = subst (λ (broken : Bool). KeepsWhy broken after new why now) (sym (or-false (is_broken (outcome_of came))))
-      (subst (λ (o : Option CulpritsFault). KeepsWhy (is_broken (outcome_of came)) after new why o) (sym kept) (one.kept why));
+  kept = subst (λ (broken : Bool). KeepsWhy (MayBreakLast (record { set = set; outcome = outcome_of came } ∷ []) × AreUnbroken before) broken after new why now) (sym (or-false (is_broken (outcome_of came))))
+      (kept-under (AreUnbroken before) _ (is_broken (outcome_of came)) after new why now (λ alone. alone.1)
+      (subst (λ (o : Option CulpritsFault). KeepsWhy (AreUnbroken before) (is_broken (outcome_of came)) after new why o) (sym kept) (one.kept why)));
 }
 
 -- ---- whole searches
@@ -188,9 +194,9 @@ explained-or None made plan h = absurd h
 explained-or (Some why) made plan h = h
 
 -- what is kept explains why a search was cut short
-pub cause_kept : (broken : Bool) (made : List Made) (plan : PlanView) (now : Option CulpritsFault) → KeepsWhy broken made plan None now → Explains (unwrap_or now fault.Memory) made plan
-cause_kept true made plan now kept = explained-or now made plan kept
-cause_kept false made plan now kept = subst (λ (o : Option CulpritsFault). Explains (unwrap_or o fault.Memory) made plan) (sym kept) tt
+cause-kept : (P : Type 0) (broken : Bool) (made : List Made) (plan : PlanView) (now : Option CulpritsFault) → P → (broken ≡ false → AreUnbroken made) → KeepsWhy P broken made plan None now → Explains (unwrap_or now fault.Memory) made plan
+cause-kept P true made plan now first unbroken kept = explained-or now made plan (kept first)
+cause-kept P false made plan now first unbroken kept = subst (λ (o : Option CulpritsFault). Explains (unwrap_or o fault.Memory) made plan) (sym kept) (unbroken refl)
 
 module _ {R : Type 0} (ran : PlanView → List Handed → R → R → Type 0) (ended : R → Bool) (none : (plan : PlanView) (a : R) → ran plan [] a a)
     (more : (plan : PlanView) (steps more : List Handed) (a b c : R) → ran plan steps a b → ran plan more b c → ran plan (steps ++ more) a c) where
@@ -199,22 +205,31 @@ module _ {R : Type 0} (ran : PlanView → List Handed → R → R → Type 0) (e
       → before ≡ [] → Builds ran ended aim f.runs before after why now old new a b → IsFinding (search_of aim.closures.now) most f → RanHunt ran ended aim most f old new a b
   ran_hunt aim most f before after why now old new a b nothing builds found = record {
     made = builds.built.added;
-    hunt = record { built = from_nothing aim f.runs before after builds.built.added old new nothing builds.built.made; found = found };
+    hunt = record {
+      built = from_nothing aim f.runs before after builds.built.added old new nothing builds.built.made;
+      unbroken = unbroken_added aim f.runs builds.built.added found.whole builds.built.made.needed;
+      found = found;
+    };
     handed = builds.built.handed;
     whole = handed_ran ran ended none more new (length old.entries) builds.built.added a b builds.built.handed;
   }
 
-  -- a search that was cut short
+  -- a search that was cut short; what is kept explains why, or that no set was broken
   pub cut_hunt : (aim : Aim) (most : Option ℕ) (asked : List Asked) (before after : List Made) (now : Option CulpritsFault) (why : CulpritsFault) (old new : PlanView) (a b : R)
-      → before ≡ [] → IsCourse (search_of aim.closures.now) most asked → Builds ran ended aim asked before after None now old new a b → (Explains (unwrap_or now fault.Memory) after new → Explains why after new) → IsCutShort ran ended aim most why old new a b
+      → before ≡ [] → IsCourse (search_of aim.closures.now) most asked → Builds ran ended aim asked before after None now old new a b
+      → ((made : List Made) → (AreWhole asked → AreUnbroken made) → Explains (unwrap_or now fault.Memory) made new → Explains why made new) → IsCutShort ran ended aim most why old new a b
   cut_hunt aim most asked before after now why old new a b nothing course builds explains =
-      let is : after ≡ builds.built.added = builds.built.made.built ∙ ap (λ (l : List Made). l ++ builds.built.added) nothing in
+      let added = builds.built.added in
+      let is : after ≡ added = builds.built.made.built ∙ ap (λ (l : List Made). l ++ added) nothing in
+      let unbroken : AreWhole asked → AreUnbroken added = λ whole. unbroken_added aim asked added whole builds.built.made.needed in
+      let first : MayBreakLast asked × AreUnbroken before = (λ i j d lt le. (course.fresh i j d lt le).whole, subst AreUnbroken (sym nothing) (All-nil (λ (m : Made). m.outcome ≢ Broken))) in
       record {
         asked = asked;
-        made = builds.built.added;
+        made = added;
         course = course;
-        built = from_nothing aim asked before after builds.built.added old new nothing builds.built.made;
+        built = from_nothing aim asked before after added old new nothing builds.built.made;
         handed = builds.built.handed;
-        whole = handed_ran ran ended none more new (length old.entries) builds.built.added a b builds.built.handed;
-        cause = subst (λ (l : List Made). Explains why l new) is (explains (cause_kept (has_broken asked) after new now builds.kept));
+        whole = handed_ran ran ended none more new (length old.entries) added a b builds.built.handed;
+        cause = explains added unbroken (cause-kept (MayBreakLast asked × AreUnbroken before) (has_broken asked) added new now first (λ fine. unbroken (none_broken asked fine))
+            (subst (λ (l : List Made). KeepsWhy (MayBreakLast asked × AreUnbroken before) (has_broken asked) l new None now) is builds.kept));
       }

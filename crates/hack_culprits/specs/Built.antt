@@ -115,18 +115,27 @@ abbrev pub fault_of : PlacesFault → CulpritsFault
 fault_of places.Memory = fault.Memory
 fault_of places.TooManyRuns = fault.TooManyRuns
 
--- why a search was cut short: the call is at its end only where a run is broken, and a plan that can't grow
--- has as many places as a plan may have
+-- no run that was built is broken
+abbrev pub AreUnbroken : List Made → Type 0
+AreUnbroken made = All (λ m. m.outcome ≢ Broken) made
+
+-- the last run that was built is broken, and no other
+abbrev pub AreBrokenLast : List Made → Type 0
+AreBrokenLast made = (front : List Made) × (last : Made) × (made ≡ front ++ last ∷ []) × AreUnbroken front × (last.outcome ≡ Broken)
+
+-- Why a search was cut short: the call is at its end just where a run is broken, which is the last one
+-- that was built; and a plan that can't grow has as many places as a plan may have.
 abbrev pub Explains : CulpritsFault → List Made → PlanView → Type 0
-Explains fault.Ended made plan = (m : Made) × Contains made m × (m.outcome ≡ Broken)
-Explains fault.TooManyRuns made plan = 4294967295 ≤ length plan.entries
-Explains fault.Memory made plan = Unit {0}
+Explains fault.Ended made plan = AreBrokenLast made
+Explains fault.TooManyRuns made plan = AreUnbroken made × (4294967295 ≤ length plan.entries)
+Explains fault.Memory made plan = AreUnbroken made
 
 -- A package's sets were searched, for a slot: the plan grew by the runs that were built, each once. Each
--- set that the search asked for has its run among them, and each of them was built for such a set. What
--- is found is what their outcomes say.
+-- set that the search asked for has its run among them, and each of them was built for such a set; none is
+-- broken. What is found is what their outcomes say.
 pub record IsHunt (aim : Aim) (most : Option ℕ) (f : Finding) (made : List Made) (old new : PlanView) : Type 0 where
   pub built : AreMade aim f.runs [] made made old new
+  pub unbroken : AreUnbroken made
   pub found : IsFinding (search_of aim.closures.now) most f
 
 -- the runs that a search built were handed out, in order
@@ -138,7 +147,7 @@ pub record RanHunt {R : Type 0} (ran : PlanView → List Handed → R → R → 
   pub whole : ran new (steps_from (length old.entries) made) a b
 
 -- The search was cut short: what was built until then was asked for by such a search. Where the call
--- is at its end, a run that was built is broken; where the plan can't grow, it is full.
+-- is at its end, the last run that was built is broken, and else none; where the plan can't grow, it is full.
 pub record IsCutShort {R : Type 0} (ran : PlanView → List Handed → R → R → Type 0) (ended : R → Bool) (aim : Aim)
     (most : Option ℕ) (why : CulpritsFault) (old new : PlanView) (a b : R) : Type 0 where
   pub asked : List Asked

@@ -1,5 +1,5 @@
 -- What only private functions of the crate promise each other.
-use Rattle.std.specs.Prelude.{◌≡◌, Bool, true, false, List, [], ◌∷◌, All, IsSomeAnd, MatchBool, Option, Some, Result, Ok, Err, map}
+use Rattle.std.specs.Prelude.{◌≡◌, ◌≢◌, Bool, true, false, List, [], ◌∷◌, All, AllPairs, IsSomeAnd, MatchBool, Option, Some, Result, Ok, Err, map}
 use Rattle.std.specs.List.{list_any}
 use Rattle.hack_closures.specs.View.{search_of}
 use Rattle.hack_conflicts.specs.Rules.{IsChoice, IsPreorder}
@@ -9,7 +9,7 @@ use Rattle.hack_conflicts.specs.declared.tried.Outcome.TheVariants.{Broken, Fail
 use Rattle.hack_plan.specs.Plans.{AreRunsOfPackages}
 use Rattle.hack_plan.specs.View.{PlanView}
 use Rattle.hack_session.specs.declared.step.Handed.{Handed}
-use Rattle.hack_culprits.specs.Built.{AreBuilt, Explains, HasRoom, Made, run_for}
+use Rattle.hack_culprits.specs.Built.{AreBuilt, AreUnbroken, Explains, HasRoom, Made, run_for}
 use Rattle.hack_culprits.specs.declared.aim.Aim.{Aim}
 use Rattle.hack_culprits.specs.declared.built.Built.{Built}
 use Rattle.hack_culprits.specs.declared.fault.CulpritsFault.{CulpritsFault}
@@ -34,16 +34,20 @@ is_broken Broken = true
 abbrev pub has_broken : List Asked → Bool
 has_broken asked = list_any (λ one. is_broken one.outcome) asked
 
--- why a build was broken is kept, and nothing is kept where none was
-abbrev pub KeepsWhy : Bool → List Made → PlanView → Option CulpritsFault → Option CulpritsFault → Type 0
-KeepsWhy broken made plan before after = MatchBool broken (IsSomeAnd after (λ why. Explains why made plan)) (after ≡ before)
+-- no set but the last was broken
+abbrev pub MayBreakLast : List Asked → Type 0
+MayBreakLast asked = AllPairs (λ earlier later. earlier.outcome ≢ Broken) asked
 
--- these sets were built, and why one was broken is kept
+-- why a build was broken is kept, where this was the first such, and nothing is kept where none was
+abbrev pub KeepsWhy : Type 0 → Bool → List Made → PlanView → Option CulpritsFault → Option CulpritsFault → Type 0
+KeepsWhy IsFirst broken made plan before after = MatchBool broken (IsFirst → IsSomeAnd after (λ why. Explains why made plan)) (after ≡ before)
+
+-- these sets were built, and why the last was broken is kept
 pub record Builds {R : Type 0} (ran : PlanView → List Handed → R → R → Type 0) (ended : R → Bool) (aim : Aim)
     (asked : List Asked) (before after : List Made) (why now : Option CulpritsFault) (old new : PlanView) (a b : R) : Type 0 where
   pub ready : IsReady aim new
   pub built : AreBuilt ran ended aim asked before after old new a b
-  pub kept : KeepsWhy (has_broken asked) after new why now
+  pub kept : KeepsWhy (MayBreakLast asked × AreUnbroken before) (has_broken asked) after new why now
 
 -- the same, of sets that may be chosen, where runs of the package can be added to the plan
 abbrev pub MayBuild : {R : Type 0} → (PlanView → List Handed → R → R → Type 0) → (R → Bool) → Aim → List Asked → List Made → List Made → Option CulpritsFault → Option CulpritsFault → PlanView → PlanView → R → R → Type 0
@@ -71,4 +75,4 @@ pub record BuildsOne {R : Type 0} (ran : PlanView → List Handed → R → R �
     (set : List Bool) (came : Result Outcome CulpritsFault) (before after : List Made) (old new : PlanView) (a b : R) : Type 0 where
   pub ready : IsReady aim new
   pub built : AreBuilt ran ended aim (record { set = set; outcome = outcome_of came } ∷ []) before after old new a b
-  pub kept : (first : Option CulpritsFault) → KeepsWhy (is_broken (outcome_of came)) after new first (kept_of came first)
+  pub kept : (first : Option CulpritsFault) → KeepsWhy (AreUnbroken before) (is_broken (outcome_of came)) after new first (kept_of came first)

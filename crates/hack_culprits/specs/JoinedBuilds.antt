@@ -1,11 +1,15 @@
 -- Sets that were built, one after the other.
-use Rattle.std.specs.Prelude.{ℕ, ◌≡◌, ◌≤◌, ◌+◌, ◌||◌, Bool, true, false, List, [], ◌∷◌, ◌++◌, All, IsSomeAnd, Option, Some, None, length}
+use Rattle.std.specs.Prelude.{ℕ, ◌≡◌, ◌≢◌, ◌+◌, ◌||◌, Bool, true, false, List, [], ◌∷◌, ◌++◌, All, IsSomeAnd, Option, length}
 use Rattle.std.proofs.Common.{refl, sym, ap, ◌∙◌, subst, inl, inr, arith, get_or}
-use Rattle.std.proofs.lemmas.List.{append_assoc, append-nil, length-append}
+use Rattle.std.proofs.lemmas.Bool.{true≢false}
+use Rattle.std.proofs.lemmas.List.{append_assoc, append-nil, get_or-append-add, get_or_append_left, get_or_default, length-append, nil_from_length}
+use Rattle.std.proofs.lemmas.List.Folds.{Any-from_list_any, list_any-from_Any}
 use Rattle.std.proofs.lemmas.List.Elements.{All-append, All-cons, All-contains, All-nil, Contains-append_left, Contains-append_right, Contains-get_or}
 use Rattle.hack_closures.specs.View.{search_of}
 use Rattle.hack_conflicts.specs.Rules.{IsChoice}
-use Rattle.hack_conflicts.specs.Runs.{Run as Asked}
+use Rattle.hack_conflicts.specs.Runs.{AreWhole, Run as Asked}
+use Rattle.hack_conflicts.specs.declared.tried.Outcome.{Outcome}
+use Rattle.hack_conflicts.specs.declared.tried.Outcome.TheVariants.{Broken, Failed, Passed}
 use Rattle.hack_plan.specs.Growth.{IsGrown, with_run}
 use Rattle.hack_plan.specs.GrowthLaws.{grown_by_run, grown_refl, grown_trans}
 use Rattle.hack_plan.specs.Plans.{AreRunsOfPackages}
@@ -13,11 +17,10 @@ use Rattle.hack_plan.specs.View.{PlanView}
 use Rattle.hack_session.specs.GrownSteps.{AreRuns}
 use Rattle.hack_session.specs.StepEffects.{is_run}
 use Rattle.hack_session.specs.declared.step.Handed.{Handed}
-use Rattle.hack_culprits.specs.Built.{AreHanded, Explains, IsAsked, IsBuilt, Made, step_at, with_made}
-use Rattle.hack_culprits.specs.Internal.{KeepsWhy, MayBuild, has_broken, is_broken}
+use Rattle.hack_culprits.specs.Built.{AreHanded, AreUnbroken, Explains, IsAsked, IsBuilt, Made, step_at, with_made}
+use Rattle.hack_culprits.specs.Internal.{KeepsWhy, MayBreakLast, MayBuild, has_broken, is_broken}
 use Rattle.hack_culprits.specs.declared.aim.Aim.{Aim}
 use Rattle.hack_culprits.specs.declared.fault.CulpritsFault.{CulpritsFault}
-use Rattle.hack_culprits.specs.declared.fault.CulpritsFault.TheVariants as fault
 
 all-left : {X : Type 0} (P : X → Type 0) (xs ys : List X) → All P (xs ++ ys) → All P xs
 all-left P xs ys h = λ k d lt. All-contains P (xs ++ ys) (get_or xs k d) h (Contains-append_left xs ys (get_or xs k d) (Contains-get_or xs k d lt))
@@ -82,21 +85,49 @@ asked-left aim asked more m h = (h.0, Contains-append_left asked more h.0 h.1, h
 asked-right : (aim : Aim) (asked more : List Asked) (m : Made) → IsAsked aim more m → IsAsked aim (asked ++ more) m
 asked-right aim asked more m h = (h.0, Contains-append_right asked more h.0 h.1, h.2)
 
-explains-more : (why : CulpritsFault) (made added : List Made) (old new : PlanView) → length old.entries ≤ length new.entries → Explains why made old → Explains why (made ++ added) new
-explains-more fault.Ended made added old new grown h = (h.0, Contains-append_left made added h.0 h.1, h.2)
-explains-more fault.Memory made added old new grown h = tt
-explains-more fault.TooManyRuns made added old new grown h = omega (arith, grown, h)
+-- runs that were built for sets of which none was broken
+pub unbroken_added : (aim : Aim) (asked : List Asked) (added : List Made) → AreWhole asked → All (IsAsked aim asked) added → AreUnbroken added
+unbroken_added aim asked added whole needed = λ k d lt is.
+    let one = needed k d lt in
+    All-contains (λ (run : Asked). run.outcome ≢ Broken) asked one.0 whole one.1 (sym one.2.told ∙ is)
 
-some-more : (why : Option CulpritsFault) (made added : List Made) (old new : PlanView) → length old.entries ≤ length new.entries → IsSomeAnd why (λ w. Explains w made old) → IsSomeAnd why (λ w. Explains w (made ++ added) new)
-some-more None made added old new grown h = h
-some-more (Some why) made added old new grown h = explains-more why made added old new grown h
+broken-is : (o : Outcome) → is_broken o ≡ true → o ≡ Broken
+broken-is Passed e = absurd (true≢false (sym e))
+broken-is Failed e = absurd (true≢false (sym e))
+broken-is Broken e = refl
 
-kept-more : (left right : Bool) (made added : List Made) (old new : PlanView) (before mid now : Option CulpritsFault) → length old.entries ≤ length new.entries
-    → KeepsWhy left made old before mid → KeepsWhy right (made ++ added) new mid now → KeepsWhy (left || right) (made ++ added) new before now
-kept-more false false made added old new before mid now grown p q = q ∙ p
-kept-more false true made added old new before mid now grown p q = q
-kept-more true false made added old new before mid now grown p q = subst (λ (o : Option CulpritsFault). IsSomeAnd o (λ w. Explains w (made ++ added) new)) (sym q) (some-more mid made added old new grown p)
-kept-more true true made added old new before mid now grown p q = q
+pub none_broken : (asked : List Asked) → has_broken asked ≡ false → AreWhole asked
+none_broken asked fine = λ k d lt is.
+    let some = list_any-from_Any (λ (one : Asked). is_broken one.outcome) asked (k, get_or asked k d, lt, get_or_default asked k (get_or asked k d) d lt, ap is_broken is) in
+    true≢false (sym some ∙ fine)
+
+-- nothing was asked for behind a broken set
+none-behind : (asked more : List Asked) → MayBreakLast (asked ++ more) → has_broken asked ≡ true → more ≡ []
+none-behind asked [] last some = refl
+none-behind asked (one ∷ more) last some =
+    let at = Any-from_list_any (λ (one : Asked). is_broken one.outcome) asked some in
+    let same : get_or (asked ++ one ∷ more) at.0 at.1 ≡ at.1 = get_or_append_left asked (one ∷ more) at.1 at.0 at.2 ∙ at.3 in
+    absurd (last at.0 (length asked) at.1 at.2 (omega (arith, length-append asked (one ∷ more))) (ap (λ (run : Asked). run.outcome) same ∙ broken-is at.1.outcome at.4))
+
+last-left : (asked more : List Asked) → MayBreakLast (asked ++ more) → MayBreakLast asked
+last-left asked more last = λ i j d lt le.
+    subst (λ (run : Asked). run.outcome ≢ Broken) (get_or_append_left asked more d i (omega (arith, lt, le))) (last i j d lt (omega (arith, le, length-append asked more)))
+
+last-right : (asked more : List Asked) → MayBreakLast (asked ++ more) → MayBreakLast more
+last-right asked more last = λ i j d lt le.
+    subst (λ (run : Asked). run.outcome ≢ Broken) (get_or-append-add asked more i d) (last (length asked + i) (length asked + j) d (omega (arith, lt)) (omega (arith, le, length-append asked more)))
+
+-- of the first and the second sets: why one was broken is kept, where all that were asked for are such
+kept-more : (left right : Bool) (P Q S : Type 0) (mid last : List Made) (between new : PlanView) (before then now : Option CulpritsFault)
+    → (S → P) → (left ≡ false → S → Q) → (left ≡ true → S → (last ≡ mid) × (new ≡ between) × (right ≡ false))
+    → KeepsWhy P left mid between before then → KeepsWhy Q right last new then now → KeepsWhy S (left || right) last new before now
+kept-more false false P Q S mid last between new before then now first second none p q = q ∙ p
+kept-more false true P Q S mid last between new before then now first second none p q = λ s. q (second refl s)
+kept-more true false P Q S mid last between new before then now first second none p q = λ s.
+    let same = none refl s in
+    subst (λ (o : Option CulpritsFault). IsSomeAnd o (λ w. Explains w last new)) (sym q)
+    (subst (λ (l : List Made). IsSomeAnd then (λ w. Explains w l new)) (sym same.0) (subst (λ (v : PlanView). IsSomeAnd then (λ w. Explains w mid v)) (sym same.1) (p (first s))))
+kept-more true true P Q S mid last between new before then now first second none p q = λ s. absurd (true≢false (none refl s).2)
 
 or-assoc : (a b c : Bool) → (a || b) || c ≡ a || (b || c)
 or-assoc true b c = refl
@@ -139,8 +170,13 @@ builds_more {R} ran ended law aim asked more first mid last why then now old bet
     let two = r.built.made in
     let grown : IsGrown between new = subst (IsGrown between) (sym two.plan) (made_grows aim.slot aim.member ys between) in
     let places : length between.entries ≡ length old.entries + length xs = ap (λ (p : PlanView). length p.entries) one.plan ∙ made_places aim.slot aim.member xs old in
-    let longer : length between.entries ≤ length new.entries = let e = ap (λ (p : PlanView). length p.entries) two.plan ∙ made_places aim.slot aim.member ys between in omega (arith, e) in
     let last_is : last ≡ mid ++ ys = two.built in
+    let nothing-more : more ≡ [] → (last ≡ mid) × (new ≡ between) × (has_broken more ≡ false) = λ none.
+    let added : ys ≡ [] = nil_from_length ys (let few = two.few in omega (arith, few, ap length none)) in (
+      last_is ∙ ap (λ (l : List Made). mid ++ l) added ∙ append-nil mid,
+      two.plan ∙ ap (λ (l : List Made). with_made aim.slot aim.member l between) added,
+      ap has_broken none,
+    ) in
     record {
       ready = r.ready;
       built = record {
@@ -157,7 +193,9 @@ builds_more {R} ran ended law aim asked more first mid last why then now old bet
         handed = handed_append ran ended new (length old.entries) xs ys a b c (handed_grown ran ended law between new grown f.ready.room.grows f.ready.runs (length old.entries) xs a b f.built.handed)
             (subst (λ (n : ℕ). AreHanded ran ended new n ys b c) places r.built.handed);
       };
-      kept = subst (λ (b : Bool). KeepsWhy b last new why now) (sym (broken-append asked more))
-          (subst (λ (l : List Made). KeepsWhy (has_broken asked || has_broken more) l new why now) (sym last_is)
-          (kept-more (has_broken asked) (has_broken more) mid ys between new why then now longer f.kept (subst (λ (l : List Made). KeepsWhy (has_broken more) l new then now) last_is r.kept)));
+      kept = subst (λ (b : Bool). KeepsWhy (MayBreakLast (asked ++ more) × AreUnbroken first) b last new why now) (sym (broken-append asked more))
+          (kept-more (has_broken asked) (has_broken more) (MayBreakLast asked × AreUnbroken first) (MayBreakLast more × AreUnbroken mid) (MayBreakLast (asked ++ more) × AreUnbroken first) mid last between new why then now
+          (λ s. (last-left asked more s.0, s.1))
+          (λ fine s. (last-right asked more s.0, subst AreUnbroken (sym one.built) (All-append (λ (m : Made). m.outcome ≢ Broken) first xs s.1 (unbroken_added aim asked xs (none_broken asked fine) one.needed))))
+          (λ some s. nothing-more (none-behind asked more s.0 some)) f.kept r.kept);
     }
