@@ -1,11 +1,12 @@
 -- Searches, one after the other.
-use Rattle.std.specs.Prelude.{ℕ, ◌≡◌, ◌<◌, ◌+◌, ◌-◌, Bool, true, List, [], ◌∷◌, ◌++◌, Option, Ok, Err, length}
+use Rattle.std.specs.Prelude.{ℕ, ◌≡◌, ◌≢◌, ◌<◌, ◌+◌, ◌-◌, Bool, true, List, [], ◌∷◌, ◌++◌, Option, Ok, Err, length}
 use Rattle.std.specs.List.{flat_map}
 use Rattle.std.proofs.Common.{refl, sym, ap, ◌∙◌, subst, inl, inr, arith}
 use Rattle.std.proofs.lemmas.List.{append_assoc, append-nil, length-append}
-use Rattle.std.proofs.lemmas.List.Elements.{Contains-append_right}
+use Rattle.std.proofs.lemmas.List.Elements.{All-append, All-nil}
+use Rattle.hack_conflicts.specs.declared.tried.Outcome.TheVariants.{Broken}
 use Rattle.hack_culprits.proofs.BuildLemmas.{handed_ran, length_changed}
-use Rattle.hack_culprits.specs.Built.{AreHanded, Explains, Made, with_made}
+use Rattle.hack_culprits.specs.Built.{AreHanded, AreUnbroken, Explains, Made, with_made}
 use Rattle.hack_culprits.specs.JoinedBuilds.{handed_append, handed_grown, made_grows, made_places}
 use Rattle.hack_culprits.specs.declared.fault.CulpritsFault.{CulpritsFault}
 use Rattle.hack_culprits.specs.declared.fault.CulpritsFault.TheVariants as fault
@@ -66,11 +67,17 @@ hunts-more cx most (s ∷ spots) spot [] h made m old mid new before one = absur
 hunts-more cx most (s ∷ spots) spot (x ∷ hunted) h [] m old mid new before one = absurd before
 hunts-more cx most (s ∷ spots) spot (x ∷ hunted) h (y ∷ made) m old mid new before one = (before.0, before.1, hunts-more cx most spots spot hunted h made m before.0 mid new before.2 one)
 
--- a broken run is among more runs too
-explains-more : (why : CulpritsFault) (first second : List Made) (plan : PlanView) → Explains why second plan → Explains why (first ++ second) plan
-explains-more fault.Memory first second plan e = tt
-explains-more fault.TooManyRuns first second plan e = e
-explains-more fault.Ended first second plan e = (e.0, Contains-append_right first second e.0 e.1, e.2)
+none-unbroken : AreUnbroken []
+none-unbroken = All-nil (λ (m : Made). m.outcome ≢ Broken)
+
+both-unbroken : (first second : List Made) → AreUnbroken first → AreUnbroken second → AreUnbroken (first ++ second)
+both-unbroken first second = All-append (λ (m : Made). m.outcome ≢ Broken) first second
+
+-- what explains a search explains it behind others of which no run is broken
+explains-more : (why : CulpritsFault) (first second : List Made) (plan : PlanView) → AreUnbroken first → Explains why second plan → Explains why (first ++ second) plan
+explains-more fault.Memory first second plan whole e = both-unbroken first second whole e
+explains-more fault.TooManyRuns first second plan whole e = (both-unbroken first second whole e.0, e.1)
+explains-more fault.Ended first second plan whole e = (first ++ e.0, e.1, ap (λ l. first ++ l) e.2 ∙ sym (append_assoc first e.0 (e.1 ∷ [])), both-unbroken first e.0 whole e.3, e.4)
 
 module _ {R : Type 0} (ran : PlanView → List Handed → R → R → Type 0) (ended : R → Bool) (none : (plan : PlanView) (a : R) → ran plan [] a a)
     (more : (plan : PlanView) (steps more : List Handed) (a b c : R) → ran plan steps a b → ran plan more b c → ran plan (steps ++ more) a c)
@@ -80,7 +87,7 @@ module _ {R : Type 0} (ran : PlanView → List Handed → R → R → Type 0) (e
   pub ran_none : (plan : PlanView) (a : R) → RanHunts ran ended cx most [] (Ok []) plan plan a a
   ran_none plan a = record {
     built = [];
-    hunts = record { front = []; left = []; split = refl; hunted = []; made = []; mid = plan; hunts = refl; begun = []; next = inl (refl, refl); all = refl; end = (refl, refl) };
+    hunts = record { front = []; left = []; split = refl; hunted = []; made = []; mid = plan; hunts = refl; begun = []; next = inl (refl, refl); all = refl; end = (refl, refl, none-unbroken) };
     handed = refl;
     whole = none plan a;
   }
@@ -89,7 +96,7 @@ module _ {R : Type 0} (ran : PlanView → List Handed → R → R → Type 0) (e
   pub ran_nothing : (spots : List Spot) (plan : PlanView) (a : R) → RanHunts ran ended cx most spots (Err fault.Memory) plan plan a a
   ran_nothing spots plan a = record {
     built = [];
-    hunts = record { front = []; left = spots; split = refl; hunted = []; made = []; mid = plan; hunts = refl; begun = []; next = inl (refl, refl); all = refl; end = tt };
+    hunts = record { front = []; left = spots; split = refl; hunted = []; made = []; mid = plan; hunts = refl; begun = []; next = inl (refl, refl); all = refl; end = none-unbroken };
     handed = refl;
     whole = none plan a;
   }
@@ -118,7 +125,7 @@ module _ {R : Type 0} (ran : PlanView → List Handed → R → R → Type 0) (e
       let w = whole-built spots hunted old mid a b before in
       record {
         built = before.built;
-        hunts = record { front = spots; left = left; split = refl; hunted = hunted; made = w.0; mid = mid; hunts = w.1; begun = []; next = inl (refl, refl); all = w.2 ∙ sym (append-nil (all-made w.0)); end = tt };
+        hunts = record { front = spots; left = left; split = refl; hunted = hunted; made = w.0; mid = mid; hunts = w.1; begun = []; next = inl (refl, refl); all = w.2 ∙ sym (append-nil (all-made w.0)); end = before.hunts.end.2 };
         handed = before.handed;
         whole = before.whole;
       }
@@ -151,7 +158,7 @@ module _ {R : Type 0} (ran : PlanView → List Handed → R → R → Type 0) (e
           begun = [];
           next = inl (refl, refl);
           all = ap (λ l. l ++ one.made) w.2 ∙ sym (made-more w.0 one.made) ∙ sym (append-nil (all-made (w.0 ++ one.made ∷ [])));
-          end = (refl, refl);
+          end = (refl, refl, both-unbroken before.built one.made before.hunts.end.2 one.hunt.hunt.unbroken);
         };
         handed = handed;
         whole = handed_ran ran ended none more new (length old.entries) (before.built ++ one.made) a c handed;
@@ -183,7 +190,7 @@ module _ {R : Type 0} (ran : PlanView → List Handed → R → R → Type 0) (e
           begun = cut.made;
           next = inr (spot, left, refl, record { aim = one.aim; of = one.of; asked = cut.asked; course = cut.course; built = cut.built });
           all = ap (λ l. l ++ cut.made) w.2;
-          end = explains-more why before.built cut.made new cut.cause;
+          end = explains-more why before.built cut.made new before.hunts.end.2 cut.cause;
         };
         handed = handed;
         whole = handed_ran ran ended none more new (length old.entries) (before.built ++ cut.made) a c handed;

@@ -1,3 +1,4 @@
+mod OrderLemmas
 mod RuleLemmas
 mod SetLemmas
 pub mod HuntLemmas

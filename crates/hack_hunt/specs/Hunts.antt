@@ -1,5 +1,5 @@
 -- The searches of a call: by which rules, in which order, and what they build and say.
-use Rattle.std.specs.Prelude.{ℕ, ◌≡◌, ◌+◌, ◌-◌, ◌⊎◌, ◌&&◌, ◌||◌, ◌↔◌, Bool, true, false, not, IsTrue, List, [], ◌∷◌, ◌++◌, Option, None, Some, Result, Ok, Err, length, option_map}
+use Rattle.std.specs.Prelude.{ℕ, ◌≡◌, ◌+◌, ◌-◌, ◌⊎◌, ◌&&◌, ◌||◌, ◌↔◌, Bool, true, false, not, IsTrue, List, [], ◌∷◌, ◌++◌, AllPairs, Option, None, Some, Result, Ok, Err, length, option_map}
 use Rattle.std.specs.List.{AllZip, flat_map, range_with_len}
 use Rattle.std.specs.List.Sorted.{IsPermutation}
 use Rattle.std.specs.Result.{result_map_both}
@@ -7,16 +7,17 @@ use Rattle.std.proofs.Common.{Vec}
 use Rattle.hack_closures.specs.Closures.{AreAlone, AreChosen, AreEnabling, IsBuildFor}
 use Rattle.hack_closures.specs.View.{alone_in, choice_in, has_all, search_of}
 use Rattle.hack_closures.specs.declared.build.Build.{Build}
+use Rattle.hack_closures.specs.declared.build.Build.TheVariants as build
 use Rattle.hack_closures.specs.declared.closures.Closures.{Closures}
 use Rattle.hack_conflicts.specs.Rules.{IsChoice, row_of}
 use Rattle.hack_conflicts.specs.Runs.{AreBlamed, Finding, HasFailed, IsCourse, Run as Asked}
 use Rattle.hack_conflicts.specs.Sets.{Has, HasInside}
-use Rattle.hack_culprits.specs.Built.{AreHanded, AreMade, Explains, IsCutShort, IsHunt, Made, steps_from}
+use Rattle.hack_culprits.specs.Built.{AreHanded, AreMade, AreUnbroken, Explains, IsCutShort, IsHunt, Made, steps_from}
 use Rattle.hack_culprits.specs.declared.aim.Aim.{Aim}
 use Rattle.hack_culprits.specs.declared.fault.CulpritsFault.{CulpritsFault}
 use Rattle.hack_culprits.specs.declared.fault.CulpritsFault.TheVariants as fault
 use Rattle.hack_features.specs.Rules.{Choice, IsListed, IsRequired}
-use Rattle.hack_features.specs.Sets.{IsListing}
+use Rattle.hack_features.specs.Sets.{IsBefore, IsListing}
 use Rattle.hack_load.specs.Contexts.{ContextRecord, features_at, package_at}
 use Rattle.hack_load.specs.declared.features.Features.{Features}
 use Rattle.hack_metadata.specs.Records.{PackageRecord}
@@ -66,10 +67,23 @@ pub record AreRulesOf (c : Choice) (ends : Ends) (aim : Aim) : Type 0 where
   pub with_all : IsTrue (has_all aim.closures.now) → IsChoice (search_of aim.closures.now) (row_of (search_of aim.closures.now) (length (alone_in aim.closures.now)))
   pub plain : aim.plain ≡ ends.plain
 
--- what is built for each of the sets, in some order
+-- one build comes before another: that without features before the others, that with all features behind
+-- them, and sets as a powerset lists them
+abbrev pub Precedes : Build → Build → Type 0
+Precedes build.NoFeatures (build.Set t) = Unit {0}
+Precedes build.NoFeatures build.AllFeatures = Unit {0}
+Precedes (build.Set s) (build.Set t) = IsBefore s.items t.items
+Precedes (build.Set s) build.AllFeatures = Unit {0}
+Precedes one other = ⊥
+
+-- no build comes before an earlier one
+abbrev pub AreInOrder : List Build → Type 0
+AreInOrder builds = AllPairs (λ one later. ¬ Precedes later one) builds
+
+-- what is built for each of the sets, in the order of a powerset
 abbrev pub AreBuiltFor : Closures → List (List Bool) → List Build → Type 0
 AreBuiltFor c sets builds =
-    (each : List Build) × AllZip (IsBuildFor (choice_in c) (alone_in c) (has_all c) (search_of c)) sets each × IsPermutation each builds
+    (each : List Build) × AllZip (IsBuildFor (choice_in c) (alone_in c) (has_all c) (search_of c)) sets each × IsPermutation each builds × AreInOrder builds
 
 -- no set that failed was left without a conflict inside it; or this was built for such a set
 abbrev pub IsUnfinishedAs : Closures → Finding → Option Build → Type 0
@@ -167,10 +181,10 @@ IsBegun cx most left made old new =
     ((made ≡ []) × (new ≡ old))
     ⊎ ((spot : Spot) × (more : List Spot) × (left ≡ spot ∷ more) × IsBegunAt cx spot (left_of most (length old.entries)) made old new)
 
--- Searches that came to their end left no spot, and say what was found; where the call is at its end,
--- the run of one is broken, and where the plan can't grow, it is full.
+-- Searches that came to their end left no spot, and say what was found, and no run of theirs is broken; where
+-- the call is at its end, the last run of all is broken, and no other; where the plan can't grow, it is full.
 abbrev pub EndsSo : Result (List Hunted) CulpritsFault → List Spot → List Hunted → List Made → PlanView → Type 0
-EndsSo (Ok found) left hunted built plan = (left ≡ []) × (hunted ≡ found)
+EndsSo (Ok found) left hunted built plan = (left ≡ []) × (hunted ≡ found) × AreUnbroken built
 EndsSo (Err why) left hunted built plan = Explains why built plan
 
 -- What was built for these spots: by the searches of some, which came to their end, and by that of the

@@ -1,8 +1,12 @@
 -- What only private functions of the crate promise each other.
-use Rattle.std.specs.Prelude.{ℕ, ◌≡◌, ◌⊎◌, Bool, true, false, List, [], Option, None, Some, length}
+use Rattle.std.specs.Prelude.{ℕ, ◌≡◌, ◌<◌, ◌⊎◌, Bool, true, false, List, [], ◌∷◌, AllPairs, Option, None, Some, length, reverse}
+use Rattle.std.specs.Cmp.Lexicographic.{slice_cmp}
+use Rattle.std.specs.Ordering.{nat_cmp}
+use Rattle.std.specs.declared.cmp.Ordering.{Ordering}
 use Rattle.hack_closures.specs.Closures.{IsBuildFor}
 use Rattle.hack_closures.specs.View.{alone_in, choice_in, has_all, search_of}
 use Rattle.hack_closures.specs.declared.build.Build.{Build}
+use Rattle.hack_closures.specs.declared.build.Build.TheVariants.{NoFeatures, AllFeatures, Set}
 use Rattle.hack_closures.specs.declared.closures.Closures.{Closures}
 use Rattle.hack_conflicts.specs.Rules.{IsChoice}
 use Rattle.hack_conflicts.specs.Runs.{Finding, Run}
@@ -61,3 +65,27 @@ BeginsWith c runs (Some build) =
 abbrev pub ListsNone : Choice → Bool → Type 0
 ListsNone c true = (s : List ℕ) → IsSelection (length c.candidates) s → ¬ IsListed c s
 ListsNone c false = (s : List ℕ) × IsSelection (length c.candidates) s × IsListed c s
+
+-- the positions of a set rise
+abbrev pub Rises : Build → Type 0
+Rises (Set s) = AllPairs (λ p q. p < q) s.items
+Rises other = Unit {0}
+
+-- the run without features is first, then sets, then that with all features
+abbrev pub rank_of : Build → ℕ
+rank_of NoFeatures = 0
+rank_of (Set s) = 1
+rank_of AllFeatures = 2
+
+-- the positions of a set
+abbrev pub positions_of : Build → List ℕ
+positions_of (Set s) = s.items
+positions_of other = []
+
+-- which of two lists of positions comes first, from their ends
+abbrev pub compared : List ℕ → List ℕ → Ordering
+compared s t = slice_cmp nat_cmp (reverse s) (reverse t)
+
+-- by what builds are compared
+abbrev pub key_of : Build → List ℕ
+key_of build = rank_of build ∷ reverse (positions_of build)

@@ -1,6 +1,11 @@
 //! The order in which sets are reported: that in which a powerset lists them.
 
+ghost use Rattle.std.specs.Prelude.{◌≡◌, All, OnOk};
+ghost use Rattle.std.specs.Cmp.Lexicographic.{slice_cmp};
 ghost use Rattle.std.specs.List.Sorted.{IsPermutation};
+ghost use Rattle.std.specs.Ordering.{nat_cmp};
+ghost use Rattle.hack_hunt.specs.Hunts.{AreInOrder};
+ghost use Rattle.hack_hunt.specs.Internal.{Rises, compared, key_of, positions_of, rank_of};
 
 use hack_closures::Build;
 use std::alloc::AllocError;
@@ -8,22 +13,25 @@ use std::cmp::Ordering;
 
 /// Puts what was built in the order of a powerset.
 pub(crate) fn sort_builds(builds: &mut Vec<Build>) -> Result<(), AllocError>
-    ensures { IsPermutation builds.old.items builds.new.items }
+    ensures permutation { IsPermutation builds.old.items builds.new.items }
+    ensures order { OnOk result (All Rises builds.old.items → AreInOrder builds.new.items) }
 {
     builds.sort_by(|first, second| compare(first, second))
 }
 
 /// The run without features comes first, and that with all features last.
-fn compare(first: &Build, second: &Build) -> Ordering {
-    match (first, second) {
-        (Build::Set(first), Build::Set(second)) => {
-            compare_sets(first.as_slice(), second.as_slice())
-        }
-        _ => rank(first).cmp(&rank(second)),
+fn compare(first: &Build, second: &Build) -> Ordering
+    ensures { result ≡ slice_cmp nat_cmp (key_of first.now) (key_of second.now) }
+{
+    match rank(first).cmp(&rank(second)) {
+        Ordering::Equal => compare_sets(positions(first), positions(second)),
+        other => other,
     }
 }
 
-fn rank(build: &Build) -> usize {
+fn rank(build: &Build) -> usize
+    ensures { result ≡ rank_of build.now }
+{
     match build {
         Build::NoFeatures => 0,
         Build::Set(_) => 1,
@@ -31,16 +39,19 @@ fn rank(build: &Build) -> usize {
     }
 }
 
+fn positions(build: &Build) -> &[usize]
+    ensures { result.now ≡ positions_of build.now }
+{
+    match build {
+        Build::Set(positions) => positions.as_slice(),
+        Build::NoFeatures | Build::AllFeatures => &[],
+    }
+}
+
 /// Which of two lists of increasing positions comes first: the greatest position in which they differ
 /// decides.
-fn compare_sets(first: &[usize], second: &[usize]) -> Ordering {
-    let common = first.len().min(second.len());
-    for step in 0..common {
-        let one = first[first.len() - 1 - step];
-        let other = second[second.len() - 1 - step];
-        if one != other {
-            return one.cmp(&other);
-        }
-    }
-    first.len().cmp(&second.len())
+fn compare_sets(first: &[usize], second: &[usize]) -> Ordering
+    ensures { result ≡ compared first.now second.now }
+{
+    first.iter().rev().cmp(second.iter().rev())
 }

@@ -7,6 +7,7 @@ use Rattle.hack_closures.specs.View.{alone_in, choice_in, has_all, search_of}
 use Rattle.hack_closures.specs.declared.build.Build.{Build}
 use Rattle.hack_conflicts.specs.Rules.{IsChoice}
 use Rattle.hack_conflicts.specs.Sets.{rows_of}
+use Rattle.hack_hunt.proofs.OrderLemmas.{built_rise}
 use Rattle.hack_hunt.proofs.SetLemmas.{zip_more}
 use Rattle.hack_hunt.proofs.one.builds_of.Goals as goal
 
@@ -33,9 +34,11 @@ loop-set-preserved c = λ chosen.
 pub returns : goal.returns
 returns c = λ chosen.
     let closures = c.args.closures.now in
-    let sets = c.args.sets.now in (
+    let sets = c.args.sets.now in
+    let each = subst (λ (l : List (List Bool)). AllZip (IsBuildFor (choice_in closures) (alone_in closures) (has_all closures) (search_of closures)) l c.loop-set.builds.items)
+    (take_all c.loop-set.set-index (rows_of sets) (omega (arith, c.loop-set-test.false, length-map sets (λ v. v.items)))) (c.loop-set.invariant chosen) in (
       c.loop-set.builds.items,
-      subst (λ (l : List (List Bool)). AllZip (IsBuildFor (choice_in closures) (alone_in closures) (has_all closures) (search_of closures)) l c.loop-set.builds.items)
-          (take_all c.loop-set.set-index (rows_of sets) (omega (arith, c.loop-set-test.false, length-map sets (λ v. v.items)))) (c.loop-set.invariant chosen),
-      c.in_ok-sort_builds.ensures,
+      each,
+      c.in_ok-sort_builds.ensures.permutation,
+      c.in_ok-sort_builds.ensures.order (built_rise (choice_in closures) (alone_in closures) (has_all closures) (search_of closures) (rows_of sets) c.loop-set.builds.items each),
     )
