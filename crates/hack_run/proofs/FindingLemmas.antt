@@ -3,7 +3,7 @@ use Rattle.std.proofs.Math.Bool.{or_comm}
 use Rattle.std.proofs.Common.{◌≡◌, ◌∙◌, ◌+◌, ◌<◌, ◌≤◌, ◌∷◌, [], ℕ, Bool, true, false, List, Result, Err, All, Contains, arith, ap, get_or, inl, inr, length, take, subst, sym}
 use Rattle.std.specs.Prelude.{◌||◌}
 use Rattle.std.proofs.lemmas.List.{get_or-take, length-take, take_more}
-use Rattle.std.proofs.lemmas.List.Elements.{All-append, All-cons, All-contains, All-head, All-nil, All-tail}
+use Rattle.std.proofs.lemmas.List.Elements.{All-append, All-cons, All-contains, All-head, All-nil, All-tail, Contains-push}
 use Rattle.hack_base.proofs.Members.{Contains-cons_cases, Contains-nil}
 use Rattle.hack_conflicts.specs.declared.tried.Outcome.{Outcome}
 use Rattle.hack_conflicts.specs.declared.tried.Outcome.TheVariants.{Passed as RunPassed, Failed as RunFailed, Broken as RunBroken}
@@ -63,4 +63,4 @@ broken-built place (x ∷ built) m has broken all =
 pub not_cut : (place : ℕ) (came : Result (List Hunted) CulpritsFault) (left : List Spot) (hunted : List Hunted) (built : List Made) (plan : PlanView) → EndsSo came left hunted built plan → came ≡ Err Ended → All HasPassed (steps_from place built) → ⊥
 not_cut place came left hunted built plan end is all =
     let broken : Explains Ended built plan = subst (λ (c : Result (List Hunted) CulpritsFault). EndsSo c left hunted built plan) is end in
-    broken-built place built broken.0 broken.1 broken.2 all
+    broken-built place built broken.1 (subst (λ (l : List Made). Contains l broken.1) (sym broken.2) (Contains-push broken.0 broken.1)) broken.4 all
