@@ -214,7 +214,7 @@ module _ {R : Type 0} (ran : PlanView → List Handed → R → R → Type 0) (e
     whole = handed_ran ran ended none more new (length old.entries) builds.built.added a b builds.built.handed;
   }
 
-  -- a search that was cut short, where what is kept, or that no set was broken, explains that
+  -- a search that was cut short; what is kept explains why, or that no set was broken
   pub cut_hunt : (aim : Aim) (most : Option ℕ) (asked : List Asked) (before after : List Made) (now : Option CulpritsFault) (why : CulpritsFault) (old new : PlanView) (a b : R)
       → before ≡ [] → IsCourse (search_of aim.closures.now) most asked → Builds ran ended aim asked before after None now old new a b
       → ((made : List Made) → (AreWhole asked → AreUnbroken made) → Explains (unwrap_or now fault.Memory) made new → Explains why made new) → IsCutShort ran ended aim most why old new a b

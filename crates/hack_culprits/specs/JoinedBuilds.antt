@@ -1,5 +1,5 @@
 -- Sets that were built, one after the other.
-use Rattle.std.specs.Prelude.{ℕ, ◌≡◌, ◌≢◌, ◌≤◌, ◌+◌, ◌||◌, Bool, true, false, List, [], ◌∷◌, ◌++◌, All, IsSomeAnd, Option, Some, None, length}
+use Rattle.std.specs.Prelude.{ℕ, ◌≡◌, ◌≢◌, ◌+◌, ◌||◌, Bool, true, false, List, [], ◌∷◌, ◌++◌, All, IsSomeAnd, Option, length}
 use Rattle.std.proofs.Common.{refl, sym, ap, ◌∙◌, subst, inl, inr, arith, get_or}
 use Rattle.std.proofs.lemmas.Bool.{true≢false}
 use Rattle.std.proofs.lemmas.List.{append_assoc, append-nil, get_or-append-add, get_or_append_left, get_or_default, length-append, nil_from_length}
@@ -170,14 +170,13 @@ builds_more {R} ran ended law aim asked more first mid last why then now old bet
     let two = r.built.made in
     let grown : IsGrown between new = subst (IsGrown between) (sym two.plan) (made_grows aim.slot aim.member ys between) in
     let places : length between.entries ≡ length old.entries + length xs = ap (λ (p : PlanView). length p.entries) one.plan ∙ made_places aim.slot aim.member xs old in
-    let longer : length between.entries ≤ length new.entries = let e = ap (λ (p : PlanView). length p.entries) two.plan ∙ made_places aim.slot aim.member ys between in omega (arith, e) in
     let last_is : last ≡ mid ++ ys = two.built in
     let nothing-more : more ≡ [] → (last ≡ mid) × (new ≡ between) × (has_broken more ≡ false) = λ none.
-        let added : ys ≡ [] = nil_from_length ys (let few = two.few in omega (arith, few, ap length none)) in (
-          last_is ∙ ap (λ (l : List Made). mid ++ l) added ∙ append-nil mid,
-          two.plan ∙ ap (λ (l : List Made). with_made aim.slot aim.member l between) added,
-          ap has_broken none,
-        ) in
+    let added : ys ≡ [] = nil_from_length ys (let few = two.few in omega (arith, few, ap length none)) in (
+      last_is ∙ ap (λ (l : List Made). mid ++ l) added ∙ append-nil mid,
+      two.plan ∙ ap (λ (l : List Made). with_made aim.slot aim.member l between) added,
+      ap has_broken none,
+    ) in
     record {
       ready = r.ready;
       built = record {

@@ -33,13 +33,13 @@ pub fn find_culprits<R: Judge>(
     requires order { IsPreorder (search_of aim.closures.now) }
 
     // The plan grew by the runs that were built, each once, and these were handed out, in order. Each
-    // set that the search asked for has its run among them, and what is found is what their outcomes
-    // say.
+    // set that the search asked for has its run among them, none is broken, and what is found is what
+    // their outcomes say.
     ensures found { IfOk result (λ found. RanHunt R.ran R.ended aim.entry most_runs (finding_of found)
         plan.old plan.new runner.old runner.new) }
 
-    // After an error, too, no others were built than such a search asks for. It is `Ended` only where
-    // a run was broken.
+    // After an error, too, no others were built than such a search asks for. It is `Ended` just where
+    // a run was broken, after which none was built.
     ensures fault { IfErr result (λ fault. IsCutShort R.ran R.ended aim.entry most_runs fault
         plan.old plan.new runner.old runner.new) }
 {

@@ -148,7 +148,7 @@ pub fn hunt_context<R: Teller + Judge>(
 ) -> Result<Hunt, PlanFault>
     // The plan begins with the chosen packages without runs. The runner printed just its notices. Each
     // package was then searched in each slot, one after another, by its rules; the plan grew by just
-    // the runs that the searches built, and these were handed out, in order.
+    // the runs that the searches built, and these were handed out, in order, none after a broken one.
     ensures ran { IfOk result (λ hunt. (notes : List Note) × (mid : R) × (ids : List ℕ)
         × (start : PlanView) × IsSearchPlanOf (context_view cx.now).args.subcommand
         (context_view cx.now) rustup.now start ids notes

@@ -36,7 +36,7 @@ returns c = λ chosen.
     let closures = c.args.closures.now in
     let sets = c.args.sets.now in
     let each = subst (λ (l : List (List Bool)). AllZip (IsBuildFor (choice_in closures) (alone_in closures) (has_all closures) (search_of closures)) l c.loop-set.builds.items)
-        (take_all c.loop-set.set-index (rows_of sets) (omega (arith, c.loop-set-test.false, length-map sets (λ v. v.items)))) (c.loop-set.invariant chosen) in (
+    (take_all c.loop-set.set-index (rows_of sets) (omega (arith, c.loop-set-test.false, length-map sets (λ v. v.items)))) (c.loop-set.invariant chosen) in (
       c.loop-set.builds.items,
       each,
       c.in_ok-sort_builds.ensures.permutation,
