@@ -1,4 +1,5 @@
 pub mod CountLemmas
 pub mod LookLemmas
+pub mod LookedLemmas
 pub mod FolderLemmas
 mod RepositoryLemmas

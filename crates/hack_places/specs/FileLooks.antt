@@ -34,6 +34,11 @@ abbrev pub IsOfPath : List ℕ → LookFault → Type 0
 IsOfPath path Memory = Unit {0}
 IsOfPath path (Device named) = string_bytes named ≡ path
 
+-- the error of looks names a path that is one of those looked at
+abbrev pub IsOfLooked : (List ℕ → Type 0) → LookFault → Type 0
+IsOfLooked Looked Memory = Unit {0}
+IsOfLooked Looked (Device named) = Looked (string_bytes named)
+
 -- looks end at the first that fails, which is counted, and no other failed
 abbrev pub AreLooksCounted : {T : Type 0} → ℕ → ℕ → Result T LookFault → Type 0
 AreLooksCounted old new (Ok found) = GrowsBy 0 old new

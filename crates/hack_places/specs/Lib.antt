@@ -5,4 +5,5 @@ pub mod RepositoryView
 pub mod JournalPlaces
 pub mod CallPlaces
 pub mod PlacesView
+pub mod LookedPaths
 pub mod Internal

@@ -1,14 +1,16 @@
 //! Where the journal of a call lies: in the own folder of the workspace's repository, so that it is
 //! in no package and in no `git status`; or else beside the workspace's manifest.
 
-ghost use Rattle.std.specs.Prelude.{◌≡◌, [], IfOk, map, string_bytes};
+ghost use Rattle.std.specs.Prelude.{◌≡◌, [], IfErr, IfOk, map, string_bytes};
 ghost use Rattle.std.specs.List.{list_all};
 ghost use Rattle.hack_base.specs.Names.{optional_text};
 ghost use Rattle.hack_files.specs.Files.{KeepsAll, Makes};
-ghost use Rattle.hack_places.specs.FileLooks.{AreLooksCounted, AreLooksSeen};
+ghost use Rattle.hack_places.specs.FileLooks.{AreLooksCounted, AreLooksSeen, IsOfLooked};
+ghost use Rattle.hack_places.specs.Folders.{folders};
 ghost use Rattle.hack_places.specs.JournalPlaces.{is_plain_byte, journal_beside, journal_name};
 ghost use Rattle.hack_places.specs.JournalPlaces.{journal_of, journal_within, lockfile_copy};
 ghost use Rattle.hack_places.specs.JournalPlaces.{percent_for_slash, workspace_name};
+ghost use Rattle.hack_places.specs.LookedPaths.{IsRepositoryLook};
 ghost use Rattle.hack_places.specs.RepositoryView.{repository_of};
 
 use crate::look::LookFault;
@@ -24,6 +26,8 @@ pub fn journal_of<F: Files>(alloc: Global, folder: &str, files: &mut F) -> Resul
         → string_bytes path ≡ journal_of (F.bytes_at files.old) folder.now) }
     ensures counted { AreLooksCounted (F.failed files.old) (F.failed files.new) result }
     ensures seen { AreLooksSeen F.Files files.old files.new result }
+    ensures looked { IfErr result (IsOfLooked (IsRepositoryLook F.tells (F.bytes_at files.old)
+        (folders folder.now))) }
     ensures same { F.tells → KeepsAll (F.bytes_at files.old) (F.bytes_at files.new) }
     ensures untraced { F.whole → Makes [] (F.trace files.old) (F.trace files.new)
         (F.bytes_at files.old) (F.bytes_at files.new) }

@@ -1,9 +1,11 @@
 //! Where a call's workspace is, its journal, and what else is kept while manifests are edited.
 
-ghost use Rattle.std.specs.Prelude.{◌≡◌, ◌||◌, [], IfOk, string_bytes};
+ghost use Rattle.std.specs.Prelude.{◌≡◌, ◌||◌, [], IfErr, IfOk, string_bytes};
 ghost use Rattle.hack_files.specs.Files.{KeepsAll, Makes};
-ghost use Rattle.hack_places.specs.FileLooks.{AreLooksCounted, AreLooksSeen};
+ghost use Rattle.hack_places.specs.FileLooks.{AreLooksCounted, AreLooksSeen, IsOfLooked};
 ghost use Rattle.hack_places.specs.CallPlaces.{ArePlacesOf, is_left};
+ghost use Rattle.hack_places.specs.Folders.{folders};
+ghost use Rattle.hack_places.specs.LookedPaths.{IsPlaceLook, IsRepositoryLook};
 ghost use Rattle.hack_places.specs.PlacesView.{places_view};
 
 use crate::journal::{journal_beside, journal_of, lockfile_copy};
@@ -32,6 +34,8 @@ impl Places {
             folder.now (places_view places)) }
         ensures counted { AreLooksCounted (F.failed files.old) (F.failed files.new) result }
         ensures seen { AreLooksSeen F.Files files.old files.new result }
+        ensures looked { IfErr result (IsOfLooked (IsRepositoryLook F.tells
+            (F.bytes_at files.old) (folders folder.now))) }
         ensures same { F.tells → KeepsAll (F.bytes_at files.old) (F.bytes_at files.new) }
         ensures untraced { F.whole → Makes [] (F.trace files.old) (F.trace files.new)
             (F.bytes_at files.old) (F.bytes_at files.new) }
@@ -55,6 +59,7 @@ impl Places {
             → left ≡ is_left (F.bytes_at files.old) (places_view self.now)) }
         ensures counted { AreLooksCounted (F.failed files.old) (F.failed files.new) result }
         ensures seen { AreLooksSeen F.Files files.old files.new result }
+        ensures looked { IfErr result (IsOfLooked (IsPlaceLook (places_view self.now))) }
         ensures same { F.tells → KeepsAll (F.bytes_at files.old) (F.bytes_at files.new) }
         ensures untraced { F.whole → Makes [] (F.trace files.old) (F.trace files.new)
             (F.bytes_at files.old) (F.bytes_at files.new) }

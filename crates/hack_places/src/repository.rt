@@ -1,9 +1,12 @@
 //! The repository that a folder is in, and its own folder, in which git keeps what it knows.
 
-ghost use Rattle.std.specs.Prelude.{◌≡◌, [], IfOk, option_map};
-ghost use Rattle.hack_base.specs.Names.{optional_text};
+ghost use Rattle.std.specs.Prelude.{◌≡◌, [], IfErr, IfOk, Some, codes, option_map};
+ghost use Rattle.hack_base.specs.Names.{Name, optional_text};
+ghost use Rattle.hack_base.specs.PathTexts.{join_of, normal_of};
 ghost use Rattle.hack_files.specs.Files.{KeepsAll, Makes};
-ghost use Rattle.hack_places.specs.FileLooks.{AreLooksCounted, AreLooksSeen};
+ghost use Rattle.hack_places.specs.FileLooks.{AreLooksCounted, AreLooksSeen, IsOfLooked, IsOfPath};
+ghost use Rattle.hack_places.specs.Folders.{above};
+ghost use Rattle.hack_places.specs.LookedPaths.{IsOwnFolderLook, IsRepositoryLook};
 ghost use Rattle.hack_places.specs.Repositories.{has_head, is_folder, link_in, linked_by};
 ghost use Rattle.hack_places.specs.Repositories.{own_folder_in, repository_above, repository_in};
 ghost use Rattle.hack_places.specs.RepositoryView.{repository_of};
@@ -36,6 +39,8 @@ pub fn nearest_repository<F: Files>(
         repository_above (F.bytes_at files.old) steps folder.now) }
     ensures counted { AreLooksCounted (F.failed files.old) (F.failed files.new) result }
     ensures seen { AreLooksSeen F.Files files.old files.new result }
+    ensures looked { IfErr result (IsOfLooked (IsRepositoryLook F.tells (F.bytes_at files.old)
+        (above steps folder.now))) }
     ensures same { F.tells → KeepsAll (F.bytes_at files.old) (F.bytes_at files.new) }
     ensures untraced { F.whole → Makes [] (F.trace files.old) (F.trace files.new)
         (F.bytes_at files.old) (F.bytes_at files.new) }
@@ -59,6 +64,8 @@ fn repository_in<F: Files>(
         → option_map repository_of found ≡ repository_in (F.bytes_at files.old) folder.now) }
     ensures counted { AreLooksCounted (F.failed files.old) (F.failed files.new) result }
     ensures seen { AreLooksSeen F.Files files.old files.new result }
+    ensures looked { IfErr result (IsOfLooked (IsOwnFolderLook F.tells (F.bytes_at files.old)
+        folder.now (join_of folder.now (codes ".git")))) }
     ensures same { F.tells → KeepsAll (F.bytes_at files.old) (F.bytes_at files.new) }
     ensures untraced { F.whole → Makes [] (F.trace files.old) (F.trace files.new)
         (F.bytes_at files.old) (F.bytes_at files.new) }
@@ -83,6 +90,8 @@ fn own_folder<F: Files>(
         → optional_text found ≡ own_folder_in (F.bytes_at files.old) folder.now) }
     ensures counted { AreLooksCounted (F.failed files.old) (F.failed files.new) result }
     ensures seen { AreLooksSeen F.Files files.old files.new result }
+    ensures looked { IfErr result (IsOfLooked (IsOwnFolderLook F.tells (F.bytes_at files.old)
+        folder.now (join_of folder.now (codes ".git")))) }
     ensures same { F.tells → KeepsAll (F.bytes_at files.old) (F.bytes_at files.new) }
     ensures untraced { F.whole → Makes [] (F.trace files.old) (F.trace files.new)
         (F.bytes_at files.old) (F.bytes_at files.new) }
@@ -111,6 +120,9 @@ fn linked<F: Files>(
         → optional_text found ≡ linked_by (F.bytes_at files.old) folder.now bytes.now) }
     ensures counted { AreLooksCounted (F.failed files.old) (F.failed files.new) result }
     ensures seen { AreLooksSeen F.Files files.old files.new result }
+    ensures looked { IfErr result (IsOfLooked (λ path. (link : Name)
+        × (link_in bytes.now ≡ Some link)
+        × (path ≡ join_of (normal_of (join_of folder.now link)) (codes "HEAD")))) }
     ensures same { F.tells → KeepsAll (F.bytes_at files.old) (F.bytes_at files.new) }
     ensures untraced { F.whole → Makes [] (F.trace files.old) (F.trace files.new)
         (F.bytes_at files.old) (F.bytes_at files.new) }
@@ -145,6 +157,7 @@ fn has_head<F: Files>(alloc: Global, folder: &str, files: &mut F) -> Result<bool
         → found ≡ has_head (F.bytes_at files.old) folder.now) }
     ensures counted { AreLooksCounted (F.failed files.old) (F.failed files.new) result }
     ensures seen { AreLooksSeen F.Files files.old files.new result }
+    ensures named { IfErr result (IsOfPath (join_of folder.now (codes "HEAD"))) }
     ensures same { F.tells → KeepsAll (F.bytes_at files.old) (F.bytes_at files.new) }
     ensures untraced { F.whole → Makes [] (F.trace files.old) (F.trace files.new)
         (F.bytes_at files.old) (F.bytes_at files.new) }
@@ -159,6 +172,7 @@ fn is_folder<F: Files>(alloc: Global, path: &str, files: &mut F) -> Result<bool,
         → found ≡ is_folder (F.bytes_at files.old) path.now) }
     ensures counted { AreLooksCounted (F.failed files.old) (F.failed files.new) result }
     ensures seen { AreLooksSeen F.Files files.old files.new result }
+    ensures named { IfErr result (IsOfPath (join_of path.now (codes "."))) }
     ensures same { F.tells → KeepsAll (F.bytes_at files.old) (F.bytes_at files.new) }
     ensures untraced { F.whole → Makes [] (F.trace files.old) (F.trace files.new)
         (F.bytes_at files.old) (F.bytes_at files.new) }

@@ -1,6 +1,7 @@
 //! The folder of the workspace that a call is about, found as cargo does.
 
-ghost use Rattle.std.specs.Prelude.{◌≡◌, [], IfOk, Some, codes, option_map, string_bytes};
+ghost use Rattle.std.specs.Prelude.{◌≡◌, [], IfErr, IfOk, Some, codes, option_map};
+ghost use Rattle.std.specs.Prelude.{string_bytes};
 ghost use Rattle.hack_base.specs.Names.{optional_text};
 ghost use Rattle.hack_base.specs.PathTexts.{join_of, normal_of};
 ghost use Rattle.hack_files.specs.Files.{KeepsAll, Makes};
@@ -9,7 +10,8 @@ ghost use Rattle.toml.specs.View.{table_view};
 ghost use Rattle.hack_places.specs.Folders.{field_says, manifest_in, start_at};
 ghost use Rattle.hack_places.specs.Internal.{saying_in};
 ghost use Rattle.hack_places.specs.Folders.{text_in_bytes, text_says, tree_says, workspace_from};
-ghost use Rattle.hack_places.specs.FileLooks.{AreLooksCounted, AreLooksSeen};
+ghost use Rattle.hack_places.specs.FileLooks.{AreLooksCounted, AreLooksSeen, IsOfLooked, IsOfPath};
+ghost use Rattle.hack_places.specs.LookedPaths.{IsWorkspaceLook};
 
 use crate::look::{LookFault, held};
 use hack_base::paths::{join, normal, parent};
@@ -31,9 +33,11 @@ pub fn workspace<F: Files>(
     ensures found { IfOk result (λ folder. F.tells
         → string_bytes folder ≡ workspace_from (F.bytes_at files.old)
         (start_at (option_map (λ path. path.now) manifest_path.entry) dir.now)) }
-    // Nothing is changed.
+    // An error names the manifest that can't be looked at. Nothing is changed.
     ensures counted { AreLooksCounted (F.failed files.old) (F.failed files.new) result }
     ensures seen { AreLooksSeen F.Files files.old files.new result }
+    ensures looked { IfErr result (IsOfLooked (IsWorkspaceLook F.tells (F.bytes_at files.old)
+        (start_at (option_map (λ path. path.now) manifest_path.entry) dir.now))) }
     ensures same { F.tells → KeepsAll (F.bytes_at files.old) (F.bytes_at files.new) }
     ensures untraced { F.whole → Makes [] (F.trace files.old) (F.trace files.new)
         (F.bytes_at files.old) (F.bytes_at files.new) }
@@ -71,6 +75,8 @@ fn nearest<F: Files>(alloc: Global, start: &str, files: &mut F) -> Result<String
         → string_bytes folder ≡ workspace_from (F.bytes_at files.old) start.now) }
     ensures counted { AreLooksCounted (F.failed files.old) (F.failed files.new) result }
     ensures seen { AreLooksSeen F.Files files.old files.new result }
+    ensures looked { IfErr result (IsOfLooked (IsWorkspaceLook F.tells (F.bytes_at files.old)
+        start.now)) }
     ensures same { F.tells → KeepsAll (F.bytes_at files.old) (F.bytes_at files.new) }
     ensures untraced { F.whole → Makes [] (F.trace files.old) (F.trace files.new)
         (F.bytes_at files.old) (F.bytes_at files.new) }
@@ -109,6 +115,7 @@ fn said_at<F: Files>(alloc: Global, folder: &str, files: &mut F) -> Result<Said,
         → saying_in said ≡ option_map text_says (manifest_in (F.bytes_at files.old) folder.now)) }
     ensures counted { AreLooksCounted (F.failed files.old) (F.failed files.new) result }
     ensures seen { AreLooksSeen F.Files files.old files.new result }
+    ensures named { IfErr result (IsOfPath (join_of folder.now (codes "Cargo.toml"))) }
     ensures same { F.tells → KeepsAll (F.bytes_at files.old) (F.bytes_at files.new) }
     ensures untraced { F.whole → Makes [] (F.trace files.old) (F.trace files.new)
         (F.bytes_at files.old) (F.bytes_at files.new) }
@@ -165,6 +172,7 @@ fn manifest<F: Files>(
         → optional_text found ≡ manifest_in (F.bytes_at files.old) folder.now) }
     ensures counted { AreLooksCounted (F.failed files.old) (F.failed files.new) result }
     ensures seen { AreLooksSeen F.Files files.old files.new result }
+    ensures named { IfErr result (IsOfPath (join_of folder.now (codes "Cargo.toml"))) }
     ensures same { F.tells → KeepsAll (F.bytes_at files.old) (F.bytes_at files.new) }
     ensures untraced { F.whole → Makes [] (F.trace files.old) (F.trace files.new)
         (F.bytes_at files.old) (F.bytes_at files.new) }

@@ -56,10 +56,10 @@ plain_course f l u talks records watched real words env does places old at new f
 -- a call in which a look failed: one that would change manifests ends, and any other is performed
 -- after a warning
 pub unseen_course : {F L U : Type 0} (f : Filing F) (l : Filing L) (u : Noting U) (talks records watched : Type 0) (real : Name → Name) (words : List Name) (env : Env) (does : Edits) (old ended at new : Scene) (changes : Bool) → is_change does ≡ changes
-    → CannotSee f words env does old ended → IsFailed ended → CannotSee f words env does old at → at.host.term ≡ record old.host.term { warn = true }
+    → CannotSee f records real words env does old ended → IsFailed ended → CannotSee f records real words env does old at → at.host.term ≡ record old.host.term { warn = true }
     → (is_change does ≡ true → new ≡ ended) → (is_change does ≡ false → PerformsUnjournaled f talks words env at new) → IsCallCourse f l u talks records watched real words env old new
 unseen_course f l u talks records watched real words env does old ended at new true is unseen failed looked term same ran =
-    blind does (subst (λ (x : Scene). CannotSee f words env does old x) (sym (same is)) unseen) is (subst (λ (x : Scene). IsFailed x) (sym (same is)) failed)
+    blind does (subst (λ (x : Scene). CannotSee f records real words env does old x) (sym (same is)) unseen) is (subst (λ (x : Scene). IsFailed x) (sym (same is)) failed)
 unseen_course f l u talks records watched real words env does old ended at new false is unseen failed looked term same ran = warned does at looked is term (ran is)
 
 -- a path that isn't as it was is one whose own write such files refused

@@ -4,5 +4,7 @@ pub mod BackLemmas
 pub mod CountLemmas
 pub mod FailedLemmas
 mod CallLemmas
+mod LaneLemmas
 mod StrangerLemmas
 mod TellingLemmas
+pub mod SaidLemmas

@@ -28,7 +28,9 @@ use Rattle.hack_recovery.specs.declared.fault.CallFault.{CallFault}
 use Rattle.hack_recovery.specs.AskedEdits.{AsksForEdits, is_change, is_restore}
 use Rattle.hack_recovery.specs.Admission.{IsAdmitted}
 use Rattle.hack_places.specs.CallPlaces.{ArePlacesOf, PlacesAt, is_left}
-use Rattle.hack_places.specs.Folders.{start_at, workspace_from}
+use Rattle.hack_places.specs.FileLooks.{Unchanged}
+use Rattle.hack_places.specs.Folders.{folders, start_at, workspace_from}
+use Rattle.hack_places.specs.LookedPaths.{IsPlaceLook, IsRepositoryLook, IsWorkspaceLook}
 use Rattle.hack_recovery.specs.FailedFiles.{RefusesThese}
 use Rattle.hack_recovery.specs.GuardEvents.{GuardsView, after_leave, after_start}
 use Rattle.hack_recovery.specs.LockEvents.{LocksView, after_release}
@@ -62,13 +64,25 @@ pub record DecidesHowToGoOn (tells whole records : Type 0) (real : Name → Name
   pub untouched : Untouched tells whole old new
   pub counted : GrowsBy 0 old.files.failed new.files.failed
 
+-- a path that is looked at to find the places of a call that names this manifest, or none, in this
+-- folder: on the way up to the workspace's folder, on the way from there to its repository, or where an
+-- interrupted call may have left something
+pub data IsLookedAt (tells records : Type 0) (real : Name → Name) (held : Contents) (path : Option Name) (dir looked : Name) : Type 0 where
+  for_workspace : IsWorkspaceLook tells held (start_at path dir) looked → IsLookedAt tells records real held path dir looked
+  for_repository : (folder top : Name) → (tells → folder ≡ workspace_from held (start_at path dir)) → (records → top ≡ real folder) → IsRepositoryLook tells held (folders top) looked
+      → IsLookedAt tells records real held path dir looked
+  for_places : (folder : Name) (places : PlacesAt) → (tells → folder ≡ workspace_from held (start_at path dir)) → (records → places.folder ≡ real folder)
+      → ArePlacesOf tells held places.folder places → IsPlaceLook places looked → IsLookedAt tells records real held path dir looked
+
 -- it is known what the call does to manifests, but not where its journal is, or whether an
--- interrupted call left one: one call of files failed, which left a path unseen, and nothing was changed
-pub record CannotSee {F : Type 0} (f : Filing F) (words : List Name) (env : Env) (does : Edits) (old new : Scene) : Type 0 where
+-- interrupted call left one: one call of files failed, which left a path unseen that is looked at for
+-- that, and nothing was changed
+pub record CannotSee {F : Type 0} (f : Filing F) (records : Type 0) (real : Name → Name) (words : List Name) (env : Env) (does : Edits) (old new : Scene) : Type 0 where
   pub path : Option Name
   pub asked : AsksForEdits env words does path
   pub failed : GrowsBy 1 old.files.failed new.files.failed
   pub looked : Name
+  pub at : IsLookedAt f.tells records real old.files.held path (string_bytes env.current_dir) looked
   pub unseen : IsUnseen f looked
   pub untouched : Untouched f.tells f.whole old new
   pub locks : new.locks ≡ old.locks
@@ -131,13 +145,12 @@ Warns was now = (now ≡ record was { warn = true }) ⊎ (now ≡ record was { w
 
 -- after it no file is at the journal's path, and the lockfile's copy is gone; or one of them stays, or
 -- a look at the journal failed, which is reported as a warning, and so is memory that was refused for it,
--- which is an error besides
+-- which is an error besides; the copy is as it was unless no journal stays
 pub data IsJournalClosed {F : Type 0} (f : Filing F) (places : PlacesAt) (old new : FilesView) (was now : Term) : Type 0 where
   gone : now ≡ was → GrowsBy 0 old.failed new.failed → (f.tells → old.held places.journal ≡ None) → (f.tells → new.held places.copy ≡ None) → IsJournalClosed f places old new was now
-  stays : Warns was now → GrowsBy 0 old.failed new.failed → (f.tells → IsSome (old.held places.journal)) → IsJournalClosed f places old new was now
-  unseen : Warns was now → GrowsBy 1 old.failed new.failed → IsUnseen f places.journal → (f.tells → KeepsAll old.held new.held) → IsJournalClosed f places old new was now
-  starved : now ≡ record was { warn = true; error = true } → OneMayFail old.failed new.failed → (f.tells → KeepsAll old.held new.held)
-      → IsJournalClosed f places old new was now
+  stays : Warns was now → GrowsBy 0 old.failed new.failed → (f.tells → IsSome (old.held places.journal)) → Unchanged f.tells f.whole old new → IsJournalClosed f places old new was now
+  unseen : Warns was now → GrowsBy 1 old.failed new.failed → IsUnseen f places.journal → Unchanged f.tells f.whole old new → IsJournalClosed f places old new was now
+  starved : now ≡ record was { warn = true; error = true } → OneMayFail old.failed new.failed → Unchanged f.tells f.whole old new → IsJournalClosed f places old new was now
   copy_stays : Warns was now → GrowsBy 1 old.failed new.failed → IsRefused f places.copy → (f.tells → old.held places.journal ≡ None) → IsJournalClosed f places old new was now
 
 -- after it no other file than the lockfile's copy is changed, and what stays was reported
@@ -207,9 +220,9 @@ pub data IsCallCourse {F L U : Type 0} (f : Filing F) (l : Filing L) (u : Noting
       → IsCallCourse f l u talks records watched real words env old new
   -- it isn't known whether an interrupted call left anything: a call that would change manifests ends
   -- with an error, and nothing was changed or called
-  blind : (does : Edits) → CannotSee f words env does old new → is_change does ≡ true → IsFailed new → IsCallCourse f l u talks records watched real words env old new
+  blind : (does : Edits) → CannotSee f records real words env does old new → is_change does ≡ true → IsFailed new → IsCallCourse f l u talks records watched real words env old new
   -- any other is performed without a journal, after a warning
-  warned : (does : Edits) (at : Scene) → CannotSee f words env does old at → is_change does ≡ false → at.host.term ≡ record old.host.term { warn = true }
+  warned : (does : Edits) (at : Scene) → CannotSee f records real words env does old at → is_change does ≡ false → at.host.term ≡ record old.host.term { warn = true }
       → PerformsUnjournaled f talks words env at new → IsCallCourse f l u talks records watched real words env old new
   -- another call has the lock, there is none, or memory was refused: nothing was changed or called
   turned_away : (does : Edits) (places : PlacesAt) (fault : CallFault) → DecidesHowToGoOn f.tells f.whole records real words env does places old new (Err fault) → IsFailed new

@@ -10,4 +10,6 @@ pub mod Restoring
 pub mod Telling
 pub mod CallCourses
 pub mod ProgramCalls
+pub mod LaneCalls
 pub mod InternalHalts
+pub mod ShownCalls

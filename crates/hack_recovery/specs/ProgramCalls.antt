@@ -2,13 +2,15 @@
 use Rattle.std.specs.Prelude.{◌≡◌, ℕ, Bool, true, Ok, Err}
 use Rattle.hack_base.specs.declared.writes.Sink.{Ghosts as Taking}
 use Rattle.hack_base.specs.Names.{Name, names_of, optional_text}
-use Rattle.hack_base.specs.Streams.{Stream, WritesText}
+use Rattle.hack_base.specs.Streams.{WritesText}
 use Rattle.hack_files.specs.declared.fs.Files.{Ghosts as Filing}
 use Rattle.hack_journal.specs.declared.unkept.Unkept.{Ghosts as Noting}
 use Rattle.hack_process.specs.declared.caller.Caller.{Ghosts as Calling}
 use Rattle.hack_run.specs.CallTrace.{colored_by}
 use Rattle.hack_files.specs.View.{files_view}
+use Rattle.hack_run.specs.Shown.{looks_of}
 use Rattle.hack_run.specs.Worlds.{IsStatus}
+use Rattle.hack_session.specs.StepEffects.{Scene as Said}
 use Rattle.hack_start.specs.Started.{GivesStart, SetsColoring, auto_coloring_of, start_fault_text}
 use Rattle.hack_start.specs.SystemView.{SystemView}
 use Rattle.hack_start.specs.declared.started.StartFault.{StartFault}
@@ -21,6 +23,7 @@ use Rattle.hack_recovery.specs.CallCourses.{IsCallCourse}
 use Rattle.hack_recovery.specs.GuardEvents.{GuardsView}
 use Rattle.hack_recovery.specs.LockEvents.{LocksView}
 use Rattle.hack_recovery.specs.Scenes.{Scene}
+use Rattle.hack_recovery.specs.ShownCalls.{SaysWhole}
 use Rattle.hack_recovery.specs.declared.call.Outside.{Outside}
 
 -- what a call sees and changes
@@ -59,18 +62,19 @@ colored coloring term = record term { coloring = coloring }
 -- Arguments and environment were read, and the call was performed with them, on a terminal that is
 -- coloured as they ask, and as it was where they ask for nothing. Or an error says why
 -- they could not be read: its line was written to `err`, or a front of it, and a failure counted for
--- that; and nothing else was done.
-pub data IsProgramCall {F L U : Type 0} (f : Filing F) (l : Filing L) (u : Noting U) (informs talks records watched : Type 0) (real : Name → Name) (system : SystemView)
-    (is_terminal : Bool) (err_before err_after : Stream) (old new : Scene) (status : ℕ) : Type 0 where
+-- that; and nothing else was done. What is said over files with a journal is said over `j`.
+pub data IsProgramCall {F L U J : Type 0} (f : Filing F) (l : Filing L) (u : Noting U) (j : Filing J) (informs talks records watched : Type 0) (real : Name → Name) (system : SystemView)
+    (is_terminal : Bool) (before after : Said) (old new : Scene) (status : ℕ) : Type 0 where
   performed : (started : Started) (coloring asked : Coloring) → GivesStart informs system (Ok started)
       → (informs → SetsColoring (auto_coloring_of is_terminal system) old.host.term.coloring coloring (Ok started))
       → AsksColoring (optional_text started.env.term_color) (names_of started.words.items) asked
       → IsStatus started.env.deny_warnings new.host status
       → IsCallCourse f l u talks records watched real (names_of started.words.items) started.env
       (scene_on (colored (colored_by asked coloring) old.host.term) old) new
-      → IsProgramCall f l u informs talks records watched real system is_terminal err_before err_after old new status
+      → (talks → SaysWhole f j talks (names_of started.words.items) started.env (looks_of (colored (colored_by asked coloring) old.host.term)) (looks_of new.host.term) before after)
+      → IsProgramCall f l u j informs talks records watched real system is_terminal before after old new status
   unread : (fault : StartFault) (coloring : Coloring) → GivesStart informs system (Err fault)
       → (informs → SetsColoring (auto_coloring_of is_terminal system) old.host.term.coloring coloring (Err fault))
-      → WritesText (error_line coloring (start_fault_text fault)) err_before err_after
+      → WritesText (error_line coloring (start_fault_text fault)) before.streams.err after.streams.err → after.streams.out ≡ before.streams.out
       → new ≡ scene_on (record (colored coloring old.host.term) { error = true }) old → status ≡ 1
-      → IsProgramCall f l u informs talks records watched real system is_terminal err_before err_after old new status
+      → IsProgramCall f l u j informs talks records watched real system is_terminal before after old new status

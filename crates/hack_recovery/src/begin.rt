@@ -6,8 +6,8 @@ ghost use Rattle.hack_base.specs.Counters.{GrowsBy};
 ghost use Rattle.hack_base.specs.Names.{names_of, optional_text};
 ghost use Rattle.hack_files.specs.Files.{KeepsAll, Makes};
 ghost use Rattle.hack_journal.specs.Rows.{spot_of};
-ghost use Rattle.hack_recovery.specs.CallCourses.{ArePlacesFound, Begins};
-ghost use Rattle.hack_places.specs.FileLooks.{AreLooksCounted, AreLooksSeen};
+ghost use Rattle.hack_recovery.specs.CallCourses.{ArePlacesFound, Begins, IsLookedAt};
+ghost use Rattle.hack_places.specs.FileLooks.{AreLooksCounted, AreLooksSeen, IsOfLooked};
 ghost use Rattle.hack_recovery.specs.InternalHalts.{IsHalt};
 ghost use Rattle.hack_places.specs.PlacesView.{places_view};
 ghost use Rattle.hack_run.specs.Readings.{IsEarlyReading};
@@ -80,7 +80,8 @@ pub(crate) fn begin<F: Files, K: Locks>(
     ensures reading { IfOk result (λ begun. IfSome begun.reading
         (IsEarlyReading env.now (names_of words.now))) }
     ensures counted { OnOk result (GrowsBy 0 (F.failed files.old) (F.failed files.new)) }
-    ensures halted { IfErr result (IsHalt F.Files env.now (names_of words.now)
+    ensures halted { IfErr result (IsHalt F.Files K.tells (K.real locks.now) env.now
+        (names_of words.now) (F.bytes_at files.old)
         (F.failed files.old) (F.failed files.new)) }
     ensures same { F.tells → KeepsAll (F.bytes_at files.old) (F.bytes_at files.new) }
     ensures untraced { F.whole → Makes [] (F.trace files.old) (F.trace files.new)
@@ -119,6 +120,9 @@ fn find<F: Files, K: Locks>(
         (string_bytes env.now.current_dir) (places_view found.places) found.is_left) }
     ensures counted { AreLooksCounted (F.failed files.old) (F.failed files.new) result }
     ensures seen { AreLooksSeen F.Files files.old files.new result }
+    ensures looked { IfErr result (IsOfLooked (IsLookedAt F.tells K.tells (K.real locks.now)
+        (F.bytes_at files.old) (optional_text asked.now.manifest_path)
+        (string_bytes env.now.current_dir))) }
     ensures same { F.tells → KeepsAll (F.bytes_at files.old) (F.bytes_at files.new) }
     ensures untraced { F.whole → Makes [] (F.trace files.old) (F.trace files.new)
         (F.bytes_at files.old) (F.bytes_at files.new) }

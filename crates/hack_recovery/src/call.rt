@@ -1,9 +1,11 @@
 //! A call of the program, from what the system tells of it.
 
-ghost use Rattle.std.specs.Prelude.{◌≡◌};
-ghost use Rattle.hack_base.specs.Streams.{stream_of};
+ghost use Rattle.std.specs.Prelude.{◌≡◌, not};
+ghost use Rattle.hack_files.specs.View.{files_view};
+ghost use Rattle.hack_recovery.specs.LaneCalls.{ProgramCallsInLanes};
 ghost use Rattle.hack_recovery.specs.ProgramCalls.{IsProgramCall, IsSameOutside, colored, scene_outside};
 ghost use Rattle.hack_run.specs.CallTrace.{colored_by};
+ghost use Rattle.hack_run.specs.Shown.{scene_at};
 
 use crate::guards::Guards;
 use crate::keepers::Keepers;
@@ -11,6 +13,8 @@ use crate::locks::Locks;
 use crate::perform::perform;
 use hack_base::writes::Sink;
 use hack_files::fs::Files;
+use hack_journal::apart::Apart;
+use hack_journal::journaled::Journaled;
 use hack_journal::unkept::Unkept;
 use hack_process::process::Caller;
 use hack_run::host::Host;
@@ -63,13 +67,23 @@ pub fn call<
     outside: &mut Outside<'_, C, O, E>,
 ) -> (u8, F, L, U)
     ensures outside { IsSameOutside outside.old outside.new }
-    ensures goes { IsProgramCall F.Files L.Files U.Unkept S.tells C.tells K.tells G.tells
+    ensures goes { IsProgramCall F.Files L.Files U.Unkept ⟦<Apart<Journaled<F, U>, L> as Files>⟧
+        S.tells C.tells K.tells G.tells
         (K.real keepers.old.locks) (S.shown system.now) outside.old.is_terminal
-        (stream_of E.Sink outside.old.err.now) (stream_of E.Sink outside.new.err.now)
+        (scene_at (C.calls outside.old.caller.now) O.Sink E.Sink
+        outside.old.out.now outside.old.err.now)
+        (scene_at (C.calls outside.new.caller.now) O.Sink E.Sink
+        outside.new.out.now outside.new.err.now)
         (scene_outside F.Files L.Files U.Unkept C.Caller O.Sink files lockfiles unkept
         (K.shown keepers.old.locks) (G.shown keepers.old.guards) outside.old)
         (scene_outside F.Files L.Files U.Unkept C.Caller O.Sink result.1 result.2 result.3
         (K.shown keepers.new.locks) (G.shown keepers.new.guards) outside.new) result.0 }
+
+    // Commands were started by the rules of lanes alone, and none that was started is left.
+    ensures in_lanes { ProgramCallsInLanes F.Files L.Files C.did C.course C.tells C.calls S.tells
+        (S.shown system.now) (not outside.new.term.now.error)
+        (files_view F.Files files, files_view L.Files lockfiles)
+        outside.old.caller.now outside.new.caller.now }
 {
     let is_terminal = outside.is_terminal;
     let came = Started::of(alloc, system, is_terminal, &mut outside.term.coloring);

@@ -7,6 +7,7 @@
 ghost use Rattle.std.specs.Prelude.{◌≡◌, ◌≢◌, ◌⊎◌, [], IfErr, None, Ok, OnOk, Some, false};
 ghost use Rattle.std.specs.Prelude.{string_bytes, true};
 ghost use Rattle.std.specs.Option.{option_or};
+ghost use Rattle.hack_base.specs.Streams.{WritesSome, stream_of};
 ghost use Rattle.hack_base.specs.Counters.{GrowsBy};
 ghost use Rattle.hack_base.specs.Names.{Name};
 ghost use Rattle.hack_files.specs.Files.{CountsFailedCall, KeepsAll, KeepsOthers, Makes};
@@ -17,6 +18,7 @@ ghost use Rattle.hack_places.specs.PlacesView.{places_view};
 ghost use Rattle.hack_recovery.specs.FailedFiles.{OneFailedAt};
 ghost use Rattle.hack_recovery.specs.Restoring.{IsWhyUncopied};
 ghost use Rattle.hack_recovery.specs.Scenes.{OneMayFail};
+ghost use Rattle.hack_recovery.specs.ShownCalls.{TellsLines};
 ghost use Rattle.hack_recovery.specs.Telling.{Tells};
 ghost use Rattle.hack_run.specs.Worlds.{IsSameHost, host_view};
 
@@ -64,6 +66,7 @@ pub(crate) fn keep_copy<F: Files, L: Files, E: Sink>(
         × MakesOrNot (puts (string_bytes places.now.copy) bytes)
         (F.trace files.old) (F.trace files.new) (F.bytes_at files.old) (F.bytes_at files.new)) }
     ensures same { L.tells → KeepsAll (L.bytes_at lockfiles.old) (L.bytes_at lockfiles.new) }
+    ensures lines { WritesSome (stream_of E.Sink err.old) (stream_of E.Sink err.new) }
 {
     match look(alloc, lockfiles, places.lockfile.as_str()) {
         Ok(None) => Ok(()),
@@ -83,7 +86,8 @@ fn copy_fault<F: Files, E: Sink>(
     term: &Term,
     err: &mut E,
 ) -> CallFault
-    ensures { (result ≡ CallFault.Memory) ⊎ (result ≡ CallFault.NoCopy) }
+    ensures fault { (result ≡ CallFault.Memory) ⊎ (result ≡ CallFault.NoCopy) }
+    ensures lines { WritesSome (stream_of E.Sink err.old) (stream_of E.Sink err.new) }
 {
     match fault {
         FileFault::Memory => CallFault::Memory,
@@ -151,6 +155,10 @@ pub(crate) fn settle<F: Files, L: Files, C: Caller, O: Sink, E: Sink>(
         → L.tells → KeepsAll (L.bytes_at lockfiles.old) (L.bytes_at lockfiles.new) }
     ensures apart { L.tells → KeepsOthers (string_bytes places.now.lockfile)
         (L.bytes_at lockfiles.old) (L.bytes_at lockfiles.new) }
+    ensures lines { TellsLines host.old.term.now host.new.term.now
+        (stream_of E.Sink host.old.err.now) (stream_of E.Sink host.new.err.now) }
+    ensures still { (host.new.caller.now ≡ host.old.caller.now)
+        × (host.new.out.now ≡ host.old.out.now) }
 {
     let bytes = match look(host.alloc, files, places.copy.as_str()) {
         Ok(None) => return Ok(true),
@@ -201,6 +209,10 @@ fn give_back<L: Files, C: Caller, O: Sink, E: Sink>(
     ensures failed { OneMayFail (L.failed lockfiles.old) (L.failed lockfiles.new) }
     ensures apart { L.tells → KeepsOthers (string_bytes places.now.lockfile)
         (L.bytes_at lockfiles.old) (L.bytes_at lockfiles.new) }
+    ensures lines { TellsLines host.old.term.now host.new.term.now
+        (stream_of E.Sink host.old.err.now) (stream_of E.Sink host.new.err.now) }
+    ensures still { (host.new.caller.now ≡ host.old.caller.now)
+        × (host.new.out.now ≡ host.old.out.now) }
 {
     let path = places.lockfile.as_str();
     let is_back = match holds(host.alloc, path, bytes, lockfiles) {
@@ -234,6 +246,10 @@ fn leave<L: Files, C: Caller, O: Sink, E: Sink>(
         (L.failed lockfiles.old) (L.failed lockfiles.new) }
     ensures failed { OneMayFail (L.failed lockfiles.old) (L.failed lockfiles.new) }
     ensures same { L.tells → KeepsAll (L.bytes_at lockfiles.old) (L.bytes_at lockfiles.new) }
+    ensures lines { TellsLines host.old.term.now host.new.term.now
+        (stream_of E.Sink host.old.err.now) (stream_of E.Sink host.new.err.now) }
+    ensures still { (host.new.caller.now ≡ host.old.caller.now)
+        × (host.new.out.now ≡ host.old.out.now) }
 {
     let path = places.lockfile.as_str();
     match holds(host.alloc, path, bytes, lockfiles) {
@@ -285,6 +301,8 @@ fn drop_copy<F: Files, E: Sink>(
         (F.bytes_at files.old) (F.bytes_at files.new) }
     ensures made { F.whole → MakesOrNot (removes (string_bytes places.now.copy))
         (F.trace files.old) (F.trace files.new) (F.bytes_at files.old) (F.bytes_at files.new) }
+    ensures lines { TellsLines term.old term.new
+        (stream_of E.Sink err.old) (stream_of E.Sink err.new) }
 {
     let copy = places.copy.as_str();
     match files.remove(copy) {
@@ -304,6 +322,8 @@ fn tell_fault<F: Files, E: Sink>(
 ) -> Result<bool, CallFault>
     ensures told { Tells term.old term.new result }
     ensures never { result ≢ Ok true }
+    ensures lines { TellsLines term.old term.new
+        (stream_of E.Sink err.old) (stream_of E.Sink err.new) }
 {
     match fault {
         FileFault::Memory => Err(CallFault::Memory),

@@ -1,21 +1,28 @@
 //! A whole call: what an interrupted one left is restored first, and what this one edits is kept in
 //! a journal meanwhile, under the eyes of a guard.
 
-ghost use Rattle.std.specs.Prelude.{◌≡◌, ◌↔◌, ℕ, IfSome, IsTrue, Ok, false, string_bytes, true};
+ghost use Rattle.std.specs.Prelude.{◌≡◌, ◌↔◌, ℕ, IfSome, IsTrue, Ok, false, not, string_bytes};
+ghost use Rattle.std.specs.Prelude.{true};
 ghost use Rattle.hack_base.specs.Names.{names_of};
+ghost use Rattle.hack_base.specs.Streams.{WritesSome, stream_of};
 ghost use Rattle.hack_files.specs.Files.{KeepsOthers, MakesOrNot, removes};
 ghost use Rattle.hack_journal.specs.Rows.{spot_of};
+ghost use Rattle.hack_journaled.specs.Journals.{contents_seen};
 ghost use Rattle.hack_recovery.specs.AskedEdits.{is_restore};
 ghost use Rattle.hack_recovery.specs.CallCourses.{Continues, IsCallCourse, IsJournalClosed};
 ghost use Rattle.hack_recovery.specs.CallCourses.{CopiesAndRuns, IsJournaledCall, IsLockedCourse};
 ghost use Rattle.hack_recovery.specs.CallCourses.{PerformsUnjournaled};
 ghost use Rattle.hack_recovery.specs.CallCourses.{RunsOverJournal, Warns};
 ghost use Rattle.hack_recovery.specs.GuardEvents.{GuardsView};
+ghost use Rattle.hack_recovery.specs.LaneCalls.{AsksToRestore, CallsInLanes};
 ghost use Rattle.hack_recovery.specs.LockEvents.{LocksView};
 ghost use Rattle.hack_places.specs.PlacesView.{places_view};
 ghost use Rattle.hack_recovery.specs.Restoring.{TakesBack};
 ghost use Rattle.hack_recovery.specs.Scenes.{scene_by, scene_of};
+ghost use Rattle.hack_recovery.specs.ShownCalls.{SaysWhole, TellsLines};
+ghost use Rattle.hack_run.specs.Lanes.{IsLaneCall};
 ghost use Rattle.hack_run.specs.Readings.{IsEarlyReading};
+ghost use Rattle.hack_run.specs.Shown.{SaysCall, looks_of, scene_on};
 ghost use Rattle.hack_files.specs.View.{FilesView, files_view};
 ghost use Rattle.hack_run.specs.Worlds.{IsSameHost, IsStatus, host_view};
 
@@ -31,6 +38,8 @@ use crate::restore::restore;
 use crate::unseen::blindly;
 use hack_base::writes::Sink;
 use hack_files::fs::Files;
+use hack_journal::apart::Apart;
+use hack_journal::journaled::Journaled;
 use hack_journal::unkept::Unkept;
 use hack_journaled::journaled::run_journaled;
 use hack_places::look::{LookFault, is_there};
@@ -67,6 +76,19 @@ pub fn perform<F: Files, L: Files, U: Unkept, K: Locks, G: Guards, C: Starts, O:
         (K.shown keepers.old.locks) (G.shown keepers.old.guards) host.old)
         (scene_of F.Files L.Files U.Unkept C.Caller O.Sink result.1 result.2 result.3
         (K.shown keepers.new.locks) (G.shown keepers.new.guards) host.new) }
+
+    // What `run` says of the call is said, if it is performed, and lines before and behind that.
+    ensures shown { C.tells → SaysWhole F.Files ⟦<Apart<Journaled<F, U>, L> as Files>⟧
+        C.tells (names_of words.now) host.old.env.now
+        (looks_of host.old.term.now) (looks_of host.new.term.now)
+        (scene_on C.Caller O.Sink E.Sink host.old) (scene_on C.Caller O.Sink E.Sink host.new) }
+    // Commands were started by the rules of lanes alone, and none that was started is left; or the
+    // call isn't performed, and nothing was started.
+    ensures in_lanes { CallsInLanes F.Files L.Files C.did C.course C.tells C.calls
+        (AsksToRestore host.old.env.now (names_of words.now)) (not host.new.term.now.error)
+        (names_of words.now) host.old.env.now
+        (files_view F.Files files, files_view L.Files lockfiles)
+        host.old.caller.now host.new.caller.now }
 {
     let mut files = files;
     let begun = match begin(host.alloc, words, host.env, &mut files, &keepers.locks) {
@@ -104,6 +126,10 @@ fn report<C: Caller, O: Sink, E: Sink>(fault: CallFault, host: &mut Host<'_, C, 
     ensures view { host_view C.Caller O.Sink host.new
         ≡ record (host_view C.Caller O.Sink host.old) { term = host.new.term.now } }
     ensures error { host.new.term.now.error ≡ true }
+    ensures lines { TellsLines host.old.term.now host.new.term.now
+        (stream_of E.Sink host.old.err.now) (stream_of E.Sink host.new.err.now) }
+    ensures still { (host.new.caller.now ≡ host.old.caller.now)
+        × (host.new.out.now ≡ host.old.out.now) }
 {
     let _ = host.term.error(fault.text(), host.err);
     host.status()
@@ -131,6 +157,18 @@ fn plainly<F: Files, C: Starts, O: Sink, E: Sink>(
         (host_view C.Caller O.Sink host.old))
         (scene_by (files_view F.Files files.new) lockfiles unkept locks guards
         (host_view C.Caller O.Sink host.new)) }
+    ensures lines { is_restore begun.edits ≡ true
+        → TellsLines host.old.term.now host.new.term.now
+        (stream_of E.Sink host.old.err.now) (stream_of E.Sink host.new.err.now) }
+    ensures still { is_restore begun.edits ≡ true
+        → (host.new.caller.now ≡ host.old.caller.now) × (host.new.out.now ≡ host.old.out.now) }
+    ensures shown { is_restore begun.edits ≡ false → C.tells
+        → SaysCall F.Files files.old files.new C.tells (names_of words.now) host.old.env.now
+        (looks_of host.old.term.now) (looks_of host.new.term.now)
+        (scene_on C.Caller O.Sink E.Sink host.old) (scene_on C.Caller O.Sink E.Sink host.new) }
+    ensures in_lanes { is_restore begun.edits ≡ false → IsLaneCall C.did C.course C.tells C.calls
+        (not host.new.term.now.error) F.tells (names_of words.now) host.old.env.now
+        (F.bytes_at files.old) host.old.caller.now host.new.caller.now }
 {
     if begun.edits == Edits::Restore {
         if !host.env.by_guard {
@@ -142,7 +180,9 @@ fn plainly<F: Files, C: Starts, O: Sink, E: Sink>(
 }
 
 /// Says why nothing is restored.
-fn tell_unrestored<E: Sink>(is_left: bool, term: &Term, err: &mut E) {
+fn tell_unrestored<E: Sink>(is_left: bool, term: &Term, err: &mut E)
+    ensures { WritesSome (stream_of E.Sink err.old) (stream_of E.Sink err.new) }
+{
     let text = if is_left {
         "another call is editing the manifests of this workspace, and restores them"
     } else {
@@ -173,6 +213,15 @@ fn guarded<F: Files, L: Files, U: Unkept, K: Locks, G: Guards, C: Starts, O: Sin
         (K.shown keepers.old.locks) (G.shown keepers.old.guards) host.old)
         (scene_of F.Files L.Files U.Unkept C.Caller O.Sink result.1 result.2 result.3
         (K.shown keepers.new.locks) (G.shown keepers.new.guards) host.new) }
+    ensures shown { C.tells → SaysWhole F.Files ⟦<Apart<Journaled<F, U>, L> as Files>⟧
+        C.tells (names_of words.now) host.old.env.now
+        (looks_of host.old.term.now) (looks_of host.new.term.now)
+        (scene_on C.Caller O.Sink E.Sink host.old) (scene_on C.Caller O.Sink E.Sink host.new) }
+    ensures in_lanes { CallsInLanes F.Files L.Files C.did C.course C.tells C.calls
+        (begun.edits ≡ Edits.Restore) (not host.new.term.now.error)
+        (names_of words.now) host.old.env.now
+        (files_view F.Files files, files_view L.Files lockfiles)
+        host.old.caller.now host.new.caller.now }
 {
     let mut files = files;
     let mut lockfiles = lockfiles;
@@ -204,6 +253,10 @@ fn take_back<F: Files, L: Files, C: Caller, O: Sink, E: Sink>(
         locks guards (host_view C.Caller O.Sink host.old))
         (scene_by (files_view F.Files files.new) (files_view L.Files lockfiles.new) unkept
         locks guards (host_view C.Caller O.Sink host.new)) result }
+    ensures lines { TellsLines host.old.term.now host.new.term.now
+        (stream_of E.Sink host.old.err.now) (stream_of E.Sink host.new.err.now) }
+    ensures still { (host.new.caller.now ≡ host.old.caller.now)
+        × (host.new.out.now ≡ host.old.out.now) }
 {
     let dir = host.env.current_dir.as_str();
     let journal = restore(host.alloc, dir, &places.place, files, host.term, host.err);
@@ -249,6 +302,15 @@ fn go_on<F: Files, L: Files, U: Unkept, K: Locks, G: Guards, C: Starts, O: Sink,
         (K.shown keepers.old.locks) (G.shown keepers.old.guards) host.old)
         (scene_of F.Files L.Files U.Unkept C.Caller O.Sink result.1 result.2 result.3
         (K.shown keepers.new.locks) (G.shown keepers.new.guards) host.new) }
+    ensures shown { C.tells → SaysWhole F.Files ⟦<Apart<Journaled<F, U>, L> as Files>⟧
+        C.tells (names_of words.now) host.old.env.now
+        (looks_of host.old.term.now) (looks_of host.new.term.now)
+        (scene_on C.Caller O.Sink E.Sink host.old) (scene_on C.Caller O.Sink E.Sink host.new) }
+    ensures in_lanes { CallsInLanes F.Files L.Files C.did C.course C.tells C.calls
+        (begun.edits ≡ Edits.Restore) (not host.new.term.now.error)
+        (names_of words.now) host.old.env.now
+        (files_view F.Files files, files_view L.Files lockfiles)
+        host.old.caller.now host.new.caller.now }
 {
     let mut files = files;
     match begun.edits {
@@ -294,6 +356,15 @@ fn journaled<F: Files, L: Files, U: Unkept, G: Guards, C: Starts, O: Sink, E: Si
         (G.shown guards.old) host.old)
         (scene_of F.Files L.Files U.Unkept C.Caller O.Sink result.1 result.2 result.3 locks
         (G.shown guards.new) host.new) }
+    ensures shown { C.tells → SaysWhole F.Files ⟦<Apart<Journaled<F, U>, L> as Files>⟧
+        C.tells (names_of words.now) host.old.env.now
+        (looks_of host.old.term.now) (looks_of host.new.term.now)
+        (scene_on C.Caller O.Sink E.Sink host.old) (scene_on C.Caller O.Sink E.Sink host.new) }
+    ensures in_lanes { CallsInLanes F.Files L.Files C.did C.course C.tells C.calls
+        (begun.edits ≡ Edits.Restore) (not host.new.term.now.error)
+        (names_of words.now) host.old.env.now
+        (files_view F.Files files, files_view L.Files lockfiles)
+        host.old.caller.now host.new.caller.now }
 {
     match guards.start(host.alloc, begun.places.place.folder.as_str()) {
         Ok(watches) => {
@@ -333,6 +404,15 @@ fn copied<F: Files, L: Files, U: Unkept, C: Starts, O: Sink, E: Sink>(
         host.old)
         (scene_of F.Files L.Files U.Unkept C.Caller O.Sink result.1 result.2 result.3 locks guards
         host.new) }
+    ensures shown { C.tells → SaysWhole F.Files ⟦<Apart<Journaled<F, U>, L> as Files>⟧
+        C.tells (names_of words.now) host.old.env.now
+        (looks_of host.old.term.now) (looks_of host.new.term.now)
+        (scene_on C.Caller O.Sink E.Sink host.old) (scene_on C.Caller O.Sink E.Sink host.new) }
+    ensures in_lanes { CallsInLanes F.Files L.Files C.did C.course C.tells C.calls
+        (begun.edits ≡ Edits.Restore) (not host.new.term.now.error)
+        (names_of words.now) host.old.env.now
+        (files_view F.Files files, files_view L.Files lockfiles)
+        host.old.caller.now host.new.caller.now }
 {
     let mut files = files;
     let mut lockfiles = lockfiles;
@@ -350,7 +430,9 @@ fn copied<F: Files, L: Files, U: Unkept, C: Starts, O: Sink, E: Sink>(
 }
 
 /// Says, where more is asked for, that nobody restores the manifests where this call ends early.
-fn tell_watch<E: Sink>(watches: bool, verbose: bool, term: &Term, err: &mut E) {
+fn tell_watch<E: Sink>(watches: bool, verbose: bool, term: &Term, err: &mut E)
+    ensures { WritesSome (stream_of E.Sink err.old) (stream_of E.Sink err.new) }
+{
     if watches || !verbose {
         return;
     }
@@ -382,6 +464,14 @@ fn over_journal<F: Files, L: Files, U: Unkept, C: Starts, O: Sink, E: Sink>(
         host.old)
         (scene_of F.Files L.Files U.Unkept C.Caller O.Sink result.1 result.2 result.3 locks guards
         host.new) }
+    ensures shown { C.tells → SaysWhole F.Files ⟦<Apart<Journaled<F, U>, L> as Files>⟧
+        C.tells (names_of words.now) host.old.env.now
+        (looks_of host.old.term.now) (looks_of host.new.term.now)
+        (scene_on C.Caller O.Sink E.Sink host.old) (scene_on C.Caller O.Sink E.Sink host.new) }
+    ensures in_lanes { IsLaneCall C.did C.course C.tells C.calls (not host.new.term.now.error)
+        (F.tells × L.tells) (names_of words.now) host.old.env.now
+        (contents_seen (string_bytes begun.place.journal) (F.bytes_at files) (L.bytes_at lockfiles))
+        host.old.caller.now host.new.caller.now }
 {
     let Begun {
         places,
@@ -412,6 +502,8 @@ fn close<F: Files, E: Sink>(
         (F.bytes_at files.old) (F.bytes_at files.new) }
     ensures made { F.whole → MakesOrNot (removes (string_bytes places.now.copy))
         (F.trace files.old) (F.trace files.new) (F.bytes_at files.old) (F.bytes_at files.new) }
+    ensures lines { TellsLines term.old term.new
+        (stream_of E.Sink err.old) (stream_of E.Sink err.new) }
 {
     let journal = places.place.journal.as_str();
     match is_there(alloc, journal, files) {
@@ -434,7 +526,8 @@ fn close<F: Files, E: Sink>(
 
 /// Warns of a file that stays, or may. Where memory is refused for that, it is an error besides.
 fn tell_stay<E: Sink>(alloc: Global, path: &str, how: &str, term: &mut Term, err: &mut E)
-    ensures { Warns term.old term.new }
+    ensures noted { Warns term.old term.new }
+    ensures lines { WritesSome (stream_of E.Sink err.old) (stream_of E.Sink err.new) }
 {
     match format!(in alloc; "`{path}` {how}") {
         Ok(text) => {
@@ -446,7 +539,8 @@ fn tell_stay<E: Sink>(alloc: Global, path: &str, how: &str, term: &mut Term, err
 
 /// Reports that memory was refused, and warns of what may stay.
 fn tell_memory<E: Sink>(term: &mut Term, err: &mut E)
-    ensures { term.new ≡ record term.old { warn = true; error = true } }
+    ensures noted { term.new ≡ record term.old { warn = true; error = true } }
+    ensures lines { WritesSome (stream_of E.Sink err.old) (stream_of E.Sink err.new) }
 {
     let _ = term.warn(
         "what a journal keeps may stay: the next call looks after it",

@@ -2,10 +2,12 @@
 
 ghost use Rattle.std.specs.Prelude.{◌≡◌, ◌≢◌, ◌↔◌, IfErr, IfOk, IsTrue, Ok, option_and_then};
 ghost use Rattle.std.specs.Prelude.{option_map, true};
+ghost use Rattle.hack_base.specs.Streams.{WritesSome, stream_of};
 ghost use Rattle.hack_journal.specs.Journal.{edit_of, edits_of};
 ghost use Rattle.hack_journal.specs.Rows.{spot_of};
 ghost use Rattle.hack_journal.specs.Strangers.{first_stranger};
 ghost use Rattle.hack_recovery.specs.Restoring.{IsBroughtBack, IsToldAs, Restores};
+ghost use Rattle.hack_recovery.specs.ShownCalls.{TellsLines};
 ghost use Rattle.hack_recovery.specs.Telling.{Tells};
 ghost use Rattle.hack_files.specs.View.{files_view};
 
@@ -37,10 +39,12 @@ pub(crate) fn restore<F: Files, E: Sink>(
     term: &mut Term,
     err: &mut E,
 ) -> Result<bool, CallFault>
-    ensures { Restores F.Files (spot_of place.now)
+    ensures came { Restores F.Files (spot_of place.now)
         (files_view F.Files files.old)
         (files_view F.Files files.new)
         term.old term.new result }
+    ensures lines { TellsLines term.old term.new
+        (stream_of E.Sink err.old) (stream_of E.Sink err.new) }
 {
     match row_at(alloc, files, place) {
         Ok(row) => match stranger_in(&row) {
@@ -78,6 +82,8 @@ fn tell_stranger<E: Sink>(
 ) -> Result<bool, CallFault>
     ensures told { Tells term.old term.new result }
     ensures never { result ≢ Ok true }
+    ensures lines { TellsLines term.old term.new
+        (stream_of E.Sink err.old) (stream_of E.Sink err.new) }
 {
     let text = format!(in alloc;
         "`{journal}` tells of `{path}`, which no call edits; put back by hand what it tells, and remove it"
@@ -98,6 +104,8 @@ fn bring_back<F: Files, E: Sink>(
     ensures came { IsBroughtBack F.Files (spot_of place.now)
         (files_view F.Files files.old) (files_view F.Files files.new) result }
     ensures told { Tells term.old term.new result }
+    ensures lines { TellsLines term.old term.new
+        (stream_of E.Sink err.old) (stream_of E.Sink err.new) }
 {
     match recover(alloc, files, place) {
         Ok(paths) => tell_all(alloc, dir, &paths, term, err),
@@ -118,6 +126,7 @@ fn tell_all<E: Sink>(
 ) -> Result<bool, CallFault>
     ensures done { IfOk result (λ goes_on. goes_on ≡ true) }
     ensures fault { IfErr result (λ fault. fault ≡ CallFault.Memory) }
+    ensures lines { WritesSome (stream_of E.Sink err.old) (stream_of E.Sink err.new) }
 {
     for path in paths {
         tell_restored(alloc, dir, path.as_str(), term, err)?;
@@ -135,6 +144,7 @@ pub(crate) fn tell_restored<E: Sink>(
 ) -> Result<bool, CallFault>
     ensures done { IfOk result (λ goes_on. goes_on ≡ true) }
     ensures fault { IfErr result (λ fault. fault ≡ CallFault.Memory) }
+    ensures lines { WritesSome (stream_of E.Sink err.old) (stream_of E.Sink err.new) }
 {
     let path = under(path, dir);
     let text = format!(in alloc; "restored `{path}` after an interrupted call")?;
@@ -151,6 +161,8 @@ fn tell_fault<E: Sink>(
 ) -> Result<bool, CallFault>
     ensures told { Tells term.old term.new result }
     ensures told_as { IsToldAs fault result }
+    ensures lines { TellsLines term.old term.new
+        (stream_of E.Sink err.old) (stream_of E.Sink err.new) }
 {
     if is_memory(&fault) {
         return Err(CallFault::Memory);
@@ -170,7 +182,9 @@ fn tell_reason_of<F: Files, E: Sink>(
     files: &F,
     term: &Term,
     err: &mut E,
-) {
+)
+    ensures { WritesSome (stream_of E.Sink err.old) (stream_of E.Sink err.new) }
+{
     match fault {
         RecoverFault::Files(fault) if is_of_device(fault) => tell_reason(alloc, files, term, err),
         _ => {}

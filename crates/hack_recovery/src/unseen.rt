@@ -1,15 +1,20 @@
 //! A call of which it isn't known whether an interrupted one left anything, since a look at a file
 //! failed.
 
-ghost use Rattle.std.specs.Prelude.{◌≡◌, ℕ, IfSome, false, true};
+ghost use Rattle.std.specs.Prelude.{◌≡◌, ℕ, IfSome, false, not, true};
 ghost use Rattle.hack_base.specs.Names.{names_of};
+ghost use Rattle.hack_base.specs.Streams.{WritesSome, stream_of};
 ghost use Rattle.hack_recovery.specs.AskedEdits.{is_change};
 ghost use Rattle.hack_recovery.specs.CallCourses.{PerformsUnjournaled};
 ghost use Rattle.hack_recovery.specs.GuardEvents.{GuardsView};
 ghost use Rattle.hack_recovery.specs.LockEvents.{LocksView};
 ghost use Rattle.hack_recovery.specs.Scenes.{scene_by, scene_with};
+ghost use Rattle.hack_recovery.specs.ShownCalls.{TellsLines};
+ghost use Rattle.hack_run.specs.Lanes.{IsLaneCall};
 ghost use Rattle.hack_run.specs.Readings.{IsEarlyReading};
+ghost use Rattle.hack_run.specs.Shown.{SaysCall, SaysLines, looks_of, scene_on};
 ghost use Rattle.hack_files.specs.View.{FilesView, files_view};
+ghost use Rattle.hack_session.specs.StepEffects.{Scene as Said};
 ghost use Rattle.hack_run.specs.Worlds.{IsSameHost, IsStatus, host_view};
 
 use crate::asked::Asked;
@@ -47,6 +52,19 @@ pub(crate) fn blindly<F: Files, C: Starts, O: Sink, E: Sink>(
         (host_view C.Caller O.Sink host.old)))
         (scene_by (files_view F.Files files.new) lockfiles unkept locks guards
         (host_view C.Caller O.Sink host.new)) }
+    ensures lines { is_change asked.edits ≡ true
+        → TellsLines host.old.term.now host.new.term.now
+        (stream_of E.Sink host.old.err.now) (stream_of E.Sink host.new.err.now) }
+    ensures still { is_change asked.edits ≡ true
+        → (host.new.caller.now ≡ host.old.caller.now) × (host.new.out.now ≡ host.old.out.now) }
+    ensures shown { is_change asked.edits ≡ false → C.tells → (first : Said)
+        × SaysLines false (scene_on C.Caller O.Sink E.Sink host.old) first
+        × SaysCall F.Files files.old files.new C.tells (names_of words.now) host.old.env.now
+        (looks_of host.old.term.now) (looks_of host.new.term.now)
+        first (scene_on C.Caller O.Sink E.Sink host.new) }
+    ensures in_lanes { is_change asked.edits ≡ false → IsLaneCall C.did C.course C.tells C.calls
+        (not host.new.term.now.error) F.tells (names_of words.now) host.old.env.now
+        (F.bytes_at files.old) host.old.caller.now host.new.caller.now }
 {
     tell_reason(host.alloc, files, host.term, host.err);
     if asked.edits.is_change() {
@@ -59,7 +77,8 @@ pub(crate) fn blindly<F: Files, C: Starts, O: Sink, E: Sink>(
 
 /// Reports that this path can't be looked at, as an error.
 fn refuse<E: Sink>(alloc: Global, path: &str, term: &mut Term, err: &mut E)
-    ensures { term.new ≡ record term.old { error = true } }
+    ensures noted { term.new ≡ record term.old { error = true } }
+    ensures lines { WritesSome (stream_of E.Sink err.old) (stream_of E.Sink err.new) }
 {
     match format!(in alloc; "failed to read from file `{path}`") {
         Ok(text) => {
@@ -73,7 +92,8 @@ fn refuse<E: Sink>(alloc: Global, path: &str, term: &mut Term, err: &mut E)
 
 /// Warns that this path can't be looked at.
 fn warn<E: Sink>(alloc: Global, path: &str, term: &mut Term, err: &mut E)
-    ensures { term.new ≡ record term.old { warn = true } }
+    ensures noted { term.new ≡ record term.old { warn = true } }
+    ensures lines { WritesSome (stream_of E.Sink err.old) (stream_of E.Sink err.new) }
 {
     match format!(in alloc;
         "failed to read from file `{path}`: edits of an interrupted call may stand"

@@ -1,10 +1,12 @@
 use Rattle.std.proofs.Common.{◌≡◌, ◌∙◌, ◌-◌, ◌+◌, suc, [], length, Some, None, ap, arith, refl, string_bytes, sym}
+use Rattle.std.proofs.lemmas.Result.{err_from_is_err_and}
 use Rattle.std.specs.Option.{option_map}
 use Rattle.hack_journal.specs.SafeLaws.{makes_append, makes_none}
 use Rattle.hack_places.specs.Folders.{At, Here, Nothing, workspace_from}
 use Rattle.hack_places.proofs.CountLemmas.{grows_then}
 use Rattle.hack_places.proofs.FolderLemmas.{after_absent, after_unsaid, or_now, rest_here, rest_none, rest_of, rest_there, step_is, unwrap_now}
 use Rattle.hack_places.proofs.LookLemmas.{seen_none, seen_more}
+use Rattle.hack_places.proofs.LookedLemmas.{said_first, way_look, way_start, way_up}
 use Rattle.hack_places.proofs.workspace.nearest.Goals as goal
 use Rattle.hack_places.proofs.workspace.nearest.Goals.{in-Unsaid, in-Absent}
 
@@ -16,6 +18,7 @@ loop-step-init g c =
     record {
       utf8 = c.utf8.start;
       found = λ t. sym (ap (λ k. rest_of held start None k start) none);
+      way = way_start g.F.Files.tells held start (length start) _ refl none;
       counted = λ low. omega (arith, low);
       seen = seen_none g.F.Files _;
       same = λ t q. refl;
@@ -41,11 +44,23 @@ loop-step-preserved g c =
             more (c.loop-step.invariant.found t) (c.loop-step.invariant.same t) ((rw w.in-Absent.is at c.in_ok-said_at.ensures.found) t)
             (after_absent held (workspace_from held start) start c.loop-step.folder.now c.parent-folder.result.now near later n (ap (option_map (λ k. k.now)) w.nearest-is) c.parent-folder.ensures)
       ];
+      way = elim c.match-branch-2.branch [
+        | in-Unsaid w ↦ way_up g.F.Files.tells held start c.loop-step.folder.now c.parent-folder.result.now n _ more c.parent-folder.ensures
+            (λ t. said_first held (g.F.Files.bytes_at c.loop-step.files) c.loop-step.folder.now (Some Nothing) (c.loop-step.invariant.same t) ((rw w.in-Unsaid.is at c.in_ok-said_at.ensures.found) t)) c.loop-step.invariant.way
+        | in-Absent w ↦ way_up g.F.Files.tells held start c.loop-step.folder.now c.parent-folder.result.now n _ more c.parent-folder.ensures
+            (λ t. said_first held (g.F.Files.bytes_at c.loop-step.files) c.loop-step.folder.now None (c.loop-step.invariant.same t) ((rw w.in-Absent.is at c.in_ok-said_at.ensures.found) t)) c.loop-step.invariant.way
+      ];
       counted = grows_then 0 _ _ _ c.loop-step.invariant.counted c.in_ok-said_at.ensures.counted;
       seen = seen_more g.F.Files _ _ _ c.loop-step.invariant.seen c.in_ok-said_at.ensures.seen;
       same = λ t q. c.in_ok-said_at.ensures.same t q ∙ c.loop-step.invariant.same t q;
       untraced = λ w. makes_append [] [] _ _ _ _ _ _ (c.loop-step.invariant.untraced w) (c.in_ok-said_at.ensures.untraced w);
     }
+
+pub returns-in_err-said_at-clause-looked : goal.returns-in_err-said_at-clause-looked
+returns-in_err-said_at-clause-looked g c =
+    let p = err_from_is_err_and c.from_residual.result c.from_residual.ensures.1 in
+    rw (p.1, p.2) (way_look g.F.Files.tells (g.F.Files.bytes_at c.args.files.now) c.args.start.now c.loop-step.folder.now (length c.args.start.now - (c.loop-step._step + 1)) _ _ (omega (arith, c.loop-step-test.true))
+    c.loop-step.invariant.way c.in_err-said_at.ensures.named)
 
 pub returns-in-Here-clause-found : goal.returns-in-Here-clause-found
 returns-in-Here-clause-found g c = λ t.

@@ -4,7 +4,8 @@ use denote.Shadow.{shadow}
 use denote.Text.{Utf8}
 use Rattle.hack_files.specs.Files.{KeepsAll, Makes}
 use Rattle.hack_files.specs.FailedCalls.{NoneFailed}
-use Rattle.hack_places.specs.Folders.{workspace_from}
+use Rattle.hack_places.specs.Folders.{above, folders, said_in, workspace_from}
+use Rattle.hack_places.specs.LookedPaths.{AreLeft}
 use Rattle.hack_base.specs.Counters.{GrowsBy}
 use Rattle.hack_places.proofs.FolderLemmas.{rest_of}
 use Rattle.hack_places.proofs.workspace.nearest.Given as goal
@@ -15,6 +16,7 @@ invariant-loop-step g l = record {
   found : g.F.Files.tells
       → workspace_from (g.F.Files.bytes_at l.fn.files) l.start ≡ rest_of (g.F.Files.bytes_at l.fn.files) l.start (option_map (λ near. near.now) l.nearest) (length l.start - l._step) l.folder;
   counted : GrowsBy 0 (g.F.Files.failed l.fn.files) (g.F.Files.failed l.files);
+  way : AreLeft g.F.Files.tells (said_in (g.F.Files.bytes_at l.fn.files)) (folders l.start) (above (length l.start - l._step) l.folder);
   seen : NoneFailed g.F.Files l.fn.files l.files;
   same : g.F.Files.tells → KeepsAll (g.F.Files.bytes_at l.fn.files) (g.F.Files.bytes_at l.files);
   untraced : g.F.Files.whole → Makes [] (g.F.Files.trace l.fn.files) (g.F.Files.trace l.files) (g.F.Files.bytes_at l.fn.files) (g.F.Files.bytes_at l.files);

@@ -13,8 +13,13 @@ returns-clause-begun g c = record {
 
 pub returns-in-Err-Device-clause-halted : goal.returns-in-Err-Device-clause-halted
 returns-in-Err-Device-clause-halted g c =
-    let seen = rw c.in-Err-Device.field-0-is at c.in-Err-Device.ensures.seen in
-    (rw c.in-Err-Device.field-0-is at c.in-Err-Device.ensures.counted, rw c.in-Err-Device.field-0-is (record { before = c.args.files.now; after = c.find.new.files; unseen = seen.unseen }), c.in_ok-asked.ensures.asks, c.in_ok-asked.ensures.reading)
+    let seen = rw c.in-Err-Device.field-0-is at c.in-Err-Device.ensures.seen in (
+      rw c.in-Err-Device.field-0-is at c.in-Err-Device.ensures.counted,
+      rw c.in-Err-Device.field-0-is (record { before = c.args.files.now; after = c.find.new.files; unseen = seen.unseen }),
+      c.in_ok-asked.ensures.asks,
+      c.in_ok-asked.ensures.reading,
+      rw c.in-Err-Device.field-0-is (rw c.in-Err-Device.field-0-is at c.in-Err-Device.ensures.looked),
+    )
 
 pub returns-in-Err-Memory-clause-halted : goal.returns-in-Err-Memory-clause-halted
 returns-in-Err-Memory-clause-halted g c = rw c.in-Err-Memory.field-0-is at c.in-Err-Memory.ensures.counted

@@ -6,19 +6,19 @@ use Rattle.hack_recovery.proofs.WayLemmas.{done_true, not_done}
 use Rattle.hack_recovery.proofs.perform.take_back.Goals as goal
 
 pub returns-then-not-is_done-clause-goes : goal.returns-then-not-is_done-clause-goes
-returns-then-not-is_done-clause-goes g c = λ unkept locks guards. unrestored c.restore-journal.ensures (not_done _ _ c.is_done.ensures c.if-not-is_done.true) refl
+returns-then-not-is_done-clause-goes g c = λ unkept locks guards. unrestored c.restore-journal.ensures.came (not_done _ _ c.is_done.ensures c.if-not-is_done.true) refl
 
 pub returns-then-not-is_done-2-clause-goes : goal.returns-then-not-is_done-2-clause-goes
 returns-then-not-is_done-2-clause-goes g c = λ unkept locks guards.
-    older_unrestored (files_view g.F.Files c.restore-journal.new.files) c.restore-journal.new.term (rw (done_true _ _ c.is_done.ensures c.if-not-is_done.false) at c.restore-journal.ensures)
-    c.restore-older.ensures (not_done _ _ c.is_done-2.ensures c.if-not-is_done-2.true) refl
+    older_unrestored (files_view g.F.Files c.restore-journal.new.files) c.restore-journal.new.term (rw (done_true _ _ c.is_done.ensures c.if-not-is_done.false) at c.restore-journal.ensures.came)
+    c.restore-older.ensures.came (not_done _ _ c.is_done-2.ensures c.if-not-is_done-2.true) refl
 
 pub returns-clause-goes : goal.returns-clause-goes
 returns-clause-goes g c = λ unkept locks guards.
     let settled-by = c.settle.ensures in
     settled (files_view g.F.Files c.restore-journal.new.files) (files_view g.F.Files c.restore-older.new.files) c.restore-journal.new.term c.restore-older.new.term
-    (rw (done_true _ _ c.is_done.ensures c.if-not-is_done.false) at c.restore-journal.ensures)
-    (rw (done_true _ _ c.is_done-2.ensures c.if-not-is_done-2.false) at c.restore-older.ensures)
+    (rw (done_true _ _ c.is_done.ensures c.if-not-is_done.false) at c.restore-journal.ensures.came)
+    (rw (done_true _ _ c.is_done-2.ensures c.if-not-is_done-2.false) at c.restore-older.ensures.came)
     (record {
       gone = settled-by.gone;
       counted = λ done. (settled-by.counted done, settled-by.lockfiles_counted done);

@@ -9,8 +9,8 @@ use Rattle.hack_recovery.proofs.StrangerLemmas.{never_strange, none_named, one_n
 use Rattle.hack_recovery.proofs.TellingLemmas.{look_failed}
 use Rattle.hack_recovery.proofs.restore.restore.Goals as goal
 
-pub returns-in-Some : goal.returns-in-Some
-returns-in-Some g c =
+pub returns-in-Some-clause-came : goal.returns-in-Some-clause-came
+returns-in-Some-clause-came g c =
     let spot = spot_of c.args.place.now in
     let held = g.F.Files.bytes_at c.args.files.now in
     let named = one_named g.F.Files.tells spot held c.in-Ok.row (edit_of c.in-Some.entry.now) c.in-Ok.ensures.some
@@ -19,16 +19,16 @@ returns-in-Some g c =
     named (never_strange g.F.Files.tells spot held (edit_of c.in-Some.entry.now).path named)
     c.tell_stranger.ensures.never c.tell_stranger.ensures.told
 
-pub returns-in-Ok : goal.returns-in-Ok
-returns-in-Ok g c =
+pub returns-in-Ok-clause-came : goal.returns-in-Ok-clause-came
+returns-in-Ok-clause-came g c =
     let at : FilesView = files_view g.F.Files c.row_at.new.files in
     trusted at (record { same = c.in-Ok.ensures.same; untraced = c.in-Ok.ensures.untraced }) c.in-Ok.ensures.failures
     (none_named g.F.Files.tells (spot_of c.args.place.now) (g.F.Files.bytes_at c.args.files.now) c.in-Ok.row c.in-Ok.ensures.none c.in-Ok.ensures.some
     (sym c.stranger_in.ensures ∙ ap (option_map (λ entry. edit_of entry.now)) c.in-None.is))
     c.bring_back.ensures.came c.bring_back.ensures.told
 
-pub returns : goal.returns
-returns g c =
+pub returns-clause-came : goal.returns-clause-came
+returns-clause-came g c =
     let spot = spot_of c.args.place.now in
     let held = g.F.Files.bytes_at c.args.files.now in
     let why = c.in-Err.ensures.why in

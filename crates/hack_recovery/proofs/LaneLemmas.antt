@@ -1,0 +1,80 @@
+-- What is started side by side, through the steps of a call.
+use Rattle.std.proofs.Common.{◌≡◌, ◌⊎◌, ◌∙◌, Bool, List, ap, false, inl, inr, refl, subst, sym, true}
+use Rattle.std.specs.Prelude.{not}
+use Rattle.hack_base.specs.Names.{Name}
+use Rattle.hack_files.specs.Files.{Contents}
+use Rattle.hack_files.specs.View.{FilesView}
+use Rattle.hack_files.specs.declared.fs.Files.{Ghosts as Filing}
+use Rattle.hack_journal.specs.SafeLaws.{makes_none}
+use Rattle.hack_process.specs.Calls.{Call}
+use Rattle.hack_run.specs.Lanes.{IsLaneCall}
+use Rattle.hack_starts.specs.Events.{Event}
+use Rattle.hack_term.specs.declared.term.Term.{Term}
+use Rattle.hack_words.specs.declared.cli.env.Env.{Env}
+use Rattle.hack_places.specs.CallPlaces.{PlacesAt}
+use Rattle.hack_recovery.specs.AskedEdits.{is_restore}
+use Rattle.hack_recovery.specs.CallCourses.{IsJournalClosed, Warns}
+use Rattle.hack_recovery.specs.CallCourses.IsJournalClosed.{copy_stays, gone, starved, stays, unseen}
+use Rattle.hack_recovery.specs.LaneCalls.{AsksToRestore, Both, CallsInLanes, GetReady, over_journal, plain, unperformed}
+use Rattle.hack_recovery.specs.LaneCalls.GetReady.{further, looked_at}
+use Rattle.hack_recovery.specs.declared.asked.Edits.{Edits}
+use Rattle.hack_recovery.specs.declared.asked.Edits.TheVariants as edits
+
+pub restore_is : (does : Edits) → is_restore does ≡ true → does ≡ edits.Restore
+restore_is edits.None on = cc
+restore_is edits.Temporary on = cc
+restore_is edits.Permanent on = cc
+restore_is edits.Restore on = refl
+
+pub ready_now : {F L : Type 0} (f : Filing F) (l : Filing L) (by_guard : Bool) (both : Both) → GetReady f l by_guard both both
+ready_now f l by_guard both = looked_at (record { same = λ t q. refl; untraced = λ w. makes_none _ _ }) refl
+
+-- where the end of a journal reported no error, none was reported before
+warned_quiet : (was now : Term) → Warns was now → now.error ≡ false → was.error ≡ false
+warned_quiet was now (inl is) quiet = ap (λ (t : Term). t.error) (sym is) ∙ quiet
+warned_quiet was now (inr is) quiet = let e : true ≡ false = ap (λ (t : Term). t.error) (sym is) ∙ quiet in cc
+
+pub closed_quiet : {F : Type 0} (f : Filing F) (places : PlacesAt) (old new : FilesView) (was now : Term) → IsJournalClosed f places old new was now → now.error ≡ false → was.error ≡ false
+closed_quiet f places old new was now (gone same counted journal copy) quiet = ap (λ (t : Term). t.error) (sym same) ∙ quiet
+closed_quiet f places old new was now (stays warns counted journal same) quiet = warned_quiet was now warns quiet
+closed_quiet f places old new was now (unseen warns counted journal same) quiet = warned_quiet was now warns quiet
+closed_quiet f places old new was now (starved is counted same) quiet = let e : true ≡ false = ap (λ (t : Term). t.error) (sym is) ∙ quiet in cc
+closed_quiet f places old new was now (copy_stays warns counted refused journal) quiet = warned_quiet was now warns quiet
+
+module _ {S : Type 0} (did : List Event → S → S → Type 0) (course : S → S → Type 0) (talks : Type 0) (calls : S → List Call) where
+  -- what `run` promises of lanes, where no error is reported and where one is
+  pub lanes_by_error : (tells : Type 0) (words : List Name) (env : Env) (held : Contents) (old new : S) (error : Bool) → (error ≡ false → IsLaneCall did course talks calls true tells words env held old new)
+      → IsLaneCall did course talks calls false tells words env held old new → IsLaneCall did course talks calls (not error) tells words env held old new
+  lanes_by_error tells words env held old new false all some = all refl
+  lanes_by_error tells words env held old new true all some = some
+
+  module _ {F L : Type 0} (f : Filing F) (l : Filing L) where
+    -- a call that is performed once files are ready, or isn't
+    pub in_lanes_or_not : (restores : Type 0) (done : Bool) (words : List Name) (env : Env) (files at : Both) (old new : S) (test off : Bool) → test ≡ off → (test ≡ true → (done ≡ false) ⊎ restores)
+        → (test ≡ true → new ≡ old) → GetReady f l env.by_guard files at → (test ≡ false → IsLaneCall did course talks calls done f.tells words env at.0.held old new)
+        → CallsInLanes f l did course talks calls restores done words env files old new
+    in_lanes_or_not restores done words env files at old new test true is why same ready ran = unperformed (why is) (same is)
+    in_lanes_or_not restores done words env files at old new test false is why same ready ran = plain at ready (ran is)
+
+    -- a call whose files get ready first
+    pub behind : (restores : Type 0) (done : Bool) (words : List Name) (env : Env) (files mid : Both) (old new : S) → GetReady f l env.by_guard files mid
+        → CallsInLanes f l did course talks calls restores done words env mid old new → CallsInLanes f l did course talks calls restores done words env files old new
+    behind restores done words env files mid old new ready (unperformed why same) = unperformed why same
+    behind restores done words env files mid old new ready (plain at more ran) = plain at (further mid ready more) ran
+    behind restores done words env files mid old new ready (over_journal at journal more ran) = over_journal at journal (further mid ready more) ran
+
+    -- what a call that is to restore asks for
+    pub asked_to : (one other : Type 0) (done : Bool) (words : List Name) (env : Env) (files : Both) (old new : S) → (one → other)
+        → CallsInLanes f l did course talks calls one done words env files old new → CallsInLanes f l did course talks calls other done words env files old new
+    asked_to one other done words env files old new turn (unperformed (inl cut) same) = unperformed (inl cut) same
+    asked_to one other done words env files old new turn (unperformed (inr is) same) = unperformed (inr (turn is)) same
+    asked_to one other done words env files old new turn (plain at ready ran) = plain at ready ran
+    asked_to one other done words env files old new turn (over_journal at journal ready ran) = over_journal at journal ready ran
+
+    -- a call whose arguments, environment and caller are known by other names
+    pub lanes_known : (ws vs : List Name) (d e : Env) (done : Bool) (files : Both) (old first new : S) → ws ≡ vs → d ≡ e → old ≡ first
+        → CallsInLanes f l did course talks calls (AsksToRestore d ws) done ws d files old new → CallsInLanes f l did course talks calls (AsksToRestore e vs) done vs e files first new
+    lanes_known ws vs d e done files old first new words env caller h =
+        subst (λ (x : S). CallsInLanes f l did course talks calls (AsksToRestore e vs) done vs e files x new) caller
+        (subst (λ (x : Env). CallsInLanes f l did course talks calls (AsksToRestore x vs) done vs x files old new) env
+        (subst (λ (x : List Name). CallsInLanes f l did course talks calls (AsksToRestore d x) done x d files old new) words h))

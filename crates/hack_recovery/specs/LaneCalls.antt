@@ -1,0 +1,58 @@
+-- What a whole call starts side by side, and over which files.
+use Rattle.std.specs.Prelude.{◌≡◌, ◌⊎◌, Bool, List, Ok, Option, false, true}
+use Rattle.hack_base.specs.Names.{Name, names_of}
+use Rattle.hack_files.specs.View.{FilesView}
+use Rattle.hack_files.specs.declared.fs.Files.{Ghosts as Filing}
+use Rattle.hack_journaled.specs.Journals.{contents_seen}
+use Rattle.hack_process.specs.Calls.{Call}
+use Rattle.hack_run.specs.Lanes.{IsLaneCall}
+use Rattle.hack_start.specs.Started.{GivesStart}
+use Rattle.hack_start.specs.SystemView.{SystemView}
+use Rattle.hack_start.specs.declared.started.Started.{Started}
+use Rattle.hack_starts.specs.Events.{Event}
+use Rattle.hack_words.specs.declared.cli.env.Env.{Env}
+use Rattle.hack_places.specs.CallPlaces.{PlacesAt}
+use Rattle.hack_places.specs.FileLooks.{Unchanged}
+use Rattle.hack_recovery.specs.AskedEdits.{AsksForEdits}
+use Rattle.hack_recovery.specs.Restoring.{KeepsCopy, TakesBack}
+use Rattle.hack_recovery.specs.Scenes.{Scene}
+use Rattle.hack_recovery.specs.declared.asked.Edits.TheVariants as edits
+
+-- the files, and the lockfiles
+abbrev pub Both : Type 0
+Both = FilesView × FilesView
+
+abbrev pub both_in : Scene → Both
+both_in scene = (scene.files, scene.lockfiles)
+
+-- how files come to be what a call is performed over: they are only looked at, what an interrupted call
+-- left is taken back, the lockfile is copied, or one of these follows the other
+pub data GetReady {F L : Type 0} (f : Filing F) (l : Filing L) (by_guard : Bool) : Both → Both → Type 0 where
+  looked_at : {old new : Both} → Unchanged f.tells f.whole old.0 new.0 → new.1 ≡ old.1 → GetReady f l by_guard old new
+  taken_back : {old new : Both} → (places : PlacesAt) (first last : Scene) → TakesBack f l by_guard places first last (Ok true) → both_in first ≡ old → both_in last ≡ new → GetReady f l by_guard old new
+  copied : {old new : Both} → (places : PlacesAt) (first last : Scene) → KeepsCopy f l places (Ok tt) first last → both_in first ≡ old → both_in last ≡ new → GetReady f l by_guard old new
+  further : {old new : Both} → (mid : Both) → GetReady f l by_guard old mid → GetReady f l by_guard mid new → GetReady f l by_guard old new
+
+-- the command line asks for nothing but to restore what an interrupted call left
+abbrev pub AsksToRestore : Env → List Name → Type 0
+AsksToRestore env words = (path : Option Name) × AsksForEdits env words edits.Restore path
+
+-- `did`, `course`, `talks` and `calls` are the caller's, as in what `run` promises of lanes
+module _ {F L S : Type 0} (f : Filing F) (l : Filing L) (did : List Event → S → S → Type 0) (course : S → S → Type 0) (talks : Type 0) (calls : S → List Call) where
+  -- The call was performed by the rules of lanes, over what files held once they were ready, or over what
+  -- it sees of them with a journal: all of it, where no error was reported (`done`), and in any case nothing
+  -- else was started, and nothing is left. Or it wasn't performed, since an error was reported or it is to
+  -- restore, and nothing was started.
+  pub data CallsInLanes (restores : Type 0) (done : Bool) (words : List Name) (env : Env) (files : Both) (old new : S) : Type 0 where
+    unperformed : (done ≡ false) ⊎ restores → new ≡ old → CallsInLanes restores done words env files old new
+    plain : (at : Both) → GetReady f l env.by_guard files at → IsLaneCall did course talks calls done f.tells words env at.0.held old new → CallsInLanes restores done words env files old new
+    over_journal : (at : Both) (journal : Name) → GetReady f l env.by_guard files at
+        → IsLaneCall did course talks calls done (f.tells × l.tells) words env (contents_seen journal at.0.held at.1.held) old new → CallsInLanes restores done words env files old new
+
+  -- arguments and environment were read, and the call with these went so; or they weren't, and nothing was
+  -- started
+  pub data ProgramCallsInLanes (informs : Type 0) (system : SystemView) (done : Bool) (files : Both) (old new : S) : Type 0 where
+    read : (started : Started) → GivesStart informs system (Ok started)
+        → CallsInLanes (AsksToRestore started.env (names_of started.words.items)) done (names_of started.words.items) started.env files old new
+        → ProgramCallsInLanes informs system done files old new
+    unread : done ≡ false → new ≡ old → ProgramCallsInLanes informs system done files old new
