@@ -1,5 +1,6 @@
 pub mod FilesLemmas
 pub mod RestoreLemmas
+pub mod WriteBackLemmas
 pub mod SafeLemmas
 pub mod RefusalLemmas
 pub mod FailedLemmas

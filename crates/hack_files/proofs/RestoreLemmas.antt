@@ -3,7 +3,7 @@ use Rattle.std.proofs.Common.{◌≡◌, ◌≢◌, ◌⊎◌, inl, inr, ℕ, su
 use Rattle.std.specs.Prelude.{Contains, slice_index_or}
 use Rattle.std.proofs.lemmas.List.{get_or-map, take_more, take_all, length-map}
 use Rattle.std.proofs.lemmas.List.Elements.{Contains-append_left, Contains-append_right}
-use Rattle.hack_files.specs.declared.restore.Saved.{Saved}
+use Rattle.hack_files.specs.declared.saved.Saved.{Saved}
 use Rattle.hack_files.specs.Files.{Change, Contents, KeepsOthers, Makes, MakesOrNot}
 use Rattle.hack_base.specs.Counters.{GrowsBy}
 use Rattle.hack_files.specs.Restore.{Kept, kept_file, paths, Brings, ComesBackBut, AreDistinct, Tried, none, written, failed, made_and_failed, write_of}
@@ -133,7 +133,7 @@ TriedTo files i k old_trace new_trace old new = (made : List Change) × Tried (t
 pub tried_none : (files : List Kept) (s : List Change) (old : Contents) → TriedTo files 0 0 s s old old
 tried_none files s old = ([], none, record { traced = sym (append-nil s); holds = refl })
 
-one_more : (files : List Kept) (i : ℕ) (file : Kept) → i < length files → IsAt files i file → take (i + 1) files ≡ take i files ++ file ∷ []
+pub one_more : (files : List Kept) (i : ℕ) (file : Kept) → i < length files → IsAt files i file → take (i + 1) files ≡ take i files ++ file ∷ []
 one_more files i file lt at = take_more files i file lt ∙ ap (λ f. take i files ++ f ∷ []) (at file)
 
 pub tried_written : (files : List Kept) (i k : ℕ) (file : Kept) (s t u : List Change) (old mid new : Contents) → i < length files → IsAt files i file

@@ -2,6 +2,8 @@ pub mod Files
 pub mod Memory
 pub mod Faults
 pub mod Restore
+pub mod BackTexts
+pub mod WriteBacks
 pub mod RefusalLaws
 pub mod View
 pub mod FailedCalls

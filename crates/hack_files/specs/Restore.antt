@@ -3,7 +3,7 @@ use Rattle.std.specs.Prelude.{◌≡◌, ◌≢◌, ◌⊎◌, ◌≤◌, ◌+�
 use Rattle.std.specs.List.{list_any}
 use Rattle.std.specs.Str.{bytes_eq}
 use Rattle.hack_files.specs.Files.{Contents, Change, puts}
-use Rattle.hack_files.specs.declared.restore.Saved.{Saved}
+use Rattle.hack_files.specs.declared.saved.Saved.{Saved}
 use Rattle.hack_files.specs.declared.restore.Manager.{Manager}
 
 -- a path, and the bytes that it is to hold again

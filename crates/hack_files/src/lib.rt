@@ -7,3 +7,4 @@ pub mod fs;
 mod memory;
 pub mod reason;
 pub mod restore;
+mod saved;

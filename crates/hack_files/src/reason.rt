@@ -1,6 +1,7 @@
 //! Why a file couldn't be read or written, for the user.
 
-ghost use Rattle.hack_base.specs.Streams.{WritesSome, stream_of};
+ghost use Rattle.hack_base.specs.Streams.{stream_of};
+ghost use Rattle.hack_files.specs.WriteBacks.{SaysReason};
 
 use crate::fs::{Files, FsFault};
 use hack_base::writes::Sink;
@@ -18,7 +19,8 @@ pub fn is_of_device(fault: &FsFault) -> bool {
 /// Prints why the last call of these files that failed did so, in the words of the system. A line for
 /// which memory is refused, or that can't be written, is left out.
 pub fn tell_reason<F: Files, E: Sink>(alloc: Global, files: &F, term: &Term, err: &mut E)
-    ensures { WritesSome (stream_of E.Sink err.old) (stream_of E.Sink err.new) }
+    ensures { SaysReason term.now.coloring
+        (stream_of E.Sink err.old) (stream_of E.Sink err.new) }
 {
     if let Some(reason) = files.reason()
         && let Ok(text) = format!(in alloc; "{reason}")

@@ -2,38 +2,30 @@
 //! end.
 
 ghost use Rattle.std.specs.Prelude.{◌≡◌, ◌<◌, ◌↔◌, ◌⊎◌, [], ◌∷◌, ◌++◌, List, Some, cond, false, true};
+ghost use Rattle.std.specs.Prelude.{option_map};
 ghost use Rattle.std.specs.Prelude.{OnOk, OnErr, IfErr, IsTrue};
 ghost use Rattle.std.specs.Bool.{OnTrue, OnFalse};
 ghost use Rattle.hack_files.specs.Files.{CountsFailedCall, KeepsAll, KeepsOthers};
 ghost use Rattle.hack_base.specs.Counters.{GrowsBy};
-ghost use Rattle.hack_base.specs.Streams.{WritesSome, stream_of};
+ghost use Rattle.hack_base.specs.Streams.{WritesAll, stream_of};
 ghost use Rattle.hack_files.specs.Files.{Makes, MakesOrNot, Change, refused_path};
 ghost use Rattle.hack_files.specs.Faults.{IsOfWrite};
 ghost use Rattle.hack_files.specs.Restore.{Kept, kept_file, registered_files, is_kept, kept_too};
 ghost use Rattle.hack_files.specs.Restore.{Brings, ComesBackBut, Tried, write_of};
+ghost use Rattle.hack_files.specs.WriteBacks.{SaysBack, back_lines, is_reported, refusal_lines};
+ghost use Rattle.hack_files.specs.WriteBacks.{restoring_lines};
 
 use crate::fs::{FileFault, Files, FsFault};
+use crate::saved::Saved;
 use hack_base::writes::Sink;
 use hack_term::term::Term;
 use std::alloc::{AllocError, Global};
-
-/// A path and the bytes that it held, with the texts that are printed when it is written back.
-/// These texts are made in advance, since writing back takes no memory.
-#[derive(Debug, Drop)]
-struct Saved {
-    path: String,
-    bytes: Vec<u8>,
-    restoring: String,
-    failed: String,
-}
 
 /// The files that have to be written back. It has no `Drop`: `restore_all` has to consume it.
 #[derive(Debug)]
 pub struct Manager {
     needs_restore: bool,
     saved: Vec<Saved>,
-    /// The path of a write that failed, which the caller reports.
-    reported: Option<String>,
 }
 
 impl Manager {
@@ -45,18 +37,6 @@ impl Manager {
         Manager {
             needs_restore,
             saved: Vec::new(alloc),
-            reported: None,
-        }
-    }
-
-    /// Leaves it to the caller to report that this path can't be written: where it can't be written
-    /// back either, `restore_all` says nothing of that. Where memory is refused, it does.
-    pub fn leave_report(&mut self, alloc: Global, path: &str)
-        ensures files { registered_files self.new ≡ registered_files self.old }
-        ensures needs { self.new.needs_restore ≡ self.old.needs_restore }
-    {
-        if let Ok(path) = String::from_str(alloc, path) {
-            self.reported = Some(path);
         }
     }
 
@@ -86,13 +66,7 @@ impl Manager {
         ensures err { OnErr result (registered_files self.new ≡ registered_files self.old) }
         ensures needs { self.new.needs_restore ≡ self.old.needs_restore }
     {
-        let saved = Saved {
-            path: String::from_str(alloc, path)?,
-            bytes: bytes.to_vec(alloc)?,
-            restoring: format!(in alloc; "restoring {path}")?,
-            failed: format!(in alloc; "failed to write to file `{path}`")?,
-        };
-        self.saved.push(saved)?;
+        self.saved.push(Saved::new(alloc, path, bytes)?)?;
         Ok(())
     }
 
@@ -164,10 +138,17 @@ impl Manager {
     }
 
     /// Writes each file back, in the order of registration and also after a failure. Returns how
-    /// many writes failed, and reports an error for each of these, which is printed unless the
-    /// caller does that (`leave_report`); in verbose mode it also prints a line before each write. A
-    /// line that can't be printed is left out. It takes no memory, unless `files` does.
-    pub fn restore_all<F: Files, W: Sink>(self, files: &mut F, term: &mut Term, err: &mut W) -> u64
+    /// many writes failed, and reports an error for each of these, which is printed unless its path
+    /// is `reported`: of that the caller has told already that it can't be written. In verbose mode
+    /// it also prints a line before each write. A line that can't be printed is left out. It takes
+    /// no memory, unless `files` does.
+    pub fn restore_all<F: Files, W: Sink>(
+        self,
+        reported: Option<&str>,
+        files: &mut F,
+        term: &mut Term,
+        err: &mut W,
+    ) -> u64
         ensures stays { F.stays files.old files.new }
         ensures counted { GrowsBy result (F.failed files.old) (F.failed files.new) }
         ensures unseen_none { F.unseen files.old files.new [] }
@@ -181,18 +162,20 @@ impl Manager {
         ensures noted { IsTrue term.new.error ↔ (IsTrue term.old.error ⊎ (0 < result)) }
         ensures term { term.new ≡ record term.old { error = term.new.error } }
 
+        ensures shown { SaysBack (F.refuses files.old files.new) term.old.coloring term.old.verbose
+            (option_map (λ text. text.now) reported.entry) (registered_files self)
+            (stream_of W.Sink err.old) (stream_of W.Sink err.new) }
+
         // Where no write failed, nothing is said but in verbose mode.
-        ensures shown { WritesSome (stream_of W.Sink err.old) (stream_of W.Sink err.new) }
         ensures quiet { term.old.verbose ≡ false → result ≡ 0 → err.new ≡ err.old }
     {
         let Manager {
             needs_restore: _,
             saved,
-            reported,
         } = self;
         let mut failures = 0;
         for file in &saved {
-            if !file.put_back(reported.as_deref(), files, term, err) {
+            if !file.put_back(reported, files, term, err) {
                 failures += 1;
             }
         }
@@ -225,22 +208,55 @@ impl Saved {
             (F.trace files.old) (F.trace files.new) (F.bytes_at files.old) (F.bytes_at files.new)) }
         ensures noted { term.new ≡
             record term.old { error = cond result term.old.error true } }
-        ensures shown { WritesSome (stream_of W.Sink err.old) (stream_of W.Sink err.new) }
+        ensures shown { WritesAll (back_lines term.old.coloring term.old.verbose (option_map (λ text. text.now) reported.entry)
+            (record { file = kept_file self.now; written = result }))
+            (stream_of W.Sink err.old) (stream_of W.Sink err.new) }
         ensures quiet { OnTrue result (term.old.verbose ≡ false → err.new ≡ err.old) }
+    {
+        self.tell(term, err);
+        match files.write(self.path.as_str(), &self.bytes) {
+            Ok(()) => true,
+            Err(_) => {
+                self.tell_refusal(reported, term, err);
+                false
+            }
+        }
+    }
+
+    /// In verbose mode, says that the file is written back.
+    fn tell<W: Sink>(&self, term: &Term, err: &mut W)
+        ensures told {
+            WritesAll (restoring_lines term.now.coloring term.now.verbose (kept_file self.now).path)
+            (stream_of W.Sink err.old) (stream_of W.Sink err.new) }
+        ensures quiet { term.now.verbose ≡ false → err.new ≡ err.old }
     {
         if term.verbose {
             let _ = term.info(self.restoring.as_str(), err);
         }
-        match files.write(self.path.as_str(), &self.bytes) {
-            Ok(()) => true,
-            Err(_) => {
-                if reported == Some(self.path.as_str()) {
-                    term.error = true;
-                } else {
-                    let _ = term.error(self.failed.as_str(), err);
-                }
-                false
-            }
+    }
+
+    /// Says that the file couldn't be written, unless its path is the one that is reported otherwise.
+    fn tell_refusal<W: Sink>(&self, reported: Option<&str>, term: &mut Term, err: &mut W)
+        ensures noted { term.new ≡ record term.old { error = true } }
+        ensures told { WritesAll (refusal_lines term.old.coloring
+            (option_map (λ text. text.now) reported.entry) (kept_file self.now).path)
+            (stream_of W.Sink err.old) (stream_of W.Sink err.new) }
+    {
+        if self.is_reported(reported) {
+            term.error = true;
+        } else {
+            let _ = term.error(self.failed.as_str(), err);
+        }
+    }
+
+    /// Whether this is its path.
+    fn is_reported(&self, reported: Option<&str>) -> bool
+        ensures { result ≡ is_reported (option_map (λ text. text.now) reported.entry)
+            (kept_file self.now).path }
+    {
+        match reported {
+            Some(path) => path == self.path.as_str(),
+            None => false,
         }
     }
 }

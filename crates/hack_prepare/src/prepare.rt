@@ -2,7 +2,7 @@
 
 ghost use Rattle.std.specs.Prelude.{◌≡◌, ◌<◌, ◌↔◌, ◌⊎◌, ◌||◌, IfErr, IfOk, IfSome, OnOk, IsTrue};
 ghost use Rattle.std.specs.Prelude.{OnErr};
-ghost use Rattle.std.specs.Prelude.{List, false, map, true};
+ghost use Rattle.std.specs.Prelude.{List, false, map, option_map, true};
 ghost use Rattle.hack_files.specs.Files.{Change, Contents, Grows, Makes};
 ghost use Rattle.hack_base.specs.Counters.{GrowsBy};
 ghost use Rattle.hack_files.specs.Restore.{AreSafe, Brings, ComesBackBut, Tried, is_kept};
@@ -10,7 +10,8 @@ ghost use Rattle.hack_files.specs.Restore.{paths, registered_files};
 ghost use Rattle.hack_load.specs.ContextView.{context_view};
 ghost use Rattle.hack_base.specs.Names.{Name};
 ghost use Rattle.hack_base.specs.Notes.{note_of};
-ghost use Rattle.hack_base.specs.Streams.{WritesSome, stream_of};
+ghost use Rattle.hack_base.specs.Streams.{stream_of};
+ghost use Rattle.hack_files.specs.WriteBacks.{SaysBack};
 ghost use Rattle.hack_prepare.specs.FailedCalls.{FailsOnlySo, IsAbsent};
 ghost use Rattle.hack_prepare.specs.FailureCounts.{CountsCalls, WriteFails};
 ghost use Rattle.hack_prepare.specs.Faults.{AtWrite, IsEditsFault};
@@ -230,9 +231,11 @@ fn edit<F: Files>(
     Ok(notices)
 }
 
-/// Restores the files that were kept, and returns how many of them couldn't be written.
+/// Restores the files that were kept, and returns how many of them couldn't be written. What is
+/// said of that says nothing of the path that is `reported` otherwise.
 pub fn finish<F: Files, W: Sink>(
     manager: Manager,
+    reported: Option<&str>,
     files: &mut F,
     term: &mut Term,
     err: &mut W,
@@ -248,8 +251,10 @@ pub fn finish<F: Files, W: Sink>(
         (F.bytes_at files.old) (F.bytes_at files.new) }
     ensures noted { IsTrue term.new.error ↔ (IsTrue term.old.error ⊎ (0 < result)) }
     ensures term { term.new ≡ record term.old { error = term.new.error } }
-    ensures shown { WritesSome (stream_of W.Sink err.old) (stream_of W.Sink err.new) }
+    ensures shown { SaysBack (F.refuses files.old files.new) term.old.coloring term.old.verbose
+        (option_map (λ text. text.now) reported.entry) (registered_files manager)
+        (stream_of W.Sink err.old) (stream_of W.Sink err.new) }
     ensures quiet { term.old.verbose ≡ false → result ≡ 0 → err.new ≡ err.old }
 {
-    manager.restore_all(files, term, err)
+    manager.restore_all(reported, files, term, err)
 }

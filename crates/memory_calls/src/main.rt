@@ -116,7 +116,7 @@ fn args_of(alloc: Global, env: &Env) -> Result<Args, Fault> {
 
 fn restore(alloc: Global, manager: Manager, files: &mut MemoryFiles) {
     let mut term = Term::new(Coloring::Never, false);
-    let _ = manager.restore_all(files, &mut term, &mut Vec::new(alloc));
+    let _ = manager.restore_all(None, files, &mut term, &mut Vec::new(alloc));
 }
 
 /// The context of a call with these arguments.

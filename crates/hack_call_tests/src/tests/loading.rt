@@ -48,7 +48,7 @@ struct Loading<'a> {
 /// Writes the files back.
 fn restored(alloc: Global, manager: Manager, stage: &mut Stage) {
     let mut term = Term::new(Coloring::Never, false);
-    stage.left = manager.restore_all(&mut stage.files, &mut term, &mut Vec::new(alloc));
+    stage.left = manager.restore_all(None, &mut stage.files, &mut term, &mut Vec::new(alloc));
 }
 
 fn ask_context(

@@ -113,7 +113,7 @@ pub fn context_of(alloc: Global, scene: &mut Scene) -> Result<Context, Wrong> {
         &mut scene.files,
         &mut manager,
     );
-    let _ = manager.restore_all(&mut scene.files, &mut scene.term, &mut scene.err);
+    let _ = manager.restore_all(None, &mut scene.files, &mut scene.term, &mut scene.err);
     match Context::new(alloc, args, answers) {
         Ok((context, _)) => Ok(context),
         Err(_) => Err(unanswered(alloc, "no context")),

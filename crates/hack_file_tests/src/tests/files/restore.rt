@@ -67,9 +67,14 @@ fn told(alloc: Global, given: &Given) -> Result<String, AllocError> {
     Ok(String::new(alloc))
 }
 
-/// Restores all files that the manager keeps.
-fn restored(alloc: Global, manager: Manager, given: &mut Given) -> Result<String, AllocError> {
-    let count = manager.restore_all(&mut given.files, &mut given.term, &mut given.err);
+/// Restores all files that the manager keeps, where this path is reported otherwise.
+fn restored(
+    alloc: Global,
+    manager: Manager,
+    reported: Option<&str>,
+    given: &mut Given,
+) -> Result<String, AllocError> {
+    let count = manager.restore_all(reported, &mut given.files, &mut given.term, &mut given.err);
     let failures = given.files.failures();
     let error = given.term.error;
     let told = told(alloc, given)?;
@@ -78,21 +83,19 @@ fn restored(alloc: Global, manager: Manager, given: &mut Given) -> Result<String
 }
 
 fn all(alloc: Global, mut given: Given) -> Result<String, AllocError> {
-    restored(alloc, manager(alloc), &mut given)
+    restored(alloc, manager(alloc), None, &mut given)
 }
 
 /// The same where the caller reports that `b` can't be written.
 fn reported(alloc: Global, mut given: Given) -> Result<String, AllocError> {
-    let mut manager = manager(alloc);
-    manager.leave_report(alloc, "b");
-    restored(alloc, manager, &mut given)
+    restored(alloc, manager(alloc), Some("b"), &mut given)
 }
 
 fn always(alloc: Global, is_needed: bool) -> Result<String, AllocError> {
     let mut manager = Manager::new(alloc, is_needed);
     let _ = manager.register(alloc, "a", b"old a");
     let _ = manager.register_always(alloc, "b", b"old b");
-    restored(alloc, manager, &mut quiet(alloc, 0))
+    restored(alloc, manager, None, &mut quiet(alloc, 0))
 }
 
 fn fault_of(alloc: Global, outcome: Result<(), FsFault>) -> Result<String, AllocError> {
@@ -108,7 +111,7 @@ fn last(alloc: Global, call: u64) -> Result<String, AllocError> {
     let outcome = manager.restore_last(&mut given.files);
     let then = held(alloc, &mut given.files, "a b c");
     let _ = given.files.write("c", b"new");
-    let restored = restored(alloc, manager, &mut given)?;
+    let restored = restored(alloc, manager, None, &mut given)?;
     let fault = fault_of(alloc, outcome)?;
     let then = then?;
     format!(in alloc; "{fault}\n{then}\n{restored}")
@@ -118,7 +121,7 @@ fn empty(alloc: Global) -> Result<String, AllocError> {
     let mut given = edited(alloc, 0, 0, Term::new(Coloring::Never, true));
     let mut manager = Manager::new(alloc, true);
     let outcome = manager.restore_last(&mut given.files);
-    let restored = restored(alloc, manager, &mut given)?;
+    let restored = restored(alloc, manager, None, &mut given)?;
     let fault = fault_of(alloc, outcome)?;
     let changes = given.files.inner().steps().len();
     format!(in alloc; "{fault}\n{restored}\n{changes}")

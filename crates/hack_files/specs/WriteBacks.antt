@@ -1,0 +1,47 @@
+-- What is said of files that are written back, and of a call that failed.
+use Rattle.std.specs.Prelude.{◌≡◌, ◌⊎◌, ◌++◌, [], ◌∷◌, ℕ, Bool, not, false, List, Option, Some, None, map, if◌then◌else◌}
+use Rattle.std.specs.List.{filter, flat_map}
+use Rattle.std.specs.Str.{bytes_eq}
+use Rattle.hack_base.specs.Streams.{Stream, WritesAll, WritesText}
+use Rattle.hack_term.specs.Lines.{error_line, info_line}
+use Rattle.hack_term.specs.declared.term.Coloring.{Coloring}
+use Rattle.hack_files.specs.BackTexts.{restoring_text, unwritten_text}
+use Rattle.hack_files.specs.Restore.{Kept}
+
+-- a file that is written back, or whose write is refused
+pub record WriteBack : Type 0 where
+  pub file : Kept
+  pub written : Bool
+
+-- the paths of those that were refused, in order
+abbrev pub refused_among : List WriteBack → List (List ℕ)
+refused_among backs = map (λ b. b.file.path) (filter (λ b. not b.written) backs)
+
+-- this is the path that is reported otherwise
+abbrev pub is_reported : Option (List ℕ) → List ℕ → Bool
+is_reported None path = false
+is_reported (Some reported) path = bytes_eq reported path
+
+-- the line before a write, in verbose mode
+abbrev pub restoring_lines : Coloring → Bool → List ℕ → List (List ℕ)
+restoring_lines coloring verbose path = if verbose then info_line coloring (restoring_text path) ∷ [] else []
+
+-- the error of a path that can't be written, unless that is reported otherwise
+abbrev pub refusal_lines : Coloring → Option (List ℕ) → List ℕ → List (List ℕ)
+refusal_lines coloring reported path = if is_reported reported path then [] else error_line coloring (unwritten_text path) ∷ []
+
+abbrev pub back_lines : Coloring → Bool → Option (List ℕ) → WriteBack → List (List ℕ)
+back_lines coloring verbose reported b =
+    restoring_lines coloring verbose b.file.path ++ (if b.written then [] else refusal_lines coloring reported b.file.path)
+
+-- These files were written back, but for those that were refused, and just their lines were said, in order.
+pub record SaysBack (Refuses : List (List ℕ) → Type 0) (coloring : Coloring) (verbose : Bool)
+    (reported : Option (List ℕ)) (files : List Kept) (old new : Stream) : Type 0 where
+  pub backs : List WriteBack
+  pub each : map (λ b. b.file) backs ≡ files
+  pub refused : Refuses (refused_among backs)
+  pub said : WritesAll (flat_map (back_lines coloring verbose reported) backs) old new
+
+-- why a call failed: nothing, or one info line
+abbrev pub SaysReason : Coloring → Stream → Stream → Type 0
+SaysReason coloring old new = (new ≡ old) ⊎ ((text : List ℕ) × WritesText (info_line coloring text) old new)
