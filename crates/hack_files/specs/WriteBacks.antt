@@ -1,5 +1,5 @@
 -- What is said of files that are written back, and of a call that failed.
-use Rattle.std.specs.Prelude.{◌≡◌, ◌⊎◌, ◌++◌, [], ◌∷◌, ℕ, Bool, not, false, List, Option, Some, None, map, if◌then◌else◌}
+use Rattle.std.specs.Prelude.{◌≡◌, ◌⊎◌, ◌++◌, [], ◌∷◌, ℕ, Bool, not, false, List, Option, Some, None, length, map, if◌then◌else◌}
 use Rattle.std.specs.List.{filter, flat_map}
 use Rattle.std.specs.Str.{bytes_eq}
 use Rattle.hack_base.specs.Streams.{Stream, WritesAll, WritesText}
@@ -34,12 +34,14 @@ abbrev pub back_lines : Coloring → Bool → Option (List ℕ) → WriteBack �
 back_lines coloring verbose reported b =
     restoring_lines coloring verbose b.file.path ++ (if b.written then [] else refusal_lines coloring reported b.file.path)
 
--- These files were written back, but for those that were refused, and just their lines were said, in order.
+-- These files were written back, but for those that were refused, as many as failed; and just their lines were said,
+-- in order.
 pub record SaysBack (Refuses : List (List ℕ) → Type 0) (coloring : Coloring) (verbose : Bool)
-    (reported : Option (List ℕ)) (files : List Kept) (old new : Stream) : Type 0 where
+    (reported : Option (List ℕ)) (files : List Kept) (failed : ℕ) (old new : Stream) : Type 0 where
   pub backs : List WriteBack
   pub each : map (λ b. b.file) backs ≡ files
   pub refused : Refuses (refused_among backs)
+  pub number : length (refused_among backs) ≡ failed
   pub said : WritesAll (flat_map (back_lines coloring verbose reported) backs) old new
 
 -- why a call failed: nothing, or one info line

@@ -163,7 +163,7 @@ impl Manager {
         ensures term { term.new ≡ record term.old { error = term.new.error } }
 
         ensures shown { SaysBack (F.refuses files.old files.new) term.old.coloring term.old.verbose
-            (option_map (λ text. text.now) reported.entry) (registered_files self)
+            (option_map (λ text. text.now) reported.entry) (registered_files self) result
             (stream_of W.Sink err.old) (stream_of W.Sink err.new) }
 
         // Where no write failed, nothing is said but in verbose mode.
@@ -225,8 +225,7 @@ impl Saved {
 
     /// In verbose mode, says that the file is written back.
     fn tell<W: Sink>(&self, term: &Term, err: &mut W)
-        ensures told {
-            WritesAll (restoring_lines term.now.coloring term.now.verbose (kept_file self.now).path)
+        ensures told { WritesAll (restoring_lines term.now.coloring term.now.verbose (kept_file self.now).path)
             (stream_of W.Sink err.old) (stream_of W.Sink err.new) }
         ensures quiet { term.now.verbose ≡ false → err.new ≡ err.old }
     {

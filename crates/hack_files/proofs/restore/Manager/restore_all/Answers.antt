@@ -25,7 +25,7 @@ loop-file-preserved g c =
             (λ whole. rw w.failures-is (tried_failed _ _ _ _ _ _ _ _ _ _ lt at (told.refused whole) (before.4 whole))),
             rw w.failures-is (noted_failed _ _ _ (ap (λ t. t.error) told.noted)),
             search rules,
-            says_more (g.F.Files.refuses _ _) (g.F.Files.refuses _ _) _ _ _ _ _ _ _ _ false _ (stream_of g.W.Sink c.loop-file.err) _ lt at
+            says_more (g.F.Files.refuses _ _) (g.F.Files.refuses _ _) _ _ _ _ _ _ _ _ false c.loop-file.failures _ _ (stream_of g.W.Sink c.loop-file.err) _ lt at (omega (arith, w.failures-is))
                 (λ ps h. g.F.Files.refuses_more _ _ _ ps _ h told.refused_path) (ap (λ t. t.coloring) before.6) (ap (λ t. t.verbose) before.6) told.shown before.7,
             (λ plain none. absurd (omega (arith, w.failures-is, none))),
             g.F.Files.unseen_more _ _ _ [] [] before.9 told.unseen_none,
@@ -39,7 +39,7 @@ loop-file-preserved g c =
             (λ whole. rw w.failures-is (tried_written _ _ _ _ _ _ _ _ _ _ lt at (told.traced whole) (before.4 whole))),
             rw w.failures-is (noted_written _ _ _ _ (ap (λ t. t.error) told.noted) before.5),
             search rules,
-            says_more (g.F.Files.refuses _ _) (g.F.Files.refuses _ _) _ _ _ _ _ _ _ _ true _ (stream_of g.W.Sink c.loop-file.err) _ lt at
+            says_more (g.F.Files.refuses _ _) (g.F.Files.refuses _ _) _ _ _ _ _ _ _ _ true c.loop-file.failures _ _ (stream_of g.W.Sink c.loop-file.err) _ lt at (omega (arith, w.failures-is))
                 (λ ps h. g.F.Files.refuses_more _ _ _ ps _ h told.refused_path) (ap (λ t. t.coloring) before.6) (ap (λ t. t.verbose) before.6) told.shown before.7,
             (λ plain none. told.quiet (ap (λ t. t.verbose) before.6 ∙ plain) ∙ before.8 plain (sym w.failures-is ∙ none)),
             g.F.Files.unseen_more _ _ _ [] [] before.9 told.unseen_none,
@@ -53,7 +53,7 @@ pub returns-clause-restored : goal.returns-clause-restored
 returns-clause-restored g c = brings_of _ _ _ _ _ _ (returns-clause-refused g c)
 
 pub returns-clause-shown : goal.returns-clause-shown
-returns-clause-shown g c = rw (← c.deref-file-items.ensures.value) (says_all _ _ _ _ _ _ _ _ (end_kept _ _ c.loop-file-test.false) c.loop-file.invariant.7)
+returns-clause-shown g c = rw (← c.deref-file-items.ensures.value) (says_all _ _ _ _ _ _ _ _ _ (end_kept _ _ c.loop-file-test.false) c.loop-file.invariant.7)
 
 pub returns-clause-quiet : goal.returns-clause-quiet
 returns-clause-quiet g c = c.loop-file.invariant.8

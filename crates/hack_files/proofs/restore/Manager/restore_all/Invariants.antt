@@ -15,7 +15,7 @@ invariant-loop-file g l =
     × (g.F.Files.whole → TriedTo (map kept_file l.file-items) l.file-index l.failures (g.F.Files.trace l.fn.files) (g.F.Files.trace l.files) (g.F.Files.bytes_at l.fn.files) (g.F.Files.bytes_at l.files))
     × (IsTrue l.term.error ↔ (IsTrue l.fn.term.error ⊎ (0 < l.failures)))
     × (l.term ≡ record l.fn.term { error = l.term.error })
-    × SaysTo (g.F.Files.refuses l.fn.files l.files) l.fn.term.coloring l.fn.term.verbose (option_map (λ text. text.now) l.fn.reported) (map kept_file l.file-items) l.file-index
-        (stream_of g.W.Sink l.fn.err) (stream_of g.W.Sink l.err)
+    × SaysTo (g.F.Files.refuses l.fn.files l.files) l.fn.term.coloring l.fn.term.verbose (option_map (λ text. text.now) l.fn.reported) (map kept_file l.file-items) l.file-index l.failures
+    (stream_of g.W.Sink l.fn.err) (stream_of g.W.Sink l.err)
     × (l.fn.term.verbose ≡ false → l.failures ≡ 0 → l.err ≡ l.fn.err)
     × g.F.Files.unseen l.fn.files l.files []
