@@ -41,13 +41,13 @@ IsAt files i file = (d : Kept) → slice_index_or files i d ≡ file
 pub is_at : (saved : List Saved) (i : ℕ) (file : Saved) → i < length saved → file ≡ slice_index_or saved i file → IsAt (map kept_file saved) i (kept_file file)
 is_at saved i file lt is d = get_or-map kept_file saved i file d lt ∙ ap kept_file (sym is)
 
-contains_path : (files : List Kept) (j : ℕ) (d : Kept) (q : List ℕ) → j < length files → q ≡ path_at files j d → Contains (paths files) q
+pub contains_path : (files : List Kept) (j : ℕ) (d : Kept) (q : List ℕ) → j < length files → q ≡ path_at files j d → Contains (paths files) q
 contains_path [] j d q lt is = absurd (omega (arith, lt))
 contains_path (x ∷ xs) zero d q lt is = (zero, omega arith, sym is)
 contains_path (x ∷ xs) (suc j) d q lt is = Contains-append_right (x.path ∷ []) (paths xs) q (contains_path xs j d q (omega (arith, lt)) is)
 
 -- an earlier file that is back stays back when this one is written
-still : (files : List Kept) (i j : ℕ) (file : Kept) (spoilt : List (List ℕ)) (mid new : Contents) → AreDistinct files → i < length files → IsAt files i file
+pub still : (files : List Kept) (i j : ℕ) (file : Kept) (spoilt : List (List ℕ)) (mid new : Contents) → AreDistinct files → i < length files → IsAt files i file
     → KeepsOthers file.path mid new → j < i → IsBack files spoilt mid j → IsBack files spoilt new j
 still files i j file spoilt mid new distinct lt at keeps before here =
     λ d within.
@@ -55,7 +55,7 @@ still files i j file spoilt mid new distinct lt at keeps before here =
     elim (here d within) [ inl bad ↦ inl bad | inr good ↦ inr (keeps _ differ ∙ good) ]
 
 -- paths of none of the first i + 1 files hold what they held
-others_more : (files : List Kept) (i : ℕ) (file : Kept) (old mid new : Contents) → i < length files → IsAt files i file → KeepsOthers file.path mid new
+pub others_more : (files : List Kept) (i : ℕ) (file : Kept) (old mid new : Contents) → i < length files → IsAt files i file → KeepsOthers file.path mid new
     → ((q : List ℕ) → ((j : ℕ) (d : Kept) → j < i → j < length files → q ≢ path_at files j d) → mid q ≡ old q)
     → (q : List ℕ) → ((j : ℕ) (d : Kept) → j < i + 1 → j < length files → q ≢ path_at files j d) → new q ≡ old q
 others_more files i file old mid new lt at keeps before q absent =
@@ -63,7 +63,7 @@ others_more files i file old mid new lt at keeps before q absent =
     keeps q differ ∙ before q (λ j d h. absent j d (omega arith))
 
 -- after one more write, which succeeds
-pub back_written : (R S : List (List ℕ) → Type 0) (tells : Type 0) (files : List Kept) (i failures : ℕ) (file : Kept) (old mid new : Contents) → i < length files → IsAt files i file
+abbrev pub back_written : (R S : List (List ℕ) → Type 0) (tells : Type 0) (files : List Kept) (i failures : ℕ) (file : Kept) (old mid new : Contents) → i < length files → IsAt files i file
     → ((ps : List (List ℕ)) → R ps → S (ps ++ [])) → (tells → KeepsOthers file.path mid new) → (tells → new file.path ≡ Some file.bytes)
     → BackBut R tells files i failures old mid → BackBut S tells files (i + 1) failures old new
 back_written R S tells files i failures file old mid new lt at more keeps is b = record {
@@ -80,7 +80,7 @@ back_written R S tells files i failures file old mid new lt at more keeps is b =
 }
 
 -- after one more write, which is refused
-pub back_refused : (R S : List (List ℕ) → Type 0) (tells : Type 0) (files : List Kept) (i failures : ℕ) (file : Kept) (old mid new : Contents) → i < length files → IsAt files i file
+abbrev pub back_refused : (R S : List (List ℕ) → Type 0) (tells : Type 0) (files : List Kept) (i failures : ℕ) (file : Kept) (old mid new : Contents) → i < length files → IsAt files i file
     → ((ps : List (List ℕ)) → R ps → S (ps ++ file.path ∷ [])) → (tells → KeepsOthers file.path mid new)
     → BackBut R tells files i failures old mid → BackBut S tells files (i + 1) (failures + 1) old new
 back_refused R S tells files i failures file old mid new lt at more keeps b =
@@ -100,7 +100,7 @@ back_refused R S tells files i failures file old mid new lt at more keeps b =
     }
 
 -- nothing is written yet
-pub back_none : (R : List (List ℕ) → Type 0) (tells : Type 0) (files : List Kept) (old : Contents) → R [] → BackBut R tells files 0 0 old old
+abbrev pub back_none : (R : List (List ℕ) → Type 0) (tells : Type 0) (files : List Kept) (old : Contents) → R [] → BackBut R tells files 0 0 old old
 back_none R tells files old none_refused = record {
   spoilt = [];
   refused = none_refused;
@@ -109,7 +109,7 @@ back_none R tells files old none_refused = record {
 }
 
 -- all files are written
-pub back_all : (R : List (List ℕ) → Type 0) (tells : Type 0) (files : List Kept) (i failures : ℕ) (old new : Contents) → length files ≤ i
+abbrev pub back_all : (R : List (List ℕ) → Type 0) (tells : Type 0) (files : List Kept) (i failures : ℕ) (old new : Contents) → length files ≤ i
     → BackBut R tells files i failures old new → ComesBackBut R tells files old new failures
 back_all R tells files i failures old new end b = record {
   spoilt = b.spoilt;

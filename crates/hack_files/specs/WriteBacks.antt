@@ -2,11 +2,13 @@
 use Rattle.std.specs.Prelude.{◌≡◌, ◌⊎◌, ◌++◌, [], ◌∷◌, ℕ, Bool, not, false, List, Option, Some, None, length, map, if◌then◌else◌}
 use Rattle.std.specs.List.{filter, flat_map}
 use Rattle.std.specs.Str.{bytes_eq}
+use Rattle.hack_base.specs.Counters.{GrowsBy}
 use Rattle.hack_base.specs.Streams.{Stream, WritesAll, WritesText}
 use Rattle.hack_term.specs.Lines.{error_line, info_line}
 use Rattle.hack_term.specs.declared.term.Coloring.{Coloring}
 use Rattle.hack_files.specs.BackTexts.{restoring_text, unwritten_text}
-use Rattle.hack_files.specs.Restore.{Kept}
+use Rattle.hack_files.specs.Restore.{AreDistinct, Back, Kept}
+use Rattle.hack_files.specs.declared.fs.Files.{Ghosts as Filing}
 
 -- a file that is written back, or whose write is refused
 pub record WriteBack : Type 0 where
@@ -34,14 +36,16 @@ abbrev pub back_lines : Coloring → Bool → Option (List ℕ) → WriteBack �
 back_lines coloring verbose reported b =
     restoring_lines coloring verbose b.file.path ++ (if b.written then [] else refusal_lines coloring reported b.file.path)
 
--- These files were written back, but for those that were refused, as many as failed; and just their lines were said,
--- in order.
-pub record SaysBack (Refuses : List (List ℕ) → Type 0) (coloring : Coloring) (verbose : Bool)
+-- These files were written back, but for those that were refused, as many as calls failed; all others hold their bytes
+-- again, where their paths are distinct. Just the lines of these were said, in order.
+pub record SaysBack {F : Type 0} (f : Filing F) (before after : F) (coloring : Coloring) (verbose : Bool)
     (reported : Option (List ℕ)) (files : List Kept) (failed : ℕ) (old new : Stream) : Type 0 where
   pub backs : List WriteBack
   pub each : map (λ b. b.file) backs ≡ files
-  pub refused : Refuses (refused_among backs)
+  pub refused : f.refuses before after (refused_among backs)
   pub number : length (refused_among backs) ≡ failed
+  pub counted : GrowsBy failed (f.failed before) (f.failed after)
+  pub back : f.tells → AreDistinct files → Back files (refused_among backs) (f.bytes_at before) (f.bytes_at after)
   pub said : WritesAll (flat_map (back_lines coloring verbose reported) backs) old new
 
 -- why a call failed: nothing, or one info line

@@ -251,7 +251,7 @@ pub fn finish<F: Files, W: Sink>(
         (F.bytes_at files.old) (F.bytes_at files.new) }
     ensures noted { IsTrue term.new.error ↔ (IsTrue term.old.error ⊎ (0 < result)) }
     ensures term { term.new ≡ record term.old { error = term.new.error } }
-    ensures shown { SaysBack (F.refuses files.old files.new) term.old.coloring term.old.verbose
+    ensures shown { SaysBack F.Files files.old files.new term.old.coloring term.old.verbose
         (option_map (λ text. text.now) reported.entry) (registered_files manager) result
         (stream_of W.Sink err.old) (stream_of W.Sink err.new) }
     ensures quiet { term.old.verbose ≡ false → result ≡ 0 → err.new ≡ err.old }

@@ -6,7 +6,8 @@ ghost use Rattle.hack_rules.specs.declared.fault.CliFault.TheVariants.{Memory};
 ghost use Rattle.hack_words.specs.Start.{wants_rustup as rustup_wanted};
 ghost use Rattle.hack_run.specs.Readings.{IsEarlyReading};
 ghost use Rattle.hack_run.specs.TemporaryEdits.{RestoresEdits};
-ghost use Rattle.hack_recovery.specs.AskedEdits.{AsksForEdits, edits_asked, edits_by, is_change, is_edit};
+ghost use Rattle.hack_recovery.specs.AskedEdits.{AsksForEdits, edits_asked, edits_by, is_change};
+ghost use Rattle.hack_recovery.specs.AskedEdits.{is_edit};
 ghost use Rattle.hack_recovery.specs.AskedEdits.{manifest_by};
 
 use hack_base::copies::copy_of;

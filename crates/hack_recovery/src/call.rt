@@ -3,7 +3,8 @@
 ghost use Rattle.std.specs.Prelude.{◌≡◌, not};
 ghost use Rattle.hack_files.specs.View.{files_view};
 ghost use Rattle.hack_recovery.specs.LaneCalls.{ProgramCallsInLanes};
-ghost use Rattle.hack_recovery.specs.ProgramCalls.{IsProgramCall, IsSameOutside, colored, scene_outside};
+ghost use Rattle.hack_recovery.specs.ProgramCalls.{IsProgramCall, IsSameOutside, colored};
+ghost use Rattle.hack_recovery.specs.ProgramCalls.{scene_outside};
 ghost use Rattle.hack_run.specs.CallTrace.{colored_by};
 ghost use Rattle.hack_run.specs.Shown.{scene_at};
 

@@ -136,7 +136,7 @@ module _ (tells : Type 0) (args : Args) (env : Env) (held : Contents) (before no
 
 -- ---- all changes
 
-by_bool : (b : Bool) (X Y : Type 0) → (b ≡ true → X) → (b ≡ false → Y) → MatchBool b X Y
+pub by_bool : (b : Bool) (X Y : Type 0) → (b ≡ true → X) → (b ≡ false → Y) → MatchBool b X Y
 by_bool true X Y x y = x refl
 by_bool false X Y x y = y refl
 
@@ -241,7 +241,7 @@ pub edits_back : {F : Type 0} (f : Filing F) (args : Args) (answers : Answers) (
     → (f.tells → args.remove_dev_deps ≡ false → AreSafe (registered_files now) (f.bytes_at loaded) (f.bytes_at edited)) → IfOk answers.loaded (IsLoaded f.tells (f.bytes_at loaded) env)
     → (f.whole → (made : List Change) × Tried (registered_files now) made count × Makes made (f.trace edited) (f.trace last) (f.bytes_at edited) (f.bytes_at last))
     → ComesBackBut (f.refuses edited last) f.tells (registered_files now) (f.bytes_at edited) (f.bytes_at last) count → (f.tells → Brings (registered_files now) (f.bytes_at edited) (f.bytes_at last) count)
-    → EditsDone f args answers env before now loaded edited → (cx : ContextRecord) × IsContextFrom args answers cx × EditsAndBack f cx loaded edited last
+    → EditsDone f args answers env before now loaded edited → (cx : ContextRecord) × IsContextFrom args answers cx × EditsAndBack f cx (registered_files now) loaded edited last
 edits_back f args answers env before now loaded edited last count empty needs unkept safe read tried refused restored done =
     let same_args : args.remove_dev_deps ≡ done.cx.args.remove_dev_deps = ap (λ (a : Args). a.remove_dev_deps) (sym done.context.2.args) in (
       done.cx,
@@ -257,10 +257,9 @@ edits_back f args answers env before now loaded edited last count empty needs un
               back = back.0;
               writes = made.1.0;
               made = made.2;
-              undone = by_bool done.cx.args.remove_dev_deps (back.0 ≡ []) (TriesToUndo f done.cx made.0 back.0 loaded edited last)
+              undone = by_bool done.cx.args.remove_dev_deps (back.0 ≡ []) (TriesToUndo f done.cx (registered_files now) made.0 back.0 loaded edited last)
                   (λ stays. tried_none back.1 (unkept (same_args ∙ stays)))
                   (λ returns. record {
-                    files = registered_files now;
                     spoilt = refused.spoilt;
                     refused = refused.refused;
                     tried = subst (λ (n : ℕ). Tried (registered_files now) back.0 n) (sym refused.number) back.1;

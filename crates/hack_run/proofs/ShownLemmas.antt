@@ -54,7 +54,7 @@ use Rattle.hack_run.specs.Handed.{IsPlannedAsAsked, is_hunt, is_search}
 use Rattle.hack_run.specs.Internal.{EndsList, HandsOverAtMostOne, HandsSteps, ListsSteps}
 use Rattle.hack_run.specs.InternalExtensions.{MissesForACause}
 use Rattle.hack_run.specs.Questions.{AsksStable, MayAskStable, TellsStableReason}
-use Rattle.hack_run.specs.Shown.{ComesOfList, ComesOfRuns, ComesOfSearch, HasNoPlan, IsNoPlan, Looks, RefusesSome, SaysAfterLoading, SaysItsPlan, SaysList, SaysLoaded, SaysNoPlan, SaysNotes, SaysParsed, SaysPlan, SaysPlanNotes, SaysRuns, SaysStarved, SaysSteps, dressed_by, goes_on, looks_of, manner_for, performed_of, planned, reported_on, scene_with, unasked}
+use Rattle.hack_run.specs.Shown.{ComesOfList, ComesOfRuns, ComesOfSearch, HasNoPlan, IsNoPlan, Looks, SaysAfterLoading, SaysItsPlan, SaysList, SaysLoaded, SaysNoPlan, SaysNotes, SaysParsed, SaysPlan, SaysPlanNotes, SaysRuns, SaysStarved, SaysSteps, dressed_by, goes_on, looks_of, manner_for, performed_of, planned, reported_on, scene_with, unasked}
 use Rattle.hack_run.specs.declared.fault.RunFault.{RunFault}
 use Rattle.hack_run.specs.declared.fault.RunFault.TheVariants as fault
 
@@ -405,28 +405,18 @@ pub by_success : {T E : Type 0} (P : Type 0) (r : Result T E) → OnOk r P → I
 by_success P (Ok v) p ok = p
 by_success P (Err e) p ok = absurd (cc)
 
-not_nil : {X : Type 0} (xs ys : List X) → ys ≢ [] → xs ++ ys ≢ []
-not_nil [] ys some is = some is
-not_nil (x ∷ xs) ys some is = absurd (cc)
-
--- none of these writes was refused at the end, or some was meanwhile
-pub some_refused : {F : Type 0} (f : Filing F) → ((a b c : F) (ps qs : List Name) → f.refuses a b ps → f.refuses b c qs → f.refuses a c (ps ++ qs)) → (a b c d : F) (n : ℕ) (ps qs rs : List Name)
-    → f.refuses a b ps → f.refuses b c qs → f.refuses c d rs → length rs ≡ n → (n ≡ 0) ⊎ ((0 < n) × RefusesSome f a d)
-some_refused f more a b c d zero ps qs rs first second third long = inl refl
-some_refused f more a b c d (suc n) ps qs rs first second third long =
-    inr (omega arith, (ps ++ (qs ++ rs), not_nil ps (qs ++ rs) (not_nil qs rs (λ none. let short = ap length none in absurd (omega (arith, long, short)))), more a b d ps (qs ++ rs) first (more b c d qs rs second third)))
-
--- where none was, an error was reported just where one was before
-same_error : (a b : Bool) (n : ℕ) → (IsTrue b ↔ (IsTrue a ⊎ (0 < n))) → n ≡ 0 → b ≡ a
-same_error true b n iff none = iff.1 (inl refl)
-same_error false false n iff none = refl
-same_error false true n iff none = elim (iff.0 refl) [
+-- an error was reported just where one was before, or a write was refused
+error_of : (a b : Bool) (n : ℕ) → (IsTrue b ↔ (IsTrue a ⊎ (0 < n))) → b ≡ (a || nat_lt 0 n)
+error_of true b n iff = iff.1 (inl refl)
+error_of false b (suc n) iff = iff.1 (inr (omega arith))
+error_of false false zero iff = refl
+error_of false true zero iff = elim (iff.0 refl) [
   | inl before ↦ absurd (cc)
-  | inr some ↦ absurd (omega (arith, some, none))
+  | inr some ↦ absurd (omega (arith, some))
 ]
 
-pub looks_unless : (a b : Term) (n : ℕ) → b ≡ record a { error = b.error } → (IsTrue b.error ↔ (IsTrue a.error ⊎ (0 < n))) → n ≡ 0 → looks_of b ≡ looks_of a
-looks_unless a b n term noted none = ap looks_of term ∙ ap (λ (e : Bool). reported_on e (looks_of a)) (same_error a.error b.error n noted none)
+pub looks_back : (a b : Term) (n : ℕ) → b ≡ record a { error = b.error } → (IsTrue b.error ↔ (IsTrue a.error ⊎ (0 < n))) → looks_of b ≡ reported_on (a.error || nat_lt 0 n) (looks_of a)
+looks_back a b n term noted = ap looks_of term ∙ ap (λ (e : Bool). reported_on e (looks_of a)) (error_of a.error b.error n noted)
 
 -- what arguments ask for was said after their notices
 pub args_said : {F : Type 0} (f : Filing F) (before after : F) (came : Result (Unit {0}) RunFault) (tells : Type 0) (answer : Parsed) (args : Args) (notes : List Note) (env : Env) (a b d : Term) (now : Looks) (noted : Stream) (old new : Scene)

@@ -44,31 +44,32 @@ pub record UndoesEdits (tells : Type 0) (cx : ContextRecord) (held : Contents)
   pub writes : back ≡ map write_of files
   pub kept : AreKept tells cx held edits files
 
--- each of them is written back, or that was refused
-pub record TriesToUndo {F : Type 0} (f : Filing F) (cx : ContextRecord) (edits back : List Change)
-    (loaded edited after : F) : Type 0 where
-  pub files : List Kept
+-- these files are kept after the edits, and each is written back, or that was refused
+pub record TriesToUndo {F : Type 0} (f : Filing F) (cx : ContextRecord) (files : List Kept)
+    (edits back : List Change) (loaded edited after : F) : Type 0 where
   pub spoilt : List Name
   pub refused : f.refuses edited after spoilt
   pub tried : Tried files back (length spoilt)
   pub kept : AreKept f.tells cx (f.bytes_at loaded) edits files
 
--- just one write was made for each manifest that the context has edited, and then files were written back
--- so, unless edits stay
-pub record TriesChanges {F : Type 0} (f : Filing F) (cx : ContextRecord) (loaded edited after : F) : Type 0 where
+-- just one write was made for each manifest that the context has edited, and then these files were written
+-- back so, unless edits stay
+pub record TriesChanges {F : Type 0} (f : Filing F) (cx : ContextRecord) (files : List Kept)
+    (loaded edited after : F) : Type 0 where
   pub edits : List Change
   pub back : List Change
   pub writes : AreWritesIn cx f.tells (f.bytes_at loaded) edits
   pub made : Makes edits (f.trace loaded) (f.trace edited) (f.bytes_at loaded) (f.bytes_at edited)
-  pub undone : MatchBool cx.args.remove_dev_deps (back ≡ []) (TriesToUndo f cx edits back loaded edited after)
+  pub undone : MatchBool cx.args.remove_dev_deps (back ≡ []) (TriesToUndo f cx files edits back loaded edited after)
   pub last : Makes back (f.trace edited) (f.trace after) (f.bytes_at edited) (f.bytes_at after)
 
--- Between the questions and the end manifests held their edits; whatever came of the plan, what is to come back was
--- written back, and edits that stay stand at the end.
-pub record EditsAndBack {F : Type 0} (f : Filing F) (cx : ContextRecord) (loaded edited after : F) : Type 0 where
+-- Between the questions and the end manifests held their edits; whatever came of the plan, these files were written
+-- back, and edits that stay stand at the end.
+pub record EditsAndBack {F : Type 0} (f : Filing F) (cx : ContextRecord) (files : List Kept)
+    (loaded edited after : F) : Type 0 where
   pub prepared : f.tells → IsPreparedIn cx (f.bytes_at loaded) (f.bytes_at edited)
   pub stay : cx.args.remove_dev_deps ≡ true → f.tells → KeepsAll (f.bytes_at edited) (f.bytes_at after)
-  pub changes : f.whole → TriesChanges f cx loaded edited after
+  pub changes : f.whole → TriesChanges f cx files loaded edited after
 
 -- all changes, in order: those of the questions, just one write for each manifest that the context
 -- has edited, and those that undo these, unless edits stay

@@ -1,6 +1,6 @@
 -- What a call says on the way, and in which order: where it comes to its end, all of that and nothing else; where an
 -- error ends it, what was to be said before.
-use Rattle.std.specs.Prelude.{◌≡◌, ◌≢◌, ◌⊎◌, ◌&&◌, ◌||◌, [], ℕ, Bool, Err, IsSome, List, MatchBool, MatchOption, None, Ok, OnOk, Option, Result, false, filter, if◌then◌else◌, map, nat_lt, not, string_bytes, true}
+use Rattle.std.specs.Prelude.{◌≡◌, ◌⊎◌, ◌&&◌, ◌||◌, [], ℕ, Bool, Err, IsSome, List, MatchBool, MatchOption, None, Ok, OnOk, Option, Result, false, filter, if◌then◌else◌, map, nat_lt, not, string_bytes, true}
 use Rattle.std.specs.Io.KnownBytes.{Appends, Keeps}
 use Rattle.std.specs.List.{flat_map}
 use Rattle.std.specs.Result.{is_err}
@@ -21,6 +21,9 @@ use Rattle.hack_load.specs.declared.fault.ContextFault.{ContextFault}
 use Rattle.hack_load.specs.declared.fault.ContextFault.TheVariants as context
 use Rattle.hack_files.specs.FailedCalls.{NoneFailed}
 use Rattle.hack_files.specs.Files.{Contents, KeepsAll}
+use Rattle.hack_files.specs.Restore.{AreSafe, Kept}
+use Rattle.hack_files.specs.WriteBacks.{SaysBack, SaysReason}
+use Rattle.hack_files.specs.declared.fs.FsFault.TheVariants as fs
 use Rattle.hack_files.specs.declared.fs.Files.{Ghosts as Filing}
 use Rattle.hack_plan.specs.View.{PlanView}
 use Rattle.hack_planner.specs.CallPlan.{IsCauseOf, IsPackagesCause, IsPlanOf}
@@ -31,6 +34,7 @@ use Rattle.hack_metadata.specs.QuestionCalls.{WroteWhereKnown}
 use Rattle.hack_prepare.specs.FailedCalls.{IsAbsent, IsOfFailedCall}
 use Rattle.hack_prepare.specs.PreparedView.{IsPrepareFault, IsReadRootIn, notes_in}
 use Rattle.hack_prepare.specs.declared.fault.PrepareFault.{PrepareFault}
+use Rattle.hack_prepare.specs.declared.fault.PrepareFault.TheVariants as prepare
 use Rattle.hack_process.specs.Calls.{Call, IsSuccess, MayAdd}
 use Rattle.hack_process.specs.CommandTexts.{text_of}
 use Rattle.hack_process.specs.Faults.{GotAnswer, IsFault}
@@ -247,10 +251,6 @@ pub data SaysAfterLoading {F : Type 0} (f : Filing F) (loaded edited : F) (came 
       → AsksStable rustup stable old.calls calls → TellsStableReason looks.verbose rustup stable old.calls calls → (¬ NeedsAnswer args → stable ≡ Unasked) → SaysItsPlan came tells cx stable rustup looks now (scene_with calls told old) new
       → SaysAfterLoading f loaded edited came tells args answers rustup looks now old new
 
--- some write or removal was refused between these states of files
-abbrev pub RefusesSome : {F : Type 0} → Filing F → F → F → Type 0
-RefusesSome f old new = (paths : List Name) × (paths ≢ []) × f.refuses old new paths
-
 -- the call didn't end before its edits were made
 abbrev pub has_edited : Result (Unit {0}) RunFault → Bool
 has_edited (Err (fault.Context e)) = false
@@ -265,9 +265,14 @@ pub record AsksOver {F : Type 0} (f : Filing F) (before loaded : F) (args : Args
   pub failed : AnswersFailSo f before loaded args env old new answers
   pub same : OnOk answers.loaded (f.tells → KeepsAll (f.bytes_at before) (f.bytes_at loaded))
 
+-- the path whose write failed, where that ended the call
+abbrev pub unwritten_in : Result (Unit {0}) RunFault → Option Name
+unwritten_in (Err (fault.Manifests (prepare.Files (fs.Write path)))) = Some (string_bytes path)
+unwritten_in came = None
+
 -- What was said by a call with these arguments: what follows its questions; then why a file failed, where that ended
--- it, and of files that are written back. Where an error didn't end it and no write was refused, nothing is said of
--- these but in verbose mode; and no error is reported but where a write was refused.
+-- it; and at the end of each file that was kept, as it was written back, or wasn't. That reports an error just where a
+-- write was refused. The files that were kept are all that was changed before, unless edits stay.
 pub record SaysLoaded {F : Type 0} (f : Filing F) (before after : F) (came : Result (Unit {0}) RunFault) (tells : Type 0) (args : Args) (env : Env) (looks now : Looks) (old new : Scene) : Type 0 where
   pub answers : Answers
   pub calls : List Call
@@ -275,15 +280,19 @@ pub record SaysLoaded {F : Type 0} (f : Filing F) (before after : F) (came : Res
   pub over : AsksOver f before loaded args env old.calls calls answers
   pub edited : F
   pub kept : f.stays loaded edited × f.stays edited after
-  pub edits : has_edited came ≡ true → (cx : ContextRecord) × IsContextFrom args answers cx × EditsAndBack f cx loaded edited after
+  pub files : List Kept
+  pub safe : MatchBool args.remove_dev_deps (files ≡ []) (f.tells → AreSafe files (f.bytes_at loaded) (f.bytes_at edited))
+  pub edits : has_edited came ≡ true → (cx : ContextRecord) × IsContextFrom args answers cx × EditsAndBack f cx files loaded edited after
   pub mid : Scene
   pub at : Looks
   pub said : SaysAfterLoading f loaded edited came tells args answers (string_bytes env.rustup) looks at (scene_with calls old.streams.err old) mid
   pub same : new.calls ≡ mid.calls
   pub out : new.streams.out ≡ mid.streams.out
-  pub more : WritesSome mid.streams.err new.streams.err
-  pub plain : ends_at_file came ≡ false → looks.verbose ≡ false → RefusesSome f before after ⊎ (new.streams.err ≡ mid.streams.err)
-  pub ends : (now ≡ at) ⊎ (RefusesSome f before after × (now ≡ reported_on true at))
+  pub reasoned : Stream
+  pub reason : MatchBool (ends_at_file came) (SaysReason looks.coloring mid.streams.err reasoned) (reasoned ≡ mid.streams.err)
+  pub failed : ℕ
+  pub back : SaysBack f edited after looks.coloring looks.verbose (unwritten_in came) files failed reasoned new.streams.err
+  pub ends : now ≡ reported_on (at.reported || nat_lt 0 failed) at
 
 -- the looks that arguments ask for
 abbrev pub dressed_by : Args → Looks → Looks

@@ -1,7 +1,8 @@
 //! What rustup is asked before there is a plan: its own version, and that of the toolchain
 //! `stable`.
 
-ghost use Rattle.std.specs.Prelude.{◌≡◌, ◌≢◌, IfErr, IfOk, IfSome, IsSome, IsSomeAnd, None, Ok, OnErr, Some};
+ghost use Rattle.std.specs.Prelude.{◌≡◌, ◌≢◌, IfErr, IfOk, IfSome, IsSome, IsSomeAnd, None, Ok};
+ghost use Rattle.std.specs.Prelude.{OnErr, Some};
 ghost use Rattle.std.specs.Prelude.{OnOk, false, string_bytes, true};
 ghost use Rattle.hack_base.specs.Names.{names_of};
 ghost use Rattle.hack_metadata.specs.Requests.{version_command as asks_stable};

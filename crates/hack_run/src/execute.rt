@@ -1,6 +1,7 @@
 //! The runs of a plan or of a search, and the report on them.
 
-ghost use Rattle.std.specs.Prelude.{◌≡◌, ◌⊎◌, ◌||◌, ◌∷◌, [], Bool, Contains, IfErr, IfOk, IsOk, MatchBool};
+ghost use Rattle.std.specs.Prelude.{◌≡◌, ◌⊎◌, ◌||◌, ◌∷◌, [], Bool, Contains, IfErr, IfOk, IsOk};
+ghost use Rattle.std.specs.Prelude.{MatchBool};
 ghost use Rattle.std.specs.Prelude.{None, OnErr, OnOk, Some, codes, false, string_bytes, true};
 ghost use Rattle.std.specs.Option.{unwrap_or};
 ghost use Rattle.hack_base.specs.Streams.{WritesAll, stream_of};

@@ -1,10 +1,11 @@
 //! The stages of a call after its command line is parsed: loading, edits of manifests, the plan,
 //! and its runs or their list.
 
-ghost use Rattle.std.specs.Prelude.{◌≡◌, ◌⊎◌, IfErr, IfOk, IfSome, IsOk, OnErr, OnOk, false, map, string_bytes};
-ghost use Rattle.std.specs.Prelude.{true};
+ghost use Rattle.std.specs.Prelude.{◌≡◌, ◌⊎◌, IfErr, IfOk, IfSome, IsOk, OnErr, OnOk, false, map};
+ghost use Rattle.std.specs.Prelude.{string_bytes};
+ghost use Rattle.std.specs.Prelude.{MatchBool, option_map, true};
 ghost use Rattle.hack_base.specs.Counters.{GrowsBy};
-ghost use Rattle.hack_base.specs.Streams.{WritesAll, WritesSome, stream_of};
+ghost use Rattle.hack_base.specs.Streams.{WritesAll, stream_of};
 ghost use Rattle.hack_files.specs.Restore.{AreSafe, is_kept, registered_files};
 ghost use Rattle.hack_load.specs.Answers.{IsLoaded};
 ghost use Rattle.hack_load.specs.ContextOf.{IsContextCause, IsContextFrom, warnings_of};
@@ -14,22 +15,26 @@ ghost use Rattle.hack_prepare.specs.EditSteps.{KeepsOnly};
 ghost use Rattle.hack_prepare.specs.FailureCounts.{WriteFails};
 ghost use Rattle.hack_prepare.specs.PreparedView.{AreWritesIn, HoldTextsIn, IsPartlyPreparedIn};
 ghost use Rattle.hack_prepare.specs.FailedCalls.{IsAbsent, IsOfFailedCall};
-ghost use Rattle.hack_prepare.specs.PreparedView.{IsPrepareFault, IsPreparedIn, IsReadRootIn, IsTouchedIn};
+ghost use Rattle.hack_prepare.specs.PreparedView.{IsPrepareFault, IsPreparedIn, IsReadRootIn};
+ghost use Rattle.hack_prepare.specs.PreparedView.{IsTouchedIn};
 ghost use Rattle.hack_prepare.specs.PreparedView.{KeepsUneditedIn};
 ghost use Rattle.hack_prepare.specs.PreparedView.{edits_in, notes_in, wanted_in};
 ghost use Rattle.hack_prepare.specs.Writes.{MakesSome};
 ghost use Rattle.hack_files.specs.FailedCalls.{NoneFailed};
+ghost use Rattle.hack_files.specs.WriteBacks.{SaysReason};
 ghost use Rattle.hack_files.specs.Files.{Grows, KeepsAllBut};
 ghost use Rattle.hack_run.specs.CallChanges.{LoadsAndChanges};
 ghost use Rattle.hack_run.specs.CallTrace.{AfterLoading, LoadsAndPerforms};
 ghost use Rattle.hack_run.specs.Errors.{ends_at_file};
-ghost use Rattle.hack_run.specs.Internal.{EditsAndPerforms, EditsDone, FollowsAndLeaves, FollowsEdits};
+ghost use Rattle.hack_run.specs.Internal.{EditsAndPerforms, EditsDone, FollowsAndLeaves};
+ghost use Rattle.hack_run.specs.Internal.{FollowsEdits};
 ghost use Rattle.hack_run.specs.Internal.{KeepsAsMade};
 ghost use Rattle.hack_run.specs.Internal.{MayPerformItsPlan, PerformsItsPlan};
 ghost use Rattle.hack_run.specs.Lanes.{FollowsInLanes, LoadsInLanes, MayRunInLanes, RunsInLanes};
 ghost use Rattle.hack_run.specs.LastingEdits.{LeavesAtMost};
-ghost use Rattle.hack_run.specs.Shown.{KeepsLooks, SaysAfterLoading, SaysItsPlan, SaysLoaded, SaysLooks};
-ghost use Rattle.hack_run.specs.Shown.{SaysNotes, has_edited, looks_of, scene_on};
+ghost use Rattle.hack_run.specs.Shown.{KeepsLooks, SaysAfterLoading, SaysItsPlan, SaysLoaded};
+ghost use Rattle.hack_run.specs.Shown.{SaysLooks};
+ghost use Rattle.hack_run.specs.Shown.{SaysNotes, has_edited, looks_of, scene_on, unwritten_in};
 ghost use Rattle.hack_run.specs.Standing.{Between, LoadsAndEdits};
 ghost use Rattle.hack_run.specs.TemporaryEdits.{BringsBack, IsClean};
 ghost use Rattle.hack_term.specs.Lines.{info_line};
@@ -111,8 +116,18 @@ pub(crate) fn perform<F: Files, C: Starts, O: Sink, E: Sink>(
     );
     let came = follow(args, answers, files, &mut manager, host);
     tell_reason_of(host.alloc, &came, files, host.term, host.err);
-    finish(manager, files, host.term, host.err);
+    finish(manager, unwritten(&came), files, host.term, host.err);
     came
+}
+
+/// The path whose write failed, where that ended the call: the error tells of it.
+fn unwritten(came: &Result<(), RunFault>) -> Option<&str>
+    ensures { option_map (λ text. text.now) result ≡ unwritten_in came.now }
+{
+    match came {
+        Err(RunFault::Manifests(PrepareFault::Files(FsFault::Write(path)))) => Some(path.as_str()),
+        _ => None,
+    }
 }
 
 /// Says why a file couldn't be read or written, where that ended the call.
@@ -123,8 +138,9 @@ fn tell_reason_of<F: Files, E: Sink>(
     term: &Term,
     err: &mut E,
 )
-    ensures silent { ends_at_file came.now ≡ false → err.new ≡ err.old }
-    ensures lines { WritesSome (stream_of E.Sink err.old) (stream_of E.Sink err.new) }
+    ensures { MatchBool (ends_at_file came.now)
+        (SaysReason term.now.coloring (stream_of E.Sink err.old) (stream_of E.Sink err.new))
+        (stream_of E.Sink err.new ≡ stream_of E.Sink err.old) }
 {
     match came {
         Err(fault) if fault.is_of_file() => tell_reason(alloc, files, term, err),
@@ -270,20 +286,7 @@ fn edit<F: Files, E: Sink>(
             tell_all(notices.as_slice(), term, err);
             Ok(())
         }
-        Err(fault) => {
-            leave_report(alloc, &fault, manager);
-            Err(RunFault::Manifests(fault))
-        }
-    }
-}
-
-/// Sees to it that a failed write is reported once, as the error of the call.
-fn leave_report(alloc: Global, fault: &PrepareFault, manager: &mut Manager)
-    ensures files { registered_files manager.new ≡ registered_files manager.old }
-    ensures needs { manager.new.needs_restore ≡ manager.old.needs_restore }
-{
-    if let PrepareFault::Files(FsFault::Write(path)) = fault {
-        manager.leave_report(alloc, path);
+        Err(fault) => Err(RunFault::Manifests(fault)),
     }
 }
 

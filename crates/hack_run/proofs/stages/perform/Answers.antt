@@ -1,7 +1,7 @@
-use Rattle.std.proofs.Common.{◌≡◌, ◌<◌, ◌∙◌, ap, false, inl, inr, refl}
+use Rattle.std.proofs.Common.{◌≡◌, ◌<◌, ◌∙◌, [], ap, false, inl, inr, refl, true}
 use Rattle.std.specs.Prelude.{Bool, IfOk, not}
 use Rattle.hack_load.specs.Answers.{IsLoaded}
-use Rattle.hack_files.specs.Restore.{registered_files}
+use Rattle.hack_files.specs.Restore.{AreSafe, registered_files}
 use Rattle.std.proofs.Common.{◌++◌}
 use Rattle.std.proofs.lemmas.Bool.{cases_Bool}
 use Rattle.std.proofs.lemmas.List.Elements.{Contains-append_left, Contains-append_right}
@@ -10,7 +10,7 @@ use Rattle.hack_run.proofs.BackLemmas.{brings_none, cleans, kept_none, leaves, s
 use Rattle.hack_files.specs.View.{files_view}
 use Rattle.hack_run.specs.Worlds.{host_view}
 use Rattle.hack_term.specs.declared.term.Term.{Term}
-use Rattle.hack_run.proofs.ChangeLemmas.{changes, edits_back}
+use Rattle.hack_run.proofs.ChangeLemmas.{by_bool, changes, edits_back}
 use Rattle.hack_run.proofs.LoadingLemmas.{loaded}
 use Rattle.hack_run.proofs.TraceLemmas.{made, performs}
 use Rattle.hack_run.proofs.LaneLemmas.{on_success}
@@ -21,10 +21,9 @@ use Rattle.hack_load.specs.declared.fault.ContextFault.{ContextFault}
 use Rattle.hack_load.specs.declared.loaded.Loaded.{Loaded}
 use Rattle.hack_prepare.specs.PreparedView.{member_manifests_in, wanted_in}
 use Rattle.hack_prepare.proofs.RootLemmas.{prepared-moved}
-use Rattle.hack_base.proofs.StreamLemmas.{some_more}
 use Rattle.hack_base.specs.Streams.{stream_of}
-use Rattle.hack_run.specs.Shown.{Looks, looks_of, reported_on, scene_on}
-use Rattle.hack_run.proofs.ShownLemmas.{looks_unless, some_refused}
+use Rattle.hack_run.specs.Shown.{Looks, looks_of, scene_on}
+use Rattle.hack_run.proofs.ShownLemmas.{looks_back}
 use Rattle.hack_run.proofs.stages.perform.Goals as goal
 
 pub returns-clause-done : goal.returns-clause-done
@@ -124,12 +123,13 @@ returns-clause-in_lanes g c =
 
 pub returns-clause-shown : goal.returns-clause-shown
 returns-clause-shown g c = λ t.
-    let asking = c.ask-answers.ensures.spoilt in
-    let following = g.F.Files.refuses_some _ _ c.follow-came.ensures.grows in
-    let ending = c.finish.ensures.refused in
-    let before_end = c.follow-came.new.host.term.now in
-    let after_end = c.finish.new.term in
-    let back = some_refused g.F.Files (λ x y z ps qs one other. g.F.Files.refuses_more x y z ps qs one other) _ _ _ _ c.finish.result asking.spoilt following.0 ending.spoilt asking.refused following.1 ending.refused ending.number in
+    let kept = registered_files c.follow-came.new.manager in
+    let none : c.args.args.remove_dev_deps ≡ true → kept ≡ [] = λ stay. kept_none c.new-manager.result c.ask-answers.new.manager c.follow-came.new.manager c.new-manager.ensures.nothing c.ask-answers.ensures.kept
+    (c.follow-came.ensures.unkept (c.ask-answers.ensures.needs ∙ c.new-manager.ensures.needs ∙ ap not stay)) in
+    let loaded = g.F.Files.bytes_at c.ask-answers.new.files in
+    let safe : g.F.Files.tells → c.args.args.remove_dev_deps ≡ false → AreSafe kept loaded (g.F.Files.bytes_at c.follow-came.new.files) = λ u back. c.follow-came.ensures.safe u c.ask-answers.ensures.read (c.ask-answers.ensures.needs ∙ c.new-manager.ensures.needs ∙ ap not back) (safe_new c.new-manager.result c.ask-answers.new.manager loaded c.new-manager.ensures.nothing c.ask-answers.ensures.kept) in
+    let same_coloring = ap (λ (l : Looks). l.coloring) c.follow-came.ensures.looks in
+    let same_verbose = ap (λ (l : Looks). l.verbose) c.follow-came.ensures.looks in
     let held = g.F.Files.bytes_at in
     let failed = g.F.Files.failed in
     record {
@@ -144,26 +144,22 @@ returns-clause-shown g c = λ t.
       };
       edited = c.follow-came.new.files;
       kept = (c.follow-came.ensures.stays, c.finish.ensures.stays);
+      files = kept;
+      safe = by_bool c.args.args.remove_dev_deps (kept ≡ []) (g.F.Files.tells → AreSafe kept loaded (g.F.Files.bytes_at c.follow-came.new.files)) none (λ back u. safe u back);
       edits = λ edited. edits_back g.F.Files c.args.args c.ask-answers.result c.args.host.now.env.now c.ask-answers.new.manager c.follow-came.new.manager c.ask-answers.new.files c.follow-came.new.files c.finish.new.files c.finish.result
           (c.ask-answers.ensures.kept ∙ c.new-manager.ensures.nothing) (c.ask-answers.ensures.needs ∙ c.new-manager.ensures.needs)
-          (λ stay. kept_none c.new-manager.result c.ask-answers.new.manager c.follow-came.new.manager c.new-manager.ensures.nothing c.ask-answers.ensures.kept
-          (c.follow-came.ensures.unkept (c.ask-answers.ensures.needs ∙ c.new-manager.ensures.needs ∙ ap not stay)))
-          (λ u back. c.follow-came.ensures.safe u c.ask-answers.ensures.read (c.ask-answers.ensures.needs ∙ c.new-manager.ensures.needs ∙ ap not back) (safe_new c.new-manager.result c.ask-answers.new.manager (held c.ask-answers.new.files) c.new-manager.ensures.nothing c.ask-answers.ensures.kept))
+          none safe
           c.ask-answers.ensures.read c.finish.ensures.tried c.finish.ensures.refused c.finish.ensures.restored (c.follow-came.ensures.edits edited);
       mid = scene_on g.C.Caller g.O.Sink g.E.Sink c.follow-came.new.host;
       at = looks_of c.follow-came.new.host.term.now;
       said = c.follow-came.ensures.shown t;
       same = refl;
       out = refl;
-      more = some_more _ (stream_of g.E.Sink c.tell_reason_of.new.err) _ c.tell_reason_of.ensures.lines c.finish.ensures.shown;
-      plain = λ ok plain. elim back [
-        | inl none ↦ inr (ap (stream_of g.E.Sink) (c.finish.ensures.quiet (ap (λ l. l.verbose) c.follow-came.ensures.looks ∙ plain) none ∙ c.tell_reason_of.ensures.silent ok))
-        | inr some ↦ inl some.1
-      ];
-      ends = elim back [
-        | inl none ↦ inl (looks_unless before_end after_end c.finish.result c.finish.ensures.term c.finish.ensures.noted none)
-        | inr some ↦ inr (some.1, ap looks_of c.finish.ensures.term ∙ ap (λ (b : Bool). reported_on b (looks_of before_end)) (c.finish.ensures.noted.1 (inr some.0)))
-      ];
+      reasoned = stream_of g.E.Sink c.tell_reason_of.new.err;
+      reason = rw (← same_coloring) c.tell_reason_of.ensures;
+      failed = c.finish.result;
+      back = rw (← c.unwritten.ensures) (rw (← same_coloring) (rw (← same_verbose) c.finish.ensures.shown));
+      ends = looks_back c.follow-came.new.host.term.now c.finish.new.term c.finish.result c.finish.ensures.term c.finish.ensures.noted;
     }
 
 pub returns-clause-looks : goal.returns-clause-looks
