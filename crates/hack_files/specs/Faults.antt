@@ -1,5 +1,5 @@
 -- What the errors of calls of files say.
-use Rattle.std.specs.Prelude.{◌≡◌, ◌⊎◌, [], ◌∷◌, ℕ, List, Option, Some, None, Result, Ok, Err, string_bytes}
+use Rattle.std.specs.Prelude.{◌≡◌, ◌⊎◌, [], ◌∷◌, ℕ, Bool, true, false, List, Option, Some, None, Result, Ok, Err, string_bytes}
 use Rattle.std.specs.Str.{IsUtf8}
 use Rattle.hack_base.specs.Counters.{GrowsBy}
 use Rattle.hack_files.specs.declared.fs.FsFault.{FsFault}
@@ -40,3 +40,10 @@ IsUnseenUnlessNoText Unseen tells held path (Err (Read p)) = Unseen (path ∷ []
 IsUnseenUnlessNoText Unseen tells held path (Err (Write p)) = ⊥
 IsUnseenUnlessNoText Unseen tells held path (Err (NotText p)) = Unseen []
 IsUnseenUnlessNoText Unseen tells held path (Err Memory) = Unseen (path ∷ []) ⊎ Unseen []
+
+-- the device failed, so that the files may say why
+abbrev pub of_device : FsFault → Bool
+of_device (Read p) = true
+of_device (Write p) = true
+of_device (NotText p) = false
+of_device Memory = false

@@ -5,7 +5,7 @@ ghost use Rattle.std.proofs.Common.{inr};
 ghost use Rattle.hack_files.specs.Files.{CountsFailedCall, GrowsAtLeastBy};
 ghost use Rattle.hack_files.specs.RefusalLaws.{at_least_none, at_least_more, at_least_some};
 
-use crate::fs::{FileFault, Files, count_failure};
+use crate::fs::{FileFault, Files, Overwrites, count_failure};
 use std::alloc::Global;
 use std::fs::{Metadata, OpenFile, OpenOptions};
 use std::io::{ErrorKind, Read, Write};
@@ -292,14 +292,6 @@ impl<R: rt::Files + AllocGlobal + Drop> Files for Disk<R> {
         )
     }
 
-    fn overwrite(&mut self, path: &str, bytes: &[u8]) -> Result<(), FileFault> {
-        count_outcome(
-            overwrite_file(&self.rt, path, bytes),
-            &mut self.failures,
-            &mut self.reason,
-        )
-    }
-
     fn exists(&mut self, path: &str) -> Result<bool, FileFault> {
         count_outcome(exists(&self.rt, path), &mut self.failures, &mut self.reason)
     }
@@ -318,5 +310,15 @@ impl<R: rt::Files + AllocGlobal + Drop> Files for Disk<R> {
 
     fn reason(&self) -> Option<io::Error> {
         self.reason
+    }
+}
+
+impl<R: rt::Files + AllocGlobal + Drop> Overwrites for Disk<R> {
+    fn overwrite(&mut self, path: &str, bytes: &[u8]) -> Result<(), FileFault> {
+        count_outcome(
+            overwrite_file(&self.rt, path, bytes),
+            &mut self.failures,
+            &mut self.reason,
+        )
     }
 }

@@ -6,7 +6,7 @@ ghost use Rattle.hack_files.specs.Files.{GrowsAtLeastBy, IsOwnOr};
 ghost use Rattle.hack_files.specs.RefusalLaws.{at_least_none, at_least_more, at_least_some};
 ghost use Rattle.hack_files.specs.RefusalLaws.{own_none, own_more};
 
-use crate::fs::{FileFault, Files, count_failure, counted};
+use crate::fs::{FileFault, Files, Overwrites, count_failure, counted};
 use std::alloc::Global;
 use std::io;
 use std::io::{ErrorKind, Write};
@@ -166,6 +166,8 @@ impl<F: Files> Files for FailingFiles<F> {
         self.inner.reason()
     }
 }
+
+impl<F: Files> Overwrites for FailingFiles<F> {}
 
 /// A writer that passes each write on to another, but for one write, which fails: the first write
 /// is write 1, and with 0 none fails. Writes after the failed one are passed on again.

@@ -85,23 +85,6 @@ pub trait Files {
         ensures refused { OnErr result (whole → MakesOrNot (puts path.now bytes.now)
             (trace self.old) (trace self.new) (bytes_at self.old) (bytes_at self.new)) };
 
-    /// Does the same, for a caller that keeps what is there: on the disk a write that is interrupted
-    /// may leave the first of these bytes, before the rest of those that were there.
-    fn overwrite(&mut self, path: &str, bytes: &[u8]) -> Result<(), FileFault>
-        ensures stays { stays self.old self.new }
-        ensures counted { CountsFailedCall (failed self.old) (failed self.new) result }
-        ensures refused_path { refuses self.old self.new (refused_path result path.now) }
-        ensures unseen_none { unseen self.old self.new [] }
-        ensures written { OnOk result (tells → bytes_at self.new path.now ≡ Some bytes.now) }
-        ensures others { tells → KeepsOthers path.now (bytes_at self.old) (bytes_at self.new) }
-        ensures traced { OnOk result (whole → Makes (puts path.now bytes.now ∷ [])
-            (trace self.old) (trace self.new) (bytes_at self.old) (bytes_at self.new)) }
-        ensures refused { OnErr result (whole → MakesOrNot (puts path.now bytes.now)
-            (trace self.old) (trace self.new) (bytes_at self.old) (bytes_at self.new)) }
-    {
-        self.write(path, bytes)
-    }
-
     /// Returns whether a file, or a folder, is at a path.
     fn exists(&mut self, path: &str) -> Result<bool, FileFault>
         ensures stays { stays self.old self.new }
@@ -155,6 +138,30 @@ pub trait Files {
     /// Why the last call that failed did so, as the system says it; none where it doesn't.
     fn reason(&self) -> Option<io::Error> {
         None
+    }
+}
+
+/// Files for a caller that keeps what is there before it edits it: nothing else may write over bytes.
+pub trait Overwrites: Files {
+    /// Writes bytes as `write` does. On the disk a write that is interrupted may leave the first of
+    /// these bytes, before the rest of those that were there.
+    fn overwrite(&mut self, path: &str, bytes: &[u8]) -> Result<(), FileFault>
+        ensures stays { Self.stays self.old self.new }
+        ensures counted { CountsFailedCall (Self.failed self.old) (Self.failed self.new) result }
+        ensures refused_path { Self.refuses self.old self.new (refused_path result path.now) }
+        ensures unseen_none { Self.unseen self.old self.new [] }
+        ensures written { OnOk result (Self.tells
+            → Self.bytes_at self.new path.now ≡ Some bytes.now) }
+        ensures others { Self.tells
+            → KeepsOthers path.now (Self.bytes_at self.old) (Self.bytes_at self.new) }
+        ensures traced { OnOk result (Self.whole → Makes (puts path.now bytes.now ∷ [])
+            (Self.trace self.old) (Self.trace self.new)
+            (Self.bytes_at self.old) (Self.bytes_at self.new)) }
+        ensures refused { OnErr result (Self.whole → MakesOrNot (puts path.now bytes.now)
+            (Self.trace self.old) (Self.trace self.new)
+            (Self.bytes_at self.old) (Self.bytes_at self.new)) }
+    {
+        self.write(path, bytes)
     }
 }
 

@@ -8,7 +8,7 @@ ghost use Rattle.hack_files.specs.Files.{Change, GrowsAtLeastBy};
 ghost use Rattle.hack_files.specs.RefusalLaws.{at_least_none, at_least_more, at_least_some};
 ghost use Rattle.hack_files.specs.Memory.{held_after, change_of};
 
-use crate::fs::{FileFault, Files, count_failure};
+use crate::fs::{FileFault, Files, Overwrites, count_failure};
 use std::alloc::{AllocError, Global};
 
 /// A path and the bytes that it holds from now on, or `None` where it was removed.
@@ -171,3 +171,5 @@ impl Files for MemoryFiles {
         self.failures
     }
 }
+
+impl Overwrites for MemoryFiles {}

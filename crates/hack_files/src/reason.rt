@@ -1,6 +1,8 @@
 //! Why a file couldn't be read or written, for the user.
 
 ghost use Rattle.hack_base.specs.Streams.{stream_of};
+ghost use Rattle.std.specs.Prelude.{◌≡◌};
+ghost use Rattle.hack_files.specs.Faults.{of_device};
 ghost use Rattle.hack_files.specs.WriteBacks.{SaysReason};
 
 use crate::fs::{Files, FsFault};
@@ -9,7 +11,9 @@ use hack_term::term::Term;
 use std::alloc::Global;
 
 /// Whether the device failed, so that the files may say why.
-pub fn is_of_device(fault: &FsFault) -> bool {
+pub fn is_of_device(fault: &FsFault) -> bool
+    ensures { result ≡ of_device fault.now }
+{
     match fault {
         FsFault::Read(_) | FsFault::Write(_) => true,
         FsFault::NotText(_) | FsFault::Memory => false,

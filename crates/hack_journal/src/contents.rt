@@ -11,7 +11,7 @@ ghost use Rattle.hack_journal.specs.SafeFiles.{AreBack, gives};
 
 use crate::entries::same;
 use crate::journal::Entry;
-use hack_files::fs::{FileFault, Files};
+use hack_files::fs::{FileFault, Files, Overwrites};
 use std::alloc::Global;
 
 /// Returns what a path holds, or `None` where nothing is there.
@@ -37,21 +37,33 @@ pub fn look<F: Files>(
     }
 }
 
-/// How bytes are put at a path.
-#[derive(Clone, Copy)]
-pub enum Writing {
-    /// As a whole: where the write is interrupted, the path holds what it held.
-    Whole,
-    /// Over what is there, which is kept elsewhere: see [`Files::overwrite`].
-    Over,
+/// Puts these bytes at a path, or removes what is there.
+pub fn put<F: Files>(files: &mut F, path: &str, bytes: Option<&[u8]>) -> Result<(), FileFault>
+    ensures stays { F.stays files.old files.new }
+    ensures failures { CountsFailedCall (F.failed files.old) (F.failed files.new) result }
+    ensures refused_path { F.refuses files.old files.new (refused_path result path.now) }
+    ensures calls { FailsRefusedAt F.Files path.now files.old files.new result }
+    ensures put { OnOk result (F.tells →
+        F.bytes_at files.new path.now ≡ option_map (λ bytes. bytes.now) bytes.entry) }
+    ensures others { F.tells → KeepsOthers path.now (F.bytes_at files.old) (F.bytes_at files.new) }
+    ensures traced { OnOk result (F.whole →
+        Makes (gives path.now (option_map (λ bytes. bytes.now) bytes.entry) ∷ [])
+        (F.trace files.old) (F.trace files.new) (F.bytes_at files.old) (F.bytes_at files.new)) }
+    ensures refused { OnErr result (F.whole →
+        MakesOrNot (gives path.now (option_map (λ bytes. bytes.now) bytes.entry))
+        (F.trace files.old) (F.trace files.new) (F.bytes_at files.old) (F.bytes_at files.new)) }
+{
+    match bytes {
+        Some(bytes) => files.write(path, bytes),
+        None => files.remove(path),
+    }
 }
 
-/// Puts these bytes at a path, or removes what is there.
-pub fn put<F: Files>(
+/// Puts these bytes over those at a path, which are kept, or removes what is there.
+pub fn put_over<F: Overwrites>(
     files: &mut F,
     path: &str,
     bytes: Option<&[u8]>,
-    writing: Writing,
 ) -> Result<(), FileFault>
     ensures stays { F.stays files.old files.new }
     ensures failures { CountsFailedCall (F.failed files.old) (F.failed files.new) result }
@@ -67,10 +79,9 @@ pub fn put<F: Files>(
         MakesOrNot (gives path.now (option_map (λ bytes. bytes.now) bytes.entry))
         (F.trace files.old) (F.trace files.new) (F.bytes_at files.old) (F.bytes_at files.new)) }
 {
-    match (bytes, writing) {
-        (Some(bytes), Writing::Whole) => files.write(path, bytes),
-        (Some(bytes), Writing::Over) => files.overwrite(path, bytes),
-        (None, _) => files.remove(path),
+    match bytes {
+        Some(bytes) => files.overwrite(path, bytes),
+        None => files.remove(path),
     }
 }
 

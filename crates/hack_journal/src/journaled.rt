@@ -20,11 +20,11 @@ ghost use Rattle.hack_journal.specs.SafeFiles.{IsJournaled, Stays, changes_besid
 ghost use Rattle.hack_journal.specs.Internal.{ShortensRow};
 ghost use Rattle.hack_journal.specs.Refusing.{IsCounted, IsRefusedOrUnkept, TellsItsOwn};
 
-use crate::contents::{Writing, are_back, put};
+use crate::contents::{are_back, put_over};
 use crate::notes::Notes;
 use crate::place::Place;
 use crate::unkept::Unkept;
-use hack_files::fs::{FileFault, Files, count_failure, counted};
+use hack_files::fs::{FileFault, Files, Overwrites, count_failure, counted};
 use std::alloc::Global;
 use std::io;
 
@@ -75,7 +75,9 @@ impl<F: Files, U: Unkept> Journaled<F, U> {
     {
         (self.files, self.unkept)
     }
+}
 
+impl<F: Overwrites, U: Unkept> Journaled<F, U> {
     /// Keeps what the path holds, and then gives it these bytes, or removes what is there. What an
     /// entry has already needs no keeping. The bytes may be written over those that are there: where
     /// that is cut, `recover` knows what it left by the entries of the path.
@@ -123,14 +125,16 @@ impl<F: Files, U: Unkept> Journaled<F, U> {
             return Err(FileFault::Device);
         }
         match self.keep(path, bytes) {
-            Ok(()) => put(&mut self.files, path, bytes, Writing::Over),
+            Ok(()) => put_over(&mut self.files, path, bytes),
             Err(fault) => {
                 self.unkept.note(path);
                 Err(fault)
             }
         }
     }
+}
 
+impl<F: Files, U: Unkept> Journaled<F, U> {
     /// Removes the row, from its last file on. The file that would come next may be there too, after
     /// a write that failed.
     fn remove_row(&mut self) -> Result<(), FileFault>
@@ -202,7 +206,7 @@ impl<F: Files, U: Unkept> Journaled<F, U> {
     }
 }
 
-impl<F: Files, U: Unkept> Files for Journaled<F, U> {
+impl<F: Overwrites, U: Unkept> Files for Journaled<F, U> {
     ghost use Rattle.std.proofs.Common.{refl, ◌∙◌};
     ghost use Rattle.hack_journal.specs.SafeLaws.{stays_none, stays_join, makes_none};
     ghost use Rattle.hack_journal.specs.FailedCalls.{LooksOrUnseen, ReadsOrUnseen};

@@ -17,7 +17,7 @@ ghost use Rattle.hack_journal.specs.Internal.{FaultsAtPath, IsBackBut, IsMemoryR
 ghost use Rattle.hack_journal.specs.Internal.{IsWhyNotTold, IsWriteFault};
 ghost use Rattle.hack_journal.specs.Recovery.{KeepsNoEntry, SparesOthers};
 
-use crate::contents::{Writing, look, put};
+use crate::contents::{look, put};
 use crate::cuts::is_own;
 use crate::entries::same;
 use crate::journal::Entry;
@@ -188,7 +188,7 @@ fn put_back<F: Files>(
     if is_back && !is_last {
         return Ok(());
     }
-    match put(files, &entry.path, entry.held.as_deref(), Writing::Whole) {
+    match put(files, &entry.path, entry.held.as_deref()) {
         Ok(()) if is_back => Ok(()),
         Ok(()) => add_path(alloc, paths, &entry.path),
         Err(fault) => Err(write_fault(alloc, &entry.path, fault)),

@@ -15,8 +15,9 @@ use Rattle.hack_places.specs.CallPlaces.{PlacesAt}
 use Rattle.hack_recovery.specs.AskedEdits.{is_restore}
 use Rattle.hack_recovery.specs.CallCourses.{IsJournalClosed, Warns}
 use Rattle.hack_recovery.specs.CallCourses.IsJournalClosed.{copy_stays, gone, starved, stays, unseen}
-use Rattle.hack_recovery.specs.LaneCalls.{AsksToRestore, Both, CallsInLanes, GetReady, over_journal, plain, unperformed}
-use Rattle.hack_recovery.specs.LaneCalls.GetReady.{further, looked_at}
+use Rattle.hack_recovery.specs.LaneCalls.{AsksToRestore, CallsInLanes, over_journal, plain, unperformed}
+use Rattle.hack_recovery.specs.Ready.{Both, GetReady}
+use Rattle.hack_recovery.specs.Ready.GetReady.{further, looked_at}
 use Rattle.hack_recovery.specs.declared.asked.Edits.{Edits}
 use Rattle.hack_recovery.specs.declared.asked.Edits.TheVariants as edits
 

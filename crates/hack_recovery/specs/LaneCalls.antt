@@ -1,7 +1,6 @@
 -- What a whole call starts side by side, and over which files.
-use Rattle.std.specs.Prelude.{◌≡◌, ◌⊎◌, Bool, List, Ok, Option, false, true}
+use Rattle.std.specs.Prelude.{◌≡◌, ◌⊎◌, Bool, List, Ok, Option, false}
 use Rattle.hack_base.specs.Names.{Name, names_of}
-use Rattle.hack_files.specs.View.{FilesView}
 use Rattle.hack_files.specs.declared.fs.Files.{Ghosts as Filing}
 use Rattle.hack_journaled.specs.Journals.{contents_seen}
 use Rattle.hack_process.specs.Calls.{Call}
@@ -11,27 +10,9 @@ use Rattle.hack_start.specs.SystemView.{SystemView}
 use Rattle.hack_start.specs.declared.started.Started.{Started}
 use Rattle.hack_starts.specs.Events.{Event}
 use Rattle.hack_words.specs.declared.cli.env.Env.{Env}
-use Rattle.hack_places.specs.CallPlaces.{PlacesAt}
-use Rattle.hack_places.specs.FileLooks.{Unchanged}
 use Rattle.hack_recovery.specs.AskedEdits.{AsksForEdits}
-use Rattle.hack_recovery.specs.Restoring.{KeepsCopy, TakesBack}
-use Rattle.hack_recovery.specs.Scenes.{Scene}
+use Rattle.hack_recovery.specs.Ready.{Both, GetReady}
 use Rattle.hack_recovery.specs.declared.asked.Edits.TheVariants as edits
-
--- the files, and the lockfiles
-abbrev pub Both : Type 0
-Both = FilesView × FilesView
-
-abbrev pub both_in : Scene → Both
-both_in scene = (scene.files, scene.lockfiles)
-
--- how files come to be what a call is performed over: they are only looked at, what an interrupted call
--- left is taken back, the lockfile is copied, or one of these follows the other
-pub data GetReady {F L : Type 0} (f : Filing F) (l : Filing L) (by_guard : Bool) : Both → Both → Type 0 where
-  looked_at : {old new : Both} → Unchanged f.tells f.whole old.0 new.0 → new.1 ≡ old.1 → GetReady f l by_guard old new
-  taken_back : {old new : Both} → (places : PlacesAt) (first last : Scene) → TakesBack f l by_guard places first last (Ok true) → both_in first ≡ old → both_in last ≡ new → GetReady f l by_guard old new
-  copied : {old new : Both} → (places : PlacesAt) (first last : Scene) → KeepsCopy f l places (Ok tt) first last → both_in first ≡ old → both_in last ≡ new → GetReady f l by_guard old new
-  further : {old new : Both} → (mid : Both) → GetReady f l by_guard old mid → GetReady f l by_guard mid new → GetReady f l by_guard old new
 
 -- the command line asks for nothing but to restore what an interrupted call left
 abbrev pub AsksToRestore : Env → List Name → Type 0

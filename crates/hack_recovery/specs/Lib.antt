@@ -10,6 +10,7 @@ pub mod Restoring
 pub mod Telling
 pub mod CallCourses
 pub mod ProgramCalls
+pub mod Ready
 pub mod LaneCalls
 pub mod InternalHalts
 pub mod ShownCalls

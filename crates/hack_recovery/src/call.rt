@@ -13,7 +13,7 @@ use crate::keepers::Keepers;
 use crate::locks::Locks;
 use crate::perform::perform;
 use hack_base::writes::Sink;
-use hack_files::fs::Files;
+use hack_files::fs::{Files, Overwrites};
 use hack_journal::apart::Apart;
 use hack_journal::journaled::Journaled;
 use hack_journal::unkept::Unkept;
@@ -50,7 +50,7 @@ pub struct Outside<'a, C: Caller, O: Sink, E: Sink> {
 /// the one on colours.
 pub fn call<
     S: System,
-    F: Files,
+    F: Overwrites,
     L: Files,
     U: Unkept,
     K: Locks,

@@ -37,7 +37,7 @@ use crate::locks::Locks;
 use crate::restore::restore;
 use crate::unseen::blindly;
 use hack_base::writes::Sink;
-use hack_files::fs::Files;
+use hack_files::fs::{Files, Overwrites};
 use hack_journal::apart::Apart;
 use hack_journal::journaled::Journaled;
 use hack_journal::unkept::Unkept;
@@ -59,7 +59,16 @@ use std::alloc::Global;
 /// restores them where it ends early. `files` and `lockfiles` are the same file system; `unkept` is
 /// told of what the journal refuses on its own, which a `u64` counts.
 #[tactic(auto, using(hack_run::proofs::ReadingLemmas::some_or_refusal))]
-pub fn perform<F: Files, L: Files, U: Unkept, K: Locks, G: Guards, C: Starts, O: Sink, E: Sink>(
+pub fn perform<
+    F: Overwrites,
+    L: Files,
+    U: Unkept,
+    K: Locks,
+    G: Guards,
+    C: Starts,
+    O: Sink,
+    E: Sink,
+>(
     words: &[String],
     files: F,
     lockfiles: L,
@@ -192,7 +201,7 @@ fn tell_unrestored<E: Sink>(is_left: bool, term: &Term, err: &mut E)
 }
 
 /// Performs a call under its own lock.
-fn guarded<F: Files, L: Files, U: Unkept, K: Locks, G: Guards, C: Starts, O: Sink, E: Sink>(
+fn guarded<F: Overwrites, L: Files, U: Unkept, K: Locks, G: Guards, C: Starts, O: Sink, E: Sink>(
     words: &[String],
     begun: Begun,
     files: F,
@@ -281,7 +290,7 @@ fn is_done(came: &Result<bool, CallFault>) -> bool
 
 /// Performs a call under its own lock, where nothing of an interrupted call is left.
 #[tactic(auto, using(hack_run::proofs::ReadingLemmas::some_or_refusal))]
-fn go_on<F: Files, L: Files, U: Unkept, K: Locks, G: Guards, C: Starts, O: Sink, E: Sink>(
+fn go_on<F: Overwrites, L: Files, U: Unkept, K: Locks, G: Guards, C: Starts, O: Sink, E: Sink>(
     words: &[String],
     begun: Begun,
     files: F,
@@ -335,7 +344,7 @@ fn go_on<F: Files, L: Files, U: Unkept, K: Locks, G: Guards, C: Starts, O: Sink,
 }
 
 /// Performs a call with a journal, under the eyes of a guard.
-fn journaled<F: Files, L: Files, U: Unkept, G: Guards, C: Starts, O: Sink, E: Sink>(
+fn journaled<F: Overwrites, L: Files, U: Unkept, G: Guards, C: Starts, O: Sink, E: Sink>(
     words: &[String],
     begun: Begun,
     files: F,
@@ -383,7 +392,7 @@ fn journaled<F: Files, L: Files, U: Unkept, G: Guards, C: Starts, O: Sink, E: Si
 }
 
 /// Performs a call with a journal, after the lockfile was copied.
-fn copied<F: Files, L: Files, U: Unkept, C: Starts, O: Sink, E: Sink>(
+fn copied<F: Overwrites, L: Files, U: Unkept, C: Starts, O: Sink, E: Sink>(
     words: &[String],
     begun: Begun,
     files: F,
@@ -443,7 +452,7 @@ fn tell_watch<E: Sink>(watches: bool, verbose: bool, term: &Term, err: &mut E)
 
 /// Performs a call over a journal, and closes it.
 #[tactic(auto, using(hack_run::proofs::ReadingLemmas::some_or_refusal))]
-fn over_journal<F: Files, L: Files, U: Unkept, C: Starts, O: Sink, E: Sink>(
+fn over_journal<F: Overwrites, L: Files, U: Unkept, C: Starts, O: Sink, E: Sink>(
     words: &[String],
     begun: Begun,
     files: F,

@@ -14,24 +14,24 @@ mod restore;
 mod short;
 
 use crate::tests::text::{number, plain, push_plain, push_quoted, quoted};
-use hack_files::fs::{FileFault, Files};
+use hack_files::fs::{FileFault, Files, Overwrites};
 use hack_holds::{Ask, Wrong, hold};
 use std::alloc::{AllocError, Global};
 
 /// The files to which the questions are put.
 #[derive(Drop)]
-struct Asked<F: Files + Drop> {
+struct Asked<F: Overwrites + Drop> {
     files: F,
 }
 
-impl<F: Files + Drop> Ask for Asked<F> {
+impl<F: Overwrites + Drop> Ask for Asked<F> {
     fn answer(&mut self, alloc: Global, question: &str) -> Result<String, AllocError> {
-        answer(alloc, &mut self.files, "", question)
+        answer_over(alloc, &mut self.files, "", question)
     }
 }
 
 /// Checks rows on files.
-fn hold_over<F: Files + Drop>(alloc: Global, files: F, rows: &str) -> Result<(), Wrong> {
+fn hold_over<F: Overwrites + Drop>(alloc: Global, files: F, rows: &str) -> Result<(), Wrong> {
     let mut asked = Asked { files };
     hold(alloc, &mut asked, rows)
 }
@@ -41,6 +41,22 @@ fn path_of(alloc: Global, folder: &str, name: &str) -> Result<String, AllocError
     let mut path = String::from_str(alloc, folder)?;
     push_plain(&mut path, name)?;
     Ok(path)
+}
+
+/// Answers a question about files in a folder, which may be written over.
+pub fn answer_over<F: Overwrites>(
+    alloc: Global,
+    files: &mut F,
+    folder: &str,
+    question: &str,
+) -> Result<String, AllocError> {
+    let Some(("overwrite", rest)) = question.split_once(' ') else {
+        return answer(alloc, files, folder, question);
+    };
+    let (name, shown) = rest.split_once(' ').unwrap_or((rest, ""));
+    let path = path_of(alloc, folder, name)?;
+    let text = plain(alloc, shown)?;
+    done(alloc, files.overwrite(path.as_str(), text.as_bytes()))
 }
 
 /// Answers a question about files in a folder.
@@ -57,7 +73,6 @@ pub fn answer<F: Files>(
     match kind {
         "read" => read(alloc, files, path),
         "write" => write(alloc, files, path, text),
-        "overwrite" => overwrite(alloc, files, path, text),
         "exists" => truth(alloc, files.exists(path)),
         "remove" => done(alloc, files.remove(path)),
         "failures" => number(alloc, files.failures()),
@@ -85,16 +100,6 @@ fn write<F: Files>(
 ) -> Result<String, AllocError> {
     let text = plain(alloc, shown)?;
     done(alloc, files.write(path, text.as_bytes()))
-}
-
-fn overwrite<F: Files>(
-    alloc: Global,
-    files: &mut F,
-    path: &str,
-    shown: &str,
-) -> Result<String, AllocError> {
-    let text = plain(alloc, shown)?;
-    done(alloc, files.overwrite(path, text.as_bytes()))
 }
 
 fn name_of(fault: FileFault) -> &'static str {

@@ -26,7 +26,7 @@ use crate::tests::files::{answer, held, truth};
 use crate::tests::journal::failing::left;
 use crate::tests::journal::spelled::{entries, spelled, torn};
 use hack_base::paths::join;
-use hack_files::fs::{FileFault, Files, MemoryFiles, Step};
+use hack_files::fs::{FileFault, Files, MemoryFiles, Overwrites, Step};
 use hack_holds::{Ask, Wrong, hold};
 use hack_journal::apart::Apart;
 use hack_journal::journaled::Journaled;
@@ -45,7 +45,7 @@ fn place(alloc: Global, folder: &str) -> Result<Place, AllocError> {
 }
 
 /// These files with a journal over them, in this folder.
-fn journaled<F: Files + Drop>(
+fn journaled<F: Overwrites + Drop>(
     alloc: Global,
     files: F,
     folder: &str,

@@ -6,7 +6,7 @@
 //! file, `link: NAME` makes a link to `target`, `is link: NAME` asks whether there is one, `second
 //! name: NAME` gives the file `a` one more name, and `names` asks how many names the folder has.
 
-use crate::tests::files::{CALLS, answer, hold_over, path_of, truth};
+use crate::tests::files::{CALLS, answer_over, hold_over, path_of, truth};
 use crate::tests::text::quoted;
 use hack_files::fs::Disk;
 use hack_holds::{Ask, Wrong, hold};
@@ -109,7 +109,7 @@ where
             "new folder" => self.begin(alloc),
             "remove folder" => done(alloc, fs::remove_dir_all(self.rt, folder)),
             "names" => told(alloc, names(self.rt, folder)),
-            _ => answer(alloc, &mut self.files, folder, question),
+            _ => answer_over(alloc, &mut self.files, folder, question),
         }
     }
 

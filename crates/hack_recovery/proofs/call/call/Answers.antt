@@ -57,7 +57,6 @@ returns-clause-goes g c =
     (ap names_of c.deref-2.ensures.value) c.new-host.ensures.env (ap looks_of (c.new-host.ensures.term.1 ∙ c.color.ensures))
     (same_said g.C.Caller g.O.Sink g.E.Sink host outside.caller.now outside.out.now outside.err.now c.new-host.ensures.caller.1 c.new-host.ensures.out.1 c.new-host.ensures.err.1) (c.perform-ended.ensures.shown t))
 
-
 pub returns-in-Err-clause-in_lanes : goal.returns-in-Err-clause-in_lanes
 returns-in-Err-clause-in_lanes g c = not_read (ap (λ (t : Term). not t.error) c.error.ensures.noted) refl
 

@@ -12,7 +12,7 @@ use Rattle.hack_recovery.proofs.SaidLemmas.{behind_lines}
 use Rattle.hack_recovery.specs.ShownCalls.SaysWhole.{unperformed}
 use Rattle.hack_recovery.specs.GuardEvents.{GuardsView}
 use Rattle.hack_recovery.specs.LaneCalls.{over_journal, unperformed}
-use Rattle.hack_recovery.specs.LaneCalls.GetReady.{copied as ready}
+use Rattle.hack_recovery.specs.Ready.GetReady.{copied as ready}
 use Rattle.hack_recovery.specs.LockEvents.{LocksView}
 use Rattle.hack_recovery.proofs.perform.copied.Goals as goal
 

@@ -9,7 +9,7 @@ use Rattle.hack_recovery.proofs.SaidLemmas.{behind_lines, only_lines, only_more}
 use Rattle.hack_recovery.specs.ShownCalls.SaysWhole.{unperformed}
 use Rattle.hack_recovery.proofs.LaneLemmas.{behind}
 use Rattle.hack_recovery.specs.LaneCalls.{unperformed}
-use Rattle.hack_recovery.specs.LaneCalls.GetReady.{taken_back}
+use Rattle.hack_recovery.specs.Ready.GetReady.{taken_back}
 use Rattle.hack_recovery.proofs.perform.guarded.Goals as goal
 
 pub returns-then-not-is_back-clause-goes : goal.returns-then-not-is_back-clause-goes

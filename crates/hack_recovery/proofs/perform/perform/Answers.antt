@@ -17,8 +17,9 @@ use Rattle.hack_recovery.proofs.SaidLemmas.{behind_run, only_lines}
 use Rattle.hack_recovery.specs.ShownCalls.SaysWhole.{unperformed}
 use Rattle.hack_recovery.proofs.LaneLemmas.{asked_to, behind, in_lanes_or_not, restore_is}
 use Rattle.hack_recovery.specs.AskedEdits.{AsksForEdits}
-use Rattle.hack_recovery.specs.LaneCalls.{Both, unperformed}
-use Rattle.hack_recovery.specs.LaneCalls.GetReady.{looked_at}
+use Rattle.hack_recovery.specs.LaneCalls.{unperformed}
+use Rattle.hack_recovery.specs.Ready.{Both}
+use Rattle.hack_recovery.specs.Ready.GetReady.{looked_at}
 use Rattle.hack_recovery.specs.declared.asked.Edits.{Edits}
 use Rattle.hack_recovery.proofs.perform.perform.Goals as goal
 
@@ -126,15 +127,15 @@ pub returns-in-Ok-Plain-clause-shown : goal.returns-in-Ok-Plain-clause-shown
 returns-in-Ok-Plain-clause-shown g c = λ t. elim (cases_Bool (is_restore c.in-Ok.begun.edits)) [
   | inl on ↦ unperformed (only_lines g.C.Caller g.O.Sink g.E.Sink c.args.host.now c.plainly-status.new.host (c.plainly-status.ensures.lines on) (c.plainly-status.ensures.still on))
   | inr off ↦ behind_run g.F.Files _ c.begin.new.files c.plainly-status.new.files g.C.Caller.tells _ _ _ (looks_of c.args.host.now.term.now) _ (scene_on g.C.Caller g.O.Sink g.E.Sink c.args.host.now) _ _
-    ((refl, λ e. refl, wrote_none _ _ refl), refl) (c.plainly-status.ensures.shown off t)
+      ((refl, λ e. refl, wrote_none _ _ refl), refl) (c.plainly-status.ensures.shown off t)
 ]
 
 pub returns-in-Err-Unseen-clause-shown : goal.returns-in-Err-Unseen-clause-shown
 returns-in-Err-Unseen-clause-shown g c = λ t. elim (cases_Bool (is_change c.in-Err-Unseen.asked.edits)) [
   | inl on ↦ unperformed (only_lines g.C.Caller g.O.Sink g.E.Sink c.args.host.now c.blindly-status.new.host (c.blindly-status.ensures.lines on) (c.blindly-status.ensures.still on))
   | inr off ↦ let said = c.blindly-status.ensures.shown off t in
-    behind_run g.F.Files _ c.begin.new.files c.blindly-status.new.files g.C.Caller.tells _ _ _ (looks_of c.args.host.now.term.now) _ (scene_on g.C.Caller g.O.Sink g.E.Sink c.args.host.now) said.0 _
-    (said.1, refl) said.2
+      behind_run g.F.Files _ c.begin.new.files c.blindly-status.new.files g.C.Caller.tells _ _ _ (looks_of c.args.host.now.term.now) _ (scene_on g.C.Caller g.O.Sink g.E.Sink c.args.host.now) said.0 _
+      (said.1, refl) said.2
 ]
 
 pub returns-in-Ok-Plain-clause-in_lanes : goal.returns-in-Ok-Plain-clause-in_lanes

@@ -14,9 +14,11 @@ returns-clause-runs g c = λ off lockfiles unkept locks guards.
     record { refused = ran.refused; done = rw warned at ran.done; traced = rw warned at ran.traced; made = rw warned at ran.made; back = ran.back; stood = λ quiet. edits_between _ _ _ _ _ _ _ _ (λ held was. (_, _, was)) (ran.stood quiet); spoilt = λ back. spoilt_by g.F.Files _ _ _ _ _ (ran.spoilt back); lasting = lasting_by g.F.Files _ _ _ _ _ _ _ _ _ ran.lasting; clean = ran.clean; lockfiles = refl; unkept = refl; locks = refl; guards = refl }
 
 pub returns-clause-shown : goal.returns-clause-shown
-returns-clause-shown g c = λ off t.
-    (scene_at (g.C.Caller.calls c.args.host.now.caller.now) g.O.Sink g.E.Sink c.args.host.now.out.now c.warn.new.err,
-    (refl, λ e. refl, some_more _ (stream_of g.E.Sink c.tell_reason.new.err) _ c.tell_reason.ensures c.warn.ensures.lines), rw c.warn.ensures.noted at (c.run.ensures.shown t))
+returns-clause-shown g c = λ off t. (
+  scene_at (g.C.Caller.calls c.args.host.now.caller.now) g.O.Sink g.E.Sink c.args.host.now.out.now c.warn.new.err,
+  (refl, λ e. refl, some_more _ (stream_of g.E.Sink c.tell_reason.new.err) _ c.tell_reason.ensures c.warn.ensures.lines),
+  rw c.warn.ensures.noted at (c.run.ensures.shown t),
+)
 
 pub returns-clause-in_lanes : goal.returns-clause-in_lanes
 returns-clause-in_lanes g c = λ off. lanes_by_error g.C.Starts.did g.C.Caller.course g.C.Caller.tells g.C.Caller.calls _ _ _ _ _ _ c.run.new.host.term.now.error c.run.ensures.lanes c.run.ensures.in_lanes

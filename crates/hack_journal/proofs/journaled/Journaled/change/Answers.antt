@@ -20,8 +20,8 @@ pub returns-in-Ok-clause-cause : goal.returns-in-Ok-clause-cause
 returns-in-Ok-clause-cause g c =
     let s = c.args.self.now in
     let path = c.args.path.now in
-    fails_then g.F.Files (WriteFailed g.F.Files path c.keep.new.self.files c.put.new.files) _ c.put.result s.files c.keep.new.self.files c.put.new.files c.in-Ok.ensures.why
-    (λ h. inr (inr (write_then g.F.Files path s.files c.keep.new.self.files c.put.new.files c.in-Ok.ensures.why h))) (fails_write g.F.Files path c.put.result c.keep.new.self.files c.put.new.files c.put.ensures.calls)
+    fails_then g.F.Files (WriteFailed g.F.Files path c.keep.new.self.files c.put_over.new.files) _ c.put_over.result s.files c.keep.new.self.files c.put_over.new.files c.in-Ok.ensures.why
+    (λ h. inr (inr (write_then g.F.Files path s.files c.keep.new.self.files c.put_over.new.files c.in-Ok.ensures.why h))) (fails_write g.F.Files path c.put_over.result c.keep.new.self.files c.put_over.new.files c.put_over.ensures.calls)
 
 pub returns-then-is_of_journal-clause-stays : goal.returns-then-is_of_journal-clause-stays
 returns-then-is_of_journal-clause-stays g c = λ tells whole. stays_none _ _ _ _ _ _ (makes_none _ _)
@@ -30,24 +30,24 @@ pub returns-in-Err-clause-refused : goal.returns-in-Err-clause-refused
 returns-in-Err-clause-refused g c = λ whole. inl (hidden_alone _ _ _ _ _ (c.in-Err.ensures.hidden whole))
 
 pub returns-in-Ok-clause-handed : goal.returns-in-Ok-clause-handed
-returns-in-Ok-clause-handed g c = g.F.Files.stays_more _ _ _ c.in-Ok.ensures.handed c.put.ensures.stays
+returns-in-Ok-clause-handed g c = g.F.Files.stays_more _ _ _ c.in-Ok.ensures.handed c.put_over.ensures.stays
 
 pub returns-in-Ok-clause-counted : goal.returns-in-Ok-clause-counted
-returns-in-Ok-clause-counted g c = counted_below c.put.result _ _ _ _ _ c.in-Ok.ensures.below c.put.ensures.failures (ap (λ s. g.U.Unkept.told s.unkept) c.in-Ok.ensures.rest)
+returns-in-Ok-clause-counted g c = counted_below c.put_over.result _ _ _ _ _ c.in-Ok.ensures.below c.put_over.ensures.failures (ap (λ s. g.U.Unkept.told s.unkept) c.in-Ok.ensures.rest)
 
 pub returns-in-Ok-clause-traced : goal.returns-in-Ok-clause-traced
 returns-in-Ok-clause-traced g c =
     let out : is_of_journal c.args.self.now.notes.journal c.args.path.now ≡ false = sym c.is_of_journal.ensures ∙ c.if-is_of_journal.false in
-    on_ok_weaker c.put.result (λ makes whole. hidden_put _ _ _ _ _ _ _ _ _ out (c.in-Ok.ensures.hidden whole) (makes whole)) c.put.ensures.traced
+    on_ok_weaker c.put_over.result (λ makes whole. hidden_put _ _ _ _ _ _ _ _ _ out (c.in-Ok.ensures.hidden whole) (makes whole)) c.put_over.ensures.traced
 
 pub returns-in-Ok-clause-refused : goal.returns-in-Ok-clause-refused
 returns-in-Ok-clause-refused g c =
     let out : is_of_journal c.args.self.now.notes.journal c.args.path.now ≡ false = sym c.is_of_journal.ensures ∙ c.if-is_of_journal.false in
-    on_err_weaker c.put.result (λ makes whole. hidden_or_not _ _ _ _ _ _ _ _ _ out (c.in-Ok.ensures.hidden whole) (makes whole)) c.put.ensures.refused
+    on_err_weaker c.put_over.result (λ makes whole. hidden_or_not _ _ _ _ _ _ _ _ _ out (c.in-Ok.ensures.hidden whole) (makes whole)) c.put_over.ensures.refused
 
 pub returns-in-Ok-clause-stays : goal.returns-in-Ok-clause-stays
 returns-in-Ok-clause-stays g c = λ tells whole.
     let out : is_of_journal c.args.self.now.notes.journal c.args.path.now ≡ false = sym c.is_of_journal.ensures ∙ c.if-is_of_journal.false in
-    let makes = at_either c.put.result _ _ _ _ _ c.put.ensures.traced c.put.ensures.refused whole in
+    let makes = at_either c.put_over.result _ _ _ _ _ c.put_over.ensures.traced c.put_over.ensures.refused whole in
     let told = rw c.in-Ok.is at c.keep.ensures.told in
     stays_more _ _ _ _ _ _ _ _ _ _ (c.in-Ok.ensures.stays out tells whole) (put_or_not_stays _ _ _ _ _ _ _ _ out told makes)

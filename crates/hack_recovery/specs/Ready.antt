@@ -1,0 +1,23 @@
+-- How files come to be what a call is performed over.
+use Rattle.std.specs.Prelude.{◌≡◌, Bool, Ok, true}
+use Rattle.hack_files.specs.View.{FilesView}
+use Rattle.hack_files.specs.declared.fs.Files.{Ghosts as Filing}
+use Rattle.hack_places.specs.CallPlaces.{PlacesAt}
+use Rattle.hack_places.specs.FileLooks.{Unchanged}
+use Rattle.hack_recovery.specs.Restoring.{KeepsCopy, TakesBack}
+use Rattle.hack_recovery.specs.Scenes.{Scene}
+
+-- the files, and the lockfiles
+abbrev pub Both : Type 0
+Both = FilesView × FilesView
+
+abbrev pub both_in : Scene → Both
+both_in scene = (scene.files, scene.lockfiles)
+
+-- how files come to be what a call is performed over: they are only looked at, what an interrupted call
+-- left is taken back, the lockfile is copied, or one of these follows the other
+pub data GetReady {F L : Type 0} (f : Filing F) (l : Filing L) (by_guard : Bool) : Both → Both → Type 0 where
+  looked_at : {old new : Both} → Unchanged f.tells f.whole old.0 new.0 → new.1 ≡ old.1 → GetReady f l by_guard old new
+  taken_back : {old new : Both} → (places : PlacesAt) (first last : Scene) → TakesBack f l by_guard places first last (Ok true) → both_in first ≡ old → both_in last ≡ new → GetReady f l by_guard old new
+  copied : {old new : Both} → (places : PlacesAt) (first last : Scene) → KeepsCopy f l places (Ok tt) first last → both_in first ≡ old → both_in last ≡ new → GetReady f l by_guard old new
+  further : {old new : Both} → (mid : Both) → GetReady f l by_guard old mid → GetReady f l by_guard mid new → GetReady f l by_guard old new
