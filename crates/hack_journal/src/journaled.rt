@@ -43,8 +43,7 @@ pub struct Journaled<F: Files, U: Unkept> {
 }
 
 impl<F: Files, U: Unkept> Journaled<F, U> {
-    ghost use Rattle.hack_journal.specs.FailedCalls.{FailsRemoval, FailsToEnd};
-    ghost use Rattle.hack_journal.specs.FileCalls.{StaysJournaled, spot_in};
+    ghost use Rattle.hack_journal.specs.FileCalls.{spot_in};
 
     /// Files over these, of which nothing is kept yet, with no failed call counted. The journal is
     /// written to this place before the first change; one that is there already would be lost, so
@@ -78,6 +77,8 @@ impl<F: Files, U: Unkept> Journaled<F, U> {
 }
 
 impl<F: Overwrites, U: Unkept> Journaled<F, U> {
+    ghost use Rattle.hack_journal.specs.FileCalls.{StaysJournaled};
+
     /// Keeps what the path holds, and then gives it these bytes, or removes what is there. What an
     /// entry has already needs no keeping. The bytes may be written over those that are there: where
     /// that is cut, `recover` knows what it left by the entries of the path.
@@ -135,6 +136,9 @@ impl<F: Overwrites, U: Unkept> Journaled<F, U> {
 }
 
 impl<F: Files, U: Unkept> Journaled<F, U> {
+    ghost use Rattle.hack_journal.specs.FailedCalls.{FailsRemoval, FailsToEnd};
+    ghost use Rattle.hack_journal.specs.FileCalls.{StaysJournaled, spot_in};
+
     /// Removes the row, from its last file on. The file that would come next may be there too, after
     /// a write that failed.
     fn remove_row(&mut self) -> Result<(), FileFault>

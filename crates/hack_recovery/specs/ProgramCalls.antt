@@ -71,7 +71,7 @@ pub data IsProgramCall {F L U J : Type 0} (f : Filing F) (l : Filing L) (u : Not
       → IsStatus started.env.deny_warnings new.host status
       → IsCallCourse f l u talks records watched real (names_of started.words.items) started.env
       (scene_on (colored (colored_by asked coloring) old.host.term) old) new
-      → (talks → SaysWhole f j talks (names_of started.words.items) started.env (looks_of (colored (colored_by asked coloring) old.host.term)) (looks_of new.host.term) before after)
+      → (talks → SaysWhole f l j talks (names_of started.words.items) started.env (old.files, old.lockfiles) (new.files, new.lockfiles) (looks_of (colored (colored_by asked coloring) old.host.term)) (looks_of new.host.term) before after)
       → IsProgramCall f l u j informs talks records watched real system is_terminal before after old new status
   unread : (fault : StartFault) (coloring : Coloring) → GivesStart informs system (Err fault)
       → (informs → SetsColoring (auto_coloring_of is_terminal system) old.host.term.coloring coloring (Err fault))

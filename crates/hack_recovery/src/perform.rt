@@ -19,7 +19,7 @@ ghost use Rattle.hack_recovery.specs.LockEvents.{LocksView};
 ghost use Rattle.hack_places.specs.PlacesView.{places_view};
 ghost use Rattle.hack_recovery.specs.Restoring.{TakesBack};
 ghost use Rattle.hack_recovery.specs.Scenes.{scene_by, scene_of};
-ghost use Rattle.hack_recovery.specs.ShownCalls.{SaysWhole, TellsLines};
+ghost use Rattle.hack_recovery.specs.ShownCalls.{EndsStarved, SaysWhole, TellsLines, TellsStaying};
 ghost use Rattle.hack_run.specs.Lanes.{IsLaneCall};
 ghost use Rattle.hack_run.specs.Readings.{IsEarlyReading};
 ghost use Rattle.hack_run.specs.Shown.{SaysCall, looks_of, scene_on};
@@ -87,8 +87,10 @@ pub fn perform<
         (K.shown keepers.new.locks) (G.shown keepers.new.guards) host.new) }
 
     // What `run` says of the call is said, if it is performed, and lines before and behind that.
-    ensures shown { C.tells → SaysWhole F.Files ⟦<Apart<Journaled<F, U>, L> as Files>⟧
+    ensures shown { C.tells → SaysWhole F.Files L.Files ⟦<Apart<Journaled<F, U>, L> as Files>⟧
         C.tells (names_of words.now) host.old.env.now
+        (files_view F.Files files, files_view L.Files lockfiles)
+        (files_view F.Files result.1, files_view L.Files result.2)
         (looks_of host.old.term.now) (looks_of host.new.term.now)
         (scene_on C.Caller O.Sink E.Sink host.old) (scene_on C.Caller O.Sink E.Sink host.new) }
     // Commands were started by the rules of lanes alone, and none that was started is left; or the
@@ -189,6 +191,7 @@ fn plainly<F: Files, C: Starts, O: Sink, E: Sink>(
 }
 
 /// Says why nothing is restored.
+#[tactic(auto, using(crate::proofs::SaidLemmas::one_line))]
 fn tell_unrestored<E: Sink>(is_left: bool, term: &Term, err: &mut E)
     ensures { WritesSome (stream_of E.Sink err.old) (stream_of E.Sink err.new) }
 {
@@ -222,8 +225,10 @@ fn guarded<F: Overwrites, L: Files, U: Unkept, K: Locks, G: Guards, C: Starts, O
         (K.shown keepers.old.locks) (G.shown keepers.old.guards) host.old)
         (scene_of F.Files L.Files U.Unkept C.Caller O.Sink result.1 result.2 result.3
         (K.shown keepers.new.locks) (G.shown keepers.new.guards) host.new) }
-    ensures shown { C.tells → SaysWhole F.Files ⟦<Apart<Journaled<F, U>, L> as Files>⟧
+    ensures shown { C.tells → SaysWhole F.Files L.Files ⟦<Apart<Journaled<F, U>, L> as Files>⟧
         C.tells (names_of words.now) host.old.env.now
+        (files_view F.Files files, files_view L.Files lockfiles)
+        (files_view F.Files result.1, files_view L.Files result.2)
         (looks_of host.old.term.now) (looks_of host.new.term.now)
         (scene_on C.Caller O.Sink E.Sink host.old) (scene_on C.Caller O.Sink E.Sink host.new) }
     ensures in_lanes { CallsInLanes F.Files L.Files C.did C.course C.tells C.calls
@@ -311,8 +316,10 @@ fn go_on<F: Overwrites, L: Files, U: Unkept, K: Locks, G: Guards, C: Starts, O: 
         (K.shown keepers.old.locks) (G.shown keepers.old.guards) host.old)
         (scene_of F.Files L.Files U.Unkept C.Caller O.Sink result.1 result.2 result.3
         (K.shown keepers.new.locks) (G.shown keepers.new.guards) host.new) }
-    ensures shown { C.tells → SaysWhole F.Files ⟦<Apart<Journaled<F, U>, L> as Files>⟧
+    ensures shown { C.tells → SaysWhole F.Files L.Files ⟦<Apart<Journaled<F, U>, L> as Files>⟧
         C.tells (names_of words.now) host.old.env.now
+        (files_view F.Files files, files_view L.Files lockfiles)
+        (files_view F.Files result.1, files_view L.Files result.2)
         (looks_of host.old.term.now) (looks_of host.new.term.now)
         (scene_on C.Caller O.Sink E.Sink host.old) (scene_on C.Caller O.Sink E.Sink host.new) }
     ensures in_lanes { CallsInLanes F.Files L.Files C.did C.course C.tells C.calls
@@ -365,8 +372,10 @@ fn journaled<F: Overwrites, L: Files, U: Unkept, G: Guards, C: Starts, O: Sink, 
         (G.shown guards.old) host.old)
         (scene_of F.Files L.Files U.Unkept C.Caller O.Sink result.1 result.2 result.3 locks
         (G.shown guards.new) host.new) }
-    ensures shown { C.tells → SaysWhole F.Files ⟦<Apart<Journaled<F, U>, L> as Files>⟧
+    ensures shown { C.tells → SaysWhole F.Files L.Files ⟦<Apart<Journaled<F, U>, L> as Files>⟧
         C.tells (names_of words.now) host.old.env.now
+        (files_view F.Files files, files_view L.Files lockfiles)
+        (files_view F.Files result.1, files_view L.Files result.2)
         (looks_of host.old.term.now) (looks_of host.new.term.now)
         (scene_on C.Caller O.Sink E.Sink host.old) (scene_on C.Caller O.Sink E.Sink host.new) }
     ensures in_lanes { CallsInLanes F.Files L.Files C.did C.course C.tells C.calls
@@ -413,8 +422,10 @@ fn copied<F: Overwrites, L: Files, U: Unkept, C: Starts, O: Sink, E: Sink>(
         host.old)
         (scene_of F.Files L.Files U.Unkept C.Caller O.Sink result.1 result.2 result.3 locks guards
         host.new) }
-    ensures shown { C.tells → SaysWhole F.Files ⟦<Apart<Journaled<F, U>, L> as Files>⟧
+    ensures shown { C.tells → SaysWhole F.Files L.Files ⟦<Apart<Journaled<F, U>, L> as Files>⟧
         C.tells (names_of words.now) host.old.env.now
+        (files_view F.Files files, files_view L.Files lockfiles)
+        (files_view F.Files result.1, files_view L.Files result.2)
         (looks_of host.old.term.now) (looks_of host.new.term.now)
         (scene_on C.Caller O.Sink E.Sink host.old) (scene_on C.Caller O.Sink E.Sink host.new) }
     ensures in_lanes { CallsInLanes F.Files L.Files C.did C.course C.tells C.calls
@@ -439,6 +450,7 @@ fn copied<F: Overwrites, L: Files, U: Unkept, C: Starts, O: Sink, E: Sink>(
 }
 
 /// Says, where more is asked for, that nobody restores the manifests where this call ends early.
+#[tactic(auto, using(crate::proofs::SaidLemmas::one_line, hack_base::proofs::StreamLemmas::wrote_none))]
 fn tell_watch<E: Sink>(watches: bool, verbose: bool, term: &Term, err: &mut E)
     ensures { WritesSome (stream_of E.Sink err.old) (stream_of E.Sink err.new) }
 {
@@ -473,8 +485,10 @@ fn over_journal<F: Overwrites, L: Files, U: Unkept, C: Starts, O: Sink, E: Sink>
         host.old)
         (scene_of F.Files L.Files U.Unkept C.Caller O.Sink result.1 result.2 result.3 locks guards
         host.new) }
-    ensures shown { C.tells → SaysWhole F.Files ⟦<Apart<Journaled<F, U>, L> as Files>⟧
+    ensures shown { C.tells → SaysWhole F.Files L.Files ⟦<Apart<Journaled<F, U>, L> as Files>⟧
         C.tells (names_of words.now) host.old.env.now
+        (files_view F.Files files, files_view L.Files lockfiles)
+        (files_view F.Files result.1, files_view L.Files result.2)
         (looks_of host.old.term.now) (looks_of host.new.term.now)
         (scene_on C.Caller O.Sink E.Sink host.old) (scene_on C.Caller O.Sink E.Sink host.new) }
     ensures in_lanes { IsLaneCall C.did C.course C.tells C.calls (not host.new.term.now.error)
@@ -511,7 +525,7 @@ fn close<F: Files, E: Sink>(
         (F.bytes_at files.old) (F.bytes_at files.new) }
     ensures made { F.whole → MakesOrNot (removes (string_bytes places.now.copy))
         (F.trace files.old) (F.trace files.new) (F.bytes_at files.old) (F.bytes_at files.new) }
-    ensures lines { TellsLines term.old term.new
+    ensures lines { TellsStaying term.old term.new
         (stream_of E.Sink err.old) (stream_of E.Sink err.new) }
 {
     let journal = places.place.journal.as_str();
@@ -536,7 +550,8 @@ fn close<F: Files, E: Sink>(
 /// Warns of a file that stays, or may. Where memory is refused for that, it is an error besides.
 fn tell_stay<E: Sink>(alloc: Global, path: &str, how: &str, term: &mut Term, err: &mut E)
     ensures noted { Warns term.old term.new }
-    ensures lines { WritesSome (stream_of E.Sink err.old) (stream_of E.Sink err.new) }
+    ensures lines { TellsStaying term.old term.new
+        (stream_of E.Sink err.old) (stream_of E.Sink err.new) }
 {
     match format!(in alloc; "`{path}` {how}") {
         Ok(text) => {
@@ -549,7 +564,8 @@ fn tell_stay<E: Sink>(alloc: Global, path: &str, how: &str, term: &mut Term, err
 /// Reports that memory was refused, and warns of what may stay.
 fn tell_memory<E: Sink>(term: &mut Term, err: &mut E)
     ensures noted { term.new ≡ record term.old { warn = true; error = true } }
-    ensures lines { WritesSome (stream_of E.Sink err.old) (stream_of E.Sink err.new) }
+    ensures lines { EndsStarved term.old.coloring
+        (stream_of E.Sink err.old) (stream_of E.Sink err.new) }
 {
     let _ = term.warn(
         "what a journal keeps may stay: the next call looks after it",

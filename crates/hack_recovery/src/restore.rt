@@ -135,6 +135,7 @@ fn tell_all<E: Sink>(
 }
 
 /// Reports that a file was restored, by its path from the current folder.
+#[tactic(auto, using(crate::proofs::SaidLemmas::one_line, hack_base::proofs::StreamLemmas::wrote_none))]
 pub(crate) fn tell_restored<E: Sink>(
     alloc: Global,
     dir: &str,
@@ -176,6 +177,7 @@ fn tell_fault<E: Sink>(
 }
 
 /// Says why a file couldn't be read or written, where that is the fault.
+#[tactic(auto, using(hack_files::proofs::WriteBackLemmas::reason_some, hack_base::proofs::StreamLemmas::wrote_none))]
 fn tell_reason_of<F: Files, E: Sink>(
     alloc: Global,
     fault: &RecoverFault,

@@ -76,6 +76,7 @@ pub(crate) fn blindly<F: Files, C: Starts, O: Sink, E: Sink>(
 }
 
 /// Reports that this path can't be looked at, as an error.
+#[tactic(auto, using(crate::proofs::SaidLemmas::one_line))]
 fn refuse<E: Sink>(alloc: Global, path: &str, term: &mut Term, err: &mut E)
     ensures noted { term.new ≡ record term.old { error = true } }
     ensures lines { WritesSome (stream_of E.Sink err.old) (stream_of E.Sink err.new) }
@@ -91,6 +92,7 @@ fn refuse<E: Sink>(alloc: Global, path: &str, term: &mut Term, err: &mut E)
 }
 
 /// Warns that this path can't be looked at.
+#[tactic(auto, using(crate::proofs::SaidLemmas::one_line))]
 fn warn<E: Sink>(alloc: Global, path: &str, term: &mut Term, err: &mut E)
     ensures noted { term.new ≡ record term.old { warn = true } }
     ensures lines { WritesSome (stream_of E.Sink err.old) (stream_of E.Sink err.new) }

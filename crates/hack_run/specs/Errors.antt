@@ -17,6 +17,7 @@ use Rattle.hack_rules.specs.declared.fault.CliFault.TheVariants as words
 use Rattle.hack_term.specs.Lines.{error_line, info_line}
 use Rattle.hack_term.specs.declared.term.Coloring.{Coloring}
 use Rattle.hack_words.specs.declared.cli.env.Env.{Env}
+use Rattle.hack_files.specs.Faults.{of_device}
 use Rattle.hack_run.specs.declared.fault.RunFault.{RunFault}
 use Rattle.hack_run.specs.declared.fault.RunFault.TheVariants as fault
 
@@ -29,11 +30,11 @@ failed_command (fault.Context (context.Process failed)) = Some failed
 failed_command (fault.Context (context.Asked (asked.Process failed))) = Some failed
 failed_command other = None
 
--- the error is that of a file
+-- the error is that of a file which couldn't be read or written
 abbrev pub is_of_file : RunFault → Bool
-is_of_file (fault.Context (context.Files f)) = true
-is_of_file (fault.Context (context.Asked (asked.Files f))) = true
-is_of_file (fault.Manifests (prepare.Files f)) = true
+is_of_file (fault.Context (context.Files f)) = of_device f
+is_of_file (fault.Context (context.Asked (asked.Files f))) = of_device f
+is_of_file (fault.Manifests (prepare.Files f)) = of_device f
 is_of_file other = false
 
 -- a call ends with such an error

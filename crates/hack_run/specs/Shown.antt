@@ -20,8 +20,8 @@ use Rattle.hack_load.specs.declared.answers.Answers.{Answers}
 use Rattle.hack_load.specs.declared.fault.ContextFault.{ContextFault}
 use Rattle.hack_load.specs.declared.fault.ContextFault.TheVariants as context
 use Rattle.hack_files.specs.FailedCalls.{NoneFailed}
-use Rattle.hack_files.specs.Files.{Contents, KeepsAll}
-use Rattle.hack_files.specs.Restore.{AreSafe, Kept}
+use Rattle.hack_files.specs.Files.{Change, Contents, KeepsAll, Makes}
+use Rattle.hack_files.specs.Restore.{AreSafe, Kept, Tried}
 use Rattle.hack_files.specs.WriteBacks.{SaysBack, SaysReason}
 use Rattle.hack_files.specs.declared.fs.FsFault.TheVariants as fs
 use Rattle.hack_files.specs.declared.fs.Files.{Ghosts as Filing}
@@ -32,7 +32,8 @@ use Rattle.hack_planner.specs.declared.fault.PlanFault.{PlanFault}
 use Rattle.hack_planner.specs.declared.fault.PlanFault.TheVariants as plan
 use Rattle.hack_metadata.specs.QuestionCalls.{WroteWhereKnown}
 use Rattle.hack_prepare.specs.FailedCalls.{IsAbsent, IsOfFailedCall}
-use Rattle.hack_prepare.specs.PreparedView.{IsPrepareFault, IsReadRootIn, notes_in}
+use Rattle.hack_prepare.specs.PreparedView.{BeginWritesIn, IsPrepareFault, IsReadRootIn, notes_in}
+use Rattle.hack_prepare.specs.Writes.{MakesSome}
 use Rattle.hack_prepare.specs.declared.fault.PrepareFault.{PrepareFault}
 use Rattle.hack_prepare.specs.declared.fault.PrepareFault.TheVariants as prepare
 use Rattle.hack_process.specs.Calls.{Call, IsSuccess, MayAdd}
@@ -234,14 +235,18 @@ SaysItsPlan came tells cx stable rustup looks now old new =
 
 -- ---- a call
 
+-- no more was changed than the first of the edits
+abbrev pub BeginsEdits : {F : Type 0} → Filing F → ContextRecord → F → F → Type 0
+BeginsEdits f cx loaded edited = f.whole → MakesSome (BeginWritesIn cx f.tells (f.bytes_at loaded)) (f.trace loaded) (f.trace edited) (f.bytes_at loaded) (f.bytes_at edited)
+
 -- What was said once the questions were answered: the warning of an unknown version of cargo, the notices on edits,
 -- which looks take long, and the plan; an error may have ended it before. No call of the files failed, but the one that
 -- an error of edits is of.
 pub data SaysAfterLoading {F : Type 0} (f : Filing F) (loaded edited : F) (came : Result (Unit {0}) RunFault) (tells : Type 0) (args : Args) (answers : Answers) (rustup : Name) (looks now : Looks) (old new : Scene) : Type 0 where
-  unloaded : (e : ContextFault) → (e ≡ context.Memory) ⊎ IsContextCause args answers e → came ≡ Err (fault.Context e) → NoneFailed f loaded edited → now ≡ looks → new ≡ old
+  unloaded : (e : ContextFault) → (e ≡ context.Memory) ⊎ IsContextCause args answers e → came ≡ Err (fault.Context e) → edited ≡ loaded → now ≡ looks → new ≡ old
       → SaysAfterLoading f loaded edited came tells args answers rustup looks now old new
   unedited : (cx : ContextRecord) (warned : Stream) → IsContextFrom args answers cx → SaysNotes looks.coloring (warnings_of (told_version answers.cargo_version)) old.streams.err warned
-      → (e : PrepareFault) → IsPrepareFault cx f.tells (f.bytes_at loaded) e → IsOfFailedCall f (IsAbsent f.tells (f.bytes_at loaded) (IsReadRootIn cx)) loaded edited e
+      → (e : PrepareFault) → IsPrepareFault cx f.tells (f.bytes_at loaded) e → IsOfFailedCall f (IsAbsent f.tells (f.bytes_at loaded) (IsReadRootIn cx)) loaded edited e → BeginsEdits f cx loaded edited
       → came ≡ Err (fault.Manifests e) → now ≡ looks → new ≡ scene_with old.calls warned old → SaysAfterLoading f loaded edited came tells args answers rustup looks now old new
   unasked : (cx : ContextRecord) (warned told : Stream) → IsContextFrom args answers cx → SaysNotes looks.coloring (warnings_of (told_version answers.cargo_version)) old.streams.err warned
       → SaysNotes looks.coloring (notes_in cx) warned told → NoneFailed f loaded edited → MayAskStable rustup old.calls new.calls → (¬ NeedsAnswer args → new.calls ≡ old.calls)
@@ -291,6 +296,7 @@ pub record SaysLoaded {F : Type 0} (f : Filing F) (before after : F) (came : Res
   pub reasoned : Stream
   pub reason : MatchBool (ends_at_file came) (SaysReason looks.coloring mid.streams.err reasoned) (reasoned ≡ mid.streams.err)
   pub failed : ℕ
+  pub tried : f.whole → (made : List Change) × Tried files made failed × Makes made (f.trace edited) (f.trace after) (f.bytes_at edited) (f.bytes_at after)
   pub back : SaysBack f edited after looks.coloring looks.verbose (unwritten_in came) files failed reasoned new.streams.err
   pub ends : now ≡ reported_on (at.reported || nat_lt 0 failed) at
 
@@ -311,15 +317,16 @@ SaysText came text old new =
     ((came ≡ Ok tt) × Appends old.bytes new.bytes text)
     ⊎ ((came ≡ Err fault.Unprinted) × AppendsFront old.bytes new.bytes text × HasFailed old.failed new.failed)
 
--- what was said of what a command line asks for: its notices, and what follows them; a text is printed without them
+-- what was said of what a command line asks for: its notices, and what follows them; a text is printed without them, and
+-- neither that nor cargo's list changes or reads a file
 abbrev pub SaysParsed : {F : Type 0} → Filing F → F → F → Result (Unit {0}) RunFault → Type 0 → Parsed → List Note → Env → Looks → Looks → Scene → Scene → Type 0
 SaysParsed f before after came tells (parsed.Args args) notes env looks now old new =
     (noted : Stream) × SaysNotes (colored_by args.coloring looks.coloring) notes old.streams.err noted
     × SaysLoaded f before after came tells args env (dressed_by args looks) now (scene_with old.calls noted old) new
 SaysParsed f before after came tells (parsed.Print text) notes env looks now old new =
-    SaysText came (string_bytes text) old.streams.out new.streams.out × (now ≡ looks) × (new.calls ≡ old.calls) × (new.streams.err ≡ old.streams.err)
+    (after ≡ before) × SaysText came (string_bytes text) old.streams.out new.streams.out × (now ≡ looks) × (new.calls ≡ old.calls) × (new.streams.err ≡ old.streams.err)
 SaysParsed f before after came tells parsed.List notes env looks now old new =
-    SaysNotes looks.coloring notes old.streams.err new.streams.err × (now ≡ looks) × (new.streams.out ≡ old.streams.out)
+    (after ≡ before) × SaysNotes looks.coloring notes old.streams.err new.streams.err × (now ≡ looks) × (new.streams.out ≡ old.streams.out)
     × ComesOfListing tells (string_bytes env.cargo) (string_bytes env.current_dir) came old.calls new.calls
 
 -- what was said once rustup was asked where an argument needs it, and the command line was read; a notice may say why
@@ -357,7 +364,7 @@ pub record SaysCall {F : Type 0} (f : Filing F) (before after : F) (tells : Type
   pub came : Result (Unit {0}) RunFault
   pub mid : Stream
   pub at : Looks
-  pub said : SaysUnread came words env looks at old (scene_with new.calls mid new) ⊎ SaysRead f before after came tells words env looks at old (scene_with new.calls mid new)
+  pub said : ((after ≡ before) × SaysUnread came words env looks at old (scene_with new.calls mid new)) ⊎ SaysRead f before after came tells words env looks at old (scene_with new.calls mid new)
   pub end : SaysEnd came env at.coloring mid new.streams.err
   pub ends : now ≡ reported_on (is_err came || at.reported) at
 

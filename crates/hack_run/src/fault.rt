@@ -37,7 +37,7 @@ pub enum RunFault {
 impl RunFault {
     /// Whether a file couldn't be read or written.
     pub fn is_of_file(&self) -> bool
-        ensures { result ≡ true → is_of_file self.now ≡ true }
+        ensures { result ≡ is_of_file self.now }
     {
         match self {
             RunFault::Context(ContextFault::Files(fault)) => is_of_device(fault),

@@ -206,9 +206,10 @@ fn read<F: Files, C: Starts, O: Sink, E: Sink>(
     ensures in_lanes { IsLaneCall C.did C.course C.tells C.calls false F.tells
         (names_of words.now) host.old.env.now (F.bytes_at files.old)
         host.old.caller.now host.new.caller.now }
-    ensures shown { C.tells → SaysUnread result (names_of words.now) host.old.env.now
+    ensures shown { C.tells → ((files.new ≡ files.old)
+        × SaysUnread result (names_of words.now) host.old.env.now
         (looks_of host.old.term.now) (looks_of host.new.term.now)
-        (scene_on C.Caller O.Sink E.Sink host.old) (scene_on C.Caller O.Sink E.Sink host.new)
+        (scene_on C.Caller O.Sink E.Sink host.old) (scene_on C.Caller O.Sink E.Sink host.new))
         ⊎ SaysRead F.Files files.old files.new result C.tells
         (names_of words.now) host.old.env.now
         (looks_of host.old.term.now) (looks_of host.new.term.now)

@@ -34,7 +34,7 @@ ghost use Rattle.hack_run.specs.Lanes.{FollowsInLanes, LoadsInLanes, MayRunInLan
 ghost use Rattle.hack_run.specs.LastingEdits.{LeavesAtMost};
 ghost use Rattle.hack_run.specs.Shown.{KeepsLooks, SaysAfterLoading, SaysItsPlan, SaysLoaded};
 ghost use Rattle.hack_run.specs.Shown.{SaysLooks};
-ghost use Rattle.hack_run.specs.Shown.{SaysNotes, has_edited, looks_of, scene_on, unwritten_in};
+ghost use Rattle.hack_run.specs.Shown.{BeginsEdits, SaysNotes, has_edited, looks_of, scene_on, unwritten_in};
 ghost use Rattle.hack_run.specs.Standing.{Between, LoadsAndEdits};
 ghost use Rattle.hack_run.specs.TemporaryEdits.{BringsBack, IsClean};
 ghost use Rattle.hack_term.specs.Lines.{info_line};
@@ -268,6 +268,7 @@ fn edit<F: Files, E: Sink>(
         AreWritesIn (context_view cx.now) F.tells (F.bytes_at files.old) made
         × KeepsAsMade (context_view cx.now) made manager.old manager.new)
         (F.trace files.old) (F.trace files.new) (F.bytes_at files.old) (F.bytes_at files.new)) }
+    ensures begun { OnErr result (BeginsEdits F.Files (context_view cx.now) files.old files.new) }
     ensures kept { OnOk result
         (KeepsOnly (IsTouchedIn (context_view cx.now)) manager.old manager.new) }
     ensures lockfile { OnOk result (F.tells → manager.old.needs_restore ≡ true

@@ -52,7 +52,7 @@ returns-clause-goes g c =
     (course-known g.F.Files g.L.Files g.U.Unkept g.C.Caller.tells g.K.Locks.tells g.G.Guards.tells (g.K.Locks.real c.args.keepers.now.locks) (names_of c.deref-2.result.now) words host.env.now c.in-Ok.started.env
     (files_view g.F.Files c.args.files) (files_view g.L.Files c.args.lockfiles) (g.U.Unkept.told c.args.unkept) (g.K.Locks.shown c.args.keepers.now.locks) (g.G.Guards.shown c.args.keepers.now.guards) (calls host.caller.now) (calls outside.caller.now) (contents host.out.now) (contents outside.out.now) host.term.now (colored (colored_by asked coloring) outside.term.now) outside.fails
     _ (ap names_of c.deref-2.ensures.value) c.new-host.ensures.env (ap calls c.new-host.ensures.caller.1) (ap contents c.new-host.ensures.out.1) (c.new-host.ensures.term.1 ∙ c.color.ensures) c.perform-ended.ensures.goes)
-    (λ t. whole-known g.F.Files _ g.C.Caller.tells (names_of c.deref-2.result.now) words host.env.now c.in-Ok.started.env (looks_of host.term.now) (looks_of (colored (colored_by asked coloring) outside.term.now)) _
+    (λ t. whole-known g.F.Files g.L.Files _ g.C.Caller.tells (names_of c.deref-2.result.now) words host.env.now c.in-Ok.started.env _ _ (looks_of host.term.now) (looks_of (colored (colored_by asked coloring) outside.term.now)) _
     (saying g.C.Caller g.O.Sink g.E.Sink host) (scene_at (calls outside.caller.now) g.O.Sink g.E.Sink outside.out.now outside.err.now) _
     (ap names_of c.deref-2.ensures.value) c.new-host.ensures.env (ap looks_of (c.new-host.ensures.term.1 ∙ c.color.ensures))
     (same_said g.C.Caller g.O.Sink g.E.Sink host outside.caller.now outside.out.now outside.err.now c.new-host.ensures.caller.1 c.new-host.ensures.out.1 c.new-host.ensures.err.1) (c.perform-ended.ensures.shown t))

@@ -32,7 +32,14 @@ returns-in-Err-clause-goes g c = λ locks guards.
 
 pub returns-in-Ok-clause-shown : goal.returns-in-Ok-clause-shown
 returns-in-Ok-clause-shown g c = λ t.
-    behind_lines g.F.Files _ g.C.Caller.tells _ _ _ (looks_of c.args.host.now.term.now) _ (scene_on g.C.Caller g.O.Sink g.E.Sink c.args.host.now) (scene_at (g.C.Caller.calls c.args.host.now.caller.now) g.O.Sink g.E.Sink c.args.host.now.out.now c.keep_copy.new.err) _
+    let locks : LocksView = record { takings = []; is_held = false } in
+    let guards : GuardsView = record { starts = []; is_watching = false; status = None } in
+    let first : Scene = scene_of g.F.Files g.L.Files g.U.Unkept g.C.Caller g.O.Sink c.args.files c.args.lockfiles c.args.unkept locks guards c.args.host.now in
+    let last : Scene = scene_of g.F.Files g.L.Files g.U.Unkept g.C.Caller g.O.Sink c.keep_copy.new.files c.keep_copy.new.lockfiles c.args.unkept locks guards c.args.host.now in
+    behind_lines g.F.Files g.L.Files _ g.C.Caller.tells _ _ _ (last.files, last.lockfiles) _ _ (looks_of c.args.host.now.term.now) _ (scene_on g.C.Caller g.O.Sink g.E.Sink c.args.host.now) (scene_at (g.C.Caller.calls c.args.host.now.caller.now) g.O.Sink g.E.Sink c.args.host.now.out.now c.keep_copy.new.err) _
+    (ready (places_view c.args.begun.places) first last
+    (record { copied = c.in-Ok.ensures.copied; why = tt; counted = (c.in-Ok.ensures.counted, c.in-Ok.ensures.lockfiles_counted); failed = (c.in-Ok.ensures.failed, c.in-Ok.ensures.lockfiles_failed); others = c.in-Ok.ensures.others; made = c.in-Ok.ensures.made; same = c.in-Ok.ensures.same; host = refl; quiet = record { calls = refl; out = refl; fails = refl; unkept = refl; locks = refl; guards = refl } })
+    refl refl)
     ((refl, λ e. refl, c.in-Ok.ensures.lines), refl) (c.over_journal.ensures.shown t)
 
 pub returns-in-Err-clause-shown : goal.returns-in-Err-clause-shown

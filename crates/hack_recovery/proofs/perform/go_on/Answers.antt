@@ -27,11 +27,11 @@ returns-in-Temporary-clause-goes g c = journaled c.in-Temporary.is (c.journaled.
 
 pub returns-in-None-clause-shown : goal.returns-in-None-clause-shown
 returns-in-None-clause-shown g c = λ t.
-    behind_run g.F.Files _ c.args.files c.run-status.new.files g.C.Caller.tells _ _ _ (looks_of c.args.host.now.term.now) _ (scene_on g.C.Caller g.O.Sink g.E.Sink c.args.host.now) _ _ ((refl, λ e. refl, wrote_none _ _ refl), refl) (c.run-status.ensures.shown t)
+    behind_run g.F.Files g.L.Files _ c.args.files c.run-status.new.files _ (files_view g.F.Files c.args.files, files_view g.L.Files c.args.lockfiles) _ g.C.Caller.tells _ _ _ (looks_of c.args.host.now.term.now) _ (scene_on g.C.Caller g.O.Sink g.E.Sink c.args.host.now) _ _ (ready_now g.F.Files g.L.Files _ _) refl refl ((refl, λ e. refl, wrote_none _ _ refl), refl) (c.run-status.ensures.shown t)
 
 pub returns-in-Permanent-clause-shown : goal.returns-in-Permanent-clause-shown
 returns-in-Permanent-clause-shown g c = λ t.
-    behind_run g.F.Files _ c.args.files c.run-status-in-Permanent.new.files g.C.Caller.tells _ _ _ (looks_of c.args.host.now.term.now) _ (scene_on g.C.Caller g.O.Sink g.E.Sink c.args.host.now) _ _ ((refl, λ e. refl, wrote_none _ _ refl), refl) (c.run-status-in-Permanent.ensures.shown t)
+    behind_run g.F.Files g.L.Files _ c.args.files c.run-status-in-Permanent.new.files _ (files_view g.F.Files c.args.files, files_view g.L.Files c.args.lockfiles) _ g.C.Caller.tells _ _ _ (looks_of c.args.host.now.term.now) _ (scene_on g.C.Caller g.O.Sink g.E.Sink c.args.host.now) _ _ (ready_now g.F.Files g.L.Files _ _) refl refl ((refl, λ e. refl, wrote_none _ _ refl), refl) (c.run-status-in-Permanent.ensures.shown t)
 
 pub returns-in-Restore-clause-shown : goal.returns-in-Restore-clause-shown
 returns-in-Restore-clause-shown g c = λ t. unperformed ((refl, λ e. refl, wrote_none _ _ refl), refl)

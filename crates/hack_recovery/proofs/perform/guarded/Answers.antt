@@ -40,7 +40,13 @@ returns-then-not-is_back-clause-shown g c = λ t. unperformed (only_lines g.C.Ca
 
 pub returns-else-not-is_back-clause-shown : goal.returns-else-not-is_back-clause-shown
 returns-else-not-is_back-clause-shown g c = λ t.
-    behind_lines g.F.Files _ g.C.Caller.tells _ _ _ (looks_of c.take_back.new.host.term.now) _ (scene_on g.C.Caller g.O.Sink g.E.Sink c.args.host.now) (scene_on g.C.Caller g.O.Sink g.E.Sink c.take_back.new.host) _
+    let unkept = g.U.Unkept.told c.args.unkept in
+    let locks = g.K.Locks.shown c.args.keepers.now.locks in
+    let guards = g.G.Guards.shown c.args.keepers.now.guards in
+    let first : Scene = scene_of g.F.Files g.L.Files g.U.Unkept g.C.Caller g.O.Sink c.args.files c.args.lockfiles c.args.unkept locks guards c.args.host.now in
+    let at : Scene = scene_of g.F.Files g.L.Files g.U.Unkept g.C.Caller g.O.Sink c.take_back.new.files c.take_back.new.lockfiles c.args.unkept locks guards c.take_back.new.host in
+    behind_lines g.F.Files g.L.Files _ g.C.Caller.tells _ _ _ (at.files, at.lockfiles) _ _ (looks_of c.take_back.new.host.term.now) _ (scene_on g.C.Caller g.O.Sink g.E.Sink c.args.host.now) (scene_on g.C.Caller g.O.Sink g.E.Sink c.take_back.new.host) _
+    (taken_back (places_view c.args.begun.places) first at (rw c.if-not-is_back.false at (c.in-Ok.ensures.goes unkept locks guards)) refl refl)
     (only_lines g.C.Caller g.O.Sink g.E.Sink c.args.host.now c.take_back.new.host c.in-Ok.ensures.lines c.in-Ok.ensures.still) (rw c.in-Ok.ensures.host.env at (c.go_on.ensures.shown t))
 
 pub returns-in-Err-clause-shown : goal.returns-in-Err-clause-shown

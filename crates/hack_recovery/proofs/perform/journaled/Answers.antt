@@ -7,6 +7,7 @@ use Rattle.hack_recovery.specs.Scenes.{Scene, scene_by, scene_of}
 use Rattle.hack_run.specs.Shown.{looks_of, scene_at, scene_on}
 use Rattle.hack_recovery.proofs.SaidLemmas.{behind_lines, only_lines}
 use Rattle.hack_recovery.specs.ShownCalls.SaysWhole.{unperformed}
+use Rattle.hack_recovery.proofs.LaneLemmas.{ready_now}
 use Rattle.hack_recovery.specs.LaneCalls.{unperformed}
 use Rattle.hack_recovery.proofs.perform.journaled.Goals as goal
 
@@ -22,8 +23,8 @@ returns-in-Err-clause-goes g c = λ locks. unwatched (g.G.Guards.shown c.start.n
 
 pub returns-in-Ok-clause-shown : goal.returns-in-Ok-clause-shown
 returns-in-Ok-clause-shown g c = λ t.
-    behind_lines g.F.Files _ g.C.Caller.tells _ _ _ (looks_of c.args.host.now.term.now) _ (scene_on g.C.Caller g.O.Sink g.E.Sink c.args.host.now) (scene_at (g.C.Caller.calls c.args.host.now.caller.now) g.O.Sink g.E.Sink c.args.host.now.out.now c.tell_watch.new.err) _
-    ((refl, λ e. refl, c.tell_watch.ensures), refl) (c.copied-ended.ensures.shown t)
+    behind_lines g.F.Files g.L.Files _ g.C.Caller.tells _ _ _ (files_view g.F.Files c.args.files, files_view g.L.Files c.args.lockfiles) _ _ (looks_of c.args.host.now.term.now) _ (scene_on g.C.Caller g.O.Sink g.E.Sink c.args.host.now) (scene_at (g.C.Caller.calls c.args.host.now.caller.now) g.O.Sink g.E.Sink c.args.host.now.out.now c.tell_watch.new.err) _
+    (ready_now g.F.Files g.L.Files _ _) ((refl, λ e. refl, c.tell_watch.ensures), refl) (c.copied-ended.ensures.shown t)
 
 pub returns-in-Err-clause-shown : goal.returns-in-Err-clause-shown
 returns-in-Err-clause-shown g c = λ t. unperformed (only_lines g.C.Caller g.O.Sink g.E.Sink c.args.host.now c.report.new.host c.report.ensures.lines c.report.ensures.still)

@@ -1,4 +1,4 @@
-use Rattle.std.proofs.Common.{refl, subst}
+use Rattle.std.proofs.Common.{refl, string_bytes, subst}
 use Rattle.hack_base.specs.Names.{names_of}
 use Rattle.hack_journal.specs.Rows.{Spot}
 use Rattle.hack_journaled.proofs.JournalLemmas.{edits_between}
@@ -7,7 +7,10 @@ use Rattle.hack_recovery.specs.Scenes.{Scene, scene_of}
 use Rattle.hack_base.proofs.StreamLemmas.{wrote_none}
 use Rattle.hack_run.specs.Shown.{looks_of, scene_on}
 use Rattle.hack_recovery.specs.ShownCalls.SaysWhole.{journaled}
-use Rattle.hack_recovery.proofs.LaneLemmas.{closed_quiet, lanes_by_error}
+use Rattle.hack_recovery.proofs.LaneLemmas.{closed_quiet, lanes_by_error, ready_now}
+use Rattle.hack_recovery.specs.Ready.{Both}
+use Rattle.hack_files.specs.View.{files_view}
+use Rattle.hack_places.specs.PlacesView.{places_view}
 use Rattle.hack_recovery.proofs.perform.over_journal.Goals as goal
 
 pub returns-clause-goes : goal.returns-clause-goes
@@ -31,9 +34,11 @@ returns-clause-goes g c = λ locks guards.
 
 pub returns-clause-shown : goal.returns-clause-shown
 returns-clause-shown g c = λ t.
-    journaled (scene_on g.C.Caller g.O.Sink g.E.Sink c.args.host.now) (scene_on g.C.Caller g.O.Sink g.E.Sink c.run_journaled-files.new.host)
-    (looks_of c.args.host.now.term.now) (looks_of c.run_journaled-files.new.host.term.now) _ _
-    ((refl, λ e. refl, wrote_none _ _ refl), refl) (c.run_journaled-files.ensures.shown t) ((refl, λ e. refl, c.close.ensures.lines.1), c.close.ensures.lines.0)
+    let at : Both = (files_view g.F.Files c.args.files, files_view g.L.Files c.args.lockfiles) in
+    let ran : Both = (files_view g.F.Files c.run_journaled-files.result.1, files_view g.L.Files c.run_journaled-files.result.2) in
+    journaled at ran (string_bytes c.args.begun.place.journal) (places_view c.args.begun.places).copy (scene_on g.C.Caller g.O.Sink g.E.Sink c.args.host.now) (scene_on g.C.Caller g.O.Sink g.E.Sink c.run_journaled-files.new.host)
+    (looks_of c.args.host.now.term.now) (looks_of c.run_journaled-files.new.host.term.now) (ready_now g.F.Files g.L.Files _ _)
+    ((refl, λ e. refl, wrote_none _ _ refl), refl) (c.run_journaled-files.ensures.shown t) c.close.ensures.others refl (refl, λ e. refl, c.close.ensures.lines.0) c.close.ensures.lines.1
 
 pub returns-clause-in_lanes : goal.returns-clause-in_lanes
 returns-clause-in_lanes g c =

@@ -13,7 +13,7 @@ use Rattle.hack_recovery.proofs.CallLemmas.{plain_course, unseen_course}
 use Rattle.std.proofs.lemmas.Bool.{cases_Bool}
 use Rattle.hack_base.proofs.StreamLemmas.{wrote_none}
 use Rattle.hack_run.specs.Shown.{looks_of, scene_on}
-use Rattle.hack_recovery.proofs.SaidLemmas.{behind_run, only_lines}
+use Rattle.hack_recovery.proofs.SaidLemmas.{behind_lines, behind_run, only_lines}
 use Rattle.hack_recovery.specs.ShownCalls.SaysWhole.{unperformed}
 use Rattle.hack_recovery.proofs.LaneLemmas.{asked_to, behind, in_lanes_or_not, restore_is}
 use Rattle.hack_recovery.specs.AskedEdits.{AsksForEdits}
@@ -115,7 +115,10 @@ returns-in-Err-Unseen-clause-goes g c =
     (λ off. came.runs off lockfiles unkept locks guards)
 
 pub returns-in-Ok-Guarded-clause-shown : goal.returns-in-Ok-Guarded-clause-shown
-returns-in-Ok-Guarded-clause-shown g c = c.guarded.ensures.shown
+returns-in-Ok-Guarded-clause-shown g c = λ t.
+    behind_lines g.F.Files g.L.Files _ g.C.Caller.tells _ _ _ (files_view g.F.Files c.begin.new.files, files_view g.L.Files c.args.lockfiles) _ _ (looks_of c.args.host.now.term.now) _ _
+    (scene_on g.C.Caller g.O.Sink g.E.Sink c.args.host.now) _
+    (looked_at (record { same = c.in-Ok.ensures.same; untraced = c.in-Ok.ensures.untraced }) refl) ((refl, λ e. refl, wrote_none _ _ refl), refl) (c.guarded.ensures.shown t)
 
 pub returns-in-Err-clause-shown : goal.returns-in-Err-clause-shown
 returns-in-Err-clause-shown g c = λ t. unperformed (only_lines g.C.Caller g.O.Sink g.E.Sink c.args.host.now c.report.new.host c.report.ensures.lines c.report.ensures.still)
@@ -126,16 +129,16 @@ returns-in-Err-Memory-clause-shown g c = λ t. unperformed (only_lines g.C.Calle
 pub returns-in-Ok-Plain-clause-shown : goal.returns-in-Ok-Plain-clause-shown
 returns-in-Ok-Plain-clause-shown g c = λ t. elim (cases_Bool (is_restore c.in-Ok.begun.edits)) [
   | inl on ↦ unperformed (only_lines g.C.Caller g.O.Sink g.E.Sink c.args.host.now c.plainly-status.new.host (c.plainly-status.ensures.lines on) (c.plainly-status.ensures.still on))
-  | inr off ↦ behind_run g.F.Files _ c.begin.new.files c.plainly-status.new.files g.C.Caller.tells _ _ _ (looks_of c.args.host.now.term.now) _ (scene_on g.C.Caller g.O.Sink g.E.Sink c.args.host.now) _ _
-      ((refl, λ e. refl, wrote_none _ _ refl), refl) (c.plainly-status.ensures.shown off t)
+  | inr off ↦ behind_run g.F.Files g.L.Files _ c.begin.new.files c.plainly-status.new.files _ (files_view g.F.Files c.begin.new.files, files_view g.L.Files c.args.lockfiles) _ g.C.Caller.tells _ _ _ (looks_of c.args.host.now.term.now) _ (scene_on g.C.Caller g.O.Sink g.E.Sink c.args.host.now) _ _
+      (looked_at (record { same = c.in-Ok.ensures.same; untraced = c.in-Ok.ensures.untraced }) refl) refl refl ((refl, λ e. refl, wrote_none _ _ refl), refl) (c.plainly-status.ensures.shown off t)
 ]
 
 pub returns-in-Err-Unseen-clause-shown : goal.returns-in-Err-Unseen-clause-shown
 returns-in-Err-Unseen-clause-shown g c = λ t. elim (cases_Bool (is_change c.in-Err-Unseen.asked.edits)) [
   | inl on ↦ unperformed (only_lines g.C.Caller g.O.Sink g.E.Sink c.args.host.now c.blindly-status.new.host (c.blindly-status.ensures.lines on) (c.blindly-status.ensures.still on))
   | inr off ↦ let said = c.blindly-status.ensures.shown off t in
-      behind_run g.F.Files _ c.begin.new.files c.blindly-status.new.files g.C.Caller.tells _ _ _ (looks_of c.args.host.now.term.now) _ (scene_on g.C.Caller g.O.Sink g.E.Sink c.args.host.now) said.0 _
-      (said.1, refl) said.2
+      behind_run g.F.Files g.L.Files _ c.begin.new.files c.blindly-status.new.files _ (files_view g.F.Files c.begin.new.files, files_view g.L.Files c.args.lockfiles) _ g.C.Caller.tells _ _ _ (looks_of c.args.host.now.term.now) _ (scene_on g.C.Caller g.O.Sink g.E.Sink c.args.host.now) said.0 _
+      (looked_at (record { same = c.in-Err-Unseen.ensures.same; untraced = c.in-Err-Unseen.ensures.untraced }) refl) refl refl (said.1, refl) said.2
 ]
 
 pub returns-in-Ok-Plain-clause-in_lanes : goal.returns-in-Ok-Plain-clause-in_lanes

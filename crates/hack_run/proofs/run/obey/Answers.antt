@@ -110,10 +110,10 @@ returns-in-Args-clause-shown g c = λ t.
     c.in-Args.is c.dress.ensures.error c.dress.ensures.verbose c.dress.ensures.coloring c.tell_all.ensures.noted c.tell_all.ensures.shown (c.perform.ensures.shown t)
 
 pub returns-in-Print-clause-shown : goal.returns-in-Print-clause-shown
-returns-in-Print-clause-shown g c = λ t. rw c.in-Print.is (rw c.as_str.ensures.value at c.print.ensures.shown, refl, refl, refl)
+returns-in-Print-clause-shown g c = λ t. rw c.in-Print.is (refl, rw c.as_str.ensures.value at c.print.ensures.shown, refl, refl, refl)
 
 pub returns-in-List-clause-shown : goal.returns-in-List-clause-shown
-returns-in-List-clause-shown g c = λ t. rw c.in-List.is (c.tell_all-in-List.ensures.shown, ap looks_of c.tell_all-in-List.ensures.noted, refl, c.list_commands.ensures.comes t)
+returns-in-List-clause-shown g c = λ t. rw c.in-List.is (refl, c.tell_all-in-List.ensures.shown, ap looks_of c.tell_all-in-List.ensures.noted, refl, c.list_commands.ensures.comes t)
 
 pub returns-in-Args-clause-lasting : goal.returns-in-Args-clause-lasting
 returns-in-Args-clause-lasting g c = obeys_left _ g.F.Files.tells g.C.Caller.tells c.in-Args.args c.args.parsed c.args.host.now.env.now _ _ _ c.in-Args.is c.perform.ensures.lasting

@@ -99,10 +99,10 @@ returns-in-Accepted-clause-shown g c = λ t.
 pub returns-in-Refused-clause-shown : goal.returns-in-Refused-clause-shown
 returns-in-Refused-clause-shown g c = λ t.
     let after = rw c.in-Refused.is at c.in_ok-parsed.ensures.read in
-    inl (inl (record { error = c.in-Refused.fault; rustup = after.rustup; asked = after.asked t; reason = after.reason t; read = after.read; came_to = refl; ends = refl; streams = refl }))
+    inl (refl, inl (record { error = c.in-Refused.fault; rustup = after.rustup; asked = after.asked t; reason = after.reason t; read = after.read; came_to = refl; ends = refl; streams = refl }))
 
 pub returns-in_err-parsed-clause-shown : goal.returns-in_err-parsed-clause-shown
-returns-in_err-parsed-clause-shown g c = λ t. inl (inr (search rules, c.reading_of.ensures.may t, refl, refl))
+returns-in_err-parsed-clause-shown g c = λ t. inl (refl, inr (search rules, c.reading_of.ensures.may t, refl, refl))
 
 pub returns-in-Accepted-clause-stood : goal.returns-in-Accepted-clause-stood
 returns-in-Accepted-clause-stood g c =

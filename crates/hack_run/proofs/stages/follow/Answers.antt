@@ -120,13 +120,13 @@ returns-in_err-edit-clause-in_lanes g c = inl (g.C.Caller.course_none _, inl ref
 pub returns-in_err-cx-clause-shown : goal.returns-in_err-cx-clause-shown
 returns-in_err-cx-clause-shown g c = λ t.
     let e = c.in_err-cx.ensures.error in
-    unloaded e.0 e.2 (search rules) (record { unseen = g.F.Files.unseen_none _; refused = g.F.Files.refuses_none _ }) (ap looks_of c.in_err-cx.ensures.untold.0) (ap (scene_at (g.C.Caller.calls c.args.host.now.caller.now) g.O.Sink g.E.Sink c.args.host.now.out.now) c.in_err-cx.ensures.untold.1)
+    unloaded e.0 e.2 (search rules) refl (ap looks_of c.in_err-cx.ensures.untold.0) (ap (scene_at (g.C.Caller.calls c.args.host.now.caller.now) g.O.Sink g.E.Sink c.args.host.now.out.now) c.in_err-cx.ensures.untold.1)
 
 pub returns-in_err-edit-clause-shown : goal.returns-in_err-edit-clause-shown
 returns-in_err-edit-clause-shown g c = λ t.
     let e = c.in_err-edit.ensures.error in
     let p = err_from_is_err_and c.from_residual-in_err-edit.result c.from_residual-in_err-edit.ensures.1 in
-    unedited (context_view c.in_ok-cx.cx) (stream_of g.E.Sink c.context.new.err) c.in_ok-cx.ensures.ok c.in_ok-cx.ensures.shown e.0 e.2 e.3 (p.1 ∙ ap Err (p.2 ∙ e.1))
+    unedited (context_view c.in_ok-cx.cx) (stream_of g.E.Sink c.context.new.err) c.in_ok-cx.ensures.ok c.in_ok-cx.ensures.shown e.0 e.2 e.3 c.in_err-edit.ensures.begun (p.1 ∙ ap Err (p.2 ∙ e.1))
     (ap looks_of (c.in_err-edit.ensures.untold.0 ∙ c.in_ok-cx.ensures.told)) (ap (scene_at (g.C.Caller.calls c.args.host.now.caller.now) g.O.Sink g.E.Sink c.args.host.now.out.now) c.in_err-edit.ensures.untold.1)
 
 pub returns-in_err-stable-clause-shown : goal.returns-in_err-stable-clause-shown

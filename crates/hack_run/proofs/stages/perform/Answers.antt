@@ -158,6 +158,7 @@ returns-clause-shown g c = λ t.
       reasoned = stream_of g.E.Sink c.tell_reason_of.new.err;
       reason = rw (← same_coloring) c.tell_reason_of.ensures;
       failed = c.finish.result;
+      tried = c.finish.ensures.tried;
       back = rw (← c.unwritten.ensures) (rw (← same_coloring) (rw (← same_verbose) c.finish.ensures.shown));
       ends = looks_back c.follow-came.new.host.term.now c.finish.new.term c.finish.result c.finish.ensures.term c.finish.ensures.noted;
     }
