@@ -154,7 +154,7 @@ puts_then_safe s o t u v m n w f g = record {
 }
 
 -- after a look that changed nothing
-pub look_then_puts : (s : Spot) (o : Contents) (t u v : List Change) (m n w : Contents) → Makes [] t u m n → PutsBackOrSafe s o u v n w → PutsBackOrSafe s o t v m w
+look_then_puts : (s : Spot) (o : Contents) (t u v : List Change) (m n w : Contents) → Makes [] t u m n → PutsBackOrSafe s o u v n w → PutsBackOrSafe s o t v m w
 look_then_puts s o t u v m n w look g = record {
   added = g.added;
   makes = makes_append [] g.added t u v m n w look g.makes;
@@ -187,9 +187,6 @@ safe_cut_by s o es m h = record {
 -- safe files are so too where a write may have been cut
 pub safe_cut : (s : Spot) (o m : Contents) → IsSafe s o m → IsSafeOrCut s o m
 safe_cut s o m h = record { entries = h.entries; by = safe_cut_by s o h.entries m h.by }
-
-pub cut_none : (s : Spot) (o : Contents) (t u : List Change) (m n : Contents) → Makes [] t u m n → IsSafeOrCut s o m → StaysSafeOrCut s o t u m n
-cut_none s o t u m n h safe = record { added = []; makes = h; fronts = fronts_none (IsSafeOrCut s o) m safe }
 
 -- what is put back leaves the row
 nears_own : (j : List ℕ) (o m n : Contents) → Nears j o m n → (q : List ℕ) → is_of_journal j q ≡ true → n q ≡ m q
@@ -270,6 +267,12 @@ pub safe_at : (s : Spot) (o : Contents) (c : ℕ) (es : List Edit) (m : Contents
 safe_at s o c es m h read =
     let is = row_only s m c es h.entries read h.by.row in
     subst (λ (l : List Edit). (by : IsSafeOrCutBy s o l m) × (by.row.count ≡ c)) (sym is.1) (h.by, is.0)
+
+-- after looks that changed nothing, what the row keeps is put back
+pub looked_puts : (s : Spot) (o : Contents) (c : ℕ) (es : List Edit) (t u v : List Change) (m n w : Contents) → IsSafeOrCut s o m → IsRowRead s m c es → Makes [] t u m n → ((by : IsSafeOrCutBy s o es n) → by.row.count ≡ c → PutsBackOrSafe s o u v n w) → PutsBackOrSafe s o t v m w
+looked_puts s o c es t u v m n w h read looks f =
+    let at = subst (λ (x : Contents). (by : IsSafeOrCutBy s o es x) × (by.row.count ≡ c)) (sym looks.holds) (safe_at s o c es m h read) in
+    look_then_puts s o t u v m n w looks (f at.0 at.1)
 
 -- a path of no entry holds what it held
 pub backs_other : (es : List Edit) (m : Contents) (q : List ℕ) → ¬ HasEntry es q → after (backs es) m q ≡ m q
