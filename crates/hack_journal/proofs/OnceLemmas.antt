@@ -6,6 +6,7 @@ use Rattle.hack_files.specs.Files.{Contents}
 use Rattle.hack_journal.specs.Journal.{Edit, lines, content_text, edit_text, edits_text, journal_text}
 use Rattle.hack_journal.specs.Rows.{Spot, AreFirst, IsRowOf, IsTextOf, placed}
 use Rattle.hack_journal.specs.SafeFiles.{IsSafe}
+use Rattle.hack_journal.specs.CutFiles.{IsSafeOrCut}
 use Rattle.hack_journal.specs.Strangers.{NamesNone, first_stranger}
 use Rattle.hack_journal.specs.Internal.{BeginsWithoutSpace}
 use Rattle.hack_journal.proofs.RowLemmas.{same_count}
@@ -82,3 +83,7 @@ row_one s m es fs h k =
 -- where files are safe, the journal names no stranger
 pub none_strange : (s : Spot) (o m : Contents) → IsSafe s o m → NamesNone s m
 none_strange s o m h edits row = ap first_stranger (row_one s m edits h.entries row h.by.row) ∙ h.by.known
+
+-- nor where a write may have been cut
+pub cut_none_strange : (s : Spot) (o m : Contents) → IsSafeOrCut s o m → NamesNone s m
+cut_none_strange s o m h edits row = ap first_stranger (row_one s m edits h.entries row h.by.row) ∙ h.by.known

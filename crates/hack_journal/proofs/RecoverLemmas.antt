@@ -1,5 +1,5 @@
 -- What a journal keeps is put back.
-use Rattle.std.proofs.Common.{◌≡◌, ◌≢◌, ◌⊎◌, ◌<◌, ◌+◌, ◌-◌, ◌^◌, inl, inr, ℕ, suc, List, [], ◌∷◌, ◌++◌, Option, Some, None, refl, sym, ◌∙◌, subst, ap, append-nil, append_assoc, add-one, true, Result, Ok, Err, OnOk, IfOk, IfErr, false, cond, arith}
+use Rattle.std.proofs.Common.{◌≡◌, ◌≢◌, ◌⊎◌, ◌<◌, ◌+◌, ◌-◌, ◌^◌, inl, inr, ℕ, suc, List, [], ◌∷◌, ◌++◌, Option, Some, None, refl, sym, ◌∙◌, subst, ap, append-nil, append_assoc, add-one, take, true, Result, Ok, Err, OnOk, IfOk, IfErr, false, cond, arith}
 use Rattle.std.specs.Prelude.{IsSome, string_bytes}
 use Rattle.std.specs.Str.{bytes_eq}
 use Rattle.std.proofs.Math.Path.{fun_ext}
@@ -12,17 +12,18 @@ use Rattle.hack_files.specs.declared.fs.FsFault.TheVariants as fs
 use Rattle.hack_journal.specs.Journal.{Edit, journal_text, HaveTextPaths}
 use Rattle.hack_journal.specs.Rows.{Spot, AreFirst, AreRead, IsFresh, IsRowOf, IsRowRead, KeepsBeside, file_at, is_of_journal, placed}
 use Rattle.hack_journal.specs.SafeFiles.{gives, SomeEntryHasBytes, KeepFirst, IsSafe, IsSafeBy, StaysSafe, AreBack, first_entry_of}
+use Rattle.hack_journal.specs.CutFiles.{IsSafeOrCut, IsSafeOrCutBy, StaysSafeOrCut}
 use Rattle.hack_journal.specs.Recovery.{HasEntry, AgreesOnHeld, AreOfCall, AreTold, AreChanged, Restored, IsNoJournal, IsReached, IsWhy, IsWhyUnread, IsJournalRefusal, IsOwn, NamesPath, IsJournalOrItsEntry}
-use Rattle.hack_journal.specs.Internal.{AddsChanged, AddsIfOther, HoldsNoText, IsBackBut, IsRead, IsReadMore, IsWhyNotTold, IsWhyTorn, NamesNoJournal, FailsAt, backs}
+use Rattle.hack_journal.specs.Internal.{AddsChanged, AddsIfOther, HoldsNoText, IsBackBut, IsRead, IsReadMore, IsWhyNotTold, IsWhyTorn, NamesNoJournal, Nears, PutsBack, PutsBackOrSafe, FailsAt, backs}
 use Rattle.hack_journal.specs.declared.recover.RecoverFault.{RecoverFault}
 use Rattle.hack_journal.specs.declared.recover.RecoverFault.TheVariants.{Memory, NotJournal, Changed, Files}
-use Rattle.hack_journal.specs.SafeLaws.{fresh_less, stay_none, stay_append}
+use Rattle.hack_journal.specs.SafeLaws.{fresh_less, fronts_append, fronts_none, makes_append, makes_none, stay_none, stay_append}
 use Rattle.hack_journal.specs.Strangers.{first_stranger}
 use Rattle.hack_journal.proofs.ChangeLemmas.{makes_here, makes_others, changed_other}
 use Rattle.hack_journal.proofs.FinishLemmas.{all_same}
 use Rattle.hack_journal.proofs.KnownLemmas.{known_left}
 use Rattle.hack_journal.proofs.RowLemmas.{all_first, apart_from, file_differ, file_zero, first_along, first_there, fresh_apart, fresh_changed, own_file, row_of, row_only, there_not_none}
-use Rattle.hack_journal.proofs.SafeLemmas.{keeps_left, stay_one, First, first_keeps}
+use Rattle.hack_journal.proofs.SafeLemmas.{keeps_left, fronts_one, stay_one, First, first_keeps}
 
 -- ---- reading
 
@@ -93,44 +94,159 @@ no_call s m c es some h not =
           not (subst (λ (l : List Edit). AreOfCall s.journal l l) (sym is) call),
     )
 
-pub safe_by : (j : Spot) (o : Contents) (es : List Edit) (m : Contents) → IsSafeBy j o es m → IsSafe j o m
-safe_by j o es m s = record { entries = es; by = s }
+-- ---- putting back
 
--- a path is put back
-back_made : (s : Spot) (o : Contents) (es : List Edit) (p : List ℕ) (x : Option (List ℕ)) (t u : List Change) (m n : Contents) → Makes (gives p x ∷ []) t u m n → IsSafeBy s o es m → o p ≡ x → is_of_journal s.journal p ≡ false → IsSafeBy s o es n
-back_made s o es p x t u m n makes h held out =
-    let here = makes_here t u (gives p x) m n makes in
-    let others : KeepsOthers p m n = makes_others t u (gives p x) m n makes in
-    let own : (q : List ℕ) → is_of_journal s.journal q ≡ true → n q ≡ m q = λ q is. others q (λ e. let y : true ≡ false = sym is ∙ ap (is_of_journal s.journal) e ∙ out in cc) in
+puts_none : (j : List ℕ) (o : Contents) (t u : List Change) (m n : Contents) → Makes [] t u m n → PutsBack j o t u m n
+puts_none j o t u m n h = record {
+  added = [];
+  makes = h;
+  fronts = fronts_none (Nears j o m) m (λ q. inl refl);
+  last = λ q. inl (ap (λ f. f q) h.holds);
+}
+
+-- a path is given what it held at first
+nears_one : (j : List ℕ) (o : Contents) (p : List ℕ) (x : Option (List ℕ)) (m : Contents) → o p ≡ x → is_of_journal j p ≡ false → Nears j o m (after_change (gives p x) m)
+nears_one j o p x m held out q = elim (cases_Bool (bytes_eq p q)) [
+  | inl t ↦ let is = (bytes_eq-Decides p q).0 t in inr (ap (is_of_journal j) (sym is) ∙ out, ap (λ b. cond b x (m q)) t ∙ sym held ∙ ap o is)
+  | inr f ↦ inl (ap (λ b. cond b x (m q)) f)
+]
+
+pub puts_or_not : (j : List ℕ) (o : Contents) (p : List ℕ) (x : Option (List ℕ)) (t u : List Change) (m n : Contents) → MakesOrNot (gives p x) t u m n → o p ≡ x → is_of_journal j p ≡ false → PutsBack j o t u m n
+puts_or_not j o p x t u m n makes held out = elim makes [
+  | inl none ↦ puts_none j o t u m n none
+  | inr made ↦ record {
+    added = gives p x ∷ [];
+    makes = made;
+    fronts = fronts_one (Nears j o m) (gives p x) m (λ q. inl refl) (nears_one j o p x m held out);
+    last = subst (Nears j o m) (sym made.holds) (nears_one j o p x m held out);
+  }
+]
+
+pub puts_nothing : (j : List ℕ) (o : Contents) (t : List Change) (m : Contents) → PutsBack j o t t m m
+puts_nothing j o t m = puts_none j o t t m m (makes_none t m)
+
+nears_then : (j : List ℕ) (o m n w : Contents) → Nears j o m n → Nears j o n w → Nears j o m w
+nears_then j o m n w f g q = elim (g q) [
+  | inl same ↦ elim (f q) [ inl is ↦ inl (same ∙ is) | inr back ↦ inr (back.0, same ∙ back.1) ]
+  | inr back ↦ inr back
+]
+
+-- several steps, one after another
+pub puts_then : (j : List ℕ) (o : Contents) (t u v : List Change) (m n w : Contents) → PutsBack j o t u m n → PutsBack j o u v n w → PutsBack j o t v m w
+puts_then j o t u v m n w f g = record {
+  added = f.added ++ g.added;
+  makes = makes_append f.added g.added t u v m n w f.makes g.makes;
+  fronts = fronts_append f.added g.added (Nears j o m) m f.fronts
+      (λ k. subst (λ (x : Contents). Nears j o m (after (take k g.added) x)) f.makes.holds (nears_then j o m n (after (take k g.added) n) f.last (g.fronts k)));
+  last = nears_then j o m n w f.last g.last;
+}
+
+pub puts_safe : (s : Spot) (o : Contents) (t u : List Change) (m n : Contents) → PutsBack s.journal o t u m n → PutsBackOrSafe s o t u m n
+puts_safe s o t u m n f = record { added = f.added; makes = f.makes; fronts = λ k. inl (f.fronts k) }
+
+-- and then the row is removed
+pub puts_then_safe : (s : Spot) (o : Contents) (t u v : List Change) (m n w : Contents) → PutsBack s.journal o t u m n → StaysSafe s o u v n w → PutsBackOrSafe s o t v m w
+puts_then_safe s o t u v m n w f g = record {
+  added = f.added ++ g.added;
+  makes = makes_append f.added g.added t u v m n w f.makes g.makes;
+  fronts = fronts_append f.added g.added (λ x. Nears s.journal o m x ⊎ IsSafe s o x) m (λ k. inl (f.fronts k))
+      (λ k. inr (subst (λ (x : Contents). IsSafe s o (after (take k g.added) x)) f.makes.holds (g.fronts k)));
+}
+
+-- after a look that changed nothing
+look_then_puts : (s : Spot) (o : Contents) (t u v : List Change) (m n w : Contents) → Makes [] t u m n → PutsBackOrSafe s o u v n w → PutsBackOrSafe s o t v m w
+look_then_puts s o t u v m n w look g = record {
+  added = g.added;
+  makes = makes_append [] g.added t u v m n w look g.makes;
+  fronts = λ k. subst (λ (x : Contents). Nears s.journal o x (after (take k g.added) x) ⊎ IsSafe s o (after (take k g.added) x)) look.holds (g.fronts k);
+}
+
+-- ---- files where a write may have been cut
+
+has_of : (es : List Edit) (q : List ℕ) (x : Option (List ℕ)) → SomeEntryHasBytes es q x → HasEntry es q
+has_of [] q x h = absurd h
+has_of (e ∷ es) q x h = elim h [ inl fit ↦ inl fit.0 | inr told ↦ inr (has_of es q x told) ]
+
+has_own : (es : List Edit) (q : List ℕ) (x : Option (List ℕ)) → IsOwn es q x → HasEntry es q
+unfolding IsOwn
+has_own es q x h = elim h [ inl told ↦ has_of es q x told | inr cut ↦ has_of es q (Some cut.0) cut.3 ]
+
+own_told : (es : List Edit) (q : List ℕ) (x : Option (List ℕ)) → SomeEntryHasBytes es q x → IsOwn es q x
+unfolding IsOwn
+own_told es q x h = inl h
+
+safe_cut_by : (s : Spot) (o : Contents) (es : List Edit) (m : Contents) → IsSafeBy s o es m → IsSafeOrCutBy s o es m
+safe_cut_by s o es m h = record {
+  row = h.row;
+  fresh = h.fresh;
+  known = h.known;
+  keeps = h.keeps;
+  holds = λ q out. elim (h.holds q out) [ inl same ↦ inl same | inr told ↦ inr (own_told es q (m q) told) ];
+}
+
+-- safe files are so too where a write may have been cut
+pub safe_cut : (s : Spot) (o m : Contents) → IsSafe s o m → IsSafeOrCut s o m
+safe_cut s o m h = record { entries = h.entries; by = safe_cut_by s o h.entries m h.by }
+
+-- what is put back leaves the row
+nears_own : (j : List ℕ) (o m n : Contents) → Nears j o m n → (q : List ℕ) → is_of_journal j q ≡ true → n q ≡ m q
+nears_own j o m n h q own = elim (h q) [ inl same ↦ same | inr back ↦ absurd (false≢true (sym back.0 ∙ own)) ]
+
+nears_cut : (s : Spot) (o : Contents) (es : List Edit) (m n : Contents) → Nears s.journal o m n → IsSafeOrCutBy s o es m → IsSafeOrCutBy s o es n
+nears_cut s o es m n near h =
+    let own = nears_own s.journal o m n near in
     let file : (i : ℕ) → n (file_at s.journal i) ≡ m (file_at s.journal i) = λ i. own (file_at s.journal i) (own_file s.journal i) in
     record {
       row = record { count = h.row.count; files = first_along s m n h.row.count es (λ i lt. file i) h.row.files; ends = file h.row.count ∙ h.row.ends };
       fresh = fresh_apart s.journal h.row.count o m n own h.fresh;
       known = h.known;
       keeps = h.keeps;
-      holds = λ q other. elim (cases_Bool (bytes_eq p q)) [
-        | inl t ↦ let is = (bytes_eq-Decides p q).0 t in inl (subst (λ (r : List ℕ). n r ≡ o r) is (here ∙ sym held))
-        | inr f ↦ let same = others q (λ e. let y : true ≡ false = sym ((bytes_eq-Decides p q).1 (sym e)) ∙ f in cc) in
-            elim (h.holds q other) [ inl is ↦ inl (same ∙ is) | inr told ↦ inr (subst (SomeEntryHasBytes es q) (sym same) told) ]
+      holds = λ q out. elim (near q) [
+        | inl same ↦ elim (h.holds q out) [ inl is ↦ inl (same ∙ is) | inr told ↦ inr (subst (IsOwn es q) (sym same) told) ]
+        | inr back ↦ inl back.1
       ];
     }
 
-pub back_safe : (s : Spot) (o : Contents) (es : List Edit) (p : List ℕ) (x : Option (List ℕ)) (t u : List Change) (m n : Contents) → MakesOrNot (gives p x) t u m n → IsSafeBy s o es m → o p ≡ x → is_of_journal s.journal p ≡ false → StaysSafe s o t u m n × IsSafeBy s o es n
-back_safe s o es p x t u m n makes h held out = elim makes [
-  | inl none ↦ (stay_none s o t u m n none (safe_by s o es m h), subst (λ (f : Contents). IsSafeBy s o es f) (sym none.holds) h)
-  | inr made ↦ let now = back_made s o es p x t u m n made h held out in (stay_one s o (gives p x) t u m n made (safe_by s o es m h) (safe_by s o es n now), now)
-]
+-- where no write was cut, each path holds what it held at first, or bytes that an entry has
+nears_safe : (s : Spot) (o m n : Contents) → Nears s.journal o m n → IsSafe s o m → IsSafe s o n
+unfolding nears_cut safe_cut_by
+nears_safe s o m n near h =
+    let by = nears_cut s o h.entries m n near (safe_cut_by s o h.entries m h.by) in
+    record {
+      entries = h.entries;
+      by = record {
+        row = by.row;
+        fresh = by.fresh;
+        known = by.known;
+        keeps = by.keeps;
+        holds = λ q out. elim (near q) [
+          | inl same ↦ elim (h.by.holds q out) [ inl is ↦ inl (same ∙ is) | inr told ↦ inr (subst (SomeEntryHasBytes h.entries q) (sym same) told) ]
+          | inr back ↦ inl back.1
+        ];
+      };
+    }
 
--- several steps, one after another
-pub join_safe : (s : Spot) (o : Contents) (es : List Edit) (t u v : List Change) (m n w : Contents) → StaysSafe s o t u m n × IsSafeBy s o es n → (IsSafeBy s o es n → StaysSafe s o u v n w × IsSafeBy s o es w) → StaysSafe s o t v m w × IsSafeBy s o es w
-join_safe s o es t u v m n w a f = let b = f a.1 in (stay_append s o t u v m n w a.0 b.0, b.1)
+-- from safe files
+pub puts_stay : (s : Spot) (o : Contents) (t u : List Change) (m n : Contents) → IsSafe s o m → PutsBackOrSafe s o t u m n → StaysSafe s o t u m n
+puts_stay s o t u m n h f = record {
+  added = f.added;
+  makes = f.makes;
+  fronts = λ k. elim (f.fronts k) [ inl near ↦ nears_safe s o m (after (take k f.added) m) near h | inr safe ↦ safe ];
+}
+
+-- the same where a write may have been cut
+pub puts_stay_cut : (s : Spot) (o : Contents) (t u : List Change) (m n : Contents) → IsSafeOrCut s o m → PutsBackOrSafe s o t u m n → StaysSafeOrCut s o t u m n
+puts_stay_cut s o t u m n h f = record {
+  added = f.added;
+  makes = f.makes;
+  fronts = λ k. elim (f.fronts k) [
+    | inl near ↦ record { entries = h.entries; by = nears_cut s o h.entries m (after (take k f.added) m) near h.by }
+    | inr safe ↦ safe_cut s o (after (take k f.added) m) safe
+  ];
+}
 
 pub after_along : (cs : List Change) (m n w : Contents) → KeepsAll m n → KeepsAll (after cs n) w → KeepsAll (after cs m) w
 after_along cs m n w h k = subst (λ (f : Contents). KeepsAll (after cs f) w) (all_same m n h) k
-
-has_of : (es : List Edit) (q : List ℕ) (x : Option (List ℕ)) → SomeEntryHasBytes es q x → HasEntry es q
-has_of [] q x h = absurd h
-has_of (e ∷ es) q x h = elim h [ inl fit ↦ inl fit.0 | inr told ↦ inr (has_of es q x told) ]
 
 backs_at : (j : List ℕ) (o : Contents) (es : List Edit) (m : Contents) (q : List ℕ) → KeepFirst j o es → (m q ≡ o q) ⊎ HasEntry es q → after (backs es) m q ≡ o q
 backs_at j o [] m q k h = elim h [ inl same ↦ same | inr has ↦ absurd has ]
@@ -143,14 +259,20 @@ backs_at j o (e ∷ es) m q k h = backs_at j o es (after_change (gives e.path e.
 ])
 
 -- what all entries keep is put back: each path holds what it held at first
-pub backs_first : (s : Spot) (o : Contents) (es : List Edit) (m : Contents) → IsSafeBy s o es m → (q : List ℕ) → is_of_journal s.journal q ≡ false → after (backs es) m q ≡ o q
-backs_first s o es m h q out = backs_at s.journal o es m q h.keeps (elim (h.holds q out) [ inl same ↦ inl same | inr told ↦ inr (has_of es q (m q) told) ])
+pub backs_first : (s : Spot) (o : Contents) (es : List Edit) (m : Contents) → IsSafeOrCutBy s o es m → (q : List ℕ) → is_of_journal s.journal q ≡ false → after (backs es) m q ≡ o q
+backs_first s o es m h q out = backs_at s.journal o es m q h.keeps (elim (h.holds q out) [ inl same ↦ inl same | inr own ↦ inr (has_own es q (m q) own) ])
 
 -- the entries that were read are those that the journal has
-pub safe_at : (s : Spot) (o : Contents) (c : ℕ) (es : List Edit) (m : Contents) → IsSafe s o m → IsRowRead s m c es → (by : IsSafeBy s o es m) × (by.row.count ≡ c)
+pub safe_at : (s : Spot) (o : Contents) (c : ℕ) (es : List Edit) (m : Contents) → IsSafeOrCut s o m → IsRowRead s m c es → (by : IsSafeOrCutBy s o es m) × (by.row.count ≡ c)
 safe_at s o c es m h read =
     let is = row_only s m c es h.entries read h.by.row in
-    subst (λ (l : List Edit). (by : IsSafeBy s o l m) × (by.row.count ≡ c)) (sym is.1) (h.by, is.0)
+    subst (λ (l : List Edit). (by : IsSafeOrCutBy s o l m) × (by.row.count ≡ c)) (sym is.1) (h.by, is.0)
+
+-- after looks that changed nothing, what the row keeps is put back
+pub looked_puts : (s : Spot) (o : Contents) (c : ℕ) (es : List Edit) (t u v : List Change) (m n w : Contents) → IsSafeOrCut s o m → IsRowRead s m c es → Makes [] t u m n → ((by : IsSafeOrCutBy s o es n) → by.row.count ≡ c → PutsBackOrSafe s o u v n w) → PutsBackOrSafe s o t v m w
+looked_puts s o c es t u v m n w h read looks f =
+    let at = subst (λ (x : Contents). (by : IsSafeOrCutBy s o es x) × (by.row.count ≡ c)) (sym looks.holds) (safe_at s o c es m h read) in
+    look_then_puts s o t u v m n w looks (f at.0 at.1)
 
 -- a path of no entry holds what it held
 pub backs_other : (es : List Edit) (m : Contents) (q : List ℕ) → ¬ HasEntry es q → after (backs es) m q ≡ m q
@@ -287,21 +409,23 @@ never_not_told j tells es m n (Changed p q) t same told why refusal = why.2 t (s
 never_not_told j tells es m n (Files f) t same told why refusal = refusal
 
 -- where files are safe, the row is that of a call
-pub safe_journal : (s : Spot) (o m : Contents) → IsSafe s o m → IsNoJournal s m → ⊥
+pub safe_journal : (s : Spot) (o m : Contents) → IsSafeOrCut s o m → IsNoJournal s m → ⊥
 safe_journal s o m h unread = unread.2 h.entries (call_of s.journal o h.entries h.by.keeps h.entries h.by.keeps) h.by.row
 
+pub never_cut_no_journal : (s : Spot) (tells : Type 0) (o m : Contents) (fault : RecoverFault) → tells → IsWhyUnread s tells m fault → IsSafeOrCut s o m → IsJournalRefusal fault → ⊥
+never_cut_no_journal s tells o m Memory t why h refusal = refusal
+never_cut_no_journal s tells o m (NotJournal p) t why h refusal = safe_journal s o m h (why.1 t)
+never_cut_no_journal s tells o m (Changed p q) t why h refusal = why
+never_cut_no_journal s tells o m (Files f) t why h refusal = refusal
+
 pub never_no_journal : (s : Spot) (tells : Type 0) (o m : Contents) (fault : RecoverFault) → tells → IsWhyUnread s tells m fault → IsSafe s o m → IsJournalRefusal fault → ⊥
-never_no_journal s tells o m Memory t why h refusal = refusal
-never_no_journal s tells o m (NotJournal p) t why h refusal = safe_journal s o m h (why.1 t)
-never_no_journal s tells o m (Changed p q) t why h refusal = why
-never_no_journal s tells o m (Files f) t why h refusal = refusal
+never_no_journal s tells o m fault t why h = never_cut_no_journal s tells o m fault t why (safe_cut s o m h)
 
 -- where files are safe, the path of each entry holds what a call left there
-pub safe_told : (s : Spot) (o : Contents) (es : List Edit) (m : Contents) → IsSafeBy s o es m → AreTold es es m
-unfolding IsOwn
+pub safe_told : (s : Spot) (o : Contents) (es : List Edit) (m : Contents) → IsSafeOrCutBy s o es m → AreTold es es m
 safe_told s o es m h q has =
     let first = tells_first s.journal o es q h.keeps has in
-    inl (elim (h.holds q first.0) [ inl same ↦ subst (SomeEntryHasBytes es q) (sym same) first.1 | inr told ↦ told ])
+    elim (h.holds q first.0) [ inl same ↦ own_told es q (m q) (subst (SomeEntryHasBytes es q) (sym same) first.1) | inr own ↦ own ]
 
 -- ---- the paths that held something else
 
@@ -387,7 +511,7 @@ backs_own : (s : Spot) (o : Contents) (es : List Edit) (m : Contents) (q : List 
 backs_own s o es m q keeps own = backs_other es m q (λ has. false≢true (sym (tells_first s.journal o es q keeps has).0 ∙ own))
 
 -- from safe files each path holds again what it held at first
-pub comes_back_of : (s : Spot) (o : Contents) (c : ℕ) (es : List Edit) (m n w : Contents) → n ≡ m → (by : IsSafeBy s o es m) → by.row.count ≡ c → KeepsBeside s.journal c (after (backs es) n) w → ((i : ℕ) → i < c → w (file_at s.journal i) ≡ None) → KeepsAll o w
+pub comes_back_of : (s : Spot) (o : Contents) (c : ℕ) (es : List Edit) (m n w : Contents) → n ≡ m → (by : IsSafeOrCutBy s o es m) → by.row.count ≡ c → KeepsBeside s.journal c (after (backs es) n) w → ((i : ℕ) → i < c → w (file_at s.journal i) ≡ None) → KeepsAll o w
 comes_back_of s o c es m n w same by is back gone =
     let all = back_at s.journal c es es m n w refl same back in
     let fresh : IsFresh s.journal c o m = subst (λ (k : ℕ). IsFresh s.journal k o m) is by.fresh in
@@ -427,7 +551,7 @@ last_or_not s o c t u m n low makes h = elim makes [
 ]
 
 -- where all is put back, only the row is left
-pub back_but_of : (s : Spot) (o : Contents) (c : ℕ) (es : List Edit) (m n : Contents) → (by : IsSafeBy s o es m) → by.row.count ≡ c → KeepsAll (after (backs es) m) n → IsBackBut s o c n
+pub back_but_of : (s : Spot) (o : Contents) (c : ℕ) (es : List Edit) (m n : Contents) → (by : IsSafeOrCutBy s o es m) → by.row.count ≡ c → KeepsAll (after (backs es) m) n → IsBackBut s o c n
 back_but_of s o c es m n by is back =
     let own : (q : List ℕ) → is_of_journal s.journal q ≡ true → n q ≡ m q = λ q t. back q ∙ backs_own s o es m q by.keeps t in
     let file : (i : ℕ) → n (file_at s.journal i) ≡ m (file_at s.journal i) = λ i. own (file_at s.journal i) (own_file s.journal i) in
@@ -472,7 +596,7 @@ pub on_err_always : {R E : Type 0} {P : Type 0} (r : Result R E) → P → IfErr
 on_err_always (Ok x) p = tt
 on_err_always (Err e) p = p
 
-pub safe_none : (s : Spot) (o m n : Contents) → IsSafe s o m → m s.journal ≡ None → KeepsAll m n → KeepsAll o n
+pub safe_none : (s : Spot) (o m n : Contents) → IsSafeOrCut s o m → m s.journal ≡ None → KeepsAll m n → KeepsAll o n
 safe_none s o m n h none same =
     let row = h.by.row in
     let zero : row.count ≡ 0 = elim (eqb_tells row.count 0) [
@@ -482,6 +606,6 @@ safe_none s o m n h none same =
     let empty : AreFirst s m 0 h.entries = subst (λ (c : ℕ). AreFirst s m c h.entries) zero row.files in
     let fresh : IsFresh s.journal 0 o m = subst (λ (c : ℕ). IsFresh s.journal c o m) zero h.by.fresh in
     all_first s.journal 0 o m n fresh
-    (λ q out. same q ∙ elim (h.by.holds q out) [ inl is ↦ is | inr told ↦ absurd (subst (λ (l : List Edit). SomeEntryHasBytes l q (m q)) empty told) ])
+    (λ q out. same q ∙ elim (h.by.holds q out) [ inl is ↦ is | inr own ↦ absurd (has_own [] q (m q) (subst (λ (l : List Edit). IsOwn l q (m q)) empty own)) ])
     (λ i lt. absurd (omega (arith, lt)))
     (λ q own beside. same q)

@@ -45,7 +45,7 @@ tells_last [] e = inl (refl, inr refl)
 tells_last (x ∷ es) e = inr (tells_last es e)
 
 -- a property of the files before and after one change is one of each front of it
-fronts_one : (P : Contents → Type 0) (c : Change) (m : Contents) → P m → P (after_change c m) → (k : ℕ) → P (after (take k (c ∷ [])) m)
+pub fronts_one : (P : Contents → Type 0) (c : Change) (m : Contents) → P m → P (after_change c m) → (k : ℕ) → P (after (take k (c ∷ [])) m)
 fronts_one P c m h g zero = h
 fronts_one P c m h g (suc k) = fronts_none P (after_change c m) g k
 

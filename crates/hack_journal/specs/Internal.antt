@@ -1,11 +1,11 @@
 -- What only private functions of the crate promise each other.
-use Rattle.std.specs.Prelude.{◌≡◌, ◌≢◌, ◌⊎◌, ◌++◌, [], ◌∷◌, ℕ, false, true, List, Option, Some, None, IsSome, string_bytes}
+use Rattle.std.specs.Prelude.{◌≡◌, ◌≢◌, ◌⊎◌, ◌++◌, [], ◌∷◌, ℕ, false, true, List, Option, Some, None, IsSome, string_bytes, take}
 use Rattle.hack_base.specs.Counters.{GrowsBy}
-use Rattle.hack_files.specs.Files.{Change, Contents, Makes}
+use Rattle.hack_files.specs.Files.{Change, Contents, Makes, after}
 use Rattle.hack_files.specs.declared.fs.FsFault.TheVariants as fs
 use Rattle.hack_journal.specs.Journal.{Edit}
 use Rattle.hack_journal.specs.Rows.{Spot, AreFirst, IsFresh, IsTextOf, file_at, is_of_journal}
-use Rattle.hack_journal.specs.SafeFiles.{KeepFirst, StaysSafe, gives, changes_besides, IsJournaled, first_entry_of}
+use Rattle.hack_journal.specs.SafeFiles.{KeepFirst, IsSafe, StaysSafe, gives, changes_besides, IsJournaled, first_entry_of}
 use Rattle.hack_journal.specs.Strangers.{first_stranger, is_edit_of_manifest}
 use Rattle.hack_journal.specs.declared.recover.RecoverFault.{RecoverFault}
 use Rattle.hack_journal.specs.declared.recover.RecoverFault.TheVariants.{Memory, NotJournal, Changed, Files}
@@ -140,6 +140,24 @@ pub record AddsChanged (old new : Contents) (es : List Edit) (before now : List 
 -- each path that isn't set aside for the journal holds what it held at first
 abbrev pub IsAllBack : List ℕ → Contents → Contents → Type 0
 IsAllBack journal first now = (q : List ℕ) → is_of_journal journal q ≡ false → now q ≡ first q
+
+-- each path holds what it held, or again what it held at first and isn't set aside for the journal
+abbrev pub Nears : List ℕ → Contents → Contents → Contents → Type 0
+Nears journal first old now =
+    (q : List ℕ) → (now q ≡ old q) ⊎ ((is_of_journal journal q ≡ false) × (now q ≡ first q))
+
+-- changes were made, and after every front of them each path holds one of these
+pub record PutsBack (journal : List ℕ) (first : Contents) (old_trace new_trace : List Change) (old new : Contents) : Type 0 where
+  pub added : List Change
+  pub makes : Makes added old_trace new_trace old new
+  pub fronts : (k : ℕ) → Nears journal first old (after (take k added) old)
+  pub last : Nears journal first old new
+
+-- changes were made, and after every front of them each path holds one of these, or the files are safe
+pub record PutsBackOrSafe (spot : Spot) (first : Contents) (old_trace new_trace : List Change) (old new : Contents) : Type 0 where
+  pub added : List Change
+  pub makes : Makes added old_trace new_trace old new
+  pub fronts : (k : ℕ) → Nears spot.journal first old (after (take k added) old) ⊎ IsSafe spot first (after (take k added) old)
 
 -- all is put back but the row, which has `count` files
 pub record IsBackBut (spot : Spot) (first : Contents) (count : ℕ) (now : Contents) : Type 0 where

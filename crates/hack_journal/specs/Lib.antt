@@ -4,6 +4,7 @@ pub mod Strangers
 pub mod SafeFiles
 pub mod SafeLaws
 pub mod Recovery
+pub mod CutFiles
 pub mod LockfilesApart
 pub mod FileCalls
 pub mod Internal

@@ -5,15 +5,16 @@ ghost use Rattle.std.specs.Prelude.{IfOk, IfErr, OnOk, string_bytes};
 ghost use Rattle.hack_base.specs.Names.{names_of};
 ghost use Rattle.hack_files.specs.Files.{Contents, KeepsAll, KeepsOthers, Makes, MakesOrNot};
 ghost use Rattle.hack_files.specs.Files.{after, after_change};
-ghost use Rattle.hack_journal.specs.Journal.{Edit, edit_of, edits_of};
+ghost use Rattle.hack_journal.specs.Journal.{edit_of, edits_of};
 ghost use Rattle.hack_journal.specs.Rows.{Spot, spot_of, file_at, IsBeside, KeepsBeside};
-ghost use Rattle.hack_journal.specs.SafeFiles.{IsSafe, IsSafeBy, StaysSafe, KeepFirst};
-ghost use Rattle.hack_journal.specs.SafeFiles.{gives};
+ghost use Rattle.hack_journal.specs.SafeFiles.{IsSafe, StaysSafe, KeepFirst, gives};
+ghost use Rattle.hack_journal.specs.CutFiles.{IsSafeOrCut, IsSafeOrCutBy, StaysSafeOrCut};
 ghost use Rattle.hack_journal.specs.Recovery.{AreTold, AreChanged, IsRestored, IsWhy, HasEntry};
 ghost use Rattle.hack_journal.specs.Recovery.{IsJournalRefusal, IsFailureCounted, IsOwn};
 ghost use Rattle.hack_journal.specs.FailedCalls.{FailsOnlySo};
 ghost use Rattle.hack_journal.specs.Internal.{AddsChanged, AddsIfOther, backs, FailsAt};
 ghost use Rattle.hack_journal.specs.Internal.{FaultsAtPath, IsBackBut, IsMemoryRefused};
+ghost use Rattle.hack_journal.specs.Internal.{PutsBack, PutsBackOrSafe};
 ghost use Rattle.hack_journal.specs.Internal.{IsWhyNotTold, IsWriteFault};
 ghost use Rattle.hack_journal.specs.Recovery.{KeepsNoEntry, SparesOthers};
 
@@ -213,12 +214,10 @@ fn put_all_back<F: Files>(
         KeepFirst journal first (edits_of entries.now) →
         AddsChanged (F.bytes_at files.old) (F.bytes_at files.new) (edits_of entries.now)
         (names_of paths.old.items) (names_of paths.new.items)) }
-    ensures safe { F.whole → (spot : Spot) (first : Contents) (edits : List Edit) →
-        IsSafeBy spot first edits (F.bytes_at files.old) →
-        KeepFirst spot.journal first (edits_of entries.now) →
-        StaysSafe spot first (F.trace files.old) (F.trace files.new)
-        (F.bytes_at files.old) (F.bytes_at files.new) ×
-        IsSafeBy spot first edits (F.bytes_at files.new) }
+    ensures safe { F.whole → (journal : List ℕ) (first : Contents) →
+        KeepFirst journal first (edits_of entries.now) →
+        PutsBack journal first (F.trace files.old) (F.trace files.new)
+        (F.bytes_at files.old) (F.bytes_at files.new) }
     ensures others { F.tells → KeepsNoEntry (edits_of entries.now)
         (F.bytes_at files.old) (F.bytes_at files.new) }
     ensures fault { IfErr result (λ fault. ¬ IsJournalRefusal fault) }
@@ -287,9 +286,9 @@ fn take_back<F: Files>(
         AreChanged (F.bytes_at files.old) (F.bytes_at files.new)
         (edits_of row.now.entries.items) (names_of paths.items)) }
     ensures safe { F.tells → F.whole → (first : Contents)
-        (by : IsSafeBy (spot_of place.now) first (edits_of row.now.entries.items)
+        (by : IsSafeOrCutBy (spot_of place.now) first (edits_of row.now.entries.items)
         (F.bytes_at files.old)) → by.row.count ≡ row.now.count →
-        StaysSafe (spot_of place.now) first (F.trace files.old) (F.trace files.new)
+        PutsBackOrSafe (spot_of place.now) first (F.trace files.old) (F.trace files.new)
         (F.bytes_at files.old) (F.bytes_at files.new) }
     ensures others { F.tells → (path : List ℕ)
         → IsBeside (string_bytes place.now.journal) row.now.count path
@@ -331,6 +330,10 @@ pub fn recover<F: Files>(
     ensures comes_back { OnOk result (F.tells → (first : Contents) →
         IsSafe (spot_of place.now) first (F.bytes_at files.old) →
         KeepsAll first (F.bytes_at files.new)) }
+    // So it does where a write over a path was cut.
+    ensures back_after_cut { OnOk result (F.tells → (first : Contents) →
+        IsSafeOrCut (spot_of place.now) first (F.bytes_at files.old) →
+        KeepsAll first (F.bytes_at files.new)) }
     // An error says why not, and names the paths.
     ensures why { IfErr result (IsWhy (spot_of place.now) F.tells (F.bytes_at files.old)) }
     // Whatever the error is, no path is changed but the row's and those of its entries, and these
@@ -343,10 +346,17 @@ pub fn recover<F: Files>(
     // What an interrupted call left is never refused.
     ensures never { IfErr result (λ fault. IsJournalRefusal fault → F.tells → (first : Contents) →
         ¬ IsSafe (spot_of place.now) first (F.bytes_at files.old)) }
+    ensures never_after_cut { IfErr result (λ fault. IsJournalRefusal fault → F.tells →
+        (first : Contents) → ¬ IsSafeOrCut (spot_of place.now) first (F.bytes_at files.old)) }
     // It may be interrupted too, at any moment.
     ensures safe { F.tells → F.whole → (first : Contents) →
         IsSafe (spot_of place.now) first (F.bytes_at files.old) →
         StaysSafe (spot_of place.now) first (F.trace files.old) (F.trace files.new)
+        (F.bytes_at files.old) (F.bytes_at files.new) }
+    // Also where a write over a path was cut before: the row goes only once each path is back.
+    ensures safe_after_cut { F.tells → F.whole → (first : Contents) →
+        IsSafeOrCut (spot_of place.now) first (F.bytes_at files.old) →
+        StaysSafeOrCut (spot_of place.now) first (F.trace files.old) (F.trace files.new)
         (F.bytes_at files.old) (F.bytes_at files.new) }
 {
     let Some(row) = row_at(alloc, files, place)? else {

@@ -5,25 +5,24 @@ use Rattle.hack_files.specs.Files.{KeepsAll, after}
 use Rattle.hack_journal.specs.Internal.{AddsChanged, backs}
 use Rattle.hack_journal.specs.Journal.{edit_of, edits_of}
 use Rattle.hack_journal.specs.SafeFiles.{KeepFirst}
-use Rattle.hack_journal.specs.SafeLaws.{makes_none, stay_none}
-use Rattle.hack_journal.proofs.RecoverLemmas.{adds_step, after_along, back_safe, join_safe, on_two, safe_by}
+use Rattle.hack_journal.proofs.RecoverLemmas.{adds_step, after_along, on_two, puts_nothing, puts_or_not, puts_then}
 use Rattle.hack_journal.specs.declared.journal.Entry.{Entry}
 use Rattle.hack_journal.proofs.recover.+put_all_back.Goals as goal
 
 pub returns-in_err-put_back-in-Some-clause-safe : goal.returns-in_err-put_back-in-Some-clause-safe
-returns-in_err-put_back-in-Some-clause-safe g t c = λ whole s first es safe keeps.
+returns-in_err-put_back-in-Some-clause-safe g t c = λ whole j first keeps.
     let e : c.args.entries.now ≡ c.in-Some.entry.now ∷ c.in-Some.rest.now = search rules in
-    let k = subst (λ (l : List Entry). KeepFirst s.journal first (edits_of l)) e keeps in
-    back_safe s first es _ _ _ _ _ _ (c.in_err-put_back-in-Some.ensures.made whole) safe k.0 k.1
+    let k = subst (λ (l : List Entry). KeepFirst j first (edits_of l)) e keeps in
+    puts_or_not j first _ _ _ _ _ _ (c.in_err-put_back-in-Some.ensures.made whole) k.0 k.1
 
 pub returns-in-None-clause-safe : goal.returns-in-None-clause-safe
-returns-in-None-clause-safe g t c = λ whole s first es safe keeps. (stay_none s first _ _ _ _ (makes_none _ _) (safe_by s first es _ safe), safe)
+returns-in-None-clause-safe g t c = λ whole j first keeps. puts_nothing j first _ _
 
 pub returns-in_ok-put_back-in-Some-clause-safe : goal.returns-in_ok-put_back-in-Some-clause-safe
-returns-in_ok-put_back-in-Some-clause-safe g t c = λ whole s first es safe keeps.
+returns-in_ok-put_back-in-Some-clause-safe g t c = λ whole j first keeps.
     let e : c.args.entries.now ≡ c.in-Some.entry.now ∷ c.in-Some.rest.now = search rules in
-    let k = subst (λ (l : List Entry). KeepFirst s.journal first (edits_of l)) e keeps in
-    join_safe s first es _ _ _ _ _ _ (back_safe s first es _ _ _ _ _ _ (c.in_ok-put_back-in-Some.ensures.made whole) safe k.0 k.1) (λ now. c.put_all_back.ensures.safe whole s first es now k.3)
+    let k = subst (λ (l : List Entry). KeepFirst j first (edits_of l)) e keeps in
+    puts_then j first _ _ _ _ _ _ (puts_or_not j first _ _ _ _ _ _ (c.in_ok-put_back-in-Some.ensures.made whole) k.0 k.1) (c.put_all_back.ensures.safe whole j first k.3)
 
 pub returns-in_ok-put_back-in-Some-clause-back : goal.returns-in_ok-put_back-in-Some-clause-back
 returns-in_ok-put_back-in-Some-clause-back g t c =

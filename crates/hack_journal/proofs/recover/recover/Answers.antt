@@ -1,14 +1,12 @@
-use Rattle.std.proofs.Common.{◌≡◌, ◌∙◌, ap, sym, subst, [], inr}
-use Rattle.std.proofs.lemmas.Result.{err_from_is_err_and, IfErr-weaker}
-use Rattle.hack_files.specs.Files.{Contents}
+use Rattle.std.proofs.Common.{◌∙◌, ap, [], inr}
+use Rattle.std.proofs.lemmas.Result.{err_from_is_err_and, on_ok_weaker, IfErr-weaker}
 use Rattle.hack_base.specs.Names.{names_of}
 use Rattle.hack_journal.specs.Journal.{edits_of}
 use Rattle.hack_journal.specs.Rows.{spot_of}
-use Rattle.hack_journal.specs.SafeFiles.{IsSafeBy}
-use Rattle.hack_journal.specs.SafeLaws.{stay_append, stay_none, makes_append}
+use Rattle.hack_journal.specs.SafeLaws.{makes_append}
 use Rattle.hack_journal.proofs.FinishLemmas.{all_same}
 use Rattle.hack_journal.proofs.RowLemmas.{row_of}
-use Rattle.hack_journal.proofs.RecoverLemmas.{safe_at, safe_told, why_unread, why_failed, why_not_told, never_no_journal, never_not_told, told_at, restored_of, comes_back_of, on_err_always, on_three, on_two, safe_none}
+use Rattle.hack_journal.proofs.RecoverLemmas.{looked_puts, never_cut_no_journal, puts_stay, puts_stay_cut, safe_at, safe_cut, safe_told, why_unread, why_failed, why_not_told, never_not_told, told_at, restored_of, comes_back_of, on_err_always, on_three, on_two, safe_none}
 use Rattle.hack_journal.proofs.recover.recover.Goals as goal
 
 pub returns-in_err-row-clause-why : goal.returns-in_err-row-clause-why
@@ -16,17 +14,23 @@ returns-in_err-row-clause-why g c =
     let p = err_from_is_err_and c.from_residual.result c.from_residual.ensures.1 in
     rw (p.1, p.2) (why_unread (spot_of c.args.place.now) g.F.Files.tells (g.F.Files.bytes_at c.args.files.now) _ c.in_err-row.ensures.why)
 
-pub returns-in_err-row-clause-never : goal.returns-in_err-row-clause-never
-returns-in_err-row-clause-never g c =
+pub returns-in_err-row-clause-never_after_cut : goal.returns-in_err-row-clause-never_after_cut
+returns-in_err-row-clause-never_after_cut g c =
     let p = err_from_is_err_and c.from_residual.result c.from_residual.ensures.1 in
-    rw (p.1, p.2) (λ refusal tells first safe. never_no_journal (spot_of c.args.place.now) g.F.Files.tells first (g.F.Files.bytes_at c.args.files.now) _ tells c.in_err-row.ensures.why safe refusal)
+    rw (p.1, p.2) (λ refusal tells first safe. never_cut_no_journal (spot_of c.args.place.now) g.F.Files.tells first (g.F.Files.bytes_at c.args.files.now) _ tells c.in_err-row.ensures.why safe refusal)
 
-pub returns-in_default-clause-comes_back : goal.returns-in_default-clause-comes_back
-returns-in_default-clause-comes_back g c = λ tells first safe.
+pub returns-in_err-row-clause-never : goal.returns-in_err-row-clause-never
+returns-in_err-row-clause-never g c = IfErr-weaker c.from_residual.result _ _ (λ fault never refusal tells first safe. never refusal tells first (safe_cut _ _ _ safe)) (returns-in_err-row-clause-never_after_cut g c)
+
+pub returns-in_default-clause-back_after_cut : goal.returns-in_default-clause-back_after_cut
+returns-in_default-clause-back_after_cut g c = λ tells first safe.
     safe_none (spot_of c.args.place.now) first (g.F.Files.bytes_at c.args.files.now) (g.F.Files.bytes_at c.row_at.new.files) safe (c.in_ok-row.ensures.none c.in_default.is tells) (c.in_ok-row.ensures.same tells)
 
-pub returns-in_err-check_all-clause-never : goal.returns-in_err-check_all-clause-never
-returns-in_err-check_all-clause-never g c =
+pub returns-in_default-clause-comes_back : goal.returns-in_default-clause-comes_back
+returns-in_default-clause-comes_back g c = λ tells first safe. returns-in_default-clause-back_after_cut g c tells first (safe_cut _ _ _ safe)
+
+pub returns-in_err-check_all-clause-never_after_cut : goal.returns-in_err-check_all-clause-never_after_cut
+returns-in_err-check_all-clause-never_after_cut g c =
     let s = spot_of c.args.place.now in
     let es = edits_of c.in-Some.row.entries.items in
     let old = g.F.Files.bytes_at c.args.files.now in
@@ -35,6 +39,9 @@ returns-in_err-check_all-clause-never g c =
     rw (p.1, p.2) (λ refusal tells first safe.
     let by = safe_at s first c.in-Some.row.count es old safe (c.in_ok-row.ensures.some c.in-Some.row c.in-Some.is tells) in
     never_not_told s.journal g.F.Files.tells es old (g.F.Files.bytes_at c.row_at.new.files) _ tells (c.in_ok-row.ensures.same tells) (safe_told s first es old by.0) why refusal)
+
+pub returns-in_err-check_all-clause-never : goal.returns-in_err-check_all-clause-never
+returns-in_err-check_all-clause-never g c = IfErr-weaker c.from_residual-in_err-check_all.result _ _ (λ fault never refusal tells first safe. never refusal tells first (safe_cut _ _ _ safe)) (returns-in_err-check_all-clause-never_after_cut g c)
 
 pub returns-in_err-check_all-clause-why : goal.returns-in_err-check_all-clause-why
 returns-in_err-check_all-clause-why g c =
@@ -61,8 +68,8 @@ returns-clause-restored g c =
           back gone told,
     ))
 
-pub returns-clause-comes_back : goal.returns-clause-comes_back
-returns-clause-comes_back g c =
+pub returns-clause-back_after_cut : goal.returns-clause-back_after_cut
+returns-clause-back_after_cut g c =
     let s = spot_of c.args.place.now in
     let row = c.in-Some.row in
     let es = edits_of row.entries.items in
@@ -72,17 +79,20 @@ returns-clause-comes_back g c =
     let by = safe_at s first row.count es (bytes c.args.files.now) safe (c.in_ok-row.ensures.some row c.in-Some.is tells) in
     comes_back_of s first row.count es (bytes c.args.files.now) (bytes c.check_all.new.files) (bytes c.take_back.new.files) two by.0 by.1 back gone)
 
+pub returns-clause-comes_back : goal.returns-clause-comes_back
+returns-clause-comes_back g c = on_ok_weaker c.take_back.result (λ back tells first safe. back tells first (safe_cut _ _ _ safe)) (returns-clause-back_after_cut g c)
+
 pub returns-clause-safe : goal.returns-clause-safe
 returns-clause-safe g c = λ tells whole first safe.
     let s = spot_of c.args.place.now in
-    let row = c.in-Some.row in
-    let es = edits_of row.entries.items in
-    let bytes = g.F.Files.bytes_at in
-    let read = c.in_ok-row.ensures.some row c.in-Some.is tells in
-    let mid : bytes c.check_all.new.files ≡ bytes c.args.files.now = all_same _ _ (λ q. c.in_ok-check_all.ensures.same tells q ∙ c.in_ok-row.ensures.same tells q) in
-    let by = subst (λ (m : Contents). (by : IsSafeBy s first es m) × (by.row.count ≡ row.count)) (sym mid) (safe_at s first row.count es (bytes c.args.files.now) safe read) in
     let looks = makes_append [] [] _ _ _ _ _ _ (c.in_ok-row.ensures.untraced whole) (c.in_ok-check_all.ensures.untraced whole) in
-    stay_append s first _ _ _ _ _ _ (stay_none s first _ _ _ _ looks safe) (c.take_back.ensures.safe tells whole first by.0 by.1)
+    puts_stay s first _ _ _ _ safe (looked_puts s first c.in-Some.row.count _ _ _ _ _ _ _ (safe_cut s first _ safe) (c.in_ok-row.ensures.some c.in-Some.row c.in-Some.is tells) looks (c.take_back.ensures.safe tells whole first))
+
+pub returns-clause-safe_after_cut : goal.returns-clause-safe_after_cut
+returns-clause-safe_after_cut g c = λ tells whole first safe.
+    let s = spot_of c.args.place.now in
+    let looks = makes_append [] [] _ _ _ _ _ _ (c.in_ok-row.ensures.untraced whole) (c.in_ok-check_all.ensures.untraced whole) in
+    puts_stay_cut s first _ _ _ _ safe (looked_puts s first c.in-Some.row.count _ _ _ _ _ _ _ safe (c.in_ok-row.ensures.some c.in-Some.row c.in-Some.is tells) looks (c.take_back.ensures.safe tells whole first))
 
 pub returns-clause-why : goal.returns-clause-why
 returns-clause-why g c =
@@ -113,3 +123,6 @@ returns-clause-refused g c = IfErr-weaker c.take_back.result _ _ (λ fault not r
 
 pub returns-clause-never : goal.returns-clause-never
 returns-clause-never g c = IfErr-weaker c.take_back.result _ _ (λ fault not refusal. absurd (not refusal)) c.take_back.ensures.fault
+
+pub returns-clause-never_after_cut : goal.returns-clause-never_after_cut
+returns-clause-never_after_cut g c = IfErr-weaker c.take_back.result _ _ (λ fault not refusal. absurd (not refusal)) c.take_back.ensures.fault

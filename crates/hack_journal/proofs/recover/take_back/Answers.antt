@@ -3,9 +3,8 @@ use Rattle.hack_base.specs.Names.{names_of}
 use Rattle.hack_journal.specs.Journal.{edits_of}
 use Rattle.hack_journal.specs.Recovery.{AreChanged}
 use Rattle.hack_journal.specs.Rows.{spot_of}
-use Rattle.hack_journal.specs.SafeLaws.{stay_append}
 use Rattle.hack_files.proofs.FailedLemmas.{none_then}
-use Rattle.hack_journal.proofs.RecoverLemmas.{back_but_of, changed_along}
+use Rattle.hack_journal.proofs.RecoverLemmas.{back_but_of, changed_along, puts_safe, puts_then_safe}
 use Rattle.hack_journal.proofs.RowLemmas.{apart_from}
 use Rattle.hack_journal.proofs.recover.take_back.Goals as goal
 
@@ -25,7 +24,7 @@ returns-clause-told g c = λ tells first keeps.
 pub returns-in_err-put_all_back-clause-safe : goal.returns-in_err-put_all_back-clause-safe
 returns-in_err-put_all_back-clause-safe g c = λ tells whole first by is.
     let safe = rw (ap edits_of c.deref.ensures.value) at c.in_err-put_all_back.ensures.safe in
-    (safe whole (spot_of c.args.place.now) first (edits_of c.args.row.now.entries.items) by by.keeps).0
+    puts_safe (spot_of c.args.place.now) first _ _ _ _ (safe whole (string_bytes c.args.place.now.journal) first by.keeps)
 
 pub returns-in_err-remove_files-clause-safe : goal.returns-in_err-remove_files-clause-safe
 returns-in_err-remove_files-clause-safe g c = λ tells whole first by is.
@@ -35,7 +34,7 @@ returns-in_err-remove_files-clause-safe g c = λ tells whole first by is.
     let safe = rw (ap edits_of c.deref.ensures.value) at c.in_ok-put_all_back.ensures.safe in
     let back = rw (ap edits_of c.deref.ensures.value) at c.in_ok-put_all_back.ensures.back in
     let but = back_but_of s first c.args.row.now.count es (bytes c.args.files.now) (bytes c.put_all_back.new.files) by is (back tells) in
-    stay_append s first _ _ _ _ _ _ (safe whole s first es by by.keeps).0 (c.in_err-remove_files.ensures.safe whole s first (sym c.deref-2.ensures) but)
+    puts_then_safe s first _ _ _ _ _ _ (safe whole s.journal first by.keeps) (c.in_err-remove_files.ensures.safe whole s first (sym c.deref-2.ensures) but)
 
 pub returns-clause-safe : goal.returns-clause-safe
 returns-clause-safe g c = λ tells whole first by is.
@@ -45,7 +44,7 @@ returns-clause-safe g c = λ tells whole first by is.
     let safe = rw (ap edits_of c.deref.ensures.value) at c.in_ok-put_all_back.ensures.safe in
     let back = rw (ap edits_of c.deref.ensures.value) at c.in_ok-put_all_back.ensures.back in
     let but = back_but_of s first c.args.row.now.count es (bytes c.args.files.now) (bytes c.put_all_back.new.files) by is (back tells) in
-    stay_append s first _ _ _ _ _ _ (safe whole s first es by by.keeps).0 (c.in_ok-remove_files.ensures.safe whole s first (sym c.deref-2.ensures) but)
+    puts_then_safe s first _ _ _ _ _ _ (safe whole s.journal first by.keeps) (c.in_ok-remove_files.ensures.safe whole s first (sym c.deref-2.ensures) but)
 
 pub returns-clause-calls : goal.returns-clause-calls
 returns-clause-calls g c = none_then g.F.Files c.args.files.now c.put_all_back.new.files c.remove_files.new.files c.in_ok-put_all_back.ensures.calls c.in_ok-remove_files.ensures.calls
