@@ -2,11 +2,11 @@
 use Rattle.std.proofs.Common.{◌≡◌, ◌∙◌, ℕ, List, [], ap, refl, subst, sym}
 use Rattle.std.specs.Prelude.{Option, Some, None, option_and_then}
 use Rattle.hack_files.specs.Files.{Contents}
-use Rattle.hack_journal.proofs.OnceLemmas.{none_strange}
+use Rattle.hack_journal.proofs.OnceLemmas.{cut_none_strange}
 use Rattle.hack_journal.proofs.RowLemmas.{file_zero, row_of, row_only, same_count}
 use Rattle.hack_journal.specs.Journal.{Edit, edits_of}
 use Rattle.hack_journal.specs.Rows.{AreFirst, IsRowRead, Spot}
-use Rattle.hack_journal.specs.SafeFiles.{IsSafe}
+use Rattle.hack_journal.specs.CutFiles.{IsSafeOrCut}
 use Rattle.hack_journal.specs.Strangers.{NamesNone, NamesStranger, first_stranger}
 use Rattle.hack_journal.specs.declared.rows.Row.{Row}
 
@@ -36,8 +36,8 @@ one_named T s held (Some row) e read one t = record {
 }
 
 -- no interrupted call left a journal that names one
-pub never_strange : (T : Type 0) (s : Spot) (held : Contents) (path : List ℕ) → (T → NamesStranger s held path) → T → (first : Contents) → ¬ IsSafe s first held
+pub never_strange : (T : Type 0) (s : Spot) (held : Contents) (path : List ℕ) → (T → NamesStranger s held path) → T → (first : Contents) → ¬ IsSafeOrCut s first held
 never_strange T s held path named t first safe =
     let n = named t in
-    let y : Some n.edit ≡ None = sym n.first ∙ none_strange s first held safe n.edits n.row in
+    let y : Some n.edit ≡ None = sym n.first ∙ cut_none_strange s first held safe n.edits n.row in
     cc

@@ -8,6 +8,7 @@ use Rattle.hack_files.specs.declared.fs.Files.{Ghosts as Filing}
 use Rattle.hack_journal.specs.Recovery.{CountsRecoverFault, IsJournalRefusal, IsRestored, IsWhy, IsWhyUnread, SparesOthers}
 use Rattle.hack_journal.specs.Refusing.{IsRefused, IsUnseen}
 use Rattle.hack_journal.specs.Rows.{Spot}
+use Rattle.hack_journal.specs.CutFiles.{IsSafeOrCut, StaysSafeOrCut}
 use Rattle.hack_journal.specs.SafeFiles.{IsSafe, StaysSafe}
 use Rattle.hack_journal.specs.Strangers.{NamesNone, NamesStranger}
 use Rattle.hack_journal.specs.declared.recover.RecoverFault.{RecoverFault}
@@ -24,12 +25,14 @@ use Rattle.hack_recovery.specs.declared.fault.CallFault.TheVariants.{Memory, Bus
 
 -- ---- a journal
 
--- what it keeps was brought back: these paths held something else, and the journal is gone
+-- what it keeps was brought back, also where a write was cut: these paths held something else, and the
+-- journal is gone
 pub record Recovers (tells whole : Type 0) (spot : Spot) (paths : List Name) (old new : FilesView) : Type 0 where
   pub failures : GrowsBy 0 old.failed new.failed
   pub restored : tells → IsRestored spot paths old.held new.held
-  pub comes_back : tells → (first : Contents) → IsSafe spot first old.held → KeepsAll first new.held
+  pub comes_back : tells → (first : Contents) → IsSafeOrCut spot first old.held → KeepsAll first new.held
   pub safe : tells → whole → (first : Contents) → IsSafe spot first old.held → StaysSafe spot first old.trace new.trace old.held new.held
+  pub safe_after_cut : tells → whole → (first : Contents) → IsSafeOrCut spot first old.held → StaysSafeOrCut spot first old.trace new.trace old.held new.held
 
 -- it could not be brought back, or not all of it: the error says why, what isn't back is still in the
 -- journal, and no path was changed but the row's and those of its entries, where each held what a call
@@ -40,8 +43,9 @@ pub record FailsToRestore {F : Type 0} (f : Filing F) (spot : Spot) (fault : Rec
   pub why : IsWhy spot f.tells old.held fault
   pub spared : f.tells → SparesOthers spot old.held new.held
   pub refused : IsJournalRefusal fault → f.tells → KeepsAll old.held new.held
-  pub never : IsJournalRefusal fault → f.tells → (first : Contents) → ¬ IsSafe spot first old.held
+  pub never : IsJournalRefusal fault → f.tells → (first : Contents) → ¬ IsSafeOrCut spot first old.held
   pub safe : f.tells → f.whole → (first : Contents) → IsSafe spot first old.held → StaysSafe spot first old.trace new.trace old.held new.held
+  pub safe_after_cut : f.tells → f.whole → (first : Contents) → IsSafeOrCut spot first old.held → StaysSafeOrCut spot first old.trace new.trace old.held new.held
 
 -- what comes of a fault: refused memory is told as that, and after any other it isn't done
 abbrev pub IsToldAs : RecoverFault → Result Bool CallFault → Type 0
@@ -61,7 +65,7 @@ pub data Restores {F : Type 0} (f : Filing F) (spot : Spot) (old new : FilesView
   unread : (fault : RecoverFault) → Unchanged f.tells f.whole old new → CountsRecoverFault old.failed new.failed fault → IsOfFailedPath f fault → IsWhyUnread spot f.tells old.held fault
       → (f.tells → (first : Contents) → IsSafe spot first old.held → came ≡ Ok false → GrowsBy 1 old.failed new.failed) → IsToldAs fault came → Tells was now came
       → Restores f spot old new was now came
-  strange : (path : Name) → Unchanged f.tells f.whole old new → GrowsBy 0 old.failed new.failed → (f.tells → NamesStranger spot old.held path) → (f.tells → (first : Contents) → ¬ IsSafe spot first old.held) → came ≢ Ok true → Tells was now came
+  strange : (path : Name) → Unchanged f.tells f.whole old new → GrowsBy 0 old.failed new.failed → (f.tells → NamesStranger spot old.held path) → (f.tells → (first : Contents) → ¬ IsSafeOrCut spot first old.held) → came ≢ Ok true → Tells was now came
       → Restores f spot old new was now came
   trusted : (at : FilesView) → Unchanged f.tells f.whole old at → GrowsBy 0 old.failed at.failed → (f.tells → NamesNone spot old.held) → IsBroughtBack f spot at new came → Tells was now came
       → Restores f spot old new was now came
