@@ -63,7 +63,7 @@ pub data IsBroughtBack {F : Type 0} (f : Filing F) (spot : Spot) (old new : File
 -- where it isn't back
 pub data Restores {F : Type 0} (f : Filing F) (spot : Spot) (old new : FilesView) (was now : Term) (came : Result Bool CallFault) : Type 0 where
   unread : (fault : RecoverFault) → Unchanged f.tells f.whole old new → CountsRecoverFault old.failed new.failed fault → IsOfFailedPath f fault → IsWhyUnread spot f.tells old.held fault
-      → (f.tells → (first : Contents) → IsSafe spot first old.held → came ≡ Ok false → GrowsBy 1 old.failed new.failed) → IsToldAs fault came → Tells was now came
+      → (f.tells → (first : Contents) → IsSafeOrCut spot first old.held → came ≡ Ok false → GrowsBy 1 old.failed new.failed) → IsToldAs fault came → Tells was now came
       → Restores f spot old new was now came
   strange : (path : Name) → Unchanged f.tells f.whole old new → GrowsBy 0 old.failed new.failed → (f.tells → NamesStranger spot old.held path) → (f.tells → (first : Contents) → ¬ IsSafeOrCut spot first old.held) → came ≢ Ok true → Tells was now came
       → Restores f spot old new was now came
