@@ -1,5 +1,5 @@
 -- Runs side by side, from the first step to the end of what is left.
-use Rattle.std.proofs.Common.{◌≡◌, List, [], ◌++◌, Option, inl, inr, refl, ◌∙◌, ap, subst, sym, append-nil}
+use Rattle.std.proofs.Common.{◌≡◌, List, [], ◌++◌, inl, inr, refl, ◌∙◌, ap, subst, sym, append-nil}
 use Rattle.hack_process.specs.Calls.{Call}
 use Rattle.std.specs.Prelude.{◌⊎◌, Bool, Result, Ok, Err, OnOk, false, true}
 use Rattle.hack_base.specs.Names.{Name}

@@ -1,5 +1,5 @@
 -- Why a version is unknown.
-use Rattle.std.proofs.Common.{◌≡◌, ◌≢◌, inl, inr, refl, [], codes, false, true, Bool, IfErr, IfOk, List, None, OnOk, Option, Ok, Err, Result, Some, ℕ, subst, string_bytes, sym}
+use Rattle.std.proofs.Common.{◌≡◌, ◌≢◌, inl, inr, refl, [], codes, true, Bool, IfErr, IfOk, List, None, OnOk, Option, Ok, Err, Result, Some, subst, sym}
 use Rattle.std.specs.Prelude.{IfSome}
 use Rattle.hack_base.specs.Names.{Name}
 use Rattle.hack_load.proofs.AskLemmas.{fault-told}
@@ -18,7 +18,6 @@ use Rattle.hack_session.specs.StepEffects.{DoesTask, Scene, Task, TriesFirst, ta
 use Rattle.hack_session.specs.Toolchains.{addition_of, trial_of}
 use Rattle.hack_versions.specs.ToolTexts.{rustup_part}
 use Rattle.hack_versions.specs.declared.rustup.Rustup.{Rustup}
-use Rattle.hack_versions.specs.declared.version.Version.{Version}
 use Rattle.hack_words.specs.RustupView.{unknown_of}
 use Rattle.hack_run.specs.Internal.{IsLatest}
 use Rattle.hack_run.specs.Questions.{InstallsStable, IsAnswerReason, IsInstallReason, IsReason, TellsReason, TellsStableReason, rustup_command}

@@ -1,21 +1,19 @@
 -- What a call says, put together from its stages.
-use Rattle.std.proofs.Common.{◌≡◌, ◌⊎◌, ◌∙◌, ◌+◌, ◌∷◌, ℕ, zero, suc, Bool, Err, Global, IfOk, IsOk, List, None, Ok, OnErr, OnOk, Option, Result, Some, String, ap, arith, drop, false, filter, get_or, length, if◌then◌else◌, inl, inr, map, refl, subst, string_bytes, sym, true}
-use Rattle.std.specs.Prelude.{◌<◌, ◌≢◌, ◌↔◌, ◌&&◌, ◌||◌, ◌++◌, [], IfErr, IsTrue, MatchBool, MatchOption, nat_lt, not}
+use Rattle.std.proofs.Common.{◌≡◌, ◌⊎◌, ◌∙◌, ◌+◌, ◌∷◌, ℕ, zero, suc, Bool, Err, Global, IfOk, IsOk, List, None, Ok, OnErr, OnOk, Option, Result, Some, String, ap, arith, drop, false, filter, get_or, length, if◌then◌else◌, inl, lt-ltb, inr, map, refl, subst, string_bytes, sym, true}
+use Rattle.std.specs.Prelude.{◌<◌, ◌↔◌, ◌&&◌, ◌||◌, IfErr, IsTrue, MatchBool, MatchOption, nat_lt, not}
 use Rattle.std.specs.List.{flat_map}
 use Rattle.std.specs.Io.KnownBytes.{Appends, Keeps}
 use Rattle.std.specs.Result.{is_err}
 use Rattle.std.proofs.lemmas.List.{drop_more}
-use Rattle.hack_base.proofs.StreamLemmas.{wrote_none}
 use Rattle.hack_base.proofs.WriteLemmas.{failed-first, failed-later}
 use Rattle.hack_base.specs.Names.{Name}
 use Rattle.hack_base.specs.Notes.{Note}
-use Rattle.hack_base.specs.Streams.{Stream, WritesAll, WritesSome, WritesText, stream_of}
+use Rattle.hack_base.specs.Streams.{Stream, WritesAll, WritesText, stream_of}
 use Rattle.hack_base.specs.Writes.{HasFailed, NoFewer}
 use Rattle.hack_base.specs.declared.writes.Sink.{Ghosts as Taking}
 use Rattle.hack_drive.specs.Answered.{NeedsAnswer}
 use Rattle.hack_drive.specs.Shown.{note_lines}
 use Rattle.hack_drive.specs.Warnings.{TellsNotes, after_notes}
-use Rattle.hack_files.specs.Files.{Contents}
 use Rattle.hack_files.specs.FailedCalls.{NoneFailed}
 use Rattle.hack_files.specs.declared.fs.Files.{Ghosts as Filing}
 use Rattle.hack_load.specs.CargoQuestions.{told_version}
@@ -408,7 +406,7 @@ by_success P (Err e) p ok = absurd (cc)
 -- an error was reported just where one was before, or a write was refused
 error_of : (a b : Bool) (n : ℕ) → (IsTrue b ↔ (IsTrue a ⊎ (0 < n))) → b ≡ (a || nat_lt 0 n)
 error_of true b n iff = iff.1 (inl refl)
-error_of false b (suc n) iff = iff.1 (inr (omega arith))
+error_of false b (suc n) iff = iff.1 (inr (omega arith)) ∙ sym (lt-ltb 0 (suc n) (omega arith))
 error_of false false zero iff = refl
 error_of false true zero iff = elim (iff.0 refl) [
   | inl before ↦ absurd (cc)

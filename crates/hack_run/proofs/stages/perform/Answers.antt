@@ -1,5 +1,5 @@
 use Rattle.std.proofs.Common.{◌≡◌, ◌<◌, ◌∙◌, [], ap, false, inl, inr, refl, true}
-use Rattle.std.specs.Prelude.{Bool, IfOk, not}
+use Rattle.std.specs.Prelude.{IfOk, not}
 use Rattle.hack_load.specs.Answers.{IsLoaded}
 use Rattle.hack_files.specs.Restore.{AreSafe, registered_files}
 use Rattle.std.proofs.Common.{◌++◌}
