@@ -79,7 +79,6 @@ pub(crate) fn keep_copy<F: Files, L: Files, E: Sink>(
 }
 
 /// Reports why these files failed, and returns why the call isn't performed.
-#[tactic(auto, using(hack_files::proofs::WriteBackLemmas::reason_some, hack_base::proofs::StreamLemmas::wrote_none))]
 fn copy_fault<F: Files, E: Sink>(
     alloc: Global,
     fault: FileFault,

@@ -177,7 +177,6 @@ fn tell_fault<E: Sink>(
 }
 
 /// Says why a file couldn't be read or written, where that is the fault.
-#[tactic(auto, using(hack_files::proofs::WriteBackLemmas::reason_some, hack_base::proofs::StreamLemmas::wrote_none))]
 fn tell_reason_of<F: Files, E: Sink>(
     alloc: Global,
     fault: &RecoverFault,

@@ -36,7 +36,13 @@ fn edited(alloc: Global, cx: &Context, scene: &mut Scene) -> Result<String, Allo
     let mut manager = Manager::new(alloc, !cx.args().remove_dev_deps);
     let told = prepare(alloc, cx, &mut scene.files, &mut manager);
     let before = scene.files.inner().steps().len();
-    let failed = finish(manager, None, &mut scene.files, &mut scene.term, &mut scene.err);
+    let failed = finish(
+        manager,
+        None,
+        &mut scene.files,
+        &mut scene.term,
+        &mut scene.err,
+    );
     let mut text = String::new(alloc);
     push_told(&mut text, alloc, told)?;
     let steps = scene.files.inner().steps();

@@ -51,7 +51,7 @@ returns-else-not-is_back-clause-shown g c = λ t.
 
 pub returns-in-Err-clause-shown : goal.returns-in-Err-clause-shown
 returns-in-Err-clause-shown g c = λ t.
-    unperformed (only_more _ (looks_of c.take_back.new.host.term.now) _ (scene_on g.C.Caller g.O.Sink g.E.Sink c.args.host.now) (scene_on g.C.Caller g.O.Sink g.E.Sink c.take_back.new.host) _
+    unperformed (only_more (looks_of c.args.host.now.term.now) (looks_of c.take_back.new.host.term.now) (looks_of c.report.new.host.term.now) (scene_on g.C.Caller g.O.Sink g.E.Sink c.args.host.now) (scene_on g.C.Caller g.O.Sink g.E.Sink c.take_back.new.host) _
     (only_lines g.C.Caller g.O.Sink g.E.Sink c.args.host.now c.take_back.new.host c.in-Err.ensures.lines c.in-Err.ensures.still)
     (only_lines g.C.Caller g.O.Sink g.E.Sink c.take_back.new.host c.report.new.host c.report.ensures.lines c.report.ensures.still))
 
