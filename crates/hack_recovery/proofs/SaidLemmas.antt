@@ -1,5 +1,5 @@
 -- What a whole call says, step by step.
-use Rattle.std.proofs.Common.{◌≡◌, ◌∙◌, ℕ, List, Result, OnOk, false, ap, inl, inr, refl, subst, true}
+use Rattle.std.proofs.Common.{◌≡◌, ◌∙◌, ℕ, List, Result, OnOk, ap, inl, inr, refl, subst, true}
 use Rattle.std.specs.Prelude.{codes}
 use Rattle.std.specs.Io.KnownBytes.{Appends}
 use Rattle.hack_base.proofs.StreamLemmas.{some_more, wrote, wrote_none, wrote_one}

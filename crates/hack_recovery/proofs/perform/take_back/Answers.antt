@@ -3,6 +3,8 @@ use Rattle.hack_files.specs.View.{files_view}
 use Rattle.hack_run.specs.Worlds.{HostView}
 use Rattle.hack_recovery.specs.Restoring.TakesBack.{older_unrestored, settled, unrestored}
 use Rattle.hack_recovery.proofs.WayLemmas.{done_true, not_done}
+use Rattle.hack_base.specs.Streams.{stream_of}
+use Rattle.hack_recovery.proofs.SaidLemmas.{lines_more}
 use Rattle.hack_recovery.proofs.perform.take_back.Goals as goal
 
 pub returns-then-not-is_done-clause-goes : goal.returns-then-not-is_done-clause-goes
@@ -35,3 +37,13 @@ returns-clause-goes g c = λ unkept locks guards.
       told = settled-by.told;
       quiet = record { calls = ap (λ (h : HostView). h.calls) settled-by.view; out = ap (λ (h : HostView). h.out) settled-by.view; fails = ap (λ (h : HostView). h.fails) settled-by.view; unkept = refl; locks = refl; guards = refl };
     })
+
+pub returns-then-not-is_done-2-clause-lines : goal.returns-then-not-is_done-2-clause-lines
+returns-then-not-is_done-2-clause-lines g c =
+    lines_more c.args.host.now.term.now c.restore-journal.new.term c.restore-older.new.term _ (stream_of g.E.Sink c.restore-journal.new.err) _ c.restore-journal.ensures.lines c.restore-older.ensures.lines
+
+pub returns-clause-lines : goal.returns-clause-lines
+returns-clause-lines g c =
+    lines_more c.args.host.now.term.now c.restore-older.new.term c.settle.new.host.term.now _ (stream_of g.E.Sink c.restore-older.new.err) _
+    (lines_more c.args.host.now.term.now c.restore-journal.new.term c.restore-older.new.term _ (stream_of g.E.Sink c.restore-journal.new.err) _ c.restore-journal.ensures.lines c.restore-older.ensures.lines)
+    c.settle.ensures.lines

@@ -7,6 +7,8 @@ use Rattle.hack_recovery.specs.Restoring.Restores.{strange, trusted, unread}
 use Rattle.hack_recovery.proofs.FailedLemmas.{of_failed_path}
 use Rattle.hack_recovery.proofs.StrangerLemmas.{never_strange, none_named, one_named}
 use Rattle.hack_recovery.proofs.TellingLemmas.{look_failed}
+use Rattle.hack_base.proofs.StreamLemmas.{some_more}
+use Rattle.hack_base.specs.Streams.{stream_of}
 use Rattle.hack_recovery.proofs.restore.restore.Goals as goal
 
 pub returns-in-Some-clause-came : goal.returns-in-Some-clause-came
@@ -37,3 +39,7 @@ returns-clause-came g c =
     unread c.in-Err.fault (record { same = c.in-Err.ensures.same; untraced = c.in-Err.ensures.untraced }) counts
     (of_failed_path g.F.Files c.args.files.now c.row_at.new.files c.in-Err.fault c.in-Err.ensures.calls) why
     (λ t first safe off. look_failed spot g.F.Files.tells first held (g.F.Files.failed c.args.files.now) (g.F.Files.failed c.row_at.new.files) c.in-Err.fault c.tell_fault.result t why counts told safe off) told c.tell_fault.ensures.told
+
+pub returns-clause-lines : goal.returns-clause-lines
+returns-clause-lines g c =
+    (c.tell_fault.ensures.lines.0, some_more _ (stream_of g.E.Sink c.tell_reason_of.new.err) _ c.tell_reason_of.ensures c.tell_fault.ensures.lines.1)
