@@ -1,9 +1,10 @@
 -- What a call says, put together from its stages.
 use Rattle.std.proofs.Common.{◌≡◌, ◌⊎◌, ◌∙◌, ◌+◌, ◌∷◌, ℕ, zero, suc, Bool, Err, Global, IfOk, IsOk, List, None, Ok, OnErr, OnOk, Option, Result, Some, String, ap, arith, drop, false, filter, get_or, length, if◌then◌else◌, inl, lt-ltb, inr, map, refl, subst, string_bytes, sym, true}
-use Rattle.std.specs.Prelude.{◌<◌, ◌↔◌, ◌&&◌, ◌||◌, IfErr, IsTrue, MatchBool, MatchOption, nat_lt, not}
+use Rattle.std.specs.Prelude.{◌<◌, ◌↔◌, ◌&&◌, ◌||◌, All, IfErr, IsTrue, MatchBool, MatchOption, nat_lt, not}
 use Rattle.std.specs.List.{flat_map}
 use Rattle.std.specs.Io.KnownBytes.{Appends, Keeps}
 use Rattle.std.specs.Result.{is_err}
+use Rattle.std.proofs.lemmas.Bool.{cases_Bool}
 use Rattle.std.proofs.lemmas.List.{drop_more}
 use Rattle.hack_base.proofs.WriteLemmas.{failed-first, failed-later}
 use Rattle.hack_base.specs.Names.{Name}
@@ -29,7 +30,8 @@ use Rattle.hack_process.specs.declared.fault.ProcessFault.{ProcessFault}
 use Rattle.hack_report.specs.Reported.{SaysCutReport, SaysReport, are_reported}
 use Rattle.hack_plan.specs.View.{PlanView}
 use Rattle.hack_session.specs.Histories.{Course}
-use Rattle.hack_session.specs.ListLines.{is_sent, lines_written}
+use Rattle.hack_session.specs.Internal.{IsListedStep}
+use Rattle.hack_session.specs.ListLines.{has_failed, is_sent, lines_written}
 use Rattle.hack_session.specs.declared.step.Handed.{Handed}
 use Rattle.hack_session.specs.StepEffects.{DoesAll, Scene, State, state}
 use Rattle.hack_session.specs.StepOutput.{Manner, Streams, manner_of}
@@ -52,7 +54,7 @@ use Rattle.hack_run.specs.Handed.{IsPlannedAsAsked, is_hunt, is_search}
 use Rattle.hack_run.specs.Internal.{EndsList, HandsOverAtMostOne, HandsSteps, ListsSteps}
 use Rattle.hack_run.specs.InternalExtensions.{MissesForACause}
 use Rattle.hack_run.specs.Questions.{AsksStable, MayAskStable, TellsStableReason}
-use Rattle.hack_run.specs.Shown.{ComesOfList, ComesOfRuns, ComesOfSearch, HasNoPlan, IsNoPlan, Looks, SaysAfterLoading, SaysItsPlan, SaysList, SaysLoaded, SaysNoPlan, SaysNotes, SaysParsed, SaysPlan, SaysPlanNotes, SaysRuns, SaysStarved, SaysSteps, dressed_by, goes_on, looks_of, manner_for, performed_of, planned, reported_on, scene_with, unasked}
+use Rattle.hack_run.specs.Shown.{ComesOfList, ComesOfRuns, ComesOfSearch, HasNoPlan, IsListed, IsNoPlan, Looks, SaysAfterLoading, SaysItsPlan, SaysList, SaysLoaded, SaysNoPlan, SaysNotes, SaysParsed, SaysPlan, SaysPlanNotes, SaysRuns, SaysStarved, SaysSteps, dressed_by, goes_on, looks_of, manner_for, performed_of, planned, reported_on, scene_with, unasked}
 use Rattle.hack_run.specs.declared.fault.RunFault.{RunFault}
 use Rattle.hack_run.specs.declared.fault.RunFault.TheVariants as fault
 
@@ -148,21 +150,22 @@ steps_searched tells calls e cx stable rustup kept left reported course notes fa
 }
 
 -- the same of a list
-pub steps_listed : {C O E : Type 0} (tells : Type 0) (calls : C → List Call) (e : Taking E) (cx : ContextRecord) (stable : Stable) (rustup : Name) (now : Option ProcessFault) (reported : Bool) (had has : Option (List ℕ))
+pub steps_listed : {C O E : Type 0} (NoneMissed : Type 0) (tells : Type 0) (calls : C → List Call) (e : Taking E) (cx : ContextRecord) (stable : Stable) (rustup : Name) (now : Option ProcessFault) (reported : Bool) (had has : Option (List ℕ))
     (course : Course) (notes : List Note) (fails warns : Bool) (start mid : Starter C O E) (begun : Streams) (last : State) (term : Term) (old new : Scene)
     → IsPlannedAsAsked (IsPlanOf cx.args.subcommand stable cx rustup) false true cx rustup course notes fails warns
     → calls start.caller.now ≡ old.calls → start.term.now ≡ term → stream_of e start.err.now ≡ old.streams.err → start.fault.now ≡ None → start.refused ≡ 0
     → start.keep_going ≡ goes_on true cx.args → start.log_group ≡ group_for true cx.args
     → TellsNotes e notes start mid → begun.err ≡ stream_of e mid.err.now → (true ≡ false → begun.out ≡ old.streams.out)
     → DoesAll tells mid.keep_going (manner_of mid.log_group mid.term.now) course.plan (performed_of true course.handed) (state (calls mid.caller.now) begun mid.fault.now mid.term.now.error mid.refused) last
-    → new.calls ≡ last.scene.calls → (true ≡ false → new.streams.out ≡ last.scene.streams.out) → new.streams.err ≡ last.scene.streams.err → now ≡ last.kept → reported ≡ last.told → Appends had has (flat_map (lines_written course.plan) course.handed)
-    → ListsSteps tells cx stable rustup now reported (looks_of term) had has old new
+    → new.calls ≡ last.scene.calls → (true ≡ false → new.streams.out ≡ last.scene.streams.out) → new.streams.err ≡ last.scene.streams.err → now ≡ last.kept → reported ≡ last.told → Appends had has (flat_map (lines_written course.plan) course.handed) → (NoneMissed → All IsListedStep course.handed)
+    → ListsSteps NoneMissed tells cx stable rustup now reported (looks_of term) had has old new
 unfolding steps_said
-steps_listed tells calls e cx stable rustup now reported had has course notes fails warns start mid begun last term old new made caller_is term_is err_is fault_is refused_is keep_is group_is told begun_is first did calls_end out_end err_end kept_end told_end wrote = (
+steps_listed NoneMissed tells calls e cx stable rustup now reported had has course notes fails warns start mid begun last term old new made caller_is term_is err_is fault_is refused_is keep_is group_is told begun_is first did calls_end out_end err_end kept_end told_end wrote listed = (
   steps_said tells true calls e cx stable rustup None course notes fails warns start mid begun last term old new made caller_is term_is err_is fault_is refused_is keep_is group_is told begun_is first did calls_end out_end err_end,
   kept_end,
   told_end,
   wrote,
+  listed,
 )
 
 -- what a list says doesn't hang on where its lines go
@@ -300,24 +303,40 @@ pub looks_later : (term mid last : Term) → looks_of mid ≡ record (looks_of t
     → looks_of last ≡ reported_on last.error (looks_of term)
 looks_later term mid last first later = later ∙ ap (λ (l : Looks). record l { reported = last.error }) first
 
--- how a list ends, by what is kept of its steps
-list_comes : (Unwritten : Type 0) (short : Bool) (kept : Option ProcessFault) (came : Result (Unit {0}) RunFault) (now : Looks) (last : State) (old new : Stream) → kept ≡ last.kept → now.reported ≡ last.told → (Unwritten → HasFailed old.failed new.failed)
-    → EndsList Unwritten (Ok short) kept came → ComesOfList came now last old new
-list_comes Unwritten short kept came now last old new is noted counted ends = subst (λ (o : Option ProcessFault). MatchOption o
-    ((came ≡ Err fault.Memory) ⊎ ((came ≡ Err fault.Unlisted) × HasFailed old.failed new.failed) ⊎ ((came ≡ Ok tt) × (now.reported ≡ last.told)))
-    (λ failed. came ≡ Err (fault.Process failed))) is (go kept ends)
+-- a line is unwritten, and not for want of memory
+abbrev pub IsUnwritten : Bool → Bool → ℕ → Type 0
+IsUnwritten short flushed missed = (short ≡ false) × ((0 < missed) ⊎ (flushed ≡ false))
+
+-- a step that isn't listed, or that passed
+listed_one : (h : Handed) → IsListedStep h → IsListed h
+listed_one h is = elim (cases_Bool (is_sent h)) [
+  | inl sent ↦ inl sent
+  | inr off ↦ inr (subst (λ (b : Bool). (if b then false else has_failed h.outcome) ≡ false) off is)
+]
+
+-- how a list ends where memory wasn't refused, by what is kept of its steps
+abbrev ComesOfKept : Result (Unit {0}) RunFault → Looks → State → Stream → Stream → Option ProcessFault → Type 0
+ComesOfKept came now last old new kept = MatchOption kept (((came ≡ Err fault.Unlisted) × HasFailed old.failed new.failed) ⊎ ((came ≡ Ok tt) × (now.reported ≡ last.told))) (λ failed. came ≡ Err (fault.Process failed))
+
+list_comes : (refused short flushed : Bool) (missed : ℕ) (kept : Option ProcessFault) (came : Result (Unit {0}) RunFault) (now : Looks) (handed : List Handed) (last : State) (old new : Stream) → kept ≡ last.kept → now.reported ≡ last.told
+    → (IsUnwritten short flushed missed → HasFailed old.failed new.failed) → ((◌≡◌ {A = Result Bool PlanFault} (Ok refused) (Ok false)) × (missed ≡ 0) → All IsListedStep handed)
+    → EndsList short (IsUnwritten short flushed missed) (Ok refused) kept came → ComesOfList came now handed last old new
+list_comes true short flushed missed kept came now handed last old new is noted counted listed ends = inl ends
+list_comes false true flushed missed kept came now handed last old new is noted counted listed ends = inl ends
+list_comes false false flushed missed kept came now handed last old new is noted counted listed ends = inr (cause missed listed counted, subst (λ (o : Option ProcessFault). ComesOfKept came now last old new o) is (go kept ends))
   where
-    go : (kept : Option ProcessFault) → EndsList Unwritten (Ok short) kept came → MatchOption kept
-        ((came ≡ Err fault.Memory) ⊎ ((came ≡ Err fault.Unlisted) × HasFailed old.failed new.failed) ⊎ ((came ≡ Ok tt) × (now.reported ≡ last.told)))
-        (λ failed. came ≡ Err (fault.Process failed))
-    go None (inl memory) = inl memory
-    go None (inr (inl line)) = inr (inl (line.0, counted line.1))
-    go None (inr (inr fine)) = inr (inr (fine, noted))
+    go : (kept : Option ProcessFault) → EndsList false (IsUnwritten false flushed missed) (Ok false) kept came → ComesOfKept came now last old new kept
+    go None (inl line) = inl (line.0, counted line.1)
+    go None (inr fine) = inr (fine, noted)
     go (Some failed) is = is
+
+    cause : (n : ℕ) → ((◌≡◌ {A = Result Bool PlanFault} (Ok false) (Ok false)) × (n ≡ 0) → All IsListedStep handed) → (IsUnwritten false flushed n → HasFailed old.failed new.failed) → All IsListed handed ⊎ HasFailed old.failed new.failed
+    cause zero listed counted = inl (λ k d lt. listed_one (get_or handed k d) (listed (refl, refl) k d lt))
+    cause (suc n) listed counted = inr (counted (refl, inl (omega arith)))
 
 -- a line is missing without want of memory only where the writer counted a failure
 pub line_unwritten : (old mid new : Option ℕ) (short flushed : Bool) (missed : ℕ) → MissesForACause old mid false short 0 missed → MatchBool flushed (NoFewer mid new) (HasFailed mid new)
-    → (short ≡ false) × ((0 < missed) ⊎ (flushed ≡ false)) → HasFailed old new
+    → IsUnwritten short flushed missed → HasFailed old new
 line_unwritten old mid new short false missed h last (full, why) = failed-later old mid new h.counted last
 line_unwritten old mid new short true missed h last (full, inr unflushed) = absurd (cc)
 line_unwritten old mid new short true missed h last (full, inl some) = elim h.cause [
@@ -326,13 +345,13 @@ line_unwritten old mid new short true missed h last (full, inl some) = elim h.ca
 ]
 
 -- a list's steps were said, or there is no plan
-pub list_said : (Unwritten : Type 0) (refused : Result Bool PlanFault) (kept : Option ProcessFault) (came : Result (Unit {0}) RunFault) (tells : Type 0) (cx : ContextRecord) (stable : Stable) (rustup : Name) (looks now : Looks) (had has : Option (List ℕ)) (old mid new : Scene)
-    → IfOk refused (λ short. ListsSteps tells cx stable rustup kept now.reported looks had has old mid) → IfErr refused (HasNoPlan true cx stable rustup looks now old mid) → EndsList Unwritten refused kept came → (Unwritten → HasFailed old.streams.out.failed new.streams.out.failed) → now ≡ reported_on now.reported looks → new.calls ≡ mid.calls → new.streams.err ≡ mid.streams.err
+pub list_said : (missed : ℕ) (short flushed : Bool) (refused : Result Bool PlanFault) (kept : Option ProcessFault) (came : Result (Unit {0}) RunFault) (tells : Type 0) (cx : ContextRecord) (stable : Stable) (rustup : Name) (looks now : Looks) (had has : Option (List ℕ)) (old mid new : Scene)
+    → IfOk refused (λ r. ListsSteps ((refused ≡ Ok false) × (missed ≡ 0)) tells cx stable rustup kept now.reported looks had has old mid) → IfErr refused (HasNoPlan true cx stable rustup looks now old mid) → EndsList short (IsUnwritten short flushed missed) refused kept came → (IsUnwritten short flushed missed → HasFailed old.streams.out.failed new.streams.out.failed) → now ≡ reported_on now.reported looks → new.calls ≡ mid.calls → new.streams.err ≡ mid.streams.err
     → OnErr refused (Keeps old.streams.out.bytes new.streams.out.bytes) → ((text : List ℕ) → Appends had has text → WritesText text old.streams.out new.streams.out) → SaysNoPlan came true cx stable rustup looks now old new ⊎ SaysStarved came looks now old new ⊎ SaysList came tells cx stable rustup looks now old new
 unfolding said_elsewhere
-list_said Unwritten (Ok short) kept came tells cx stable rustup looks now had has old mid new steps none ends counted same calls err out wrote =
-    inr (inr (record { steps = said_elsewhere tells cx stable rustup None looks old mid new calls err steps.0; wrote = wrote (flat_map (lines_written steps.0.course.plan) steps.0.course.handed) steps.3; comes = list_comes Unwritten short kept came now steps.0.last old.streams.out new.streams.out steps.1 steps.2 counted ends; ends = same }))
-list_said Unwritten (Err e) kept came tells cx stable rustup looks now had has old mid new steps none ends counted same calls err out wrote = inl (
+list_said missed short flushed (Ok r) kept came tells cx stable rustup looks now had has old mid new steps none ends counted same calls err out wrote =
+    inr (inr (record { steps = said_elsewhere tells cx stable rustup None looks old mid new calls err steps.0; wrote = wrote (flat_map (lines_written steps.0.course.plan) steps.0.course.handed) steps.3; comes = list_comes r short flushed missed kept came now steps.0.course.handed steps.0.last old.streams.out new.streams.out steps.1 steps.2 counted steps.4 ends; ends = same }))
+list_said missed short flushed (Err e) kept came tells cx stable rustup looks now had has old mid new steps none ends counted same calls err out wrote = inl (
   e,
   ends,
   (

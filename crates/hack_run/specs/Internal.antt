@@ -1,5 +1,5 @@
 -- What only private functions of the crate promise each other.
-use Rattle.std.specs.Prelude.{ℕ, ◌≡◌, ◌≢◌, ◌⊎◌, ◌||◌, [], IfErr, IfOk, IfSome, Bool, false, true, List, Option, Result, Some, None, Ok, Err, string_bytes, All, MatchBool, filter, nat_lt}
+use Rattle.std.specs.Prelude.{ℕ, ◌≡◌, ◌≢◌, ◌⊎◌, ◌||◌, [], IfErr, IfOk, IfSome, Bool, false, true, List, Option, Result, Some, None, Ok, Err, string_bytes, All, MatchBool, filter, nat_lt, MatchOption}
 use Rattle.std.specs.Io.KnownBytes.{Keeps, Appends, append_known}
 use Rattle.hack_base.specs.Names.{Name}
 use Rattle.std.specs.Result.{is_err}
@@ -212,15 +212,16 @@ FollowsAndLeaves Refuses tells args answers env old new =
     ⊎ ((cx : ContextRecord) × IsContextFrom args answers cx × (IfOk answers.loaded (IsLoaded tells old env) → LeavesEdits Refuses tells cx old new))
 
 -- a list's steps were said, this error is kept, and it is noted so whether one was reported; what is known to be written
--- or gathered grew by just the lines of those that passed
-abbrev pub ListsSteps : Type 0 → ContextRecord → Stable → Name → Option ProcessFault → Bool → Looks → Option (List ℕ) → Option (List ℕ) → Scene → Scene → Type 0
-ListsSteps tells cx stable rustup now reported looks had has old new =
+-- or gathered grew by just the lines of those that passed; each that is listed passed, where none was missed
+abbrev pub ListsSteps : Type 0 → Type 0 → ContextRecord → Stable → Name → Option ProcessFault → Bool → Looks → Option (List ℕ) → Option (List ℕ) → Scene → Scene → Type 0
+ListsSteps NoneMissed tells cx stable rustup now reported looks had has old new =
     (steps : SaysSteps tells true cx stable rustup None looks old new) × (now ≡ steps.last.kept) × (reported ≡ steps.last.told)
     × Appends had has (flat_map (lines_written steps.course.plan) steps.course.handed)
+    × (NoneMissed → All IsListedStep steps.course.handed)
 
--- how a list ends: as there is no plan, with the error that stopped its steps, or as lines are missing or not,
--- for want of memory or since `Unwritten` holds
-abbrev pub EndsList : Type 0 → Result Bool PlanFault → Option ProcessFault → Result (Unit {0}) RunFault → Type 0
-EndsList Unwritten (Err e) stopped came = came ≡ Err (fault.Plan e)
-EndsList Unwritten (Ok short) (Some failed) came = came ≡ Err (fault.Process failed)
-EndsList Unwritten (Ok short) None came = (came ≡ Err fault.Memory) ⊎ ((came ≡ Err fault.Unlisted) × Unwritten) ⊎ (came ≡ Ok tt)
+-- how a list ends: as there is no plan; or for want of memory, where a step or a line lacked it; else with the error
+-- that stopped its steps, or since a line is unwritten, or without an error
+abbrev pub EndsList : Bool → Type 0 → Result Bool PlanFault → Option ProcessFault → Result (Unit {0}) RunFault → Type 0
+EndsList short Unwritten (Err e) stopped came = came ≡ Err (fault.Plan e)
+EndsList short Unwritten (Ok refused) stopped came = MatchBool (refused || short) (came ≡ Err fault.Memory)
+    (MatchOption stopped (((came ≡ Err fault.Unlisted) × Unwritten) ⊎ (came ≡ Ok tt)) (λ failed. came ≡ Err (fault.Process failed)))

@@ -1,6 +1,6 @@
 -- What a call says on the way, and in which order: where it comes to its end, all of that and nothing else; where an
 -- error ends it, what was to be said before.
-use Rattle.std.specs.Prelude.{◌≡◌, ◌⊎◌, ◌&&◌, ◌||◌, [], ℕ, Bool, Err, IsSome, List, MatchBool, MatchOption, None, Ok, OnOk, Option, Result, Some, false, filter, if◌then◌else◌, map, nat_lt, not, string_bytes, true}
+use Rattle.std.specs.Prelude.{◌≡◌, ◌⊎◌, ◌&&◌, ◌||◌, [], ℕ, All, Bool, Err, IsSome, List, MatchBool, MatchOption, None, Ok, OnOk, Option, Result, Some, false, filter, if◌then◌else◌, map, nat_lt, not, string_bytes, true}
 use Rattle.std.specs.Io.KnownBytes.{Appends, Keeps}
 use Rattle.std.specs.List.{flat_map}
 use Rattle.std.specs.Result.{is_err}
@@ -44,7 +44,7 @@ use Rattle.hack_process.specs.declared.caller.Caller.{Ghosts as Calling}
 use Rattle.hack_report.specs.Reported.{SaysCutReport, SaysReport, are_reported}
 use Rattle.hack_rules.specs.declared.fault.CliFault.{CliFault}
 use Rattle.hack_session.specs.Histories.{Course}
-use Rattle.hack_session.specs.ListLines.{is_sent, lines_written}
+use Rattle.hack_session.specs.ListLines.{has_failed, is_sent, lines_written}
 use Rattle.hack_session.specs.StepEffects.{DoesAll, Scene, State, state}
 use Rattle.hack_session.specs.StepOutput.{Manner, Streams, streams}
 use Rattle.hack_session.specs.declared.step.Handed.{Handed}
@@ -206,19 +206,24 @@ pub record SaysRuns (came : Result (Unit {0}) RunFault) (tells : Type 0) (cx : C
       (ComesOfRuns came cx looks now steps.course steps.last mid.streams.err new.streams.err)
   pub ends : now ≡ reported_on now.reported looks
 
--- how a list ends: with the error that stopped its steps; else without one, or with that of a line that is missing,
--- for want of memory or since its stream counted a failure
-abbrev pub ComesOfList : Result (Unit {0}) RunFault → Looks → State → Stream → Stream → Type 0
-ComesOfList came now last old new = MatchOption last.kept
-    ((came ≡ Err fault.Memory) ⊎ ((came ≡ Err fault.Unlisted) × HasFailed old.failed new.failed) ⊎ ((came ≡ Ok tt) × (now.reported ≡ last.told)))
-    (λ failed. came ≡ Err (fault.Process failed))
+-- a step of a list passed, or is one that isn't listed
+abbrev pub IsListed : Handed → Type 0
+IsListed h = (is_sent h ≡ true) ⊎ (has_failed h.outcome ≡ false)
+
+-- How a list ends: for want of memory. Or each listed step passed, unless the list's stream counted a failure; and it
+-- ends with the error that stopped its steps; else with that of a line that is missing for this, or without one.
+abbrev pub ComesOfList : Result (Unit {0}) RunFault → Looks → List Handed → State → Stream → Stream → Type 0
+ComesOfList came now handed last old new = (came ≡ Err fault.Memory)
+    ⊎ ((All IsListed handed ⊎ HasFailed old.failed new.failed)
+    × MatchOption last.kept (((came ≡ Err fault.Unlisted) × HasFailed old.failed new.failed) ⊎ ((came ≡ Ok tt) × (now.reported ≡ last.told)))
+    (λ failed. came ≡ Err (fault.Process failed)))
 
 -- The same of a list's steps that aren't listed. Whatever came of them, just the lines of the steps that passed were
 -- printed, in order; or a front of these lines, and their stream counted a failure.
 pub record SaysList (came : Result (Unit {0}) RunFault) (tells : Type 0) (cx : ContextRecord) (stable : Stable) (rustup : Name) (looks now : Looks) (old new : Scene) : Type 0 where
   pub steps : SaysSteps tells true cx stable rustup None looks old new
   pub wrote : WritesText (flat_map (lines_written steps.course.plan) steps.course.handed) old.streams.out new.streams.out
-  pub comes : ComesOfList came now steps.last old.streams.out new.streams.out
+  pub comes : ComesOfList came now steps.course.handed steps.last old.streams.out new.streams.out
   pub ends : now ≡ reported_on now.reported looks
 
 -- a plan's steps were said, or there is none; before a list memory may be refused

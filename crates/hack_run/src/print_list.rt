@@ -1,7 +1,7 @@
 //! The command list of a plan.
 
 ghost use Rattle.std.specs.Prelude.{◌≡◌, ◌<◌, ◌⊎◌, IfErr, IfOk, List, None, Ok, OnErr, OnOk, false};
-ghost use Rattle.std.specs.Prelude.{if◌then◌else◌, string_bytes, true};
+ghost use Rattle.std.specs.Prelude.{All, string_bytes, true};
 ghost use Rattle.std.specs.Io.KnownBytes.{append_known};
 ghost use Rattle.hack_base.specs.Notes.{Note};
 ghost use Rattle.hack_load.specs.ContextView.{context_view};
@@ -10,6 +10,7 @@ ghost use Rattle.hack_plan.specs.View.{PlanView};
 ghost use Rattle.hack_planner.specs.CallPlan.{IsCauseOf, IsPlanOf};
 ghost use Rattle.hack_run.specs.Internal.{EndsList, HandsOver, HandsOverAtMostOne, ListsOver};
 ghost use Rattle.hack_run.specs.Internal.{ListsSteps};
+ghost use Rattle.hack_session.specs.Internal.{IsListedStep};
 ghost use Rattle.hack_run.specs.Internal.{MayPerformItsPlan, PerformsAtMostOne, PerformsItsPlan};
 ghost use Rattle.hack_run.specs.Internal.{host_writing};
 ghost use Rattle.hack_run.specs.InternalExtensions.{Extends, MissesForACause};
@@ -100,7 +101,8 @@ fn hand_to_lister<C: Caller, O: Sink, E: Sink>(
     ensures grown { Extends (O.contents host.old.out.now) (O.contents host.new.out.now) }
     ensures missed { MissesForACause (O.failed host.old.out.now) (O.failed host.new.out.now)
         false result.short 0 result.failed }
-    ensures shown { IfOk result.refused (λ _. ListsSteps C.tells (context_view cx.now) stable
+    ensures shown { IfOk result.refused (λ _. ListsSteps
+        ((result.refused ≡ Ok false) × (result.failed ≡ 0)) C.tells (context_view cx.now) stable
         (string_bytes host.old.env.now.rustup) result.fault host.new.term.now.error
         (looks_of host.old.term.now)
         (append_known (O.contents host.old.out.now) gathered.old.items)
@@ -153,8 +155,10 @@ fn list_over<'a, W: Lines, R: Teller>(
     ensures stays { W.stays out.old out.new }
     ensures made { HandsOverAtMostOne W.whole (W.contents out.old) (W.contents out.new)
         R.told R.ran (context_view cx.now) stable rustup.now runner.old runner.new }
-    ensures over { OnOk result (HandsOver W.whole (W.contents out.old) (W.contents out.new)
-        R.told R.ran (context_view cx.now) stable rustup.now runner.old runner.new) }
+    ensures over { OnOk result ((over : HandsOver W.whole (W.contents out.old)
+        (W.contents out.new) R.told R.ran (context_view cx.now) stable rustup.now
+        runner.old runner.new) × (result ≡ Ok false → W.failed out.old ≡ 0 → W.failed out.new ≡ 0
+        → All IsListedStep over.course.handed)) }
     ensures idle { OnErr result (out.new ≡ out.old) }
     ensures refused { IfErr result (λ e. (runner.new ≡ runner.old)
         ⊎ ((e ≡ PlanFault.Memory) × (plan : PlanView) × (notes : List Note)
@@ -177,7 +181,7 @@ fn list_over<'a, W: Lines, R: Teller>(
 fn end_of_list(listed: Listed, flushed: bool) -> Result<(), RunFault>
     ensures ok { OnOk result ((listed.refused ≡ Ok false) × (listed.fault ≡ None)
         × (listed.failed ≡ 0) × (flushed ≡ true)) }
-    ensures comes { EndsList
+    ensures comes { EndsList listed.short
         ((listed.short ≡ false) × ((0 < listed.failed) ⊎ (flushed ≡ false)))
         listed.refused listed.fault result }
 {
@@ -191,25 +195,14 @@ fn end_of_list(listed: Listed, flushed: bool) -> Result<(), RunFault>
         Ok(refused) => refused,
         Err(fault) => return Err(RunFault::Plan(fault)),
     };
+    if refused || short {
+        return Err(RunFault::Memory);
+    }
     if let Some(fault) = fault {
         return Err(RunFault::Process(fault));
     }
-    if refused {
-        return Err(RunFault::Memory);
-    }
     if failed > 0 || !flushed {
-        return Err(unlisted(short));
+        return Err(RunFault::Unlisted);
     }
     Ok(())
-}
-
-/// Returns why a line is missing: memory ran out, or it couldn't be written.
-fn unlisted(short: bool) -> RunFault
-    ensures { result ≡ if short then RunFault.Memory else RunFault.Unlisted }
-{
-    if short {
-        RunFault::Memory
-    } else {
-        RunFault::Unlisted
-    }
 }

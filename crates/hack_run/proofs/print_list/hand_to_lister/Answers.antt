@@ -85,15 +85,15 @@ returns-clause-shown g c =
     let has = append_known (contents lines.out.now) c.gathered-1.given.0.items in
     rw (sym c.as_str-rustup.ensures.value)
     (handed_said c.list_over-refused.result c.list_over-refused.ensures.over (λ l.
-    steps_listed g.C.Caller.tells calls g.E.Sink cx c.args.stable c.as_str-rustup.result.now c.fault-2-1.given.0 last.term.now.error had has l.course l.notes false false c.set_manner.new.self l.mid _ _ c.args.host.now.term.now
+    steps_listed _ g.C.Caller.tells calls g.E.Sink cx c.args.stable c.as_str-rustup.result.now c.fault-2-1.given.0 last.term.now.error had has l.0.course l.0.notes false false c.set_manner.new.self l.0.mid _ _ c.args.host.now.term.now
     (scene_on g.C.Caller g.O.Sink g.E.Sink c.args.host.now) (scene_at (calls last.caller.now) g.O.Sink g.E.Sink c.list_over-refused.new.out.out.now last.err.now)
-    (l.planned, (l.driven, refl)) (ap (λ s. calls s.caller.now) made ∙ ap calls fresh.caller.1) (ap (λ s. s.term.now) made ∙ fresh.term.1)
+    (l.0.planned, (l.0.driven, refl)) (ap (λ s. calls s.caller.now) made ∙ ap calls fresh.caller.1) (ap (λ s. s.term.now) made ∙ fresh.term.1)
     (ap (λ s. stream_of g.E.Sink s.err.now) made ∙ ap (stream_of g.E.Sink) fresh.err.1) (ap (λ s. s.fault.now) made ∙ fresh.fault.1) (ap (λ s. s.refused) made ∙ fresh.refused)
-    (ap (λ s. s.keep_going) made ∙ ap (λ (a : Args). a.keep_going) c.args-2.ensures) (ap (λ s. s.log_group) made) l.told refl (λ off. not_off off) l.ran.9 refl (λ off. not_off off) refl
-    (c.fault-2-1.given.1 (sym fresh.fault.0 ∙ ap (λ s. s.fault.ghost_name) (sym made) ∙ l.told.2 ∙ l.ran.2)) refl
-    (subst (λ o. Appends (append_known (contents o) c.args.gathered.now.items) has (flat_map (lines_written l.course.plan) l.course.handed)) begun.out.1
-    (subst (λ v. Appends (append_known (contents c.gather_on-lines.result.out.now) v.items) has (flat_map (lines_written l.course.plan) l.course.handed)) begun.gathered.1
-    (subst (λ v. Appends (append_known (contents c.gather_on-lines.result.out.now) c.gather_on-lines.result.gathered.now.items) (append_known (contents lines.out.now) v.items) (flat_map (lines_written l.course.plan) l.course.handed)) (sym gathered_is) (l.wrote tt))))))
+    (ap (λ s. s.keep_going) made ∙ ap (λ (a : Args). a.keep_going) c.args-2.ensures) (ap (λ s. s.log_group) made) l.0.told refl (λ off. not_off off) l.0.ran.9 refl (λ off. not_off off) refl
+    (c.fault-2-1.given.1 (sym fresh.fault.0 ∙ ap (λ s. s.fault.ghost_name) (sym made) ∙ l.0.told.2 ∙ l.0.ran.2)) refl
+    (subst (λ o. Appends (append_known (contents o) c.args.gathered.now.items) has (flat_map (lines_written l.0.course.plan) l.0.course.handed)) begun.out.1
+    (subst (λ v. Appends (append_known (contents c.gather_on-lines.result.out.now) v.items) has (flat_map (lines_written l.0.course.plan) l.0.course.handed)) begun.gathered.1
+    (subst (λ v. Appends (append_known (contents c.gather_on-lines.result.out.now) c.gather_on-lines.result.gathered.now.items) (append_known (contents lines.out.now) v.items) (flat_map (lines_written l.0.course.plan) l.0.course.handed)) (sym gathered_is) (l.0.wrote tt)))) (λ q. l.1 q.0 c.gather_on-lines.ensures.failed.0 q.1)))
 
 pub returns-clause-idle : goal.returns-clause-idle
 returns-clause-idle g c =

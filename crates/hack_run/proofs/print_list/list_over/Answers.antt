@@ -55,22 +55,26 @@ returns-clause-over g c =
     let last = c.drive_context.new.runner in
     let contents = g.W.Lines.contents in
     let failed = g.W.Lines.failed in
-    let out_is = c.out-2-1.given.1 (told.0 ∙ ran.0) in
-    record {
-      course = session;
-      driven = c.in_ok-_session.ensures.headline.driven;
-      notes = c.in_ok-_session.ensures.ran.0;
-      planned = c.in_ok-_session.ensures.ran.2;
-      mid = mid.runner.now;
-      told = told.4;
-      ran = subst (λ new. g.R.Runner.ran session.plan (filter is_sent session.handed) mid.runner.now new) (sym runner_is) ran.2;
-      wrote = λ w. subst (λ new. Appends (contents c.args.out.now) (contents new) (flat_map (lines_written session.plan) session.handed)) (sym out_is)
-          (subst (λ old. Appends (contents old) (contents last.out.now) (flat_map (lines_written session.plan) session.handed)) told.2
-          (passed_written g.W.Lines.whole session.plan session.handed (page_of (contents mid.out.now) (failed mid.out.now) mid.refused) (page_of (contents last.out.now) (failed last.out.now) last.refused) w ran.3));
-    }
+    let out_is = c.out-2-1.given.1 (told.0 ∙ ran.0) in (
+      record {
+        course = session;
+        driven = c.in_ok-_session.ensures.headline.driven;
+        notes = c.in_ok-_session.ensures.ran.0;
+        planned = c.in_ok-_session.ensures.ran.2;
+        mid = mid.runner.now;
+        told = told.4;
+        ran = subst (λ new. g.R.Runner.ran session.plan (filter is_sent session.handed) mid.runner.now new) (sym runner_is) ran.2;
+        wrote = λ w. subst (λ new. Appends (contents c.args.out.now) (contents new) (flat_map (lines_written session.plan) session.handed)) (sym out_is)
+            (subst (λ old. Appends (contents old) (contents last.out.now) (flat_map (lines_written session.plan) session.handed)) told.2
+            (passed_written g.W.Lines.whole session.plan session.handed (page_of (contents mid.out.now) (failed mid.out.now) mid.refused) (page_of (contents last.out.now) (failed last.out.now) last.refused) w ran.3));
+      },
+      λ ok before after.
+          all_listed g.W.Lines.whole session.plan session.handed (page_of (contents mid.out.now) (failed mid.out.now) mid.refused) (page_of (contents last.out.now) (failed last.out.now) last.refused)
+          (ap failed told.2 ∙ before) told.3 (sym (ap failed out_is) ∙ after) (none_refused last.refused ok) ran.3,
+    )
 
 pub returns-clause-made : goal.returns-clause-made
-returns-clause-made g c = inr (returns-clause-over g c)
+returns-clause-made g c = inr (returns-clause-over g c).0
 
 pub returns-in_err-_session-clause-made : goal.returns-in_err-_session-clause-made
 returns-in_err-_session-clause-made g c = elim c.in_err-_session.ensures.refused [

@@ -27,7 +27,7 @@ pub returns-clause-shown : goal.returns-clause-shown
 returns-clause-shown g c = λ t.
     let last = c.hand_to_lister-came.new.host in
     let contents = g.O.Sink.contents in
-    list_said _ c.hand_to_lister-came.result.refused c.hand_to_lister-came.result.fault c.end_of_list.result g.C.Caller.tells (context_view c.args.cx.now) c.args.stable (string_bytes c.args.host.now.env.now.rustup) (looks_of c.args.host.now.term.now) (looks_of last.term.now)
+    list_said c.hand_to_lister-came.result.failed c.hand_to_lister-came.result.short c.write_last-flushed.result c.hand_to_lister-came.result.refused c.hand_to_lister-came.result.fault c.end_of_list.result g.C.Caller.tells (context_view c.args.cx.now) c.args.stable (string_bytes c.args.host.now.env.now.rustup) (looks_of c.args.host.now.term.now) (looks_of last.term.now)
     (append_known (contents c.args.host.now.out.now) c.in_ok-gathered.gathered.items) (append_known (contents last.out.now) c.hand_to_lister-came.new.gathered.items)
     (scene_on g.C.Caller g.O.Sink g.E.Sink c.args.host.now) (scene_on g.C.Caller g.O.Sink g.E.Sink last) (scene_at (g.C.Caller.calls last.caller.now) g.O.Sink g.E.Sink c.write_last-flushed.new.out last.err.now) c.hand_to_lister-came.ensures.shown c.hand_to_lister-came.ensures.unplanned c.end_of_list.ensures.comes
     (line_unwritten (g.O.Sink.failed c.args.host.now.out.now) (g.O.Sink.failed last.out.now) (g.O.Sink.failed c.write_last-flushed.new.out) c.hand_to_lister-came.result.short c.write_last-flushed.result c.hand_to_lister-came.result.failed c.hand_to_lister-came.ensures.missed c.write_last-flushed.ensures.counted)
