@@ -13,7 +13,7 @@ use Rattle.hack_starts.specs.Events.{Event, Layout, Ran, Started, Ended, Waited,
 use Rattle.hack_lanes.specs.declared.job.Job.{Job}
 use Rattle.hack_lanes.specs.declared.child.Child.{Child}
 use Rattle.hack_lanes.specs.Views.{offer_of, pending_of}
-use Rattle.hack_lanes.specs.Lanes.{Pending, is_free, Turn, State, IsNew, Moves, Scene, Goes, MayGo}
+use Rattle.hack_lanes.specs.Lanes.{Pending, is_free, IsUntold, Turn, State, IsNew, Moves, Scene, Goes, MayGo}
 use Rattle.hack_lanes.specs.JoinedScenes.{goes_more}
 
 -- somebody was called, and nothing happened
@@ -90,11 +90,11 @@ goes_ended did turn last children index child s t there h =
 pub goes_started : {S : Type 0} (did : List Event → S → S → Type 0) (turn : Option ℕ) (offers : List Job) (layout : Layout) (last : Option ℕ) (children : List Child) (index : ℕ) (job : Job) (child : Child) (s t : S)
     → slice_get offers index ≡ Some job
     → pending_of child ≡ record { place = job.place; lane = child.lane; asked = (offer_of job).asked; over = false }
-    → IsNew last child.place → child.lane < layout.count → length children < 2 * layout.count → is_free child.lane (map pending_of children) ≡ true
+    → IsNew last child.place → child.lane < layout.count → length children < 2 * layout.count → is_free child.lane (map pending_of children) ≡ true → IsUntold turn (record { last = last; pending = map pending_of children })
     → did (Started child.place child.lane layout (offer_of job).asked ∷ []) s t
     → Goes did [] (record { turn = record { place = turn; offers = map offer_of offers; layout = layout }; state = record { last = last; pending = map pending_of children }; starts = s })
     (record { turn = record { place = turn; offers = map offer_of offers; layout = layout }; state = record { last = Some child.place; pending = map pending_of (children ++ child ∷ []) }; starts = t })
-goes_started did turn offers layout last children index job child s t there same new within ahead alone h =
+goes_started did turn offers layout last children index job child s t there same new within ahead alone untold h =
     goes_one did (record { place = turn; offers = map offer_of offers; layout = layout }) (Started child.place child.lane layout (offer_of job).asked)
     (record { last = last; pending = map pending_of children }) (record { last = Some child.place; pending = map pending_of (children ++ child ∷ []) }) s t
     (record {
@@ -105,6 +105,7 @@ goes_started did turn offers layout last children index job child s t there same
       within = within;
       alone = alone;
       ahead = subst (λ (n : ℕ). n < 2 * layout.count) (sym (length-map children pending_of)) ahead;
+      untold = untold;
       after = ap (λ (p : List Pending). record { last = Some child.place; pending = p }) (map-append pending_of children (child ∷ []) ∙ ap (λ (p : Pending). map pending_of children ++ p ∷ []) (same ∙ ap (λ (n : ℕ). record { place = n; lane = child.lane; asked = (offer_of job).asked; over = false }) (sym (ap (λ (p : Pending). p.place) same))));
     }) h
 

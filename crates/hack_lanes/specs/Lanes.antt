@@ -1,6 +1,6 @@
 -- The rules by which commands are started ahead of their turn, told, and ended.
 use Rattle.std.specs.Prelude.{ℕ, ◌≡◌, ◌==◌, ◌⊎◌, ◌<◌, ◌*◌, ◌||◌, Bool, true, false, not, List, [], ◌∷◌, ◌++◌, Option, Some, Contains, IfSome, length, slice_get, slice_set}
-use Rattle.std.specs.List.{count_by, list_all}
+use Rattle.std.specs.List.{count_by, list_all, list_any}
 use Rattle.hack_process.specs.Calls.{Asked, Answer, Call}
 use Rattle.hack_starts.specs.Events.{Event, Layout, Ran, Started, Ended, Told, Abandoned, Waited, calls_of}
 
@@ -39,8 +39,16 @@ leaves lane p = p.over || not (p.lane == lane)
 abbrev pub is_free : ℕ → List Pending → Bool
 is_free lane pending = list_all (leaves lane) pending
 
+-- a command of this place was started, and isn't told yet
+abbrev pub is_pending : ℕ → List Pending → Bool
+is_pending place pending = list_any (λ p. p.place == place) pending
+
+-- if it is a place's turn, its command isn't told yet: it wasn't started, or is pending
+abbrev pub IsUntold : Option ℕ → State → Type 0
+IsUntold turn state = IfSome turn (λ place. IsNew state.last place ⊎ (is_pending place state.pending ≡ true))
+
 -- an offered command starts behind all others, in one of the lanes that no other is in, and is told
--- which lanes there are
+-- which lanes there are; none starts once the turn's own was told
 pub record Starts (turn : Turn) (old : State) (place number : ℕ) (layout : Layout) (asked : Asked) (new : State) : Type 0 where
   pub offered : Contains turn.offers (record { place = place; asked = asked })
   pub behind : IsNew old.last place
@@ -48,6 +56,7 @@ pub record Starts (turn : Turn) (old : State) (place number : ℕ) (layout : Lay
   pub within : number < turn.layout.count
   pub alone : is_free number old.pending ≡ true
   pub ahead : length old.pending < 2 * turn.layout.count
+  pub untold : IsUntold turn.place old
   pub after : new ≡ record { last = Some place; pending = old.pending ++ record { place = place; lane = number; asked = asked; over = false } ∷ [] }
 
 -- a command is seen to have ended

@@ -1,6 +1,6 @@
 //! A command that was started.
 
-ghost use Rattle.std.specs.Prelude.{◌≡◌, IfOk, IsTrue, MatchBool, false};
+ghost use Rattle.std.specs.Prelude.{◌≡◌, IfOk, IsTrue, MatchBool, false, nat_eq};
 ghost use Rattle.hack_base.specs.Names.{names_of};
 ghost use Rattle.hack_process.specs.Calls.{asked_call};
 ghost use Rattle.hack_lanes.specs.Views.{offer_of, pending_of};
@@ -45,6 +45,13 @@ impl Child {
         ensures { result ≡ leaves_lane lane (pending_of self.now) }
     {
         self.over || self.lane != lane
+    }
+
+    /// Whether it is the command of a place.
+    pub(crate) fn is_at(&self, place: usize) -> bool
+        ensures { result ≡ nat_eq (pending_of self.now).place place }
+    {
+        self.place == place
     }
 
     /// Whether it is the command of a program and its arguments at a place.

@@ -4,7 +4,7 @@ ghost use Rattle.std.specs.Prelude.{◌≡◌, ◌<◌, ◌≤◌, ◌+◌, ◌*
 ghost use Rattle.std.specs.Prelude.{None, OnErr, Some, count_by, false, length, map};
 ghost use Rattle.std.specs.Prelude.{not, slice_get, string_bytes, true};
 ghost use Rattle.hack_process.specs.Calls.{WroteNothing, answer_of, asked_call};
-ghost use Rattle.hack_lanes.specs.Lanes.{Goes, IsNew, MayGo, is_free};
+ghost use Rattle.hack_lanes.specs.Lanes.{Goes, IsNew, IsUntold, MayGo, is_free, is_pending};
 ghost use Rattle.hack_lanes.specs.Views.{offer_of, pending_of, scene_of, state_of, turn_of};
 
 use crate::child::Child;
@@ -153,6 +153,9 @@ impl Window {
         if !self.is_new(job.place) {
             return true;
         }
+        if !self.is_untold() {
+            return false;
+        }
         let Some(lane) = self.free_lane() else {
             return false;
         };
@@ -181,6 +184,7 @@ impl Window {
         requires within { child.lane < self.old.width }
         requires ahead { length self.old.children.items < 2 * self.old.width }
         requires alone { is_free child.lane (map pending_of self.old.children.items) ≡ true }
+        requires untold { IsUntold self.old.turn (state_of self.old) }
         ensures { Goes S.did [] (scene_of self.old starts.old)
             (scene_of self.new starts.new) }
     {
@@ -202,6 +206,28 @@ impl Window {
             return true;
         }
         self.children.pop();
+        false
+    }
+
+    /// Whether it is no place's turn, or the command of that place isn't told yet.
+    fn is_untold(&self) -> bool
+        ensures { MatchBool result (IsUntold self.now.turn (state_of self.now)) (Unit {0}) }
+    {
+        match self.turn {
+            Some(place) => self.is_new(place) || self.is_pending(place),
+            None => true,
+        }
+    }
+
+    /// Whether the command of a place was started, and isn't told yet.
+    fn is_pending(&self, place: usize) -> bool
+        ensures { result ≡ is_pending place (map pending_of self.now.children.items) }
+    {
+        for child in &self.children {
+            if child.is_at(place) {
+                return true;
+            }
+        }
         false
     }
 

@@ -17,5 +17,5 @@ returns-then-start g c =
     let same : pending_of c.args.child ≡ record { place = job.place; lane = c.args.child.lane; asked = (offer_of job).asked; over = false } =
     subst (λ (o : Option Job). IsSomeAnd o (λ (j : Job). pending_of c.args.child ≡ record { place = j.place; lane = c.args.child.lane; asked = (offer_of j).asked; over = false })) there c.requires.offered in
     rw c.in-Ok.ensures.items (goes_started g.S.Starts.did c.args.self.now.turn offers (layout_of c.args.self.now) c.args.self.now.last c.args.self.now.children.items c.args.index job c.args.child c.args.starts.now c.start.new.self
-    there same c.requires.behind c.requires.within c.requires.ahead c.requires.alone
+    there same c.requires.behind c.requires.within c.requires.ahead c.requires.alone c.requires.untold
     (rw (sym c.as_str-program.ensures.value, sym c.as_slice-words.ensures.value, sym c.as_str.ensures.value) c.if-start.ensures))
