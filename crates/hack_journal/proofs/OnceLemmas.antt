@@ -5,7 +5,6 @@ use Rattle.std.proofs.lemmas.List.{append_cancel_left}
 use Rattle.hack_files.specs.Files.{Contents}
 use Rattle.hack_journal.specs.Journal.{Edit, lines, content_text, edit_text, edits_text, journal_text}
 use Rattle.hack_journal.specs.Rows.{Spot, AreFirst, IsRowOf, IsTextOf, placed}
-use Rattle.hack_journal.specs.SafeFiles.{IsSafe}
 use Rattle.hack_journal.specs.CutFiles.{IsSafeOrCut}
 use Rattle.hack_journal.specs.Strangers.{NamesNone, first_stranger}
 use Rattle.hack_journal.specs.Internal.{BeginsWithoutSpace}
@@ -80,10 +79,6 @@ row_one s m es fs h k =
     let count = same_count s m h.count k.count es fs h.files h.ends k.files k.ends in
     first_one s m h.count es fs h.files (subst (λ (c : ℕ). AreFirst s m c fs) count k.files)
 
--- where files are safe, the journal names no stranger
-pub none_strange : (s : Spot) (o m : Contents) → IsSafe s o m → NamesNone s m
-none_strange s o m h edits row = ap first_stranger (row_one s m edits h.entries row h.by.row) ∙ h.by.known
-
--- nor where a write may have been cut
+-- where files are safe, or a write was cut, the journal names no stranger
 pub cut_none_strange : (s : Spot) (o m : Contents) → IsSafeOrCut s o m → NamesNone s m
 cut_none_strange s o m h edits row = ap first_stranger (row_one s m edits h.entries row h.by.row) ∙ h.by.known

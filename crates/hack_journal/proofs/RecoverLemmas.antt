@@ -418,9 +418,6 @@ never_cut_no_journal s tells o m (NotJournal p) t why h refusal = safe_journal s
 never_cut_no_journal s tells o m (Changed p q) t why h refusal = why
 never_cut_no_journal s tells o m (Files f) t why h refusal = refusal
 
-pub never_no_journal : (s : Spot) (tells : Type 0) (o m : Contents) (fault : RecoverFault) → tells → IsWhyUnread s tells m fault → IsSafe s o m → IsJournalRefusal fault → ⊥
-never_no_journal s tells o m fault t why h = never_cut_no_journal s tells o m fault t why (safe_cut s o m h)
-
 -- where files are safe, the path of each entry holds what a call left there
 pub safe_told : (s : Spot) (o : Contents) (es : List Edit) (m : Contents) → IsSafeOrCutBy s o es m → AreTold es es m
 safe_told s o es m h q has =

@@ -326,12 +326,9 @@ pub fn recover<F: Files>(
     ensures restored { IfOk result (λ paths. F.tells →
         IsRestored (spot_of place.now) (names_of paths.items)
         (F.bytes_at files.old) (F.bytes_at files.new)) }
-    // Wherever a call was interrupted, each path holds what it held before that call.
+    // Wherever a call was interrupted, also where a write over a path was cut, each path holds what
+    // it held before that call.
     ensures comes_back { OnOk result (F.tells → (first : Contents) →
-        IsSafe (spot_of place.now) first (F.bytes_at files.old) →
-        KeepsAll first (F.bytes_at files.new)) }
-    // So it does where a write over a path was cut.
-    ensures back_after_cut { OnOk result (F.tells → (first : Contents) →
         IsSafeOrCut (spot_of place.now) first (F.bytes_at files.old) →
         KeepsAll first (F.bytes_at files.new)) }
     // An error says why not, and names the paths.
@@ -343,10 +340,8 @@ pub fn recover<F: Files>(
     // A refusal changes nothing.
     ensures refused { IfErr result (λ fault. IsJournalRefusal fault → F.tells →
         KeepsAll (F.bytes_at files.old) (F.bytes_at files.new)) }
-    // What an interrupted call left is never refused.
-    ensures never { IfErr result (λ fault. IsJournalRefusal fault → F.tells → (first : Contents) →
-        ¬ IsSafe (spot_of place.now) first (F.bytes_at files.old)) }
-    ensures never_after_cut { IfErr result (λ fault. IsJournalRefusal fault → F.tells →
+    // What an interrupted call left is never refused, also where a write over a path was cut.
+    ensures never { IfErr result (λ fault. IsJournalRefusal fault → F.tells →
         (first : Contents) → ¬ IsSafeOrCut (spot_of place.now) first (F.bytes_at files.old)) }
     // It may be interrupted too, at any moment.
     ensures safe { F.tells → F.whole → (first : Contents) →

@@ -1,5 +1,5 @@
 use Rattle.std.proofs.Common.{◌∙◌, ap, [], inr}
-use Rattle.std.proofs.lemmas.Result.{err_from_is_err_and, on_ok_weaker, IfErr-weaker}
+use Rattle.std.proofs.lemmas.Result.{err_from_is_err_and, IfErr-weaker}
 use Rattle.hack_base.specs.Names.{names_of}
 use Rattle.hack_journal.specs.Journal.{edits_of}
 use Rattle.hack_journal.specs.Rows.{spot_of}
@@ -14,23 +14,17 @@ returns-in_err-row-clause-why g c =
     let p = err_from_is_err_and c.from_residual.result c.from_residual.ensures.1 in
     rw (p.1, p.2) (why_unread (spot_of c.args.place.now) g.F.Files.tells (g.F.Files.bytes_at c.args.files.now) _ c.in_err-row.ensures.why)
 
-pub returns-in_err-row-clause-never_after_cut : goal.returns-in_err-row-clause-never_after_cut
-returns-in_err-row-clause-never_after_cut g c =
+pub returns-in_err-row-clause-never : goal.returns-in_err-row-clause-never
+returns-in_err-row-clause-never g c =
     let p = err_from_is_err_and c.from_residual.result c.from_residual.ensures.1 in
     rw (p.1, p.2) (λ refusal tells first safe. never_cut_no_journal (spot_of c.args.place.now) g.F.Files.tells first (g.F.Files.bytes_at c.args.files.now) _ tells c.in_err-row.ensures.why safe refusal)
 
-pub returns-in_err-row-clause-never : goal.returns-in_err-row-clause-never
-returns-in_err-row-clause-never g c = IfErr-weaker c.from_residual.result _ _ (λ fault never refusal tells first safe. never refusal tells first (safe_cut _ _ _ safe)) (returns-in_err-row-clause-never_after_cut g c)
-
-pub returns-in_default-clause-back_after_cut : goal.returns-in_default-clause-back_after_cut
-returns-in_default-clause-back_after_cut g c = λ tells first safe.
+pub returns-in_default-clause-comes_back : goal.returns-in_default-clause-comes_back
+returns-in_default-clause-comes_back g c = λ tells first safe.
     safe_none (spot_of c.args.place.now) first (g.F.Files.bytes_at c.args.files.now) (g.F.Files.bytes_at c.row_at.new.files) safe (c.in_ok-row.ensures.none c.in_default.is tells) (c.in_ok-row.ensures.same tells)
 
-pub returns-in_default-clause-comes_back : goal.returns-in_default-clause-comes_back
-returns-in_default-clause-comes_back g c = λ tells first safe. returns-in_default-clause-back_after_cut g c tells first (safe_cut _ _ _ safe)
-
-pub returns-in_err-check_all-clause-never_after_cut : goal.returns-in_err-check_all-clause-never_after_cut
-returns-in_err-check_all-clause-never_after_cut g c =
+pub returns-in_err-check_all-clause-never : goal.returns-in_err-check_all-clause-never
+returns-in_err-check_all-clause-never g c =
     let s = spot_of c.args.place.now in
     let es = edits_of c.in-Some.row.entries.items in
     let old = g.F.Files.bytes_at c.args.files.now in
@@ -39,9 +33,6 @@ returns-in_err-check_all-clause-never_after_cut g c =
     rw (p.1, p.2) (λ refusal tells first safe.
     let by = safe_at s first c.in-Some.row.count es old safe (c.in_ok-row.ensures.some c.in-Some.row c.in-Some.is tells) in
     never_not_told s.journal g.F.Files.tells es old (g.F.Files.bytes_at c.row_at.new.files) _ tells (c.in_ok-row.ensures.same tells) (safe_told s first es old by.0) why refusal)
-
-pub returns-in_err-check_all-clause-never : goal.returns-in_err-check_all-clause-never
-returns-in_err-check_all-clause-never g c = IfErr-weaker c.from_residual-in_err-check_all.result _ _ (λ fault never refusal tells first safe. never refusal tells first (safe_cut _ _ _ safe)) (returns-in_err-check_all-clause-never_after_cut g c)
 
 pub returns-in_err-check_all-clause-why : goal.returns-in_err-check_all-clause-why
 returns-in_err-check_all-clause-why g c =
@@ -68,8 +59,8 @@ returns-clause-restored g c =
           back gone told,
     ))
 
-pub returns-clause-back_after_cut : goal.returns-clause-back_after_cut
-returns-clause-back_after_cut g c =
+pub returns-clause-comes_back : goal.returns-clause-comes_back
+returns-clause-comes_back g c =
     let s = spot_of c.args.place.now in
     let row = c.in-Some.row in
     let es = edits_of row.entries.items in
@@ -78,9 +69,6 @@ returns-clause-back_after_cut g c =
     let two = all_same (bytes c.args.files.now) (bytes c.check_all.new.files) (λ q. c.in_ok-check_all.ensures.same tells q ∙ c.in_ok-row.ensures.same tells q) in
     let by = safe_at s first row.count es (bytes c.args.files.now) safe (c.in_ok-row.ensures.some row c.in-Some.is tells) in
     comes_back_of s first row.count es (bytes c.args.files.now) (bytes c.check_all.new.files) (bytes c.take_back.new.files) two by.0 by.1 back gone)
-
-pub returns-clause-comes_back : goal.returns-clause-comes_back
-returns-clause-comes_back g c = on_ok_weaker c.take_back.result (λ back tells first safe. back tells first (safe_cut _ _ _ safe)) (returns-clause-back_after_cut g c)
 
 pub returns-clause-safe : goal.returns-clause-safe
 returns-clause-safe g c = λ tells whole first safe.
@@ -123,6 +111,3 @@ returns-clause-refused g c = IfErr-weaker c.take_back.result _ _ (λ fault not r
 
 pub returns-clause-never : goal.returns-clause-never
 returns-clause-never g c = IfErr-weaker c.take_back.result _ _ (λ fault not refusal. absurd (not refusal)) c.take_back.ensures.fault
-
-pub returns-clause-never_after_cut : goal.returns-clause-never_after_cut
-returns-clause-never_after_cut g c = IfErr-weaker c.take_back.result _ _ (λ fault not refusal. absurd (not refusal)) c.take_back.ensures.fault

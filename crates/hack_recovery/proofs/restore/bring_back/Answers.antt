@@ -9,7 +9,7 @@ use Rattle.hack_recovery.proofs.restore.bring_back.Goals as goal
 pub returns-in-Ok-clause-came : goal.returns-in-Ok-clause-came
 returns-in-Ok-clause-came g c =
     let came = c.in-Ok.ensures in
-    brought (names_of c.in-Ok.paths.items) (record { failures = came.failures; restored = came.restored; comes_back = came.back_after_cut; safe = came.safe; safe_after_cut = came.safe_after_cut })
+    brought (names_of c.in-Ok.paths.items) (record { failures = came.failures; restored = came.restored; comes_back = came.comes_back; safe = came.safe; safe_after_cut = came.safe_after_cut })
     (never_false c.tell_all.result c.tell_all.ensures.done)
 
 pub returns-in-Ok-clause-told : goal.returns-in-Ok-clause-told
@@ -18,7 +18,7 @@ returns-in-Ok-clause-told g c = tells_same c.args.term.now c.tell_all.result c.t
 pub returns-in-Err-clause-came : goal.returns-in-Err-clause-came
 returns-in-Err-clause-came g c =
     let came = c.in-Err.ensures in
-    stopped c.in-Err.fault (record { failures = came.failures; cause = of_failed_path g.F.Files c.args.files.now c.recover.new.files c.in-Err.fault came.calls; why = came.why; spared = came.spared; refused = came.refused; never = came.never_after_cut; safe = came.safe; safe_after_cut = came.safe_after_cut }) c.tell_fault.ensures.told_as
+    stopped c.in-Err.fault (record { failures = came.failures; cause = of_failed_path g.F.Files c.args.files.now c.recover.new.files c.in-Err.fault came.calls; why = came.why; spared = came.spared; refused = came.refused; never = came.never; safe = came.safe; safe_after_cut = came.safe_after_cut }) c.tell_fault.ensures.told_as
 
 pub returns-in-Err-clause-lines : goal.returns-in-Err-clause-lines
 returns-in-Err-clause-lines g c =
