@@ -4,8 +4,9 @@ use crate::course::{Course, Task};
 use crate::memory::Memory;
 use hack_base::copies::copies;
 use hack_lanes::job::Job;
-use hack_lanes::lanes::{Lanes, Window};
+use hack_lanes::lanes::Lanes;
 use hack_lanes::turns::Turns;
+use hack_lanes::window::Window;
 use std::alloc::{AllocError, Global};
 
 const PROGRAM: &str = "job";

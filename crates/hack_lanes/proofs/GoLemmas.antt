@@ -1,8 +1,9 @@
 -- What happened between scenes, one thing after another.
-use Rattle.std.proofs.Common.{◌≡◌, ℕ, ◌<◌, ◌+◌, ◌*◌, cond, length, map, sym, List, [], ◌∷◌, ◌++◌, refl, ◌∙◌, ap, subst, append-nil, inl, inr}
-use Rattle.std.specs.Prelude.{Contains, Result, Ok, Err, IfOk, OnErr, ◌⊎◌, Option, Some, slice_get, slice_set, option_map, Bool, true, false, not, IfSome}
+use Rattle.std.proofs.Common.{◌≡◌, ℕ, zero, suc, ◌<◌, ◌+◌, ◌*◌, ◌==◌, ◌||◌, cond, length, map, sym, List, [], ◌∷◌, ◌++◌, refl, ◌∙◌, ap, subst, append-nil, inl, inr}
+use Rattle.std.specs.Prelude.{Contains, Result, Ok, Err, IfOk, OnErr, ◌⊎◌, Option, None, Some, slice_get, slice_set, option_map, Bool, true, false, not, IfSome, IsSomeAnd}
 use Rattle.std.specs.List.{count_by}
-use Rattle.std.proofs.lemmas.List.Folds.{fold-map}
+use Rattle.std.proofs.lemmas.Bool.{eq-eqb}
+use Rattle.std.proofs.lemmas.List.Folds.{fold-map, list_any-append}
 use Rattle.std.proofs.lemmas.Result.{IfOk-weaker, on_err_weaker}
 use Rattle.std.proofs.lemmas.List.{map-set, map-append, length-map}
 use Rattle.std.proofs.lemmas.List.Elements.{Contains-get_or}
@@ -13,7 +14,7 @@ use Rattle.hack_starts.specs.Events.{Event, Layout, Ran, Started, Ended, Waited,
 use Rattle.hack_lanes.specs.declared.job.Job.{Job}
 use Rattle.hack_lanes.specs.declared.child.Child.{Child}
 use Rattle.hack_lanes.specs.Views.{offer_of, pending_of}
-use Rattle.hack_lanes.specs.Lanes.{Pending, is_free, IsUntold, Turn, State, IsNew, Moves, Scene, Goes, MayGo}
+use Rattle.hack_lanes.specs.Lanes.{Pending, is_free, is_pending, IsAwaited, IsUntold, Turn, State, IsNew, Moves, Scene, Goes, MayGo}
 use Rattle.hack_lanes.specs.JoinedScenes.{goes_more}
 
 -- somebody was called, and nothing happened
@@ -72,19 +73,55 @@ goes_refused did turn state a s t asked came law p none new h =
 contains_at : {X : Type 0} (xs : List X) (i : ℕ) (x : X) → slice_get xs i ≡ Some x → Contains xs x
 contains_at xs i x there = subst (λ y. Contains xs y) (get_or_from_slice_get xs i x x there) (Contains-get_or xs i x (slice_get_within xs i x there))
 
+-- a command that was seen to have ended is still pending
+pending-over : (place : ℕ) (children : List Child) (index : ℕ) (child : Child) → slice_get children index ≡ Some child
+    → is_pending place (map pending_of (slice_set children index (record child { over = true }))) ≡ is_pending place (map pending_of children)
+pending-over place [] index child there = refl
+pending-over place (c ∷ cs) zero child there =
+    ap (λ (o : Child). (o.place == place) || is_pending place (map pending_of cs)) (sym (get_or_from_slice_get (c ∷ cs) zero child child there))
+pending-over place (c ∷ cs) (suc index) child there =
+    ap (λ (b : Bool). (c.place == place) || b) (pending-over place cs index child there)
+
+-- the turn's own command stays pending where one is seen to have ended
+pub awaited-over : (turn last : Option ℕ) (children : List Child) (index : ℕ) (child : Child) → slice_get children index ≡ Some child
+    → IsAwaited turn (record { last = last; pending = map pending_of children })
+    → IsAwaited turn (record { last = last; pending = map pending_of (slice_set children index (record child { over = true })) })
+awaited-over None last children index child there h = h
+awaited-over (Some place) last children index child there h = pending-over place children index child there ∙ h
+
+-- the same where one more was started
+pub awaited-more : (turn last next : Option ℕ) (children : List Child) (child : Child) → IsAwaited turn (record { last = last; pending = map pending_of children })
+    → IsAwaited turn (record { last = next; pending = map pending_of (children ++ child ∷ []) })
+awaited-more None last next children child h = h
+awaited-more (Some place) last next children child h =
+    ap (is_pending place) (map-append pending_of children (child ∷ []))
+    ∙ list_any-append (λ (p : Pending). p.place == place) (map pending_of children) (pending_of child ∷ [])
+    ∙ ap (λ (b : Bool). b || is_pending place (pending_of child ∷ [])) h
+
+-- the turn's own command is pending where it is the first
+pub awaited-first : (turn last : Option ℕ) (place : ℕ) (children : List Child) (P : Child → Type 0) → turn ≡ Some place
+    → IsSomeAnd (slice_get children 0) (λ (child : Child). (child.place ≡ place) × P child) → IsAwaited turn (record { last = last; pending = map pending_of children })
+awaited-first turn last place [] P is h = absurd h
+awaited-first turn last place (c ∷ cs) P is h =
+    subst (λ (o : Option ℕ). IsAwaited o (record { last = last; pending = map pending_of (c ∷ cs) })) (sym is)
+    (ap (λ (b : Bool). b || is_pending place (map pending_of cs)) (eq-eqb c.place place h.0))
+
 -- a command is seen to have ended
-pub goes_ended : {S : Type 0} (did : List Event → S → S → Type 0) (turn : Turn) (last : Option ℕ) (children : List Child) (index : ℕ) (child : Child) (s t : S) → slice_get children index ≡ Some child → did (Ended child.place ∷ []) s t
+pub goes_ended : {S : Type 0} (did : List Event → S → S → Type 0) (turn : Turn) (last : Option ℕ) (children : List Child) (index : ℕ) (child : Child) (s t : S) → slice_get children index ≡ Some child
+    → IsAwaited turn.place (record { last = last; pending = map pending_of children }) → did (Ended child.place ∷ []) s t
     → Goes did [] (record { turn = turn; state = record { last = last; pending = map pending_of children }; starts = s })
     (record { turn = turn; state = record { last = last; pending = map pending_of (slice_set children index (record child { over = true })) }; starts = t })
-goes_ended did turn last children index child s t there h =
-    goes_one did turn (Ended child.place) (record { last = last; pending = map pending_of children }) (record { last = last; pending = map pending_of (slice_set children index (record child { over = true })) }) s t
-    (record {
-      index = index;
-      which = pending_of child;
-      there = slice_get-map pending_of children index ∙ ap (option_map pending_of) there;
-      named = refl;
-      after = ap (λ (p : List Pending). record { last = last; pending = p }) (map-set pending_of children index (record child { over = true }));
-    }) h
+goes_ended did turn last children index child s t there awaited h =
+    goes_one did turn (Ended child.place) (record { last = last; pending = map pending_of children }) (record { last = last; pending = map pending_of (slice_set children index (record child { over = true })) }) s t (
+      awaited,
+      record {
+        index = index;
+        which = pending_of child;
+        there = slice_get-map pending_of children index ∙ ap (option_map pending_of) there;
+        named = refl;
+        after = ap (λ (p : List Pending). record { last = last; pending = p }) (map-set pending_of children index (record child { over = true }));
+      },
+    ) h
 
 -- an offered command starts in a free lane
 pub goes_started : {S : Type 0} (did : List Event → S → S → Type 0) (turn : Option ℕ) (offers : List Job) (layout : Layout) (last : Option ℕ) (children : List Child) (index : ℕ) (job : Job) (child : Child) (s t : S)
@@ -115,14 +152,18 @@ count-views q children = sym (fold-map (λ (n : ℕ) (p : Pending). n + cond (q 
 
 -- a moment passed, while so many had ended and so many ran
 pub goes_waited : {S : Type 0} (did : List Event → S → S → Type 0) (turn : Turn) (last : Option ℕ) (children : List Child) (ended running : ℕ) (s t : S)
+    → IsAwaited turn.place (record { last = last; pending = map pending_of children })
     → ended ≡ count_by (λ (c : Child). c.over) children → running ≡ count_by (λ (c : Child). not c.over) children → did (Waited ended running ∷ []) s t
     → Goes did [] (record { turn = turn; state = record { last = last; pending = map pending_of children }; starts = s })
     (record { turn = turn; state = record { last = last; pending = map pending_of children }; starts = t })
-goes_waited did turn last children ended running s t over runs h =
+goes_waited did turn last children ended running s t awaited over runs h =
     goes_one did turn (Waited ended running) (record { last = last; pending = map pending_of children }) (record { last = last; pending = map pending_of children }) s t (
-      over ∙ count-views (λ (p : Pending). p.over) children,
-      runs ∙ count-views (λ (p : Pending). not p.over) children,
-      refl,
+      awaited,
+      (
+        over ∙ count-views (λ (p : Pending). p.over) children,
+        runs ∙ count-views (λ (p : Pending). not p.over) children,
+        refl,
+      ),
     ) h
 
 -- what came of a call, whether it was answered or not

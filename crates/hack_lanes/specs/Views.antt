@@ -5,7 +5,7 @@ use Rattle.hack_starts.specs.Events.{Layout}
 use Rattle.hack_lanes.specs.declared.job.Job.{Job}
 use Rattle.hack_lanes.specs.declared.child.Child.{Child}
 use Rattle.hack_lanes.specs.declared.lanes.Lanes.{Lanes}
-use Rattle.hack_lanes.specs.declared.lanes.Window.{Window}
+use Rattle.hack_lanes.specs.declared.window.Window.{Window}
 use Rattle.hack_lanes.specs.Lanes.{Offer, Pending, State, Turn, Scene}
 
 abbrev pub offer_of : Job → Offer

@@ -5,3 +5,4 @@ mod child;
 pub mod job;
 pub mod lanes;
 pub mod turns;
+pub mod window;

@@ -1,7 +1,7 @@
 use Rattle.std.proofs.Common.{[]}
 use Rattle.hack_lanes.specs.Views.{scene_of}
 use Rattle.hack_lanes.proofs.GoLemmas.{goes_on}
-use Rattle.hack_lanes.proofs.lanes.Window.clear.Goals as goal
+use Rattle.hack_lanes.proofs.window.Window.clear.Goals as goal
 
 pub loop-alloc-preserved : goal.loop-alloc-preserved
 loop-alloc-preserved g c = record {

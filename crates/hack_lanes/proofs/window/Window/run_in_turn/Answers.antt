@@ -2,7 +2,7 @@ use Rattle.std.proofs.Common.{false}
 use Rattle.hack_process.specs.Calls.{asked_call}
 use Rattle.hack_lanes.specs.Views.{scene_of}
 use Rattle.hack_lanes.proofs.GoLemmas.{goes_behind, goes_maybe, goes_nowhere}
-use Rattle.hack_lanes.proofs.lanes.Window.run_in_turn.Goals as goal
+use Rattle.hack_lanes.proofs.window.Window.run_in_turn.Goals as goal
 
 pub returns-then-is_first-clause-told : goal.returns-then-is_first-clause-told
 returns-then-is_first-clause-told g c =

@@ -1,7 +1,7 @@
 use Rattle.hack_process.specs.Calls.{asked_call}
 use Rattle.hack_lanes.specs.Views.{scene_of, state_of, turn_of}
 use Rattle.hack_lanes.proofs.GoLemmas.{goes_run, goes_refused}
-use Rattle.hack_lanes.proofs.lanes.Window.run_alone.Goals as goal
+use Rattle.hack_lanes.proofs.window.Window.run_alone.Goals as goal
 
 pub returns-clause-told : goal.returns-clause-told
 returns-clause-told g c =

@@ -1,7 +1,7 @@
 use Rattle.std.proofs.Common.{[], length}
 use Rattle.hack_lanes.specs.Lanes.{Goes}
 use Rattle.hack_lanes.specs.Views.{scene_of}
-use Rattle.hack_lanes.proofs.lanes.Window.clear.Given as goal
+use Rattle.hack_lanes.proofs.window.Window.clear.Given as goal
 
 abbrev pub invariant-loop-alloc : goal.invariant-loop-alloc
 invariant-loop-alloc g l = record {
