@@ -23,22 +23,24 @@ use Rattle.hack_run.specs.Handed.{IsHuntedOut, IsSearchedOut}
 
 -- searches for the least versions
 pub concluded_search : (cx : ContextRecord) (rustup : Name) (course : Course) (notes : List Note) (fails warns ended : Bool) → cx.args.find_conflicts ≡ false → (s : IsSearchedOut false cx course.plan course.handed fails warns)
-    → (version_conclusion cx course.plan s.found ≡ broken_off → AreBrokenOff course.handed ended) → ConcludesSo cx rustup course notes fails warns ended (version_conclusion cx course.plan s.found)
-concluded_search cx rustup course notes fails warns ended apart s broken = (
+    → (version_conclusion cx course.plan s.found ≡ broken_off → AreBrokenOff course.handed ended) → (ended ≡ true → version_conclusion cx course.plan s.found ≡ broken_off) → ConcludesSo cx rustup course notes fails warns ended (version_conclusion cx course.plan s.found)
+concluded_search cx rustup course notes fails warns ended apart s broken stops = (
   subst (λ (b : Bool). MatchBool b
       ((hunt : IsHuntedOut false cx rustup course notes fails warns) × (version_conclusion cx course.plan s.found ≡ hunt_conclusion cx.args.verbose course.plan hunt.came))
       ((search : IsSearchedOut false cx course.plan course.handed fails warns) × (version_conclusion cx course.plan s.found ≡ version_conclusion cx course.plan search.found))) (sym apart) (s, refl),
   broken,
+  stops,
 )
 
 -- searches for conflicts
 pub concluded_hunt : (cx : ContextRecord) (rustup : Name) (course : Course) (notes : List Note) (fails warns ended : Bool) → cx.args.find_conflicts ≡ true → (h : IsHuntedOut false cx rustup course notes fails warns)
-    → (hunt_conclusion cx.args.verbose course.plan h.came ≡ broken_off → AreBrokenOff course.handed ended) → ConcludesSo cx rustup course notes fails warns ended (hunt_conclusion cx.args.verbose course.plan h.came)
-concluded_hunt cx rustup course notes fails warns ended on h broken = (
+    → (hunt_conclusion cx.args.verbose course.plan h.came ≡ broken_off → AreBrokenOff course.handed ended) → (ended ≡ true → hunt_conclusion cx.args.verbose course.plan h.came ≡ broken_off) → ConcludesSo cx rustup course notes fails warns ended (hunt_conclusion cx.args.verbose course.plan h.came)
+concluded_hunt cx rustup course notes fails warns ended on h broken stops = (
   subst (λ (b : Bool). MatchBool b
       ((hunt : IsHuntedOut false cx rustup course notes fails warns) × (hunt_conclusion cx.args.verbose course.plan h.came ≡ hunt_conclusion cx.args.verbose course.plan hunt.came))
       ((search : IsSearchedOut false cx course.plan course.handed fails warns) × (hunt_conclusion cx.args.verbose course.plan h.came ≡ version_conclusion cx course.plan search.found))) (sym on) (h, refl),
   broken,
+  stops,
 )
 
 -- what is said of a search, where its lines go after its steps
@@ -56,15 +58,15 @@ whole-one (Least version failed) whole = refl
 whole-one (Nowhere version failed) whole = refl
 whole-one Broken whole = absurd (whole refl)
 
-broken-one : (found : List Found) → Contains found Broken → list_any is_broken found ≡ true
-broken-one found has = list_any-from_Any is_broken found (has.0, Broken, has.1, has.2, refl)
+pub broken_one : (found : List Found) → Contains found Broken → list_any is_broken found ≡ true
+broken_one found has = list_any-from_Any is_broken found (has.0, Broken, has.1, has.2, refl)
 
 pub none_broken : (found : List Found) → AreUnbroken found → list_any is_broken found ≡ false
 none_broken found whole = list_any_none is_broken found (All-weaker (λ (one : Found). one ≢ Broken) (λ (one : Found). is_broken one ≡ false) whole-one found whole)
 
 -- whether one of the searches was broken off
 pub told_broken : (b : Bool) (found : List Found) → MatchBool b (Contains found Broken) (AreUnbroken found) → list_any is_broken found ≡ b
-told_broken true found has = broken-one found has
+told_broken true found has = broken_one found has
 told_broken false found whole = none_broken found whole
 
 -- ---- what is said of a conclusion

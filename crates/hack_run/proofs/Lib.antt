@@ -14,6 +14,9 @@ mod ErrorLemmas
 mod FindingLemmas
 mod ConclusionLemmas
 mod BrokenLemmas
+mod EndedLemmas
 mod ToldLemmas
 mod ShownLemmas
+mod ShownLists
+mod ShownCalls
 pub mod TraceLemmas

@@ -63,10 +63,6 @@ rustup_unread tells rustup dir answer verbose c old new (Ok known) is had why = 
     go (Some why) h t = call_unread rustup_part tells dir answer why verbose c (rustup_command rustup) old new is refl had h t
 rustup_unread tells rustup dir answer verbose c old new (Err x) is had why = tt
 
--- rustup wasn't asked
-pub unasked_reason : (verbose : Bool) (rustup : Name) (known : Rustup) (old new : List Call) → unknown_of known ≡ None → TellsReason verbose rustup known old new
-unasked_reason verbose rustup known old new is = subst (λ (o : Option Name). IfSome o (IsReason rustup_part verbose (rustup_command rustup) old new)) (sym is) tt
-
 -- stable's cargo gave no answer
 pub stable_failed : (tells : Type 0) (rustup dir : Name) (verbose : Bool) (c : Command) (old new : List Call) (e : ProcessFault) → c ≡ version_command rustup → IsReadFault tells (asked_of true c) (text_of true dir c) old new e
     → (why : Name) → (e ≢ process.Memory) × (why ≡ fault_text e) → tells → IsReason release_part verbose (version_command rustup) old new why

@@ -209,14 +209,6 @@ list_shows cx stable rustup old mid begun gathered left out empty made kept grow
       counted = λ e. unended e;
     })
 
--- what a runner keeps through notices and steps, it keeps where a list was handed over
-pub handed_keeps : {R N : Type 0} (whole : Type 0) (had has : Option (List ℕ)) (Told : List Note → R → R → Type 0) (Ran : PlanView → List Handed → R → R → Type 0) (cx : ContextRecord) (stable : Stable) (rustup : Name) (a b : R)
-    → HandsOverAtMostOne whole had has Told Ran cx stable rustup a b
-    → (name : R → N) → ((notes : List Note) (x y : R) → Told notes x y → name x ≡ name y) → ((plan : PlanView) (steps : List Handed) (x y : R) → Ran plan steps x y → name x ≡ name y) → name a ≡ name b
-handed_keeps whole had has Told Ran cx stable rustup a b (inl (inl same, kept)) name told ran = ap name (sym same)
-handed_keeps whole had has Told Ran cx stable rustup a b (inl (inr some, kept)) name told ran = told some.0 a b some.1
-handed_keeps whole had has Told Ran cx stable rustup a b (inr l) name told ran = told l.notes a l.mid l.told ∙ ran l.course.plan (filter is_sent l.course.handed) l.mid b l.ran
-
 -- a caller whose course the steps keep is in that course where a list was handed over
 pub handed_in_course : {R S : Type 0} (whole : Type 0) (had has : Option (List ℕ)) (Told : List Note → R → R → Type 0) (Ran : PlanView → List Handed → R → R → Type 0) (cx : ContextRecord) (stable : Stable) (rustup : Name) (a b : R)
     → HandsOverAtMostOne whole had has Told Ran cx stable rustup a b → (state : R → S) (course : S → S → Type 0) → ((s : S) → course s s)
@@ -386,10 +378,6 @@ runs_some cx stable rustup course notes old new mid before now same planned perf
   noted = λ e. unended e;
   counted = λ e. unended e;
 })
-
--- the same to calls by another name
-pub performed_to : (plan : PlanView) (handed : List Handed) (old new other : List Call) (before now : ℕ) → new ≡ other → HasPerformed plan handed old new before now → HasPerformed plan handed old other before now
-performed_to plan handed old new other before now same h = subst (λ (calls : List Call). HasPerformed plan handed old calls before now) same h
 
 -- a list that was handed over, each step of which passed or was listed where no error was reported
 pub lists_one : {R : Type 0} (had has : Option (List ℕ)) (Told : List Note → R → R → Type 0) (Ran : PlanView → List Handed → R → R → Type 0) (cx : ContextRecord) (stable : Stable) (rustup : Name) (a b : R) (l : ListsOver (Unit {0}) had has Told Ran cx stable rustup a b)

@@ -200,16 +200,16 @@ beside-whole : (low high : ℕ) (t : Tried) → IsBeside low high t → t.outcom
 beside-whole low high t (inl f) e = let x : outcome.Failed ≡ outcome.Broken = sym f.0 ∙ e in cc
 beside-whole low high t (inr p) e = let x : outcome.Passed ≡ outcome.Broken = sym p.0 ∙ e in cc
 
-unbroken-search : (plan : PlanView) (p : ℕ) (trials : List Trial) (one : Found) → one ≢ FoundBroken → IsSearchOf plan p trials one → All (λ (t : Trial). t.came ≢ Broken) trials
-unbroken-search plan p trials Untried whole s = subst (All (λ (t : Trial). t.came ≢ Broken)) (sym s.says.1) (All-nil (λ (t : Trial). t.came ≢ Broken))
-unbroken-search plan p trials (Least version failed) whole s =
+pub unbroken_search : (plan : PlanView) (p : ℕ) (trials : List Trial) (one : Found) → one ≢ FoundBroken → IsSearchOf plan p trials one → All (λ (t : Trial). t.came ≢ Broken) trials
+unbroken_search plan p trials Untried whole s = subst (All (λ (t : Trial). t.came ≢ Broken)) (sym s.says.1) (All-nil (λ (t : Trial). t.came ≢ Broken))
+unbroken_search plan p trials (Least version failed) whole s =
     let h = s.says.1 in
     unbroken-zip (uses_of plan p) h.tried trials h.same (λ k d lt. beside-whole _ _ _ (h.search.answered.beside k d lt))
-unbroken-search plan p trials (Nowhere version failed) whole s =
+unbroken_search plan p trials (Nowhere version failed) whole s =
     let h = s.says.0 in
     unbroken-zip (uses_of plan p) h.tried trials h.same (subst (All (λ (t : Tried). t.outcome ≢ outcome.Broken)) (sym h.search.answered)
     (All-cons (λ (t : Tried). t.outcome ≢ outcome.Broken) _ [] (λ e. cc) (All-nil (λ (t : Tried). t.outcome ≢ outcome.Broken))))
-unbroken-search plan p trials FoundBroken whole s = absurd (whole refl)
+unbroken_search plan p trials FoundBroken whole s = absurd (whole refl)
 
 module _ {R : Type 0} (ran : PlanView → List Handed → R → R → Type 0) (ended : R → Bool) (calls : R → List Call) (Fine : R → Type 0)
     (trial : (plan : PlanView) (steps : List Step) (handed : List Handed) (came : Came) (a b : R) → Fine a → ran plan handed a b → ComesTo (ended b) steps handed came → came ≢ Broken → MakesStarted (calls a) (calls b) × Fine b) where
@@ -225,7 +225,7 @@ module _ {R : Type 0} (ran : PlanView → List Handed → R → R → Type 0) (e
   searches_started plan p [] found a b fine whole say same = subst (λ (x : R). MakesStarted (calls a) (calls x) × Fine x) (sym same) (none_made (calls a), fine)
   searches_started plan p (trials ∷ searches) [] a b fine whole say h = absurd say
   searches_started plan p (trials ∷ searches) (one ∷ found) a b fine whole say h =
-      let here = trials-started plan p trials a h.0 fine (unbroken-search plan p trials one (All-head (λ (f : Found). f ≢ FoundBroken) one found whole) say.0) h.1 in
+      let here = trials-started plan p trials a h.0 fine (unbroken_search plan p trials one (All-head (λ (f : Found). f ≢ FoundBroken) one found whole) say.0) h.1 in
       let rest = searches_started plan (p + 1) searches found h.0 b here.1 (All-tail (λ (f : Found). f ≢ FoundBroken) one found whole) say.1 h.2 in
       (more_made (calls a) (calls h.0) (calls b) here.0 rest.0, rest.1)
 

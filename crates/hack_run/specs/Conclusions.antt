@@ -57,14 +57,14 @@ abbrev pub AreBrokenOff : List Handed → Bool → Type 0
 AreBrokenOff handed ended =
     (before : List Handed) × (step : Step) × (handed ≡ before ++ failed_step step ∷ []) × ((is_place step ≡ false) ⊎ (ended ≡ true))
 
--- what the searches that the arguments ask for come to, whose steps were handed out in this course; `ended` is whether the
--- call is at its end with the last one
+-- What the searches that the arguments ask for come to, whose steps were handed out in this course; `ended` is whether the
+-- call is at its end with the last one: then they were broken off.
 abbrev pub ConcludesSo : ContextRecord → Name → Course → List Note → Bool → Bool → Bool → Conclusion → Type 0
 ConcludesSo cx rustup course notes fails warns ended conclusion =
     MatchBool (is_hunt false cx.args)
     ((hunt : IsHuntedOut false cx rustup course notes fails warns) × (conclusion ≡ hunt_conclusion cx.args.verbose course.plan hunt.came))
     ((search : IsSearchedOut false cx course.plan course.handed fails warns) × (conclusion ≡ version_conclusion cx course.plan search.found))
-    × (conclusion ≡ broken_off → AreBrokenOff course.handed ended)
+    × (conclusion ≡ broken_off → AreBrokenOff course.handed ended) × (ended ≡ true → conclusion ≡ broken_off)
 
 -- What is said of a conclusion, whether an error was reported then, and which is left to tell, where a step's was `was`:
 -- nothing is said where the search was broken off; else why it was cut short, or its lines, or that memory was refused

@@ -53,8 +53,7 @@ use Rattle.hack_planner.specs.declared.fault.PlanFault.{PlanFault}
 use Rattle.hack_process.specs.declared.fault.ProcessFault.{ProcessFault}
 use Rattle.hack_run.specs.Conclusions.{Conclusion, ConcludesSo, SaysSearch}
 use Rattle.hack_run.specs.Handed.{is_search}
-use Rattle.hack_run.specs.Shown.{Looks, SaysSteps}
-use Rattle.hack_side.specs.Ends.{has_ended}
+use Rattle.hack_run.specs.Shown.{Looks, SaysSteps, is_at_end}
 use Rattle.hack_session.specs.Histories.{Course}
 use Rattle.hack_session.specs.StepEffects.{Scene}
 use Rattle.hack_session.specs.ListLines.{is_sent, lines_written}
@@ -189,13 +188,13 @@ IsUntoldRefusal e came old new =
 
 -- Steps were said, and behind those of a search what is said of its conclusion. This error is left then, and it is noted so
 -- whether one was reported; the session is that of the steps, and a search has none.
-pub record HandsSteps (tells : Type 0) (cx : ContextRecord) (stable : Stable) (rustup : Name) (kept left : Option ProcessFault) (reported : Bool) (looks : Looks) (session : Option Course) (old new : Scene) : Type 0 where
+pub record HandsSteps (tells : Type 0) (cx : ContextRecord) (stable : Stable) (rustup : Name) (left : Option ProcessFault) (reported : Bool) (looks : Looks) (session : Option Course) (old new : Scene) : Type 0 where
   pub mid : Scene
-  pub steps : SaysSteps tells false cx stable rustup kept looks old mid
+  pub steps : SaysSteps tells false cx stable rustup looks old mid
   pub calls : new.calls ≡ mid.calls
   pub out : new.streams.out ≡ mid.streams.out
   pub behind : MatchBool (is_search false cx.args)
-      ((session ≡ None) × (conclusion : Conclusion) × ConcludesSo cx rustup steps.course steps.notes steps.fails steps.warns (has_ended steps.last.kept steps.last.refused) conclusion
+      ((session ≡ None) × (conclusion : Conclusion) × ConcludesSo cx rustup steps.course steps.notes steps.fails steps.warns (is_at_end steps.last) conclusion
       × SaysSearch (nat_lt 0 steps.last.refused) conclusion looks.coloring steps.last.kept steps.last.told left reported mid.streams.err new.streams.err)
       ((session ≡ Some steps.course) × (left ≡ steps.last.kept) × (reported ≡ steps.last.told) × (new.streams.err ≡ mid.streams.err))
 
@@ -215,7 +214,7 @@ FollowsAndLeaves Refuses tells args answers env old new =
 -- or gathered grew by just the lines of those that passed; each that is listed passed, where none was missed
 abbrev pub ListsSteps : Type 0 → Type 0 → ContextRecord → Stable → Name → Option ProcessFault → Bool → Looks → Option (List ℕ) → Option (List ℕ) → Scene → Scene → Type 0
 ListsSteps NoneMissed tells cx stable rustup now reported looks had has old new =
-    (steps : SaysSteps tells true cx stable rustup None looks old new) × (now ≡ steps.last.kept) × (reported ≡ steps.last.told)
+    (steps : SaysSteps tells true cx stable rustup looks old new) × (now ≡ steps.last.kept) × (reported ≡ steps.last.told)
     × Appends had has (flat_map (lines_written steps.course.plan) steps.course.handed)
     × (NoneMissed → All IsListedStep steps.course.handed)
 

@@ -1,6 +1,6 @@
 -- What a call says on the way, and in which order: where it comes to its end, all of that and nothing else; where an
 -- error ends it, what was to be said before.
-use Rattle.std.specs.Prelude.{◌≡◌, ◌⊎◌, ◌&&◌, ◌||◌, [], ℕ, All, Bool, Err, IsSome, List, MatchBool, MatchOption, None, Ok, OnOk, Option, Result, Some, false, filter, if◌then◌else◌, map, nat_lt, not, string_bytes, true}
+use Rattle.std.specs.Prelude.{◌≡◌, ◌⊎◌, ◌&&◌, ◌||◌, [], ◌∷◌, ℕ, All, Bool, Err, IsSome, List, MatchBool, MatchOption, None, Ok, OnOk, Option, Result, Some, false, filter, if◌then◌else◌, map, nat_lt, not, string_bytes, true}
 use Rattle.std.specs.Io.KnownBytes.{Appends, Keeps}
 use Rattle.std.specs.List.{flat_map}
 use Rattle.std.specs.Result.{is_err}
@@ -134,9 +134,19 @@ goes_on listing args = not (is_search listing args) && args.keep_going
 abbrev pub performed_of : Bool → List Handed → List Handed
 performed_of listing handed = if listing then filter is_sent handed else handed
 
--- The notices of a plan were said, and then just what the steps say that were handed out. Lines of groups go to `out`,
--- but a list has none. This error was kept before.
-pub record SaysSteps (tells : Type 0) (listing : Bool) (cx : ContextRecord) (stable : Stable) (rustup : Name) (kept : Option ProcessFault) (looks : Looks) (old new : Scene) : Type 0 where
+-- the call is at its end with what steps did so far
+abbrev pub is_at_end : State → Bool
+is_at_end state = has_ended state.kept state.refused
+
+-- behind a step with which the call is at its end none was performed
+abbrev pub StopsAtEnd : (tells : Type 0) (keep_going : Bool) (m : Manner) (plan : PlanView) (steps : List Handed) (old new : State) → DoesAll tells keep_going m plan steps old new → Type 0
+StopsAtEnd tells keep_going m plan [] old new did = Unit {0}
+StopsAtEnd tells keep_going m plan (h ∷ steps) old new did =
+    ((steps ≡ []) ⊎ (is_at_end did.0 ≡ false)) × StopsAtEnd tells keep_going m plan steps did.0 new did.2
+
+-- The notices of a plan were said, and then just what the steps say that were handed out; a search ends where its call
+-- does. Lines of groups go to `out`, but a list has none.
+pub record SaysSteps (tells : Type 0) (listing : Bool) (cx : ContextRecord) (stable : Stable) (rustup : Name) (looks : Looks) (old new : Scene) : Type 0 where
   pub course : Course
   pub notes : List Note
   pub fails : Bool
@@ -146,7 +156,8 @@ pub record SaysSteps (tells : Type 0) (listing : Bool) (cx : ContextRecord) (sta
   pub first : listing ≡ false → begun.out ≡ old.streams.out
   pub told : SaysNotes looks.coloring notes old.streams.err begun.err
   pub last : State
-  pub does : DoesAll tells (goes_on listing cx.args) (manner_for listing cx.args looks) course.plan (performed_of listing course.handed) (state old.calls begun kept looks.reported 0) last
+  pub does : DoesAll tells (goes_on listing cx.args) (manner_for listing cx.args looks) course.plan (performed_of listing course.handed) (state old.calls begun None looks.reported 0) last
+  pub stops : is_search listing cx.args ≡ true → StopsAtEnd tells (goes_on listing cx.args) (manner_for listing cx.args looks) course.plan (performed_of listing course.handed) (state old.calls begun None looks.reported 0) last does
   pub calls : new.calls ≡ last.scene.calls
   pub out : listing ≡ false → new.streams.out ≡ last.scene.streams.out
   pub err : new.streams.err ≡ last.scene.streams.err
@@ -191,14 +202,14 @@ ComesOfRuns came cx looks now course last old new = MatchOption last.kept
 -- what the steps of a search came to: what is said of its conclusion, and the error that is left, if there is one
 abbrev pub ComesOfSearch : Result (Unit {0}) RunFault → ContextRecord → Name → Looks → Looks → Course → List Note → Bool → Bool → State → Stream → Stream → Type 0
 ComesOfSearch came cx rustup looks now course notes fails warns last old new = (conclusion : Conclusion) × (left : Option ProcessFault)
-    × ConcludesSo cx rustup course notes fails warns (has_ended last.kept last.refused) conclusion
+    × ConcludesSo cx rustup course notes fails warns (is_at_end last) conclusion
     × SaysSearch (nat_lt 0 last.refused) conclusion looks.coloring last.kept last.told left now.reported old new
     × MatchOption left (came ≡ Ok tt) (λ failed. came ≡ Err (fault.Process failed))
 
 -- steps were said, and then what they came to
 pub record SaysRuns (came : Result (Unit {0}) RunFault) (tells : Type 0) (cx : ContextRecord) (stable : Stable) (rustup : Name) (looks now : Looks) (old new : Scene) : Type 0 where
   pub mid : Scene
-  pub steps : SaysSteps tells false cx stable rustup None looks old mid
+  pub steps : SaysSteps tells false cx stable rustup looks old mid
   pub calls : new.calls ≡ mid.calls
   pub out : new.streams.out ≡ mid.streams.out
   pub comes : MatchBool (is_search false cx.args)
@@ -221,7 +232,7 @@ ComesOfList came now handed last old new = (came ≡ Err fault.Memory)
 -- The same of a list's steps that aren't listed. Whatever came of them, just the lines of the steps that passed were
 -- printed, in order; or a front of these lines, and their stream counted a failure.
 pub record SaysList (came : Result (Unit {0}) RunFault) (tells : Type 0) (cx : ContextRecord) (stable : Stable) (rustup : Name) (looks now : Looks) (old new : Scene) : Type 0 where
-  pub steps : SaysSteps tells true cx stable rustup None looks old new
+  pub steps : SaysSteps tells true cx stable rustup looks old new
   pub wrote : WritesText (flat_map (lines_written steps.course.plan) steps.course.handed) old.streams.out new.streams.out
   pub comes : ComesOfList came now steps.course.handed steps.last old.streams.out new.streams.out
   pub ends : now ≡ reported_on now.reported looks

@@ -42,7 +42,8 @@ pub(crate) fn hunt_in_lanes<L: Turns, O: Sink, E: Sink>(
     fault: &mut Option<ProcessFault>,
     fails: &mut bool,
 ) -> Result<(), PlanFault>
-    requires { (context_view cx.now).args.find_conflicts ≡ true }
+    requires search { (context_view cx.now).args.find_conflicts ≡ true }
+    requires fresh { fault.old ≡ None }
     ensures done { OnOk result (fault.new ≡ None → term.new.error ≡ false → L.tells
         → (stable : Stable)
         → PerformsOne true false (context_view cx.now) stable rustup.now term.old.warn
@@ -59,7 +60,7 @@ pub(crate) fn hunt_in_lanes<L: Turns, O: Sink, E: Sink>(
     ensures refused { OnErr result (lanes.new ≡ lanes.old) }
     ensures shown { OnOk result ((stable : Stable)
         → HandsSteps L.tells (context_view cx.now) stable rustup.now
-        fault.old fault.new term.new.error (looks_of term.old) None
+        fault.new term.new.error (looks_of term.old) None
         (scene_at (L.calls lanes.old) O.Sink E.Sink out.old err.old)
         (scene_at (L.calls lanes.new) O.Sink E.Sink out.new err.new)) }
     ensures unplanned { IfErr result (λ e. (stable : Stable)

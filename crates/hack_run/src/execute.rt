@@ -25,8 +25,9 @@ use crate::host::Host;
 use crate::tell::{cut_off, fail};
 use hack_base::writes::Sink;
 use hack_drive::drive::{drive_context, search_context};
-use hack_lanes::lanes::{Lanes, Window};
+use hack_lanes::lanes::Lanes;
 use hack_lanes::turns::Turns;
+use hack_lanes::window::Window;
 use hack_load::context::Context;
 use hack_msrv::found::Found;
 use hack_plan::plan::Plan;
@@ -104,7 +105,8 @@ fn hand_to_starter<C: Starts, O: Sink, E: Sink>(
     fault: &mut Option<ProcessFault>,
     host: &mut Host<'_, C, O, E>,
 ) -> Result<Option<Session>, PlanFault>
-    requires { IsAnswered (context_view cx.now).args stable }
+    requires answered { IsAnswered (context_view cx.now).args stable }
+    requires fresh { fault.old ≡ None }
     ensures host { IsSameHost host.old host.new }
     ensures done { OnOk result (fault.new ≡ None → PerformsItsPlan C.Caller O.Sink false
         (context_view cx.now) stable host.old host.new) }
@@ -116,7 +118,7 @@ fn hand_to_starter<C: Starts, O: Sink, E: Sink>(
         (string_bytes host.old.env.now.rustup) host.old.caller.now host.new.caller.now) }
     ensures shown { C.tells → IfOk result (λ session. HandsSteps C.tells
         (context_view cx.now) stable
-        (string_bytes host.old.env.now.rustup) fault.old fault.new host.new.term.now.error
+        (string_bytes host.old.env.now.rustup) fault.new host.new.term.now.error
         (looks_of host.old.term.now) session
         (scene_on C.Caller O.Sink E.Sink host.old) (scene_on C.Caller O.Sink E.Sink host.new)) }
     ensures unplanned { C.tells → IfErr result (HasNoPlan false (context_view cx.now) stable
@@ -161,7 +163,8 @@ fn hand_out<L: Turns, O: Sink, E: Sink>(
     fault: &mut Option<ProcessFault>,
     fails: &mut bool,
 ) -> Result<Option<Session>, PlanFault>
-    requires { IsAnswered (context_view cx.now).args stable }
+    requires answered { IsAnswered (context_view cx.now).args stable }
+    requires fresh { fault.old ≡ None }
     ensures done { OnOk result (fault.new ≡ None → term.new.error ≡ false → L.tells
         → PerformsOne true false (context_view cx.now) stable rustup.now term.old.warn
         (host_of L.Caller O.Sink lanes.old out.old term.old fails.old)
@@ -174,7 +177,7 @@ fn hand_out<L: Turns, O: Sink, E: Sink>(
     ensures stays { L.stays lanes.old lanes.new }
     ensures refused { OnErr result (lanes.new ≡ lanes.old) }
     ensures shown { IfOk result (λ session. HandsSteps L.tells (context_view cx.now) stable
-        rustup.now fault.old fault.new term.new.error (looks_of term.old) session
+        rustup.now fault.new term.new.error (looks_of term.old) session
         (scene_at (L.calls lanes.old) O.Sink E.Sink out.old err.old)
         (scene_at (L.calls lanes.new) O.Sink E.Sink out.new err.new)) }
     ensures unplanned { IfErr result (HasNoPlan false (context_view cx.now) stable
@@ -212,6 +215,7 @@ fn drive_in_lanes<L: Turns, O: Sink, E: Sink>(
     requires answered { IsAnswered (context_view cx.now).args stable }
     requires apart { (context_view cx.now).args.find_conflicts ≡ false }
     requires piece { (context_view cx.now).args.find_rust_version ≡ false }
+    requires fresh { fault.old ≡ None }
     ensures done { OnOk result (fault.new ≡ None → term.new.error ≡ false → L.tells
         → (fails : Bool) → PerformsOne true false (context_view cx.now) stable rustup.now
         term.old.warn (host_of L.Caller O.Sink lanes.old out.old term.old fails)
@@ -224,7 +228,7 @@ fn drive_in_lanes<L: Turns, O: Sink, E: Sink>(
     ensures stays { L.stays lanes.old lanes.new }
     ensures refused { OnErr result (lanes.new ≡ lanes.old) }
     ensures shown { IfOk result (λ session. HandsSteps L.tells (context_view cx.now) stable
-        rustup.now fault.old fault.new term.new.error (looks_of term.old) (Some session)
+        rustup.now fault.new term.new.error (looks_of term.old) (Some session)
         (scene_at (L.calls lanes.old) O.Sink E.Sink out.old err.old)
         (scene_at (L.calls lanes.new) O.Sink E.Sink out.new err.new)) }
     ensures unplanned { IfErr result (HasNoPlan false (context_view cx.now) stable
@@ -261,6 +265,7 @@ fn search_in_lanes<L: Turns, O: Sink, E: Sink>(
     requires answered { IsAnswered (context_view cx.now).args stable }
     requires apart { (context_view cx.now).args.find_conflicts ≡ false }
     requires search { (context_view cx.now).args.find_rust_version ≡ true }
+    requires fresh { fault.old ≡ None }
     ensures done { OnOk result (fault.new ≡ None → term.new.error ≡ false → L.tells
         → PerformsOne true false (context_view cx.now) stable rustup.now term.old.warn
         (host_of L.Caller O.Sink lanes.old out.old term.old fails.old)
@@ -273,7 +278,7 @@ fn search_in_lanes<L: Turns, O: Sink, E: Sink>(
     ensures stays { L.stays lanes.old lanes.new }
     ensures refused { OnErr result (lanes.new ≡ lanes.old) }
     ensures shown { OnOk result (HandsSteps L.tells (context_view cx.now) stable rustup.now
-        fault.old fault.new term.new.error (looks_of term.old) None
+        fault.new term.new.error (looks_of term.old) None
         (scene_at (L.calls lanes.old) O.Sink E.Sink out.old err.old)
         (scene_at (L.calls lanes.new) O.Sink E.Sink out.new err.new)) }
     ensures unplanned { IfErr result (HasNoPlan false (context_view cx.now) stable

@@ -24,11 +24,12 @@ use Rattle.hack_session.proofs.StepLemmas.{has_performed, passed_or_told}
 use Rattle.hack_run.proofs.ToldLemmas.{warned_run}
 use Rattle.hack_base.specs.Streams.{stream_of}
 use Rattle.hack_session.specs.StepEffects.{state}
-use Rattle.hack_session.specs.StepOutput.{streams}
+use Rattle.hack_session.specs.StepOutput.{manner_of, streams}
 use Rattle.hack_words.specs.declared.cli.args.Args.{Args}
-use Rattle.hack_run.specs.Shown.{looks_of, scene_at}
+use Rattle.hack_run.specs.Shown.{is_at_end, looks_of, scene_at}
 use Rattle.hack_side.specs.Ends.{has_ended}
 use Rattle.hack_run.proofs.BrokenLemmas.{hunt_broken}
+use Rattle.hack_run.proofs.EndedLemmas.{hunt_stops, starter_does}
 use Rattle.hack_run.proofs.ConclusionLemmas.{concluded_hunt, search_said}
 use Rattle.hack_run.proofs.ShownLemmas.{goes_on_unless, looks_after, looks_later, steps_searched}
 use Rattle.hack_run.specs.Conclusions.{hunt_conclusion}
@@ -77,7 +78,7 @@ returns-clause-done g c = λ none quiet t stable.
     (zero, stops) whole in
     rw (lanes_is, out_is)
     (hunts_one cx stable c.args.rustup.now course notes fails warns (host_of g.L.Caller g.O.Sink c.args.lanes.now c.args.out.now c.args.term.now c.args.fails.now) (host_of g.L.Caller g.O.Sink last.caller.now last.out.now now c.settle.new.fails)
-    (calls mid.caller.now) mid.refused last.refused (ap calls (told.3 ∙ ap (λ s. s.caller.now) made ∙ c.new-starter.ensures.caller.1)) c.requires
+    (calls mid.caller.now) mid.refused last.refused (ap calls (told.3 ∙ ap (λ s. s.caller.now) made ∙ c.new-starter.ensures.caller.1)) c.requires.search
     (record { ids = course-of.2; start = start; begun = course-of.4; came = came_of hunt.found; built = hunts.built; hunts = hunts.hunts; steps = refl; told = λ e. (found.0, found.1, refl, refl) })
     (has_performed g.L.Caller.tells _ _ hunt.plan handed _ _ ran.8 t) started.0 (told.4 ∙ ap (λ s. s.refused) made ∙ c.new-starter.ensures.refused) (unrefused last.refused settled.0)
     (report.kept ∙ or_comm c.args.fails.now fails) (warned_later (have_warning notes) c.args.term.now.warn last.term.now.warn warns now.warn warned report.noted))
@@ -103,7 +104,7 @@ returns-clause-made g c = λ t stable.
     rw (lanes_is, out_is)
     (runs_some cx stable c.args.rustup.now course notes (host_of g.L.Caller g.O.Sink c.args.lanes.now c.args.out.now c.args.term.now c.args.fails.now) (host_of g.L.Caller g.O.Sink last.caller.now last.out.now c.settle.new.term c.settle.new.fails)
     (calls mid.caller.now) mid.refused last.refused (ap calls (told.3 ∙ ap (λ s. s.caller.now) made ∙ c.new-starter.ensures.caller.1))
-    (planned_hunt (IsPlanOf cx.args.subcommand stable cx c.args.rustup.now) false cx c.args.rustup.now course notes false false c.requires
+    (planned_hunt (IsPlanOf cx.args.subcommand stable cx c.args.rustup.now) false cx c.args.rustup.now course notes false false c.requires.search
     (record { ids = course-of.2; start = start; begun = course-of.4; came = came_of hunt.found; built = hunts.built; hunts = hunts.hunts; steps = refl; told = λ e. unended e }))
     (has_performed g.L.Caller.tells _ _ hunt.plan handed _ _ ran.8 t))
 
@@ -127,9 +128,9 @@ returns-clause-lanes g c = λ stable.
       notes = notes;
       fails = false;
       warns = false;
-      planned = planned_hunt (IsPlanOf cx.args.subcommand stable cx c.args.rustup.now) false cx c.args.rustup.now course notes false false c.requires
+      planned = planned_hunt (IsPlanOf cx.args.subcommand stable cx c.args.rustup.now) false cx c.args.rustup.now course notes false false c.requires.search
           (record { ids = course-of.2; start = start; begun = course-of.4; came = came_of hunt.found; built = hunts.built; hunts = hunts.hunts; steps = refl; told = λ e. unended e });
-      ran = subst (λ (b : Bool). MatchBool b (RunsSerially g.L.Turns.did handed (g.L.Turns.scene c.args.lanes.now) (g.L.Turns.scene last.caller.now)) (RunsAll g.L.Turns.did cx.args.partition hunt.plan handed (g.L.Turns.scene c.args.lanes.now) (g.L.Turns.scene last.caller.now))) (sym (hunted cx.args c.requires))
+      ran = subst (λ (b : Bool). MatchBool b (RunsSerially g.L.Turns.did handed (g.L.Turns.scene c.args.lanes.now) (g.L.Turns.scene last.caller.now)) (RunsAll g.L.Turns.did cx.args.partition hunt.plan handed (g.L.Turns.scene c.args.lanes.now) (g.L.Turns.scene last.caller.now))) (sym (hunted cx.args c.requires.search))
           (subst (λ s. RunsSerially g.L.Turns.did handed s (g.L.Turns.scene last.caller.now)) (ap g.L.Turns.scene (told.3 ∙ ap (λ s. s.caller.now) made ∙ c.new-starter.ensures.caller.1)) hunts.whole.1);
     })
 
@@ -150,7 +151,7 @@ returns-clause-shown g c = λ stable.
     let fresh = c.new-starter.ensures in
     let ran = hunts.whole.2 in
     let calls = g.L.Caller.calls in
-    let on = hunted cx.args c.requires in
+    let on = hunted cx.args c.requires.search in
     let lanes_is = c.lanes-2-1.given.1 (sym fresh.caller.0 ∙ ap (λ s. s.caller.ghost_name) (sym made) ∙ told.0 ∙ ran.0) in
     let out_is = c.out-2-1.given.1 (sym fresh.out.0 ∙ ap (λ s. s.out.ghost_name) (sym made) ∙ told.7 ∙ ran.3) in
     let err_is = c.err-2-1.given.1 (sym fresh.err.0 ∙ ap (λ s. s.err.ghost_name) (sym made) ∙ told.8 ∙ ran.4) in
@@ -159,19 +160,23 @@ returns-clause-shown g c = λ stable.
     let coloring_is = ap (λ l. l.coloring) (looks_after c.args.term.now c.set_manner.new.self.term.now mid.term.now last.term.now notes (ap (λ s. s.term.now) made ∙ fresh.term.1) told.6 ran.7) in
     let end = state (calls last.caller.now) (streams g.O.Sink g.E.Sink last.out.now last.err.now) last.fault.now last.term.now.error last.refused in
     let found : IsHuntedOut false cx c.args.rustup.now course notes false false = record { ids = course-of.2; start = start; begun = course-of.4; came = came_of hunt.found; built = hunts.built; hunts = hunts.hunts; steps = refl; told = λ e. unended e } in
+    let goes = ap (λ f. has_ended f mid.refused) (told.5 ∙ ap (λ s. s.fault.now) made ∙ fresh.fault.1 ∙ c.requires.fresh) ∙ ap (λ n. has_ended None n) (told.4 ∙ ap (λ s. s.refused) made ∙ fresh.refused) in
+    let stopped = hunt_stops _ (λ s. state (calls s.starter.caller.now) (streams g.O.Sink g.E.Sink s.starter.out.now s.starter.err.now) s.starter.fault.now s.starter.term.now.error s.starter.refused)
+    (λ s. (s.starter.keep_going ≡ mid.keep_going) × (manner_of s.starter.log_group s.starter.term.now ≡ manner_of mid.log_group mid.term.now)) g.L.Caller.tells mid.keep_going (manner_of mid.log_group mid.term.now)
+    (λ plan handed a b fine did. starter_does g.L.Caller.tells calls g.O.Sink g.E.Sink mid.keep_going (manner_of mid.log_group mid.term.now) plan handed a.starter b.starter fine did.2) cx cx.args.most_runs _ (came_of hunt.found) cx.args.verbose start hunt.plan _ _ hunts (refl, refl) goes in
     let conclusion = hunt_conclusion cx.args.verbose hunt.plan (came_of hunt.found) in
     let said = search_said g.E.Sink conclusion (nat_lt 0 last.refused) c.settle.new.fault c.settle.new.term.error c.args.term.now.coloring c.term-2-1.given.0 last.term.now c.fault-2-1.given.0 last.fault.now c.err-2-1.given.0 last.err.now (stream_of g.E.Sink c.settle.new.err) term_is coloring_is fault_is err_is c.settle.ensures.shown in
     rw (lanes_is, out_is)
-    (steps_searched g.L.Caller.tells calls g.E.Sink cx stable c.args.rustup.now c.args.fault.now c.settle.new.fault c.settle.new.term.error course notes false false c.set_manner.new.self mid (streams g.O.Sink g.E.Sink mid.out.now mid.err.now) end c.args.term.now
+    (steps_searched g.L.Caller.tells calls g.E.Sink cx stable c.args.rustup.now c.settle.new.fault c.settle.new.term.error course notes false false c.set_manner.new.self mid (streams g.O.Sink g.E.Sink mid.out.now mid.err.now) end c.args.term.now
     (scene_at (calls c.args.lanes.now) g.O.Sink g.E.Sink c.args.out.now c.args.err.now) end.scene (scene_at (calls last.caller.now) g.O.Sink g.E.Sink last.out.now c.settle.new.err) conclusion
-    (planned_hunt (IsPlanOf cx.args.subcommand stable cx c.args.rustup.now) false cx c.args.rustup.now course notes false false c.requires found)
+    (planned_hunt (IsPlanOf cx.args.subcommand stable cx c.args.rustup.now) false cx c.args.rustup.now course notes false false c.requires.search found)
     (ap (λ s. calls s.caller.now) made ∙ ap calls fresh.caller.1) (ap (λ s. s.term.now) made ∙ fresh.term.1)
-    (ap (λ s. stream_of g.E.Sink s.err.now) made ∙ ap (stream_of g.E.Sink) fresh.err.1) (ap (λ s. s.fault.now) made ∙ fresh.fault.1) (ap (λ s. s.refused) made ∙ fresh.refused)
+    (ap (λ s. stream_of g.E.Sink s.err.now) made ∙ ap (stream_of g.E.Sink) fresh.err.1) (ap (λ s. s.fault.now) made ∙ fresh.fault.1 ∙ c.requires.fresh) (ap (λ s. s.refused) made ∙ fresh.refused)
     (ap (λ s. s.keep_going) made ∙ sym (goes_on_unless cx.args on))
     (ap (λ s. s.log_group) made ∙ ap (λ m. m.0) c.manner-log_group.ensures ∙ ap (λ (a : Args). a.log_group) c.args-2.ensures)
-    told refl (λ off. ap (stream_of g.O.Sink) (told.9 ∙ ap (λ s. s.out.now) made ∙ fresh.out.1)) ran.8 refl (λ off. refl) refl on
-    (concluded_hunt cx c.args.rustup.now course notes false false (has_ended last.fault.now last.refused) c.requires found
-    (hunt_broken _ _ cx cx.args.most_runs _ (came_of hunt.found) cx.args.verbose start hunt.plan _ c.hunt_context.new.runner hunts)) said refl refl)
+    told refl (λ off. ap (stream_of g.O.Sink) (told.9 ∙ ap (λ s. s.out.now) made ∙ fresh.out.1)) stopped.0 refl (λ off. refl) refl on
+    (concluded_hunt cx c.args.rustup.now course notes false false (is_at_end end) c.requires.search found
+    (hunt_broken _ _ cx cx.args.most_runs _ (came_of hunt.found) cx.args.verbose start hunt.plan _ c.hunt_context.new.runner hunts) stopped.1) said refl refl)
 
 pub returns-clause-looks : goal.returns-clause-looks
 returns-clause-looks g c =

@@ -99,11 +99,11 @@ returns-clause-shown g c =
     let fault_is = c.fault-1.given.1 (sym fresh.fault.0 ∙ ap (λ s. s.fault.ghost_name) (sym made) ∙ told.2 ∙ ran.2) in
     let term_is = c.term-1.given.1 (sym fresh.term.0 ∙ ap (λ s. s.term.ghost_name) (sym made) ∙ told.1 ∙ ran.1) in
     rw (lanes_is, out_is, err_is, fault_is, term_is)
-    (steps_handed g.L.Caller.tells calls g.E.Sink cx c.args.stable c.args.rustup.now c.args.fault.now session notes false false c.set_manner.new.self mid (streams g.O.Sink g.E.Sink mid.out.now mid.err.now) end c.args.term.now
+    (steps_handed g.L.Caller.tells calls g.E.Sink cx c.args.stable c.args.rustup.now session notes false false c.set_manner.new.self mid (streams g.O.Sink g.E.Sink mid.out.now mid.err.now) end c.args.term.now
     (scene_at (calls c.args.lanes.now) g.O.Sink g.E.Sink c.args.out.now c.args.err.now) end.scene
     (planned_piece (IsPlanOf cx.args.subcommand c.args.stable cx c.args.rustup.now) false cx c.args.rustup.now session notes c.requires.apart c.requires.piece c.in_ok-session.ensures.ran.2 c.in_ok-session.ensures.headline.driven)
     (ap (λ s. calls s.caller.now) made ∙ ap calls fresh.caller.1) (ap (λ s. s.term.now) made ∙ fresh.term.1)
-    (ap (λ s. stream_of g.E.Sink s.err.now) made ∙ ap (stream_of g.E.Sink) fresh.err.1) (ap (λ s. s.fault.now) made ∙ fresh.fault.1) (ap (λ s. s.refused) made ∙ fresh.refused)
+    (ap (λ s. stream_of g.E.Sink s.err.now) made ∙ ap (stream_of g.E.Sink) fresh.err.1) (ap (λ s. s.fault.now) made ∙ fresh.fault.1 ∙ c.requires.fresh) (ap (λ s. s.refused) made ∙ fresh.refused)
     (ap (λ s. s.keep_going) made ∙ ap (λ m. m.1) c.manner-log_group.ensures ∙ ap (λ (a : Args). a.keep_going) c.args-2.ensures ∙ sym (goes_on_if cx.args (unsearched cx.args c.requires.apart c.requires.piece)))
     (ap (λ s. s.log_group) made ∙ ap (λ m. m.0) c.manner-log_group.ensures ∙ ap (λ (a : Args). a.log_group) c.args-2.ensures)
     told refl (λ off. ap (stream_of g.O.Sink) (told.9 ∙ ap (λ s. s.out.now) made ∙ fresh.out.1)) ran.8 refl (λ off. refl) refl (unsearched cx.args c.requires.apart c.requires.piece))

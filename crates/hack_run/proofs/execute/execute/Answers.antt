@@ -1,4 +1,4 @@
-use Rattle.std.proofs.Common.{None, ap, inl, inr, refl, rules, subst, string_bytes, true, false}
+use Rattle.std.proofs.Common.{ap, inl, inr, refl, rules, subst, string_bytes, true, false}
 use Rattle.hack_load.specs.ContextView.{context_view}
 use Rattle.hack_run.specs.Shown.{looks_of, scene_at, scene_on}
 use Rattle.hack_run.specs.Worlds.{host_view}
@@ -38,7 +38,7 @@ pub returns-in_err-report_all-in-Some-session-clause-shown : goal.returns-in_err
 returns-in_err-report_all-in-Some-session-clause-shown g c = λ t.
     inr (said_unreported _ c.hand_to_starter.new.fault c.hand_to_starter.new.host.term.now.error g.C.Caller.tells (context_view c.args.cx.now) c.args.stable (string_bytes c.args.host.now.env.now.rustup) (looks_of c.args.host.now.term.now) (looks_of c.report_all.new.term) c.in-Some-session.session
     (scene_on g.C.Caller g.O.Sink g.E.Sink c.args.host.now) (scene_on g.C.Caller g.O.Sink g.E.Sink c.hand_to_starter.new.host) (scene_at (g.C.Caller.calls c.hand_to_starter.new.host.caller.now) g.O.Sink g.E.Sink c.hand_to_starter.new.host.out.now c.report_all.new.err)
-    (subst (λ (o : Option Course). HandsSteps g.C.Caller.tells (context_view c.args.cx.now) c.args.stable (string_bytes c.args.host.now.env.now.rustup) None c.hand_to_starter.new.fault c.hand_to_starter.new.host.term.now.error (looks_of c.args.host.now.term.now) o
+    (subst (λ (o : Option Course). HandsSteps g.C.Caller.tells (context_view c.args.cx.now) c.args.stable (string_bytes c.args.host.now.env.now.rustup) c.hand_to_starter.new.fault c.hand_to_starter.new.host.term.now.error (looks_of c.args.host.now.term.now) o
     (scene_on g.C.Caller g.O.Sink g.E.Sink c.args.host.now) (scene_on g.C.Caller g.O.Sink g.E.Sink c.hand_to_starter.new.host)) c.in-Some-session.is (c.in-Ok.ensures.shown t))
     c.in-None.is (search rules) refl refl (cut_of c.in-Some-session.session c.hand_to_starter.new.host.term.now c.args.host.now.term.now _ _ c.hand_to_starter.ensures.looks c.in_err-report_all-in-Some-session.ensures.cut)
     (looks_later c.args.host.now.term.now c.hand_to_starter.new.host.term.now c.report_all.new.term c.hand_to_starter.ensures.looks (ap looks_of c.report_all.ensures.term)))
@@ -47,7 +47,7 @@ pub returns-in_ok-report_all-in-Some-session-clause-shown : goal.returns-in_ok-r
 returns-in_ok-report_all-in-Some-session-clause-shown g c = λ t.
     inr (said_reported c.hand_to_starter.new.fault c.hand_to_starter.new.host.term.now.error g.C.Caller.tells (context_view c.args.cx.now) c.args.stable (string_bytes c.args.host.now.env.now.rustup) (looks_of c.args.host.now.term.now) (looks_of c.report_all.new.term) c.in-Some-session.session
     (scene_on g.C.Caller g.O.Sink g.E.Sink c.args.host.now) (scene_on g.C.Caller g.O.Sink g.E.Sink c.hand_to_starter.new.host) (scene_at (g.C.Caller.calls c.hand_to_starter.new.host.caller.now) g.O.Sink g.E.Sink c.hand_to_starter.new.host.out.now c.report_all.new.err)
-    (subst (λ (o : Option Course). HandsSteps g.C.Caller.tells (context_view c.args.cx.now) c.args.stable (string_bytes c.args.host.now.env.now.rustup) None c.hand_to_starter.new.fault c.hand_to_starter.new.host.term.now.error (looks_of c.args.host.now.term.now) o
+    (subst (λ (o : Option Course). HandsSteps g.C.Caller.tells (context_view c.args.cx.now) c.args.stable (string_bytes c.args.host.now.env.now.rustup) c.hand_to_starter.new.fault c.hand_to_starter.new.host.term.now.error (looks_of c.args.host.now.term.now) o
     (scene_on g.C.Caller g.O.Sink g.E.Sink c.args.host.now) (scene_on g.C.Caller g.O.Sink g.E.Sink c.hand_to_starter.new.host)) c.in-Some-session.is (c.in-Ok.ensures.shown t))
     c.in-None.is refl refl (report_of (context_view c.args.cx.now) c.in-Some-session.session c.hand_to_starter.new.host.term.now c.args.host.now.term.now _ _ c.hand_to_starter.ensures.looks c.in_ok-report_all-in-Some-session.ensures.shown)
     c.in_ok-report_all-in-Some-session.ensures.error

@@ -7,7 +7,7 @@ use Rattle.hack_base.specs.Names.{Name}
 use Rattle.hack_starts.specs.Events.{Layout}
 use Rattle.hack_lanes.specs.Lanes.{Goes}
 use Rattle.hack_lanes.specs.Views.{scene_in, scene_of}
-use Rattle.hack_lanes.specs.declared.lanes.Window.{Window}
+use Rattle.hack_lanes.specs.declared.window.Window.{Window}
 use Rattle.hack_run.specs.CallTrace.{PerformsOne}
 use Rattle.hack_run.specs.Internal.{HandsSteps, PerformsAtMostOne}
 use Rattle.hack_run.specs.Worlds.{host_view}
@@ -52,6 +52,6 @@ returns-clause-shown g c = λ t.
     let calls = g.C.Caller.calls in
     let lanes = c.hand_out.new.lanes in
     let cleared = cleared_calls g.C.Caller.tells calls g.C.Starts.did g.met.C.Starts.did_calls (scene_of c.window-2-1.given.0 lanes.starts.now) (scene_of c.clear.new.self c.clear.new.starts) c.clear.ensures.goes t in
-    subst (λ (made : List Call). HandsSteps g.C.Caller.tells (context_view c.args.cx.now) c.args.stable (string_bytes c.args.host.now.env.now.rustup) c.args.fault.now c.hand_out.new.fault c.hand_out.new.term.error (looks_of c.args.host.now.term.now) c.in_ok-session.session
+    subst (λ (made : List Call). HandsSteps g.C.Caller.tells (context_view c.args.cx.now) c.args.stable (string_bytes c.args.host.now.env.now.rustup) c.hand_out.new.fault c.hand_out.new.term.error (looks_of c.args.host.now.term.now) c.in_ok-session.session
     (scene_on g.C.Caller g.O.Sink g.E.Sink c.args.host.now) (record { calls = made; streams = streams g.O.Sink g.E.Sink c.hand_out.new.out c.hand_out.new.err })) (sym cleared)
     (rw c.as_str-rustup.ensures.value at c.in_ok-session.ensures.shown)

@@ -1,6 +1,6 @@
 use Rattle.std.proofs.Math.Bool.{or_comm}
 use Rattle.std.proofs.Common.{◌≡◌, [], ap, false, inl, inr, refl, subst, sym, ◌∙◌}
-use Rattle.std.specs.Prelude.{Bool, Contains, List, MatchBool, nat_lt}
+use Rattle.std.specs.Prelude.{Bool, Contains, List, MatchBool, None, nat_lt}
 use Rattle.std.specs.List.{list_any}
 use Rattle.hack_session.specs.Histories.{Course}
 use Rattle.hack_term.specs.declared.term.Term.{Term}
@@ -22,11 +22,12 @@ use Rattle.hack_session.proofs.StepLemmas.{has_performed, passed_or_told}
 use Rattle.hack_run.proofs.ToldLemmas.{warned_run}
 use Rattle.hack_base.specs.Streams.{stream_of}
 use Rattle.hack_session.specs.StepEffects.{state}
-use Rattle.hack_session.specs.StepOutput.{streams}
+use Rattle.hack_session.specs.StepOutput.{manner_of, streams}
 use Rattle.hack_words.specs.declared.cli.args.Args.{Args}
-use Rattle.hack_run.specs.Shown.{looks_of, scene_at}
+use Rattle.hack_run.specs.Shown.{is_at_end, looks_of, scene_at}
 use Rattle.hack_side.specs.Ends.{has_ended}
 use Rattle.hack_run.proofs.BrokenLemmas.{broken_last}
+use Rattle.hack_run.proofs.EndedLemmas.{searched_stops, starter_does}
 use Rattle.hack_run.proofs.ConclusionLemmas.{concluded_search, search_said}
 use Rattle.hack_run.proofs.ShownLemmas.{goes_on_unless, looks_after, looks_later, steps_searched}
 use Rattle.hack_run.specs.Conclusions.{SaysSearch, version_conclusion}
@@ -149,19 +150,23 @@ returns-clause-shown g c =
     let coloring_is = ap (λ l. l.coloring) (looks_after c.args.term.now c.set_manner.new.self.term.now mid.term.now last.term.now notes (ap (λ s. s.term.now) made ∙ fresh.term.1) told.6 ran.7) in
     let end = state (calls last.caller.now) (streams g.O.Sink g.E.Sink last.out.now last.err.now) last.fault.now last.term.now.error last.refused in
     let found : IsSearchedOut false cx plan handed false false = record { searches = searched.searches; found = c.in_ok-plan.found.items; such = searched.say; steps = refl; end = searched.end; told = λ e. unended e } in
+    let goes = ap (λ f. has_ended f mid.refused) (told.5 ∙ ap (λ s. s.fault.now) made ∙ fresh.fault.1 ∙ c.requires.fresh) ∙ ap (λ n. has_ended None n) (told.4 ∙ ap (λ s. s.refused) made ∙ fresh.refused) in
+    let stopped = searched_stops _ (λ s. state (calls s.starter.caller.now) (streams g.O.Sink g.E.Sink s.starter.out.now s.starter.err.now) s.starter.fault.now s.starter.term.now.error s.starter.refused)
+    (λ s. (s.starter.keep_going ≡ mid.keep_going) × (manner_of s.starter.log_group s.starter.term.now ≡ manner_of mid.log_group mid.term.now)) g.L.Caller.tells mid.keep_going (manner_of mid.log_group mid.term.now)
+    (λ plan handed a b fine did. starter_does g.L.Caller.tells calls g.O.Sink g.E.Sink mid.keep_going (manner_of mid.log_group mid.term.now) plan handed a.starter b.starter fine did.2) cx plan c.in_ok-plan.found.items _ _ searched (refl, refl) goes in
     let conclusion = version_conclusion cx plan c.in_ok-plan.found.items in
     let shown = subst (λ (l : List Found). SaysSearch (nat_lt 0 last.refused) (version_conclusion cx plan l) c.term-2-1.given.0.coloring c.fault-2-1.given.0 c.term-2-1.given.0.error c.settle.new.fault c.settle.new.term.error (stream_of g.E.Sink c.err-2-1.given.0) (stream_of g.E.Sink c.settle.new.err)) c.deref.ensures.value c.settle.ensures.shown in
     let said = search_said g.E.Sink conclusion (nat_lt 0 last.refused) c.settle.new.fault c.settle.new.term.error c.args.term.now.coloring c.term-2-1.given.0 last.term.now c.fault-2-1.given.0 last.fault.now c.err-2-1.given.0 last.err.now (stream_of g.E.Sink c.settle.new.err) term_is coloring_is fault_is err_is shown in
     rw (lanes_is, out_is)
-    (steps_searched g.L.Caller.tells calls g.E.Sink cx c.args.stable c.args.rustup.now c.args.fault.now c.settle.new.fault c.settle.new.term.error course notes false false c.set_manner.new.self mid (streams g.O.Sink g.E.Sink mid.out.now mid.err.now) end c.args.term.now
+    (steps_searched g.L.Caller.tells calls g.E.Sink cx c.args.stable c.args.rustup.now c.settle.new.fault c.settle.new.term.error course notes false false c.set_manner.new.self mid (streams g.O.Sink g.E.Sink mid.out.now mid.err.now) end c.args.term.now
     (scene_at (calls c.args.lanes.now) g.O.Sink g.E.Sink c.args.out.now c.args.err.now) end.scene (scene_at (calls last.caller.now) g.O.Sink g.E.Sink last.out.now c.settle.new.err) conclusion
     (planned_search (IsPlanOf cx.args.subcommand c.args.stable cx c.args.rustup.now) false cx c.args.rustup.now course notes false false c.requires.apart c.requires.search c.in_ok-plan.ensures.ran.2 found)
     (ap (λ s. calls s.caller.now) made ∙ ap calls fresh.caller.1) (ap (λ s. s.term.now) made ∙ fresh.term.1)
-    (ap (λ s. stream_of g.E.Sink s.err.now) made ∙ ap (stream_of g.E.Sink) fresh.err.1) (ap (λ s. s.fault.now) made ∙ fresh.fault.1) (ap (λ s. s.refused) made ∙ fresh.refused)
+    (ap (λ s. stream_of g.E.Sink s.err.now) made ∙ ap (stream_of g.E.Sink) fresh.err.1) (ap (λ s. s.fault.now) made ∙ fresh.fault.1 ∙ c.requires.fresh) (ap (λ s. s.refused) made ∙ fresh.refused)
     (ap (λ s. s.keep_going) made ∙ sym (goes_on_unless cx.args on))
     (ap (λ s. s.log_group) made ∙ ap (λ m. m.0) c.manner-log_group.ensures ∙ ap (λ (a : Args). a.log_group) c.args-2.ensures)
-    told refl (λ off. ap (stream_of g.O.Sink) (told.9 ∙ ap (λ s. s.out.now) made ∙ fresh.out.1)) ran.8 refl (λ off. refl) refl on
-    (concluded_search cx c.args.rustup.now course notes false false (has_ended last.fault.now last.refused) c.requires.apart found (λ is. broken_last _ _ cx plan c.in_ok-plan.found.items _ _ searched is)) said refl refl)
+    told refl (λ off. ap (stream_of g.O.Sink) (told.9 ∙ ap (λ s. s.out.now) made ∙ fresh.out.1)) stopped.0 refl (λ off. refl) refl on
+    (concluded_search cx c.args.rustup.now course notes false false (is_at_end end) c.requires.apart found (λ is. broken_last _ _ cx plan c.in_ok-plan.found.items _ _ searched is) stopped.1) said refl refl)
 
 pub returns-clause-looks : goal.returns-clause-looks
 returns-clause-looks g c =

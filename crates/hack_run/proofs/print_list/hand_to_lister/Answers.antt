@@ -13,7 +13,8 @@ use Rattle.hack_base.specs.Streams.{stream_of}
 use Rattle.hack_term.specs.declared.term.Term.{Term}
 use Rattle.hack_words.specs.declared.cli.args.Args.{Args}
 use Rattle.hack_run.specs.Shown.{looks_of, scene_at, scene_on}
-use Rattle.hack_run.proofs.ShownLemmas.{handed_said, list_looks, looks_ran, looks_told, no_plan, not_off, on_error, refused_said, steps_listed}
+use Rattle.hack_run.proofs.ShownLemmas.{not_off, steps_listed}
+use Rattle.hack_run.proofs.ShownLists.{handed_said, list_looks, looks_ran, looks_told, no_plan, on_error, refused_said}
 use Rattle.hack_run.proofs.print_list.hand_to_lister.Goals as goal
 
 pub returns-clause-done : goal.returns-clause-done

@@ -7,7 +7,7 @@ use Rattle.hack_run.specs.InternalExtensions.{extends_then}
 use Rattle.hack_run.proofs.RunLemmas.{list_ends, list_shows}
 use Rattle.hack_run.specs.Shown.{looks_of, scene_at, scene_on}
 use Rattle.hack_run.proofs.GatherLemmas.{wrote_gathered, wrote_nothing}
-use Rattle.hack_run.proofs.ShownLemmas.{line_unwritten, list_said, refused_kept}
+use Rattle.hack_run.proofs.ShownLists.{line_unwritten, list_said, refused_kept}
 use Rattle.hack_run.proofs.print_list.print_list.Goals as goal
 
 pub returns-clause-done : goal.returns-clause-done

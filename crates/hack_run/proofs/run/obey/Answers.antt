@@ -16,7 +16,7 @@ use Rattle.hack_run.proofs.LastingLemmas.{obeys_left}
 use Rattle.hack_run.proofs.TraceLemmas.{dressed, lists, lists_made, obeys, obeys_done, prints, prints_made}
 use Rattle.hack_base.specs.Streams.{stream_of}
 use Rattle.hack_run.specs.Shown.{looks_of, scene_on}
-use Rattle.hack_run.proofs.ShownLemmas.{args_said}
+use Rattle.hack_run.proofs.ShownCalls.{args_said}
 use Rattle.hack_run.proofs.run.obey.Goals as goal
 
 pub returns-in-Args-clause-done : goal.returns-in-Args-clause-done

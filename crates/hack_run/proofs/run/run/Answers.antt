@@ -11,7 +11,7 @@ use Rattle.hack_run.proofs.RefusalLemmas.{refusal_told}
 use Rattle.hack_run.proofs.TraceLemmas.{call_moved, comes, told_fault, unended}
 use Rattle.hack_base.specs.Streams.{Stream, stream_of}
 use Rattle.hack_run.specs.Shown.{looks_of}
-use Rattle.hack_run.proofs.ShownLemmas.{by_success, looks_ended, none_ended}
+use Rattle.hack_run.proofs.ShownCalls.{by_success, looks_ended, none_ended}
 use Rattle.hack_run.proofs.run.run.Goals as goal
 
 pub returns-clause-refused : goal.returns-clause-refused

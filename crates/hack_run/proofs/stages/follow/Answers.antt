@@ -19,7 +19,8 @@ use Rattle.hack_run.proofs.ToldLemmas.{warned_first}
 use Rattle.hack_base.specs.Streams.{stream_of}
 use Rattle.hack_prepare.specs.PreparedView.{notes_in}
 use Rattle.hack_run.specs.Shown.{has_edited, looks_of, scene_at, scene_on, unedited, unloaded}
-use Rattle.hack_run.proofs.ShownLemmas.{edits_said, follows_said, looks_followed, off_on}
+use Rattle.hack_run.proofs.ShownLemmas.{off_on}
+use Rattle.hack_run.proofs.ShownCalls.{edits_said, follows_said, looks_followed}
 use Rattle.std.specs.Prelude.{Err}
 use Rattle.std.proofs.lemmas.Result.{err_from_is_err_and}
 use Rattle.hack_run.proofs.stages.follow.Goals as goal

@@ -23,7 +23,7 @@ use Rattle.hack_prepare.specs.PreparedView.{member_manifests_in, wanted_in}
 use Rattle.hack_prepare.proofs.RootLemmas.{prepared-moved}
 use Rattle.hack_base.specs.Streams.{stream_of}
 use Rattle.hack_run.specs.Shown.{Looks, looks_of, scene_on}
-use Rattle.hack_run.proofs.ShownLemmas.{looks_back}
+use Rattle.hack_run.proofs.ShownCalls.{looks_back}
 use Rattle.hack_run.proofs.stages.perform.Goals as goal
 
 pub returns-clause-done : goal.returns-clause-done

@@ -3,7 +3,7 @@ use Rattle.hack_words.specs.declared.cli.args.Args.{Args}
 use Rattle.hack_base.specs.Streams.{stream_of}
 use Rattle.hack_load.specs.ContextView.{context_view}
 use Rattle.hack_run.specs.Shown.{looks_of}
-use Rattle.hack_run.proofs.ShownLemmas.{plan_listed, plan_run}
+use Rattle.hack_run.proofs.ShownLists.{plan_listed, plan_run}
 use Rattle.hack_run.proofs.stages.run_plan.Goals as goal
 
 pub returns-then-args-clause-shown : goal.returns-then-args-clause-shown

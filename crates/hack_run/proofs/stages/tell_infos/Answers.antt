@@ -1,5 +1,5 @@
 use Rattle.hack_base.proofs.StreamLemmas.{wrote}
-use Rattle.hack_run.proofs.ShownLemmas.{infos_more}
+use Rattle.hack_run.proofs.ShownCalls.{infos_more}
 use Rattle.hack_run.proofs.stages.tell_infos.Goals as goal
 
 pub loop-text-preserved : goal.loop-text-preserved
