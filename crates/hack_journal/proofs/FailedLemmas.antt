@@ -1,20 +1,38 @@
 -- Calls of files, one after another, of which at most the last failed.
 use Rattle.std.proofs.Common.{◌≡◌, ◌⊎◌, ◌≤◌, ◌-◌, ◌∙◌, ap, drop, take, inl, inr, ℕ, List, [], ◌∷◌, None, Result, Ok, Err, IfErr, arith, sym, subst, string_bytes, length}
-use Rattle.std.specs.Prelude.{IsSome, slice_index_or}
+use Rattle.std.specs.Prelude.{IsSome, OnErr, OnOk, Option, slice_index_or}
 use Rattle.std.proofs.lemmas.List.{take_all}
 use Rattle.std.proofs.lemmas.Bool.{false≢true}
 use Rattle.hack_files.specs.declared.fs.Files.{Ghosts as Filing}
 use Rattle.hack_files.specs.declared.fs.FsFault.TheVariants as fs
 use Rattle.hack_files.specs.FailedCalls.{LookFailed, NoneFailed, WriteFailed}
+use Rattle.hack_files.specs.Files.{Makes, MakesOrNot, refused_path}
 use Rattle.hack_files.proofs.FailedLemmas.{none_failed, none_then, look_then, write_then}
-use Rattle.hack_journal.specs.FailedCalls.{CannotEnd, FailsOnlySo, FailsRemoval, FailsUnseen, IsOfFailedCall, RemovalFailed}
+use Rattle.hack_journal.specs.FailedCalls.{CannotEnd, FailsOnlySo, FailsRefusedAt, FailsRemoval, FailsUnseen, IsOfFailedCall, RemovalFailed}
+use Rattle.hack_journal.specs.FileCalls.{ChangesOnly, Puts}
 use Rattle.hack_journal.specs.Journal.{Edit}
+use Rattle.hack_journal.specs.SafeFiles.{gives}
 use Rattle.hack_journal.specs.Recovery.{HasEntry}
 use Rattle.hack_journal.specs.Internal.{IsMemoryRefused, IsReadFault, IsWriteFault}
 use Rattle.hack_journal.specs.Rows.{Noted, file_at}
 use Rattle.hack_journal.specs.declared.recover.RecoverFault.{RecoverFault}
 use Rattle.hack_journal.specs.declared.recover.RecoverFault.TheVariants.{Memory, NotJournal, Changed, Files}
 use Rattle.hack_journal.proofs.CountLemmas.{grows_then}
+
+fails_refused : {F T E : Type 0} (f : Filing F) (path : List ℕ) (r : Result T E) (a b : F) → f.unseen a b [] → f.refuses a b (refused_path r path) → FailsRefusedAt f path a b r
+fails_refused f path (Ok v) a b unseen refused = record { unseen = unseen; refused = refused }
+fails_refused f path (Err e) a b unseen refused = record { unseen = unseen; refused = refused }
+
+-- of a call that changes at most its path, it is known which failed
+pub puts_of : {F T E : Type 0} (f : Filing F) (path : List ℕ) (bytes : Option (List ℕ)) (r : Result T E) (a b : F) → ChangesOnly f path a b r → OnOk r (f.tells → f.bytes_at b path ≡ bytes)
+    → OnOk r (f.whole → Makes (gives path bytes ∷ []) (f.trace a) (f.trace b) (f.bytes_at a) (f.bytes_at b)) → OnErr r (f.whole → MakesOrNot (gives path bytes) (f.trace a) (f.trace b) (f.bytes_at a) (f.bytes_at b)) → Puts f path bytes a b r
+puts_of f path bytes r a b changes put traced refused = record {
+  changes = changes;
+  calls = fails_refused f path r a b changes.unseen_none changes.refused_path;
+  put = put;
+  traced = traced;
+  refused = refused;
+}
 
 pub fault_then : {F : Type 0} (f : Filing F) (fault : RecoverFault) (a b c : F) → NoneFailed f a b → IsOfFailedCall f b c fault → IsOfFailedCall f a c fault
 fault_then f Memory a b c p (inl none) = inl (none_then f a b c p none)

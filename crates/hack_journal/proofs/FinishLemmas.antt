@@ -6,7 +6,7 @@ use Rattle.std.proofs.lemmas.List.{length-append}
 use Rattle.hack_files.specs.Files.{Change, Contents, Makes, MakesOrNot, removes, KeepsAll, KeepsOthers}
 use Rattle.hack_journal.specs.Journal.{Edit, journal_text}
 use Rattle.hack_journal.specs.Rows.{Spot, AreEach, IsFresh, IsNoteOf, KeepsBeside, file_at}
-use Rattle.hack_journal.specs.SafeFiles.{SomeEntryHasBytes, KeepFirst, IsJournaled, StaysSafe, Stays, AreBack}
+use Rattle.hack_journal.specs.SafeFiles.{SomeEntryHasBytes, KeepFirst, IsJournaled, IsSafe, StaysSafe, Stays, AreBack}
 use Rattle.hack_journal.specs.Strangers.{first_stranger}
 use Rattle.hack_journal.specs.Internal.{IsAllBack, ShortensRow}
 use Rattle.hack_journal.specs.SafeLaws.{fresh_less, makes_append, note_text, safe_of, stay_append, stay_none}
@@ -68,8 +68,8 @@ popped s o fs es e n is none same k =
 -- the removal failed
 pub shorten_err : (s : Spot) (es : List Edit) (t u : List Change) (m n : Contents) → length es < 2 ^ 64 → MakesOrNot (removes (file_at s.journal (length es))) t u m n → ShortensRow s es es t u m n
 shorten_err s es t u m n low makes o k same = elim makes [
-  | inl none ↦ (stay_none s o t u m n none (safe_of s o es m k), subst (λ (x : Contents). IsJournaled s o es x) (sym none.holds) k)
-  | inr made ↦ let now = removed_next s o es t u m n low made same k in (stay_one s o (removes (file_at s.journal (length es))) t u m n made (safe_of s o es m k) (safe_of s o es n now), now)
+  | inl none ↦ (stay_none (IsSafe s o) t u m n none (safe_of s o es m k), subst (λ (x : Contents). IsJournaled s o es x) (sym none.holds) k)
+  | inr made ↦ let now = removed_next s o es t u m n low made same k in (stay_one (IsSafe s o) (removes (file_at s.journal (length es))) t u m n made (safe_of s o es m k) (safe_of s o es n now), now)
 ]
 
 -- the last file was removed
@@ -82,9 +82,9 @@ shorten_more s es fs gs e t u v m n w low is made rest o k same =
     let now = removed_next s o es t u m n low made same k in
     let here : n (file_at s.journal (length es)) ≡ None = makes_here t u (removes (file_at s.journal (length es))) m n made in
     let all : IsAllBack s.journal o n = λ q out. makes_others t u (removes (file_at s.journal (length es))) m n made q (apart_from s.journal (length es) q out) ∙ same q out in
-    let one : StaysSafe s o t u m n = stay_one s o (removes (file_at s.journal (length es))) t u m n made (safe_of s o es m k) (safe_of s o es n now) in
+    let one : StaysSafe s o t u m n = stay_one (IsSafe s o) (removes (file_at s.journal (length es))) t u m n made (safe_of s o es m k) (safe_of s o es n now) in
     let more = rest o (popped s o es fs e n is here all now) all in
-    (stay_append s o t u v m n w one more.0, more.1)
+    (stay_append (IsSafe s o) t u v m n w one more.0, more.1)
 
 -- after two looks, the second of which found each path back, the row is removed, or that fails
 pub finish_stays : (s : Spot) (es fs : List Edit) (t u v x : List Change) (k l m n : Contents) → Makes [] t u k l → Makes [] u v l m → AreBack es l → ShortensRow s es fs v x m n → Stays s es fs t x k n
@@ -93,7 +93,7 @@ finish_stays s es fs t u v x k l m n look again all shorten o h =
     let there : IsJournaled s o es m = subst (λ (y : Contents). IsJournaled s o es y) (sym looks.holds) h in
     let back : AreBack es m = subst (λ (y : Contents). AreBack es y) (sym again.holds) all in
     let rest = shorten o there (back_first s o es m there back) in
-    (stay_append s o t v x k m n (stay_none s o t v k m looks (safe_of s o es k h)) rest.0, rest.1)
+    (stay_append (IsSafe s o) t v x k m n (stay_none (IsSafe s o) t v k m looks (safe_of s o es k h)) rest.0, rest.1)
 
 pub none_of : (b : Bool) (x : Option (List ℕ)) → (IsTrue b ↔ IsSome x) → b ≡ false → x ≡ None
 none_of b None h f = refl

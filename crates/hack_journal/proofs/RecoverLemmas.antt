@@ -1,8 +1,9 @@
 -- What a journal keeps is put back.
-use Rattle.std.proofs.Common.{◌≡◌, ◌≢◌, ◌⊎◌, ◌<◌, ◌+◌, ◌-◌, ◌^◌, inl, inr, ℕ, suc, List, [], ◌∷◌, ◌++◌, Option, Some, None, refl, sym, ◌∙◌, subst, ap, append-nil, append_assoc, add-one, take, true, Result, Ok, Err, OnOk, IfOk, IfErr, false, cond, arith}
+use Rattle.std.proofs.Common.{◌≡◌, ◌≢◌, ◌⊎◌, ◌<◌, ◌+◌, ◌-◌, ◌^◌, inl, inr, ℕ, suc, List, [], ◌∷◌, ◌++◌, Option, Some, None, refl, sym, ◌∙◌, subst, ap, append-nil, append_assoc, add-one, length, true, Result, Ok, Err, OnOk, IfOk, IfErr, false, cond, arith}
 use Rattle.std.specs.Prelude.{IsSome, string_bytes}
 use Rattle.std.specs.Str.{bytes_eq}
 use Rattle.std.proofs.Math.Path.{fun_ext}
+use Rattle.std.proofs.Math.Seq.{take-length}
 use Rattle.std.proofs.lemmas.Slice.Eq.{bytes_eq-Decides}
 use Rattle.std.proofs.lemmas.Bool.{cases_Bool, cases_lt, false≢true}
 use Rattle.std.proofs.lemmas.Bool.Decides.{eqb_tells}
@@ -11,19 +12,19 @@ use Rattle.hack_files.specs.declared.fs.FsFault.{FsFault}
 use Rattle.hack_files.specs.declared.fs.FsFault.TheVariants as fs
 use Rattle.hack_journal.specs.Journal.{Edit, journal_text, HaveTextPaths}
 use Rattle.hack_journal.specs.Rows.{Spot, AreFirst, AreRead, IsFresh, IsRowOf, IsRowRead, KeepsBeside, file_at, is_of_journal, placed}
-use Rattle.hack_journal.specs.SafeFiles.{gives, SomeEntryHasBytes, KeepFirst, IsSafe, IsSafeBy, StaysSafe, AreBack, first_entry_of}
-use Rattle.hack_journal.specs.CutFiles.{IsSafeOrCut, IsSafeOrCutBy, StaysSafeOrCut}
+use Rattle.hack_journal.specs.SafeFiles.{gives, SomeEntryHasBytes, KeepFirst, AfterEachFront, IsKept, IsKeptBy, IsSafe, StaysSafe, AreBack, first_entry_of}
+use Rattle.hack_journal.specs.CutFiles.{IsSafeOrCut}
 use Rattle.hack_journal.specs.Recovery.{HasEntry, AgreesOnHeld, AreOfCall, AreTold, AreChanged, Restored, IsNoJournal, IsReached, IsWhy, IsWhyUnread, IsJournalRefusal, IsOwn, NamesPath, IsJournalOrItsEntry}
 use Rattle.hack_journal.specs.Internal.{AddsChanged, AddsIfOther, HoldsNoText, IsBackBut, IsRead, IsReadMore, IsWhyNotTold, IsWhyTorn, NamesNoJournal, Nears, PutsBack, PutsBackOrSafe, FailsAt, backs}
 use Rattle.hack_journal.specs.declared.recover.RecoverFault.{RecoverFault}
 use Rattle.hack_journal.specs.declared.recover.RecoverFault.TheVariants.{Memory, NotJournal, Changed, Files}
-use Rattle.hack_journal.specs.SafeLaws.{fresh_less, fronts_append, fronts_none, makes_append, makes_none, stay_none, stay_append}
+use Rattle.hack_journal.specs.SafeLaws.{fresh_less, makes_none, stay_none, stay_append}
 use Rattle.hack_journal.specs.Strangers.{first_stranger}
 use Rattle.hack_journal.proofs.ChangeLemmas.{makes_here, makes_others, changed_other}
 use Rattle.hack_journal.proofs.FinishLemmas.{all_same}
 use Rattle.hack_journal.proofs.KnownLemmas.{known_left}
 use Rattle.hack_journal.proofs.RowLemmas.{all_first, apart_from, file_differ, file_zero, first_along, first_there, fresh_apart, fresh_changed, own_file, row_of, row_only, there_not_none}
-use Rattle.hack_journal.proofs.SafeLemmas.{keeps_left, fronts_one, stay_one, First, first_keeps}
+use Rattle.hack_journal.proofs.SafeLemmas.{keeps_left, stay_one, stay_wider, First, first_keeps}
 
 -- ---- reading
 
@@ -96,14 +97,6 @@ no_call s m c es some h not =
 
 -- ---- putting back
 
-puts_none : (j : List ℕ) (o : Contents) (t u : List Change) (m n : Contents) → Makes [] t u m n → PutsBack j o t u m n
-puts_none j o t u m n h = record {
-  added = [];
-  makes = h;
-  fronts = fronts_none (Nears j o m) m (λ q. inl refl);
-  last = λ q. inl (ap (λ f. f q) h.holds);
-}
-
 -- a path is given what it held at first
 nears_one : (j : List ℕ) (o : Contents) (p : List ℕ) (x : Option (List ℕ)) (m : Contents) → o p ≡ x → is_of_journal j p ≡ false → Nears j o m (after_change (gives p x) m)
 nears_one j o p x m held out q = elim (cases_Bool (bytes_eq p q)) [
@@ -113,17 +106,12 @@ nears_one j o p x m held out q = elim (cases_Bool (bytes_eq p q)) [
 
 pub puts_or_not : (j : List ℕ) (o : Contents) (p : List ℕ) (x : Option (List ℕ)) (t u : List Change) (m n : Contents) → MakesOrNot (gives p x) t u m n → o p ≡ x → is_of_journal j p ≡ false → PutsBack j o t u m n
 puts_or_not j o p x t u m n makes held out = elim makes [
-  | inl none ↦ puts_none j o t u m n none
-  | inr made ↦ record {
-    added = gives p x ∷ [];
-    makes = made;
-    fronts = fronts_one (Nears j o m) (gives p x) m (λ q. inl refl) (nears_one j o p x m held out);
-    last = subst (Nears j o m) (sym made.holds) (nears_one j o p x m held out);
-  }
+  | inl none ↦ stay_none (Nears j o m) t u m n none (λ q. inl refl)
+  | inr made ↦ stay_one (Nears j o m) (gives p x) t u m n made (λ q. inl refl) (subst (Nears j o m) (sym made.holds) (nears_one j o p x m held out))
 ]
 
 pub puts_nothing : (j : List ℕ) (o : Contents) (t : List Change) (m : Contents) → PutsBack j o t t m m
-puts_nothing j o t m = puts_none j o t t m m (makes_none t m)
+puts_nothing j o t m = stay_none (Nears j o m) t t m m (makes_none t m) (λ q. inl refl)
 
 nears_then : (j : List ℕ) (o m n w : Contents) → Nears j o m n → Nears j o n w → Nears j o m w
 nears_then j o m n w f g q = elim (g q) [
@@ -131,35 +119,28 @@ nears_then j o m n w f g q = elim (g q) [
   | inr back ↦ inr back
 ]
 
+-- what holds after every front holds at the end
+at_end : (P : Contents → Type 0) (t u : List Change) (m n : Contents) → AfterEachFront P t u m n → P n
+at_end P t u m n f = subst P (sym f.makes.holds) (subst (λ (cs : List Change). P (after cs m)) (take-length f.added) (f.fronts (length f.added)))
+
 -- several steps, one after another
 pub puts_then : (j : List ℕ) (o : Contents) (t u v : List Change) (m n w : Contents) → PutsBack j o t u m n → PutsBack j o u v n w → PutsBack j o t v m w
-puts_then j o t u v m n w f g = record {
-  added = f.added ++ g.added;
-  makes = makes_append f.added g.added t u v m n w f.makes g.makes;
-  fronts = fronts_append f.added g.added (Nears j o m) m f.fronts
-      (λ k. subst (λ (x : Contents). Nears j o m (after (take k g.added) x)) f.makes.holds (nears_then j o m n (after (take k g.added) n) f.last (g.fronts k)));
-  last = nears_then j o m n w f.last g.last;
-}
+puts_then j o t u v m n w f g =
+    stay_append (Nears j o m) t u v m n w f (stay_wider u v n w (λ x. nears_then j o m n x (at_end (Nears j o m) t u m n f)) g)
 
 pub puts_safe : (s : Spot) (o : Contents) (t u : List Change) (m n : Contents) → PutsBack s.journal o t u m n → PutsBackOrSafe s o t u m n
-puts_safe s o t u m n f = record { added = f.added; makes = f.makes; fronts = λ k. inl (f.fronts k) }
+puts_safe s o t u m n = stay_wider t u m n (λ x near. inl near)
 
 -- and then the row is removed
 pub puts_then_safe : (s : Spot) (o : Contents) (t u v : List Change) (m n w : Contents) → PutsBack s.journal o t u m n → StaysSafe s o u v n w → PutsBackOrSafe s o t v m w
-puts_then_safe s o t u v m n w f g = record {
-  added = f.added ++ g.added;
-  makes = makes_append f.added g.added t u v m n w f.makes g.makes;
-  fronts = fronts_append f.added g.added (λ x. Nears s.journal o m x ⊎ IsSafe s o x) m (λ k. inl (f.fronts k))
-      (λ k. inr (subst (λ (x : Contents). IsSafe s o (after (take k g.added) x)) f.makes.holds (g.fronts k)));
-}
+puts_then_safe s o t u v m n w f g =
+    stay_append (λ x. Nears s.journal o m x ⊎ IsSafe s o x) t u v m n w (puts_safe s o t u m n f) (stay_wider u v n w (λ x safe. inr safe) g)
 
 -- after a look that changed nothing
 look_then_puts : (s : Spot) (o : Contents) (t u v : List Change) (m n w : Contents) → Makes [] t u m n → PutsBackOrSafe s o u v n w → PutsBackOrSafe s o t v m w
-look_then_puts s o t u v m n w look g = record {
-  added = g.added;
-  makes = makes_append [] g.added t u v m n w look g.makes;
-  fronts = λ k. subst (λ (x : Contents). Nears s.journal o x (after (take k g.added) x) ⊎ IsSafe s o (after (take k g.added) x)) look.holds (g.fronts k);
-}
+look_then_puts s o t u v m n w look g =
+    let P : Contents → Contents → Type 0 = λ y x. Nears s.journal o y x ⊎ IsSafe s o x in
+    stay_append (P m) t u v m n w (stay_none (P m) t u m n look (inl (λ q. inl refl))) (subst (λ (y : Contents). AfterEachFront (P y) u v n w) look.holds g)
 
 -- ---- files where a write may have been cut
 
@@ -175,75 +156,45 @@ own_told : (es : List Edit) (q : List ℕ) (x : Option (List ℕ)) → SomeEntry
 unfolding IsOwn
 own_told es q x h = inl h
 
-safe_cut_by : (s : Spot) (o : Contents) (es : List Edit) (m : Contents) → IsSafeBy s o es m → IsSafeOrCutBy s o es m
-safe_cut_by s o es m h = record {
-  row = h.row;
-  fresh = h.fresh;
-  known = h.known;
-  keeps = h.keeps;
-  holds = λ q out. elim (h.holds q out) [ inl same ↦ inl same | inr told ↦ inr (own_told es q (m q) told) ];
-}
-
 -- safe files are so too where a write may have been cut
 pub safe_cut : (s : Spot) (o m : Contents) → IsSafe s o m → IsSafeOrCut s o m
-safe_cut s o m h = record { entries = h.entries; by = safe_cut_by s o h.entries m h.by }
+safe_cut s o m h = record {
+  entries = h.entries;
+  by = record {
+    row = h.by.row;
+    fresh = h.by.fresh;
+    known = h.by.known;
+    keeps = h.by.keeps;
+    holds = λ q out. elim (h.by.holds q out) [ inl same ↦ inl same | inr told ↦ inr (own_told h.entries q (m q) told) ];
+  };
+}
 
 -- what is put back leaves the row
 nears_own : (j : List ℕ) (o m n : Contents) → Nears j o m n → (q : List ℕ) → is_of_journal j q ≡ true → n q ≡ m q
 nears_own j o m n h q own = elim (h q) [ inl same ↦ same | inr back ↦ absurd (false≢true (sym back.0 ∙ own)) ]
 
-nears_cut : (s : Spot) (o : Contents) (es : List Edit) (m n : Contents) → Nears s.journal o m n → IsSafeOrCutBy s o es m → IsSafeOrCutBy s o es n
-nears_cut s o es m n near h =
+nears_kept : {Left : List Edit → List ℕ → Option (List ℕ) → Type 0} (s : Spot) (o m n : Contents) → Nears s.journal o m n → IsKept Left s o m → IsKept Left s o n
+nears_kept {Left = Left} s o m n near h =
     let own = nears_own s.journal o m n near in
+    let row = h.by.row in
     let file : (i : ℕ) → n (file_at s.journal i) ≡ m (file_at s.journal i) = λ i. own (file_at s.journal i) (own_file s.journal i) in
-    record {
-      row = record { count = h.row.count; files = first_along s m n h.row.count es (λ i lt. file i) h.row.files; ends = file h.row.count ∙ h.row.ends };
-      fresh = fresh_apart s.journal h.row.count o m n own h.fresh;
-      known = h.known;
-      keeps = h.keeps;
-      holds = λ q out. elim (near q) [
-        | inl same ↦ elim (h.holds q out) [ inl is ↦ inl (same ∙ is) | inr told ↦ inr (subst (IsOwn es q) (sym same) told) ]
-        | inr back ↦ inl back.1
-      ];
-    }
-
--- where no write was cut, each path holds what it held at first, or bytes that an entry has
-nears_safe : (s : Spot) (o m n : Contents) → Nears s.journal o m n → IsSafe s o m → IsSafe s o n
-unfolding nears_cut safe_cut_by
-nears_safe s o m n near h =
-    let by = nears_cut s o h.entries m n near (safe_cut_by s o h.entries m h.by) in
     record {
       entries = h.entries;
       by = record {
-        row = by.row;
-        fresh = by.fresh;
-        known = by.known;
-        keeps = by.keeps;
+        row = record { count = row.count; files = first_along s m n row.count h.entries (λ i lt. file i) row.files; ends = file row.count ∙ row.ends };
+        fresh = fresh_apart s.journal row.count o m n own h.by.fresh;
+        known = h.by.known;
+        keeps = h.by.keeps;
         holds = λ q out. elim (near q) [
-          | inl same ↦ elim (h.by.holds q out) [ inl is ↦ inl (same ∙ is) | inr told ↦ inr (subst (SomeEntryHasBytes h.entries q) (sym same) told) ]
+          | inl same ↦ elim (h.by.holds q out) [ inl is ↦ inl (same ∙ is) | inr left ↦ inr (subst (Left h.entries q) (sym same) left) ]
           | inr back ↦ inl back.1
         ];
       };
     }
 
--- from safe files
-pub puts_stay : (s : Spot) (o : Contents) (t u : List Change) (m n : Contents) → IsSafe s o m → PutsBackOrSafe s o t u m n → StaysSafe s o t u m n
-puts_stay s o t u m n h f = record {
-  added = f.added;
-  makes = f.makes;
-  fronts = λ k. elim (f.fronts k) [ inl near ↦ nears_safe s o m (after (take k f.added) m) near h | inr safe ↦ safe ];
-}
-
--- the same where a write may have been cut
-pub puts_stay_cut : (s : Spot) (o : Contents) (t u : List Change) (m n : Contents) → IsSafeOrCut s o m → PutsBackOrSafe s o t u m n → StaysSafeOrCut s o t u m n
-puts_stay_cut s o t u m n h f = record {
-  added = f.added;
-  makes = f.makes;
-  fronts = λ k. elim (f.fronts k) [
-    | inl near ↦ record { entries = h.entries; by = nears_cut s o h.entries m (after (take k f.added) m) near h.by }
-    | inr safe ↦ safe_cut s o (after (take k f.added) m) safe
-  ];
-}
+-- from kept files, where safe ones are kept too
+pub puts_stay : {Left : List Edit → List ℕ → Option (List ℕ) → Type 0} (s : Spot) (o : Contents) (t u : List Change) (m n : Contents) → ((x : Contents) → IsSafe s o x → IsKept Left s o x) → IsKept Left s o m → PutsBackOrSafe s o t u m n → AfterEachFront (IsKept Left s o) t u m n
+puts_stay s o t u m n kept h = stay_wider t u m n (λ x f. elim f [ inl near ↦ nears_kept s o m x near h | inr safe ↦ kept x safe ])
 
 pub after_along : (cs : List Change) (m n w : Contents) → KeepsAll m n → KeepsAll (after cs n) w → KeepsAll (after cs m) w
 after_along cs m n w h k = subst (λ (f : Contents). KeepsAll (after cs f) w) (all_same m n h) k
@@ -259,19 +210,19 @@ backs_at j o (e ∷ es) m q k h = backs_at j o es (after_change (gives e.path e.
 ])
 
 -- what all entries keep is put back: each path holds what it held at first
-pub backs_first : (s : Spot) (o : Contents) (es : List Edit) (m : Contents) → IsSafeOrCutBy s o es m → (q : List ℕ) → is_of_journal s.journal q ≡ false → after (backs es) m q ≡ o q
+pub backs_first : (s : Spot) (o : Contents) (es : List Edit) (m : Contents) → IsKeptBy IsOwn s o es m → (q : List ℕ) → is_of_journal s.journal q ≡ false → after (backs es) m q ≡ o q
 backs_first s o es m h q out = backs_at s.journal o es m q h.keeps (elim (h.holds q out) [ inl same ↦ inl same | inr own ↦ inr (has_own es q (m q) own) ])
 
 -- the entries that were read are those that the journal has
-pub safe_at : (s : Spot) (o : Contents) (c : ℕ) (es : List Edit) (m : Contents) → IsSafeOrCut s o m → IsRowRead s m c es → (by : IsSafeOrCutBy s o es m) × (by.row.count ≡ c)
+pub safe_at : (s : Spot) (o : Contents) (c : ℕ) (es : List Edit) (m : Contents) → IsSafeOrCut s o m → IsRowRead s m c es → (by : IsKeptBy IsOwn s o es m) × (by.row.count ≡ c)
 safe_at s o c es m h read =
     let is = row_only s m c es h.entries read h.by.row in
-    subst (λ (l : List Edit). (by : IsSafeOrCutBy s o l m) × (by.row.count ≡ c)) (sym is.1) (h.by, is.0)
+    subst (λ (l : List Edit). (by : IsKeptBy IsOwn s o l m) × (by.row.count ≡ c)) (sym is.1) (h.by, is.0)
 
 -- after looks that changed nothing, what the row keeps is put back
-pub looked_puts : (s : Spot) (o : Contents) (c : ℕ) (es : List Edit) (t u v : List Change) (m n w : Contents) → IsSafeOrCut s o m → IsRowRead s m c es → Makes [] t u m n → ((by : IsSafeOrCutBy s o es n) → by.row.count ≡ c → PutsBackOrSafe s o u v n w) → PutsBackOrSafe s o t v m w
+pub looked_puts : (s : Spot) (o : Contents) (c : ℕ) (es : List Edit) (t u v : List Change) (m n w : Contents) → IsSafeOrCut s o m → IsRowRead s m c es → Makes [] t u m n → ((by : IsKeptBy IsOwn s o es n) → by.row.count ≡ c → PutsBackOrSafe s o u v n w) → PutsBackOrSafe s o t v m w
 looked_puts s o c es t u v m n w h read looks f =
-    let at = subst (λ (x : Contents). (by : IsSafeOrCutBy s o es x) × (by.row.count ≡ c)) (sym looks.holds) (safe_at s o c es m h read) in
+    let at = subst (λ (x : Contents). (by : IsKeptBy IsOwn s o es x) × (by.row.count ≡ c)) (sym looks.holds) (safe_at s o c es m h read) in
     look_then_puts s o t u v m n w looks (f at.0 at.1)
 
 -- a path of no entry holds what it held
@@ -419,7 +370,7 @@ never_cut_no_journal s tells o m (Changed p q) t why h refusal = why
 never_cut_no_journal s tells o m (Files f) t why h refusal = refusal
 
 -- where files are safe, the path of each entry holds what a call left there
-pub safe_told : (s : Spot) (o : Contents) (es : List Edit) (m : Contents) → IsSafeOrCutBy s o es m → AreTold es es m
+pub safe_told : (s : Spot) (o : Contents) (es : List Edit) (m : Contents) → IsKeptBy IsOwn s o es m → AreTold es es m
 safe_told s o es m h q has =
     let first = tells_first s.journal o es q h.keeps has in
     elim (h.holds q first.0) [ inl same ↦ own_told es q (m q) (subst (SomeEntryHasBytes es q) (sym same) first.1) | inr own ↦ own ]
@@ -508,7 +459,7 @@ backs_own : (s : Spot) (o : Contents) (es : List Edit) (m : Contents) (q : List 
 backs_own s o es m q keeps own = backs_other es m q (λ has. false≢true (sym (tells_first s.journal o es q keeps has).0 ∙ own))
 
 -- from safe files each path holds again what it held at first
-pub comes_back_of : (s : Spot) (o : Contents) (c : ℕ) (es : List Edit) (m n w : Contents) → n ≡ m → (by : IsSafeOrCutBy s o es m) → by.row.count ≡ c → KeepsBeside s.journal c (after (backs es) n) w → ((i : ℕ) → i < c → w (file_at s.journal i) ≡ None) → KeepsAll o w
+pub comes_back_of : (s : Spot) (o : Contents) (c : ℕ) (es : List Edit) (m n w : Contents) → n ≡ m → (by : IsKeptBy IsOwn s o es m) → by.row.count ≡ c → KeepsBeside s.journal c (after (backs es) n) w → ((i : ℕ) → i < c → w (file_at s.journal i) ≡ None) → KeepsAll o w
 comes_back_of s o c es m n w same by is back gone =
     let all = back_at s.journal c es es m n w refl same back in
     let fresh : IsFresh s.journal c o m = subst (λ (k : ℕ). IsFresh s.journal k o m) is by.fresh in
@@ -543,12 +494,12 @@ removed_last s o c t u m n low makes h =
 
 pub last_or_not : (s : Spot) (o : Contents) (c : ℕ) (t u : List Change) (m n : Contents) → suc c < 2 ^ 64 → MakesOrNot (removes (file_at s.journal c)) t u m n → IsBackBut s o (suc c) m → StaysSafe s o t u m n
 last_or_not s o c t u m n low makes h = elim makes [
-  | inl none ↦ stay_none s o t u m n none (back_but_safe s o (suc c) m h)
-  | inr made ↦ stay_one s o (removes (file_at s.journal c)) t u m n made (back_but_safe s o (suc c) m h) (back_but_safe s o c n (removed_last s o c t u m n low made h))
+  | inl none ↦ stay_none (IsSafe s o) t u m n none (back_but_safe s o (suc c) m h)
+  | inr made ↦ stay_one (IsSafe s o) (removes (file_at s.journal c)) t u m n made (back_but_safe s o (suc c) m h) (back_but_safe s o c n (removed_last s o c t u m n low made h))
 ]
 
 -- where all is put back, only the row is left
-pub back_but_of : (s : Spot) (o : Contents) (c : ℕ) (es : List Edit) (m n : Contents) → (by : IsSafeOrCutBy s o es m) → by.row.count ≡ c → KeepsAll (after (backs es) m) n → IsBackBut s o c n
+pub back_but_of : (s : Spot) (o : Contents) (c : ℕ) (es : List Edit) (m n : Contents) → (by : IsKeptBy IsOwn s o es m) → by.row.count ≡ c → KeepsAll (after (backs es) m) n → IsBackBut s o c n
 back_but_of s o c es m n by is back =
     let own : (q : List ℕ) → is_of_journal s.journal q ≡ true → n q ≡ m q = λ q t. back q ∙ backs_own s o es m q by.keeps t in
     let file : (i : ℕ) → n (file_at s.journal i) ≡ m (file_at s.journal i) = λ i. own (file_at s.journal i) (own_file s.journal i) in
@@ -575,7 +526,7 @@ remove_went s o count p t u v m n w some low is makes h rest =
     let made : Makes (removes (file_at s.journal (count - 1)) ∷ []) t u m n = subst (λ (q : List ℕ). Makes (removes q ∷ []) t u m n) is makes in
     let but : IsBackBut s o (suc (count - 1)) m = subst (λ (c : ℕ). IsBackBut s o c m) one h in
     let less : suc (count - 1) < 2 ^ 64 = omega (arith, some, low) in
-    stay_append s o t u v m n w (last_or_not s o (count - 1) t u m n less (inr made) but) (rest (removed_last s o (count - 1) t u m n less made but))
+    stay_append (IsSafe s o) t u v m n w (last_or_not s o (count - 1) t u m n less (inr made) but) (rest (removed_last s o (count - 1) t u m n less made but))
 
 -- after a look a path was given what it held at first
 pub put_keeps : (p q : List ℕ) (x y : Option (List ℕ)) (l m n : Contents) → q ≡ p → y ≡ x → KeepsAll l m → n q ≡ y → KeepsOthers q m n → KeepsAll (after_change (gives p x) l) n

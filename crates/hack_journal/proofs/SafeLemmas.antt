@@ -8,7 +8,7 @@ use Rattle.std.proofs.lemmas.List.{length-append}
 use Rattle.hack_files.specs.Files.{Change, Contents, after_change, after, KeepsAll, KeepsOthers, Makes, MakesOrNot, puts}
 use Rattle.hack_journal.specs.Journal.{Edit}
 use Rattle.hack_journal.specs.Rows.{Spot, IsFresh, IsNoteOf, IsTextOf, file_at, is_of_journal}
-use Rattle.hack_journal.specs.SafeFiles.{gives, SomeEntryHasBytes, first_entry_of, KeepFirst, HoldFirstOrTold, IsSafe, IsJournaled, StaysSafe, Stays, changes_besides, without}
+use Rattle.hack_journal.specs.SafeFiles.{gives, SomeEntryHasBytes, first_entry_of, AfterEachFront, KeepFirst, HoldFirstOr, IsSafe, IsJournaled, Stays, changes_besides, without}
 use Rattle.hack_journal.specs.Strangers.{first_stranger, is_edit_of_manifest}
 use Rattle.hack_journal.specs.Internal.{Hidden, IsHeld, IsNotable}
 use Rattle.hack_journal.specs.SafeLaws.{makes_append, holds_left, note_text, safe_of, fronts_none, stays_more, stays_none}
@@ -32,7 +32,7 @@ first_keeps j o (e ∷ es) more p k = elim (cases_Bool (bytes_eq e.path p)) [
   | inr f ↦ rw f (first_more o e es p (first_entry_of es p) (λ same. let t : bytes_eq e.path p ≡ true = (bytes_eq-Decides e.path p).1 same in let x : true ≡ false = sym t ∙ f in cc) (first_keeps j o es more p k.3))
 ]
 
-held_keeps : (j : List ℕ) (o : Contents) (es : List Edit) (p : List ℕ) (f : Option Edit) (m : Contents) (held : Option (List ℕ)) → is_of_journal j p ≡ false → First o es p f → HoldFirstOrTold j o es m → IsHeld f (m p) held → o p ≡ held
+held_keeps : (j : List ℕ) (o : Contents) (es : List Edit) (p : List ℕ) (f : Option Edit) (m : Contents) (held : Option (List ℕ)) → is_of_journal j p ≡ false → First o es p f → HoldFirstOr SomeEntryHasBytes j o es m → IsHeld f (m p) held → o p ≡ held
 held_keeps j o es p None m held out none holds is = elim (holds p out) [ inl same ↦ sym same ∙ is | inr told ↦ absurd (none (m p) told) ]
 held_keeps j o es p (Some e) m held out first holds is = first ∙ is
 
@@ -49,9 +49,13 @@ pub fronts_one : (P : Contents → Type 0) (c : Change) (m : Contents) → P m �
 fronts_one P c m h g zero = h
 fronts_one P c m h g (suc k) = fronts_none P (after_change c m) g k
 
--- one change, where the files before and after it are safe
-pub stay_one : (j : Spot) (o : Contents) (c : Change) (t u : List Change) (m n : Contents) → Makes (c ∷ []) t u m n → IsSafe j o m → IsSafe j o n → StaysSafe j o t u m n
-stay_one j o c t u m n h a b = record { added = c ∷ []; makes = h; fronts = fronts_one (IsSafe j o) c m a (subst (IsSafe j o) h.holds b) }
+-- one change
+pub stay_one : (P : Contents → Type 0) (c : Change) (t u : List Change) (m n : Contents) → Makes (c ∷ []) t u m n → P m → P n → AfterEachFront P t u m n
+stay_one P c t u m n h a b = record { added = c ∷ []; makes = h; fronts = fronts_one P c m a (subst P h.holds b) }
+
+-- where P holds, so does Q
+pub stay_wider : {P Q : Contents → Type 0} (t u : List Change) (m n : Contents) → ((x : Contents) → P x → Q x) → AfterEachFront P t u m n → AfterEachFront Q t u m n
+stay_wider t u m n wider f = record { added = f.added; makes = f.makes; fronts = λ k. wider (after (take k f.added) m) (f.fronts k) }
 
 pub keeps_left : (j : List ℕ) (o : Contents) (es more : List Edit) → KeepFirst j o (es ++ more) → KeepFirst j o es
 keeps_left j o [] more k = tt
@@ -103,7 +107,7 @@ moved s o es e n low note none k is =
 pub made_here : (s : Spot) (es : List Edit) (text : List ℕ) (e : Edit) (t u : List Change) (m n : Contents) → IsReady s es m text e → Makes (puts (file_at s.journal (length es)) text ∷ []) t u m n → Stays s es es t u m n
 made_here s es text e t u m n r makes o k =
     let now = written s o es text e t u m n r makes k in
-    (stay_one s o (puts (file_at s.journal (length es)) text) t u m n makes (safe_of s o es m k) (safe_of s o es n now), now)
+    (stay_one (IsSafe s o) (puts (file_at s.journal (length es)) text) t u m n makes (safe_of s o es m k) (safe_of s o es n now), now)
 
 pub noted_here : (s : Spot) (es : List Edit) (text : List ℕ) (e : Edit) (t u : List Change) (m n : Contents) → IsReady s es m text e → Makes (puts (file_at s.journal (length es)) text ∷ []) t u m n → Stays s es (es ++ e ∷ []) t u m n
 unfolding written
@@ -112,7 +116,7 @@ noted_here s es text e t u m n r makes o k =
     let low : suc (length es) < 2 ^ 64 = r.low in
     let here : n (file_at s.journal (length es)) ≡ Some text = makes_here t u (puts (file_at s.journal (length es)) text) m n makes in
     let none : n (file_at s.journal (suc (length es))) ≡ None = makes_others t u (puts (file_at s.journal (length es)) text) m n makes (file_at s.journal (suc (length es))) (file_differ s.journal (suc (length es)) (length es) low (omega (arith, low)) (omega arith)) ∙ r.absent in (
-      stay_one s o (puts (file_at s.journal (length es)) text) t u m n makes (safe_of s o es m k) (safe_of s o es n now),
+      stay_one (IsSafe s o) (puts (file_at s.journal (length es)) text) t u m n makes (safe_of s o es m k) (safe_of s o es n now),
       moved s o es e n low (subst (λ (x : Option (List ℕ)). IsNoteOf s.folder x e) (sym here) r.note) none now refl,
     )
 
@@ -169,7 +173,7 @@ put_stays s es p x t u m n out told makes o k =
             elim (k.holds q other) [ inl is ↦ inl (same ∙ is) | inr told ↦ inr (subst (SomeEntryHasBytes es q) (sym same) told) ]
       ];
     } in
-    (stay_one s o (gives p x) t u m n makes (safe_of s o es m k) (safe_of s o es n now), now)
+    (stay_one (IsSafe s o) (gives p x) t u m n makes (safe_of s o es m k) (safe_of s o es n now), now)
 
 pub put_or_not_stays : (s : Spot) (es : List Edit) (p : List ℕ) (x : Option (List ℕ)) (t u : List Change) (m n : Contents) → is_of_journal s.journal p ≡ false → SomeEntryHasBytes es p x → MakesOrNot (gives p x) t u m n → Stays s es es t u m n
 put_or_not_stays s es p x t u m n out told makes = elim makes [ inl none ↦ stays_none s es t u m n none | inr made ↦ put_stays s es p x t u m n out told made ]

@@ -1,10 +1,11 @@
 -- What calls of files keep.
-use Rattle.std.specs.Prelude.{◌≡◌, [], ℕ, List, IsTrue, Result, string_bytes}
-use Rattle.hack_files.specs.Files.{CountsFailedCall, KeepsAll, KeepsOthers, Makes, refused_path}
+use Rattle.std.specs.Prelude.{◌≡◌, [], ◌∷◌, ℕ, List, Option, IsTrue, Result, OnOk, OnErr, string_bytes}
+use Rattle.hack_files.specs.Files.{CountsFailedCall, KeepsAll, KeepsOthers, Makes, MakesOrNot, refused_path}
 use Rattle.hack_files.specs.declared.fs.Files.{Ghosts as Filing}
+use Rattle.hack_journal.specs.FailedCalls.{FailsRefusedAt}
 use Rattle.hack_journal.specs.LockfilesApart.{is_lockfile}
 use Rattle.hack_journal.specs.Rows.{Spot}
-use Rattle.hack_journal.specs.SafeFiles.{Stays}
+use Rattle.hack_journal.specs.SafeFiles.{Stays, gives}
 use Rattle.hack_journal.specs.declared.apart.Apart.{Apart}
 use Rattle.hack_journal.specs.declared.journaled.Journaled.{Journaled}
 
@@ -23,6 +24,14 @@ pub record ChangesOnly {F T E : Type 0} (f : Filing F) (path : List ℕ) (old ne
   pub refused_path : f.refuses old new (refused_path result path)
   pub unseen_none : f.unseen old new []
   pub others : f.tells → KeepsOthers path (f.bytes_at old) (f.bytes_at new)
+
+-- a call that puts these bytes at this path, or removes what is there
+pub record Puts {F T E : Type 0} (f : Filing F) (path : List ℕ) (bytes : Option (List ℕ)) (old new : F) (result : Result T E) : Type 0 where
+  pub changes : ChangesOnly f path old new result
+  pub calls : FailsRefusedAt f path old new result
+  pub put : OnOk result (f.tells → f.bytes_at new path ≡ bytes)
+  pub traced : OnOk result (f.whole → Makes (gives path bytes ∷ []) (f.trace old) (f.trace new) (f.bytes_at old) (f.bytes_at new))
+  pub refused : OnErr result (f.whole → MakesOrNot (gives path bytes) (f.trace old) (f.trace new) (f.bytes_at old) (f.bytes_at new))
 
 -- a call at a lockfile leaves the other files alone, and any other call the lockfiles
 pub record GoesToOne {A B : Type 0} (path : List ℕ) (old new : Apart A B) : Type 0 where

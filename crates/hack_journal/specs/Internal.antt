@@ -1,11 +1,11 @@
 -- What only private functions of the crate promise each other.
-use Rattle.std.specs.Prelude.{◌≡◌, ◌≢◌, ◌⊎◌, ◌++◌, [], ◌∷◌, ℕ, false, true, List, Option, Some, None, IsSome, string_bytes, take}
+use Rattle.std.specs.Prelude.{◌≡◌, ◌≢◌, ◌⊎◌, ◌++◌, [], ◌∷◌, ℕ, false, true, List, Option, Some, None, IsSome, string_bytes}
 use Rattle.hack_base.specs.Counters.{GrowsBy}
-use Rattle.hack_files.specs.Files.{Change, Contents, Makes, after}
+use Rattle.hack_files.specs.Files.{Change, Contents, Makes}
 use Rattle.hack_files.specs.declared.fs.FsFault.TheVariants as fs
 use Rattle.hack_journal.specs.Journal.{Edit}
 use Rattle.hack_journal.specs.Rows.{Spot, AreFirst, IsFresh, IsTextOf, file_at, is_of_journal}
-use Rattle.hack_journal.specs.SafeFiles.{KeepFirst, IsSafe, StaysSafe, gives, changes_besides, IsJournaled, first_entry_of}
+use Rattle.hack_journal.specs.SafeFiles.{AfterEachFront, KeepFirst, IsSafe, StaysSafe, gives, changes_besides, IsJournaled, first_entry_of}
 use Rattle.hack_journal.specs.Strangers.{first_stranger, is_edit_of_manifest}
 use Rattle.hack_journal.specs.declared.recover.RecoverFault.{RecoverFault}
 use Rattle.hack_journal.specs.declared.recover.RecoverFault.TheVariants.{Memory, NotJournal, Changed, Files}
@@ -147,17 +147,13 @@ Nears journal first old now =
     (q : List ℕ) → (now q ≡ old q) ⊎ ((is_of_journal journal q ≡ false) × (now q ≡ first q))
 
 -- changes were made, and after every front of them each path holds one of these
-pub record PutsBack (journal : List ℕ) (first : Contents) (old_trace new_trace : List Change) (old new : Contents) : Type 0 where
-  pub added : List Change
-  pub makes : Makes added old_trace new_trace old new
-  pub fronts : (k : ℕ) → Nears journal first old (after (take k added) old)
-  pub last : Nears journal first old new
+abbrev pub PutsBack : List ℕ → Contents → List Change → List Change → Contents → Contents → Type 0
+PutsBack journal first old_trace new_trace old new = AfterEachFront (Nears journal first old) old_trace new_trace old new
 
 -- changes were made, and after every front of them each path holds one of these, or the files are safe
-pub record PutsBackOrSafe (spot : Spot) (first : Contents) (old_trace new_trace : List Change) (old new : Contents) : Type 0 where
-  pub added : List Change
-  pub makes : Makes added old_trace new_trace old new
-  pub fronts : (k : ℕ) → Nears spot.journal first old (after (take k added) old) ⊎ IsSafe spot first (after (take k added) old)
+abbrev pub PutsBackOrSafe : Spot → Contents → List Change → List Change → Contents → Contents → Type 0
+PutsBackOrSafe spot first old_trace new_trace old new =
+    AfterEachFront (λ now. Nears spot.journal first old now ⊎ IsSafe spot first now) old_trace new_trace old new
 
 -- all is put back but the row, which has `count` files
 pub record IsBackBut (spot : Spot) (first : Contents) (count : ℕ) (now : Contents) : Type 0 where

@@ -39,25 +39,29 @@ KeepFirst journal first [] = Unit {0}
 KeepFirst journal first (e ∷ es) =
     (first e.path ≡ e.held) × (is_of_journal journal e.path ≡ false) × IsUtf8 e.path × KeepFirst journal first es
 
--- each path that isn't set aside for the journal holds what it held at first, or bytes that an entry
--- of the path has
-abbrev pub HoldFirstOrTold : List ℕ → Contents → List Edit → Contents → Type 0
-HoldFirstOrTold journal first es now =
-    (q : List ℕ) → is_of_journal journal q ≡ false → (now q ≡ first q) ⊎ SomeEntryHasBytes es q (now q)
+-- each path that isn't set aside for the journal holds what it held at first, or bytes that calls with
+-- these entries left there, by `Left`
+abbrev pub HoldFirstOr : (List Edit → List ℕ → Option (List ℕ) → Type 0) → List ℕ → Contents → List Edit → Contents → Type 0
+HoldFirstOr Left journal first es now =
+    (q : List ℕ) → is_of_journal journal q ≡ false → (now q ≡ first q) ⊎ Left es q (now q)
 
 -- the journal has these entries, each of which a call makes; each path holds what it held at first, or
--- an entry keeps that
-pub record IsSafeBy (spot : Spot) (first : Contents) (entries : List Edit) (now : Contents) : Type 0 where
+-- an entry keeps that, and what is there was left by a call
+pub record IsKeptBy (Left : List Edit → List ℕ → Option (List ℕ) → Type 0) (spot : Spot) (first : Contents) (entries : List Edit) (now : Contents) : Type 0 where
   pub row : IsRowOf spot now entries
   pub fresh : IsFresh spot.journal row.count first now
   pub known : first_stranger entries ≡ None
   pub keeps : KeepFirst spot.journal first entries
-  pub holds : HoldFirstOrTold spot.journal first entries now
+  pub holds : HoldFirstOr Left spot.journal first entries now
 
--- each path holds what it held at first, or the journal keeps that
-pub record IsSafe (spot : Spot) (first now : Contents) : Type 0 where
+-- the journal has entries by which it is so
+pub record IsKept (Left : List Edit → List ℕ → Option (List ℕ) → Type 0) (spot : Spot) (first now : Contents) : Type 0 where
   pub entries : List Edit
-  pub by : IsSafeBy spot first entries now
+  pub by : IsKeptBy Left spot first entries now
+
+-- each path holds what it held at first, or the journal keeps that, and has what is there
+abbrev pub IsSafe : Spot → Contents → Contents → Type 0
+IsSafe = IsKept SomeEntryHasBytes
 
 -- no file is at the path where the row goes on, or one whose write failed and yet was made: it holds
 -- these entries, and no file follows it
@@ -73,13 +77,17 @@ pub record IsJournaled (spot : Spot) (first : Contents) (entries : List Edit) (n
   pub fresh : IsFresh spot.journal (suc (length entries)) first now
   pub known : first_stranger (entries ++ more) ≡ None
   pub keeps : KeepFirst spot.journal first (entries ++ more)
-  pub holds : HoldFirstOrTold spot.journal first entries now
+  pub holds : HoldFirstOr SomeEntryHasBytes spot.journal first entries now
 
--- changes were made, and after every front of them the files are safe
-pub record StaysSafe (spot : Spot) (first : Contents) (old_trace new_trace : List Change) (old new : Contents) : Type 0 where
+-- changes were made, and P holds after every front of them
+pub record AfterEachFront (P : Contents → Type 0) (old_trace new_trace : List Change) (old new : Contents) : Type 0 where
   pub added : List Change
   pub makes : Makes added old_trace new_trace old new
-  pub fronts : (k : ℕ) → IsSafe spot first (after (take k added) old)
+  pub fronts : (k : ℕ) → P (after (take k added) old)
+
+-- changes were made, and after every front of them the files are safe
+abbrev pub StaysSafe : Spot → Contents → List Change → List Change → Contents → Contents → Type 0
+StaysSafe spot first = AfterEachFront (IsSafe spot first)
 
 -- whatever the paths held at first: where the files are journaled, the changes keep them safe, and
 -- the files are journaled after them

@@ -8,7 +8,7 @@ use Rattle.hack_files.specs.Files.{Change, Contents, after_change, after, Makes}
 use Rattle.hack_journal.specs.Journal.{Edit}
 use Rattle.hack_journal.specs.Rows.{Spot, AreEach, AreFirst, IsBeside, IsFresh, IsNoteOf, IsTextOf, file_at}
 use Rattle.hack_journal.specs.Strangers.{first_stranger}
-use Rattle.hack_journal.specs.SafeFiles.{KeepFirst, SomeEntryHasBytes, HoldFirstOrTold, IsSafe, IsJournaled, StaysSafe, Stays}
+use Rattle.hack_journal.specs.SafeFiles.{AfterEachFront, KeepFirst, SomeEntryHasBytes, HoldFirstOr, IsSafe, IsJournaled, Stays}
 
 pub after_append : (xs ys : List Change) (m : Contents) → after (xs ++ ys) m ≡ after ys (after xs m)
 after_append [] ys m = refl
@@ -28,7 +28,7 @@ tells_left [] fs p x h = absurd h
 tells_left (e ∷ es) fs p x (inl h) = inl h
 tells_left (e ∷ es) fs p x (inr h) = inr (tells_left es fs p x h)
 
-pub holds_left : (j : List ℕ) (o : Contents) (es fs : List Edit) (m : Contents) → HoldFirstOrTold j o es m → HoldFirstOrTold j o (es ++ fs) m
+pub holds_left : (j : List ℕ) (o : Contents) (es fs : List Edit) (m : Contents) → HoldFirstOr SomeEntryHasBytes j o es m → HoldFirstOr SomeEntryHasBytes j o (es ++ fs) m
 holds_left j o es fs m h q ne = elim (h q ne) [ inl same ↦ inl same | inr told ↦ inr (tells_left es fs q (m q) told) ]
 
 -- ---- the row
@@ -103,22 +103,22 @@ pub fronts_none : (P : Contents → Type 0) (m : Contents) → P m → (k : ℕ)
 fronts_none P m h zero = h
 fronts_none P m h (suc k) = h
 
-pub stay_append : (j : Spot) (o : Contents) (t u v : List Change) (m n w : Contents) → StaysSafe j o t u m n → StaysSafe j o u v n w → StaysSafe j o t v m w
-stay_append j o t u v m n w f g = record {
+pub stay_append : (P : Contents → Type 0) (t u v : List Change) (m n w : Contents) → AfterEachFront P t u m n → AfterEachFront P u v n w → AfterEachFront P t v m w
+stay_append P t u v m n w f g = record {
   added = f.added ++ g.added;
   makes = makes_append f.added g.added t u v m n w f.makes g.makes;
-  fronts = fronts_append f.added g.added (IsSafe j o) m f.fronts (λ k. subst (λ (x : Contents). IsSafe j o (after (take k g.added) x)) f.makes.holds (g.fronts k));
+  fronts = fronts_append f.added g.added P m f.fronts (λ k. subst (λ (x : Contents). P (after (take k g.added) x)) f.makes.holds (g.fronts k));
 }
 
-pub stay_none : (j : Spot) (o : Contents) (t u : List Change) (m n : Contents) → Makes [] t u m n → IsSafe j o m → StaysSafe j o t u m n
-stay_none j o t u m n h s = record { added = []; makes = h; fronts = fronts_none (IsSafe j o) m s }
+pub stay_none : (P : Contents → Type 0) (t u : List Change) (m n : Contents) → Makes [] t u m n → P m → AfterEachFront P t u m n
+stay_none P t u m n h p = record { added = []; makes = h; fronts = fronts_none P m p }
 
 -- nothing was changed
 pub stays_none : (j : Spot) (es : List Edit) (t u : List Change) (m n : Contents) → Makes [] t u m n → Stays j es es t u m n
-stays_none j es t u m n h o k = (stay_none j o t u m n h (safe_of j o es m k), subst (λ (x : Contents). IsJournaled j o es x) (sym h.holds) k)
+stays_none j es t u m n h o k = (stay_none (IsSafe j o) t u m n h (safe_of j o es m k), subst (λ (x : Contents). IsJournaled j o es x) (sym h.holds) k)
 
 pub stays_more : (j : Spot) (es fs gs : List Edit) (t u v : List Change) (m n w : Contents) → Stays j es fs t u m n → Stays j fs gs u v n w → Stays j es gs t v m w
-stays_more j es fs gs t u v m n w f g o k = let a = f o k in let b = g o a.1 in (stay_append j o t u v m n w a.0 b.0, b.1)
+stays_more j es fs gs t u v m n w f g o k = let a = f o k in let b = g o a.1 in (stay_append (IsSafe j o) t u v m n w a.0 b.0, b.1)
 
 -- several changes, one after another, where the paths of the two journals are equal
 pub stays_join : (i j : Spot) (es fs gs : List Edit) (t u v : List Change) (m n w : Contents) → i ≡ j → Stays i es fs t u m n → Stays j fs gs u v n w → Stays i es gs t v m w

@@ -1,13 +1,13 @@
 //! What a path holds: its bytes, or that no file is there.
 
-ghost use Rattle.std.specs.Prelude.{◌≡◌, ◌↔◌, [], ◌∷◌, IfOk, OnOk, OnErr, IsTrue};
+ghost use Rattle.std.specs.Prelude.{◌≡◌, ◌↔◌, [], IfOk, IsTrue};
 ghost use Rattle.std.specs.Option.{option_map};
-ghost use Rattle.hack_files.specs.Files.{CountsFailedCall, KeepsOthers, KeepsAll, Makes};
-ghost use Rattle.hack_files.specs.Files.{MakesOrNot, refused_path};
-ghost use Rattle.hack_journal.specs.FailedCalls.{FailsRefusedAt, FailsUnseen, FailsUnseenAt};
+ghost use Rattle.hack_files.specs.Files.{CountsFailedCall, KeepsAll, Makes};
+ghost use Rattle.hack_journal.specs.FailedCalls.{FailsUnseen, FailsUnseenAt};
+ghost use Rattle.hack_journal.specs.FileCalls.{Puts};
 ghost use Rattle.hack_journal.specs.Journal.{edit_of, edits_of};
 ghost use Rattle.hack_journal.specs.Recovery.{HasEntry};
-ghost use Rattle.hack_journal.specs.SafeFiles.{AreBack, gives};
+ghost use Rattle.hack_journal.specs.SafeFiles.{AreBack};
 
 use crate::entries::same;
 use crate::journal::Entry;
@@ -39,19 +39,8 @@ pub fn look<F: Files>(
 
 /// Puts these bytes at a path, or removes what is there.
 pub fn put<F: Files>(files: &mut F, path: &str, bytes: Option<&[u8]>) -> Result<(), FileFault>
-    ensures stays { F.stays files.old files.new }
-    ensures failures { CountsFailedCall (F.failed files.old) (F.failed files.new) result }
-    ensures refused_path { F.refuses files.old files.new (refused_path result path.now) }
-    ensures calls { FailsRefusedAt F.Files path.now files.old files.new result }
-    ensures put { OnOk result (F.tells →
-        F.bytes_at files.new path.now ≡ option_map (λ bytes. bytes.now) bytes.entry) }
-    ensures others { F.tells → KeepsOthers path.now (F.bytes_at files.old) (F.bytes_at files.new) }
-    ensures traced { OnOk result (F.whole →
-        Makes (gives path.now (option_map (λ bytes. bytes.now) bytes.entry) ∷ [])
-        (F.trace files.old) (F.trace files.new) (F.bytes_at files.old) (F.bytes_at files.new)) }
-    ensures refused { OnErr result (F.whole →
-        MakesOrNot (gives path.now (option_map (λ bytes. bytes.now) bytes.entry))
-        (F.trace files.old) (F.trace files.new) (F.bytes_at files.old) (F.bytes_at files.new)) }
+    ensures { Puts F.Files path.now (option_map (λ bytes. bytes.now) bytes.entry)
+        files.old files.new result }
 {
     match bytes {
         Some(bytes) => files.write(path, bytes),
@@ -65,19 +54,8 @@ pub fn put_over<F: Overwrites>(
     path: &str,
     bytes: Option<&[u8]>,
 ) -> Result<(), FileFault>
-    ensures stays { F.stays files.old files.new }
-    ensures failures { CountsFailedCall (F.failed files.old) (F.failed files.new) result }
-    ensures refused_path { F.refuses files.old files.new (refused_path result path.now) }
-    ensures calls { FailsRefusedAt F.Files path.now files.old files.new result }
-    ensures put { OnOk result (F.tells →
-        F.bytes_at files.new path.now ≡ option_map (λ bytes. bytes.now) bytes.entry) }
-    ensures others { F.tells → KeepsOthers path.now (F.bytes_at files.old) (F.bytes_at files.new) }
-    ensures traced { OnOk result (F.whole →
-        Makes (gives path.now (option_map (λ bytes. bytes.now) bytes.entry) ∷ [])
-        (F.trace files.old) (F.trace files.new) (F.bytes_at files.old) (F.bytes_at files.new)) }
-    ensures refused { OnErr result (F.whole →
-        MakesOrNot (gives path.now (option_map (λ bytes. bytes.now) bytes.entry))
-        (F.trace files.old) (F.trace files.new) (F.bytes_at files.old) (F.bytes_at files.new)) }
+    ensures { Puts F.Files path.now (option_map (λ bytes. bytes.now) bytes.entry)
+        files.old files.new result }
 {
     match bytes {
         Some(bytes) => files.overwrite(path, bytes),

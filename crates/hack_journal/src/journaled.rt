@@ -12,7 +12,7 @@ ghost use Rattle.std.specs.Prelude.{Ok, false, true};
 ghost use Rattle.std.specs.Prelude.{IfOk, OnOk, OnErr, IsTrue, IsSome, ◌↔◌, string_bytes};
 ghost use Rattle.std.specs.Option.{option_map};
 ghost use Rattle.hack_files.specs.Files.{Contents, CountsFailedCall, KeepsOthers, KeepsAll};
-ghost use Rattle.hack_files.specs.Files.{Makes, MakesOrNot, puts, refused_path, removes};
+ghost use Rattle.hack_files.specs.Files.{Makes, MakesOrNot, refused_path};
 ghost use Rattle.hack_journal.specs.Keeping.{FailsToChange};
 ghost use Rattle.hack_journal.specs.Rows.{spot_of, file_at, is_of_journal, KeepsBeside};
 ghost use Rattle.hack_journal.specs.SafeFiles.{SomeEntryHasBytes, AreBack, gives};
@@ -23,7 +23,7 @@ ghost use Rattle.hack_journal.specs.Refusing.{IsCounted, IsRefusedOrUnkept, Tell
 use crate::contents::{are_back, put_over};
 use crate::notes::Notes;
 use crate::place::Place;
-use crate::unkept::Unkept;
+use crate::unkept::{Refusal, Unkept};
 use hack_files::fs::{FileFault, Files, Overwrites, count_failure, counted};
 use std::alloc::Global;
 use std::io;
@@ -122,13 +122,13 @@ impl<F: Overwrites, U: Unkept> Journaled<F, U> {
             self.old.files self.new.files result }
     {
         if self.notes.is_of_journal(path) {
-            self.unkept.note(path);
+            self.unkept.note(Refusal::of(path));
             return Err(FileFault::Device);
         }
         match self.keep(path, bytes) {
             Ok(()) => put_over(&mut self.files, path, bytes),
             Err(fault) => {
-                self.unkept.note(path);
+                self.unkept.note(Refusal::of(path));
                 Err(fault)
             }
         }
@@ -214,7 +214,7 @@ impl<F: Overwrites, U: Unkept> Files for Journaled<F, U> {
     ghost use Rattle.std.proofs.Common.{refl, ◌∙◌};
     ghost use Rattle.hack_journal.specs.SafeLaws.{stays_none, stays_join, makes_none};
     ghost use Rattle.hack_journal.specs.FailedCalls.{LooksOrUnseen, ReadsOrUnseen};
-    ghost use Rattle.hack_journal.specs.FileCalls.{ChangesOnly, OnlyLooks, spot_in};
+    ghost use Rattle.hack_journal.specs.FileCalls.{OnlyLooks, Puts, spot_in};
     ghost use Rattle.hack_journal.specs.Refusing.{AreJust, GrowsWithin, IsUnseenOrUntold};
     ghost use Rattle.hack_journal.specs.RefusingLaws.{just_none, just_more, just_some};
     ghost use Rattle.hack_journal.specs.RefusingLaws.{within_none, within_more};
@@ -292,7 +292,7 @@ impl<F: Overwrites, U: Unkept> Files for Journaled<F, U> {
             self.new.unkept ≡ self.old.unkept }
     {
         if self.notes.is_of_journal(path) {
-            self.unkept.note_read();
+            self.unkept.note_read(Refusal::of(path));
             count_failure(&mut self.failures);
             return Err(FileFault::Device);
         }
@@ -301,20 +301,8 @@ impl<F: Overwrites, U: Unkept> Files for Journaled<F, U> {
     }
 
     fn write(&mut self, path: &str, bytes: &[u8]) -> Result<(), FileFault>
-        ensures changes { ChangesOnly ⟦<Journaled<F, U> as Files>⟧ path.now
+        ensures puts { Puts ⟦<Journaled<F, U> as Files>⟧ path.now (Some bytes.now)
             self.old self.new result }
-        ensures written { OnOk result (F.tells → without self.new.notes.journal
-            (F.bytes_at self.new.files) path.now ≡ Some bytes.now) }
-        ensures traced { OnOk result (F.tells × F.whole → Makes (puts path.now bytes.now ∷ [])
-            (changes_besides self.old.notes.journal (F.trace self.old.files))
-            (changes_besides self.new.notes.journal (F.trace self.new.files))
-            (without self.old.notes.journal (F.bytes_at self.old.files))
-            (without self.new.notes.journal (F.bytes_at self.new.files))) }
-        ensures refused { OnErr result (F.tells × F.whole → MakesOrNot (puts path.now bytes.now)
-            (changes_besides self.old.notes.journal (F.trace self.old.files))
-            (changes_besides self.new.notes.journal (F.trace self.new.files))
-            (without self.old.notes.journal (F.bytes_at self.old.files))
-            (without self.new.notes.journal (F.bytes_at self.new.files))) }
         ensures unkept { TellsItsOwn U.Unkept path.now result self.old.unkept self.new.unkept }
         // What an entry has already nothing but the files below can refuse.
         ensures sure { SomeEntryHasBytes self.old.notes.entries path.now (Some bytes.now) →
@@ -348,20 +336,7 @@ impl<F: Overwrites, U: Unkept> Files for Journaled<F, U> {
     }
 
     fn remove(&mut self, path: &str) -> Result<(), FileFault>
-        ensures changes { ChangesOnly ⟦<Journaled<F, U> as Files>⟧ path.now
-            self.old self.new result }
-        ensures removed { OnOk result (F.tells → without self.new.notes.journal
-            (F.bytes_at self.new.files) path.now ≡ None) }
-        ensures traced { OnOk result (F.tells × F.whole → Makes (removes path.now ∷ [])
-            (changes_besides self.old.notes.journal (F.trace self.old.files))
-            (changes_besides self.new.notes.journal (F.trace self.new.files))
-            (without self.old.notes.journal (F.bytes_at self.old.files))
-            (without self.new.notes.journal (F.bytes_at self.new.files))) }
-        ensures refused { OnErr result (F.tells × F.whole → MakesOrNot (removes path.now)
-            (changes_besides self.old.notes.journal (F.trace self.old.files))
-            (changes_besides self.new.notes.journal (F.trace self.new.files))
-            (without self.old.notes.journal (F.bytes_at self.old.files))
-            (without self.new.notes.journal (F.bytes_at self.new.files))) }
+        ensures puts { Puts ⟦<Journaled<F, U> as Files>⟧ path.now None self.old self.new result }
         ensures unkept { TellsItsOwn U.Unkept path.now result self.old.unkept self.new.unkept }
         // What an entry has already nothing but the files below can refuse.
         ensures sure { SomeEntryHasBytes self.old.notes.entries path.now None →

@@ -7,8 +7,8 @@ ghost use Rattle.hack_files.specs.Files.{Contents, KeepsAll, KeepsOthers, Makes,
 ghost use Rattle.hack_files.specs.Files.{after, after_change};
 ghost use Rattle.hack_journal.specs.Journal.{edit_of, edits_of};
 ghost use Rattle.hack_journal.specs.Rows.{Spot, spot_of, file_at, IsBeside, KeepsBeside};
-ghost use Rattle.hack_journal.specs.SafeFiles.{IsSafe, StaysSafe, KeepFirst, gives};
-ghost use Rattle.hack_journal.specs.CutFiles.{IsSafeOrCut, IsSafeOrCutBy, StaysSafeOrCut};
+ghost use Rattle.hack_journal.specs.SafeFiles.{IsKeptBy, IsSafe, StaysSafe, KeepFirst, gives};
+ghost use Rattle.hack_journal.specs.CutFiles.{IsSafeOrCut, StaysSafeOrCut};
 ghost use Rattle.hack_journal.specs.Recovery.{AreTold, AreChanged, IsRestored, IsWhy, HasEntry};
 ghost use Rattle.hack_journal.specs.Recovery.{IsJournalRefusal, IsFailureCounted, IsOwn};
 ghost use Rattle.hack_journal.specs.FailedCalls.{FailsOnlySo};
@@ -286,7 +286,7 @@ fn take_back<F: Files>(
         AreChanged (F.bytes_at files.old) (F.bytes_at files.new)
         (edits_of row.now.entries.items) (names_of paths.items)) }
     ensures safe { F.tells → F.whole → (first : Contents)
-        (by : IsSafeOrCutBy (spot_of place.now) first (edits_of row.now.entries.items)
+        (by : IsKeptBy IsOwn (spot_of place.now) first (edits_of row.now.entries.items)
         (F.bytes_at files.old)) → by.row.count ≡ row.now.count →
         PutsBackOrSafe (spot_of place.now) first (F.trace files.old) (F.trace files.new)
         (F.bytes_at files.old) (F.bytes_at files.new) }

@@ -2,12 +2,35 @@
 //!
 //! What the files below refuse they tell themselves. But memory for the journal can be refused too,
 //! a look that it needs can fail, its own paths are none of the files, and it keeps edits of
-//! manifests alone. Nobody but `note` can say that a write was refused for such a reason.
+//! manifests alone. Nobody but a journal can say that a call was refused for such a reason.
 
-ghost use Rattle.std.specs.Prelude.{List, ℕ};
+ghost use Rattle.std.specs.Prelude.{◌≡◌, List, ℕ};
 ghost use Rattle.hack_base.specs.Counters.{GrowsBy};
 
 use hack_files::fs::count_failure;
+
+/// A call of a path that a journal refused where the files below refused none. Only a journal
+/// makes one.
+#[derive(Drop)]
+pub struct Refusal<'a> {
+    path: &'a str,
+}
+
+impl<'a> Refusal<'a> {
+    /// The refusal of a call of this path.
+    pub(crate) fn of(path: &'a str) -> Self
+        ensures path { result.path.now ≡ path.now }
+    {
+        Refusal { path }
+    }
+
+    /// The path that was to be read, written or removed.
+    pub fn path(&self) -> &str
+        ensures path { result.now ≡ self.now.path.now }
+    {
+        self.path
+    }
+}
 
 /// Is told of each call that a journal refuses where the files below refused none.
 pub trait Unkept {
@@ -17,13 +40,13 @@ pub trait Unkept {
     /// Between these states it was told of a write or removal of this path.
     ghost misses: { Self → Self → List ℕ → Type 0 };
 
-    /// Tells that a write or removal of this path was refused: what it replaces couldn't be kept.
-    fn note(&mut self, path: &str)
+    /// Tells that a write or removal was refused: what it replaces couldn't be kept.
+    fn note(&mut self, refusal: Refusal<'_>)
         ensures told { GrowsBy 1 (told self.old) (told self.new) }
-        ensures path { misses self.old self.new path.now };
+        ensures path { misses self.old self.new refusal.entry.path.now };
 
     /// Tells that a path of the journal was to be read.
-    fn note_read(&mut self)
+    fn note_read(&mut self, refusal: Refusal<'_>)
         ensures { GrowsBy 1 (told self.old) (told self.new) };
 }
 
@@ -33,11 +56,11 @@ impl Unkept for u64 {
 
     ghost misses = { λ old new _. GrowsBy 1 old new };
 
-    fn note(&mut self, _path: &str) {
+    fn note(&mut self, _refusal: Refusal<'_>) {
         count_failure(self);
     }
 
-    fn note_read(&mut self) {
+    fn note_read(&mut self, _refusal: Refusal<'_>) {
         count_failure(self);
     }
 }

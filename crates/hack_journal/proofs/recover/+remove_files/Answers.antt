@@ -6,10 +6,10 @@ use Rattle.hack_journal.proofs.RecoverLemmas.{back_but_safe, remove_failed, remo
 use Rattle.hack_journal.proofs.recover.+remove_files.Goals as goal
 
 pub returns-then-count-eq0-clause-safe : goal.returns-then-count-eq0-clause-safe
-returns-then-count-eq0-clause-safe g t c = λ whole spot first named but. stay_none spot first _ _ _ _ (makes_none _ _) (back_but_safe spot first c.args.count _ but)
+returns-then-count-eq0-clause-safe g t c = λ whole spot first named but. stay_none _ _ _ _ _ (makes_none _ _) (back_but_safe spot first c.args.count _ but)
 
 pub returns-in_err-path-clause-safe : goal.returns-in_err-path-clause-safe
-returns-in_err-path-clause-safe g t c = λ whole spot first named but. stay_none spot first _ _ _ _ (makes_none _ _) (back_but_safe spot first c.args.count _ but)
+returns-in_err-path-clause-safe g t c = λ whole spot first named but. stay_none _ _ _ _ _ (makes_none _ _) (back_but_safe spot first c.args.count _ but)
 
 pub returns-in-Ok-clause-safe : goal.returns-in-Ok-clause-safe
 returns-in-Ok-clause-safe g t c = λ whole spot first named but.

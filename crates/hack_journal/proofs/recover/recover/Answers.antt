@@ -6,7 +6,7 @@ use Rattle.hack_journal.specs.Rows.{spot_of}
 use Rattle.hack_journal.specs.SafeLaws.{makes_append}
 use Rattle.hack_journal.proofs.FinishLemmas.{all_same}
 use Rattle.hack_journal.proofs.RowLemmas.{row_of}
-use Rattle.hack_journal.proofs.RecoverLemmas.{looked_puts, never_cut_no_journal, puts_stay, puts_stay_cut, safe_at, safe_cut, safe_told, why_unread, why_failed, why_not_told, never_not_told, told_at, restored_of, comes_back_of, on_err_always, on_three, on_two, safe_none}
+use Rattle.hack_journal.proofs.RecoverLemmas.{looked_puts, never_cut_no_journal, puts_stay, safe_at, safe_cut, safe_told, why_unread, why_failed, why_not_told, never_not_told, told_at, restored_of, comes_back_of, on_err_always, on_three, on_two, safe_none}
 use Rattle.hack_journal.proofs.recover.recover.Goals as goal
 
 pub returns-in_err-row-clause-why : goal.returns-in_err-row-clause-why
@@ -74,13 +74,13 @@ pub returns-clause-safe : goal.returns-clause-safe
 returns-clause-safe g c = λ tells whole first safe.
     let s = spot_of c.args.place.now in
     let looks = makes_append [] [] _ _ _ _ _ _ (c.in_ok-row.ensures.untraced whole) (c.in_ok-check_all.ensures.untraced whole) in
-    puts_stay s first _ _ _ _ safe (looked_puts s first c.in-Some.row.count _ _ _ _ _ _ _ (safe_cut s first _ safe) (c.in_ok-row.ensures.some c.in-Some.row c.in-Some.is tells) looks (c.take_back.ensures.safe tells whole first))
+    puts_stay s first _ _ _ _ (λ now is. is) safe (looked_puts s first c.in-Some.row.count _ _ _ _ _ _ _ (safe_cut s first _ safe) (c.in_ok-row.ensures.some c.in-Some.row c.in-Some.is tells) looks (c.take_back.ensures.safe tells whole first))
 
 pub returns-clause-safe_after_cut : goal.returns-clause-safe_after_cut
 returns-clause-safe_after_cut g c = λ tells whole first safe.
     let s = spot_of c.args.place.now in
     let looks = makes_append [] [] _ _ _ _ _ _ (c.in_ok-row.ensures.untraced whole) (c.in_ok-check_all.ensures.untraced whole) in
-    puts_stay_cut s first _ _ _ _ safe (looked_puts s first c.in-Some.row.count _ _ _ _ _ _ _ safe (c.in_ok-row.ensures.some c.in-Some.row c.in-Some.is tells) looks (c.take_back.ensures.safe tells whole first))
+    puts_stay s first _ _ _ _ (safe_cut s first) safe (looked_puts s first c.in-Some.row.count _ _ _ _ _ _ _ safe (c.in_ok-row.ensures.some c.in-Some.row c.in-Some.is tells) looks (c.take_back.ensures.safe tells whole first))
 
 pub returns-clause-why : goal.returns-clause-why
 returns-clause-why g c =

@@ -30,10 +30,10 @@ pub returns-in-Err-clause-refused : goal.returns-in-Err-clause-refused
 returns-in-Err-clause-refused g c = λ whole. inl (hidden_alone _ _ _ _ _ (c.in-Err.ensures.hidden whole))
 
 pub returns-in-Ok-clause-handed : goal.returns-in-Ok-clause-handed
-returns-in-Ok-clause-handed g c = g.F.Files.stays_more _ _ _ c.in-Ok.ensures.handed c.put_over.ensures.stays
+returns-in-Ok-clause-handed g c = g.F.Files.stays_more _ _ _ c.in-Ok.ensures.handed c.put_over.ensures.changes.stays
 
 pub returns-in-Ok-clause-counted : goal.returns-in-Ok-clause-counted
-returns-in-Ok-clause-counted g c = counted_below c.put_over.result _ _ _ _ _ c.in-Ok.ensures.below c.put_over.ensures.failures (ap (λ s. g.U.Unkept.told s.unkept) c.in-Ok.ensures.rest)
+returns-in-Ok-clause-counted g c = counted_below c.put_over.result _ _ _ _ _ c.in-Ok.ensures.below c.put_over.ensures.changes.counted (ap (λ s. g.U.Unkept.told s.unkept) c.in-Ok.ensures.rest)
 
 pub returns-in-Ok-clause-traced : goal.returns-in-Ok-clause-traced
 returns-in-Ok-clause-traced g c =
