@@ -1,5 +1,5 @@
 -- The ways that a call can go.
-use Rattle.std.specs.Prelude.{◌≡◌, ◌⊎◌, ℕ, Bool, true, false, IsSome, List, None, Ok, Err, Option, Result, string_bytes}
+use Rattle.std.specs.Prelude.{◌≡◌, ◌⊎◌, ℕ, Bool, true, false, not, nat_eq, IsSome, List, None, Ok, Err, Option, Result, string_bytes}
 use Rattle.hack_base.specs.Counters.{GrowsBy}
 use Rattle.hack_base.specs.Names.{Name}
 use Rattle.hack_files.specs.Files.{Contents, KeepsAll, KeepsAllBut, KeepsOthers, MakesOrNot, removes}
@@ -145,30 +145,32 @@ Warns was now = (now ≡ record was { warn = true }) ⊎ (now ≡ record was { w
 
 -- after it no file is at the journal's path, and the lockfile's copy is gone; or one of them stays, or
 -- a look at the journal failed, which is reported as a warning, and so is memory that was refused for it,
--- which is an error besides; the copy is as it was unless no journal stays
-pub data IsJournalClosed {F : Type 0} (f : Filing F) (places : PlacesAt) (old new : FilesView) (was now : Term) : Type 0 where
-  gone : now ≡ was → GrowsBy 0 old.failed new.failed → (f.tells → old.held places.journal ≡ None) → (f.tells → new.held places.copy ≡ None) → IsJournalClosed f places old new was now
-  stays : Warns was now → GrowsBy 0 old.failed new.failed → (f.tells → IsSome (old.held places.journal)) → Unchanged f.tells f.whole old new → IsJournalClosed f places old new was now
-  unseen : Warns was now → GrowsBy 1 old.failed new.failed → IsUnseen f places.journal → Unchanged f.tells f.whole old new → IsJournalClosed f places old new was now
-  starved : now ≡ record was { warn = true; error = true } → OneMayFail old.failed new.failed → Unchanged f.tells f.whole old new → IsJournalClosed f places old new was now
-  copy_stays : Warns was now → GrowsBy 1 old.failed new.failed → IsRefused f places.copy → (f.tells → old.held places.journal ≡ None) → IsJournalClosed f places old new was now
+-- which is an error besides; the copy is as it was where a journal stays or the lockfile may be unwritten
+pub data IsJournalClosed {F : Type 0} (f : Filing F) (places : PlacesAt) (unwritten : Bool) (old new : FilesView) (was now : Term) : Type 0 where
+  gone : unwritten ≡ false → now ≡ was → GrowsBy 0 old.failed new.failed → (f.tells → old.held places.journal ≡ None) → (f.tells → new.held places.copy ≡ None) → IsJournalClosed f places unwritten old new was now
+  stays : Warns was now → GrowsBy 0 old.failed new.failed → (f.tells → IsSome (old.held places.journal)) → Unchanged f.tells f.whole old new → IsJournalClosed f places unwritten old new was now
+  unseen : Warns was now → GrowsBy 1 old.failed new.failed → IsUnseen f places.journal → Unchanged f.tells f.whole old new → IsJournalClosed f places unwritten old new was now
+  starved : now ≡ record was { warn = true; error = true } → OneMayFail old.failed new.failed → Unchanged f.tells f.whole old new → IsJournalClosed f places unwritten old new was now
+  copy_stays : unwritten ≡ false → Warns was now → GrowsBy 1 old.failed new.failed → IsRefused f places.copy → (f.tells → old.held places.journal ≡ None) → IsJournalClosed f places unwritten old new was now
+  copy_kept : unwritten ≡ true → Warns was now → GrowsBy 0 old.failed new.failed → (f.tells → old.held places.journal ≡ None) → Unchanged f.tells f.whole old new → IsJournalClosed f places unwritten old new was now
 
 -- after it no other file than the lockfile's copy is changed, and what stays was reported
-pub record Closes {F : Type 0} (f : Filing F) (places : PlacesAt) (old new : Scene) : Type 0 where
+pub record Closes {F : Type 0} (f : Filing F) (places : PlacesAt) (unwritten : Bool) (old new : Scene) : Type 0 where
   pub others : f.tells → KeepsOthers places.copy old.files.held new.files.held
   pub made : f.whole → MakesOrNot (removes places.copy) old.files.trace new.files.trace old.files.held new.files.held
   pub lockfiles : new.lockfiles ≡ old.lockfiles
   pub quiet : IsQuiet old new
-  pub told : IsJournalClosed f places old.files new.files old.host.term new.host.term
+  pub told : IsJournalClosed f places unwritten old.files new.files old.host.term new.host.term
 
 -- ---- the ways
 
--- the call was performed with a journal, and what stays of it was reported
+-- the call was performed with a journal, and what stays of it was reported; the lockfile's copy stays where a call of the
+-- lockfiles failed, since the lockfile may be unwritten
 pub record RunsOverJournal {F L U : Type 0} (f : Filing F) (l : Filing L) (u : Noting U) (talks : Type 0) (words : List Name) (env : Env) (places : PlacesAt) (old new : Scene) : Type 0 where
   pub failed : ℕ
   pub last : Scene
   pub journals : Journals f l u talks words env (journal_spot places) failed old last
-  pub closes : Closes f places last new
+  pub closes : Closes f places (not (nat_eq old.lockfiles.failed last.lockfiles.failed)) last new
 
 -- how a call with a journal goes once its guard was asked for: the lockfile is copied, and then it is
 -- performed; or the lockfile can't be copied for this reason, and nothing else is changed or called

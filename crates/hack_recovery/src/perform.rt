@@ -502,24 +502,29 @@ fn over_journal<F: Overwrites, L: Files, U: Unkept, C: Starts, O: Sink, E: Sink>
         reading,
         ..
     } = begun;
+    let before = lockfiles.failures();
     let (_, files, lockfiles, _, unkept) = run_journaled(
         words, reading, files, lockfiles, place, unkept, host,
     );
     let mut files = files;
-    close(host.alloc, &places, &mut files, host.term, host.err);
+    let unwritten = before != lockfiles.failures();
+    close(
+        host.alloc, &places, unwritten, &mut files, host.term, host.err,
+    );
     (host.status(), files, lockfiles, unkept)
 }
 
-/// Warns where a journal stays, or may; where none does, the lockfile's copy is removed, and one that
-/// stays is warned of.
+/// Warns where a journal stays, or may; where none does, the lockfile's copy is removed, unless the
+/// lockfile may be unwritten. A copy that stays then is warned of too.
 fn close<F: Files, E: Sink>(
     alloc: Global,
     places: &Places,
+    unwritten: bool,
     files: &mut F,
     term: &mut Term,
     err: &mut E,
 )
-    ensures told { IsJournalClosed F.Files (places_view places.now)
+    ensures told { IsJournalClosed F.Files (places_view places.now) unwritten
         (files_view F.Files files.old) (files_view F.Files files.new) term.old term.new }
     ensures others { F.tells → KeepsOthers (string_bytes places.now.copy)
         (F.bytes_at files.old) (F.bytes_at files.new) }
@@ -529,31 +534,55 @@ fn close<F: Files, E: Sink>(
         (stream_of E.Sink err.old) (stream_of E.Sink err.new) }
 {
     let journal = places.place.journal.as_str();
+    let copy = places.copy.as_str();
+    let kept = unwritten.then_some(copy);
     match is_there(alloc, journal, files) {
         Ok(false) => {}
         Ok(true) => {
             let how = "stays: the next call brings back what it tells";
-            return tell_stay(alloc, journal, how, term, err);
+            return tell_stay(alloc, journal, how, kept, term, err);
         }
         Err(LookFault::Device(_)) => {
             let how = "may stay: then the next call brings back what it tells";
-            return tell_stay(alloc, journal, how, term, err);
+            return tell_stay(alloc, journal, how, kept, term, err);
         }
         Err(LookFault::Memory) => return tell_memory(term, err),
     }
-    let copy = places.copy.as_str();
+    if unwritten {
+        let how = "may stay: then it has what the lockfile held, and the next call removes it";
+        return tell_stay(alloc, copy, how, None, term, err);
+    }
     if files.remove(copy).is_err() {
-        return tell_stay(alloc, copy, "stays: the next call removes it", term, err);
+        return tell_stay(
+            alloc,
+            copy,
+            "stays: the next call removes it",
+            None,
+            term,
+            err,
+        );
     }
 }
 
-/// Warns of a file that stays, or may. Where memory is refused for that, it is an error besides.
-fn tell_stay<E: Sink>(alloc: Global, path: &str, how: &str, term: &mut Term, err: &mut E)
+/// Warns of a file that stays, or may, and of a copy that is kept, since the lockfile may be unwritten.
+/// Where memory is refused for that, it is an error besides.
+fn tell_stay<E: Sink>(
+    alloc: Global,
+    path: &str,
+    how: &str,
+    kept: Option<&str>,
+    term: &mut Term,
+    err: &mut E,
+)
     ensures noted { Warns term.old term.new }
     ensures lines { TellsStaying term.old term.new
         (stream_of E.Sink err.old) (stream_of E.Sink err.new) }
 {
-    match format!(in alloc; "`{path}` {how}") {
+    let text = match kept {
+        Some(copy) => format!(in alloc; "`{path}` {how}; what the lockfile held is in `{copy}`"),
+        None => format!(in alloc; "`{path}` {how}"),
+    };
+    match text {
         Ok(text) => {
             let _ = term.warn(&text, err);
         }

@@ -9,6 +9,7 @@ mod journaled;
 mod listed;
 mod lists;
 mod manifests;
+mod performed;
 mod runs;
 mod scene;
 mod sessions;

@@ -3,12 +3,14 @@
 //!
 //! Of a whole call the sections of `shown` are shown; if none is named, these are the calls, both
 //! streams and the changes of files. The status comes last. The other questions are those of the
-//! modules `edits`, `failing`, `journaled`, `listed`, `sessions`, `steps` and `toolchains`.
+//! modules `edits`, `failing`, `journaled`, `listed`, `performed`, `sessions`, `steps` and
+//! `toolchains`.
 
 use crate::tests::edits::edits;
 use crate::tests::failing::failing;
 use crate::tests::journaled::journaled;
 use crate::tests::listed::{cuts, list};
+use crate::tests::performed::performed;
 use crate::tests::scene::{scene_of, told};
 use crate::tests::sessions::session;
 use crate::tests::shared::spelled_out;
@@ -41,6 +43,7 @@ impl Ask for Asked<'_> {
 fn answered(alloc: Global, kind: &str, world: &str, words: &str) -> Result<String, AllocError> {
     match kind {
         "journal" => journaled(alloc, world, words),
+        "performed" => performed(alloc, world, words),
         "edits" => told(edits(alloc, world, words)),
         "session" => told(session(alloc, world, words, false)),
         "context" => told(session(alloc, world, words, true)),

@@ -10,7 +10,7 @@ pub returns-then-is_err-clause-told : goal.returns-then-is_err-clause-told
 returns-then-is_err-clause-told g c =
     let found = rw c.as_str-journal.ensures.value at c.in-Ok-false.ensures.found in
     let failed = sym c.is_err.ensures.value ∙ c.if-is_err.true in
-    copy_stays c.tell_stay-then-is_err.ensures.noted (grows_then 1 _ _ _ c.in-Ok-false.ensures.counted (failed_call _ _ c.remove.result failed c.remove.ensures.counted))
+    copy_stays c.if-unwritten.false c.tell_stay-then-is_err.ensures.noted (grows_then 1 _ _ _ c.in-Ok-false.ensures.counted (failed_call _ _ c.remove.result failed c.remove.ensures.counted))
     (refused_by g.F.Files _ c.is_there.new.files c.remove.new.self c.remove.result failed (rw c.as_str-copy.ensures.value at c.remove.ensures.refused_path))
     (λ t. none_there _ c.in-Ok-false.field-0 c.in-Ok-false.field-0-test (found t))
 

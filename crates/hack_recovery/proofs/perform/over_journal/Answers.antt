@@ -28,7 +28,7 @@ returns-clause-goes g c = λ locks guards.
         made = c.close.ensures.made;
         lockfiles = refl;
         quiet = record { calls = refl; out = refl; fails = refl; unkept = refl; locks = refl; guards = refl };
-        told = c.close.ensures.told;
+        told = rw (c.failures-before.ensures, c.failures.ensures) at c.close.ensures.told;
       };
     }
 
@@ -43,4 +43,4 @@ returns-clause-shown g c = λ t.
 pub returns-clause-in_lanes : goal.returns-clause-in_lanes
 returns-clause-in_lanes g c =
     lanes_by_error g.C.Starts.did g.C.Caller.course g.C.Caller.tells g.C.Caller.calls _ _ _ _ _ _ c.close.new.term.error
-    (λ quiet. c.run_journaled-files.ensures.lanes (closed_quiet g.F.Files _ _ _ _ _ c.close.ensures.told quiet)) c.run_journaled-files.ensures.in_lanes
+    (λ quiet. c.run_journaled-files.ensures.lanes (closed_quiet g.F.Files _ _ _ _ _ _ c.close.ensures.told quiet)) c.run_journaled-files.ensures.in_lanes
