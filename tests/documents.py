@@ -8,8 +8,8 @@ names at the start of a promise is public in a crate of its heading, and each cl
 of a contract or a definition; that each definition of DEFINITIONS.md is in the file named beside it; that
 ARCHITECTURE.md has each crate, after those that it uses; that rows have the errors of RULES.md; that the README's
 example is what the sample calls print; that no document counts tests, rows, edits or functions, or is too long; that
-tests/README.md has each script, and what the gate tries of it; and that man pages and completions are what
-tools/manual.py writes.
+tests/README.md has each script, and what the gate tries of it; that the text that an edit replaces is in its file once;
+and that man pages and completions are what tools/manual.py writes.
 
 The last line is `N passed, M failed`, and the status is 1 where one failed.
 """
@@ -244,6 +244,22 @@ def scripts():
         yield name, name in there and (cell.split(" ")[0] == wanted if cases else cell == wanted)
 
 
+def edits():
+    """Each edit, whose texts are each in its file once, after those before it were replaced."""
+    for edit in sorted(ROOT.glob("crates/*/must-fail/*.edit")) + sorted(ROOT.glob("crates/*/planted/*.edit")):
+        file, old, texts, fits = None, None, {}, True
+        for line in read(edit).splitlines():
+            kind, _, text = line.partition(": ")
+            if kind == "file":
+                file = edit.parent.parent / text
+                texts.setdefault(file, read(file))
+            elif kind == "old":
+                fits, old = fits and texts[file].count(text) == 1, text
+            elif kind == "new":
+                texts[file] = texts[file].replace(old, text)
+        yield str(edit.relative_to(ROOT)), fits
+
+
 def main(words):
     if len(words) != 1:
         sys.exit(__doc__)
@@ -257,6 +273,7 @@ def main(words):
     found += [(f"ARCHITECTURE.md: {name} is missing, or before a crate that it uses", holds) for name, holds in order()]
     found += [(f"RULES.md: no row has the error {name}", holds) for name, holds in errors()]
     found += [*lengths(), *((f"tests/README.md: {name}", holds) for name, holds in scripts())]
+    found += [(f"{name}: a text that it replaces is not in its file once", holds) for name, holds in edits()]
     found.append(("README.md: its example is not what the sample calls print", example()))
     manual = subprocess.run([ROOT / "tools" / "manual.py", "--check", os.path.abspath(words[0])], check=False)
     found.append(("man pages and completions are those of the table of options", manual.returncode == 0))
