@@ -4,8 +4,8 @@
 usage: tests/odd_calls.py CARGO_HACK POWERSET_LIST [--cases N] [--seed S] [--only I]
 
 Each of N cases (500) has to end within ten seconds, by no signal, with status 0 and no error line, or with status 1 and
-one error line after which nothing else is printed but that the lockfile's copy may stay (a line more for each run that failed
-under --keep-going; none where warnings count as errors). There is memory for all of it, so `out of memory` is a failure. Every file has to hold its
+one error line after which nothing else is printed (a line more for each run that failed under --keep-going; none where
+warnings count as errors). There is memory for all of it, so `out of memory` is a failure. Every file has to hold its
 bytes afterwards and none may be new; arguments that ask for edits that stay may change manifests, and nothing else. Cargo
 and rustup are a shell script with stored answers. A case that fails prints its arguments and its input, and is tried alone
 by --only I. The last line is `N passed, M failed`; the status is 1 where one failed.
@@ -189,8 +189,6 @@ def end_fault(status, err, may_warn):
         return None if is_warned or has_found else "status 1 without an error"
     report = re.fullmatch(r"error: failed to run (\d+) commands", errors[-1])
     behind = told[len(told) - told[::-1].index(errors[-1]):]
-    # Where a lockfile can't be read, it isn't known whether it was to be written back.
-    behind = [it for it in behind if "~lock` may stay: then it has what the lockfile held" not in it]
     # Manifests come back after the report, and before any other error.
     if behind and not (report and all(it.startswith("info: restoring ") for it in behind)):
         return "something is told behind the error"

@@ -161,7 +161,7 @@ def fault_of(ended, ample, workspace):
     if status != 1:
         return f"status {status}, in place of {ample[0]} or 1"
     allowed = ["error: out of memory", *(ample[2].decode().splitlines()[-1:] if ample[0] else [])]
-    last = [it for it in err.decode().splitlines() if "~lock` may stay: " not in it][-1:]
+    last = [it for it in err.decode().splitlines() if "what the lockfile held" not in it][-1:]
     return None if last and last[0] in allowed else f"its last line is {last}"
 
 

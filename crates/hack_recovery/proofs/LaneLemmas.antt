@@ -13,7 +13,8 @@ use Rattle.hack_term.specs.declared.term.Term.{Term}
 use Rattle.hack_words.specs.declared.cli.env.Env.{Env}
 use Rattle.hack_places.specs.CallPlaces.{PlacesAt}
 use Rattle.hack_recovery.specs.AskedEdits.{is_restore}
-use Rattle.hack_recovery.specs.CallCourses.{IsJournalClosed, Warns}
+use Rattle.hack_recovery.specs.CallCourses.{IsCopyTold, IsJournalClosed, Warns}
+use Rattle.hack_recovery.specs.CallCourses.IsCopyTold.{absent, lacking, there, unsure}
 use Rattle.hack_recovery.specs.CallCourses.IsJournalClosed.{copy_kept, copy_stays, gone, starved, stays, unseen}
 use Rattle.hack_recovery.specs.LaneCalls.{AsksToRestore, CallsInLanes, over_journal, plain, unperformed}
 use Rattle.hack_recovery.specs.Ready.{Both, GetReady}
@@ -35,13 +36,19 @@ warned_quiet : (was now : Term) → Warns was now → now.error ≡ false → wa
 warned_quiet was now (inl is) quiet = ap (λ (t : Term). t.error) (sym is) ∙ quiet
 warned_quiet was now (inr is) quiet = let e : true ≡ false = ap (λ (t : Term). t.error) (sym is) ∙ quiet in cc
 
+copy_quiet : {F : Type 0} (f : Filing F) (copy : Name) (old new : FilesView) (was now : Term) → IsCopyTold f copy old new was now → now.error ≡ false → was.error ≡ false
+copy_quiet f copy old new was now (there warns counted has same) quiet = warned_quiet was now warns quiet
+copy_quiet f copy old new was now (unsure warns counted seen same) quiet = warned_quiet was now warns quiet
+copy_quiet f copy old new was now (absent same counted none kept) quiet = ap (λ (t : Term). t.error) (sym same) ∙ quiet
+copy_quiet f copy old new was now (lacking is counted same) quiet = let e : true ≡ false = ap (λ (t : Term). t.error) (sym is) ∙ quiet in cc
+
 pub closed_quiet : {F : Type 0} (f : Filing F) (places : PlacesAt) (unwritten : Bool) (old new : FilesView) (was now : Term) → IsJournalClosed f places unwritten old new was now → now.error ≡ false → was.error ≡ false
 closed_quiet f places unwritten old new was now (gone written same counted journal copy) quiet = ap (λ (t : Term). t.error) (sym same) ∙ quiet
 closed_quiet f places unwritten old new was now (stays warns counted journal same) quiet = warned_quiet was now warns quiet
 closed_quiet f places unwritten old new was now (unseen warns counted journal same) quiet = warned_quiet was now warns quiet
 closed_quiet f places unwritten old new was now (starved is counted same) quiet = let e : true ≡ false = ap (λ (t : Term). t.error) (sym is) ∙ quiet in cc
 closed_quiet f places unwritten old new was now (copy_stays written warns counted refused journal) quiet = warned_quiet was now warns quiet
-closed_quiet f places unwritten old new was now (copy_kept doubted warns counted journal same) quiet = warned_quiet was now warns quiet
+closed_quiet f places unwritten old new was now (copy_kept mid doubted counted journal same told) quiet = copy_quiet f places.copy mid new was now told quiet
 
 module _ {S : Type 0} (did : List Event → S → S → Type 0) (course : S → S → Type 0) (talks : Type 0) (calls : S → List Call) where
   -- what `run` promises of lanes, where no error is reported and where one is

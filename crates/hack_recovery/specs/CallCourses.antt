@@ -143,6 +143,14 @@ pub record Journals {F L U : Type 0} (f : Filing F) (l : Filing L) (u : Noting U
 abbrev pub Warns : Term → Term → Type 0
 Warns was now = (now ≡ record was { warn = true }) ⊎ (now ≡ record was { warn = true; error = true })
 
+-- what is told of a copy that is as it was: that it stays; that it may, where a look at it failed; nothing where none is
+-- there; or memory was refused for that, which is an error besides
+pub data IsCopyTold {F : Type 0} (f : Filing F) (copy : Name) (old new : FilesView) (was now : Term) : Type 0 where
+  there : Warns was now → GrowsBy 0 old.failed new.failed → (f.tells → IsSome (old.held copy)) → Unchanged f.tells f.whole old new → IsCopyTold f copy old new was now
+  unsure : Warns was now → GrowsBy 1 old.failed new.failed → IsUnseen f copy → Unchanged f.tells f.whole old new → IsCopyTold f copy old new was now
+  absent : now ≡ was → GrowsBy 0 old.failed new.failed → (f.tells → old.held copy ≡ None) → Unchanged f.tells f.whole old new → IsCopyTold f copy old new was now
+  lacking : now ≡ record was { warn = true; error = true } → OneMayFail old.failed new.failed → Unchanged f.tells f.whole old new → IsCopyTold f copy old new was now
+
 -- after it no file is at the journal's path, and the lockfile's copy is gone; or one of them stays, or
 -- a look at the journal failed, which is reported as a warning, and so is memory that was refused for it,
 -- which is an error besides; the copy is as it was where a journal stays or the lockfile may be unwritten
@@ -152,7 +160,8 @@ pub data IsJournalClosed {F : Type 0} (f : Filing F) (places : PlacesAt) (unwrit
   unseen : Warns was now → GrowsBy 1 old.failed new.failed → IsUnseen f places.journal → Unchanged f.tells f.whole old new → IsJournalClosed f places unwritten old new was now
   starved : now ≡ record was { warn = true; error = true } → OneMayFail old.failed new.failed → Unchanged f.tells f.whole old new → IsJournalClosed f places unwritten old new was now
   copy_stays : unwritten ≡ false → Warns was now → GrowsBy 1 old.failed new.failed → IsRefused f places.copy → (f.tells → old.held places.journal ≡ None) → IsJournalClosed f places unwritten old new was now
-  copy_kept : unwritten ≡ true → Warns was now → GrowsBy 0 old.failed new.failed → (f.tells → old.held places.journal ≡ None) → Unchanged f.tells f.whole old new → IsJournalClosed f places unwritten old new was now
+  copy_kept : (mid : FilesView) → unwritten ≡ true → GrowsBy 0 old.failed mid.failed → (f.tells → old.held places.journal ≡ None) → Unchanged f.tells f.whole old mid → IsCopyTold f places.copy mid new was now
+      → IsJournalClosed f places unwritten old new was now
 
 -- after it no other file than the lockfile's copy is changed, and what stays was reported
 pub record Closes {F : Type 0} (f : Filing F) (places : PlacesAt) (unwritten : Bool) (old new : Scene) : Type 0 where

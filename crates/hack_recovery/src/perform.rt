@@ -1,18 +1,18 @@
 //! A whole call: what an interrupted one left is restored first, and what this one edits is kept in
 //! a journal meanwhile, under the eyes of a guard.
 
-ghost use Rattle.std.specs.Prelude.{◌≡◌, ◌↔◌, ℕ, IfSome, IsTrue, Ok, false, not, string_bytes};
+ghost use Rattle.std.specs.Prelude.{◌≡◌, ◌↔◌, [], ℕ, IfSome, IsTrue, Ok, false, not, string_bytes};
 ghost use Rattle.std.specs.Prelude.{true};
 ghost use Rattle.hack_base.specs.Names.{names_of};
 ghost use Rattle.hack_base.specs.Streams.{WritesSome, stream_of};
-ghost use Rattle.hack_files.specs.Files.{KeepsOthers, MakesOrNot, removes};
+ghost use Rattle.hack_files.specs.Files.{KeepsAll, KeepsOthers, Makes, MakesOrNot, removes};
 ghost use Rattle.hack_journal.specs.Rows.{spot_of};
 ghost use Rattle.hack_journaled.specs.Journals.{contents_seen};
 ghost use Rattle.hack_recovery.specs.AskedEdits.{is_restore};
 ghost use Rattle.hack_recovery.specs.CallCourses.{Continues, IsCallCourse, IsJournalClosed};
 ghost use Rattle.hack_recovery.specs.CallCourses.{CopiesAndRuns, IsJournaledCall, IsLockedCourse};
 ghost use Rattle.hack_recovery.specs.CallCourses.{PerformsUnjournaled};
-ghost use Rattle.hack_recovery.specs.CallCourses.{RunsOverJournal, Warns};
+ghost use Rattle.hack_recovery.specs.CallCourses.{IsCopyTold, RunsOverJournal, Warns};
 ghost use Rattle.hack_recovery.specs.GuardEvents.{GuardsView};
 ghost use Rattle.hack_recovery.specs.LaneCalls.{AsksToRestore, CallsInLanes};
 ghost use Rattle.hack_recovery.specs.LockEvents.{LocksView};
@@ -549,8 +549,7 @@ fn close<F: Files, E: Sink>(
         Err(LookFault::Memory) => return tell_memory(term, err),
     }
     if unwritten {
-        let how = "may stay: then it has what the lockfile held, and the next call removes it";
-        return tell_stay(alloc, copy, how, None, term, err);
+        return tell_copy(alloc, copy, files, term, err);
     }
     if files.remove(copy).is_err() {
         return tell_stay(
@@ -561,6 +560,36 @@ fn close<F: Files, E: Sink>(
             term,
             err,
         );
+    }
+}
+
+/// Warns of a copy of the lockfile, if there is one.
+fn tell_copy<F: Files, E: Sink>(
+    alloc: Global,
+    copy: &str,
+    files: &mut F,
+    term: &mut Term,
+    err: &mut E,
+)
+    ensures told { IsCopyTold F.Files copy.now
+        (files_view F.Files files.old) (files_view F.Files files.new) term.old term.new }
+    ensures same { F.tells → KeepsAll (F.bytes_at files.old) (F.bytes_at files.new) }
+    ensures untraced { F.whole → Makes [] (F.trace files.old) (F.trace files.new)
+        (F.bytes_at files.old) (F.bytes_at files.new) }
+    ensures lines { TellsStaying term.old term.new
+        (stream_of E.Sink err.old) (stream_of E.Sink err.new) }
+{
+    match is_there(alloc, copy, files) {
+        Ok(false) => {}
+        Ok(true) => {
+            let how = "stays: it has what the lockfile held, and the next call removes it";
+            tell_stay(alloc, copy, how, None, term, err)
+        }
+        Err(LookFault::Device(_)) => {
+            let how = "may stay: then it has what the lockfile held, and the next call removes it";
+            tell_stay(alloc, copy, how, None, term, err)
+        }
+        Err(LookFault::Memory) => tell_memory(term, err),
     }
 }
 

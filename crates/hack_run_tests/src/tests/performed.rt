@@ -58,7 +58,7 @@ fn lockfiles_that_fail(rt: HostRuntime) -> Result<(), Wrong> {
             | info: --no-dev-deps modifies real `Cargo.toml` while cargo-hack is running and restores it when finished
             | info: running `cargo check` on p (1/1)
             | error: failed to write to file `/w/Cargo.lock`
-            | warning: `/w/.cargo-hack-journal~lock` may stay: then it has what the lockfile held, and the next call removes it
+            | warning: `/w/.cargo-hack-journal~lock` stays: it has what the lockfile held, and the next call removes it
             | copy: # lock
             | status 1
         "#,
