@@ -1,5 +1,5 @@
 -- What happened between scenes, one thing after another.
-use Rattle.std.proofs.Common.{◌≡◌, ℕ, zero, suc, ◌<◌, ◌+◌, ◌*◌, ◌==◌, ◌||◌, cond, length, map, sym, List, [], ◌∷◌, ◌++◌, refl, ◌∙◌, ap, subst, append-nil, inl, inr}
+use Rattle.std.proofs.Common.{◌≡◌, ℕ, zero, suc, ◌<◌, ◌+◌, ◌*◌, ◌==◌, ◌||◌, ◌&&◌, cond, length, map, sym, List, [], ◌∷◌, ◌++◌, refl, ◌∙◌, ap, subst, append-nil, inl, inr}
 use Rattle.std.specs.Prelude.{Contains, Result, Ok, Err, IfOk, OnErr, ◌⊎◌, Option, None, Some, slice_get, slice_set, option_map, Bool, true, false, not, IfSome, IsSomeAnd}
 use Rattle.std.specs.List.{count_by}
 use Rattle.std.proofs.lemmas.Bool.{eq-eqb}
@@ -14,7 +14,7 @@ use Rattle.hack_starts.specs.Events.{Event, Layout, Ran, Started, Ended, Waited,
 use Rattle.hack_lanes.specs.declared.job.Job.{Job}
 use Rattle.hack_lanes.specs.declared.child.Child.{Child}
 use Rattle.hack_lanes.specs.Views.{offer_of, pending_of}
-use Rattle.hack_lanes.specs.Lanes.{Pending, is_free, is_pending, IsAwaited, IsUntold, Turn, State, IsNew, Moves, Scene, Goes, MayGo}
+use Rattle.hack_lanes.specs.Lanes.{Pending, is_free, is_pending, is_running, IsAwaited, IsUntold, IsWaitedFor, Turn, State, IsNew, Moves, Scene, Goes, MayGo}
 use Rattle.hack_lanes.specs.JoinedScenes.{goes_more}
 
 -- somebody was called, and nothing happened
@@ -89,14 +89,27 @@ pub awaited-over : (turn last : Option ℕ) (children : List Child) (index : ℕ
 awaited-over None last children index child there h = h
 awaited-over (Some place) last children index child there h = pending-over place children index child there ∙ h
 
--- the same where one more was started
-pub awaited-more : (turn last next : Option ℕ) (children : List Child) (child : Child) → IsAwaited turn (record { last = last; pending = map pending_of children })
-    → IsAwaited turn (record { last = next; pending = map pending_of (children ++ child ∷ []) })
-awaited-more None last next children child h = h
-awaited-more (Some place) last next children child h =
-    ap (is_pending place) (map-append pending_of children (child ∷ []))
-    ∙ list_any-append (λ (p : Pending). p.place == place) (map pending_of children) (pending_of child ∷ [])
-    ∙ ap (λ (b : Bool). b || is_pending place (pending_of child ∷ [])) h
+-- the turn's own command still runs where one more was started
+pub waited-more : (turn last next : Option ℕ) (children : List Child) (child : Child) → IsWaitedFor turn (record { last = last; pending = map pending_of children })
+    → IsWaitedFor turn (record { last = next; pending = map pending_of (children ++ child ∷ []) })
+waited-more None last next children child h = h
+waited-more (Some place) last next children child h =
+    ap (is_running place) (map-append pending_of children (child ∷ []))
+    ∙ list_any-append (λ (p : Pending). (p.place == place) && not p.over) (map pending_of children) (pending_of child ∷ [])
+    ∙ ap (λ (b : Bool). b || is_running place (pending_of child ∷ [])) h
+
+either : (at runs some any : Bool) → (some ≡ true → any ≡ true) → (at && runs) || some ≡ true → at || any ≡ true
+either true runs some any more h = refl
+either false runs some any more h = more h
+
+-- while it runs, it is pending
+pending-running : (place : ℕ) (pending : List Pending) → is_running place pending ≡ true → is_pending place pending ≡ true
+pending-running place [] h = h
+pending-running place (p ∷ ps) h = either (p.place == place) (not p.over) (is_running place ps) (is_pending place ps) (pending-running place ps) h
+
+pub waited-awaited : (turn : Option ℕ) (state : State) → IsWaitedFor turn state → IsAwaited turn state
+waited-awaited None state h = h
+waited-awaited (Some place) state h = pending-running place state.pending h
 
 -- the turn's own command is pending where it is the first
 pub awaited-first : (turn last : Option ℕ) (place : ℕ) (children : List Child) (P : Child → Type 0) → turn ≡ Some place
@@ -152,13 +165,13 @@ count-views q children = sym (fold-map (λ (n : ℕ) (p : Pending). n + cond (q 
 
 -- a moment passed, while so many had ended and so many ran
 pub goes_waited : {S : Type 0} (did : List Event → S → S → Type 0) (turn : Turn) (last : Option ℕ) (children : List Child) (ended running : ℕ) (s t : S)
-    → IsAwaited turn.place (record { last = last; pending = map pending_of children })
+    → IsWaitedFor turn.place (record { last = last; pending = map pending_of children })
     → ended ≡ count_by (λ (c : Child). c.over) children → running ≡ count_by (λ (c : Child). not c.over) children → did (Waited ended running ∷ []) s t
     → Goes did [] (record { turn = turn; state = record { last = last; pending = map pending_of children }; starts = s })
     (record { turn = turn; state = record { last = last; pending = map pending_of children }; starts = t })
-goes_waited did turn last children ended running s t awaited over runs h =
+goes_waited did turn last children ended running s t waited over runs h =
     goes_one did turn (Waited ended running) (record { last = last; pending = map pending_of children }) (record { last = last; pending = map pending_of children }) s t (
-      awaited,
+      waited,
       (
         over ∙ count-views (λ (p : Pending). p.over) children,
         runs ∙ count-views (λ (p : Pending). not p.over) children,
@@ -172,12 +185,6 @@ pub goes_told : {S E : Type 0} (did : List Event → S → S → Type 0) (a b : 
 goes_told did a b asked (Ok called) told refused = (record { asked = asked; answer = answer_of called } ∷ [], told)
 goes_told did a b asked (Err e) told (inl h) = ([], h)
 goes_told did a b asked (Err e) told (inr h) = (record { asked = asked; answer = h.0 } ∷ [], h.1)
-
--- the same where without an answer no call came
-pub goes_said : {S E : Type 0} (did : List Event → S → S → Type 0) (a b : Scene S) (asked : Asked) (came : Result Called E)
-    → IfOk came (λ (called : Called). Goes did (record { asked = asked; answer = answer_of called } ∷ []) a b) → OnErr came (Goes did [] a b) → (told : List Call) × Goes did told a b
-goes_said did a b asked (Ok called) told refused = (record { asked = asked; answer = answer_of called } ∷ [], told)
-goes_said did a b asked (Err e) told h = ([], h)
 
 -- an answer after some events without a call
 pub goes_behind : {S E : Type 0} (did : List Event → S → S → Type 0) (a b c : Scene S) (asked : Asked) (came : Result Called E)

@@ -1,5 +1,5 @@
 -- The rules by which commands are started ahead of their turn, told, and ended.
-use Rattle.std.specs.Prelude.{ℕ, ◌≡◌, ◌==◌, ◌⊎◌, ◌<◌, ◌*◌, ◌||◌, Bool, true, false, not, List, [], ◌∷◌, ◌++◌, Option, Some, Contains, IfSome, IsSomeAnd, length, slice_get, slice_set}
+use Rattle.std.specs.Prelude.{ℕ, ◌≡◌, ◌==◌, ◌⊎◌, ◌<◌, ◌*◌, ◌||◌, ◌&&◌, Bool, true, false, not, List, [], ◌∷◌, ◌++◌, Option, Some, Contains, IfSome, IsSomeAnd, length, slice_get, slice_set}
 use Rattle.std.specs.List.{count_by, list_all, list_any}
 use Rattle.hack_process.specs.Calls.{Asked, Answer, Call}
 use Rattle.hack_starts.specs.Events.{Event, Layout, Ran, Started, Ended, Told, Abandoned, Waited, calls_of}
@@ -43,6 +43,10 @@ is_free lane pending = list_all (leaves lane) pending
 abbrev pub is_pending : ℕ → List Pending → Bool
 is_pending place pending = list_any (λ p. p.place == place) pending
 
+-- the same, and it wasn't seen to have ended
+abbrev pub is_running : ℕ → List Pending → Bool
+is_running place pending = list_any (λ p. (p.place == place) && not p.over) pending
+
 -- if it is a place's turn, its command isn't told yet: it wasn't started, or is pending
 abbrev pub IsUntold : Option ℕ → State → Type 0
 IsUntold turn state = IfSome turn (λ place. IsNew state.last place ⊎ (is_pending place state.pending ≡ true))
@@ -50,6 +54,10 @@ IsUntold turn state = IfSome turn (λ place. IsNew state.last place ⊎ (is_pend
 -- it is a place's turn, and its command was started and isn't told yet
 abbrev pub IsAwaited : Option ℕ → State → Type 0
 IsAwaited turn state = IsSomeAnd turn (λ place. is_pending place state.pending ≡ true)
+
+-- the same, and it wasn't seen to have ended
+abbrev pub IsWaitedFor : Option ℕ → State → Type 0
+IsWaitedFor turn state = IsSomeAnd turn (λ place. is_running place state.pending ≡ true)
 
 -- an offered command starts behind all others, in one of the lanes that no other is in, and is told
 -- which lanes there are; none starts once the turn's own was told
@@ -85,14 +93,15 @@ Waits old ended running new =
 
 -- Which event may come next, and what is so after it. A command is run to its end at once only where
 -- none is pending, and at a turn only where the turn's own wasn't started before. Only the turn's
--- own command is told, and only while it is pending one is seen to have ended, or a moment passes.
+-- own command is told, only while it is pending one is seen to have ended, and only until it was seen to
+-- have ended itself a moment passes.
 abbrev pub Moves : Turn → State → Event → State → Type 0
 Moves turn old (Ran asked answer) new = (old.pending ≡ []) × IfSome turn.place (IsNew old.last) × (new ≡ old)
 Moves turn old (Started place number layout asked) new = Starts turn old place number layout asked new
 Moves turn old (Ended place) new = IsAwaited turn.place old × Ends old place new
 Moves turn old (Told place asked answer) new = (turn.place ≡ Some place) × Leaves old place asked new
 Moves turn old (Abandoned place) new = (asked : Asked) × Leaves old place asked new
-Moves turn old (Waited ended running) new = IsAwaited turn.place old × Waits old ended running new
+Moves turn old (Waited ended running) new = IsWaitedFor turn.place old × Waits old ended running new
 
 -- these events, each by the rules, lead from a state to another
 abbrev pub Follows : Turn → State → List Event → State → Type 0

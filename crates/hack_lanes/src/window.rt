@@ -4,8 +4,8 @@ ghost use Rattle.std.specs.Prelude.{◌≡◌, ◌<◌, ◌≤◌, ◌+◌, ◌*
 ghost use Rattle.std.specs.Prelude.{None, OnErr, Some, count_by, false, length, map};
 ghost use Rattle.std.specs.Prelude.{not, slice_get, string_bytes, true};
 ghost use Rattle.hack_process.specs.Calls.{WroteNothing, answer_of, asked_call};
-ghost use Rattle.hack_lanes.specs.Lanes.{Goes, IsAwaited, IsNew, IsUntold, MayGo};
-ghost use Rattle.hack_lanes.specs.Lanes.{is_free, is_pending};
+ghost use Rattle.hack_lanes.specs.Lanes.{Goes, IsAwaited, IsNew, IsUntold, IsWaitedFor, MayGo};
+ghost use Rattle.hack_lanes.specs.Lanes.{is_free, is_pending, is_running};
 ghost use Rattle.hack_lanes.specs.Views.{offer_of, pending_of, scene_of, state_of, turn_of};
 
 use crate::child::Child;
@@ -133,8 +133,8 @@ impl Window {
     fn fill<S: Starts>(&mut self, alloc: Global, starts: &mut S)
         ensures goes { Goes S.did [] (scene_of self.old starts.old)
             (scene_of self.new starts.new) }
-        ensures kept { IsAwaited self.old.turn (state_of self.old)
-            → IsAwaited self.new.turn (state_of self.new) }
+        ensures kept { IsWaitedFor self.old.turn (state_of self.old)
+            → IsWaitedFor self.new.turn (state_of self.new) }
     {
         for index in 0..self.offers.len() {
             if !self.start(alloc, starts, index) {
@@ -148,8 +148,8 @@ impl Window {
     fn start<S: Starts>(&mut self, alloc: Global, starts: &mut S, index: usize) -> bool
         ensures goes { Goes S.did [] (scene_of self.old starts.old)
             (scene_of self.new starts.new) }
-        ensures kept { IsAwaited self.old.turn (state_of self.old)
-            → IsAwaited self.new.turn (state_of self.new) }
+        ensures kept { IsWaitedFor self.old.turn (state_of self.old)
+            → IsWaitedFor self.new.turn (state_of self.new) }
     {
         let Some(job) = self.offers.get(index) else {
             return false;
@@ -191,8 +191,8 @@ impl Window {
         requires untold { IsUntold self.old.turn (state_of self.old) }
         ensures goes { Goes S.did [] (scene_of self.old starts.old)
             (scene_of self.new starts.new) }
-        ensures kept { IsAwaited self.old.turn (state_of self.old)
-            → IsAwaited self.new.turn (state_of self.new) }
+        ensures kept { IsWaitedFor self.old.turn (state_of self.old)
+            → IsWaitedFor self.new.turn (state_of self.new) }
     {
         let place = child.place;
         let lane = Lane {
@@ -231,6 +231,18 @@ impl Window {
     {
         for child in &self.children {
             if child.is_at(place) {
+                return true;
+            }
+        }
+        false
+    }
+
+    /// Whether the command of a place was started, and hasn't been seen to have ended.
+    fn is_running(&self, place: usize) -> bool
+        ensures { result ≡ is_running place (map pending_of self.now.children.items) }
+    {
+        for child in &self.children {
+            if child.is_at(place) && !child.over {
                 return true;
             }
         }
@@ -355,7 +367,7 @@ impl Window {
         }
     }
 
-    /// Waits until the first of the started commands has ended, and starts others meanwhile.
+    /// Waits until the turn's own command has ended, and starts others meanwhile.
     fn await_first<S: Starts>(&mut self, alloc: Global, starts: &mut S)
         requires { IsAwaited self.old.turn (state_of self.old) }
         ensures { Goes S.did [] (scene_of self.old starts.old)
@@ -363,7 +375,7 @@ impl Window {
     {
         for _ in 0..u64::MAX {
             self.look(starts);
-            if self.is_first_over() {
+            if !self.is_waited_for() {
                 return;
             }
             self.fill(alloc, starts);
@@ -371,11 +383,13 @@ impl Window {
         }
     }
 
-    /// Whether the first of the started commands has been seen to have ended, or there is none.
-    fn is_first_over(&self) -> bool {
-        match self.children.first() {
-            Some(child) => child.over,
-            None => true,
+    /// Whether it is a place's turn whose command was started, and hasn't been seen to have ended.
+    fn is_waited_for(&self) -> bool
+        ensures { MatchBool result (IsWaitedFor self.now.turn (state_of self.now)) (Unit {0}) }
+    {
+        match self.turn {
+            Some(place) => self.is_running(place),
+            None => false,
         }
     }
 

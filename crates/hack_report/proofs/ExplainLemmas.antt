@@ -1,36 +1,13 @@
 -- The notices on suspects, of one strength after another.
-use Rattle.std.proofs.Common.{◌≡◌, ◌∙◌, ◌+◌, ◌<◌, ◌++◌, ◌∷◌, [], ℕ, Bool, List, Option, ap, append-nil, append_assoc, cond, false, filter, get_or, if◌then◌else◌, length, map, refl, subst, sym, take, true}
+use Rattle.std.proofs.Common.{◌≡◌, ◌∙◌, ◌+◌, ◌<◌, ◌++◌, ◌∷◌, [], ℕ, List, Option, ap, append-nil, get_or, length, map, subst, sym, take}
 use Rattle.std.specs.List.{AllZip, flat_map}
-use Rattle.std.proofs.lemmas.List.{get_or-map, length-map, map_more}
+use Rattle.std.proofs.lemmas.List.{get_or-map, length-map}
 use Rattle.std.proofs.lemmas.List.Concat.{flat_map-append}
-use Rattle.std.proofs.lemmas.List.Elements.{filter-append}
 use Rattle.hack_base.specs.Notes.{Note}
 use Rattle.hack_load.specs.Contexts.{ContextRecord}
 use Rattle.hack_planner.proofs.ChosenLemmas.{zip-next}
 use Rattle.hack_session.specs.Histories.{Course}
-use Rattle.hack_session.specs.SuspectNotes.{suspect_notes_on}
-use Rattle.hack_session.specs.Suspects.{ExplainedView, explained_view}
-use Rattle.hack_session.specs.declared.suspects.Explained.{Explained}
-use Rattle.hack_report.specs.Explained.{AreInTurn, AreSuspectNotes, is_of_strength, notes_of_strength}
-
--- the notices on one part more
-pub strength_more : (cx : ContextRecord) (t : Course) (strengths : List (Option ℕ)) (strength : ℕ) (all : List Explained) (k : ℕ) (d one : Explained) (old mid new : List Note) (b : Bool) → k < length all → one ≡ get_or all k d
-    → b ≡ is_of_strength strengths strength (explained_view one) → new ≡ mid ++ (if b then suspect_notes_on t.plan cx.args.partition (explained_view one) else [])
-    → mid ≡ old ++ notes_of_strength cx t strengths strength (map explained_view (take k all)) → new ≡ old ++ notes_of_strength cx t strengths strength (map explained_view (take (k + 1) all))
-strength_more cx t strengths strength all k d one old mid new b lt is test adds before =
-    let f = suspect_notes_on t.plan cx.args.partition in
-    let of = is_of_strength strengths strength in
-    let v = explained_view one in
-    let front = map explained_view (take k all) in
-    adds ∙ ap (λ (l : List Note). l ++ (if b then f v else [])) before ∙ append_assoc old (flat_map f (filter of front)) (if b then f v else [])
-    ∙ ap (λ (l : List Note). old ++ l) (
-    ap (λ (l : List Note). flat_map f (filter of front) ++ l) (ap (λ (x : Bool). if x then f v else []) test ∙ last f of v (of v))
-    ∙ sym (ap (λ (l : List ExplainedView). flat_map f (filter of l)) (map_more explained_view all k d lt ∙ ap (λ (e : Explained). front ++ explained_view e ∷ []) (sym is)) ∙ ap (flat_map f) (filter-append of front (v ∷ [])) ∙ flat_map-append f (filter of front) (filter of (v ∷ [])))
-    )
-  where
-    last : (f : ExplainedView → List Note) (of : ExplainedView → Bool) (v : ExplainedView) (x : Bool) → (if x then f v else []) ≡ flat_map f (cond x (v ∷ []) [])
-    last f of v true = sym (append-nil (f v))
-    last f of v false = refl
+use Rattle.hack_report.specs.Explained.{AreInTurn, AreSuspectNotes}
 
 -- one more of what a list is mapped to
 pub zip_mapped : {A B C : Type 0} (R : B → C → Type 0) (f : A → B) (xs : List A) (i : ℕ) (d : A) → i < length xs → (ys : List C) (y : C) (all : List C) → R (f (get_or xs i d)) y → all ≡ ys ++ y ∷ [] → AllZip R (take i (map f xs)) ys → AllZip R (take (i + 1) (map f xs)) all

@@ -1,9 +1,9 @@
 -- What the lines on searches note.
-use Rattle.std.proofs.Common.{◌≡◌, ◌∙◌, ◌+◌, ◌<◌, ◌≤◌, ◌++◌, ◌∷◌, [], ℕ, Bool, List, Option, None, Some, ap, append-nil, append_assoc, arith, drop, false, get_or, length, refl, subst, sym, true}
+use Rattle.std.proofs.Common.{◌≡◌, ◌∙◌, ◌+◌, ◌≤◌, ◌++◌, ◌∷◌, [], ℕ, Bool, List, Option, None, Some, ap, append-nil, arith, drop, false, length, refl, subst, sym, true}
 use Rattle.std.specs.Prelude.{◌||◌, ◌&&◌, ◌==◌, is_some, not, option_and_then}
 use Rattle.std.specs.List.{flat_map, list_any}
 use Rattle.std.proofs.lemmas.Bool.{ne_eqb}
-use Rattle.std.proofs.lemmas.List.{drop_all, drop_more}
+use Rattle.std.proofs.lemmas.List.{drop_all}
 use Rattle.std.proofs.lemmas.List.Folds.{list_any-append}
 use Rattle.hack_base.specs.Names.{Name}
 use Rattle.hack_closures.specs.declared.build.Build.{Build}
@@ -67,14 +67,6 @@ found_warnings cx plan member (f ∷ found) =
     list_any-append is_warning_remark (remarks_on cx plan name f) (found_remarks cx plan (member + 1) found)
     ∙ ap (λ (b : Bool). b || list_any is_warning_remark (found_remarks cx plan (member + 1) found)) (warning-on cx plan name f)
     ∙ ap (λ (b : Bool). is_too_low cx plan name f || b) (found_warnings cx plan (member + 1) found)
-
--- one package more
-pub found_more : (cx : ContextRecord) (plan : PlanView) (found : List Found) (k : ℕ) (d : Found) (old new all : List RemarkView) → k < length found → new ≡ old ++ remarks_on cx plan (package_name plan k) (get_or found k d)
-    → old ++ found_remarks cx plan k (drop k found) ≡ all → new ++ found_remarks cx plan (k + 1) (drop (k + 1) found) ≡ all
-found_more cx plan found k d old new all lt adds before =
-    let rest = found_remarks cx plan (k + 1) (drop (k + 1) found) in
-    ap (λ (l : List RemarkView). l ++ rest) adds ∙ append_assoc old (remarks_on cx plan (package_name plan k) (get_or found k d)) rest
-    ∙ sym (ap (λ (l : List Found). old ++ found_remarks cx plan k l) (drop_more found k d lt)) ∙ before
 
 -- no package more
 pub found_end : (cx : ContextRecord) (plan : PlanView) (found : List Found) (k : ℕ) (old all : List RemarkView) → length found ≤ k → old ++ found_remarks cx plan k (drop k found) ≡ all → old ≡ all

@@ -3,7 +3,7 @@ use Rattle.std.specs.Prelude.{IsSomeAnd}
 use Rattle.std.proofs.lemmas.Option.{slice_get_read}
 use Rattle.hack_lanes.specs.declared.job.Job.{Job}
 use Rattle.hack_lanes.specs.Views.{layout_of, offer_of, pending_of}
-use Rattle.hack_lanes.proofs.GoLemmas.{goes_started, awaited-more}
+use Rattle.hack_lanes.proofs.GoLemmas.{goes_started, waited-more}
 use Rattle.hack_lanes.proofs.window.Window.start_in.Goals as goal
 
 pub returns-then-start-clause-goes : goal.returns-then-start-clause-goes
@@ -22,4 +22,4 @@ returns-then-start-clause-goes g c =
 
 pub returns-then-start-clause-kept : goal.returns-then-start-clause-kept
 returns-then-start-clause-kept g c h =
-    rw c.in-Ok.ensures.items (awaited-more c.args.self.now.turn c.args.self.now.last (Some c.args.child.place) c.args.self.now.children.items c.args.child h)
+    rw c.in-Ok.ensures.items (waited-more c.args.self.now.turn c.args.self.now.last (Some c.args.child.place) c.args.self.now.children.items c.args.child h)
