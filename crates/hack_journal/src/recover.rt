@@ -26,26 +26,45 @@ use crate::place::{Place, file_of};
 use crate::rows::{Row, read_fault, row_at};
 use hack_files::fs::{FileFault, Files, FsFault};
 use std::alloc::{AllocError, AllocFailed, Global};
-use thiserror::Error;
+use std::error::Error;
+use std::fmt;
 
 /// Why files can't be put back.
-#[derive(Debug, Drop, PartialEq, Eq, Error)]
+#[derive(Debug, Drop, PartialEq, Eq)]
 pub enum RecoverFault {
-    #[error("out of memory")]
     Memory,
     /// What the journal's path holds is no whole journal, or one that no call writes. Nothing was
     /// changed.
-    #[error("`{0}` is not a whole journal of edited files; put back by hand what it tells, and \
-        remove it")]
     NotJournal(String),
     /// A path holds neither what it held at first nor what a call left there. Nothing was changed.
-    #[error("`{path}` was changed after an interrupted call had edited it; put back by hand what \
-        `{journal}` tells, and remove `{journal}`")]
     Changed { path: String, journal: String },
     /// A file can't be read or written. What isn't back yet is still in the journal.
-    #[error("{0}")]
     Files(FsFault),
 }
+
+/// Written out, since a call's contract says the text of an error.
+impl fmt::Display for RecoverFault {
+    ghost use Rattle.hack_journal.specs.Recovery.{unrecovered_text};
+
+    ghost output = { λ fault. unrecovered_text fault };
+
+    fn fmt<W: fmt::Write>(&self, f: &mut fmt::Formatter<W>) -> fmt::Result {
+        match self {
+            RecoverFault::Memory => f.write_str("out of memory"),
+            RecoverFault::NotJournal(journal) => write!(
+                f,
+                "`{journal}` is not a whole journal of edited files; put back by hand what it tells, and remove it"
+            ),
+            RecoverFault::Changed { path, journal } => write!(
+                f,
+                "`{path}` was changed after an interrupted call had edited it; put back by hand what `{journal}` tells, and remove `{journal}`"
+            ),
+            RecoverFault::Files(fault) => write!(f, "{fault}"),
+        }
+    }
+}
+
+impl Error for RecoverFault {}
 
 impl<T: Drop> From<AllocFailed<T>> for RecoverFault {
     ghost use Rattle.std.specs.Prelude.{◌≡◌};
