@@ -52,8 +52,8 @@ WritesText done false had has text = Unit {0}
 
 -- One history of a context's plan, made with this answer on stable's version, was handed out, or that of
 -- a search. Its steps made just these calls, one after the other, of a list those that aren't listed,
--- which wrote the lines of the steps that passed. At the end of a call each command whose output isn't
--- captured was started, none was cut short for want of memory, and each step passed, unless it was a
+-- which wrote the lines of the steps that passed. Where no error was reported, each command whose output
+-- isn't captured was started, none was cut short for want of memory, and each step passed, unless it was a
 -- search's; it is noted that something fails just where that was so before, or a search found it; and a
 -- warning just where one was before, or where a notice of the plan counts as one, or a search warned.
 pub record PerformsOne (done listing : Bool) (cx : ContextRecord)
@@ -114,8 +114,8 @@ listing_command cargo = plain_command cargo [] (codes "--list" ∷ [])
 abbrev pub listing_asked : Name → Asked
 listing_asked cargo = asked_of false (listing_command cargo)
 
--- What a command line asks for: the plan was performed, or a text was printed, or cargo called for
--- its commands, which are all there at the end of the call, without a further warning or finding.
+-- What a command line asks for: the plan was performed, or a text was printed, or cargo called for its
+-- commands, which are all there where no error was reported, without a further warning or finding.
 abbrev pub Obeys : Bool → Type 0 → Parsed → Env → Bool → World → World → Type 0
 Obeys done tells (parsed.Args args) env warned old new =
     LoadsAndPerforms done tells args env warned old new

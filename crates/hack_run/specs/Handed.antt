@@ -31,8 +31,8 @@ abbrev pub is_search : Bool → Args → Bool
 is_search listing args = not listing && (args.find_conflicts || args.find_rust_version)
 
 -- The steps are those of a search for the least version of each package of the plan, which says what
--- was found of each. At the end of a call none was broken off; it fails where a greatest version did, and
--- warns where a package doesn't keep its own `rust-version`.
+-- was found of each. Where no error was reported (`done`), none was broken off; the call fails where a
+-- greatest version did, and warns where a package doesn't keep its own `rust-version`.
 pub record IsSearchedOut (done : Bool) (cx : ContextRecord) (plan : PlanView) (handed : List Handed) (fails warns : Bool) : Type 0 where
   pub searches : List (List Trial)
   pub found : List Found
@@ -43,8 +43,8 @@ pub record IsSearchedOut (done : Bool) (cx : ContextRecord) (plan : PlanView) (h
 
 -- The plan began with the chosen packages without runs, and grew by what searches for conflicts built,
 -- of each package in each slot, at most so many runs as the arguments allow; just these runs were handed
--- out. At the end of a call all searches came to their end; it fails where a set did, and warns where not
--- all sets are decided.
+-- out. Where no error was reported (`done`), all searches came to their end; the call fails where a set
+-- did, and warns where not all sets are decided.
 pub record IsHuntedOut (done : Bool) (cx : ContextRecord) (rustup : Name) (course : Course) (notes : List Note) (fails warns : Bool) : Type 0 where
   pub ids : List ℕ
   pub start : PlanView

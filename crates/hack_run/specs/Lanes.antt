@@ -1,7 +1,9 @@
 -- What happened to the commands of runs that go side by side.
-use Rattle.std.specs.Prelude.{◌≡◌, ◌++◌, ◌⊎◌, Bool, List, [], MatchBool, None, codes, false, string_bytes, true}
+use Rattle.std.specs.Prelude.{◌≡◌, ◌++◌, ◌⊎◌, ◌||◌, ℕ, Bool, List, [], MatchBool, None, codes, false, nat_eq, string_bytes, true, if◌then◌else◌}
+use Rattle.std.specs.List.{list_any, starts_with}
 use Rattle.std.specs.Option.{unwrap_or}
-use Rattle.hack_base.specs.Names.{Name}
+use Rattle.std.specs.Str.{bytes_eq}
+use Rattle.hack_base.specs.Names.{Name, names_of}
 use Rattle.hack_base.specs.Notes.{Note}
 use Rattle.hack_planner.specs.declared.stable.Stable.{Stable}
 use Rattle.hack_versions.specs.declared.rustup.Rustup.{Rustup}
@@ -30,9 +32,21 @@ use Rattle.hack_side.specs.Turns.{RunsAll, RunsSerially}
 abbrev pub target_folder : ContextRecord → Name
 target_folder cx = unwrap_or cx.metadata.target_directory (cx.metadata.workspace_root ++ codes "/target")
 
--- as many lanes as the arguments ask for, the first of which builds where cargo does
+-- a word names the folder that cargo builds into, or the next word does
+abbrev pub is_target : Name → Bool
+is_target word = bytes_eq word (codes "--target-dir") || starts_with nat_eq word (codes "--target-dir=")
+
+-- cargo is told by an argument where to build: then it heeds no variable for that
+abbrev pub names_target : List Name → Bool
+names_target words = list_any is_target words
+
+-- as many lanes as the arguments ask for; one where they name the folder that cargo builds into
+abbrev pub lanes_for : Args → ℕ
+lanes_for args = if names_target (names_of args.leading_args.items) then 1 else unwrap_or args.parallel 1
+
+-- these lanes, the first of which builds where cargo does
 abbrev pub layout_for : ContextRecord → Layout
-layout_for cx = record { count = unwrap_or cx.args.parallel 1; folder = target_folder cx }
+layout_for cx = record { count = lanes_for cx.args; folder = target_folder cx }
 
 -- these lanes before anything was started
 abbrev pub scene_at : {S : Type 0} → Layout → S → Scene S

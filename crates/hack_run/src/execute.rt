@@ -3,7 +3,7 @@
 ghost use Rattle.std.specs.Prelude.{◌≡◌, ◌⊎◌, ◌||◌, ◌∷◌, [], Bool, Contains, IfErr, IfOk, IsOk};
 ghost use Rattle.std.specs.Prelude.{MatchBool};
 ghost use Rattle.std.specs.Prelude.{None, OnErr, OnOk, Some, codes, false, string_bytes, true};
-ghost use Rattle.std.specs.Option.{unwrap_or};
+ghost use Rattle.hack_base.specs.Names.{names_of};
 ghost use Rattle.hack_base.specs.Streams.{WritesAll, stream_of};
 ghost use Rattle.hack_load.specs.ContextView.{context_view};
 ghost use Rattle.hack_msrv.specs.Searches.{AreUnbroken};
@@ -12,6 +12,7 @@ ghost use Rattle.hack_run.specs.Conclusions.{SaysSearch, version_conclusion};
 ghost use Rattle.hack_run.specs.Internal.{MayPerformItsPlan, PerformsAtMostOne, PerformsItsPlan};
 ghost use Rattle.hack_run.specs.Internal.{HandsSteps, ReportsFound};
 ghost use Rattle.hack_run.specs.Lanes.{MayRunInLanes, RunsInLanes, RunsOne};
+ghost use Rattle.hack_run.specs.Lanes.{is_target, lanes_for, names_target};
 ghost use Rattle.hack_run.specs.Lanes.{target_folder as target};
 ghost use Rattle.hack_drive.specs.Answered.{IsAnswered};
 ghost use Rattle.hack_run.specs.Shown.{HasNoPlan, KeepsLooks, SaysNoPlan, SaysRuns};
@@ -376,11 +377,33 @@ fn is_broken(found: &[Found]) -> bool
     false
 }
 
-/// How many runs go side by side.
+/// How many runs go side by side. A folder that an argument names would be that of all lanes.
 fn width(args: &Args) -> usize
-    ensures { result ≡ unwrap_or args.now.parallel 1 }
+    ensures { result ≡ lanes_for args.now }
 {
+    if names_target(&args.leading_args) {
+        return 1;
+    }
     args.parallel.unwrap_or(1)
+}
+
+/// Whether arguments of cargo name the folder that it builds into.
+fn names_target(words: &[String]) -> bool
+    ensures { result ≡ names_target (names_of words.now) }
+{
+    for word in words {
+        if is_target(word.as_str()) {
+            return true;
+        }
+    }
+    false
+}
+
+/// Whether a word names that folder, or the next word does.
+fn is_target(word: &str) -> bool
+    ensures { result ≡ is_target word.now }
+{
+    word == "--target-dir" || word.starts_with("--target-dir=")
 }
 
 /// The folder that cargo builds into.

@@ -134,8 +134,8 @@ pub fn run<F: Files, C: Starts, O: Sink, E: Sink>(
         (files_view F.Files files.old) (files_view F.Files files.new) }
 
     // Where no error was reported, runs of a plan were performed side by side, by the rules of lanes,
-    // as many as `--parallel` asks for: their commands were started in order, each at most once, and
-    // told in order; and none that was started is left.
+    // at most as many as `--parallel` asks for: their commands were started in order, each at most
+    // once, and told in order; and none that was started is left.
     ensures lanes { host.new.term.now.error ≡ false → IsLaneCall C.did C.course C.tells C.calls
         true F.tells (names_of words.now) host.old.env.now (F.bytes_at files.old)
         host.old.caller.now host.new.caller.now }

@@ -1,5 +1,5 @@
 use Rattle.std.proofs.Common.{ℕ, List, [], None, inr, refl, subst, sym, ◌∙◌, ap, string_bytes, true, false}
-use Rattle.std.specs.Option.{unwrap_or}
+use Rattle.hack_run.specs.Lanes.{lanes_for}
 use Rattle.hack_words.specs.declared.cli.args.Args.{Args}
 use Rattle.hack_process.specs.Calls.{Call}
 use Rattle.hack_load.specs.ContextView.{context_view}
@@ -41,7 +41,7 @@ returns-clause-ran g c =
     let window_is = c.window-2-1.given.1 (sym c.hand_out.ensures.stays.1) in
     ran_in_lanes g.C.Starts.did cx c.args.stable (string_bytes c.args.host.now.env.now.rustup) c.args.host.now.caller.now (scene_of c.new-window.result c.args.host.now.caller.now) (scene_in lanes) (scene_of c.clear.new.self c.clear.new.starts)
     (c.new-window.ensures.turn ∙ ap (λ (l : Layout). record { place = None; offers = []; layout = l })
-    (ap (λ (n : ℕ). record { count = n; folder = string_bytes c.in_ok-folder.folder }) (c.width.ensures ∙ ap (λ (a : Args). unwrap_or a.parallel 1) c.args-2.ensures) ∙ ap (λ (f : Name). record { count = unwrap_or cx.args.parallel 1; folder = f }) c.in_ok-folder.ensures)) c.new-window.ensures.state refl (rw c.as_str-rustup.ensures.value at c.in_ok-session.ensures.lanes)
+    (ap (λ (n : ℕ). record { count = n; folder = string_bytes c.in_ok-folder.folder }) (c.width.ensures ∙ ap (λ (a : Args). lanes_for a) c.args-2.ensures) ∙ ap (λ (f : Name). record { count = lanes_for cx.args; folder = f }) c.in_ok-folder.ensures)) c.new-window.ensures.state refl (rw c.as_str-rustup.ensures.value at c.in_ok-session.ensures.lanes)
     (subst (λ (w : Window). Goes g.C.Starts.did [] (scene_of w lanes.starts.now) (scene_of c.clear.new.self c.clear.new.starts)) window_is c.clear.ensures.goes) c.clear.ensures.none
 
 pub returns-clause-lanes : goal.returns-clause-lanes
