@@ -20,6 +20,9 @@ import re
 import subprocess
 import sys
 
+sys.dont_write_bytecode = True
+from planted_edits import Edit, planted  # noqa: E402
+
 ROOT = pathlib.Path(__file__).resolve().parent.parent
 FOLDERS = ("crates", "docs", "tests", "tools", "examples", "man", "completions")
 # Names of the kit, of other tools, or of an example are not looked up in these.
@@ -246,18 +249,11 @@ def scripts():
 
 def edits():
     """Each edit, whose texts are each in its file once, after those before it were replaced."""
-    for edit in sorted(ROOT.glob("crates/*/must-fail/*.edit")) + sorted(ROOT.glob("crates/*/planted/*.edit")):
-        file, old, texts, fits = None, None, {}, True
-        for line in read(edit).splitlines():
-            kind, _, text = line.partition(": ")
-            if kind == "file":
-                file = edit.parent.parent / text
-                texts.setdefault(file, read(file))
-            elif kind == "old":
-                fits, old = fits and texts[file].count(text) == 1, text
-            elif kind == "new":
-                texts[file] = texts[file].replace(old, text)
-        yield str(edit.relative_to(ROOT)), fits
+    for crate in sorted(it.name for it in (ROOT / "crates").iterdir()):
+        for kind in ("must-fail", "planted"):
+            for name in planted(crate, kind):
+                verdict = Edit(crate, name, kind).verdict
+                yield f"crates/{crate}/{kind}/{name}.edit: {verdict}", not verdict
 
 
 def main(words):
@@ -273,7 +269,7 @@ def main(words):
     found += [(f"ARCHITECTURE.md: {name} is missing, or before a crate that it uses", holds) for name, holds in order()]
     found += [(f"RULES.md: no row has the error {name}", holds) for name, holds in errors()]
     found += [*lengths(), *((f"tests/README.md: {name}", holds) for name, holds in scripts())]
-    found += [(f"{name}: a text that it replaces is not in its file once", holds) for name, holds in edits()]
+    found += edits()
     found.append(("README.md: its example is not what the sample calls print", example()))
     manual = subprocess.run([ROOT / "tools" / "manual.py", "--check", os.path.abspath(words[0])], check=False)
     found.append(("man pages and completions are those of the table of options", manual.returncode == 0))

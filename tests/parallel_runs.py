@@ -258,6 +258,11 @@ def surroundings(program):
         call(program, world, f"check {SET} --parallel 2")
         if {it[3] for it in world.notes() if it[0] == "started"} != {"7"}:
             yield "the environment's jobs aren't kept"
+        for words in ("--target-dir x", "--target-dir=x"):
+            call(program, world, f"check {SET} --parallel 3 {words}")
+            notes = [it for it in world.notes() if it[0] in ("started", "ended")]
+            if {it[2] for it in notes} != {"target"} or any(a[0] == b[0] for a, b in zip(notes, notes[1:])):
+                yield f"with {words} runs aren't made one by one in its folder"
         shown = on_terminal(program, world, f"check {SET} --parallel 2")
         if {it[4] for it in world.notes() if it[0] == "started"} != {"always"}:
             yield "no colours are asked for on a terminal"
@@ -327,6 +332,28 @@ def interrupted(program):
             yield "after Ctrl-C files are left"
 
 
+def closed(program):
+    """A call whose standard input and error are closed ends: no file of a run has their numbers."""
+    with tempfile.TemporaryDirectory(prefix="parallel-runs-") as folder:
+        world = World(os.path.realpath(folder), {"a": "echo told >&2"})
+        world.forget()
+        words = [program, "hack", *f"check {SET} --parallel 3".split()]
+        try:
+            ended = subprocess.run(
+                ["sh", "-c", 'exec "$@" <&- 2>&-', "sh", *words],
+                cwd=f"{world.folder}/w",
+                env=world.environment,
+                stdout=subprocess.DEVNULL,
+                check=False,
+                timeout=30,
+            )
+        except subprocess.TimeoutExpired:
+            yield "with closed streams a call doesn't end"
+            return
+        if ended.returncode != 0 or sum(it[0] == "ended" for it in world.notes()) < len(FEATURES):
+            yield f"with closed streams the status is {ended.returncode}, and {len(world.notes())} notes were made"
+
+
 def main():
     if len(sys.argv) != 2:
         sys.exit(__doc__)
@@ -334,6 +361,7 @@ def main():
     program = os.path.realpath(sys.argv[1])
     checks = [(name, compared(program, name, *row)) for name, row in CALLS.items()]
     checks += [("gains", gains(program)), ("surroundings", surroundings(program)), ("interrupted", interrupted(program))]
+    checks += [("closed", closed(program))]
     failed = 0
     for _, faults in checks:
         found = list(faults)

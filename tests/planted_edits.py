@@ -39,19 +39,19 @@ FUNCTION_FAILS = re.compile(r"fn (\S+): (?:not proved|no proof)")
 UNREAD = re.compile(r"(?:\./)?((?:src|specs)/\S+?):(\d+):\d+: error|rattle: error")
 
 
-def planted(crate):
-    folder = f"{ROOT}/crates/{crate}/planted"
-    return sorted(it for it in os.listdir(folder) if it.endswith(".edit")) if os.path.isdir(folder) else []
+def planted(crate, kind="planted"):
+    """The names of a crate's edits; those that the gate tries are in its folder must-fail."""
+    return sorted(it.stem for it in pathlib.Path(ROOT, "crates", crate, kind).glob("*.edit"))
 
 
 class Edit:
     """An edit of one crate: its pairs, each with its file and line, and the function that they are in."""
 
-    def __init__(self, crate, name):
+    def __init__(self, crate, name, kind="planted"):
         self.crate, self.name = crate, f"{crate}/{name}"
         self.pairs, spans, self.verdict = [], set(), None
         folder, file, old, texts = f"{ROOT}/crates/{crate}", None, None, {}
-        for line in read(f"{folder}/planted/{name}.edit").split("\n"):
+        for line in read(f"{folder}/{kind}/{name}.edit").split("\n"):
             if line.startswith("file: "):
                 file = line[len("file: ") :].strip()
                 texts.setdefault(file, read(f"{folder}/{file}"))
@@ -274,7 +274,7 @@ def main(asked):
     names = asked.crate or has
     if not {*names} <= {*has}:
         sys.exit(f"these have planted edits: {' '.join(has)}")
-    edits = [Edit(name, it[: -len(".edit")]) for name in names for it in planted(name)]
+    edits = [Edit(name, it) for name in names for it in planted(name)]
     known = dict(re.findall(r"(?m)^(\S+): (refused: .*)", read(asked.verdicts)))
 
     def tell(edit):
