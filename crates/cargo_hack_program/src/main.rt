@@ -15,8 +15,8 @@ use std::io::IsTerminal;
 use std::process::ExitCode;
 use std::{env, fs, io, process};
 
-/// In place of a standard stream that is closed stands a file that can't be written: otherwise the next
-/// file that is opened would have its number, and get what is written to it.
+/// In place of a standard stream that is closed stands a file that can't be written: otherwise the
+/// next file that is opened would have its number, and get what is written to it.
 fn main(rt: HostRuntime) -> ExitCode {
     let _input = fs::open(&rt, "/dev/null");
     let _output = fs::open(&rt, "/dev/null");

@@ -42,7 +42,7 @@ pub enum RecoverFault {
     Files(FsFault),
 }
 
-/// Written out, since a call's contract says the text of an error.
+/// Written out, so that the texts are proved.
 impl fmt::Display for RecoverFault {
     ghost use Rattle.hack_journal.specs.Recovery.{unrecovered_text};
 

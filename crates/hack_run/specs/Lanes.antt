@@ -33,16 +33,16 @@ abbrev pub target_folder : ContextRecord → Name
 target_folder cx = unwrap_or cx.metadata.target_directory (cx.metadata.workspace_root ++ codes "/target")
 
 -- a word names the folder that cargo builds into, or the next word does
-abbrev pub is_target : Name → Bool
-is_target word = bytes_eq word (codes "--target-dir") || starts_with nat_eq word (codes "--target-dir=")
+abbrev pub is_target_dir : Name → Bool
+is_target_dir word = bytes_eq word (codes "--target-dir") || starts_with nat_eq word (codes "--target-dir=")
 
 -- cargo is told by an argument where to build: then it heeds no variable for that
-abbrev pub names_target : List Name → Bool
-names_target words = list_any is_target words
+abbrev pub names_target_dir : List Name → Bool
+names_target_dir words = list_any is_target_dir words
 
 -- as many lanes as the arguments ask for; one where they name the folder that cargo builds into
 abbrev pub lanes_for : Args → ℕ
-lanes_for args = if names_target (names_of args.leading_args.items) then 1 else unwrap_or args.parallel 1
+lanes_for args = if names_target_dir (names_of args.leading_args.items) then 1 else unwrap_or args.parallel 1
 
 -- these lanes, the first of which builds where cargo does
 abbrev pub layout_for : ContextRecord → Layout

@@ -12,7 +12,7 @@ ghost use Rattle.hack_run.specs.Conclusions.{SaysSearch, version_conclusion};
 ghost use Rattle.hack_run.specs.Internal.{MayPerformItsPlan, PerformsAtMostOne, PerformsItsPlan};
 ghost use Rattle.hack_run.specs.Internal.{HandsSteps, ReportsFound};
 ghost use Rattle.hack_run.specs.Lanes.{MayRunInLanes, RunsInLanes, RunsOne};
-ghost use Rattle.hack_run.specs.Lanes.{is_target, lanes_for, names_target};
+ghost use Rattle.hack_run.specs.Lanes.{is_target_dir, lanes_for, names_target_dir};
 ghost use Rattle.hack_run.specs.Lanes.{target_folder as target};
 ghost use Rattle.hack_drive.specs.Answered.{IsAnswered};
 ghost use Rattle.hack_run.specs.Shown.{HasNoPlan, KeepsLooks, SaysNoPlan, SaysRuns};
@@ -381,18 +381,18 @@ fn is_broken(found: &[Found]) -> bool
 fn width(args: &Args) -> usize
     ensures { result ≡ lanes_for args.now }
 {
-    if names_target(&args.leading_args) {
+    if names_target_dir(&args.leading_args) {
         return 1;
     }
     args.parallel.unwrap_or(1)
 }
 
 /// Whether arguments of cargo name the folder that it builds into.
-fn names_target(words: &[String]) -> bool
-    ensures { result ≡ names_target (names_of words.now) }
+fn names_target_dir(words: &[String]) -> bool
+    ensures { result ≡ names_target_dir (names_of words.now) }
 {
     for word in words {
-        if is_target(word.as_str()) {
+        if is_target_dir(word.as_str()) {
             return true;
         }
     }
@@ -400,8 +400,8 @@ fn names_target(words: &[String]) -> bool
 }
 
 /// Whether a word names that folder, or the next word does.
-fn is_target(word: &str) -> bool
-    ensures { result ≡ is_target word.now }
+fn is_target_dir(word: &str) -> bool
+    ensures { result ≡ is_target_dir word.now }
 {
     word == "--target-dir" || word.starts_with("--target-dir=")
 }
