@@ -275,12 +275,19 @@ def wrong_field(table):
     return next(iter(wrong + [key for key in table if key not in FORMS]), None)
 
 
-def cause_of_tables(workspace, packages):
-    """Why these tables of rules leave no plan, if they do: the workspace's first."""
+def cause_of_tables(workspace, asked, packages):
+    """Why these tables of rules leave no plan, if they do: the workspace's first, and then package by package a wrong field,
+    or else a feature that is excluded and in a group."""
     places = [("[workspace.metadata.cargo-hack]", workspace)]
     places += [(f"[package.metadata.cargo-hack] of package `{it['name']}`", it) for it in packages]
-    wrong = [(wrong_field(table_of(held)), place) for place, held in places]
-    return [f"failed to parse `{field}` field from {place}" for field, place in wrong if field is not None][:1]
+    for place, held in places:
+        field = wrong_field(table_of(held))
+        if field is not None:
+            return [f"failed to parse `{field}` field from {place}"]
+        grouped = [] if held is workspace else Rules(workspace, asked, held).excluded_in_groups()
+        if grouped:
+            return [f"feature `{grouped[0]}` of package `{held['name']}` is both in exclude-features and in group-features"]
+    return []
 
 
 def names_in(table):
@@ -297,7 +304,7 @@ class Rules:
     workspace's."""
 
     def __init__(self, workspace, asked, package):
-        self.is_powerset = asked.has("--feature-powerset")
+        self.is_powerset, self.features = asked.has("--feature-powerset"), asked.features
         self.excluded, self.groups, self.required = list(asked.excluded), list(asked.groups), list(asked.required)
         lifted = [names for name, names in asked.lifted if name == package["name"]]
         self.exclusive = [group for group in asked.exclusive if group not in lifted]
@@ -311,6 +318,10 @@ class Rules:
             self.add(table_of(package))
             self.add(dict(table_of(workspace), **{"group-features": [
                 group for group in table_of(workspace).get("group-features", []) if set(group) <= had]}))
+
+    def excluded_in_groups(self):
+        """The names in groups that are excluded; those of `--features`, which each run has, aren't."""
+        return [name for group in self.groups for name in group if name in self.excluded and name not in self.features]
 
     def asks_for(self, name):
         """An optional dependency is asked for."""
@@ -599,7 +610,7 @@ class Plan:
         # The warnings on names in tables of rules.
         self.notes = []
         if asked.has("--package-rules"):
-            self.causes += cause_of_tables(workspace, [it for _, it in chosen])
+            self.causes += cause_of_tables(workspace, asked, [it for _, it in chosen])
         used = uses_of(workspace, asked, chosen, self.causes)
         self.versions, self.places, self.texts = sorted(used), [], []
         if self.causes:

@@ -35,6 +35,8 @@ range-cause cx ids s latest (fault.PackageRules field name) chosen fine of_call 
 range-cause cx ids s latest (fault.PackageRules field name) chosen fine of_call (inr bad) = absurd bad
 range-cause cx ids s latest (fault.WorkspaceRules field) chosen fine of_call (inl m) = absurd (cc)
 range-cause cx ids s latest (fault.WorkspaceRules field) chosen fine of_call (inr bad) = absurd bad
+range-cause cx ids s latest (fault.ExcludedInGroup feature name) chosen fine of_call (inl m) = absurd (cc)
+range-cause cx ids s latest (fault.ExcludedInGroup feature name) chosen fine of_call (inr bad) = absurd bad
 range-cause cx ids s latest (fault.Version e) chosen fine of_call (inl m) = absurd (cc)
 range-cause cx ids s latest (fault.Version e) chosen fine of_call (inr bad) = absurd bad
 range-cause cx ids s latest (fault.Range e) chosen fine of_call (inl m) = absurd (cc)
@@ -93,6 +95,8 @@ table-cause cx ids (fault.PackageRules field name) chosen (inl m) = absurd (cc)
 table-cause cx ids (fault.PackageRules field name) chosen (inr bad) = inr (ids, chosen, bad)
 table-cause cx ids (fault.WorkspaceRules field) chosen (inl m) = absurd (cc)
 table-cause cx ids (fault.WorkspaceRules field) chosen (inr bad) = inr (ids, chosen, bad)
+table-cause cx ids (fault.ExcludedInGroup feature name) chosen (inl m) = absurd (cc)
+table-cause cx ids (fault.ExcludedInGroup feature name) chosen (inr bad) = inr (ids, chosen, bad)
 table-cause cx ids (fault.Version e) chosen (inl m) = absurd (cc)
 table-cause cx ids (fault.Version e) chosen (inr bad) = absurd bad
 table-cause cx ids (fault.Range e) chosen (inl m) = absurd (cc)

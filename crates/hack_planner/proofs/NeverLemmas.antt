@@ -48,6 +48,7 @@ no-cause cx latest h (fault.Stable text) bad = bad
 no-cause cx latest h (fault.Packages e) bad = h.known e bad
 no-cause cx latest h (fault.PackageRules field name) bad = no-fault cx _ bad.0 h.ids bad.1 h.chosen bad.2 h.tables
 no-cause cx latest h (fault.WorkspaceRules field) bad = no-fault cx _ bad.0 h.ids bad.1 h.chosen bad.2 h.tables
+no-cause cx latest h (fault.ExcludedInGroup feature name) bad = no-fault cx _ bad.0 h.ids bad.1 h.chosen bad.2 h.tables
 no-cause cx latest h (fault.Version e) bad = h.readable e (subst (λ ids. HasBadOwn cx ids e) (chosen-once cx bad.ids h.ids bad.chosen h.chosen) bad.bad)
 no-cause cx latest h (fault.Range e) bad =
     let ids = chosen-once cx bad.ids h.ids bad.chosen h.chosen in

@@ -64,6 +64,8 @@ sample-cause cx s latest chosen (fault.PackageRules field name) are fine of_call
 sample-cause cx s latest chosen (fault.PackageRules field name) are fine of_call right (inr bad) = absurd bad.3
 sample-cause cx s latest chosen (fault.WorkspaceRules field) are fine of_call right (inl m) = absurd (cc)
 sample-cause cx s latest chosen (fault.WorkspaceRules field) are fine of_call right (inr bad) = absurd bad.3
+sample-cause cx s latest chosen (fault.ExcludedInGroup feature name) are fine of_call right (inl m) = absurd (cc)
+sample-cause cx s latest chosen (fault.ExcludedInGroup feature name) are fine of_call right (inr bad) = absurd bad.3
 sample-cause cx s latest chosen (fault.Version e) are fine of_call right (inl m) = absurd (cc)
 sample-cause cx s latest chosen (fault.Version e) are fine of_call right (inr bad) = absurd bad.3
 sample-cause cx s latest chosen (fault.Range e) are fine of_call right (inl m) = absurd (cc)

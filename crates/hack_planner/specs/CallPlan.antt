@@ -19,6 +19,7 @@ use Rattle.hack_plan.specs.Spans.{AreSpans, AreTiled, versions_of}
 use Rattle.hack_plan.specs.declared.versions.PlanInput.{PlanInput}
 use Rattle.hack_versions.specs.declared.group.VersionGroup.{VersionGroup}
 use Rattle.hack_planner.specs.Calls.{IsInputOf, IsPackageOf, IsCoveredIn, IsUsed, HasBadOwn, HasNoSample, call_of, candidate_notes_at, left_out_notes, rules_at, table_fault, HasTableFault}
+use Rattle.hack_planner.specs.RulesFor.{OwnField, WorkspaceField, Grouped}
 use Rattle.hack_plan.specs.Prepared.{ArePrepared, span_of}
 use Rattle.hack_plan.specs.View.{PackageView, PlanView}
 use Rattle.hack_planner.specs.declared.fault.PlanFault.{PlanFault}
@@ -140,8 +141,9 @@ abbrev pub IsPackagesCause : ContextRecord → PlanFault → Type 0
 IsPackagesCause cx fault.Memory = ⊥
 IsPackagesCause cx (fault.Stable text) = ⊥
 IsPackagesCause cx (fault.Packages e) = IsChoiceFault cx e
-IsPackagesCause cx (fault.PackageRules field name) = HasTableFault cx (Some (string_bytes name), string_bytes field)
-IsPackagesCause cx (fault.WorkspaceRules field) = HasTableFault cx (None, string_bytes field)
+IsPackagesCause cx (fault.PackageRules field name) = HasTableFault cx (OwnField (string_bytes name) (string_bytes field))
+IsPackagesCause cx (fault.WorkspaceRules field) = HasTableFault cx (WorkspaceField (string_bytes field))
+IsPackagesCause cx (fault.ExcludedInGroup feature name) = HasTableFault cx (Grouped (string_bytes name) (string_bytes feature))
 IsPackagesCause cx (fault.Version e) = ⊥
 IsPackagesCause cx (fault.Range e) = ⊥
 IsPackagesCause cx (fault.TooManyQuestions name tally) = ⊥
@@ -152,8 +154,9 @@ abbrev pub IsCause : ContextRecord → Option Version → PlanFault → Type 0
 IsCause cx latest fault.Memory = ⊥
 IsCause cx latest (fault.Stable text) = ⊥
 IsCause cx latest (fault.Packages e) = IsChoiceFault cx e
-IsCause cx latest (fault.PackageRules field name) = HasTableFault cx (Some (string_bytes name), string_bytes field)
-IsCause cx latest (fault.WorkspaceRules field) = HasTableFault cx (None, string_bytes field)
+IsCause cx latest (fault.PackageRules field name) = HasTableFault cx (OwnField (string_bytes name) (string_bytes field))
+IsCause cx latest (fault.WorkspaceRules field) = HasTableFault cx (WorkspaceField (string_bytes field))
+IsCause cx latest (fault.ExcludedInGroup feature name) = HasTableFault cx (Grouped (string_bytes name) (string_bytes feature))
 IsCause cx latest (fault.Version e) = IsBadVersion cx e
 IsCause cx latest (fault.Range e) = IsBadRange cx latest e
 IsCause cx latest (fault.TooManyQuestions name tally) = IsTooWide cx latest (string_bytes name) tally
@@ -170,8 +173,9 @@ abbrev pub IsSureCause : ContextRecord → Option Version → PlanFault → Type
 IsSureCause cx latest fault.Memory = ⊥
 IsSureCause cx latest (fault.Stable text) = ⊥
 IsSureCause cx latest (fault.Packages e) = IsChoiceFault cx e
-IsSureCause cx latest (fault.PackageRules field name) = HasTableFault cx (Some (string_bytes name), string_bytes field)
-IsSureCause cx latest (fault.WorkspaceRules field) = HasTableFault cx (None, string_bytes field)
+IsSureCause cx latest (fault.PackageRules field name) = HasTableFault cx (OwnField (string_bytes name) (string_bytes field))
+IsSureCause cx latest (fault.WorkspaceRules field) = HasTableFault cx (WorkspaceField (string_bytes field))
+IsSureCause cx latest (fault.ExcludedInGroup feature name) = HasTableFault cx (Grouped (string_bytes name) (string_bytes feature))
 IsSureCause cx latest (fault.Version e) = IsBadVersion cx e
 IsSureCause cx latest (fault.Range e) = IsBadRange cx latest e
 IsSureCause cx latest (fault.TooManyQuestions name tally) = ⊥

@@ -1,7 +1,7 @@
 -- The input of a plan, from what was loaded.
 use Rattle.std.specs.Prelude.{ℕ, ◌≡◌, ◌↔◌, ◌⊎◌, ◌++◌, List, [], ◌∷◌, Bool, true, false, Option, Some, None, length, Contains, IsSomeAnd, IsTrue, MatchOption, map, option_and_then, option_map, slice_get, string_bytes, if◌then◌else◌}
 use Rattle.std.specs.List.{AllZip, flat_map, range_with_len}
-use Rattle.std.specs.Option.{option_map_or}
+use Rattle.std.specs.Option.{option_map_or, option_or}
 use Rattle.hack_base.specs.Names.{Name, names_of}
 use Rattle.hack_base.specs.PathTexts.{under_of}
 use Rattle.hack_metadata.specs.Records.{PackageRecord}
@@ -24,7 +24,7 @@ use Rattle.hack_planner.specs.ContextMembers.{AreChosen}
 use Rattle.hack_planner.specs.Candidates.{candidates, candidate_notes}
 use Rattle.hack_planner.specs.Kinds.{AreRuns, AreCovering, AreRunSettings, IsUnsampled, package_choice}
 use Rattle.hack_planner.specs.PackageRules.{PackageRulesRecord, call_rules}
-use Rattle.hack_planner.specs.RulesFor.{TableFault, first_there, own_fault, rules_for, table_notes, workspace_fault}
+use Rattle.hack_planner.specs.RulesFor.{TableFault, first_there, grouped_fault, own_fault, rules_for, table_notes, workspace_fault}
 use Rattle.hack_plan.specs.Runs.{Plain}
 use Rattle.hack_plan.specs.Inputs.{IsStepList, slots_of}
 use Rattle.hack_plan.specs.declared.versions.PlanInput.{PlanInput}
@@ -34,12 +34,18 @@ use Rattle.hack_plan.specs.View.{CallView, PackageView}
 abbrev pub rules_at : ContextRecord → PackageRecord → Features → PackageRulesRecord
 rules_at cx p f = rules_for cx.args cx.metadata.rules p f
 
--- the fault of a package's own table
+-- the fault that the rules of a package of the call exclude a feature of a group
+abbrev pub grouped_at : ContextRecord → PackageRecord → Features → Option TableFault
+grouped_at cx p f = grouped_fault (names_of cx.args.features.items) p.name (rules_at cx p f)
+
+-- the fault of a package's own table, else that of its rules
 abbrev pub own_fault_at : ContextRecord → ℕ → Option TableFault
-own_fault_at cx id = option_and_then own_fault (package_at cx id)
+own_fault_at cx id = option_and_then
+    (λ p. option_or (own_fault p) (option_and_then (grouped_at cx p) (features_at cx id)))
+    (package_at cx id)
 
 -- what is wrong with the tables of a call under `--package-rules`: with the workspace's, else with
--- the first of these packages' own
+-- the rules of the first of these packages
 abbrev pub table_fault : ContextRecord → List ℕ → Option TableFault
 table_fault cx ids = if cx.args.package_rules
     then first_there (workspace_fault cx.metadata.rules ∷ map (own_fault_at cx) ids)

@@ -1,5 +1,5 @@
 -- What only private functions of the crate promise each other.
-use Rattle.std.specs.Prelude.{Option, None, Some, ℕ, List, true, Contains, IsTrue, IsSome, string_bytes, ◌≡◌}
+use Rattle.std.specs.Prelude.{Option, Some, ℕ, List, true, Contains, IsTrue, IsSome, string_bytes, ◌≡◌}
 use Rattle.hack_load.specs.Contexts.{ContextRecord}
 use Rattle.hack_versions.specs.declared.version.Version.{Version}
 use Rattle.hack_plan.specs.Inputs.{IsVersionsFault}
@@ -7,7 +7,7 @@ use Rattle.hack_plan.specs.declared.versions.PlanInput.{PlanInput}
 use Rattle.hack_planner.specs.declared.fault.PlanFault.{PlanFault}
 use Rattle.hack_planner.specs.declared.fault.PlanFault.TheVariants as fault
 use Rattle.hack_planner.specs.Calls.{HasBadOwn, HasNoSampleAt}
-use Rattle.hack_planner.specs.RulesFor.{TableFault}
+use Rattle.hack_planner.specs.RulesFor.{TableFault, OwnField, WorkspaceField, Grouped}
 use Rattle.hack_planner.specs.declared.fault.RunsFault.{RunsFault}
 use Rattle.hack_planner.specs.declared.fault.RunsFault.TheVariants as runs
 use Rattle.hack_planner.specs.Kinds.{most_questions}
@@ -22,6 +22,7 @@ SaysRangeRefused s latest (fault.Stable text) = ⊥
 SaysRangeRefused s latest (fault.Packages e) = ⊥
 SaysRangeRefused s latest (fault.PackageRules field name) = ⊥
 SaysRangeRefused s latest (fault.WorkspaceRules field) = ⊥
+SaysRangeRefused s latest (fault.ExcludedInGroup feature name) = ⊥
 SaysRangeRefused s latest (fault.Version e) = ⊥
 SaysRangeRefused s latest (fault.Range e) = IsVersionsFault s.range s latest e
 SaysRangeRefused s latest (fault.TooManyQuestions name tally) = ⊥
@@ -32,8 +33,9 @@ abbrev pub SaysFault : Option TableFault → PlanFault → Type 0
 SaysFault found fault.Memory = ⊥
 SaysFault found (fault.Stable text) = ⊥
 SaysFault found (fault.Packages e) = ⊥
-SaysFault found (fault.PackageRules field name) = found ≡ Some (Some (string_bytes name), string_bytes field)
-SaysFault found (fault.WorkspaceRules field) = found ≡ Some (None, string_bytes field)
+SaysFault found (fault.PackageRules field name) = found ≡ Some (OwnField (string_bytes name) (string_bytes field))
+SaysFault found (fault.WorkspaceRules field) = found ≡ Some (WorkspaceField (string_bytes field))
+SaysFault found (fault.ExcludedInGroup feature name) = found ≡ Some (Grouped (string_bytes name) (string_bytes feature))
 SaysFault found (fault.Version e) = ⊥
 SaysFault found (fault.Range e) = ⊥
 SaysFault found (fault.TooManyQuestions name tally) = ⊥
@@ -46,6 +48,7 @@ IsOwnFault cx ids (fault.Stable text) = ⊥
 IsOwnFault cx ids (fault.Packages e) = ⊥
 IsOwnFault cx ids (fault.PackageRules field name) = ⊥
 IsOwnFault cx ids (fault.WorkspaceRules field) = ⊥
+IsOwnFault cx ids (fault.ExcludedInGroup feature name) = ⊥
 IsOwnFault cx ids (fault.Version e) = HasBadOwn cx ids e
 IsOwnFault cx ids (fault.Range e) = ⊥
 IsOwnFault cx ids (fault.TooManyQuestions name tally) = ⊥
@@ -58,6 +61,7 @@ SaysNoSample cx id (fault.Stable text) = ⊥
 SaysNoSample cx id (fault.Packages e) = ⊥
 SaysNoSample cx id (fault.PackageRules field name) = ⊥
 SaysNoSample cx id (fault.WorkspaceRules field) = ⊥
+SaysNoSample cx id (fault.ExcludedInGroup feature name) = ⊥
 SaysNoSample cx id (fault.Version e) = ⊥
 SaysNoSample cx id (fault.Range e) = ⊥
 SaysNoSample cx id (fault.TooManyQuestions name tally) = HasNoSampleAt cx id (string_bytes name) tally

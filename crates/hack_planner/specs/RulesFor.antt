@@ -1,7 +1,7 @@
 -- What a package's rules are under `--package-rules`: the call's, those of the package's own table
 -- and those of the workspace's.
 use Rattle.std.specs.Prelude.{◌==◌, ◌++◌, ◌&&◌, ◌||◌, [], ◌∷◌, ℕ, List, Bool, not, Option, None, Some, Ok, Err, filter, flat_map, fold, length, map, option_map, unwrap_or, if◌then◌else◌}
-use Rattle.std.specs.List.{list_all, list_any}
+use Rattle.std.specs.List.{find, list_all, list_any}
 use Rattle.std.specs.Option.{option_or}
 use Rattle.std.specs.Result.{result_err}
 use Rattle.hack_base.specs.FieldReadings.{FieldReading}
@@ -122,14 +122,31 @@ abbrev pub first_there : {X : Type 0} → List (Option X) → Option X
 first_there [] = None
 first_there (x ∷ xs) = option_or x (first_there xs)
 
--- a field at fault, of a package's own table or, without a package, of the workspace's
-abbrev pub TableFault : Type 0
-TableFault = Option Name × Name
+-- what is wrong with tables of rules: a field of the workspace's; of the package of this name a field
+-- of its own, or this feature, which is excluded and in a group
+pub data TableFault : Type 0 where
+  WorkspaceField : Name → TableFault
+  OwnField : Name → Name → TableFault
+  Grouped : Name → Name → TableFault
 
 -- the fault of the workspace's table
 abbrev pub workspace_fault : FieldReading RulesRecord → Option TableFault
-workspace_fault rules = option_map (λ field. (None, field)) (result_err rules)
+workspace_fault rules = option_map WorkspaceField (result_err rules)
 
 -- the fault of a package's own table
 abbrev pub own_fault : PackageRecord → Option TableFault
-own_fault p = option_map (λ field. (Some p.name, field)) (result_err p.rules)
+own_fault p = option_map (OwnField p.name) (result_err p.rules)
+
+-- the name is excluded, and is none of `--features`, which are on in each run and in no set
+abbrev pub is_excluded : List Name → List Name → Name → Bool
+is_excluded features excluded x = contains_name excluded x && not (contains_name features x)
+
+-- the first excluded name of these groups, in their order
+abbrev pub first_excluded : List Name → List Name → List (List Name) → Option Name
+first_excluded features excluded groups =
+    first_there (map (find (is_excluded features excluded)) groups)
+
+-- the fault that these rules of a package exclude a feature of a group
+abbrev pub grouped_fault : List Name → Name → PackageRulesRecord → Option TableFault
+grouped_fault features pkg r =
+    option_map (Grouped pkg) (first_excluded features r.exclude_features r.group_features)

@@ -29,6 +29,10 @@ pub enum PlanFault {
     /// The same of the workspace's table.
     #[error("failed to parse `{0}` field from [workspace.metadata.cargo-hack]")]
     WorkspaceRules(String),
+    /// A feature of a chosen package is excluded and grouped at once: `--package-rules` takes the
+    /// lists of the call and of the tables together.
+    #[error("feature `{feature}` of package `{name}` is both in exclude-features and in group-features")]
+    ExcludedInGroup { feature: String, name: String },
     /// The `rust-version` of a chosen package isn't a version.
     #[error("{0}")]
     Version(VersionFault),

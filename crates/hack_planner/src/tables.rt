@@ -1,18 +1,20 @@
 //! The tables of rules in manifests: the notices on the names that they have, and their faults.
 
 ghost use Rattle.std.specs.Prelude.{◌≡◌, ◌⊎◌, ◌==◌, IfErr, IfOk, None, OnOk};
-ghost use Rattle.std.specs.Prelude.{filter, flat_map, fold, map, not, option_and_then, option_map};
-ghost use Rattle.std.specs.List.{list_any};
+ghost use Rattle.std.specs.Prelude.{filter, flat_map, fold, map, not, option_copied};
+ghost use Rattle.std.specs.List.{find, list_any};
 ghost use Rattle.hack_base.specs.Names.{names_of};
 ghost use Rattle.hack_base.specs.Notes.{note_of};
 ghost use Rattle.hack_features.specs.Feature.{groups_of};
 ghost use Rattle.hack_load.specs.ContextView.{context_view};
+ghost use Rattle.hack_load.specs.Contexts.{features_at};
 ghost use Rattle.hack_metadata.specs.RecordViews.{package_view, place_at, rules_view};
-ghost use Rattle.hack_planner.specs.Calls.{own_fault_at, package_notes, table_fault};
+ghost use Rattle.hack_planner.specs.Calls.{grouped_at, own_fault_at, package_notes, table_fault};
 ghost use Rattle.hack_planner.specs.Internal.{SaysFault};
 ghost use Rattle.hack_planner.specs.MemberNotes.{warning_note};
 ghost use Rattle.hack_planner.specs.PackageRules.{rules_in};
-ghost use Rattle.hack_planner.specs.RulesFor.{each_once, first_there, kept_once, names_of_table};
+ghost use Rattle.hack_planner.specs.RulesFor.{each_once, first_excluded, first_there};
+ghost use Rattle.hack_planner.specs.RulesFor.{is_excluded as excludes, kept_once, names_of_table};
 ghost use Rattle.hack_planner.specs.RulesFor.{may_have, own_fault, table_notes as notes_on_table};
 ghost use Rattle.hack_planner.specs.Texts.{table_text as unknown_name};
 
@@ -152,7 +154,7 @@ fn add_names(names: &mut Vec<String>, more: &[String]) -> Result<(), AllocError>
 }
 
 /// Refuses the call where a table has a fault: under `--package-rules` the workspace's, or that of
-/// one of these packages.
+/// one of these packages, or where a group of such a package has an excluded feature.
 pub(crate) fn check_tables(alloc: Global, cx: &Context, ids: &[PackageId]) -> Result<(), PlanFault>
     ensures ok { OnOk result (table_fault (context_view cx.now) (map place_at ids.now) ≡ None) }
     ensures err { IfErr result (λ e. (e ≡ PlanFault.Memory)
@@ -167,7 +169,7 @@ pub(crate) fn check_tables(alloc: Global, cx: &Context, ids: &[PackageId]) -> Re
     check_packages(alloc, cx, ids)
 }
 
-/// Refuses the first of these packages whose own table has a fault.
+/// Refuses the first of these packages whose rules have a fault.
 fn check_packages(alloc: Global, cx: &Context, ids: &[PackageId]) -> Result<(), PlanFault>
     ensures ok { OnOk result (first_there
         (map (own_fault_at (context_view cx.now)) (map place_at ids.now)) ≡ None) }
@@ -177,20 +179,34 @@ fn check_packages(alloc: Global, cx: &Context, ids: &[PackageId]) -> Result<(), 
     match ids {
         [] => Ok(()),
         [id, rest @ ..] => {
-            check_own(alloc, cx.metadata().find(*id))?;
+            check_rules(alloc, cx, *id)?;
             check_packages(alloc, cx, rest)
         }
     }
 }
 
-/// Refuses a package whose own table has a fault.
-fn check_own(alloc: Global, pkg: Option<&Package>) -> Result<(), PlanFault>
-    ensures ok { OnOk result (option_and_then own_fault
-        (option_map (λ p. package_view p.now) pkg.entry) ≡ None) }
-    ensures err { IfErr result (λ e. (e ≡ PlanFault.Memory) ⊎ SaysFault (option_and_then own_fault
-        (option_map (λ p. package_view p.now) pkg.entry)) e) }
+/// Refuses a package whose own table has a fault, or of which a group has an excluded feature.
+fn check_rules(alloc: Global, cx: &Context, id: PackageId) -> Result<(), PlanFault>
+    ensures ok { OnOk result (own_fault_at (context_view cx.now) id.index ≡ None) }
+    ensures err { IfErr result (λ e. (e ≡ PlanFault.Memory)
+        ⊎ SaysFault (own_fault_at (context_view cx.now) id.index) e) }
 {
-    let Some(pkg) = pkg else { return Ok(()) };
+    let Some(pkg) = cx.metadata().find(id) else {
+        return Ok(());
+    };
+    check_own(alloc, pkg)?;
+    match features_of(cx, id) {
+        Some(features) => check_groups(alloc, cx, pkg, features),
+        None => Ok(()),
+    }
+}
+
+/// Refuses a package whose own table has a fault.
+fn check_own(alloc: Global, pkg: &Package) -> Result<(), PlanFault>
+    ensures ok { OnOk result (own_fault (package_view pkg.now) ≡ None) }
+    ensures err { IfErr result (λ e. (e ≡ PlanFault.Memory)
+        ⊎ SaysFault (own_fault (package_view pkg.now)) e) }
+{
     match &pkg.rules {
         Ok(_) => Ok(()),
         Err(field) => Err(PlanFault::PackageRules {
@@ -198,4 +214,76 @@ fn check_own(alloc: Global, pkg: Option<&Package>) -> Result<(), PlanFault>
             name: String::from_str(alloc, pkg.name.as_str())?,
         }),
     }
+}
+
+/// Refuses a package of which a group has an excluded feature.
+fn check_groups(
+    alloc: Global,
+    cx: &Context,
+    pkg: &Package,
+    features: &Features,
+) -> Result<(), PlanFault>
+    ensures ok { OnOk result (grouped_at (context_view cx.now) (package_view pkg.now) features.now
+        ≡ None) }
+    ensures err { IfErr result (λ e. (e ≡ PlanFault.Memory) ⊎ SaysFault
+        (grouped_at (context_view cx.now) (package_view pkg.now) features.now) e) }
+{
+    let rules = PackageRules::of(alloc, cx, pkg, features)?;
+    let given = &cx.args().features;
+    match excluded_in_groups(given, &rules.exclude_features, &rules.group_features) {
+        Some(feature) => Err(PlanFault::ExcludedInGroup {
+            feature: String::from_str(alloc, feature)?,
+            name: String::from_str(alloc, pkg.name.as_str())?,
+        }),
+        None => Ok(()),
+    }
+}
+
+/// The features of a package, where it is a member of the workspace.
+fn features_of(cx: &Context, id: PackageId) -> Option<&Features>
+    ensures { option_copied result ≡ features_at (context_view cx.now) id.index }
+{
+    if cx.workspace_members().contains(&id) {
+        Some(cx.pkg_features(id))
+    } else {
+        None
+    }
+}
+
+/// The first name of the groups that is excluded.
+fn excluded_in_groups<'a>(
+    given: &[String],
+    excluded: &[String],
+    groups: &'a [Feature],
+) -> Option<&'a str>
+    ensures { option_copied result
+        ≡ first_excluded (names_of given.now) (names_of excluded.now) (groups_of groups.now) }
+{
+    for group in groups {
+        if let Some(name) = excluded_in(given, excluded, group.as_group()) {
+            return Some(name);
+        }
+    }
+    None
+}
+
+/// The first of the names that is excluded.
+fn excluded_in<'a>(given: &[String], excluded: &[String], names: &'a [String]) -> Option<&'a str>
+    ensures { option_copied result
+        ≡ find (excludes (names_of given.now) (names_of excluded.now)) (names_of names.now) }
+{
+    for name in names {
+        if is_excluded(given, excluded, name.as_str()) {
+            return Some(name.as_str());
+        }
+    }
+    None
+}
+
+/// Whether the name is excluded. Those of `--features` stand among the excluded ones too, since each
+/// run has them and no set does.
+fn is_excluded(given: &[String], excluded: &[String], name: &str) -> bool
+    ensures { result ≡ excludes (names_of given.now) (names_of excluded.now) name.now }
+{
+    has_name(excluded, name) && !has_name(given, name)
 }

@@ -369,3 +369,73 @@ fn which_table_is_refused(rt: HostRuntime) -> Result<(), Wrong> {
         "#,
     )
 }
+
+/// A feature that is excluded and in a group refuses the call, whichever of the call and the tables
+/// has the two lists. What doesn't count for the package doesn't.
+#[test]
+fn excluded_in_groups(rt: HostRuntime) -> Result<(), Wrong> {
+    on(
+        rt.alloc(),
+        Show::Fault,
+        "p - a",
+        r#"
+            > members p - a b # {"exclude-features":["b"],"group-features":[["a","b"]]} $ check --feature-powerset --package-rules
+            | feature `b` of package `p` is both in exclude-features and in group-features
+            > members p - a b # {"group-features":[["a","b"]]} $ check --feature-powerset --package-rules --exclude-features a
+            | feature `a` of package `p` is both in exclude-features and in group-features
+            > members p - a b # {"exclude-features":["a"]} $ check --feature-powerset --package-rules --group-features a,b
+            | feature `a` of package `p` is both in exclude-features and in group-features
+            > members p - a b # {"exclude-features":["b"]} ## {"group-features":[["a","b"]]} $ check --feature-powerset --package-rules
+            | feature `b` of package `p` is both in exclude-features and in group-features
+            > members p - a b # {"group-features":[["a","b"]]} ## {"exclude-features":["b"]} $ check --feature-powerset --package-rules
+            | feature `b` of package `p` is both in exclude-features and in group-features
+            > members p - a b ## {"exclude-features":["a"],"group-features":[["a","b"]]} $ check --feature-powerset --package-rules
+            | feature `a` of package `p` is both in exclude-features and in group-features
+            > members p - a b ## {"group-features":[["a","b"]]} $ check --feature-powerset --package-rules --skip b
+            | feature `b` of package `p` is both in exclude-features and in group-features
+            > members p - a # {"exclude-features":["x"],"group-features":[["a","x"]]} $ check --feature-powerset --package-rules
+            | feature `x` of package `p` is both in exclude-features and in group-features
+
+            # The first name of the first group: the call's groups, then those of the package, then the workspace's.
+            > members p - a b c d # {"exclude-features":["d","c","b"],"group-features":[["a","c"],["b","d"]]} $ check --feature-powerset --package-rules
+            | feature `c` of package `p` is both in exclude-features and in group-features
+            > members p - a b c d # {"exclude-features":["d","b"],"group-features":[["a","c"],["b","d"]]} $ check --feature-powerset --package-rules
+            | feature `b` of package `p` is both in exclude-features and in group-features
+            > members p - a b c d # {"exclude-features":["a","d"],"group-features":[["a","b"]]} $ check --feature-powerset --package-rules --group-features c,d
+            | feature `d` of package `p` is both in exclude-features and in group-features
+            > members p - a b c d # {"exclude-features":["a","d"],"group-features":[["c","d"]]} ## {"group-features":[["a","b"]]} $ check --feature-powerset --package-rules
+            | feature `d` of package `p` is both in exclude-features and in group-features
+
+            # Package by package, behind a field of its own table, and behind the workspace's.
+            > members p - a b # {"exclude-features":["a"],"group-features":[["a","b"]]};q - a # {"depth":"2"} $ check --feature-powerset --package-rules --workspace
+            | feature `a` of package `p` is both in exclude-features and in group-features
+            > members p - a # {"depth":"2"};q - a b # {"exclude-features":["a"],"group-features":[["a","b"]]} $ check --feature-powerset --package-rules --workspace
+            | failed to parse `depth` field from [package.metadata.cargo-hack] of package `p`
+            > members p - a # {"depth":2};q - a b # {"exclude-features":["a"],"group-features":[["a","b"]]} $ check --feature-powerset --package-rules --workspace
+            | feature `a` of package `q` is both in exclude-features and in group-features
+            > members p - a b # {"exclude-features":["a"],"group-features":[["a","b"]],"depth":"2"} $ check --feature-powerset --package-rules
+            | failed to parse `depth` field from [package.metadata.cargo-hack] of package `p`
+            > members p - a b # {"exclude-features":["a"],"group-features":[["a","b"]]} ## {"strength":0} $ check --feature-powerset --package-rules
+            | failed to parse `strength` field from [workspace.metadata.cargo-hack]
+            > members p 1.x a b # {"exclude-features":["a"],"group-features":[["a","b"]]} $ check --feature-powerset --package-rules --version-range 1.60..=1.62
+            | feature `a` of package `p` is both in exclude-features and in group-features
+
+            > members p - a;q - a b # {"exclude-features":["a"],"group-features":[["a","b"]]} $ check --feature-powerset --package-rules -p p
+            | a plan
+            > members p - a b # {"exclude-features":["a"],"group-features":[["a","b"]]} $ check --feature-powerset
+            | a plan
+            > members p - a b # {"exclude-features":["a"],"group-features":[["a","b"]]} $ check --each-feature --package-rules
+            | a plan
+            > members p - a b ## {"exclude-features":["a"],"group-features":[["a","x"]]} $ check --feature-powerset --package-rules
+            | a plan
+            > members p - a b c # {"exclude-features":["c"],"group-features":[["a","b"]]} $ check --feature-powerset --package-rules
+            | a plan
+
+            # Features of every run are in no set either, and not excluded.
+            > members p - a b # {"group-features":[["a","b"]]} $ check --feature-powerset --package-rules --features a
+            | a plan
+            > members p - a b $ check --feature-powerset --package-rules --features a --group-features a,b
+            | a plan
+        "#,
+    )
+}
