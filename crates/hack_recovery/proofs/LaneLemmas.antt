@@ -2,6 +2,7 @@
 use Rattle.std.proofs.Common.{◌≡◌, ◌⊎◌, ◌∙◌, Bool, List, ap, false, inl, inr, refl, subst, sym, true}
 use Rattle.std.specs.Prelude.{not}
 use Rattle.hack_base.specs.Names.{Name}
+use Rattle.hack_base.specs.Streams.{Stream}
 use Rattle.hack_files.specs.Files.{Contents}
 use Rattle.hack_files.specs.View.{FilesView}
 use Rattle.hack_files.specs.declared.fs.Files.{Ghosts as Filing}
@@ -13,12 +14,13 @@ use Rattle.hack_term.specs.declared.term.Term.{Term}
 use Rattle.hack_words.specs.declared.cli.env.Env.{Env}
 use Rattle.hack_places.specs.CallPlaces.{PlacesAt}
 use Rattle.hack_recovery.specs.AskedEdits.{is_restore}
-use Rattle.hack_recovery.specs.CallCourses.{IsCopyTold, IsJournalClosed, Warns}
+use Rattle.hack_recovery.specs.CallCourses.{IsCopyTold, IsJournalClosed}
 use Rattle.hack_recovery.specs.CallCourses.IsCopyTold.{absent, lacking, there, unsure}
 use Rattle.hack_recovery.specs.CallCourses.IsJournalClosed.{copy_kept, copy_stays, gone, starved, stays, unseen}
 use Rattle.hack_recovery.specs.LaneCalls.{AsksToRestore, CallsInLanes, over_journal, plain, unperformed}
 use Rattle.hack_recovery.specs.Ready.{Both, GetReady}
 use Rattle.hack_recovery.specs.Ready.GetReady.{further, looked_at}
+use Rattle.hack_recovery.specs.Telling.{IsStarved, Warns}
 use Rattle.hack_recovery.specs.declared.asked.Edits.{Edits}
 use Rattle.hack_recovery.specs.declared.asked.Edits.TheVariants as edits
 
@@ -28,27 +30,30 @@ restore_is edits.Temporary on = cc
 restore_is edits.Permanent on = cc
 restore_is edits.Restore on = refl
 
-pub ready_now : {F L : Type 0} (f : Filing F) (l : Filing L) (by_guard : Bool) (both : Both) → GetReady f l by_guard both both
-ready_now f l by_guard both = looked_at (record { same = λ t q. refl; untraced = λ w. makes_none _ _ }) refl
+pub ready_now : {F L : Type 0} (f : Filing F) (l : Filing L) (env : Env) (both : Both) → GetReady f l env both both
+ready_now f l env both = looked_at (record { same = λ t q. refl; untraced = λ w. makes_none _ _ }) refl
+
+starved_quiet : (was now : Term) (err now_err : Stream) → IsStarved was now err now_err → now.error ≡ false → was.error ≡ false
+starved_quiet was now err now_err cut quiet = let e : true ≡ false = ap (λ (t : Term). t.error) (sym cut.0) ∙ quiet in cc
 
 -- where the end of a journal reported no error, none was reported before
-warned_quiet : (was now : Term) → Warns was now → now.error ≡ false → was.error ≡ false
-warned_quiet was now (inl is) quiet = ap (λ (t : Term). t.error) (sym is) ∙ quiet
-warned_quiet was now (inr is) quiet = let e : true ≡ false = ap (λ (t : Term). t.error) (sym is) ∙ quiet in cc
+warned_quiet : (text : Name) (was now : Term) (err now_err : Stream) → Warns text was now err now_err → now.error ≡ false → was.error ≡ false
+warned_quiet text was now err now_err (inl warned) quiet = ap (λ (t : Term). t.error) (sym warned.0) ∙ quiet
+warned_quiet text was now err now_err (inr cut) quiet = starved_quiet was now err now_err cut quiet
 
-copy_quiet : {F : Type 0} (f : Filing F) (copy : Name) (old new : FilesView) (was now : Term) → IsCopyTold f copy old new was now → now.error ≡ false → was.error ≡ false
-copy_quiet f copy old new was now (there warns counted has same) quiet = warned_quiet was now warns quiet
-copy_quiet f copy old new was now (unsure warns counted seen same) quiet = warned_quiet was now warns quiet
-copy_quiet f copy old new was now (absent same counted none kept) quiet = ap (λ (t : Term). t.error) (sym same) ∙ quiet
-copy_quiet f copy old new was now (lacking is counted same) quiet = let e : true ≡ false = ap (λ (t : Term). t.error) (sym is) ∙ quiet in cc
+copy_quiet : {F : Type 0} (f : Filing F) (copy : Name) (old new : FilesView) (was now : Term) (err now_err : Stream) → IsCopyTold f copy old new was now err now_err → now.error ≡ false → was.error ≡ false
+copy_quiet f copy old new was now err now_err (there warns counted has same) quiet = warned_quiet _ was now err now_err warns quiet
+copy_quiet f copy old new was now err now_err (unsure warns counted seen same) quiet = warned_quiet _ was now err now_err warns quiet
+copy_quiet f copy old new was now err now_err (absent same silent counted none kept) quiet = ap (λ (t : Term). t.error) (sym same) ∙ quiet
+copy_quiet f copy old new was now err now_err (lacking is counted same) quiet = starved_quiet was now err now_err is quiet
 
-pub closed_quiet : {F : Type 0} (f : Filing F) (places : PlacesAt) (unwritten : Bool) (old new : FilesView) (was now : Term) → IsJournalClosed f places unwritten old new was now → now.error ≡ false → was.error ≡ false
-closed_quiet f places unwritten old new was now (gone written same counted journal copy) quiet = ap (λ (t : Term). t.error) (sym same) ∙ quiet
-closed_quiet f places unwritten old new was now (stays warns counted journal same) quiet = warned_quiet was now warns quiet
-closed_quiet f places unwritten old new was now (unseen warns counted journal same) quiet = warned_quiet was now warns quiet
-closed_quiet f places unwritten old new was now (starved is counted same) quiet = let e : true ≡ false = ap (λ (t : Term). t.error) (sym is) ∙ quiet in cc
-closed_quiet f places unwritten old new was now (copy_stays written warns counted refused journal) quiet = warned_quiet was now warns quiet
-closed_quiet f places unwritten old new was now (copy_kept mid doubted counted journal same told) quiet = copy_quiet f places.copy mid new was now told quiet
+pub closed_quiet : {F : Type 0} (f : Filing F) (places : PlacesAt) (unwritten : Bool) (old new : FilesView) (was now : Term) (err now_err : Stream) → IsJournalClosed f places unwritten old new was now err now_err → now.error ≡ false → was.error ≡ false
+closed_quiet f places unwritten old new was now err now_err (gone written same silent counted journal copy) quiet = ap (λ (t : Term). t.error) (sym same) ∙ quiet
+closed_quiet f places unwritten old new was now err now_err (stays warns counted journal same) quiet = warned_quiet _ was now err now_err warns quiet
+closed_quiet f places unwritten old new was now err now_err (unseen warns counted journal same) quiet = warned_quiet _ was now err now_err warns quiet
+closed_quiet f places unwritten old new was now err now_err (starved is counted same) quiet = starved_quiet was now err now_err is quiet
+closed_quiet f places unwritten old new was now err now_err (copy_stays written warns counted refused journal) quiet = warned_quiet _ was now err now_err warns quiet
+closed_quiet f places unwritten old new was now err now_err (copy_kept mid doubted counted journal same told) quiet = copy_quiet f places.copy mid new was now err now_err told quiet
 
 module _ {S : Type 0} (did : List Event → S → S → Type 0) (course : S → S → Type 0) (talks : Type 0) (calls : S → List Call) where
   -- what `run` promises of lanes, where no error is reported and where one is
@@ -60,13 +65,13 @@ module _ {S : Type 0} (did : List Event → S → S → Type 0) (course : S → 
   module _ {F L : Type 0} (f : Filing F) (l : Filing L) where
     -- a call that is performed once files are ready, or isn't
     pub in_lanes_or_not : (restores : Type 0) (done : Bool) (words : List Name) (env : Env) (files at : Both) (old new : S) (test off : Bool) → test ≡ off → (test ≡ true → (done ≡ false) ⊎ restores)
-        → (test ≡ true → new ≡ old) → GetReady f l env.by_guard files at → (test ≡ false → IsLaneCall did course talks calls done f.tells words env at.0.held old new)
+        → (test ≡ true → new ≡ old) → GetReady f l env files at → (test ≡ false → IsLaneCall did course talks calls done f.tells words env at.0.held old new)
         → CallsInLanes f l did course talks calls restores done words env files old new
     in_lanes_or_not restores done words env files at old new test true is why same ready ran = unperformed (why is) (same is)
     in_lanes_or_not restores done words env files at old new test false is why same ready ran = plain at ready (ran is)
 
     -- a call whose files get ready first
-    pub behind : (restores : Type 0) (done : Bool) (words : List Name) (env : Env) (files mid : Both) (old new : S) → GetReady f l env.by_guard files mid
+    pub behind : (restores : Type 0) (done : Bool) (words : List Name) (env : Env) (files mid : Both) (old new : S) → GetReady f l env files mid
         → CallsInLanes f l did course talks calls restores done words env mid old new → CallsInLanes f l did course talks calls restores done words env files old new
     behind restores done words env files mid old new ready (unperformed why same) = unperformed why same
     behind restores done words env files mid old new ready (plain at more ran) = plain at (further mid ready more) ran

@@ -7,4 +7,5 @@ mod CallLemmas
 mod LaneLemmas
 mod StrangerLemmas
 mod TellingLemmas
-pub mod SaidLemmas
+mod SaidLemmas
+mod SettledLemmas

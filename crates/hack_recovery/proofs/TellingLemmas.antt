@@ -1,6 +1,6 @@
 -- What is told of a fault, and what it says of looks at files.
-use Rattle.std.proofs.Common.{◌≡◌, ◌∙◌, ℕ, Bool, false, true, refl, sym}
-use Rattle.std.specs.Prelude.{◌≢◌, Err, Ok, Result}
+use Rattle.std.proofs.Common.{◌≡◌, ◌∙◌, ℕ, Bool, false, sym}
+use Rattle.std.specs.Prelude.{Err, Ok, Result}
 use Rattle.hack_base.specs.Counters.{GrowsBy}
 use Rattle.hack_files.specs.Files.{Contents}
 use Rattle.hack_journal.proofs.RecoverLemmas.{never_cut_no_journal}
@@ -12,19 +12,6 @@ use Rattle.hack_journal.specs.declared.recover.RecoverFault.TheVariants.{Memory,
 use Rattle.hack_recovery.specs.Restoring.{IsToldAs}
 use Rattle.hack_recovery.specs.declared.fault.CallFault.{CallFault}
 use Rattle.hack_recovery.specs.declared.fault.CallFault.TheVariants as call
-
--- refused memory is told as that
-pub told_memory : (fault : RecoverFault) → fault ≡ Memory → IsToldAs fault (Err call.Memory)
-told_memory Memory is = refl
-told_memory (NotJournal j) is = cc
-told_memory (Changed p j) is = cc
-told_memory (Files f) is = cc
-
-pub told_other : (fault : RecoverFault) (came : Result Bool CallFault) → ¬ (fault ≡ Memory) → came ≢ Ok true → IsToldAs fault came
-told_other Memory came other off = absurd (other refl)
-told_other (NotJournal j) came other off = off
-told_other (Changed p j) came other off = off
-told_other (Files f) came other off = off
 
 -- where a journal that an interrupted call left can't be read, and not for want of memory, a look failed
 pub look_failed : (s : Spot) (tells : Type 0) (first held : Contents) (before now : ℕ) (fault : RecoverFault) (came : Result Bool CallFault) → tells → IsWhyUnread s tells held fault → CountsRecoverFault before now fault → IsToldAs fault came → IsSafeOrCut s first held → came ≡ Ok false → GrowsBy 1 before now

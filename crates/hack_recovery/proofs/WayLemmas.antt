@@ -14,13 +14,12 @@ never_false (Err f) is = λ e. cc
 pub tells_same : (t : Term) (r : Result Bool CallFault) → IfOk r (λ b. b ≡ true) → IfErr r (λ f. f ≡ Memory) → Tells t t r
 tells_same t (Ok true) is no_other = refl
 tells_same t (Ok false) is no_other = cc
-tells_same t (Err f) is no_other = no_other
+tells_same t (Err f) is no_other = (no_other, refl)
 
--- where it isn't done, an error was reported
-pub told_false : (was now : Term) (r : Result Bool CallFault) → r ≡ Ok false → Tells was now r → now.error ≡ true
-told_false was now (Ok true) off h = cc
-told_false was now (Ok false) off h = h
-told_false was now (Err f) off h = cc
+-- where it is done, nothing was recorded
+pub told_still : (was now : Term) (done : Bool) → done ≡ true → Tells was now (Ok done) → now ≡ was
+told_still was now true on h = h
+told_still was now false on h = cc
 
 -- by a test of whether it is done
 pub not_done : (r : Result Bool CallFault) (b : Bool) → (IsTrue b ↔ (r ≡ Ok true)) → b ≡ false → r ≢ Ok true

@@ -56,3 +56,14 @@ pub data AsksForEdits (env : Env) (words : List Name) (does : Edits) (path : Opt
   parsed : (read : Parsed) (notes : List Note) → IsAnswer (around_of env Unasked) (ComesTo (around_of env Unasked) words) read notes
       → does ≡ edits_by read → path ≡ manifest_by read → AsksForEdits env words does path
   faulty : (told : Fault) → ComesTo (around_of env Unasked) words (Faulty told) → does ≡ edits.None → path ≡ None → AsksForEdits env words does path
+
+-- whether a parsed command line asks for more messages
+abbrev pub verbose_by : Parsed → Bool
+verbose_by (answer.Args args) = args.verbose
+verbose_by (answer.Print text) = false
+verbose_by answer.List = false
+
+-- whether a command line does; one that is refused doesn't
+pub data AsksVerbose (env : Env) (words : List Name) (verbose : Bool) : Type 0 where
+  parsed : (read : Parsed) (notes : List Note) → IsAnswer (around_of env Unasked) (ComesTo (around_of env Unasked) words) read notes → verbose ≡ verbose_by read → AsksVerbose env words verbose
+  faulty : (told : Fault) → ComesTo (around_of env Unasked) words (Faulty told) → verbose ≡ false → AsksVerbose env words verbose

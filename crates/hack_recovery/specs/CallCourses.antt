@@ -1,7 +1,9 @@
 -- The ways that a call can go.
 use Rattle.std.specs.Prelude.{◌≡◌, ◌⊎◌, ℕ, Bool, true, false, not, nat_eq, IsSome, List, None, Ok, Err, Option, Result, string_bytes}
+use Rattle.std.specs.Bool.{then_some}
 use Rattle.hack_base.specs.Counters.{GrowsBy}
 use Rattle.hack_base.specs.Names.{Name}
+use Rattle.hack_base.specs.Streams.{Stream}
 use Rattle.hack_files.specs.Files.{Contents, KeepsAll, KeepsAllBut, KeepsOthers, MakesOrNot, removes}
 use Rattle.hack_journal.specs.LockfilesApart.{KeepsOtherFiles}
 use Rattle.hack_journal.specs.Refusing.{AreJust, HoldsByKind, IsRefused, IsRefusedOrUnkept, IsUnseen}
@@ -15,7 +17,8 @@ use Rattle.hack_run.specs.LastingEdits.{LeavesAtMostEdits}
 use Rattle.hack_run.specs.Standing.{Between, EditsStand}
 use Rattle.hack_run.specs.TemporaryEdits.{BringsBack, IsClean, RestoresEdits}
 use Rattle.hack_run.specs.Refusals.{AreRefused, ReportsRefusal}
-use Rattle.hack_files.specs.View.{FilesView}
+use Rattle.hack_run.specs.Shown.{SaysCall, SaysCallOver, looks_of}
+use Rattle.hack_files.specs.View.{FilesView, files_view}
 use Rattle.hack_files.specs.declared.fs.Files.{Ghosts as Filing}
 use Rattle.hack_run.specs.Worlds.{IsStatus}
 use Rattle.hack_term.specs.declared.term.Term.{Term}
@@ -25,7 +28,8 @@ use Rattle.hack_recovery.specs.declared.admit.Way.TheVariants.{Plain, Guarded}
 use Rattle.hack_recovery.specs.declared.asked.Edits.{Edits}
 use Rattle.hack_recovery.specs.declared.asked.Edits.TheVariants as edits
 use Rattle.hack_recovery.specs.declared.fault.CallFault.{CallFault}
-use Rattle.hack_recovery.specs.AskedEdits.{AsksForEdits, is_change, is_restore}
+use Rattle.hack_recovery.specs.declared.fault.CallFault.TheVariants.{Memory}
+use Rattle.hack_recovery.specs.AskedEdits.{AsksForEdits, AsksVerbose, is_change, is_restore}
 use Rattle.hack_recovery.specs.Admission.{IsAdmitted}
 use Rattle.hack_places.specs.CallPlaces.{ArePlacesOf, PlacesAt, is_left}
 use Rattle.hack_places.specs.FileLooks.{Unchanged}
@@ -35,7 +39,9 @@ use Rattle.hack_recovery.specs.FailedFiles.{RefusesThese}
 use Rattle.hack_recovery.specs.GuardEvents.{GuardsView, after_leave, after_start}
 use Rattle.hack_recovery.specs.LockEvents.{LocksView, after_release}
 use Rattle.hack_recovery.specs.Restoring.{KeepsCopy, TakesBack, journal_spot}
-use Rattle.hack_recovery.specs.Scenes.{IsFailed, IsQuiet, OneMayFail, Scene, Untouched, scene_with, world_in}
+use Rattle.hack_recovery.specs.Scenes.{IsQuiet, IsToldWhy, OneMayFail, Refuses, Scene, Untouched, said_in, scene_with, world_in}
+use Rattle.hack_recovery.specs.Telling.{IsStarved, SaysUnrestored, SaysUnseen, SaysUnsure, SaysWatched, Warns}
+use Rattle.hack_recovery.specs.Texts.{copy_keeps, copy_left, copy_may_keep, journal_may_stay, journal_stays, stay_text}
 
 -- ---- the beginning
 
@@ -96,7 +102,15 @@ WasBetween {F} f held = (before : F) × (after : F) × Between f before after he
 abbrev pub WereBetween : {F L : Type 0} → Filing F → Filing L → Name → Contents → Type 0
 WereBetween {F} {L} f l journal held = (before : F) × (after : F) × (first : L) × (last : L) × BetweenBoth f l journal before after first last held
 
--- the call was performed without a journal: it meets what `run` promises of files, calls and reports; a path
+-- what `run` says of a call was said, over files that are as they were in these scenes
+pub record SaysCallIn {F : Type 0} (f : Filing F) (talks : Type 0) (words : List Name) (env : Env) (old new : Scene) : Type 0 where
+  pub before : F
+  pub after : F
+  pub first : files_view f before ≡ old.files
+  pub last : files_view f after ≡ new.files
+  pub said : SaysCall f before after talks words env (looks_of old.host.term) (looks_of new.host.term) (said_in old) (said_in new)
+
+-- the call was performed without a journal: it meets what `run` promises of files, calls, reports and lines; a path
 -- that doesn't hold what it held, or its edit where that stays, is one whose own write was refused
 pub record PerformsUnjournaled {F : Type 0} (f : Filing F) (talks : Type 0) (words : List Name) (env : Env) (old new : Scene) : Type 0 where
   pub refused : AreRefused env words → ReportsRefusal talks env old.host new.host
@@ -104,6 +118,7 @@ pub record PerformsUnjournaled {F : Type 0} (f : Filing F) (talks : Type 0) (wor
   pub traced : new.host.term.error ≡ false → talks → f.whole → IsChangeTrace f.tells words env (world_in old) (world_in new)
   pub stood : new.host.term.error ≡ false → EditsStand (WasBetween f) f.tells talks words env old.files.held old.host.calls
   pub made : talks → IsCallTrace false f.tells words env (world_in old) (world_in new)
+  pub said : talks → SaysCallIn f talks words env old new
   pub back : RestoresEdits env words → f.tells → BringsBack old.files new.files
   pub spoilt : RestoresEdits env words → KeepsAllBut (RefusesThese f) f.tells old.files.held new.files.held
   pub lasting : LeavesAtMostEdits (RefusesThese f) f.tells talks words env old.host.calls old.files.held new.files.held
@@ -115,13 +130,16 @@ pub record PerformsUnjournaled {F : Type 0} (f : Filing F) (talks : Type 0) (wor
 
 -- the call was performed with a journal, and so many calls of files failed: it meets what
 -- `run_journaled` promises of these, so that no more failed than `f`, `l` and `u` count, and a path that
--- doesn't hold what it held is one whose own write was refused, or couldn't be kept
-pub record Journals {F L U : Type 0} (f : Filing F) (l : Filing L) (u : Noting U) (talks : Type 0) (words : List Name) (env : Env) (spot : Spot) (failed : ℕ) (old new : Scene) : Type 0 where
+-- doesn't hold what it held is one whose own write was refused, or couldn't be kept; what is said is said
+-- over the files with a journal, `j`
+pub record Journals {F L U J : Type 0} (f : Filing F) (l : Filing L) (u : Noting U) (j : Filing J) (talks : Type 0) (words : List Name) (env : Env) (spot : Spot) (failed : ℕ) (old new : Scene) : Type 0 where
   pub refused : AreRefused env words → ReportsRefusal talks env old.host new.host
   pub done : new.host.term.error ≡ false → talks → IsCallTrace true (f.tells × l.tells) words env
       (world_seen spot.journal old.files.held old.lockfiles.held 0 old.host) (world_seen spot.journal new.files.held new.lockfiles.held failed new.host)
   pub made : talks → IsCallTrace false (f.tells × l.tells) words env
       (world_seen spot.journal old.files.held old.lockfiles.held 0 old.host) (world_seen spot.journal new.files.held new.lockfiles.held failed new.host)
+  pub said : talks → SaysCallOver j (contents_seen spot.journal old.files.held old.lockfiles.held) (contents_seen spot.journal new.files.held new.lockfiles.held)
+      talks words env (looks_of old.host.term) (looks_of new.host.term) (said_in old) (said_in new)
   pub clean : new.host.term.error ≡ false → RestoresEdits env words → f.tells → l.tells
       → KeepsAll (contents_seen spot.journal old.files.held old.lockfiles.held) (contents_seen spot.journal new.files.held new.lockfiles.held)
   pub back : RestoresEdits env words → f.tells → l.tells
@@ -139,29 +157,29 @@ pub record Journals {F L U : Type 0} (f : Filing F) (l : Filing L) (u : Noting U
   pub locks : new.locks ≡ old.locks
   pub guards : new.guards ≡ old.guards
 
--- a warning was recorded, and an error besides where memory was refused for its text
-abbrev pub Warns : Term → Term → Type 0
-Warns was now = (now ≡ record was { warn = true }) ⊎ (now ≡ record was { warn = true; error = true })
-
 -- what is told of a copy that is as it was: that it stays; that it may, where a look at it failed; nothing where none is
--- there; or memory was refused for that, which is an error besides
-pub data IsCopyTold {F : Type 0} (f : Filing F) (copy : Name) (old new : FilesView) (was now : Term) : Type 0 where
-  there : Warns was now → GrowsBy 0 old.failed new.failed → (f.tells → IsSome (old.held copy)) → Unchanged f.tells f.whole old new → IsCopyTold f copy old new was now
-  unsure : Warns was now → GrowsBy 1 old.failed new.failed → IsUnseen f copy → Unchanged f.tells f.whole old new → IsCopyTold f copy old new was now
-  absent : now ≡ was → GrowsBy 0 old.failed new.failed → (f.tells → old.held copy ≡ None) → Unchanged f.tells f.whole old new → IsCopyTold f copy old new was now
-  lacking : now ≡ record was { warn = true; error = true } → OneMayFail old.failed new.failed → Unchanged f.tells f.whole old new → IsCopyTold f copy old new was now
+-- there; or memory was refused for that
+pub data IsCopyTold {F : Type 0} (f : Filing F) (copy : Name) (old new : FilesView) (was now : Term) (err now_err : Stream) : Type 0 where
+  there : Warns (stay_text copy copy_keeps None) was now err now_err → GrowsBy 0 old.failed new.failed → (f.tells → IsSome (old.held copy)) → Unchanged f.tells f.whole old new → IsCopyTold f copy old new was now err now_err
+  unsure : Warns (stay_text copy copy_may_keep None) was now err now_err → GrowsBy 1 old.failed new.failed → IsUnseen f copy → Unchanged f.tells f.whole old new → IsCopyTold f copy old new was now err now_err
+  absent : now ≡ was → now_err ≡ err → GrowsBy 0 old.failed new.failed → (f.tells → old.held copy ≡ None) → Unchanged f.tells f.whole old new → IsCopyTold f copy old new was now err now_err
+  lacking : IsStarved was now err now_err → OneMayFail old.failed new.failed → Unchanged f.tells f.whole old new → IsCopyTold f copy old new was now err now_err
 
 -- after it no file is at the journal's path, and the lockfile's copy is gone; or one of them stays, or
 -- a look at the journal failed, which is reported as a warning, and so is memory that was refused for it,
--- which is an error besides; the copy is as it was where a journal stays or the lockfile may be unwritten
-pub data IsJournalClosed {F : Type 0} (f : Filing F) (places : PlacesAt) (unwritten : Bool) (old new : FilesView) (was now : Term) : Type 0 where
-  gone : unwritten ≡ false → now ≡ was → GrowsBy 0 old.failed new.failed → (f.tells → old.held places.journal ≡ None) → (f.tells → new.held places.copy ≡ None) → IsJournalClosed f places unwritten old new was now
-  stays : Warns was now → GrowsBy 0 old.failed new.failed → (f.tells → IsSome (old.held places.journal)) → Unchanged f.tells f.whole old new → IsJournalClosed f places unwritten old new was now
-  unseen : Warns was now → GrowsBy 1 old.failed new.failed → IsUnseen f places.journal → Unchanged f.tells f.whole old new → IsJournalClosed f places unwritten old new was now
-  starved : now ≡ record was { warn = true; error = true } → OneMayFail old.failed new.failed → Unchanged f.tells f.whole old new → IsJournalClosed f places unwritten old new was now
-  copy_stays : unwritten ≡ false → Warns was now → GrowsBy 1 old.failed new.failed → IsRefused f places.copy → (f.tells → old.held places.journal ≡ None) → IsJournalClosed f places unwritten old new was now
-  copy_kept : (mid : FilesView) → unwritten ≡ true → GrowsBy 0 old.failed mid.failed → (f.tells → old.held places.journal ≡ None) → Unchanged f.tells f.whole old mid → IsCopyTold f places.copy mid new was now
-      → IsJournalClosed f places unwritten old new was now
+-- which is an error besides; the copy is as it was, and told, where a journal stays or the lockfile may be
+-- unwritten
+pub data IsJournalClosed {F : Type 0} (f : Filing F) (places : PlacesAt) (unwritten : Bool) (old new : FilesView) (was now : Term) (err now_err : Stream) : Type 0 where
+  gone : unwritten ≡ false → now ≡ was → now_err ≡ err → GrowsBy 0 old.failed new.failed → (f.tells → old.held places.journal ≡ None) → (f.tells → new.held places.copy ≡ None) → IsJournalClosed f places unwritten old new was now err now_err
+  stays : Warns (stay_text places.journal journal_stays (then_some unwritten places.copy)) was now err now_err → GrowsBy 0 old.failed new.failed → (f.tells → IsSome (old.held places.journal)) → Unchanged f.tells f.whole old new
+      → IsJournalClosed f places unwritten old new was now err now_err
+  unseen : Warns (stay_text places.journal journal_may_stay (then_some unwritten places.copy)) was now err now_err → GrowsBy 1 old.failed new.failed → IsUnseen f places.journal → Unchanged f.tells f.whole old new
+      → IsJournalClosed f places unwritten old new was now err now_err
+  starved : IsStarved was now err now_err → OneMayFail old.failed new.failed → Unchanged f.tells f.whole old new → IsJournalClosed f places unwritten old new was now err now_err
+  copy_stays : unwritten ≡ false → Warns (stay_text places.copy copy_left None) was now err now_err → GrowsBy 1 old.failed new.failed → IsRefused f places.copy → (f.tells → old.held places.journal ≡ None)
+      → IsJournalClosed f places unwritten old new was now err now_err
+  copy_kept : (mid : FilesView) → unwritten ≡ true → GrowsBy 0 old.failed mid.failed → (f.tells → old.held places.journal ≡ None) → Unchanged f.tells f.whole old mid → IsCopyTold f places.copy mid new was now err now_err
+      → IsJournalClosed f places unwritten old new was now err now_err
 
 -- after it no other file than the lockfile's copy is changed, and what stays was reported
 pub record Closes {F : Type 0} (f : Filing F) (places : PlacesAt) (unwritten : Bool) (old new : Scene) : Type 0 where
@@ -169,81 +187,84 @@ pub record Closes {F : Type 0} (f : Filing F) (places : PlacesAt) (unwritten : B
   pub made : f.whole → MakesOrNot (removes places.copy) old.files.trace new.files.trace old.files.held new.files.held
   pub lockfiles : new.lockfiles ≡ old.lockfiles
   pub quiet : IsQuiet old new
-  pub told : IsJournalClosed f places unwritten old.files new.files old.host.term new.host.term
+  pub told : IsJournalClosed f places unwritten old.files new.files old.host.term new.host.term old.streams.err new.streams.err
 
 -- ---- the ways
 
 -- the call was performed with a journal, and what stays of it was reported; the lockfile's copy stays where a call of the
 -- lockfiles failed, since the lockfile may be unwritten
-pub record RunsOverJournal {F L U : Type 0} (f : Filing F) (l : Filing L) (u : Noting U) (talks : Type 0) (words : List Name) (env : Env) (places : PlacesAt) (old new : Scene) : Type 0 where
+pub record RunsOverJournal {F L U J : Type 0} (f : Filing F) (l : Filing L) (u : Noting U) (j : Filing J) (talks : Type 0) (words : List Name) (env : Env) (places : PlacesAt) (old new : Scene) : Type 0 where
   pub failed : ℕ
   pub last : Scene
-  pub journals : Journals f l u talks words env (journal_spot places) failed old last
+  pub journals : Journals f l u j talks words env (journal_spot places) failed old last
   pub closes : Closes f places (not (nat_eq old.lockfiles.failed last.lockfiles.failed)) last new
 
 -- how a call with a journal goes once its guard was asked for: the lockfile is copied, and then it is
 -- performed; or the lockfile can't be copied for this reason, and nothing else is changed or called
-pub data CopiesAndRuns {F L U : Type 0} (f : Filing F) (l : Filing L) (u : Noting U) (talks : Type 0) (words : List Name) (env : Env) (places : PlacesAt) (old new : Scene) : Type 0 where
-  copied : (at : Scene) → KeepsCopy f l places (Ok tt) old at → RunsOverJournal f l u talks words env places at new
-      → CopiesAndRuns f l u talks words env places old new
-  uncopied : (at : Scene) (fault : CallFault) → KeepsCopy f l places (Err fault) old at → new ≡ scene_with at.files new.host.term at → IsFailed new
-      → CopiesAndRuns f l u talks words env places old new
+pub data CopiesAndRuns {F L U J : Type 0} (f : Filing F) (l : Filing L) (u : Noting U) (j : Filing J) (talks : Type 0) (words : List Name) (env : Env) (places : PlacesAt) (old new : Scene) : Type 0 where
+  copied : (at : Scene) → KeepsCopy f l places (Ok tt) old at → RunsOverJournal f l u j talks words env places at new
+      → CopiesAndRuns f l u j talks words env places old new
+  uncopied : (at : Scene) (fault : CallFault) → KeepsCopy f l places (Err fault) old at → Refuses fault at new
+      → CopiesAndRuns f l u j talks words env places old new
 
 -- how a call with a journal goes: a guard of the workspace's folder is started, and whatever came of
 -- the call, it is left with the exit status, which is known once all is restored and what stays was
--- reported; nothing hangs on whether it came. Or memory was refused for its start
-pub data IsJournaledCall {F L U : Type 0} (f : Filing F) (l : Filing L) (u : Noting U) (talks watched : Type 0) (words : List Name) (env : Env) (places : PlacesAt) (old new : Scene) : Type 0 where
-  performed : (came : Bool) (status : ℕ) (guards last : GuardsView) (ran : Scene) → (watched → guards ≡ after_start places.folder came old.guards)
-      → CopiesAndRuns f l u talks words env places (record old { guards = guards }) ran
+-- reported; nothing hangs on whether it came, which is told where more is asked for. Or memory was refused
+-- for its start
+pub data IsJournaledCall {F L U J : Type 0} (f : Filing F) (l : Filing L) (u : Noting U) (j : Filing J) (talks watched : Type 0) (words : List Name) (env : Env) (places : PlacesAt) (old new : Scene) : Type 0 where
+  performed : (came verbose : Bool) (status : ℕ) (guards last : GuardsView) (err : Stream) (ran : Scene) → (watched → guards ≡ after_start places.folder came old.guards)
+      → AsksVerbose env words verbose → SaysWatched old.host.term.coloring came verbose old.streams.err err
+      → CopiesAndRuns f l u j talks words env places (record (scene_with old.files old.host.term err old) { guards = guards }) ran
       → IsStatus env.deny_warnings ran.host status → (watched → last ≡ after_leave status guards) → new ≡ record ran { guards = last }
-      → IsJournaledCall f l u talks watched words env places old new
-  unwatched : (guards : GuardsView) → (watched → guards ≡ old.guards) → new ≡ record (scene_with old.files new.host.term old) { guards = guards } → IsFailed new
-      → IsJournaledCall f l u talks watched words env places old new
+      → IsJournaledCall f l u j talks watched words env places old new
+  unwatched : (guards : GuardsView) → (watched → guards ≡ old.guards) → Refuses Memory (record old { guards = guards }) new
+      → IsJournaledCall f l u j talks watched words env places old new
 
 -- how a call is performed under its own lock, by what it does to manifests
-pub data Continues {F L U : Type 0} (f : Filing F) (l : Filing L) (u : Noting U) (talks records watched : Type 0) (words : List Name) (env : Env) (does : Edits) (places : PlacesAt) (old new : Scene) : Type 0 where
+pub data Continues {F L U J : Type 0} (f : Filing F) (l : Filing L) (u : Noting U) (j : Filing J) (talks records watched : Type 0) (words : List Name) (env : Env) (does : Edits) (places : PlacesAt) (old new : Scene) : Type 0 where
   -- nothing is to be edited: the lock is let go first, and there is no journal
   unedited : (locks : LocksView) → does ≡ edits.None → (records → locks ≡ after_release old.locks) → PerformsUnjournaled f talks words env (record old { locks = locks }) new
-      → Continues f l u talks records watched words env does places old new
+      → Continues f l u j talks records watched words env does places old new
   -- edits stay: there is no journal
-  permanent : does ≡ edits.Permanent → PerformsUnjournaled f talks words env old new → Continues f l u talks records watched words env does places old new
+  permanent : does ≡ edits.Permanent → PerformsUnjournaled f talks words env old new → Continues f l u j talks records watched words env does places old new
   -- edits come back: there is a journal
-  journaled : does ≡ edits.Temporary → IsJournaledCall f l u talks watched words env places old new → Continues f l u talks records watched words env does places old new
+  journaled : does ≡ edits.Temporary → IsJournaledCall f l u j talks watched words env places old new → Continues f l u j talks records watched words env does places old new
   -- what was left is restored: that is all
-  restored : does ≡ edits.Restore → new ≡ old → Continues f l u talks records watched words env does places old new
+  restored : does ≡ edits.Restore → new ≡ old → Continues f l u j talks records watched words env does places old new
 
 -- how a call goes under its own lock: what an interrupted call left is brought back before anything
 -- else is changed, and before anything is called
-pub data IsLockedCourse {F L U : Type 0} (f : Filing F) (l : Filing L) (u : Noting U) (talks records watched : Type 0) (words : List Name) (env : Env) (does : Edits) (places : PlacesAt) (old new : Scene) : Type 0 where
+pub data IsLockedCourse {F L U J : Type 0} (f : Filing F) (l : Filing L) (u : Noting U) (j : Filing J) (talks records watched : Type 0) (words : List Name) (env : Env) (does : Edits) (places : PlacesAt) (old new : Scene) : Type 0 where
   -- that can't be brought back: the call ends
-  ended : TakesBack f l env.by_guard places old new (Ok false) → IsFailed new → IsLockedCourse f l u talks records watched words env does places old new
+  ended : TakesBack f l env places old new (Ok false) → new.host.term.error ≡ true → IsLockedCourse f l u j talks records watched words env does places old new
   -- memory was refused meanwhile: the call ends
-  cut_short : (at : Scene) (fault : CallFault) → TakesBack f l env.by_guard places old at (Err fault)
-      → new ≡ scene_with at.files new.host.term at → IsFailed new → IsLockedCourse f l u talks records watched words env does places old new
+  cut_short : (at : Scene) (fault : CallFault) → TakesBack f l env places old at (Err fault) → Refuses fault at new
+      → IsLockedCourse f l u j talks records watched words env does places old new
   -- it is back: the call is performed
-  went_on : (at : Scene) → TakesBack f l env.by_guard places old at (Ok true) → Continues f l u talks records watched words env does places at new
-      → IsLockedCourse f l u talks records watched words env does places old new
+  went_on : (at : Scene) → TakesBack f l env places old at (Ok true) → Continues f l u j talks records watched words env does places at new
+      → IsLockedCourse f l u j talks records watched words env does places old new
 
 -- how a call goes
-pub data IsCallCourse {F L U : Type 0} (f : Filing F) (l : Filing L) (u : Noting U) (talks records watched : Type 0) (real : Name → Name) (words : List Name) (env : Env) (old new : Scene) : Type 0 where
+pub data IsCallCourse {F L U J : Type 0} (f : Filing F) (l : Filing L) (u : Noting U) (j : Filing J) (talks records watched : Type 0) (real : Name → Name) (words : List Name) (env : Env) (old new : Scene) : Type 0 where
   -- memory was refused before it began: nothing was changed or called, and at most one look failed
-  starved : Untouched f.tells f.whole old new → OneMayFail old.files.failed new.files.failed → new.locks ≡ old.locks → IsFailed new
-      → IsCallCourse f l u talks records watched real words env old new
+  starved : Untouched f.tells f.whole old new → OneMayFail old.files.failed new.files.failed → new.locks ≡ old.locks → IsToldWhy Memory old new
+      → IsCallCourse f l u j talks records watched real words env old new
   -- it isn't known whether an interrupted call left anything: a call that would change manifests ends
   -- with an error, and nothing was changed or called
-  blind : (does : Edits) → CannotSee f records real words env does old new → is_change does ≡ true → IsFailed new → IsCallCourse f l u talks records watched real words env old new
+  blind : (does : Edits) (cannot : CannotSee f records real words env does old new) → is_change does ≡ true → new.host.term ≡ record old.host.term { error = true }
+      → SaysUnseen old.host.term.coloring cannot.looked old.streams.err new.streams.err → IsCallCourse f l u j talks records watched real words env old new
   -- any other is performed without a journal, after a warning
-  warned : (does : Edits) (at : Scene) → CannotSee f records real words env does old at → is_change does ≡ false → at.host.term ≡ record old.host.term { warn = true }
-      → PerformsUnjournaled f talks words env at new → IsCallCourse f l u talks records watched real words env old new
+  warned : (does : Edits) (at : Scene) (cannot : CannotSee f records real words env does old at) → is_change does ≡ false → at.host.term ≡ record old.host.term { warn = true }
+      → SaysUnsure old.host.term.coloring cannot.looked old.streams.err at.streams.err → PerformsUnjournaled f talks words env at new → IsCallCourse f l u j talks records watched real words env old new
   -- another call has the lock, there is none, or memory was refused: nothing was changed or called
-  turned_away : (does : Edits) (places : PlacesAt) (fault : CallFault) → DecidesHowToGoOn f.tells f.whole records real words env does places old new (Err fault) → IsFailed new
-      → IsCallCourse f l u talks records watched real words env old new
+  turned_away : (does : Edits) (places : PlacesAt) (fault : CallFault) → DecidesHowToGoOn f.tells f.whole records real words env does places old new (Err fault) → IsToldWhy fault old new
+      → IsCallCourse f l u j talks records watched real words env old new
   -- it is to restore, and nothing is left, or another call has the lock: nothing was changed or called
-  unrestored : (does : Edits) (places : PlacesAt) → DecidesHowToGoOn f.tells f.whole records real words env does places old new (Ok Plain) → is_restore does ≡ true → new.host.term ≡ old.host.term
-      → IsCallCourse f l u talks records watched real words env old new
+  unrestored : (does : Edits) (places : PlacesAt) (decides : DecidesHowToGoOn f.tells f.whole records real words env does places old new (Ok Plain)) → is_restore does ≡ true → new.host.term ≡ old.host.term
+      → SaysUnrestored old.host.term.coloring env.by_guard decides.left old.streams.err new.streams.err → IsCallCourse f l u j talks records watched real words env old new
   -- nothing is to be guarded, or nothing can be: the call is performed without a journal
   without_journal : (does : Edits) (places : PlacesAt) (at : Scene) → DecidesHowToGoOn f.tells f.whole records real words env does places old at (Ok Plain) → is_restore does ≡ false
-      → at.host.term ≡ old.host.term → PerformsUnjournaled f talks words env at new → IsCallCourse f l u talks records watched real words env old new
+      → at.host.term ≡ old.host.term → at.streams ≡ old.streams → PerformsUnjournaled f talks words env at new → IsCallCourse f l u j talks records watched real words env old new
   -- the lock is this call's
   under_its_lock : (does : Edits) (places : PlacesAt) (at : Scene) → DecidesHowToGoOn f.tells f.whole records real words env does places old at (Ok Guarded) → at.host.term ≡ old.host.term
-      → IsLockedCourse f l u talks records watched words env does places at new → IsCallCourse f l u talks records watched real words env old new
+      → at.streams ≡ old.streams → IsLockedCourse f l u j talks records watched words env does places at new → IsCallCourse f l u j talks records watched real words env old new

@@ -1,10 +1,13 @@
 -- What a whole call starts side by side, and over which files.
-use Rattle.std.specs.Prelude.{◌≡◌, ◌⊎◌, Bool, List, Ok, Option, false}
+use Rattle.std.specs.Prelude.{◌≡◌, ◌⊎◌, Bool, List, Ok, Option, false, not}
 use Rattle.hack_base.specs.Names.{Name, names_of}
 use Rattle.hack_files.specs.declared.fs.Files.{Ghosts as Filing}
 use Rattle.hack_journaled.specs.Journals.{contents_seen}
+use Rattle.hack_files.specs.View.{files_view}
 use Rattle.hack_process.specs.Calls.{Call}
+use Rattle.hack_process.specs.declared.caller.Caller.{Ghosts as Calling}
 use Rattle.hack_run.specs.Lanes.{IsLaneCall}
+use Rattle.hack_run.specs.declared.host.Host.{Host}
 use Rattle.hack_start.specs.Started.{GivesStart}
 use Rattle.hack_start.specs.SystemView.{SystemView}
 use Rattle.hack_start.specs.declared.started.Started.{Started}
@@ -26,8 +29,8 @@ module _ {F L S : Type 0} (f : Filing F) (l : Filing L) (did : List Event → S 
   -- restore, and nothing was started.
   pub data CallsInLanes (restores : Type 0) (done : Bool) (words : List Name) (env : Env) (files : Both) (old new : S) : Type 0 where
     unperformed : (done ≡ false) ⊎ restores → new ≡ old → CallsInLanes restores done words env files old new
-    plain : (at : Both) → GetReady f l env.by_guard files at → IsLaneCall did course talks calls done f.tells words env at.0.held old new → CallsInLanes restores done words env files old new
-    over_journal : (at : Both) (journal : Name) → GetReady f l env.by_guard files at
+    plain : (at : Both) → GetReady f l env files at → IsLaneCall did course talks calls done f.tells words env at.0.held old new → CallsInLanes restores done words env files old new
+    over_journal : (at : Both) (journal : Name) → GetReady f l env files at
         → IsLaneCall did course talks calls done (f.tells × l.tells) words env (contents_seen journal at.0.held at.1.held) old new → CallsInLanes restores done words env files old new
 
   -- arguments and environment were read, and the call with these went so; or they weren't, and nothing was
@@ -37,3 +40,8 @@ module _ {F L S : Type 0} (f : Filing F) (l : Filing L) (did : List Event → S 
         → CallsInLanes (AsksToRestore started.env (names_of started.words.items)) done (names_of started.words.items) started.env files old new
         → ProgramCallsInLanes informs system done files old new
     unread : done ≡ false → new ≡ old → ProgramCallsInLanes informs system done files old new
+
+-- the same of a host over such files, with what it asks for
+abbrev pub HostInLanes : {F L C O E : Type 0} → Filing F → Filing L → (List Event → C → C → Type 0) → Calling C → Type 0 → List Name → F → L → Host C O E → Host C O E → Type 0
+HostInLanes f l did c restores words files lockfiles old new =
+    CallsInLanes f l did c.course c.tells c.calls restores (not new.term.now.error) words old.env.now (files_view f files, files_view l lockfiles) old.caller.now new.caller.now

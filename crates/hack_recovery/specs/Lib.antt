@@ -7,10 +7,10 @@ pub mod Admission
 pub mod Scenes
 pub mod FailedFiles
 pub mod Restoring
+pub mod Texts
 pub mod Telling
 pub mod CallCourses
 pub mod ProgramCalls
 pub mod Ready
 pub mod LaneCalls
 pub mod InternalHalts
-pub mod ShownCalls

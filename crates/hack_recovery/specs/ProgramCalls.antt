@@ -8,9 +8,8 @@ use Rattle.hack_journal.specs.declared.unkept.Unkept.{Ghosts as Noting}
 use Rattle.hack_process.specs.declared.caller.Caller.{Ghosts as Calling}
 use Rattle.hack_run.specs.CallTrace.{colored_by}
 use Rattle.hack_files.specs.View.{files_view}
-use Rattle.hack_run.specs.Shown.{looks_of}
 use Rattle.hack_run.specs.Worlds.{IsStatus}
-use Rattle.hack_session.specs.StepEffects.{Scene as Said}
+use Rattle.hack_session.specs.StepOutput.{streams}
 use Rattle.hack_start.specs.Started.{GivesStart, SetsColoring, auto_coloring_of, start_fault_text}
 use Rattle.hack_start.specs.SystemView.{SystemView}
 use Rattle.hack_start.specs.declared.started.StartFault.{StartFault}
@@ -22,14 +21,13 @@ use Rattle.hack_words.specs.AskedColoring.{AsksColoring}
 use Rattle.hack_recovery.specs.CallCourses.{IsCallCourse}
 use Rattle.hack_recovery.specs.GuardEvents.{GuardsView}
 use Rattle.hack_recovery.specs.LockEvents.{LocksView}
-use Rattle.hack_recovery.specs.Scenes.{Scene}
-use Rattle.hack_recovery.specs.ShownCalls.{SaysWhole}
+use Rattle.hack_recovery.specs.Scenes.{Scene, scene_with}
 use Rattle.hack_recovery.specs.declared.call.Outside.{Outside}
 
 -- what a call sees and changes
-abbrev pub scene_outside : {F L U C O E : Type 0} → Filing F → Filing L → Noting U → Calling C → Taking O → F → L → U
+abbrev pub scene_outside : {F L U C O E : Type 0} → Filing F → Filing L → Noting U → Calling C → Taking O → Taking E → F → L → U
     → LocksView → GuardsView → Outside C O E → Scene
-scene_outside f l u c o files lockfiles unkept locks guards outside = record {
+scene_outside f l u c o e files lockfiles unkept locks guards outside = record {
   files = files_view f files;
   lockfiles = files_view l lockfiles;
   unkept = u.told unkept;
@@ -41,6 +39,7 @@ scene_outside f l u c o files lockfiles unkept locks guards outside = record {
     term = outside.term.now;
     fails = outside.fails;
   };
+  streams = streams o e outside.out.now outside.err.now;
 }
 
 -- its references are still the same
@@ -62,19 +61,18 @@ colored coloring term = record term { coloring = coloring }
 -- Arguments and environment were read, and the call was performed with them, on a terminal that is
 -- coloured as they ask, and as it was where they ask for nothing. Or an error says why
 -- they could not be read: its line was written to `err`, or a front of it, and a failure counted for
--- that; and nothing else was done. What is said over files with a journal is said over `j`.
+-- that; and nothing else was done.
 pub data IsProgramCall {F L U J : Type 0} (f : Filing F) (l : Filing L) (u : Noting U) (j : Filing J) (informs talks records watched : Type 0) (real : Name → Name) (system : SystemView)
-    (is_terminal : Bool) (before after : Said) (old new : Scene) (status : ℕ) : Type 0 where
+    (is_terminal : Bool) (old new : Scene) (status : ℕ) : Type 0 where
   performed : (started : Started) (coloring asked : Coloring) → GivesStart informs system (Ok started)
       → (informs → SetsColoring (auto_coloring_of is_terminal system) old.host.term.coloring coloring (Ok started))
       → AsksColoring (optional_text started.env.term_color) (names_of started.words.items) asked
       → IsStatus started.env.deny_warnings new.host status
-      → IsCallCourse f l u talks records watched real (names_of started.words.items) started.env
+      → IsCallCourse f l u j talks records watched real (names_of started.words.items) started.env
       (scene_on (colored (colored_by asked coloring) old.host.term) old) new
-      → (talks → SaysWhole f l j talks (names_of started.words.items) started.env (old.files, old.lockfiles) (new.files, new.lockfiles) (looks_of (colored (colored_by asked coloring) old.host.term)) (looks_of new.host.term) before after)
-      → IsProgramCall f l u j informs talks records watched real system is_terminal before after old new status
+      → IsProgramCall f l u j informs talks records watched real system is_terminal old new status
   unread : (fault : StartFault) (coloring : Coloring) → GivesStart informs system (Err fault)
       → (informs → SetsColoring (auto_coloring_of is_terminal system) old.host.term.coloring coloring (Err fault))
-      → WritesText (error_line coloring (start_fault_text fault)) before.streams.err after.streams.err → after.streams.out ≡ before.streams.out
-      → new ≡ scene_on (record (colored coloring old.host.term) { error = true }) old → status ≡ 1
-      → IsProgramCall f l u j informs talks records watched real system is_terminal before after old new status
+      → WritesText (error_line coloring (start_fault_text fault)) old.streams.err new.streams.err
+      → new ≡ scene_with old.files (record (colored coloring old.host.term) { error = true }) new.streams.err old → status ≡ 1
+      → IsProgramCall f l u j informs talks records watched real system is_terminal old new status

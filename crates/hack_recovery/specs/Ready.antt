@@ -1,11 +1,12 @@
 -- How files come to be what a call is performed over.
-use Rattle.std.specs.Prelude.{◌≡◌, Bool, Ok, true}
+use Rattle.std.specs.Prelude.{◌≡◌, Ok, true}
 use Rattle.hack_files.specs.View.{FilesView}
 use Rattle.hack_files.specs.declared.fs.Files.{Ghosts as Filing}
 use Rattle.hack_places.specs.CallPlaces.{PlacesAt}
 use Rattle.hack_places.specs.FileLooks.{Unchanged}
 use Rattle.hack_recovery.specs.Restoring.{KeepsCopy, TakesBack}
 use Rattle.hack_recovery.specs.Scenes.{Scene}
+use Rattle.hack_words.specs.declared.cli.env.Env.{Env}
 
 -- the files, and the lockfiles
 abbrev pub Both : Type 0
@@ -16,8 +17,8 @@ both_in scene = (scene.files, scene.lockfiles)
 
 -- how files come to be what a call is performed over: they are only looked at, what an interrupted call
 -- left is taken back, the lockfile is copied, or one of these follows the other
-pub data GetReady {F L : Type 0} (f : Filing F) (l : Filing L) (by_guard : Bool) : Both → Both → Type 0 where
-  looked_at : {old new : Both} → Unchanged f.tells f.whole old.0 new.0 → new.1 ≡ old.1 → GetReady f l by_guard old new
-  taken_back : {old new : Both} → (places : PlacesAt) (first last : Scene) → TakesBack f l by_guard places first last (Ok true) → both_in first ≡ old → both_in last ≡ new → GetReady f l by_guard old new
-  copied : {old new : Both} → (places : PlacesAt) (first last : Scene) → KeepsCopy f l places (Ok tt) first last → both_in first ≡ old → both_in last ≡ new → GetReady f l by_guard old new
-  further : {old new : Both} → (mid : Both) → GetReady f l by_guard old mid → GetReady f l by_guard mid new → GetReady f l by_guard old new
+pub data GetReady {F L : Type 0} (f : Filing F) (l : Filing L) (env : Env) : Both → Both → Type 0 where
+  looked_at : {old new : Both} → Unchanged f.tells f.whole old.0 new.0 → new.1 ≡ old.1 → GetReady f l env old new
+  taken_back : {old new : Both} → (places : PlacesAt) (first last : Scene) → TakesBack f l env places first last (Ok true) → both_in first ≡ old → both_in last ≡ new → GetReady f l env old new
+  copied : {old new : Both} → (places : PlacesAt) (first last : Scene) → KeepsCopy f l places (Ok tt) first last → both_in first ≡ old → both_in last ≡ new → GetReady f l env old new
+  further : {old new : Both} → (mid : Both) → GetReady f l env old mid → GetReady f l env mid new → GetReady f l env old new

@@ -1,8 +1,9 @@
 -- What becomes of what an interrupted call left.
-use Rattle.std.specs.Prelude.{◌≡◌, ◌≢◌, ◌⊎◌, [], ℕ, Bool, true, false, IfErr, List, OnOk, Some, None, Ok, Err, Result}
+use Rattle.std.specs.Prelude.{◌≡◌, ◌≢◌, ◌⊎◌, [], ℕ, Bool, true, false, IfErr, List, OnOk, Some, None, Ok, Err, Result, string_bytes}
 use Rattle.std.specs.Option.{option_or}
 use Rattle.hack_base.specs.Counters.{GrowsBy}
 use Rattle.hack_base.specs.Names.{Name}
+use Rattle.hack_base.specs.Streams.{Stream}
 use Rattle.hack_files.specs.Files.{Contents, KeepsAll, KeepsOthers, Makes, MakesOrNot, puts, removes}
 use Rattle.hack_files.specs.declared.fs.Files.{Ghosts as Filing}
 use Rattle.hack_journal.specs.Recovery.{CountsRecoverFault, IsJournalRefusal, IsRestored, IsWhy, IsWhyUnread, SparesOthers}
@@ -14,12 +15,14 @@ use Rattle.hack_journal.specs.Strangers.{NamesNone, NamesStranger}
 use Rattle.hack_journal.specs.declared.recover.RecoverFault.{RecoverFault}
 use Rattle.hack_journal.specs.declared.recover.RecoverFault.TheVariants as unrecovered
 use Rattle.hack_files.specs.View.{FilesView}
+use Rattle.hack_term.specs.declared.term.Coloring.{Coloring}
 use Rattle.hack_term.specs.declared.term.Term.{Term}
+use Rattle.hack_words.specs.declared.cli.env.Env.{Env}
 use Rattle.hack_places.specs.CallPlaces.{PlacesAt}
 use Rattle.hack_places.specs.FileLooks.{Unchanged}
 use Rattle.hack_recovery.specs.FailedFiles.{IsOfFailedPath, OneFailedAt}
 use Rattle.hack_recovery.specs.Scenes.{IsQuiet, OneMayFail, Scene, scene_with}
-use Rattle.hack_recovery.specs.Telling.{Tells}
+use Rattle.hack_recovery.specs.Telling.{SaysFault, SaysRestored, SaysSettling, SaysStranger, SaysUncopied, Tells}
 use Rattle.hack_recovery.specs.declared.fault.CallFault.{CallFault}
 use Rattle.hack_recovery.specs.declared.fault.CallFault.TheVariants.{Memory, Busy, Unlocked, NoCopy}
 
@@ -52,40 +55,42 @@ abbrev pub IsToldAs : RecoverFault → Result Bool CallFault → Type 0
 IsToldAs unrecovered.Memory came = came ≡ Err Memory
 IsToldAs fault came = came ≢ Ok true
 
--- what came of bringing it back; either may not be reported, for want of memory
-pub data IsBroughtBack {F : Type 0} (f : Filing F) (spot : Spot) (old new : FilesView) (came : Result Bool CallFault) : Type 0 where
-  brought : (paths : List Name) → Recovers f.tells f.whole spot paths old new → came ≢ Ok false → IsBroughtBack f spot old new came
-  stopped : (fault : RecoverFault) → FailsToRestore f spot fault old new → IsToldAs fault came → IsBroughtBack f spot old new came
+-- what came of bringing it back, and a line for each path, or why it isn't back; memory may be refused for either
+pub data IsBroughtBack {F : Type 0} (f : Filing F) (spot : Spot) (dir : Name) (coloring : Coloring) (old new : FilesView) (err now_err : Stream) (came : Result Bool CallFault) : Type 0 where
+  brought : (paths : List Name) → Recovers f.tells f.whole spot paths old new → came ≢ Ok false → SaysRestored coloring dir paths came err now_err
+      → IsBroughtBack f spot dir coloring old new err now_err came
+  stopped : (fault : RecoverFault) → FailsToRestore f spot fault old new → IsToldAs fault came → SaysFault coloring fault came err now_err
+      → IsBroughtBack f spot dir coloring old new err now_err came
 
 -- what became of a journal: it can't be read, which is said of one that an interrupted call left only
 -- where a look at it failed; or it names a file that no call edits, as none does that such a call left,
 -- and nothing is changed; or it names none, and what it keeps was brought back. An error was reported
--- where it isn't back
-pub data Restores {F : Type 0} (f : Filing F) (spot : Spot) (old new : FilesView) (was now : Term) (came : Result Bool CallFault) : Type 0 where
+-- where it isn't back; paths are shown from the folder `dir`
+pub data Restores {F : Type 0} (f : Filing F) (spot : Spot) (dir : Name) (old new : FilesView) (was now : Term) (err now_err : Stream) (came : Result Bool CallFault) : Type 0 where
   unread : (fault : RecoverFault) → Unchanged f.tells f.whole old new → CountsRecoverFault old.failed new.failed fault → IsOfFailedPath f fault → IsWhyUnread spot f.tells old.held fault
       → (f.tells → (first : Contents) → IsSafeOrCut spot first old.held → came ≡ Ok false → GrowsBy 1 old.failed new.failed) → IsToldAs fault came → Tells was now came
-      → Restores f spot old new was now came
+      → SaysFault was.coloring fault came err now_err → Restores f spot dir old new was now err now_err came
   strange : (path : Name) → Unchanged f.tells f.whole old new → GrowsBy 0 old.failed new.failed → (f.tells → NamesStranger spot old.held path) → (f.tells → (first : Contents) → ¬ IsSafeOrCut spot first old.held) → came ≢ Ok true → Tells was now came
-      → Restores f spot old new was now came
-  trusted : (at : FilesView) → Unchanged f.tells f.whole old at → GrowsBy 0 old.failed at.failed → (f.tells → NamesNone spot old.held) → IsBroughtBack f spot at new came → Tells was now came
-      → Restores f spot old new was now came
+      → SaysStranger was.coloring spot.journal path came err now_err → Restores f spot dir old new was now err now_err came
+  trusted : (at : FilesView) → Unchanged f.tells f.whole old at → GrowsBy 0 old.failed at.failed → (f.tells → NamesNone spot old.held) → IsBroughtBack f spot dir was.coloring at new err now_err came → Tells was now came
+      → Restores f spot dir old new was now err now_err came
 
 -- ---- the copy of the lockfile
 
 module _ {F L : Type 0} (f : Filing F) (l : Filing L) (places : PlacesAt) where
-  -- why it isn't copied: memory was refused, the lockfile was left unseen, or the write of the copy was
-  -- refused
-  abbrev pub IsWhyUncopied : ℕ → ℕ → CallFault → Type 0
-  IsWhyUncopied before now Memory = Unit {0}
-  IsWhyUncopied before now NoCopy = (GrowsBy 1 before now × IsUnseen l places.lockfile) ⊎ IsRefused f places.copy
-  IsWhyUncopied before now Busy = ⊥
-  IsWhyUncopied before now Unlocked = ⊥
+  -- why it isn't copied, also where memory was refused: the lockfile was left unseen, or the write of the
+  -- copy was refused
+  abbrev pub IsWhyUncopied : ℕ → ℕ → ℕ → ℕ → CallFault → Type 0
+  IsWhyUncopied before now first last Memory = (GrowsBy 1 first last × IsUnseen l places.lockfile) ⊎ (GrowsBy 1 before now × IsRefused f places.copy)
+  IsWhyUncopied before now first last NoCopy = (GrowsBy 1 first last × IsUnseen l places.lockfile) ⊎ (GrowsBy 1 before now × IsRefused f places.copy)
+  IsWhyUncopied before now first last Busy = ⊥
+  IsWhyUncopied before now first last Unlocked = ⊥
 
   -- the lockfile was copied, if there is one, no other file is changed, and no call failed; where it isn't
   -- done, there is a cause, and at most the copy is changed, and then it has what the lockfile holds
   pub record KeepsCopy (came : Result (Unit {0}) CallFault) (old new : Scene) : Type 0 where
     pub copied : OnOk came (f.tells → l.tells → new.files.held places.copy ≡ option_or (old.lockfiles.held places.lockfile) (old.files.held places.copy))
-    pub why : IfErr came (IsWhyUncopied old.lockfiles.failed new.lockfiles.failed)
+    pub why : IfErr came (IsWhyUncopied old.files.failed new.files.failed old.lockfiles.failed new.lockfiles.failed)
     pub others : f.tells → KeepsOthers places.copy old.files.held new.files.held
     pub counted : OnOk came (GrowsBy 0 old.files.failed new.files.failed × GrowsBy 0 old.lockfiles.failed new.lockfiles.failed)
     pub failed : OneMayFail old.files.failed new.files.failed × OneMayFail old.lockfiles.failed new.lockfiles.failed
@@ -93,27 +98,29 @@ module _ {F L : Type 0} (f : Filing F) (l : Filing L) (places : PlacesAt) where
         ⊎ ((bytes : Name) × (l.tells → old.lockfiles.held places.lockfile ≡ Some bytes) × MakesOrNot (puts places.copy bytes) old.files.trace new.files.trace old.files.held new.files.held)
     pub same : l.tells → KeepsAll old.lockfiles.held new.lockfiles.held
     pub host : new.host ≡ old.host
+    pub said : SaysUncopied old.host.term.coloring came old.streams.err new.streams.err
     pub quiet : IsQuiet old new
 
   -- the copy is gone, no other file is changed, and no call failed; the guard gives the lockfile what the
   -- copy has, and nobody else changes it. Whatever comes of it, the copy still has that or the lockfile has
   -- it; the lockfile holds what it held, or that, unless its own write was refused; and at most one call of
   -- each failed. Where it isn't done, one did, at the copy or at the lockfile
-  pub record Settles (by_guard : Bool) (old new : Scene) (came : Result Bool CallFault) : Type 0 where
+  pub record Settles (env : Env) (old new : Scene) (came : Result Bool CallFault) : Type 0 where
     pub gone : came ≡ Ok true → f.tells → new.files.held places.copy ≡ None
     pub counted : came ≡ Ok true → GrowsBy 0 old.files.failed new.files.failed × GrowsBy 0 old.lockfiles.failed new.lockfiles.failed
     pub why : came ≡ Ok false → OneFailedAt f places.copy old.files.failed new.files.failed ⊎ OneFailedAt l places.lockfile old.lockfiles.failed new.lockfiles.failed
     pub failed : OneMayFail old.files.failed new.files.failed × OneMayFail old.lockfiles.failed new.lockfiles.failed
     pub others : f.tells → KeepsOthers places.copy old.files.held new.files.held
     pub made : f.whole → MakesOrNot (removes places.copy) old.files.trace new.files.trace old.files.held new.files.held
-    pub given : came ≡ Ok true → by_guard ≡ true → f.tells → l.tells → (bytes : Name) → old.files.held places.copy ≡ Some bytes → new.lockfiles.held places.lockfile ≡ Some bytes
-    pub kept : by_guard ≡ true → f.tells → l.tells → (bytes : Name) → old.files.held places.copy ≡ Some bytes → (new.files.held places.copy ≡ Some bytes) ⊎ (new.lockfiles.held places.lockfile ≡ Some bytes)
+    pub given : came ≡ Ok true → env.by_guard ≡ true → f.tells → l.tells → (bytes : Name) → old.files.held places.copy ≡ Some bytes → new.lockfiles.held places.lockfile ≡ Some bytes
+    pub kept : env.by_guard ≡ true → f.tells → l.tells → (bytes : Name) → old.files.held places.copy ≡ Some bytes → (new.files.held places.copy ≡ Some bytes) ⊎ (new.lockfiles.held places.lockfile ≡ Some bytes)
     pub only : l.tells → (new.lockfiles.held places.lockfile ≡ old.lockfiles.held places.lockfile)
         ⊎ ((f.tells → new.lockfiles.held places.lockfile ≡ old.files.held places.copy) ⊎ IsRefused l places.lockfile)
-    pub left : by_guard ≡ false → l.tells → KeepsAll old.lockfiles.held new.lockfiles.held
+    pub left : env.by_guard ≡ false → l.tells → KeepsAll old.lockfiles.held new.lockfiles.held
     pub none : f.tells → old.files.held places.copy ≡ None → l.tells → KeepsAll old.lockfiles.held new.lockfiles.held
     pub apart : l.tells → KeepsOthers places.lockfile old.lockfiles.held new.lockfiles.held
     pub told : Tells old.host.term new.host.term came
+    pub said : SaysSettling f l places env.by_guard (string_bytes env.current_dir) old.host.term.coloring old.files new.files old.lockfiles new.lockfiles came old.streams.err new.streams.err
     pub quiet : IsQuiet old new
 
 -- ---- all of it
@@ -127,12 +134,12 @@ older_spot places = record { folder = places.older_folder; journal = places.olde
 
 -- what an interrupted call left is taken back: the journal first, then one of an older version, and
 -- then the lockfile's copy; it ends where one of these can't be
-pub data TakesBack {F L : Type 0} (f : Filing F) (l : Filing L) (by_guard : Bool) (places : PlacesAt) (old new : Scene) (came : Result Bool CallFault) : Type 0 where
-  unrestored : Restores f (journal_spot places) old.files new.files old.host.term new.host.term came → came ≢ Ok true → new ≡ scene_with new.files new.host.term old
-      → TakesBack f l by_guard places old new came
-  older_unrestored : (files : FilesView) (term : Term) → Restores f (journal_spot places) old.files files old.host.term term (Ok true)
-      → Restores f (older_spot places) files new.files term new.host.term came → came ≢ Ok true → new ≡ scene_with new.files new.host.term old
-      → TakesBack f l by_guard places old new came
-  settled : (files later : FilesView) (term after : Term) → Restores f (journal_spot places) old.files files old.host.term term (Ok true)
-      → Restores f (older_spot places) files later term after (Ok true) → Settles f l places by_guard (scene_with later after old) new came
-      → TakesBack f l by_guard places old new came
+pub data TakesBack {F L : Type 0} (f : Filing F) (l : Filing L) (env : Env) (places : PlacesAt) (old new : Scene) (came : Result Bool CallFault) : Type 0 where
+  unrestored : Restores f (journal_spot places) (string_bytes env.current_dir) old.files new.files old.host.term new.host.term old.streams.err new.streams.err came → came ≢ Ok true
+      → new ≡ scene_with new.files new.host.term new.streams.err old → TakesBack f l env places old new came
+  older_unrestored : (files : FilesView) (term : Term) (err : Stream) → Restores f (journal_spot places) (string_bytes env.current_dir) old.files files old.host.term term old.streams.err err (Ok true)
+      → Restores f (older_spot places) (string_bytes env.current_dir) files new.files term new.host.term err new.streams.err came → came ≢ Ok true
+      → new ≡ scene_with new.files new.host.term new.streams.err old → TakesBack f l env places old new came
+  settled : (files later : FilesView) (term after : Term) (err late : Stream) → Restores f (journal_spot places) (string_bytes env.current_dir) old.files files old.host.term term old.streams.err err (Ok true)
+      → Restores f (older_spot places) (string_bytes env.current_dir) files later term after err late (Ok true) → Settles f l places env (scene_with later after late old) new came
+      → TakesBack f l env places old new came

@@ -1,6 +1,7 @@
 -- What a call sees and changes.
 use Rattle.std.specs.Prelude.{◌≡◌, ◌⊎◌, ℕ, true}
 use Rattle.hack_base.specs.Counters.{GrowsBy}
+use Rattle.hack_base.specs.Streams.{Stream, WritesText}
 use Rattle.hack_base.specs.declared.writes.Sink.{Ghosts as Taking}
 use Rattle.hack_files.specs.declared.fs.Files.{Ghosts as Filing}
 use Rattle.hack_journal.specs.declared.unkept.Unkept.{Ghosts as Noting}
@@ -8,13 +9,18 @@ use Rattle.hack_process.specs.declared.caller.Caller.{Ghosts as Calling}
 use Rattle.hack_files.specs.View.{FilesView, files_view}
 use Rattle.hack_run.specs.Worlds.{HostView, World, host_view}
 use Rattle.hack_run.specs.declared.host.Host.{Host}
+use Rattle.hack_session.specs.StepEffects.{Scene as Said}
+use Rattle.hack_session.specs.StepOutput.{Streams, streams}
+use Rattle.hack_term.specs.Lines.{error_line}
 use Rattle.hack_term.specs.declared.term.Term.{Term}
 use Rattle.hack_places.specs.FileLooks.{Unchanged}
 use Rattle.hack_recovery.specs.GuardEvents.{GuardsView}
 use Rattle.hack_recovery.specs.LockEvents.{LocksView}
+use Rattle.hack_recovery.specs.Texts.{text_of_fault}
+use Rattle.hack_recovery.specs.declared.fault.CallFault.{CallFault}
 
 -- the files, the lockfiles, how often a journal told what it refuses on its own, the locks, the guards,
--- and the host
+-- the host, and its two streams
 pub record Scene : Type 0 where
   pub files : FilesView
   pub lockfiles : FilesView
@@ -22,22 +28,34 @@ pub record Scene : Type 0 where
   pub locks : LocksView
   pub guards : GuardsView
   pub host : HostView
+  pub streams : Streams
 
-abbrev pub scene_by : FilesView → FilesView → ℕ → LocksView → GuardsView → HostView → Scene
-scene_by files lockfiles unkept locks guards host = record { files = files; lockfiles = lockfiles; unkept = unkept; locks = locks; guards = guards; host = host }
+abbrev pub scene_by : FilesView → FilesView → ℕ → LocksView → GuardsView → HostView → Streams → Scene
+scene_by files lockfiles unkept locks guards host streams =
+    record { files = files; lockfiles = lockfiles; unkept = unkept; locks = locks; guards = guards; host = host; streams = streams }
 
-abbrev pub scene_of : {F L U C O E : Type 0} → Filing F → Filing L → Noting U → Calling C → Taking O → F → L → U
+-- that of a host, beside all else
+abbrev pub scene_beside : {C O E : Type 0} → Calling C → Taking O → Taking E → FilesView → FilesView → ℕ → LocksView → GuardsView → Host C O E → Scene
+scene_beside c o e files lockfiles unkept locks guards host =
+    scene_by files lockfiles unkept locks guards (host_view c o host) (streams o e host.out.now host.err.now)
+
+abbrev pub scene_of : {F L U C O E : Type 0} → Filing F → Filing L → Noting U → Calling C → Taking O → Taking E → F → L → U
     → LocksView → GuardsView → Host C O E → Scene
-scene_of f l u c o files lockfiles unkept locks guards host =
-    scene_by (files_view f files) (files_view l lockfiles) (u.told unkept) locks guards (host_view c o host)
+scene_of f l u c o e files lockfiles unkept locks guards host =
+    scene_beside c o e (files_view f files) (files_view l lockfiles) (u.told unkept) locks guards host
 
 -- what `run` sees of it
 abbrev pub world_in : Scene → World
 world_in scene = record { files = scene.files; host = scene.host }
 
--- a scene in which the files are these, and what was reported is this
-abbrev pub scene_with : FilesView → Term → Scene → Scene
-scene_with files term scene = record scene { files = files; host = record scene.host { term = term } }
+-- what was called and said in it
+abbrev pub said_in : Scene → Said
+said_in scene = record { calls = scene.host.calls; streams = scene.streams }
+
+-- a scene in which the files are these, and what was reported and said is this
+abbrev pub scene_with : FilesView → Term → Stream → Scene → Scene
+scene_with files term err scene =
+    record scene { files = files; host = record scene.host { term = term }; streams = record scene.streams { err = err } }
 
 -- one call of these files failed, or none
 abbrev pub OneMayFail : ℕ → ℕ → Type 0
@@ -48,6 +66,7 @@ OneMayFail old new = GrowsBy 0 old new ⊎ GrowsBy 1 old new
 pub record IsQuiet (old new : Scene) : Type 0 where
   pub calls : new.host.calls ≡ old.host.calls
   pub out : new.host.out ≡ old.host.out
+  pub stdout : new.streams.out ≡ old.streams.out
   pub fails : new.host.fails ≡ old.host.fails
   pub unkept : new.unkept ≡ old.unkept
   pub locks : new.locks ≡ old.locks
@@ -61,8 +80,14 @@ pub record Untouched (tells whole : Type 0) (old new : Scene) : Type 0 where
   pub guards : new.guards ≡ old.guards
   pub calls : new.host.calls ≡ old.host.calls
   pub out : new.host.out ≡ old.host.out
+  pub stdout : new.streams.out ≡ old.streams.out
   pub fails : new.host.fails ≡ old.host.fails
 
--- an error was reported
-abbrev pub IsFailed : Scene → Type 0
-IsFailed new = new.host.term.error ≡ true
+-- why a call isn't performed was reported
+abbrev pub IsToldWhy : CallFault → Scene → Scene → Type 0
+IsToldWhy fault old new = (new.host.term ≡ record old.host.term { error = true })
+    × WritesText (error_line old.host.term.coloring (text_of_fault fault)) old.streams.err new.streams.err
+
+-- that was reported, and nothing else was done
+abbrev pub Refuses : CallFault → Scene → Scene → Type 0
+Refuses fault old new = IsToldWhy fault old new × (new ≡ scene_with old.files new.host.term new.streams.err old)

@@ -1,20 +1,164 @@
--- What is said of a step that may report an error.
-use Rattle.std.specs.Prelude.{◌≡◌, Bool, true, false, Result, Ok, Err, codes}
+-- What is said, and recorded, of a step that may report an error.
+use Rattle.std.specs.Prelude.{◌≡◌, ◌≢◌, ◌⊎◌, ◌<◌, ℕ, Bool, true, false, IfSome, List, MatchBool, None, Option, Some, Result, Ok, Err, codes, length, map, take}
+use Rattle.hack_base.specs.Counters.{GrowsBy}
+use Rattle.hack_base.specs.Names.{Name}
+use Rattle.hack_base.specs.Streams.{Stream, WritesAll, WritesText}
+use Rattle.hack_files.specs.Faults.{of_device}
+use Rattle.hack_files.specs.View.{FilesView}
+use Rattle.hack_files.specs.WriteBacks.{SaysReason}
+use Rattle.hack_files.specs.declared.fs.Files.{Ghosts as Filing}
+use Rattle.hack_journal.specs.Recovery.{unrecovered_text}
+use Rattle.hack_journal.specs.Refusing.{IsRefused, IsUnseen}
+use Rattle.hack_journal.specs.declared.recover.RecoverFault.{RecoverFault}
+use Rattle.hack_journal.specs.declared.recover.RecoverFault.TheVariants as unrecovered
+use Rattle.hack_places.specs.CallPlaces.{PlacesAt}
+use Rattle.hack_recovery.specs.FailedFiles.{OneFailedAt}
+use Rattle.hack_recovery.specs.Texts.{left_text, restored_text, row_text, short_unsure_text, stranger_text, unknown_text, unrestored_text, unseen_text, unsettled_text, unsure_text, unwatched_text}
 use Rattle.hack_recovery.specs.declared.fault.CallFault.{CallFault}
 use Rattle.hack_recovery.specs.declared.fault.CallFault.TheVariants.{Memory, Busy, Unlocked, NoCopy}
-use Rattle.hack_base.specs.Names.{Name}
+use Rattle.hack_term.specs.Lines.{error_line, info_line, warning_line}
+use Rattle.hack_term.specs.declared.term.Coloring.{Coloring}
 use Rattle.hack_term.specs.declared.term.Term.{Term}
 
--- nothing was recorded where it is done, and an error where it isn't; there is no other error than
--- that memory was refused
+-- nothing was recorded where it is done, and just an error where it isn't; there is no other fault than
+-- that memory was refused, which isn't recorded yet
 abbrev pub Tells : Term → Term → Result Bool CallFault → Type 0
 Tells was now (Ok true) = now ≡ was
-Tells was now (Ok false) = now.error ≡ true
-Tells was now (Err fault) = fault ≡ Memory
+Tells was now (Ok false) = now ≡ record was { error = true }
+Tells was now (Err fault) = (fault ≡ Memory) × (now ≡ was)
 
--- the text of an error
-abbrev pub text_of_fault : CallFault → Name
-text_of_fault Memory = codes "out of memory"
-text_of_fault Busy = codes "another call is editing the manifests of this workspace"
-text_of_fault Unlocked = codes "there is a journal of edited manifests, and the folder of the workspace can't be locked"
-text_of_fault NoCopy = codes "the lockfile can't be copied to where the journal lies"
+-- a line was said, unless memory was refused for it
+abbrev pub SaysOrStarves : {T : Type 0} → List ℕ → Result T CallFault → Stream → Stream → Type 0
+SaysOrStarves line (Ok done) old new = WritesText line old new
+SaysOrStarves line (Err fault) old new = new ≡ old
+
+-- ---- a journal
+
+-- what is said before the error of a journal: how to put back by hand what it tells, or why a file failed
+abbrev pub SaysWhy : Coloring → RecoverFault → Stream → Stream → Type 0
+SaysWhy coloring unrecovered.Memory old new = new ≡ old
+SaysWhy coloring (unrecovered.NotJournal j) old new = WritesText (info_line coloring row_text) old new
+SaysWhy coloring (unrecovered.Changed p j) old new = WritesText (info_line coloring row_text) old new
+SaysWhy coloring (unrecovered.Files f) old new = MatchBool (of_device f) (SaysReason coloring old new) (new ≡ old)
+
+-- its own line, unless memory was refused for it; of the text of a file's error nothing is known here
+abbrev pub SaysError : Coloring → RecoverFault → Result Bool CallFault → Stream → Stream → Type 0
+SaysError coloring fault (Ok true) old new = ⊥
+SaysError coloring fault (Ok false) old new = (text : Name) × IfSome (unrecovered_text fault) (λ known. text ≡ known) × WritesText (error_line coloring text) old new
+SaysError coloring fault (Err refused) old new = new ≡ old
+
+-- both, one after the other
+abbrev pub SaysFault : Coloring → RecoverFault → Result Bool CallFault → Stream → Stream → Type 0
+SaysFault coloring fault came old new = (mid : Stream) × SaysWhy coloring fault old mid × SaysError coloring fault came mid new
+
+-- the journal names a file that no call edits
+abbrev pub SaysStranger : Coloring → Name → Name → Result Bool CallFault → Stream → Stream → Type 0
+SaysStranger coloring journal path (Ok true) old new = ⊥
+SaysStranger coloring journal path (Ok false) old new =
+    (mid : Stream) × WritesText (info_line coloring row_text) old mid × WritesText (error_line coloring (stranger_text journal path)) mid new
+SaysStranger coloring journal path (Err refused) old new = new ≡ old
+
+-- the lines of files that were restored
+abbrev pub restored_lines : Coloring → Name → List Name → List (List ℕ)
+restored_lines coloring dir paths = map (λ path. info_line coloring (restored_text dir path)) paths
+
+-- these files were restored: a line for each, or the first of these lines, until memory was refused for the next
+abbrev pub SaysRestored : {T : Type 0} → Coloring → Name → List Name → Result T CallFault → Stream → Stream → Type 0
+SaysRestored coloring dir paths (Ok done) old new = WritesAll (restored_lines coloring dir paths) old new
+SaysRestored coloring dir paths (Err refused) old new = (k : ℕ) × (k < length paths) × WritesAll (restored_lines coloring dir (take k paths)) old new
+
+-- ---- the lockfile and its copy
+
+-- why it isn't copied: the system's words, where a file failed
+abbrev pub SaysUncopied : Coloring → Result (Unit {0}) CallFault → Stream → Stream → Type 0
+SaysUncopied coloring (Ok done) old new = new ≡ old
+SaysUncopied coloring (Err Memory) old new = new ≡ old
+SaysUncopied coloring (Err Busy) old new = ⊥
+SaysUncopied coloring (Err Unlocked) old new = ⊥
+SaysUncopied coloring (Err NoCopy) old new = SaysReason coloring old new
+
+-- a call at this path failed: the system's words, and the error, unless memory was refused for it
+abbrev pub SaysFailed : Coloring → Name → Result Bool CallFault → Stream → Stream → Type 0
+SaysFailed coloring path (Ok true) old new = ⊥
+SaysFailed coloring path (Ok false) old new =
+    (mid : Stream) × SaysReason coloring old mid × WritesText (error_line coloring (unsettled_text path)) mid new
+SaysFailed coloring path (Err refused) old new = SaysReason coloring old new
+
+-- a line is said just where a path doesn't hold these bytes
+pub data SaysIfOther (tells : Type 0) (held : Option (List ℕ)) (bytes line : List ℕ) (old new : Stream) : Type 0 where
+  other : (tells → held ≢ Some bytes) → WritesText line old new → SaysIfOther tells held bytes line old new
+  same : (tells → held ≡ Some bytes) → new ≡ old → SaysIfOther tells held bytes line old new
+
+-- nothing is said where it is done; else a call at this path failed, as `one` says of it, and that was said
+abbrev pub SaysIfNotDone : Type 0 → Coloring → Name → Result Bool CallFault → Stream → Stream → Type 0
+SaysIfNotDone one coloring path (Ok true) old new = new ≡ old
+SaysIfNotDone one coloring path (Ok false) old new = one × SaysFailed coloring path (Ok false) old new
+SaysIfNotDone one coloring path (Err fault) old new = one × SaysFailed coloring path (Err fault) old new
+
+-- such a call of these files failed, and that was said; or memory was refused for a line, and nothing was said
+abbrev pub SaysUnsettled : {F : Type 0} → Filing F → Coloring → Name → ℕ → ℕ → Result Bool CallFault → Stream → Stream → Type 0
+SaysUnsettled f coloring path before now came old new =
+    (OneFailedAt f path before now × SaysFailed coloring path came old new) ⊎ ((came ≡ Err Memory) × (new ≡ old))
+
+-- where it is done, this line is said of a lockfile, unless it held these bytes; else why it isn't
+abbrev pub SaysOfLockfile : {F : Type 0} → Filing F → Coloring → Name → List ℕ → List ℕ → FilesView → FilesView → Result Bool CallFault → Stream → Stream → Type 0
+SaysOfLockfile f coloring path bytes line was now (Ok true) old new = SaysIfOther f.tells (was.held path) bytes line old new
+SaysOfLockfile f coloring path bytes line was now (Ok false) old new = SaysUnsettled f coloring path was.failed now.failed (Ok false) old new
+SaysOfLockfile f coloring path bytes line was now (Err fault) old new = SaysUnsettled f coloring path was.failed now.failed (Err fault) old new
+
+-- what is said of a lockfile that isn't what its copy is: the guard restored it, and any other call left it
+abbrev pub lockfile_text : Bool → Name → Name → Name
+lockfile_text true dir path = restored_text dir path
+lockfile_text false dir path = left_text dir path
+
+-- What is said of a copy of the lockfile: nothing, where none is there; that a look at it failed; why the lockfile can't be
+-- looked at or written, and then the copy stays; or what became of the lockfile, and then that the copy can't be removed, if
+-- it can't.
+pub data SaysSettling {F L : Type 0} (f : Filing F) (l : Filing L) (places : PlacesAt) (by_guard : Bool) (dir : Name) (coloring : Coloring)
+    (files files_now lockfiles lockfiles_now : FilesView) (came : Result Bool CallFault) (old new : Stream) : Type 0 where
+  absent : (f.tells → files.held places.copy ≡ None) → came ≡ Ok true → new ≡ old
+      → SaysSettling f l places by_guard dir coloring files files_now lockfiles lockfiles_now came old new
+  unseen : GrowsBy 1 files.failed files_now.failed → IsUnseen f places.copy → SaysFailed coloring places.copy came old new
+      → SaysSettling f l places by_guard dir coloring files files_now lockfiles lockfiles_now came old new
+  unsettled : (bytes : List ℕ) → (f.tells → files.held places.copy ≡ Some bytes) → (f.tells → files_now.held places.copy ≡ Some bytes) → GrowsBy 0 files.failed files_now.failed
+      → SaysUnsettled l coloring places.lockfile lockfiles.failed lockfiles_now.failed came old new
+      → SaysSettling f l places by_guard dir coloring files files_now lockfiles lockfiles_now came old new
+  settled : (bytes : List ℕ) (mid : Stream) → (f.tells → files.held places.copy ≡ Some bytes) → GrowsBy 0 lockfiles.failed lockfiles_now.failed
+      → SaysIfOther l.tells (lockfiles.held places.lockfile) bytes (info_line coloring (lockfile_text by_guard dir places.lockfile)) old mid
+      → SaysIfNotDone (GrowsBy 1 files.failed files_now.failed × IsRefused f places.copy) coloring places.copy came mid new
+      → SaysSettling f l places by_guard dir coloring files files_now lockfiles lockfiles_now came old new
+
+-- ---- why a call isn't performed, or how
+
+-- a path can't be looked at: the system's words, and then its error, or, where memory was refused for that, one that says so
+abbrev pub SaysUnseen : Coloring → Name → Stream → Stream → Type 0
+SaysUnseen coloring path old new = (mid : Stream) × SaysReason coloring old mid
+    × (WritesText (error_line coloring (unseen_text path)) mid new ⊎ WritesText (error_line coloring (codes "out of memory")) mid new)
+
+-- the same, and then a warning, or, where memory was refused for that, one without the path
+abbrev pub SaysUnsure : Coloring → Name → Stream → Stream → Type 0
+SaysUnsure coloring path old new = (mid : Stream) × SaysReason coloring old mid
+    × (WritesText (warning_line coloring (unsure_text path)) mid new ⊎ WritesText (warning_line coloring short_unsure_text) mid new)
+
+-- why nothing is restored, by whether something is left; a guard says nothing, since nobody reads it
+abbrev pub SaysUnrestored : Coloring → Bool → Bool → Stream → Stream → Type 0
+SaysUnrestored coloring true left old new = new ≡ old
+SaysUnrestored coloring false left old new = WritesText (info_line coloring (unrestored_text left)) old new
+
+-- where no guard watches and more is asked for, that is said
+abbrev pub SaysWatched : Coloring → Bool → Bool → Stream → Stream → Type 0
+SaysWatched coloring true verbose old new = new ≡ old
+SaysWatched coloring false false old new = new ≡ old
+SaysWatched coloring false true old new = WritesText (info_line coloring unwatched_text) old new
+
+-- ---- what stays
+
+-- memory was refused for a warning: that is an error besides
+abbrev pub IsStarved : Term → Term → Stream → Stream → Type 0
+IsStarved was now old new = (now ≡ record was { warn = true; error = true })
+    × (mid : Stream) × WritesText (warning_line was.coloring unknown_text) old mid × WritesText (error_line was.coloring (codes "out of memory")) mid new
+
+-- it was warned of this, unless memory was refused for that
+abbrev pub Warns : Name → Term → Term → Stream → Stream → Type 0
+Warns text was now old new =
+    ((now ≡ record was { warn = true }) × WritesText (warning_line was.coloring text) old new) ⊎ IsStarved was now old new

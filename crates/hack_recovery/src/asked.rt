@@ -6,9 +6,8 @@ ghost use Rattle.hack_rules.specs.declared.fault.CliFault.TheVariants.{Memory};
 ghost use Rattle.hack_words.specs.Start.{wants_rustup as rustup_wanted};
 ghost use Rattle.hack_run.specs.Readings.{IsEarlyReading};
 ghost use Rattle.hack_run.specs.TemporaryEdits.{RestoresEdits};
-ghost use Rattle.hack_recovery.specs.AskedEdits.{AsksForEdits, edits_asked, edits_by, is_change};
-ghost use Rattle.hack_recovery.specs.AskedEdits.{is_edit};
-ghost use Rattle.hack_recovery.specs.AskedEdits.{manifest_by};
+ghost use Rattle.hack_recovery.specs.AskedEdits.{AsksForEdits, AsksVerbose, edits_asked, edits_by};
+ghost use Rattle.hack_recovery.specs.AskedEdits.{is_change, is_edit, manifest_by, verbose_by};
 
 use hack_base::copies::copy_of;
 use hack_run::reading::Reading;
@@ -84,6 +83,8 @@ impl Asked {
     pub fn of(alloc: Global, words: &[String], env: &Env) -> Result<Asked, AllocError>
         ensures asks { IfOk result (λ asked. AsksForEdits env.now (names_of words.now)
             asked.edits (optional_text asked.manifest_path)) }
+        ensures verbose { IfOk result (λ asked. AsksVerbose env.now (names_of words.now)
+            asked.verbose) }
         // Where edits come back, none is asked for that stays, whatever rustup answers.
         ensures back { IfOk result (λ asked. asked.edits ≡ Edits.Temporary
             → RestoresEdits env.now (names_of words.now)) }
@@ -137,7 +138,9 @@ fn edits_by(parsed: &Parsed) -> Edits
 }
 
 /// Whether a parsed command line asks for more messages.
-fn is_verbose(parsed: &Parsed) -> bool {
+fn is_verbose(parsed: &Parsed) -> bool
+    ensures { result ≡ verbose_by parsed.now }
+{
     match parsed {
         Parsed::Args(args) => args.verbose,
         Parsed::Print(_) | Parsed::List => false,

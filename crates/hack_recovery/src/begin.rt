@@ -6,6 +6,7 @@ ghost use Rattle.hack_base.specs.Counters.{GrowsBy};
 ghost use Rattle.hack_base.specs.Names.{names_of, optional_text};
 ghost use Rattle.hack_files.specs.Files.{KeepsAll, Makes};
 ghost use Rattle.hack_journal.specs.Rows.{spot_of};
+ghost use Rattle.hack_recovery.specs.AskedEdits.{AsksVerbose};
 ghost use Rattle.hack_recovery.specs.CallCourses.{ArePlacesFound, Begins, IsLookedAt};
 ghost use Rattle.hack_places.specs.FileLooks.{AreLooksCounted, AreLooksSeen, IsOfLooked};
 ghost use Rattle.hack_recovery.specs.InternalHalts.{IsHalt};
@@ -77,6 +78,8 @@ pub(crate) fn begin<F: Files, K: Locks>(
         (names_of words.now) env.now begun.edits (places_view begun.places) begun.is_left
         (files_view F.Files files.old)) }
     ensures place { IfOk result (λ begun. spot_of begun.place ≡ spot_of begun.places.place) }
+    ensures verbose { IfOk result (λ begun. AsksVerbose env.now (names_of words.now)
+        begun.verbose) }
     ensures reading { IfOk result (λ begun. IfSome begun.reading
         (IsEarlyReading env.now (names_of words.now))) }
     ensures counted { OnOk result (GrowsBy 0 (F.failed files.old) (F.failed files.new)) }

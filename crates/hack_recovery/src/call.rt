@@ -6,7 +6,6 @@ ghost use Rattle.hack_recovery.specs.LaneCalls.{ProgramCallsInLanes};
 ghost use Rattle.hack_recovery.specs.ProgramCalls.{IsProgramCall, IsSameOutside, colored};
 ghost use Rattle.hack_recovery.specs.ProgramCalls.{scene_outside};
 ghost use Rattle.hack_run.specs.CallTrace.{colored_by};
-ghost use Rattle.hack_run.specs.Shown.{scene_at};
 
 use crate::guards::Guards;
 use crate::keepers::Keepers;
@@ -71,13 +70,9 @@ pub fn call<
     ensures goes { IsProgramCall F.Files L.Files U.Unkept ⟦<Apart<Journaled<F, U>, L> as Files>⟧
         S.tells C.tells K.tells G.tells
         (K.real keepers.old.locks) (S.shown system.now) outside.old.is_terminal
-        (scene_at (C.calls outside.old.caller.now) O.Sink E.Sink
-        outside.old.out.now outside.old.err.now)
-        (scene_at (C.calls outside.new.caller.now) O.Sink E.Sink
-        outside.new.out.now outside.new.err.now)
-        (scene_outside F.Files L.Files U.Unkept C.Caller O.Sink files lockfiles unkept
+        (scene_outside F.Files L.Files U.Unkept C.Caller O.Sink E.Sink files lockfiles unkept
         (K.shown keepers.old.locks) (G.shown keepers.old.guards) outside.old)
-        (scene_outside F.Files L.Files U.Unkept C.Caller O.Sink result.1 result.2 result.3
+        (scene_outside F.Files L.Files U.Unkept C.Caller O.Sink E.Sink result.1 result.2 result.3
         (K.shown keepers.new.locks) (G.shown keepers.new.guards) outside.new) result.0 }
 
     // Commands were started by the rules of lanes alone, and none that was started is left.

@@ -1,7 +1,7 @@
 //! Why a call isn't performed.
 
 ghost use Rattle.std.specs.Prelude.{◌≡◌};
-ghost use Rattle.hack_recovery.specs.Telling.{text_of_fault};
+ghost use Rattle.hack_recovery.specs.Texts.{text_of_fault};
 
 use std::alloc::AllocError;
 

@@ -7,6 +7,7 @@ pub mod admit;
 pub mod asked;
 mod begin;
 pub mod call;
+mod closing;
 pub mod fault;
 pub mod guards;
 pub mod keepers;

@@ -4,10 +4,10 @@
 //! A guard acts at once, so it gives the lockfile back what the copy has. Any later call can't tell
 //! cargo's change from a person's, so it leaves the lockfile as it is.
 
-ghost use Rattle.std.specs.Prelude.{◌≡◌, ◌≢◌, ◌⊎◌, [], IfErr, None, Ok, OnOk, Some, false};
+ghost use Rattle.std.specs.Prelude.{◌≡◌, ◌≢◌, ◌⊎◌, [], Err, IfErr, None, Ok, OnOk, Some, false};
 ghost use Rattle.std.specs.Prelude.{string_bytes, true};
 ghost use Rattle.std.specs.Option.{option_or};
-ghost use Rattle.hack_base.specs.Streams.{WritesSome, stream_of};
+ghost use Rattle.hack_base.specs.Streams.{stream_of};
 ghost use Rattle.hack_base.specs.Counters.{GrowsBy};
 ghost use Rattle.hack_base.specs.Names.{Name};
 ghost use Rattle.hack_files.specs.Files.{CountsFailedCall, KeepsAll, KeepsOthers, Makes};
@@ -18,9 +18,12 @@ ghost use Rattle.hack_places.specs.PlacesView.{places_view};
 ghost use Rattle.hack_recovery.specs.FailedFiles.{OneFailedAt};
 ghost use Rattle.hack_recovery.specs.Restoring.{IsWhyUncopied};
 ghost use Rattle.hack_recovery.specs.Scenes.{OneMayFail};
-ghost use Rattle.hack_recovery.specs.ShownCalls.{TellsLines};
-ghost use Rattle.hack_recovery.specs.Telling.{Tells};
+ghost use Rattle.hack_recovery.specs.Telling.{SaysFailed, SaysIfNotDone, SaysOfLockfile};
+ghost use Rattle.hack_recovery.specs.Telling.{SaysSettling, SaysUncopied, Tells};
+ghost use Rattle.hack_recovery.specs.Texts.{left_text, restored_text};
+ghost use Rattle.hack_files.specs.View.{files_view};
 ghost use Rattle.hack_run.specs.Worlds.{IsSameHost, host_view};
+ghost use Rattle.hack_term.specs.Lines.{info_line};
 
 use crate::fault::CallFault;
 use crate::restore::tell_restored;
@@ -51,6 +54,7 @@ pub(crate) fn keep_copy<F: Files, L: Files, E: Sink>(
         ≡ option_or (L.bytes_at lockfiles.old (string_bytes places.now.lockfile))
         (F.bytes_at files.old (string_bytes places.now.copy))) }
     ensures why { IfErr result (IsWhyUncopied F.Files L.Files (places_view places.now)
+        (F.failed files.old) (F.failed files.new)
         (L.failed lockfiles.old) (L.failed lockfiles.new)) }
     ensures counted { OnOk result (GrowsBy 0 (F.failed files.old) (F.failed files.new)) }
     ensures lockfiles_counted { OnOk result
@@ -66,7 +70,8 @@ pub(crate) fn keep_copy<F: Files, L: Files, E: Sink>(
         × MakesOrNot (puts (string_bytes places.now.copy) bytes)
         (F.trace files.old) (F.trace files.new) (F.bytes_at files.old) (F.bytes_at files.new)) }
     ensures same { L.tells → KeepsAll (L.bytes_at lockfiles.old) (L.bytes_at lockfiles.new) }
-    ensures lines { WritesSome (stream_of E.Sink err.old) (stream_of E.Sink err.new) }
+    ensures said { SaysUncopied term.now.coloring result
+        (stream_of E.Sink err.old) (stream_of E.Sink err.new) }
 {
     match look(alloc, lockfiles, places.lockfile.as_str()) {
         Ok(None) => Ok(()),
@@ -87,7 +92,8 @@ fn copy_fault<F: Files, E: Sink>(
     err: &mut E,
 ) -> CallFault
     ensures fault { (result ≡ CallFault.Memory) ⊎ (result ≡ CallFault.NoCopy) }
-    ensures lines { WritesSome (stream_of E.Sink err.old) (stream_of E.Sink err.new) }
+    ensures said { SaysUncopied term.now.coloring (Err result)
+        (stream_of E.Sink err.old) (stream_of E.Sink err.new) }
 {
     match fault {
         FileFault::Memory => CallFault::Memory,
@@ -155,7 +161,10 @@ pub(crate) fn settle<F: Files, L: Files, C: Caller, O: Sink, E: Sink>(
         → L.tells → KeepsAll (L.bytes_at lockfiles.old) (L.bytes_at lockfiles.new) }
     ensures apart { L.tells → KeepsOthers (string_bytes places.now.lockfile)
         (L.bytes_at lockfiles.old) (L.bytes_at lockfiles.new) }
-    ensures lines { TellsLines host.old.term.now host.new.term.now
+    ensures said { SaysSettling F.Files L.Files (places_view places.now) host.old.env.now.by_guard
+        (string_bytes host.old.env.now.current_dir) host.old.term.now.coloring
+        (files_view F.Files files.old) (files_view F.Files files.new)
+        (files_view L.Files lockfiles.old) (files_view L.Files lockfiles.new) result
         (stream_of E.Sink host.old.err.now) (stream_of E.Sink host.new.err.now) }
     ensures still { (host.new.caller.now ≡ host.old.caller.now)
         × (host.new.out.now ≡ host.old.out.now) }
@@ -209,7 +218,11 @@ fn give_back<L: Files, C: Caller, O: Sink, E: Sink>(
     ensures failed { OneMayFail (L.failed lockfiles.old) (L.failed lockfiles.new) }
     ensures apart { L.tells → KeepsOthers (string_bytes places.now.lockfile)
         (L.bytes_at lockfiles.old) (L.bytes_at lockfiles.new) }
-    ensures lines { TellsLines host.old.term.now host.new.term.now
+    ensures said { SaysOfLockfile L.Files host.old.term.now.coloring
+        (string_bytes places.now.lockfile) bytes.now (info_line host.old.term.now.coloring
+        (restored_text (string_bytes host.old.env.now.current_dir)
+        (string_bytes places.now.lockfile)))
+        (files_view L.Files lockfiles.old) (files_view L.Files lockfiles.new) result
         (stream_of E.Sink host.old.err.now) (stream_of E.Sink host.new.err.now) }
     ensures still { (host.new.caller.now ≡ host.old.caller.now)
         × (host.new.out.now ≡ host.old.out.now) }
@@ -246,7 +259,11 @@ fn leave<L: Files, C: Caller, O: Sink, E: Sink>(
         (L.failed lockfiles.old) (L.failed lockfiles.new) }
     ensures failed { OneMayFail (L.failed lockfiles.old) (L.failed lockfiles.new) }
     ensures same { L.tells → KeepsAll (L.bytes_at lockfiles.old) (L.bytes_at lockfiles.new) }
-    ensures lines { TellsLines host.old.term.now host.new.term.now
+    ensures said { SaysOfLockfile L.Files host.old.term.now.coloring
+        (string_bytes places.now.lockfile) bytes.now (info_line host.old.term.now.coloring
+        (left_text (string_bytes host.old.env.now.current_dir)
+        (string_bytes places.now.lockfile)))
+        (files_view L.Files lockfiles.old) (files_view L.Files lockfiles.new) result
         (stream_of E.Sink host.old.err.now) (stream_of E.Sink host.new.err.now) }
     ensures still { (host.new.caller.now ≡ host.old.caller.now)
         × (host.new.out.now ≡ host.old.out.now) }
@@ -274,6 +291,9 @@ fn holds<F: Files>(
     files: &mut F,
 ) -> Result<bool, FileFault>
     ensures held { result ≡ Ok true → F.tells → F.bytes_at files.new path.now ≡ Some bytes.now }
+    ensures holds { result ≡ Ok true → F.tells → F.bytes_at files.old path.now ≡ Some bytes.now }
+    ensures other { result ≡ Ok false → F.tells
+        → F.bytes_at files.old path.now ≢ Some bytes.now }
     ensures counted { CountsFailedCall (F.failed files.old) (F.failed files.new) result }
     ensures unseen { FailsUnseenAt F.Files path.now files.old files.new result }
     ensures same { F.tells → KeepsAll (F.bytes_at files.old) (F.bytes_at files.new) }
@@ -301,7 +321,9 @@ fn drop_copy<F: Files, E: Sink>(
         (F.bytes_at files.old) (F.bytes_at files.new) }
     ensures made { F.whole → MakesOrNot (removes (string_bytes places.now.copy))
         (F.trace files.old) (F.trace files.new) (F.bytes_at files.old) (F.bytes_at files.new) }
-    ensures lines { TellsLines term.old term.new
+    ensures said { SaysIfNotDone (GrowsBy 1 (F.failed files.old) (F.failed files.new)
+        × IsRefused F.Files (string_bytes places.now.copy))
+        term.old.coloring (string_bytes places.now.copy) result
         (stream_of E.Sink err.old) (stream_of E.Sink err.new) }
 {
     let copy = places.copy.as_str();
@@ -322,7 +344,7 @@ fn tell_fault<F: Files, E: Sink>(
 ) -> Result<bool, CallFault>
     ensures told { Tells term.old term.new result }
     ensures never { result ≢ Ok true }
-    ensures lines { TellsLines term.old term.new
+    ensures said { SaysFailed term.old.coloring path.now result
         (stream_of E.Sink err.old) (stream_of E.Sink err.new) }
 {
     match fault {

@@ -1,34 +1,33 @@
 //! A whole call: what an interrupted one left is restored first, and what this one edits is kept in
 //! a journal meanwhile, under the eyes of a guard.
 
-ghost use Rattle.std.specs.Prelude.{◌≡◌, ◌↔◌, [], ℕ, IfSome, IsTrue, Ok, false, not, string_bytes};
+ghost use Rattle.std.specs.Prelude.{◌≡◌, ◌↔◌, ℕ, IfSome, IsTrue, Ok, false, not, string_bytes};
 ghost use Rattle.std.specs.Prelude.{true};
 ghost use Rattle.hack_base.specs.Names.{names_of};
-ghost use Rattle.hack_base.specs.Streams.{WritesSome, stream_of};
-ghost use Rattle.hack_files.specs.Files.{KeepsAll, KeepsOthers, Makes, MakesOrNot, removes};
+ghost use Rattle.hack_base.specs.Streams.{stream_of};
 ghost use Rattle.hack_journal.specs.Rows.{spot_of};
 ghost use Rattle.hack_journaled.specs.Journals.{contents_seen};
-ghost use Rattle.hack_recovery.specs.AskedEdits.{is_restore};
-ghost use Rattle.hack_recovery.specs.CallCourses.{Continues, IsCallCourse, IsJournalClosed};
+ghost use Rattle.hack_recovery.specs.AskedEdits.{AsksVerbose, is_restore};
+ghost use Rattle.hack_recovery.specs.CallCourses.{Continues, IsCallCourse, RunsOverJournal};
 ghost use Rattle.hack_recovery.specs.CallCourses.{CopiesAndRuns, IsJournaledCall, IsLockedCourse};
 ghost use Rattle.hack_recovery.specs.CallCourses.{PerformsUnjournaled};
-ghost use Rattle.hack_recovery.specs.CallCourses.{IsCopyTold, RunsOverJournal, Warns};
 ghost use Rattle.hack_recovery.specs.GuardEvents.{GuardsView};
-ghost use Rattle.hack_recovery.specs.LaneCalls.{AsksToRestore, CallsInLanes};
+ghost use Rattle.hack_recovery.specs.LaneCalls.{AsksToRestore, HostInLanes};
 ghost use Rattle.hack_recovery.specs.LockEvents.{LocksView};
 ghost use Rattle.hack_places.specs.PlacesView.{places_view};
 ghost use Rattle.hack_recovery.specs.Restoring.{TakesBack};
-ghost use Rattle.hack_recovery.specs.Scenes.{scene_by, scene_of};
-ghost use Rattle.hack_recovery.specs.ShownCalls.{EndsStarved, SaysWhole, TellsLines, TellsStaying};
+ghost use Rattle.hack_recovery.specs.Scenes.{Refuses, scene_beside, scene_of};
+ghost use Rattle.hack_recovery.specs.Telling.{SaysUnrestored, SaysWatched};
+ghost use Rattle.hack_recovery.specs.Texts.{unrestored_text as text_of_unrestored};
 ghost use Rattle.hack_run.specs.Lanes.{IsLaneCall};
 ghost use Rattle.hack_run.specs.Readings.{IsEarlyReading};
-ghost use Rattle.hack_run.specs.Shown.{SaysCall, looks_of, scene_on};
 ghost use Rattle.hack_files.specs.View.{FilesView, files_view};
 ghost use Rattle.hack_run.specs.Worlds.{IsSameHost, IsStatus, host_view};
 
 use crate::admit::{Way, admit};
 use crate::asked::Edits;
 use crate::begin::{Begun, Halt, begin};
+use crate::closing::close;
 use crate::fault::CallFault;
 use crate::guards::Guards;
 use crate::keepers::Keepers;
@@ -42,7 +41,6 @@ use hack_journal::apart::Apart;
 use hack_journal::journaled::Journaled;
 use hack_journal::unkept::Unkept;
 use hack_journaled::journaled::run_journaled;
-use hack_places::look::{LookFault, is_there};
 use hack_places::places::Places;
 use hack_process::process::Caller;
 use hack_run::host::Host;
@@ -50,7 +48,6 @@ use hack_run::reading::Reading;
 use hack_run::run::run;
 use hack_starts::starts::Starts;
 use hack_term::term::Term;
-use std::alloc::Global;
 
 /// Performs a call as `run` does, and returns its exit status, the files, the lockfiles and
 /// `unkept`. Before anything else it restores what an interrupted call left edited, unless another
@@ -79,27 +76,19 @@ pub fn perform<
     ensures host { IsSameHost host.old host.new }
     ensures status { IsStatus host.old.env.now.deny_warnings
         (host_view C.Caller O.Sink host.new) result.0 }
-    ensures goes { IsCallCourse F.Files L.Files U.Unkept C.tells K.tells G.tells
+    ensures goes { IsCallCourse F.Files L.Files U.Unkept
+        ⟦<Apart<Journaled<F, U>, L> as Files>⟧ C.tells K.tells G.tells
         (K.real keepers.old.locks) (names_of words.now) host.old.env.now
-        (scene_of F.Files L.Files U.Unkept C.Caller O.Sink files lockfiles unkept
+        (scene_of F.Files L.Files U.Unkept C.Caller O.Sink E.Sink files lockfiles unkept
         (K.shown keepers.old.locks) (G.shown keepers.old.guards) host.old)
-        (scene_of F.Files L.Files U.Unkept C.Caller O.Sink result.1 result.2 result.3
+        (scene_of F.Files L.Files U.Unkept C.Caller O.Sink E.Sink result.1 result.2 result.3
         (K.shown keepers.new.locks) (G.shown keepers.new.guards) host.new) }
 
-    // What `run` says of the call is said, if it is performed, and lines before and behind that.
-    ensures shown { C.tells → SaysWhole F.Files L.Files ⟦<Apart<Journaled<F, U>, L> as Files>⟧
-        C.tells (names_of words.now) host.old.env.now
-        (files_view F.Files files, files_view L.Files lockfiles)
-        (files_view F.Files result.1, files_view L.Files result.2)
-        (looks_of host.old.term.now) (looks_of host.new.term.now)
-        (scene_on C.Caller O.Sink E.Sink host.old) (scene_on C.Caller O.Sink E.Sink host.new) }
     // Commands were started by the rules of lanes alone, and none that was started is left; or the
     // call isn't performed, and nothing was started.
-    ensures in_lanes { CallsInLanes F.Files L.Files C.did C.course C.tells C.calls
-        (AsksToRestore host.old.env.now (names_of words.now)) (not host.new.term.now.error)
-        (names_of words.now) host.old.env.now
-        (files_view F.Files files, files_view L.Files lockfiles)
-        host.old.caller.now host.new.caller.now }
+    ensures in_lanes { HostInLanes F.Files L.Files C.did C.Caller
+        (AsksToRestore host.old.env.now (names_of words.now)) (names_of words.now)
+        files lockfiles host.old host.new }
 {
     let mut files = files;
     let begun = match begin(host.alloc, words, host.env, &mut files, &keepers.locks) {
@@ -136,9 +125,11 @@ fn report<C: Caller, O: Sink, E: Sink>(fault: CallFault, host: &mut Host<'_, C, 
         (host_view C.Caller O.Sink host.new) result }
     ensures view { host_view C.Caller O.Sink host.new
         ≡ record (host_view C.Caller O.Sink host.old) { term = host.new.term.now } }
-    ensures error { host.new.term.now.error ≡ true }
-    ensures lines { TellsLines host.old.term.now host.new.term.now
-        (stream_of E.Sink host.old.err.now) (stream_of E.Sink host.new.err.now) }
+    ensures noted { host.new.term.now ≡ record host.old.term.now { error = true } }
+    ensures refuses { (files lockfiles : FilesView) (unkept : ℕ)
+        (locks : LocksView) (guards : GuardsView) → Refuses fault
+        (scene_beside C.Caller O.Sink E.Sink files lockfiles unkept locks guards host.old)
+        (scene_beside C.Caller O.Sink E.Sink files lockfiles unkept locks guards host.new) }
     ensures still { (host.new.caller.now ≡ host.old.caller.now)
         × (host.new.out.now ≡ host.old.out.now) }
 {
@@ -161,46 +152,49 @@ fn plainly<F: Files, C: Starts, O: Sink, E: Sink>(
     ensures restores { is_restore begun.edits ≡ true
         → (files.new ≡ files.old) × (host_view C.Caller O.Sink host.new
         ≡ host_view C.Caller O.Sink host.old) }
+    ensures said { is_restore begun.edits ≡ true
+        → SaysUnrestored host.old.term.now.coloring host.old.env.now.by_guard begun.is_left
+        (stream_of E.Sink host.old.err.now) (stream_of E.Sink host.new.err.now) }
     ensures runs { is_restore begun.edits ≡ false → (lockfiles : FilesView) (unkept : ℕ)
         (locks : LocksView) (guards : GuardsView) → PerformsUnjournaled F.Files C.tells
         (names_of words.now) host.old.env.now
-        (scene_by (files_view F.Files files.old) lockfiles unkept locks guards
-        (host_view C.Caller O.Sink host.old))
-        (scene_by (files_view F.Files files.new) lockfiles unkept locks guards
-        (host_view C.Caller O.Sink host.new)) }
-    ensures lines { is_restore begun.edits ≡ true
-        → TellsLines host.old.term.now host.new.term.now
-        (stream_of E.Sink host.old.err.now) (stream_of E.Sink host.new.err.now) }
+        (scene_beside C.Caller O.Sink E.Sink (files_view F.Files files.old) lockfiles unkept
+        locks guards host.old)
+        (scene_beside C.Caller O.Sink E.Sink (files_view F.Files files.new) lockfiles unkept
+        locks guards host.new) }
     ensures still { is_restore begun.edits ≡ true
         → (host.new.caller.now ≡ host.old.caller.now) × (host.new.out.now ≡ host.old.out.now) }
-    ensures shown { is_restore begun.edits ≡ false → C.tells
-        → SaysCall F.Files files.old files.new C.tells (names_of words.now) host.old.env.now
-        (looks_of host.old.term.now) (looks_of host.new.term.now)
-        (scene_on C.Caller O.Sink E.Sink host.old) (scene_on C.Caller O.Sink E.Sink host.new) }
     ensures in_lanes { is_restore begun.edits ≡ false → IsLaneCall C.did C.course C.tells C.calls
         (not host.new.term.now.error) F.tells (names_of words.now) host.old.env.now
         (F.bytes_at files.old) host.old.caller.now host.new.caller.now }
 {
     if begun.edits == Edits::Restore {
-        if !host.env.by_guard {
-            tell_unrestored(begun.is_left, host.term, host.err);
-        }
+        tell_unrestored(host.env.by_guard, begun.is_left, host.term, host.err);
         return host.status();
     }
     run(words, begun.reading, files, host)
 }
 
-/// Says why nothing is restored.
-#[tactic(auto, using(crate::proofs::SaidLemmas::one_line))]
-fn tell_unrestored<E: Sink>(is_left: bool, term: &Term, err: &mut E)
-    ensures { WritesSome (stream_of E.Sink err.old) (stream_of E.Sink err.new) }
+/// Says why nothing is restored, unless the guard calls.
+fn tell_unrestored<E: Sink>(by_guard: bool, is_left: bool, term: &Term, err: &mut E)
+    ensures { SaysUnrestored term.now.coloring by_guard is_left
+        (stream_of E.Sink err.old) (stream_of E.Sink err.new) }
 {
-    let text = if is_left {
+    if by_guard {
+        return;
+    }
+    let _ = term.info(unrestored_text(is_left), err);
+}
+
+/// Why nothing is restored, though something is left, or since nothing is.
+fn unrestored_text(is_left: bool) -> &'static str
+    ensures { result.now ≡ text_of_unrestored is_left }
+{
+    if is_left {
         "another call is editing the manifests of this workspace, and restores them"
     } else {
         "nothing is left to restore"
-    };
-    let _ = term.info(text, err);
+    }
 }
 
 /// Performs a call under its own lock.
@@ -216,26 +210,20 @@ fn guarded<F: Overwrites, L: Files, U: Unkept, K: Locks, G: Guards, C: Starts, O
     requires reading { IfSome begun.reading
         (IsEarlyReading host.old.env.now (names_of words.now)) }
     requires place { spot_of begun.place ≡ spot_of begun.places.place }
+    requires verbose { AsksVerbose host.old.env.now (names_of words.now) begun.verbose }
     ensures host { IsSameHost host.old host.new }
     ensures status { IsStatus host.old.env.now.deny_warnings
         (host_view C.Caller O.Sink host.new) result.0 }
-    ensures goes { IsLockedCourse F.Files L.Files U.Unkept C.tells K.tells G.tells
+    ensures goes { IsLockedCourse F.Files L.Files U.Unkept
+        ⟦<Apart<Journaled<F, U>, L> as Files>⟧ C.tells K.tells G.tells
         (names_of words.now) host.old.env.now begun.edits (places_view begun.places)
-        (scene_of F.Files L.Files U.Unkept C.Caller O.Sink files lockfiles unkept
+        (scene_of F.Files L.Files U.Unkept C.Caller O.Sink E.Sink files lockfiles unkept
         (K.shown keepers.old.locks) (G.shown keepers.old.guards) host.old)
-        (scene_of F.Files L.Files U.Unkept C.Caller O.Sink result.1 result.2 result.3
+        (scene_of F.Files L.Files U.Unkept C.Caller O.Sink E.Sink result.1 result.2 result.3
         (K.shown keepers.new.locks) (G.shown keepers.new.guards) host.new) }
-    ensures shown { C.tells → SaysWhole F.Files L.Files ⟦<Apart<Journaled<F, U>, L> as Files>⟧
-        C.tells (names_of words.now) host.old.env.now
-        (files_view F.Files files, files_view L.Files lockfiles)
-        (files_view F.Files result.1, files_view L.Files result.2)
-        (looks_of host.old.term.now) (looks_of host.new.term.now)
-        (scene_on C.Caller O.Sink E.Sink host.old) (scene_on C.Caller O.Sink E.Sink host.new) }
-    ensures in_lanes { CallsInLanes F.Files L.Files C.did C.course C.tells C.calls
-        (begun.edits ≡ Edits.Restore) (not host.new.term.now.error)
-        (names_of words.now) host.old.env.now
-        (files_view F.Files files, files_view L.Files lockfiles)
-        host.old.caller.now host.new.caller.now }
+    ensures in_lanes { HostInLanes F.Files L.Files C.did C.Caller
+        (begun.edits ≡ Edits.Restore) (names_of words.now)
+        files lockfiles host.old host.new }
 {
     let mut files = files;
     let mut lockfiles = lockfiles;
@@ -261,14 +249,11 @@ fn take_back<F: Files, L: Files, C: Caller, O: Sink, E: Sink>(
     ensures host { IsSameHost host.old host.new }
     ensures stopped { result ≡ Ok false → host.new.term.now.error ≡ true }
     ensures goes { (unkept : ℕ) (locks : LocksView) (guards : GuardsView)
-        → TakesBack F.Files L.Files host.old.env.now.by_guard
-        (places_view places.now)
-        (scene_by (files_view F.Files files.old) (files_view L.Files lockfiles.old) unkept
-        locks guards (host_view C.Caller O.Sink host.old))
-        (scene_by (files_view F.Files files.new) (files_view L.Files lockfiles.new) unkept
-        locks guards (host_view C.Caller O.Sink host.new)) result }
-    ensures lines { TellsLines host.old.term.now host.new.term.now
-        (stream_of E.Sink host.old.err.now) (stream_of E.Sink host.new.err.now) }
+        → TakesBack F.Files L.Files host.old.env.now (places_view places.now)
+        (scene_beside C.Caller O.Sink E.Sink (files_view F.Files files.old)
+        (files_view L.Files lockfiles.old) unkept locks guards host.old)
+        (scene_beside C.Caller O.Sink E.Sink (files_view F.Files files.new)
+        (files_view L.Files lockfiles.new) unkept locks guards host.new) result }
     ensures still { (host.new.caller.now ≡ host.old.caller.now)
         × (host.new.out.now ≡ host.old.out.now) }
 {
@@ -307,26 +292,20 @@ fn go_on<F: Overwrites, L: Files, U: Unkept, K: Locks, G: Guards, C: Starts, O: 
     requires reading { IfSome begun.reading
         (IsEarlyReading host.old.env.now (names_of words.now)) }
     requires place { spot_of begun.place ≡ spot_of begun.places.place }
+    requires verbose { AsksVerbose host.old.env.now (names_of words.now) begun.verbose }
     ensures host { IsSameHost host.old host.new }
     ensures status { IsStatus host.old.env.now.deny_warnings
         (host_view C.Caller O.Sink host.new) result.0 }
-    ensures goes { Continues F.Files L.Files U.Unkept C.tells K.tells G.tells
+    ensures goes { Continues F.Files L.Files U.Unkept
+        ⟦<Apart<Journaled<F, U>, L> as Files>⟧ C.tells K.tells G.tells
         (names_of words.now) host.old.env.now begun.edits (places_view begun.places)
-        (scene_of F.Files L.Files U.Unkept C.Caller O.Sink files lockfiles unkept
+        (scene_of F.Files L.Files U.Unkept C.Caller O.Sink E.Sink files lockfiles unkept
         (K.shown keepers.old.locks) (G.shown keepers.old.guards) host.old)
-        (scene_of F.Files L.Files U.Unkept C.Caller O.Sink result.1 result.2 result.3
+        (scene_of F.Files L.Files U.Unkept C.Caller O.Sink E.Sink result.1 result.2 result.3
         (K.shown keepers.new.locks) (G.shown keepers.new.guards) host.new) }
-    ensures shown { C.tells → SaysWhole F.Files L.Files ⟦<Apart<Journaled<F, U>, L> as Files>⟧
-        C.tells (names_of words.now) host.old.env.now
-        (files_view F.Files files, files_view L.Files lockfiles)
-        (files_view F.Files result.1, files_view L.Files result.2)
-        (looks_of host.old.term.now) (looks_of host.new.term.now)
-        (scene_on C.Caller O.Sink E.Sink host.old) (scene_on C.Caller O.Sink E.Sink host.new) }
-    ensures in_lanes { CallsInLanes F.Files L.Files C.did C.course C.tells C.calls
-        (begun.edits ≡ Edits.Restore) (not host.new.term.now.error)
-        (names_of words.now) host.old.env.now
-        (files_view F.Files files, files_view L.Files lockfiles)
-        host.old.caller.now host.new.caller.now }
+    ensures in_lanes { HostInLanes F.Files L.Files C.did C.Caller
+        (begun.edits ≡ Edits.Restore) (names_of words.now)
+        files lockfiles host.old host.new }
 {
     let mut files = files;
     match begun.edits {
@@ -363,26 +342,20 @@ fn journaled<F: Overwrites, L: Files, U: Unkept, G: Guards, C: Starts, O: Sink, 
     requires reading { IfSome begun.reading
         (IsEarlyReading host.old.env.now (names_of words.now)) }
     requires place { spot_of begun.place ≡ spot_of begun.places.place }
+    requires verbose { AsksVerbose host.old.env.now (names_of words.now) begun.verbose }
     ensures host { IsSameHost host.old host.new }
     ensures status { IsStatus host.old.env.now.deny_warnings
         (host_view C.Caller O.Sink host.new) result.0 }
-    ensures goes { (locks : LocksView) → IsJournaledCall F.Files L.Files U.Unkept C.tells G.tells
+    ensures goes { (locks : LocksView) → IsJournaledCall F.Files L.Files U.Unkept
+        ⟦<Apart<Journaled<F, U>, L> as Files>⟧ C.tells G.tells
         (names_of words.now) host.old.env.now (places_view begun.places)
-        (scene_of F.Files L.Files U.Unkept C.Caller O.Sink files lockfiles unkept locks
+        (scene_of F.Files L.Files U.Unkept C.Caller O.Sink E.Sink files lockfiles unkept locks
         (G.shown guards.old) host.old)
-        (scene_of F.Files L.Files U.Unkept C.Caller O.Sink result.1 result.2 result.3 locks
+        (scene_of F.Files L.Files U.Unkept C.Caller O.Sink E.Sink result.1 result.2 result.3 locks
         (G.shown guards.new) host.new) }
-    ensures shown { C.tells → SaysWhole F.Files L.Files ⟦<Apart<Journaled<F, U>, L> as Files>⟧
-        C.tells (names_of words.now) host.old.env.now
-        (files_view F.Files files, files_view L.Files lockfiles)
-        (files_view F.Files result.1, files_view L.Files result.2)
-        (looks_of host.old.term.now) (looks_of host.new.term.now)
-        (scene_on C.Caller O.Sink E.Sink host.old) (scene_on C.Caller O.Sink E.Sink host.new) }
-    ensures in_lanes { CallsInLanes F.Files L.Files C.did C.course C.tells C.calls
-        (begun.edits ≡ Edits.Restore) (not host.new.term.now.error)
-        (names_of words.now) host.old.env.now
-        (files_view F.Files files, files_view L.Files lockfiles)
-        host.old.caller.now host.new.caller.now }
+    ensures in_lanes { HostInLanes F.Files L.Files C.did C.Caller
+        (begun.edits ≡ Edits.Restore) (names_of words.now)
+        files lockfiles host.old host.new }
 {
     match guards.start(host.alloc, begun.places.place.folder.as_str()) {
         Ok(watches) => {
@@ -416,23 +389,15 @@ fn copied<F: Overwrites, L: Files, U: Unkept, C: Starts, O: Sink, E: Sink>(
     ensures status { IsStatus host.old.env.now.deny_warnings
         (host_view C.Caller O.Sink host.new) result.0 }
     ensures goes { (locks : LocksView) (guards : GuardsView) → CopiesAndRuns
-        F.Files L.Files U.Unkept C.tells
+        F.Files L.Files U.Unkept ⟦<Apart<Journaled<F, U>, L> as Files>⟧ C.tells
         (names_of words.now) host.old.env.now (places_view begun.places)
-        (scene_of F.Files L.Files U.Unkept C.Caller O.Sink files lockfiles unkept locks guards
-        host.old)
-        (scene_of F.Files L.Files U.Unkept C.Caller O.Sink result.1 result.2 result.3 locks guards
-        host.new) }
-    ensures shown { C.tells → SaysWhole F.Files L.Files ⟦<Apart<Journaled<F, U>, L> as Files>⟧
-        C.tells (names_of words.now) host.old.env.now
-        (files_view F.Files files, files_view L.Files lockfiles)
-        (files_view F.Files result.1, files_view L.Files result.2)
-        (looks_of host.old.term.now) (looks_of host.new.term.now)
-        (scene_on C.Caller O.Sink E.Sink host.old) (scene_on C.Caller O.Sink E.Sink host.new) }
-    ensures in_lanes { CallsInLanes F.Files L.Files C.did C.course C.tells C.calls
-        (begun.edits ≡ Edits.Restore) (not host.new.term.now.error)
-        (names_of words.now) host.old.env.now
-        (files_view F.Files files, files_view L.Files lockfiles)
-        host.old.caller.now host.new.caller.now }
+        (scene_of F.Files L.Files U.Unkept C.Caller O.Sink E.Sink files lockfiles unkept
+        locks guards host.old)
+        (scene_of F.Files L.Files U.Unkept C.Caller O.Sink E.Sink result.1 result.2 result.3
+        locks guards host.new) }
+    ensures in_lanes { HostInLanes F.Files L.Files C.did C.Caller
+        (begun.edits ≡ Edits.Restore) (names_of words.now)
+        files lockfiles host.old host.new }
 {
     let mut files = files;
     let mut lockfiles = lockfiles;
@@ -450,9 +415,9 @@ fn copied<F: Overwrites, L: Files, U: Unkept, C: Starts, O: Sink, E: Sink>(
 }
 
 /// Says, where more is asked for, that nobody restores the manifests where this call ends early.
-#[tactic(auto, using(crate::proofs::SaidLemmas::one_line, hack_base::proofs::StreamLemmas::wrote_none))]
 fn tell_watch<E: Sink>(watches: bool, verbose: bool, term: &Term, err: &mut E)
-    ensures { WritesSome (stream_of E.Sink err.old) (stream_of E.Sink err.new) }
+    ensures { SaysWatched term.now.coloring watches verbose
+        (stream_of E.Sink err.old) (stream_of E.Sink err.new) }
 {
     if watches || !verbose {
         return;
@@ -479,18 +444,12 @@ fn over_journal<F: Overwrites, L: Files, U: Unkept, C: Starts, O: Sink, E: Sink>
     ensures status { IsStatus host.old.env.now.deny_warnings
         (host_view C.Caller O.Sink host.new) result.0 }
     ensures goes { (locks : LocksView) (guards : GuardsView) → RunsOverJournal
-        F.Files L.Files U.Unkept C.tells
+        F.Files L.Files U.Unkept ⟦<Apart<Journaled<F, U>, L> as Files>⟧ C.tells
         (names_of words.now) host.old.env.now (places_view begun.places)
-        (scene_of F.Files L.Files U.Unkept C.Caller O.Sink files lockfiles unkept locks guards
-        host.old)
-        (scene_of F.Files L.Files U.Unkept C.Caller O.Sink result.1 result.2 result.3 locks guards
-        host.new) }
-    ensures shown { C.tells → SaysWhole F.Files L.Files ⟦<Apart<Journaled<F, U>, L> as Files>⟧
-        C.tells (names_of words.now) host.old.env.now
-        (files_view F.Files files, files_view L.Files lockfiles)
-        (files_view F.Files result.1, files_view L.Files result.2)
-        (looks_of host.old.term.now) (looks_of host.new.term.now)
-        (scene_on C.Caller O.Sink E.Sink host.old) (scene_on C.Caller O.Sink E.Sink host.new) }
+        (scene_of F.Files L.Files U.Unkept C.Caller O.Sink E.Sink files lockfiles unkept
+        locks guards host.old)
+        (scene_of F.Files L.Files U.Unkept C.Caller O.Sink E.Sink result.1 result.2 result.3
+        locks guards host.new) }
     ensures in_lanes { IsLaneCall C.did C.course C.tells C.calls (not host.new.term.now.error)
         (F.tells × L.tells) (names_of words.now) host.old.env.now
         (contents_seen (string_bytes begun.place.journal) (F.bytes_at files) (L.bytes_at lockfiles))
@@ -512,122 +471,4 @@ fn over_journal<F: Overwrites, L: Files, U: Unkept, C: Starts, O: Sink, E: Sink>
         host.alloc, &places, unwritten, &mut files, host.term, host.err,
     );
     (host.status(), files, lockfiles, unkept)
-}
-
-/// Warns where a journal stays, or may; where none does, the lockfile's copy is removed, unless the
-/// lockfile may be unwritten. A copy that stays then is warned of too.
-fn close<F: Files, E: Sink>(
-    alloc: Global,
-    places: &Places,
-    unwritten: bool,
-    files: &mut F,
-    term: &mut Term,
-    err: &mut E,
-)
-    ensures told { IsJournalClosed F.Files (places_view places.now) unwritten
-        (files_view F.Files files.old) (files_view F.Files files.new) term.old term.new }
-    ensures others { F.tells → KeepsOthers (string_bytes places.now.copy)
-        (F.bytes_at files.old) (F.bytes_at files.new) }
-    ensures made { F.whole → MakesOrNot (removes (string_bytes places.now.copy))
-        (F.trace files.old) (F.trace files.new) (F.bytes_at files.old) (F.bytes_at files.new) }
-    ensures lines { TellsStaying term.old term.new
-        (stream_of E.Sink err.old) (stream_of E.Sink err.new) }
-{
-    let journal = places.place.journal.as_str();
-    let copy = places.copy.as_str();
-    let kept = unwritten.then_some(copy);
-    match is_there(alloc, journal, files) {
-        Ok(false) => {}
-        Ok(true) => {
-            let how = "stays: the next call brings back what it tells";
-            return tell_stay(alloc, journal, how, kept, term, err);
-        }
-        Err(LookFault::Device(_)) => {
-            let how = "may stay: then the next call brings back what it tells";
-            return tell_stay(alloc, journal, how, kept, term, err);
-        }
-        Err(LookFault::Memory) => return tell_memory(term, err),
-    }
-    if unwritten {
-        return tell_copy(alloc, copy, files, term, err);
-    }
-    if files.remove(copy).is_err() {
-        return tell_stay(
-            alloc,
-            copy,
-            "stays: the next call removes it",
-            None,
-            term,
-            err,
-        );
-    }
-}
-
-/// Warns of a copy of the lockfile, if there is one.
-fn tell_copy<F: Files, E: Sink>(
-    alloc: Global,
-    copy: &str,
-    files: &mut F,
-    term: &mut Term,
-    err: &mut E,
-)
-    ensures told { IsCopyTold F.Files copy.now
-        (files_view F.Files files.old) (files_view F.Files files.new) term.old term.new }
-    ensures same { F.tells → KeepsAll (F.bytes_at files.old) (F.bytes_at files.new) }
-    ensures untraced { F.whole → Makes [] (F.trace files.old) (F.trace files.new)
-        (F.bytes_at files.old) (F.bytes_at files.new) }
-    ensures lines { TellsStaying term.old term.new
-        (stream_of E.Sink err.old) (stream_of E.Sink err.new) }
-{
-    match is_there(alloc, copy, files) {
-        Ok(false) => {}
-        Ok(true) => {
-            let how = "stays: it has what the lockfile held, and the next call removes it";
-            tell_stay(alloc, copy, how, None, term, err)
-        }
-        Err(LookFault::Device(_)) => {
-            let how = "may stay: then it has what the lockfile held, and the next call removes it";
-            tell_stay(alloc, copy, how, None, term, err)
-        }
-        Err(LookFault::Memory) => tell_memory(term, err),
-    }
-}
-
-/// Warns of a file that stays, or may, and of a copy that is kept, since the lockfile may be unwritten.
-/// Where memory is refused for that, it is an error besides.
-fn tell_stay<E: Sink>(
-    alloc: Global,
-    path: &str,
-    how: &str,
-    kept: Option<&str>,
-    term: &mut Term,
-    err: &mut E,
-)
-    ensures noted { Warns term.old term.new }
-    ensures lines { TellsStaying term.old term.new
-        (stream_of E.Sink err.old) (stream_of E.Sink err.new) }
-{
-    let text = match kept {
-        Some(copy) => format!(in alloc; "`{path}` {how}; what the lockfile held is in `{copy}`"),
-        None => format!(in alloc; "`{path}` {how}"),
-    };
-    match text {
-        Ok(text) => {
-            let _ = term.warn(&text, err);
-        }
-        Err(_) => tell_memory(term, err),
-    }
-}
-
-/// Reports that memory was refused, and warns of what may stay.
-fn tell_memory<E: Sink>(term: &mut Term, err: &mut E)
-    ensures noted { term.new ≡ record term.old { warn = true; error = true } }
-    ensures lines { EndsStarved term.old.coloring
-        (stream_of E.Sink err.old) (stream_of E.Sink err.new) }
-{
-    let _ = term.warn(
-        "what a journal keeps may stay: the next call looks after it",
-        err,
-    );
-    let _ = term.error("out of memory", err);
 }

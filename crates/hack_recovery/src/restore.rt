@@ -2,13 +2,16 @@
 
 ghost use Rattle.std.specs.Prelude.{◌≡◌, ◌≢◌, ◌↔◌, IfErr, IfOk, IsTrue, Ok, option_and_then};
 ghost use Rattle.std.specs.Prelude.{option_map, true};
-ghost use Rattle.hack_base.specs.Streams.{WritesSome, stream_of};
+ghost use Rattle.hack_base.specs.Names.{names_of};
+ghost use Rattle.hack_base.specs.Streams.{stream_of};
 ghost use Rattle.hack_journal.specs.Journal.{edit_of, edits_of};
 ghost use Rattle.hack_journal.specs.Rows.{spot_of};
 ghost use Rattle.hack_journal.specs.Strangers.{first_stranger};
 ghost use Rattle.hack_recovery.specs.Restoring.{IsBroughtBack, IsToldAs, Restores};
-ghost use Rattle.hack_recovery.specs.ShownCalls.{TellsLines};
-ghost use Rattle.hack_recovery.specs.Telling.{Tells};
+ghost use Rattle.hack_recovery.specs.Telling.{SaysError, SaysOrStarves, SaysRestored};
+ghost use Rattle.hack_recovery.specs.Telling.{SaysStranger, SaysWhy, Tells};
+ghost use Rattle.hack_recovery.specs.Texts.{restored_text};
+ghost use Rattle.hack_term.specs.Lines.{info_line};
 ghost use Rattle.hack_files.specs.View.{files_view};
 
 use crate::fault::CallFault;
@@ -26,7 +29,7 @@ use std::alloc::Global;
 
 /// What somebody has to know who puts back by hand what a journal tells.
 const ROW: &str =
-    "a journal goes on in files that are named as it is, with `~1`, `~2` and so on behind that";
+    "a journal goes on in files that are named as it is, with `~1`, `~2` and so on behind that, which are to be removed with it";
 
 /// Restores what an interrupted call left edited, and reports it. Returns whether it is back; if it
 /// can't be restored, an error was reported. `dir` is the current folder, from which paths are
@@ -39,12 +42,9 @@ pub(crate) fn restore<F: Files, E: Sink>(
     term: &mut Term,
     err: &mut E,
 ) -> Result<bool, CallFault>
-    ensures came { Restores F.Files (spot_of place.now)
-        (files_view F.Files files.old)
-        (files_view F.Files files.new)
-        term.old term.new result }
-    ensures lines { TellsLines term.old term.new
-        (stream_of E.Sink err.old) (stream_of E.Sink err.new) }
+    ensures { Restores F.Files (spot_of place.now) dir.now
+        (files_view F.Files files.old) (files_view F.Files files.new) term.old term.new
+        (stream_of E.Sink err.old) (stream_of E.Sink err.new) result }
 {
     match row_at(alloc, files, place) {
         Ok(row) => match stranger_in(&row) {
@@ -55,7 +55,7 @@ pub(crate) fn restore<F: Files, E: Sink>(
             None => bring_back(alloc, dir, place, files, term, err),
         },
         Err(fault) => {
-            tell_reason_of(alloc, &fault, files, term, err);
+            tell_why(alloc, &fault, files, term, err);
             tell_fault(alloc, fault, term, err)
         }
     }
@@ -82,12 +82,13 @@ fn tell_stranger<E: Sink>(
 ) -> Result<bool, CallFault>
     ensures told { Tells term.old term.new result }
     ensures never { result ≢ Ok true }
-    ensures lines { TellsLines term.old term.new
+    ensures said { SaysStranger term.old.coloring journal.now path.now result
         (stream_of E.Sink err.old) (stream_of E.Sink err.new) }
 {
     let text = format!(in alloc;
         "`{journal}` tells of `{path}`, which no call edits; put back by hand what it tells, and remove it"
     )?;
+    let _ = term.info(ROW, err);
     let _ = term.error(&text, err);
     Ok(false)
 }
@@ -101,16 +102,15 @@ fn bring_back<F: Files, E: Sink>(
     term: &mut Term,
     err: &mut E,
 ) -> Result<bool, CallFault>
-    ensures came { IsBroughtBack F.Files (spot_of place.now)
-        (files_view F.Files files.old) (files_view F.Files files.new) result }
+    ensures came { IsBroughtBack F.Files (spot_of place.now) dir.now term.old.coloring
+        (files_view F.Files files.old) (files_view F.Files files.new)
+        (stream_of E.Sink err.old) (stream_of E.Sink err.new) result }
     ensures told { Tells term.old term.new result }
-    ensures lines { TellsLines term.old term.new
-        (stream_of E.Sink err.old) (stream_of E.Sink err.new) }
 {
     match recover(alloc, files, place) {
         Ok(paths) => tell_all(alloc, dir, &paths, term, err),
         Err(fault) => {
-            tell_reason_of(alloc, &fault, files, term, err);
+            tell_why(alloc, &fault, files, term, err);
             tell_fault(alloc, fault, term, err)
         }
     }
@@ -126,7 +126,8 @@ fn tell_all<E: Sink>(
 ) -> Result<bool, CallFault>
     ensures done { IfOk result (λ goes_on. goes_on ≡ true) }
     ensures fault { IfErr result (λ fault. fault ≡ CallFault.Memory) }
-    ensures lines { WritesSome (stream_of E.Sink err.old) (stream_of E.Sink err.new) }
+    ensures said { SaysRestored term.now.coloring dir.now (names_of paths.now) result
+        (stream_of E.Sink err.old) (stream_of E.Sink err.new) }
 {
     for path in paths {
         tell_restored(alloc, dir, path.as_str(), term, err)?;
@@ -135,7 +136,6 @@ fn tell_all<E: Sink>(
 }
 
 /// Reports that a file was restored, by its path from the current folder.
-#[tactic(auto, using(crate::proofs::SaidLemmas::one_line, hack_base::proofs::StreamLemmas::wrote_none))]
 pub(crate) fn tell_restored<E: Sink>(
     alloc: Global,
     dir: &str,
@@ -145,7 +145,8 @@ pub(crate) fn tell_restored<E: Sink>(
 ) -> Result<bool, CallFault>
     ensures done { IfOk result (λ goes_on. goes_on ≡ true) }
     ensures fault { IfErr result (λ fault. fault ≡ CallFault.Memory) }
-    ensures lines { WritesSome (stream_of E.Sink err.old) (stream_of E.Sink err.new) }
+    ensures said { SaysOrStarves (info_line term.now.coloring (restored_text dir.now path.now))
+        result (stream_of E.Sink err.old) (stream_of E.Sink err.new) }
 {
     let path = under(path, dir);
     let text = format!(in alloc; "restored `{path}` after an interrupted call")?;
@@ -162,40 +163,35 @@ fn tell_fault<E: Sink>(
 ) -> Result<bool, CallFault>
     ensures told { Tells term.old term.new result }
     ensures told_as { IsToldAs fault result }
-    ensures lines { TellsLines term.old term.new
+    ensures said { SaysError term.old.coloring fault result
         (stream_of E.Sink err.old) (stream_of E.Sink err.new) }
 {
     if is_memory(&fault) {
         return Err(CallFault::Memory);
-    }
-    if is_refusal(&fault) {
-        let _ = term.info(ROW, err);
     }
     let text = format!(in alloc; "{fault}")?;
     let _ = term.error(&text, err);
     Ok(false)
 }
 
-/// Says why a file couldn't be read or written, where that is the fault.
-fn tell_reason_of<F: Files, E: Sink>(
+/// Says before the error of a journal how to put back by hand what it tells, or why a file couldn't be
+/// read or written.
+fn tell_why<F: Files, E: Sink>(
     alloc: Global,
     fault: &RecoverFault,
     files: &F,
     term: &Term,
     err: &mut E,
 )
-    ensures { WritesSome (stream_of E.Sink err.old) (stream_of E.Sink err.new) }
+    ensures { SaysWhy term.now.coloring fault.now
+        (stream_of E.Sink err.old) (stream_of E.Sink err.new) }
 {
     match fault {
+        RecoverFault::NotJournal(_) | RecoverFault::Changed { .. } => {
+            let _ = term.info(ROW, err);
+        }
         RecoverFault::Files(fault) if is_of_device(fault) => tell_reason(alloc, files, term, err),
-        _ => {}
-    }
-}
-
-fn is_refusal(fault: &RecoverFault) -> bool {
-    match fault {
-        RecoverFault::NotJournal(_) | RecoverFault::Changed { .. } => true,
-        _ => false,
+        RecoverFault::Files(_) | RecoverFault::Memory => {}
     }
 }
 

@@ -1,21 +1,21 @@
 //! A call of which it isn't known whether an interrupted one left anything, since a look at a file
 //! failed.
 
-ghost use Rattle.std.specs.Prelude.{◌≡◌, ℕ, IfSome, false, not, true};
+ghost use Rattle.std.specs.Prelude.{◌≡◌, ◌⊎◌, ℕ, IfSome, codes, false, not, true};
 ghost use Rattle.hack_base.specs.Names.{names_of};
-ghost use Rattle.hack_base.specs.Streams.{WritesSome, stream_of};
+ghost use Rattle.hack_base.specs.Streams.{Stream, WritesText, stream_of};
 ghost use Rattle.hack_recovery.specs.AskedEdits.{is_change};
 ghost use Rattle.hack_recovery.specs.CallCourses.{PerformsUnjournaled};
 ghost use Rattle.hack_recovery.specs.GuardEvents.{GuardsView};
 ghost use Rattle.hack_recovery.specs.LockEvents.{LocksView};
-ghost use Rattle.hack_recovery.specs.Scenes.{scene_by, scene_with};
-ghost use Rattle.hack_recovery.specs.ShownCalls.{TellsLines};
+ghost use Rattle.hack_recovery.specs.Scenes.{scene_beside, scene_with};
+ghost use Rattle.hack_recovery.specs.Telling.{SaysUnseen, SaysUnsure};
+ghost use Rattle.hack_recovery.specs.Texts.{short_unsure_text, unseen_text, unsure_text};
 ghost use Rattle.hack_run.specs.Lanes.{IsLaneCall};
 ghost use Rattle.hack_run.specs.Readings.{IsEarlyReading};
-ghost use Rattle.hack_run.specs.Shown.{SaysCall, SaysLines, looks_of, scene_on};
 ghost use Rattle.hack_files.specs.View.{FilesView, files_view};
-ghost use Rattle.hack_session.specs.StepEffects.{Scene as Said};
 ghost use Rattle.hack_run.specs.Worlds.{IsSameHost, IsStatus, host_view};
+ghost use Rattle.hack_term.specs.Lines.{error_line, warning_line};
 
 use crate::asked::Asked;
 use hack_base::writes::Sink;
@@ -44,24 +44,20 @@ pub(crate) fn blindly<F: Files, C: Starts, O: Sink, E: Sink>(
     ensures refused { is_change asked.edits ≡ true → (files.new ≡ files.old)
         × (host_view C.Caller O.Sink host.new ≡ record (host_view C.Caller O.Sink host.old)
         { term = record host.old.term.now { error = true } }) }
-    ensures runs { is_change asked.edits ≡ false → (lockfiles : FilesView) (unkept : ℕ)
-        (locks : LocksView) (guards : GuardsView) → PerformsUnjournaled F.Files C.tells
-        (names_of words.now) host.old.env.now
-        (scene_with (files_view F.Files files.old) (record host.old.term.now { warn = true })
-        (scene_by (files_view F.Files files.old) lockfiles unkept locks guards
-        (host_view C.Caller O.Sink host.old)))
-        (scene_by (files_view F.Files files.new) lockfiles unkept locks guards
-        (host_view C.Caller O.Sink host.new)) }
-    ensures lines { is_change asked.edits ≡ true
-        → TellsLines host.old.term.now host.new.term.now
+    ensures said { is_change asked.edits ≡ true
+        → SaysUnseen host.old.term.now.coloring path.now
         (stream_of E.Sink host.old.err.now) (stream_of E.Sink host.new.err.now) }
     ensures still { is_change asked.edits ≡ true
         → (host.new.caller.now ≡ host.old.caller.now) × (host.new.out.now ≡ host.old.out.now) }
-    ensures shown { is_change asked.edits ≡ false → C.tells → (first : Said)
-        × SaysLines false (scene_on C.Caller O.Sink E.Sink host.old) first
-        × SaysCall F.Files files.old files.new C.tells (names_of words.now) host.old.env.now
-        (looks_of host.old.term.now) (looks_of host.new.term.now)
-        first (scene_on C.Caller O.Sink E.Sink host.new) }
+    ensures runs { is_change asked.edits ≡ false → (warned : Stream)
+        × SaysUnsure host.old.term.now.coloring path.now (stream_of E.Sink host.old.err.now) warned
+        × ((lockfiles : FilesView) (unkept : ℕ) (locks : LocksView) (guards : GuardsView)
+        → PerformsUnjournaled F.Files C.tells (names_of words.now) host.old.env.now
+        (scene_with (files_view F.Files files.old) (record host.old.term.now { warn = true }) warned
+        (scene_beside C.Caller O.Sink E.Sink (files_view F.Files files.old) lockfiles unkept
+        locks guards host.old))
+        (scene_beside C.Caller O.Sink E.Sink (files_view F.Files files.new) lockfiles unkept
+        locks guards host.new)) }
     ensures in_lanes { is_change asked.edits ≡ false → IsLaneCall C.did C.course C.tells C.calls
         (not host.new.term.now.error) F.tells (names_of words.now) host.old.env.now
         (F.bytes_at files.old) host.old.caller.now host.new.caller.now }
@@ -76,10 +72,12 @@ pub(crate) fn blindly<F: Files, C: Starts, O: Sink, E: Sink>(
 }
 
 /// Reports that this path can't be looked at, as an error.
-#[tactic(auto, using(crate::proofs::SaidLemmas::one_line))]
 fn refuse<E: Sink>(alloc: Global, path: &str, term: &mut Term, err: &mut E)
     ensures noted { term.new ≡ record term.old { error = true } }
-    ensures lines { WritesSome (stream_of E.Sink err.old) (stream_of E.Sink err.new) }
+    ensures said { WritesText (error_line term.old.coloring (unseen_text path.now))
+        (stream_of E.Sink err.old) (stream_of E.Sink err.new)
+        ⊎ WritesText (error_line term.old.coloring (codes "out of memory"))
+        (stream_of E.Sink err.old) (stream_of E.Sink err.new) }
 {
     match format!(in alloc; "failed to read from file `{path}`") {
         Ok(text) => {
@@ -92,10 +90,12 @@ fn refuse<E: Sink>(alloc: Global, path: &str, term: &mut Term, err: &mut E)
 }
 
 /// Warns that this path can't be looked at.
-#[tactic(auto, using(crate::proofs::SaidLemmas::one_line))]
 fn warn<E: Sink>(alloc: Global, path: &str, term: &mut Term, err: &mut E)
     ensures noted { term.new ≡ record term.old { warn = true } }
-    ensures lines { WritesSome (stream_of E.Sink err.old) (stream_of E.Sink err.new) }
+    ensures said { WritesText (warning_line term.old.coloring (unsure_text path.now))
+        (stream_of E.Sink err.old) (stream_of E.Sink err.new)
+        ⊎ WritesText (warning_line term.old.coloring short_unsure_text)
+        (stream_of E.Sink err.old) (stream_of E.Sink err.new) }
 {
     match format!(in alloc;
         "failed to read from file `{path}`: edits of an interrupted call may stand"

@@ -103,12 +103,13 @@ fn own_lines(rt: HostRuntime) -> Result<(), Wrong> {
             | status 1
 
             > performed: hack --restore; file: /w/.cargo-hack-journal; | torn
-            | info: a journal goes on in files that are named as it is, with `~1`, `~2` and so on behind that
+            | info: a journal goes on in files that are named as it is, with `~1`, `~2` and so on behind that, which are to be removed with it
             | error: `/w/.cargo-hack-journal` is not a whole journal of edited files; put back by hand what it tells, and remove it
             | no copy
             | status 1
 
             > performed: hack --restore; file: /w/.cargo-hack-journal; | edited files; | path src/lib.rs; | held; |  a; | wrote; |  b; | end
+            | info: a journal goes on in files that are named as it is, with `~1`, `~2` and so on behind that, which are to be removed with it
             | error: `/w/.cargo-hack-journal` tells of `/w/src/lib.rs`, which no call edits; put back by hand what it tells, and remove it
             | no copy
             | status 1
@@ -119,7 +120,7 @@ fn own_lines(rt: HostRuntime) -> Result<(), Wrong> {
             | status 0
 
             > performed: hack --restore; file: /w/p/Cargo.toml; | c; file: /w/.cargo-hack-journal; | edited files; | path p/Cargo.toml; | held; |  a; |  ; | wrote; |  b; |  ; | end
-            | info: a journal goes on in files that are named as it is, with `~1`, `~2` and so on behind that
+            | info: a journal goes on in files that are named as it is, with `~1`, `~2` and so on behind that, which are to be removed with it
             | error: `/w/p/Cargo.toml` was changed after an interrupted call had edited it; put back by hand what `/w/.cargo-hack-journal` tells, and remove `/w/.cargo-hack-journal`
             | no copy
             | status 1
@@ -175,7 +176,7 @@ fn files_that_fail(rt: HostRuntime) -> Result<(), Wrong> {
             | info: running `cargo check` on p (1/1)
             | error: failed to write to file `/w/Cargo.toml`
             | error: failed to write to file `/w/Cargo.lock`
-            | warning: `/w/.cargo-hack-journal` stays: the next call brings back what it tells; what the lockfile held is in `/w/.cargo-hack-journal~lock`
+            | warning: `/w/.cargo-hack-journal` stays: the next call brings back what it tells; what the lockfile held may be in `/w/.cargo-hack-journal~lock`
             | copy: # lock
             | status 1
 

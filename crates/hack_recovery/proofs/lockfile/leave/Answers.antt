@@ -1,7 +1,23 @@
-use Rattle.std.proofs.Common.{refl}
-use Rattle.hack_recovery.proofs.SaidLemmas.{one_line}
+use Rattle.std.proofs.Common.{◌∙◌, ◌++◌, ap, codes, refl, string_bytes}
+use Rattle.hack_base.specs.Names.{Name}
+use Rattle.hack_files.specs.View.{files_view}
+use Rattle.hack_term.specs.Lines.{info_line}
+use Rattle.hack_recovery.specs.Telling.SaysIfOther.{other}
+use Rattle.hack_recovery.proofs.SaidLemmas.{wrote_as}
+use Rattle.hack_recovery.proofs.SettledLemmas.{looked_one, of_lockfile}
 use Rattle.hack_recovery.proofs.lockfile.leave.Goals as goal
 
-pub returns-in_ok-text-in-Ok-false-clause-lines : goal.returns-in_ok-text-in-Ok-false-clause-lines
-returns-in_ok-text-in-Ok-false-clause-lines g c =
-    (refl, one_line g.E.Sink _ _ _ c.info.result c.info.ensures.line c.info.ensures.front c.info.ensures.counted)
+pub returns-in_ok-text-in-Ok-false-clause-said : goal.returns-in_ok-text-in-Ok-false-clause-said
+returns-in_ok-text-in-Ok-false-clause-said g c =
+    let path = c.as_str-path.ensures.value in
+    other (λ t. (rw (path, c.in-Ok-false.field-0-test) at c.in-Ok-false.ensures.other) refl t)
+    (wrote_as g.E.Sink _ _ (info_line c.args.host.now.term.now.coloring) _ _ c.info.result
+    (c.deref.ensures ∙ c.in_ok-text-in-Ok-false.ensures.ok ∙ ap (λ (p : Name). codes "left `" ++ (p ++ codes "` as it is: in the interrupted call cargo may have changed it")) (rw (path, c.as_str.ensures.value) at c.under-path.ensures)) c.info.ensures.line c.info.ensures.front c.info.ensures.counted)
+
+pub returns-in-Err-clause-said : goal.returns-in-Err-clause-said
+returns-in-Err-clause-said g c =
+    let lockfile = string_bytes c.args.places.now.lockfile in
+    let coloring = c.args.host.now.term.now.coloring in
+    of_lockfile g.L.Files coloring lockfile _ _ (files_view g.L.Files c.args.lockfiles.now) (files_view g.L.Files c.holds.new.files) c.tell_fault.result _ _
+    (looked_one g.L.Files lockfile c.args.lockfiles.now c.holds.new.files c.in-Err.ensures.counted (rw c.as_str-path.ensures.value at c.in-Err.ensures.unseen))
+    (rw c.as_str-path.ensures.value at c.tell_fault.ensures.said)

@@ -1,16 +1,15 @@
 use Rattle.hack_base.specs.Names.{names_of}
+use Rattle.hack_base.specs.Streams.{stream_of}
 use Rattle.hack_recovery.specs.Restoring.IsBroughtBack.{brought, stopped}
 use Rattle.hack_recovery.proofs.FailedLemmas.{of_failed_path}
 use Rattle.hack_recovery.proofs.WayLemmas.{never_false, tells_same}
-use Rattle.hack_base.proofs.StreamLemmas.{some_more}
-use Rattle.hack_base.specs.Streams.{stream_of}
 use Rattle.hack_recovery.proofs.restore.bring_back.Goals as goal
 
 pub returns-in-Ok-clause-came : goal.returns-in-Ok-clause-came
 returns-in-Ok-clause-came g c =
     let came = c.in-Ok.ensures in
     brought (names_of c.in-Ok.paths.items) (record { failures = came.failures; restored = came.restored; comes_back = came.comes_back; safe = came.safe; safe_after_cut = came.safe_after_cut })
-    (never_false c.tell_all.result c.tell_all.ensures.done)
+    (never_false c.tell_all.result c.tell_all.ensures.done) (rw c.deref.ensures.value at c.tell_all.ensures.said)
 
 pub returns-in-Ok-clause-told : goal.returns-in-Ok-clause-told
 returns-in-Ok-clause-told g c = tells_same c.args.term.now c.tell_all.result c.tell_all.ensures.done c.tell_all.ensures.fault
@@ -19,7 +18,4 @@ pub returns-in-Err-clause-came : goal.returns-in-Err-clause-came
 returns-in-Err-clause-came g c =
     let came = c.in-Err.ensures in
     stopped c.in-Err.fault (record { failures = came.failures; cause = of_failed_path g.F.Files c.args.files.now c.recover.new.files c.in-Err.fault came.calls; why = came.why; spared = came.spared; refused = came.refused; never = came.never; safe = came.safe; safe_after_cut = came.safe_after_cut }) c.tell_fault.ensures.told_as
-
-pub returns-in-Err-clause-lines : goal.returns-in-Err-clause-lines
-returns-in-Err-clause-lines g c =
-    (c.tell_fault.ensures.lines.0, some_more _ (stream_of g.E.Sink c.tell_reason_of.new.err) _ c.tell_reason_of.ensures c.tell_fault.ensures.lines.1)
+    (stream_of g.E.Sink c.tell_why.new.err, c.tell_why.ensures, c.tell_fault.ensures.said)

@@ -1,26 +1,15 @@
 use Rattle.std.proofs.Common.{refl}
-use Rattle.hack_base.proofs.StreamLemmas.{some_more, wrote_none}
-use Rattle.hack_base.specs.Streams.{stream_of}
-use Rattle.hack_recovery.proofs.SaidLemmas.{one_line}
+use Rattle.std.proofs.lemmas.Result.{err_from_is_err_and}
+use Rattle.hack_base.proofs.StreamLemmas.{wrote}
+use Rattle.hack_journal.specs.Recovery.{unrecovered_text}
+use Rattle.hack_recovery.proofs.SaidLemmas.{still_known}
 use Rattle.hack_recovery.proofs.restore.tell_fault.Goals as goal
-use Rattle.hack_recovery.proofs.restore.tell_fault.Goals.{else-is_refusal, then-is_refusal}
 
-pub returns-in_err-text-clause-lines : goal.returns-in_err-text-clause-lines
-returns-in_err-text-clause-lines g c = (
-  refl,
-  elim c.if-is_refusal.branch [
-    | then-is_refusal w ↦ rw w.err-is (one_line g.E.Sink _ _ _ w.info.result w.info.ensures.line w.info.ensures.front w.info.ensures.counted)
-    | else-is_refusal w ↦ rw w.err-is (wrote_none _ _ refl)
-  ],
-)
+pub returns-in_err-text-clause-said : goal.returns-in_err-text-clause-said
+returns-in_err-text-clause-said g c =
+    let p = err_from_is_err_and c.from_residual.result c.from_residual.ensures.1 in
+    rw p.1 refl
 
-pub returns-clause-lines : goal.returns-clause-lines
-returns-clause-lines g c = (
-  rw c.error.ensures.noted refl,
-  some_more _ (stream_of g.E.Sink c.if-is_refusal.err) _
-      (elim c.if-is_refusal.branch [
-        | then-is_refusal w ↦ rw w.err-is (one_line g.E.Sink _ _ _ w.info.result w.info.ensures.line w.info.ensures.front w.info.ensures.counted)
-        | else-is_refusal w ↦ rw w.err-is (wrote_none _ _ refl)
-      ])
-      (one_line g.E.Sink _ _ _ c.error.result c.error.ensures.line c.error.ensures.front c.error.ensures.counted),
-)
+pub returns-clause-said : goal.returns-clause-said
+returns-clause-said g c =
+    (_, still_known (unrecovered_text c.args.fault) _ _ c.deref.ensures c.in_ok-text.ensures.ok, wrote g.E.Sink _ _ _ c.error.result c.error.ensures.line c.error.ensures.front c.error.ensures.counted)

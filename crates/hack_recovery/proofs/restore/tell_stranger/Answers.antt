@@ -1,7 +1,19 @@
-use Rattle.std.proofs.Common.{refl}
-use Rattle.hack_recovery.proofs.SaidLemmas.{one_line}
+use Rattle.std.proofs.Common.{◌∙◌, refl}
+use Rattle.std.proofs.lemmas.Result.{err_from_is_err_and}
+use Rattle.hack_base.specs.Streams.{stream_of}
+use Rattle.hack_term.specs.Lines.{error_line, info_line}
+use Rattle.hack_recovery.specs.Texts.{row_text}
+use Rattle.hack_recovery.proofs.SaidLemmas.{wrote_as}
 use Rattle.hack_recovery.proofs.restore.tell_stranger.Goals as goal
 
-pub returns-clause-lines : goal.returns-clause-lines
-returns-clause-lines g c =
-    (rw c.error.ensures.noted refl, one_line g.E.Sink _ _ _ c.error.result c.error.ensures.line c.error.ensures.front c.error.ensures.counted)
+pub returns-in_err-text-clause-said : goal.returns-in_err-text-clause-said
+returns-in_err-text-clause-said g c =
+    let p = err_from_is_err_and c.from_residual.result c.from_residual.ensures.1 in
+    rw p.1 refl
+
+pub returns-clause-said : goal.returns-clause-said
+returns-clause-said g c = (
+  stream_of g.E.Sink c.info.new.out,
+  wrote_as g.E.Sink _ _ (info_line c.args.term.now.coloring) _ row_text c.info.result refl c.info.ensures.line c.info.ensures.front c.info.ensures.counted,
+  wrote_as g.E.Sink _ _ (error_line c.args.term.now.coloring) _ _ c.error.result (c.deref.ensures ∙ c.in_ok-text.ensures.ok) c.error.ensures.line c.error.ensures.front c.error.ensures.counted,
+)
