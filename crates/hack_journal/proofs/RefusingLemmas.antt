@@ -6,7 +6,7 @@ use Rattle.hack_base.specs.Counters.{GrowsBy}
 use Rattle.hack_files.specs.Files.{Contents, CountsFailedCall, Grows, IsUnseenUnlessAbsent, refused_path}
 use Rattle.hack_files.specs.declared.fs.Files.{Ghosts as Filing}
 use Rattle.hack_journal.specs.LockfilesApart.{apart, is_lockfile}
-use Rattle.hack_journal.specs.Refusing.{AreJust, GrowsWithin, IsCounted, HoldsByKind, IsRefused, IsUnseenOrUntold, UnseenByKind}
+use Rattle.hack_journal.specs.Refusing.{AreJust, GrowsAsBoth, GrowsWithin, IsCounted, HoldsByKind, IsRefused, IsUnseenOrUntold, UnseenByKind}
 use Rattle.hack_journal.specs.RefusingLaws.{grows_more, grows_none}
 
 -- some calls failed, and then some
@@ -83,9 +83,14 @@ pub within_first : {T E : Type 0} (r : Result T E) (a b x u v : ℕ) → CountsF
 within_first (Ok e) a b x u v f g = record { first = 0; second = 0; both = 0; one = f; two = grows_none x; sum = g; most = omega arith }
 within_first (Err e) a b x u v f g = record { first = 1; second = 0; both = 1; one = f; two = grows_none x; sum = g; most = omega arith }
 
-pub within_second : {T E : Type 0} (r : Result T E) (a x y u v : ℕ) → CountsFailedCall x y r → CountsFailedCall u v r → GrowsWithin a a x y u v
-within_second (Ok e) a x y u v f g = record { first = 0; second = 0; both = 0; one = grows_none a; two = f; sum = g; most = omega arith }
-within_second (Err e) a x y u v f g = record { first = 0; second = 1; both = 1; one = grows_none a; two = f; sum = g; most = omega arith }
+-- a call of two that is counted by the one that it goes to
+pub both_first : {T E : Type 0} (r : Result T E) (a b x u v : ℕ) → CountsFailedCall a b r → CountsFailedCall u v r → GrowsAsBoth a b x x u v
+both_first (Ok e) a b x u v f g = record { first = 0; second = 0; one = f; two = grows_none x; sum = g }
+both_first (Err e) a b x u v f g = record { first = 1; second = 0; one = f; two = grows_none x; sum = g }
+
+pub both_second : {T E : Type 0} (r : Result T E) (a x y u v : ℕ) → CountsFailedCall x y r → CountsFailedCall u v r → GrowsAsBoth a a x y u v
+both_second (Ok e) a x y u v f g = record { first = 0; second = 0; one = grows_none a; two = f; sum = g }
+both_second (Err e) a x y u v f g = record { first = 0; second = 1; one = grows_none a; two = f; sum = g }
 
 -- a call that is counted by one of two counts
 pub within_counted : {T E : Type 0} (r : Result T E) (a b x y u v : ℕ) → IsCounted r a b x y → CountsFailedCall u v r → GrowsWithin a b x y u v

@@ -60,6 +60,14 @@ pub record GrowsWithin (one_old one_new two_old two_new old new : ℕ) : Type 0 
   pub sum : GrowsBy both old new
   pub most : both ≤ first + second
 
+-- a count grew by what two others did together
+pub record GrowsAsBoth (one_old one_new two_old two_new old new : ℕ) : Type 0 where
+  pub first : ℕ
+  pub second : ℕ
+  pub one : GrowsBy first one_old one_new
+  pub two : GrowsBy second two_old two_new
+  pub sum : GrowsBy (first + second) old new
+
 -- a call that failed is counted by one of two counts
 pub record IsCounted {T E : Type 0} (result : Result T E) (one_old one_new two_old two_new : ℕ) : Type 0 where
   pub first : ℕ

@@ -4,7 +4,7 @@ use Rattle.std.proofs.lemmas.List.Elements.{All-append, All-nil}
 use Rattle.hack_base.specs.Counters.{GrowsBy}
 use Rattle.hack_files.specs.Files.{Grows}
 use Rattle.hack_files.specs.RefusalLaws.{at_least_none, at_least_more}
-use Rattle.hack_journal.specs.Refusing.{AreJust, GrowsWithin}
+use Rattle.hack_journal.specs.Refusing.{AreJust, GrowsAsBoth, GrowsWithin}
 
 pub just_none : (P : List ℕ → Type 0) (n : ℕ) → AreJust P [] n n
 just_none P n = record { each = All-nil P; failed = at_least_none n }
@@ -39,4 +39,16 @@ within_more a b c x y z u v w f g = record {
   two = grows_more f.second g.second x y z f.two g.two;
   sum = grows_more f.both g.both u v w f.sum g.sum;
   most = omega (arith, f.most, g.most);
+}
+
+pub both_none : (a b c : ℕ) → GrowsAsBoth a a b b c c
+both_none a b c = record { first = 0; second = 0; one = grows_none a; two = grows_none b; sum = grows_none c }
+
+pub both_more : (a b c x y z u v w : ℕ) → GrowsAsBoth a b x y u v → GrowsAsBoth b c y z v w → GrowsAsBoth a c x z u w
+both_more a b c x y z u v w f g = record {
+  first = f.first + g.first;
+  second = f.second + g.second;
+  one = grows_more f.first g.first a b c f.one g.one;
+  two = grows_more f.second g.second x y z f.two g.two;
+  sum = λ low. let now = grows_more (f.first + f.second) (g.first + g.second) u v w f.sum g.sum low in omega (arith, now);
 }

@@ -49,21 +49,21 @@ impl<A: Files, B: Files> Files for Apart<A, B> {
     ghost use Rattle.std.proofs.Common.{refl, ◌∙◌};
     ghost use Rattle.hack_journal.specs.FailedCalls.{LooksOrUnseen, ReadsOrUnseen};
     ghost use Rattle.hack_journal.specs.FileCalls.{OnlyLooks, ChangesOnly, GoesToOne};
-    ghost use Rattle.hack_journal.specs.Refusing.{AreJust, GrowsWithin, HoldsByKind, IsRefused};
+    ghost use Rattle.hack_journal.specs.Refusing.{AreJust, GrowsAsBoth, HoldsByKind, IsRefused};
     ghost use Rattle.hack_journal.specs.Refusing.{UnseenByKind};
-    ghost use Rattle.hack_journal.specs.RefusingLaws.{both_or_not, just_none, just_more, just_some};
-    ghost use Rattle.hack_journal.specs.RefusingLaws.{within_none, within_more};
+    ghost use Rattle.hack_journal.specs.RefusingLaws.{both_more, both_none, both_or_not};
+    ghost use Rattle.hack_journal.specs.RefusingLaws.{just_none, just_more, just_some};
 
     ghost tells = { A.tells × B.tells };
 
     // The order of changes across the two is not known.
     ghost whole = { ⊥ };
 
-    // What `A` holds at paths of lockfiles never changes, nor what `B` holds at others, and only what
+    // What `A` holds at paths of lockfiles never changes, nor what `B` holds at others, and just what
     // failed in one of the two is counted.
     ghost stays = { λ a b. A.stays a.files b.files × B.stays a.lockfiles b.lockfiles
         × (A.tells → KeepsLockfiles (A.bytes_at a.files) (A.bytes_at b.files))
-        × GrowsWithin (A.failed a.files) (A.failed b.files)
+        × GrowsAsBoth (A.failed a.files) (A.failed b.files)
         (B.failed a.lockfiles) (B.failed b.lockfiles) a.failures b.failures
         × (B.tells → KeepsOtherFiles (B.bytes_at a.lockfiles) (B.bytes_at b.lockfiles)) };
 
@@ -71,7 +71,7 @@ impl<A: Files, B: Files> Files for Apart<A, B> {
       A.stays_none a.files,
       B.stays_none a.lockfiles,
       λ t q lock. refl,
-      within_none (A.failed a.files) (B.failed a.lockfiles) a.failures,
+      both_none (A.failed a.files) (B.failed a.lockfiles) a.failures,
       λ t q other. refl,
     ) };
 
@@ -79,7 +79,7 @@ impl<A: Files, B: Files> Files for Apart<A, B> {
       A.stays_more a.files b.files c.files f.0 g.0,
       B.stays_more a.lockfiles b.lockfiles c.lockfiles f.1 g.1,
       λ t q lock. g.2 t q lock ∙ f.2 t q lock,
-      within_more _ _ _ _ _ _ _ _ _ f.3 g.3,
+      both_more _ _ _ _ _ _ _ _ _ f.3 g.3,
       λ t q other. g.4 t q other ∙ f.4 t q other,
     ) };
 

@@ -10,7 +10,7 @@ use Rattle.hack_journal.specs.LockfilesApart.{KeepsLockfiles, apart, is_lockfile
 use Rattle.hack_journal.specs.FailedCalls.{CannotEnd}
 use Rattle.hack_journal.specs.Journal.{Edit}
 use Rattle.hack_journal.specs.SafeFiles.{AreBack, KeepFirst, without}
-use Rattle.hack_journal.specs.Refusing.{AreJust, GrowsWithin, HoldsByKind, IsRefused, IsRefusedOrUnkept}
+use Rattle.hack_journal.specs.Refusing.{AreJust, GrowsAsBoth, GrowsWithin, HoldsByKind, IsRefused, IsRefusedOrUnkept}
 use Rattle.hack_journal.specs.RefusingLaws.{grows_more}
 use Rattle.hack_journal.specs.Rows.{AreEach, KeepsBeside, Noted, Spot, file_at, is_of_journal}
 use Rattle.hack_journal.specs.declared.unkept.Unkept.{Ghosts as Noting}
@@ -100,7 +100,7 @@ entries_back j first mid before now [] more keeps all locks = tt
 entries_back j first mid before now (e ∷ es) more keeps all locks = (same_path j first mid before now all locks e.path keeps.1 ∙ keeps.0, entries_back j first mid before now es more keeps.3 all locks)
 
 -- a count of calls over two counts, and that over two others, with one that failed at the end
-pub accounted : (f g h l m u v one two last : ℕ) → GrowsWithin f g u v 0 one → GrowsWithin 0 one l m 0 two → (k : ℕ) × GrowsBy k g h × GrowsBy k two last → IsAccounted f h l m u v last
+pub accounted : (f g h l m u v one two last : ℕ) → GrowsWithin f g u v 0 one → GrowsAsBoth 0 one l m 0 two → (k : ℕ) × GrowsBy k g h × GrowsBy k two last → IsAccounted f h l m u v last
 accounted f g h l m u v one two last below both end = record {
   of_files = below.first + end.0;
   of_lockfiles = both.second;
@@ -113,7 +113,8 @@ accounted f g h l m u v one two last below both end = record {
       let again = both.one (omega arith) in
       let second = both.sum (omega arith) in
       let third = end.2 (omega (arith, second)) in
-      omega (arith, first, again, second, third, below.most, both.most);
+      omega (arith, first, again, second, third, below.most);
+  least = let second = both.sum (omega arith) in let third = end.2 (omega (arith, second)) in omega (arith, second, third);
 }
 
 -- what was refused over a journal was refused below it, or couldn't be kept

@@ -1,5 +1,5 @@
 -- What a call over files with a journal sees.
-use Rattle.std.specs.Prelude.{◌≡◌, ◌⊎◌, [], ◌∷◌, ◌+◌, ◌≤◌, ℕ, List, None}
+use Rattle.std.specs.Prelude.{◌≡◌, ◌⊎◌, [], ◌∷◌, ◌+◌, ◌≤◌, ℕ, List, None, ◌-◌, ◌^◌, min}
 use Rattle.hack_base.specs.Counters.{GrowsBy}
 use Rattle.hack_files.specs.Files.{Contents}
 use Rattle.hack_journal.specs.Journal.{Edit}
@@ -25,7 +25,8 @@ files_seen journal files lockfiles failed = record { held = contents_seen journa
 abbrev pub world_seen : List ℕ → Contents → Contents → ℕ → HostView → World
 world_seen journal files lockfiles failed host = record { files = files_seen journal files lockfiles failed; host = host }
 
--- a number of failures is no greater than by how much three counts grew together
+-- a number of failures is no greater than by how much three counts grew together, and no less than that of the
+-- lockfiles grew
 pub record IsAccounted (files_old files_new lockfiles_old lockfiles_new unkept_old unkept_new number : ℕ) : Type 0 where
   pub of_files : ℕ
   pub of_lockfiles : ℕ
@@ -34,6 +35,7 @@ pub record IsAccounted (files_old files_new lockfiles_old lockfiles_new unkept_o
   pub lockfiles : GrowsBy of_lockfiles lockfiles_old lockfiles_new
   pub unkept : GrowsBy of_unkept unkept_old unkept_new
   pub most : number ≤ of_files + of_lockfiles + of_unkept
+  pub least : min of_lockfiles (2 ^ 64 - 1) ≤ number
 
 -- the journal's files, in order, hold entries of which one is of this path
 pub record IsInJournal (spot : Spot) (held : Contents) (path : List ℕ) : Type 0 where

@@ -1,5 +1,5 @@
 use Rattle.std.proofs.Common.{◌≡◌, ap, refl, rules}
-use Rattle.hack_journal.proofs.RefusingLemmas.{just_looks, just_refused, other_file, other_lockfile, refused_lockfile, refused_other, within_first, within_second}
+use Rattle.hack_journal.proofs.RefusingLemmas.{just_looks, just_refused, other_file, other_lockfile, refused_lockfile, refused_other, both_first, both_second}
 use Rattle.hack_journal.proofs.apart.ApartFiles.remove.Goals.{then-is_lockfile, else-is_lockfile}
 use Rattle.hack_journal.proofs.apart.ApartFiles.remove.Goals as goal
 
@@ -9,8 +9,8 @@ returns-clause-changes g c =
     let counted = rw same at c.counted.ensures.counted in
     record {
       stays = elim c.if-is_lockfile.branch [
-        | then-is_lockfile w ↦ rw w.self-is (g.A.Files.stays_none _, w.remove-outcome.ensures.stays, (λ t q lock. refl), within_second w.remove-outcome.result _ _ _ _ _ w.remove-outcome.ensures.counted (rw w.outcome-is at counted), (λ t q other. w.remove-outcome.ensures.others t q (other_file c.args.path.now q w.if-is_lockfile.ensures other)))
-        | else-is_lockfile w ↦ rw w.self-is (w.remove-outcome-else-is_lockfile.ensures.stays, g.B.Files.stays_none _, (λ t q lock. w.remove-outcome-else-is_lockfile.ensures.others t q (other_lockfile c.args.path.now q w.if-is_lockfile.ensures lock)), within_first w.remove-outcome-else-is_lockfile.result _ _ _ _ _ w.remove-outcome-else-is_lockfile.ensures.counted (rw w.outcome-is at counted), (λ t q other. refl))
+        | then-is_lockfile w ↦ rw w.self-is (g.A.Files.stays_none _, w.remove-outcome.ensures.stays, (λ t q lock. refl), both_second w.remove-outcome.result _ _ _ _ _ w.remove-outcome.ensures.counted (rw w.outcome-is at counted), (λ t q other. w.remove-outcome.ensures.others t q (other_file c.args.path.now q w.if-is_lockfile.ensures other)))
+        | else-is_lockfile w ↦ rw w.self-is (w.remove-outcome-else-is_lockfile.ensures.stays, g.B.Files.stays_none _, (λ t q lock. w.remove-outcome-else-is_lockfile.ensures.others t q (other_lockfile c.args.path.now q w.if-is_lockfile.ensures lock)), both_first w.remove-outcome-else-is_lockfile.result _ _ _ _ _ w.remove-outcome-else-is_lockfile.ensures.counted (rw w.outcome-is at counted), (λ t q other. refl))
       ];
       counted = search rules;
       refused_path = elim c.if-is_lockfile.branch [
