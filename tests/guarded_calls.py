@@ -56,6 +56,14 @@ def with_its_guard(place):
     place.restores(PLAIN, [])
 
 
+def without_streams(place):
+    """Signal 9 to a call whose three streams are closed: no file got their numbers, so its guard hears of the end."""
+    place.lay_out()
+    place.interrupt(MORE + ENDS_IT, closed=True)
+    place.had_journal()
+    place.as_before()
+
+
 def while_cargo_runs(place):
     """Signal 9 to the program alone, where the cargo that it ran goes on for seconds: the guard doesn't wait for it."""
     place.lay_out()
@@ -463,6 +471,7 @@ def all_tries(place, places, count):
     }
     looks = {
         "SIGKILL to its group": with_its_guard,
+        "closed streams": without_streams,
         "a cargo that goes on": while_cargo_runs,
         "to its end": to_its_end,
         "a run that fails": failing_run,

@@ -188,9 +188,9 @@ class Place:
             notes = 'cat "$W/p/Cargo.toml" > "$0.manifest"\nls -d "$J"* > "$0.journal" 2> /dev/null\n'
             write(f"{self.cargo}.do", notes + script)
 
-    def start(self, words, folder=None, shell=True, terminal=None, **more):
+    def start(self, words, folder=None, shell=True, terminal=None, closed=False, **more):
         """Starts a call in a folder, that of the workspace if none is said, in a session of its own. Without a shell there is
-        no guard; with a terminal it is the session's."""
+        no guard; with a terminal it is the session's. Its three streams may be closed."""
         path = os.environ["PATH"] if shell else f"{self.tools}/nothing"
         environment = {"PATH": path, "CARGO": self.cargo, "CARGO_HACK_RUSTUP": self.cargo, **more}
         how = {"cwd": folder or self.workspace, "env": environment, "start_new_session": True}
@@ -198,6 +198,8 @@ class Place:
             streams = {"stdin": subprocess.DEVNULL, "stdout": subprocess.DEVNULL, "stderr": err}
             if terminal is not None:
                 streams = {**dict.fromkeys(streams, terminal), "preexec_fn": own_terminal}
+            if closed:
+                streams["preexec_fn"] = lambda: os.closerange(0, 3)
             return subprocess.Popen([self.program, *words], **streams, **how)
 
     def end(self, call, seconds=1):

@@ -54,7 +54,7 @@ HIDDEN = [
             "Run up to NUM commands at once, from 1 to 256, in the order and with the outcomes of one by one.",
             "Each has an empty input, and what it writes appears whole at its turn. The first builds into the target folder, others"
             " into folders cargo-hack-lane-K in it, which stay; dependencies are built once for each. Unless CARGO_BUILD_JOBS is"
-            " set, the processors are shared between them.",
+            " set, the processors are shared between them. Where cargo gets --target-dir, they go one by one.",
             "Toolchains, lockfiles and cleaning wait until nothing runs. After a failed run, without --keep-going, what was started"
             " ahead is ended, and shows nothing.",
             "This flag may not be used together with --print-command-list or --clean-per-run flag.",
