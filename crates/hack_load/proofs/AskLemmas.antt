@@ -1,7 +1,7 @@
 -- Questions to cargo that fail.
-use Rattle.std.proofs.Common.{◌≡◌, inl, inr, ℕ, List, Option, Result, sym, subst, true, string_bytes}
+use Rattle.std.proofs.Common.{◌≡◌, inr, ℕ, List, Option, Result, subst, true, string_bytes}
 use Rattle.hack_base.specs.Names.{Name}
-use Rattle.hack_process.specs.Calls.{Asked, Call, MayAdd}
+use Rattle.hack_process.specs.Calls.{Asked, Call}
 use Rattle.hack_process.specs.CommandTexts.{Command, text_of}
 use Rattle.hack_process.specs.Commands.{asked_of}
 use Rattle.hack_process.specs.Faults.{IsReadFault}
@@ -10,17 +10,8 @@ use Rattle.hack_process.specs.declared.fault.ProcessFault.TheVariants as process
 use Rattle.hack_words.specs.declared.cli.args.Args.{Args}
 use Rattle.hack_words.specs.declared.cli.env.Env.{Env}
 use Rattle.hack_load.specs.CargoQuestions.{FailsLocate, FailsSelf, IsSelf, self_command}
-use Rattle.hack_load.specs.Internal.{IsOfProcess}
 use Rattle.hack_load.specs.declared.fault.ContextFault.{ContextFault}
 use Rattle.hack_load.specs.declared.fault.ContextFault.TheVariants as faults
-
--- a command that failed may have been called
-pub fault-may : (tells : Type 0) (asked : Asked) (shown : Name) (old new : List Call) (e : ProcessFault) → IsReadFault tells asked shown old new e → tells → MayAdd asked old new
-fault-may tells asked shown old new process.Memory h t = h.1 t
-fault-may tells asked shown old new process.EmptyProgram h t = inl (h.1 t)
-fault-may tells asked shown old new (process.NeverExecuted text) h t = let had = h.2 t in inr (had.0, had.2)
-fault-may tells asked shown old new (process.Failed failure) h t = let had = h.3 t in inr (had.0, had.2)
-fault-may tells asked shown old new (process.NotText text) h t = let had = h.2 t in inr (had.0, had.2)
 
 -- the error of a read, where the caller says which calls were made
 pub fault-told : (tells : Type 0) (asked : Asked) (shown : Name) (old new : List Call) (e : ProcessFault) → tells → IsReadFault tells asked shown old new e → IsReadFault (Unit {0}) asked shown old new e
@@ -29,15 +20,6 @@ fault-told tells asked shown old new process.EmptyProgram t h = (h.0, λ _. h.1 
 fault-told tells asked shown old new (process.NeverExecuted text) t h = (h.0, h.1, λ _. h.2 t)
 fault-told tells asked shown old new (process.Failed failure) t h = (h.0, h.1, h.2, λ _. h.3 t)
 fault-told tells asked shown old new (process.NotText text) t h = (h.0, h.1, λ _. h.2 t)
-
--- an error of the question for the current manifest
-pub locate-fault : (tells : Type 0) (c : Command) (dir : Name) (old new : List Call) (f : ProcessFault) (e : ContextFault)
-    → IsOfProcess f e → IsReadFault tells (asked_of true c) (text_of true dir c) old new f → FailsLocate tells c dir old new e
-locate-fault tells c dir old new process.Memory e is h = subst (λ v. FailsLocate tells c dir old new v) (sym is) h.1
-locate-fault tells c dir old new process.EmptyProgram e is h = subst (λ v. FailsLocate tells c dir old new v) (sym is) (h, λ eq. cc)
-locate-fault tells c dir old new (process.NeverExecuted text) e is h = subst (λ v. FailsLocate tells c dir old new v) (sym is) (h, λ eq. cc)
-locate-fault tells c dir old new (process.Failed failure) e is h = subst (λ v. FailsLocate tells c dir old new v) (sym is) (h, λ eq. cc)
-locate-fault tells c dir old new (process.NotText text) e is h = subst (λ v. FailsLocate tells c dir old new v) (sym is) (h, λ eq. cc)
 
 pub locate-told : (tells : Type 0) (c : Command) (dir : Name) (old new : List Call) (e : ContextFault) → tells → FailsLocate tells c dir old new e → FailsLocate (Unit {0}) c dir old new e
 locate-told tells c dir old new faults.Memory t h = λ _. h t

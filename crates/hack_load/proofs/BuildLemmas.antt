@@ -29,9 +29,6 @@ features-long m asked (id ∷ ids) (x ∷ xs) (f ∷ fs) h = ap suc (features-lo
 abbrev pub Completes : MetadataRecord → Bool → List ℕ → List Manifest → ℕ → List Features → Type 0
 Completes m asked ids xs i fs = (more : List Features) → AreFeatures m asked (drop i ids) (drop i xs) more → AreFeatures m asked ids xs (fs ++ more)
 
-pub completes-none : (m : MetadataRecord) (asked : Bool) (ids : List ℕ) (xs : List Manifest) → Completes m asked ids xs 0 []
-completes-none m asked ids xs = λ more h. h
-
 pub completes-more : (m : MetadataRecord) (asked : Bool) (ids : List ℕ) (xs : List Manifest) (i id : ℕ) (x : Manifest) (f : Features) (fs now : List Features)
     → length xs ≡ length ids → i < length xs → x ≡ get_or xs i x → id ≡ get_or ids i id → AreCandidates m (feature_map x.features) id asked f → now ≡ fs ++ f ∷ []
     → Completes m asked ids xs i fs → Completes m asked ids xs (i + 1) now
@@ -51,10 +48,6 @@ completes-all m asked ids xs i fs long le before =
     let none : AreFeatures m asked (drop i ids) (drop i xs) [] =
     subst (λ a. AreFeatures m asked a (drop i xs) []) (sym (drop_all i ids (omega (arith, le, long)))) (subst (λ b. AreFeatures m asked [] b []) (sym (drop_all i xs le)) tt) in
     subst (λ l. AreFeatures m asked ids xs l) (append-nil fs) (before [] none)
-
--- no member misses its node
-pub none-misses : (m : MetadataRecord) (asked : Bool) (ids : List ℕ) (i : ℕ) → length ids ≤ i → ((k d : ℕ) → k < i → ¬ MissesNode m (get_or ids k d) asked) → (id : ℕ) → Contains ids id → ¬ MissesNode m id asked
-none-misses m asked ids i le none id h = λ miss. none h.0 id (omega (arith, h.1, le)) (subst (λ v. MissesNode m v asked) (sym h.2) miss)
 
 pub misses-more : (m : MetadataRecord) (asked : Bool) (ids : List ℕ) (i id : ℕ) → i < length ids → id ≡ get_or ids i id → ¬ MissesNode m id asked → ((k d : ℕ) → k < i → ¬ MissesNode m (get_or ids k d) asked) → (k d : ℕ) → k < i + 1 → ¬ MissesNode m (get_or ids k d) asked
 misses-more m asked ids i id lt is here before k d l =

@@ -203,11 +203,6 @@ picked-take m all d rest name f fs new e i h is push p =
           ∙ p.whole;
     }
 
-pub picked-end : (m : FeatureMap) (all left : List DependencyRecord) (fs : List Feature) → left ≡ [] → Picked m all left fs → AllZip IsNormal (optional_names m all) fs
-picked-end m all left fs none p =
-    subst (λ (l : List Name). AllZip IsNormal l fs)
-    (sym (append-nil (texts_of fs)) ∙ ap (λ ds. texts_of fs ++ picked (texts_of fs) (names_left m ds)) (sym none) ∙ p.whole) p.are
-
 -- ---- the names of all candidates
 
 -- whether one of three lists has a name

@@ -3,9 +3,6 @@ use Rattle.std.proofs.Common.{inl, inr, ℕ, List, [], ◌∷◌, Result, Ok, Er
 use Rattle.hack_base.specs.Names.{Name}
 use Rattle.hack_files.specs.Files.{Change, Contents, Grows, KeepsAll, Makes}
 use Rattle.hack_base.specs.Counters.{GrowsBy}
-use Rattle.hack_files.specs.Faults.{IsOfText}
-use Rattle.hack_files.specs.declared.fs.FsFault.{FsFault}
-use Rattle.hack_files.specs.declared.fs.FsFault.TheVariants as fs
 use Rattle.hack_metadata.specs.FilesAfterAsking.{Whole, Spoilt, LeftBy}
 use Rattle.hack_metadata.specs.declared.ask.fault.AskFault.{AskFault}
 use Rattle.hack_metadata.specs.declared.ask.fault.AskFault.TheVariants as ask
@@ -65,14 +62,6 @@ few-reads tells a b c x y z (Ok v) f g = few-whole tells a c x z (whole-more tel
 few-reads tells a b c x y z (Err e) f g = few-may tells a c x z (may-more tells a b c x y z f g)
 
 -- ---- one file that is read
-
--- a file that can't be read
-pub text-may : (path : Name) (tells : Type 0) (a b : Contents) (x y : ℕ) (e : FsFault) → (tells → KeepsAll a b) → IsOfText path tells (a path) x y e → MayFail tells a b x y
-text-may path tells a b x y (fs.Read p) keep h = inr (h.1, keep)
-text-may path tells a b x y (fs.Write p) keep h = absurd h
-text-may path tells a b x y (fs.NotText p) keep h = inl (h.1, keep)
-text-may path tells a b x y fs.Memory keep (inl h) = inl (h, keep)
-text-may path tells a b x y fs.Memory keep (inr h) = inr (h, keep)
 
 may-grow : (tells : Type 0) (a b : Contents) (x y : ℕ) → MayFail tells a b x y → Grows x y × (tells → KeepsAll a b)
 may-grow tells a b x y (inl h) = ((0, h.0), h.1)

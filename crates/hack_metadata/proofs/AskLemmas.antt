@@ -1,28 +1,19 @@
 -- Errors of commands, and what follows from them.
-use Rattle.std.proofs.Common.{◌≡◌, inl, inr, ℕ, List, [], ◌∷◌, ◌++◌, Some, None, Ok, Err, refl, sym, ◌∙◌, ap, subst, true, string_bytes, codes, map}
+use Rattle.std.proofs.Common.{◌≡◌, inl, inr, ℕ, List, [], ◌∷◌, ◌++◌, Some, None, refl, sym, ◌∙◌, ap, subst, true, string_bytes, codes, map}
 use Rattle.hack_base.specs.Names.{Name}
-use Rattle.hack_process.specs.Calls.{Asked, Call, MayAdd}
+use Rattle.hack_process.specs.Calls.{Asked, Call}
 use Rattle.hack_process.specs.CommandTexts.{Command}
 use Rattle.hack_process.specs.Commands.{asked_of}
 use Rattle.hack_process.specs.Faults.{IsFault, IsReadFault}
 use Rattle.hack_process.specs.declared.fault.ProcessFault.{ProcessFault}
 use Rattle.hack_process.specs.declared.fault.ProcessFault.TheVariants as p
-use Rattle.std.specs.Prelude.{IfOk, MatchOption, OnErr, Option, Result}
-use Rattle.std.specs.declared.alloc.AllocError.{AllocError}
+use Rattle.std.specs.Prelude.{MatchOption, Option}
 use Rattle.std.proofs.Common.{Global, String}
 use Rattle.hack_metadata.specs.QuestionCalls.{FailsToRead, ReadsOutput, MinorOf, TellsStableMinor}
 use Rattle.hack_metadata.specs.Requests.{version_command, platform_words}
 use Rattle.std.proofs.Common.{◌<◌, ◌+◌, length, get_or, take}
 use Rattle.std.proofs.lemmas.List.{take_more, map-append}
 use Rattle.std.proofs.lemmas.Grind.{flat_map-append}
-
--- a command that failed may have been called
-pub read-may : (tells : Type 0) (asked : Asked) (shown : Name) (old new : List Call) (e : ProcessFault) → IsReadFault tells asked shown old new e → tells → MayAdd asked old new
-read-may tells asked shown old new p.Memory h t = h.1 t
-read-may tells asked shown old new p.EmptyProgram h t = inl (h.1 t)
-read-may tells asked shown old new (p.NeverExecuted text) h t = let had = h.2 t in inr (had.0, had.2)
-read-may tells asked shown old new (p.Failed failure) h t = let had = h.3 t in inr (had.0, had.2)
-read-may tells asked shown old new (p.NotText text) h t = let had = h.2 t in inr (had.0, had.2)
 
 -- an error of running a command is also one of reading its output
 pub fault-read : (tells : Type 0) (asked : Asked) (shown : Name) (old new : List Call) (e : ProcessFault) → IsFault tells asked shown old new e → IsReadFault tells asked shown old new e
@@ -54,13 +45,6 @@ pub failed-stable : (tells : Type 0) (rustup : Name) (c : Command) (o : Option (
 failed-stable tells rustup c o old new asks is h told =
     let failed : FailsToRead c old new = subst (λ x. MatchOption x (FailsToRead c old new) (λ t. ReadsOutput c (string_bytes t) old new)) is (h told) in
     inr (subst (λ k. FailsToRead k old new) asks failed, refl)
-
--- a command whose output was read, or not, may have been called
-pub tried-may : (tells : Type 0) (c : Command) (old new : List Call) (r : Result (Option (String Global)) AllocError) → IfOk r (λ told. tells → MatchOption told (FailsToRead c old new) (λ t. ReadsOutput c (string_bytes t) old new))
-    → OnErr r (tells → MayAdd (asked_of true c) old new) → tells → MayAdd (asked_of true c) old new
-tried-may tells c old new (Ok None) ok err t = elim (ok t) [ inl h ↦ inl h.1 | inr h ↦ inr (h.0, h.2) ]
-tried-may tells c old new (Ok (Some text)) ok err t = let h = ok t in inr (h.0, h.2)
-tried-may tells c old new (Err e) ok err t = err t
 
 -- one more platform
 pub platforms-more : (xs : List (String Global)) (i : ℕ) (x : String Global) → i < length xs → x ≡ get_or xs i x → platform_words (map string_bytes (take (i + 1) xs)) ≡ platform_words (map string_bytes (take i xs)) ++ (codes "--filter-platform" ∷ string_bytes x ∷ [])

@@ -8,12 +8,9 @@ use Rattle.std.proofs.lemmas.Bool.{cases_Bool, true≢false}
 use Rattle.std.proofs.lemmas.List.{append-nil}
 use Rattle.serde_json.specs.Data.{Members}
 use Rattle.hack_base.specs.Names.{Name}
-use Rattle.hack_files.specs.Faults.{IsOfRead, IsOfWrite}
-use Rattle.hack_files.specs.Files.{Change, Contents, KeepsOthers, Makes, MakesOrNot, puts}
+use Rattle.hack_files.specs.Files.{Change, Contents, KeepsOthers, Makes, puts}
 use Rattle.hack_base.specs.Counters.{GrowsBy}
 use Rattle.hack_files.specs.Restore.{Kept, write_of}
-use Rattle.hack_files.specs.declared.fs.FsFault.{FsFault}
-use Rattle.hack_files.specs.declared.fs.FsFault.TheVariants as fs
 use Rattle.hack_files.proofs.FilesLemmas.{makes_more}
 use Rattle.hack_process.specs.Calls.{Asked, Call, MayAdd}
 use Rattle.hack_process.specs.CommandTexts.{Command, text_of}
@@ -25,11 +22,11 @@ use Rattle.hack_metadata.specs.QuestionCalls.{Stage, first, locked, newer, taken
 use Rattle.hack_metadata.specs.InternalQuestionCalls.{AsksCargo, UsesAnswer, FailsFirst, FallsBack, IsTextFault, FailsAs}
 use Rattle.hack_metadata.specs.Fields.{object_in_text}
 use Rattle.hack_base.specs.FieldReadings.{FieldReading}
-use Rattle.hack_metadata.specs.FileFaults.{IsUnread, IsUnwritten}
+use Rattle.hack_metadata.specs.FileFaults.{IsUnread}
 use Rattle.hack_metadata.specs.MetadataReading.{read_metadata}
 use Rattle.hack_metadata.specs.Requests.{Question, by_stable, first_command}
 use Rattle.hack_metadata.specs.FilesAfterAsking.{LeftBy, LeavesFiles, Spoilt, Whole}
-use Rattle.hack_metadata.specs.Internal.{FailsOver, IsFileFault, IsNoFileFault, IsAskFaultOfFile, KeepsOneMore, PutsHeld}
+use Rattle.hack_metadata.specs.Internal.{FailsOver, IsFileFault, IsNoFileFault, KeepsOneMore, PutsHeld}
 use Rattle.hack_metadata.specs.MetadataView.{metadata_view}
 use Rattle.hack_metadata.specs.declared.metadata.Metadata.{Metadata}
 use Rattle.hack_metadata.specs.declared.ask.fault.AskFault.{AskFault}
@@ -98,20 +95,6 @@ question-stops q now minor e (inr h) = subst (λ x. StopsQuestion q (versioned m
 
 -- ---- errors of the lockfile
 
--- a read that failed
-pub of-read : (path : Name) (f : FsFault) (e : AskFault) → IsAskFaultOfFile f e → IsOfRead path f → IsFileFault (IsUnread path) e
-of-read path fs.Memory e is h = subst (IsFileFault (IsUnread path)) (sym is) tt
-of-read path (fs.Read p) e is h = subst (IsFileFault (IsUnread path)) (sym is) h
-of-read path (fs.Write p) e is h = absurd h
-of-read path (fs.NotText p) e is h = absurd h
-
--- a write that failed
-pub of-write : (path : Name) (f : FsFault) (e : AskFault) → IsAskFaultOfFile f e → IsOfWrite path f → IsFileFault (IsUnwritten path) e
-of-write path fs.Memory e is h = subst (IsFileFault (IsUnwritten path)) (sym is) tt
-of-write path (fs.Read p) e is h = absurd h
-of-write path (fs.Write p) e is h = subst (IsFileFault (IsUnwritten path)) (sym is) h
-of-write path (fs.NotText p) e is h = absurd h
-
 pub unread-over : (path : Name) (still done : Type 0) (e : AskFault) → still → done → IsFileFault (IsUnread path) e → FailsOver path still done e
 unread-over path still done fault.Memory s d h = d
 unread-over path still done (fault.Files f) s d h = inl (s, h)
@@ -119,14 +102,6 @@ unread-over path still done fault.NoHost s d h = absurd h
 unread-over path still done (fault.Process p) s d h = absurd h
 unread-over path still done (fault.Output text) s d h = absurd h
 unread-over path still done (fault.Field name) s d h = absurd h
-
-pub unwritten-over : (path : Name) (still done : Type 0) (e : AskFault) → done → IsFileFault (IsUnwritten path) e → FailsOver path still done e
-unwritten-over path still done fault.Memory d h = d
-unwritten-over path still done (fault.Files f) d h = inr (d, h)
-unwritten-over path still done fault.NoHost d h = absurd h
-unwritten-over path still done (fault.Process p) d h = absurd h
-unwritten-over path still done (fault.Output text) d h = absurd h
-unwritten-over path still done (fault.Field name) d h = absurd h
 
 -- the lockfile can't be looked for
 pub there-stops : (q : Question) (now : List Call) (minor : ℕ) (text path : Name) (e : AskFault) → IsLockfile text path → IsFileFault (IsUnread path) e → StopsQuestion q (first minor text) now now e
@@ -238,12 +213,6 @@ module _ (tells whole : Type 0) (a b c : Contents) (s t u : List Change) (x y : 
 module _ (tells whole : Type 0) (path : Name) (a b c : Contents) (s t u : List Change) (old mid : List Kept) (keeps : KeepsOneMore path tells a old mid) (none : whole → Makes [] s t a b) where
   pub held-back : ((file : Kept) (earlier : List Kept) → mid ≡ earlier ++ file ∷ [] → whole → Makes (write_of file ∷ []) t u b c) → PutsHeld tells a path (λ put. whole → Makes (put ∷ []) s u a c)
   held-back back = (keeps.0, keeps.2, λ w. makes_more [] (puts path keeps.0 ∷ []) s t u a b c (none w) (back (record { path = path; bytes = keeps.0 }) old keeps.1 w))
-
-  pub held-or : ((file : Kept) (earlier : List Kept) → mid ≡ earlier ++ file ∷ [] → whole → MakesOrNot (write_of file) t u b c) → whole → Makes [] s u a c ⊎ PutsHeld tells a path (λ put. Makes (put ∷ []) s u a c)
-  held-or back w = elim (back (record { path = path; bytes = keeps.0 }) old keeps.1 w) [
-    | inl m ↦ inl (makes_more [] [] s t u a b c (none w) m)
-    | inr m ↦ inr (keeps.0, keeps.2, makes_more [] (puts path keeps.0 ∷ []) s t u a b c (none w) m)
-  ]
 
 -- ---- where a question ends
 

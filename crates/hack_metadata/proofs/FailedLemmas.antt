@@ -1,12 +1,10 @@
 -- Which calls of files failed, and what became of the lockfile.
 use Rattle.std.specs.Prelude.{IfErr, Result}
-use Rattle.std.proofs.Common.{◌≡◌, ◌⊎◌, ◌∙◌, inl, inr, ℕ, List, [], ◌∷◌, None, Some, Ok, Err, sym, subst}
+use Rattle.std.proofs.Common.{◌≡◌, ◌⊎◌, ◌∙◌, inl, inr, ℕ, List, [], ◌∷◌, Some, Ok, Err, sym, subst}
 use Rattle.hack_base.specs.Names.{Name}
-use Rattle.hack_files.specs.Faults.{IsOfRead}
 use Rattle.hack_files.specs.Files.{Change, KeepsAll, Makes, puts}
-use Rattle.hack_files.specs.FailedCalls.{LookFailed, NoneFailed, ReadFailed, WriteFailed}
+use Rattle.hack_files.specs.FailedCalls.{LookFailed, NoneFailed, WriteFailed}
 use Rattle.hack_files.specs.declared.fs.Files.{Ghosts as Filing}
-use Rattle.hack_files.specs.declared.fs.FsFault.{FsFault}
 use Rattle.hack_files.specs.declared.fs.FsFault.TheVariants as fs
 use Rattle.hack_files.proofs.FailedLemmas.{look_then, none_failed, none_then, read_then, write_then}
 use Rattle.hack_files.proofs.FilesLemmas.{makes_more}
@@ -16,7 +14,7 @@ use Rattle.hack_process.specs.Commands.{plain_command}
 use Rattle.hack_process.specs.declared.fault.ProcessFault.{ProcessFault}
 use Rattle.hack_metadata.specs.FailedQuestions.{FailsFirstLook, FailsOnlyAt, FailsSo, IsOfLook, IsOfCallAt, IsPutBack}
 use Rattle.hack_metadata.specs.FileFaults.{IsUnread, IsUnwritten}
-use Rattle.hack_metadata.specs.Internal.{IsAskFaultOfFile, IsFileFault, IsNoFileFault}
+use Rattle.hack_metadata.specs.Internal.{IsFileFault, IsNoFileFault}
 use Rattle.hack_metadata.specs.InternalQuestionCalls.{AsksCargo, FailsAs, FailsFirst, FallsBack, UsesAnswer}
 use Rattle.hack_metadata.specs.QuestionCalls.{FailsToRead, IsLockfile, LeadsToStage, PutsBack, answers, asks_again, first, first_counts, locked, newer, taken, tells_older, to_cargo}
 use Rattle.hack_metadata.specs.Requests.{Question, by_stable, first_command}
@@ -38,21 +36,6 @@ module _ {F : Type 0} (f : Filing F) where
   look-of path a b (fault.Process p) is h = absurd is
   look-of path a b (fault.Output text) is h = absurd is
   look-of path a b (fault.Field name) is h = absurd is
-
-  -- a read that failed
-  pub read-of : (path : Name) (a b : F) → f.refuses a b [] → f.unseen a b (path ∷ []) ⊎ (f.unseen a b [] × f.tells × (f.bytes_at a path ≡ None)) → ReadFailed f path a b
-  read-of path a b refused (inl unseen) = inl (record { unseen = unseen; refused = refused })
-  read-of path a b refused (inr (unseen, tells, is)) = inr (record { unseen = unseen; refused = refused }, tells, is)
-
-  read-memory : (path : Name) (a b : F) → ReadFailed f path a b → IsOfCallAt f path a b fault.Memory
-  read-memory path a b (inl look) = inr (inl look)
-  read-memory path a b (inr h) = inl h.0
-
-  pub read-fails : (path : Name) (a b : F) (r : FsFault) (e : AskFault) → IsAskFaultOfFile r e → IsOfRead path r → ReadFailed f path a b → IsOfCallAt f path a b e
-  read-fails path a b fs.Memory e is of h = subst (IsOfCallAt f path a b) (sym is) (read-memory path a b h)
-  read-fails path a b (fs.Read p) e is of h = subst (IsOfCallAt f path a b) (sym is) (of, h)
-  read-fails path a b (fs.Write p) e is of h = absurd of
-  read-fails path a b (fs.NotText p) e is of h = absurd of
 
   -- a write that was refused
   pub write-of : (path : Name) (a b : F) (e : AskFault) → IsFileFault (IsUnwritten path) e → WriteFailed f path a b → IsOfCallAt f path a b e

@@ -66,10 +66,3 @@ module _ (m n : BTreeMap (String Global) (Vec (String Global) Global)) (left res
             ∙ ap (λ l. option_map (λ more. feature_map m ++ more) (features_of (members_view l))) (sym first)
             ∙ before.features;
       }
-
-  -- a member that is no array of texts: there are no features
-  pub features-none : left ≡ (k, value) ∷ rest → None ≡ option_and_then texts_of_items (as_array (view value)) → Turns m left keys whole → None ≡ whole
-  features-none first texts before =
-      ap (λ found. option_map (λ more. feature_map m ++ more) (option_and_then (λ values. option_map (λ features. (string_bytes k, values) ∷ features) (features_of (members_view rest))) found)) texts
-      ∙ ap (λ l. option_map (λ more. feature_map m ++ more) (features_of (members_view l))) (sym first)
-      ∙ before.features

@@ -1,5 +1,5 @@
 -- Which package an id means, and ids each once.
-use Rattle.std.proofs.Common.{◌≡◌, ◌==◌, ◌&&◌, ◌||◌, not, ℕ, suc, ◌+◌, ◌<◌, ◌≤◌, Bool, true, false, cond, List, [], ◌∷◌, ◌++◌, map, length, take, drop, get_or, String, BTreeMap, BTreeSet, Global, Option, Some, None, option_map, string_bytes, nat_cmp, append_assoc, append-nil, arith, refl, sym, ap, ◌∙◌, inl, inr}
+use Rattle.std.proofs.Common.{◌≡◌, ◌==◌, ◌&&◌, ◌||◌, not, ℕ, suc, ◌+◌, ◌<◌, ◌≤◌, Bool, true, false, cond, List, [], ◌∷◌, ◌++◌, map, length, take, drop, get_or, String, BTreeMap, BTreeSet, Global, Option, Some, None, option_map, string_bytes, nat_cmp, append_assoc, arith, refl, sym, ap, ◌∙◌, inl, inr}
 use Rattle.std.specs.Prelude.{fold}
 use Rattle.std.specs.List.{enumerate_from, filter, list_any}
 use Rattle.std.specs.Option.{option_or}
@@ -10,7 +10,7 @@ use Rattle.std.specs.Ordering.{is_eq}
 use Rattle.std.specs.Map.{update}
 use Rattle.std.proofs.lemmas.Bool.{cases_Bool, eqb-true}
 use Rattle.std.proofs.lemmas.Bool.Decides.{nat_tests}
-use Rattle.std.proofs.lemmas.List.{length-take, length-map, take_all, drop_all}
+use Rattle.std.proofs.lemmas.List.{length-take, length-map, take_all}
 use Rattle.std.proofs.lemmas.List.Folds.{list_any-append}
 use Rattle.std.proofs.Math.Path.{fun_ext}
 use Rattle.std.proofs.Math.Seq.{drop-cons}
@@ -185,8 +185,3 @@ kept-turn all k x kept new seen grown lt is pushed grows before =
       whole = turn-at (has kept x) x (drop (k + 1) all) kept new all refl pushed' (ap (λ l. kept ++ filter (absent kept) (distinct ◌==◌ l)) (sym here) ∙ before.whole);
       same = λ y. grows y ∙ ap (λ b. cond (x == y) true b) (before.same y) ∙ same-at (has kept x) (x == y) x y kept new refl pushed' refl;
     }
-
--- at the end all are kept
-pub kept-end : (all : List ℕ) (k : ℕ) (kept : List ℕ) (seen : BTreeSet ℕ) → length all ≤ k → AreKept all k kept seen → kept ≡ distinct ◌==◌ all
-kept-end all k kept seen past done =
-    sym (append-nil kept) ∙ ap (λ l. kept ++ filter (absent kept) (distinct ◌==◌ l)) (sym (drop_all k all past)) ∙ done.whole

@@ -17,8 +17,8 @@ use Rattle.hack_base.specs.Notes.{Note, note_of}
 use Rattle.hack_base.specs.declared.notice.Notice.{Notice}
 use Rattle.hack_versions.specs.declared.version.Version.{Version}
 use Rattle.hack_planner.specs.Calls.{IsInputOf, IsPackageOf, table_fault}
-use Rattle.hack_planner.specs.CallPlan.{IsCause, IsPackagesCause, run_counts}
-use Rattle.hack_planner.specs.Internal.{SaysFault, SaysRangeRefused}
+use Rattle.hack_planner.specs.CallPlan.{IsCause, run_counts}
+use Rattle.hack_planner.specs.Internal.{SaysRangeRefused}
 use Rattle.hack_planner.specs.InternalFaultConversions.{of_places}
 use Rattle.hack_planner.specs.declared.fault.PlanFault.{PlanFault}
 use Rattle.hack_planner.specs.declared.fault.PlanFault.TheVariants as fault
@@ -83,25 +83,3 @@ all-told old features range left n1 n2 n3 of_features of_left e1 e2 e3 told_feat
     ∙ map-append note_of old (features ++ (range ++ left))
     ∙ ap (λ l. map note_of old ++ l) (map-append note_of features (range ++ left) ∙ ap (λ l. map note_of features ++ l) (map-append note_of range left ∙ ap (λ l. map note_of range ++ l) told))
     ∙ ap (λ l. map note_of old ++ (l ++ (map note_of range ++ of_left))) told_features
-
--- what is wrong with the tables of the chosen packages is a cause
-pub table-cause : (cx : ContextRecord) (ids : List ℕ) (e : PlanFault) → AreChosen cx ids → (e ≡ fault.Memory) ⊎ SaysFault (table_fault cx ids) e → (e ≡ fault.Memory) ⊎ IsPackagesCause cx e
-table-cause cx ids fault.Memory chosen h = inl refl
-table-cause cx ids (fault.Stable text) chosen (inl m) = absurd (cc)
-table-cause cx ids (fault.Stable text) chosen (inr bad) = absurd bad
-table-cause cx ids (fault.Packages e) chosen (inl m) = absurd (cc)
-table-cause cx ids (fault.Packages e) chosen (inr bad) = absurd bad
-table-cause cx ids (fault.PackageRules field name) chosen (inl m) = absurd (cc)
-table-cause cx ids (fault.PackageRules field name) chosen (inr bad) = inr (ids, chosen, bad)
-table-cause cx ids (fault.WorkspaceRules field) chosen (inl m) = absurd (cc)
-table-cause cx ids (fault.WorkspaceRules field) chosen (inr bad) = inr (ids, chosen, bad)
-table-cause cx ids (fault.ExcludedInGroup feature name) chosen (inl m) = absurd (cc)
-table-cause cx ids (fault.ExcludedInGroup feature name) chosen (inr bad) = inr (ids, chosen, bad)
-table-cause cx ids (fault.Version e) chosen (inl m) = absurd (cc)
-table-cause cx ids (fault.Version e) chosen (inr bad) = absurd bad
-table-cause cx ids (fault.Range e) chosen (inl m) = absurd (cc)
-table-cause cx ids (fault.Range e) chosen (inr bad) = absurd bad
-table-cause cx ids (fault.TooManyQuestions name tally) chosen (inl m) = absurd (cc)
-table-cause cx ids (fault.TooManyQuestions name tally) chosen (inr bad) = absurd bad
-table-cause cx ids fault.TooManyRuns chosen (inl m) = absurd (cc)
-table-cause cx ids fault.TooManyRuns chosen (inr bad) = absurd bad

@@ -15,9 +15,6 @@ use Rattle.hack_planner.specs.Members.{Collects, ends, taken, left}
 abbrev pub only_if : {X : Type 0} → Bool → X → List X
 only_if b x = cond b (x ∷ []) []
 
-filter-one : {X : Type 0} (p : X → Bool) (x : X) → filter p (x ∷ []) ≡ only_if (p x) x
-filter-one p x = refl
-
 -- those of the items so far that pass a test, after one more item
 pub filter-next : {X Y : Type 0} (p : Y → Bool) (v : X → Y) (xs : List X) (k : ℕ) (x : X) (b : Bool) (old new : List Y) → k < length xs → x ≡ get_or xs k x → b ≡ p (v x)
     → new ≡ old ++ only_if b (v x) → old ≡ filter p (take k (map v xs)) → new ≡ filter p (take (k + 1) (map v xs))
@@ -113,15 +110,6 @@ round v xs k x lt is =
     sym (take-append-drop k (map v xs))
     ∙ ap (λ t. take k (map v xs) ++ t) (drop-cons (map v xs) k (v x) inside)
     ∙ ap (λ y. take k (map v xs) ++ y ∷ drop (suc k) (map v xs)) (get_or-map v xs k x (v x) lt ∙ ap v (sym is))
-
--- f of the items so far, after one more item
-pub map-next : {X Y Z : Type 0} (f : Y → Z) (v : X → Y) (xs : List X) (k : ℕ) (x : X) (old new : List Z) → k < length xs → x ≡ get_or xs k x → new ≡ old ++ f (v x) ∷ []
-    → old ≡ map f (take k (map v xs)) → new ≡ map f (take (k + 1) (map v xs))
-map-next f v xs k x old new lt is grown so_far =
-    grown
-    ∙ ap (λ t. t ++ f (v x) ∷ []) so_far
-    ∙ sym (map-append f (take k (map v xs)) (v x ∷ []))
-    ∙ ap (map f) (sym (seen-next v xs k x lt is))
 
 -- what f gives for the items so far, after one more item
 pub filter_map-next : {X Y Z : Type 0} (f : Y → Option Z) (v : X → Y) (xs : List X) (k : ℕ) (x : X) (y : Z) (old new : List Z) → k < length xs → x ≡ get_or xs k x → f (v x) ≡ Some y

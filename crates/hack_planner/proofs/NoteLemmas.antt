@@ -1,8 +1,8 @@
 -- Notices on one package, slot or version more.
-use Rattle.std.proofs.Common.{◌≡◌, arith, ℕ, ◌+◌, ◌<◌, ◌≤◌, List, [], ◌∷◌, ◌++◌, length, take, get_or, map, refl, ap, sym, ◌∙◌, append-nil, Bool, Some, option_map}
+use Rattle.std.proofs.Common.{◌≡◌, arith, ℕ, ◌+◌, ◌<◌, ◌≤◌, List, [], ◌∷◌, ◌++◌, length, get_or, map, refl, ap, sym, ◌∙◌, append-nil, Bool, Some, option_map}
 use Rattle.std.specs.List.{flat_map, range_with_len, slice_get}
 use Rattle.std.specs.Option.{option_map_or}
-use Rattle.std.proofs.lemmas.List.{take_more, flat_map_more, map-id}
+use Rattle.std.proofs.lemmas.List.{flat_map_more, map-id}
 use Rattle.std.proofs.lemmas.List.FromFn.{map-range_with_len_more}
 use Rattle.std.proofs.lemmas.Option.{slice_get-map, slice_get_read, slice_get_past}
 use Rattle.hack_metadata.specs.RecordViews.{place_at}
@@ -25,11 +25,6 @@ range-more n =
 pub slots-more : {A : Type 0} (f : ℕ → List A) (old mid new : List A) (n : ℕ) → new ≡ mid ++ f n → mid ≡ old ++ flat_map f (range_with_len 0 n) → new ≡ old ++ flat_map f (range_with_len 0 (n + 1))
 slots-more f old mid new n grown so =
     grown ∙ ap (λ l. l ++ f n) so ∙ flat_map_more f old (range_with_len 0 n) n ∙ ap (λ l. old ++ flat_map f l) (sym (range-more n))
-
--- the notices on one item more
-pub items-more : {X A : Type 0} (f : X → List A) (old mid new : List A) (xs : List X) (i : ℕ) (d : X) → i < length xs → new ≡ mid ++ f (get_or xs i d) → mid ≡ old ++ flat_map f (take i xs) → new ≡ old ++ flat_map f (take (i + 1) xs)
-items-more f old mid new xs i d lt grown so =
-    grown ∙ ap (λ l. l ++ f (get_or xs i d)) so ∙ flat_map_more f old (take i xs) (get_or xs i d) ∙ ap (λ l. old ++ flat_map f l) (sym (take_more xs i d lt))
 
 -- the package at an index
 pub place-of : (ids : List PackageId) (p : ℕ) (id : PackageId) → p < length ids → id ≡ get_or ids p id → slice_get (map place_at ids) p ≡ Some id.index

@@ -1,11 +1,10 @@
 -- The names that a table has, put together, and the fault of a package's rules.
 use Rattle.std.proofs.Common.{◌≡◌, ◌∙◌, ◌==◌, ◌||◌, ◌+◌, ℕ, Bool, true, false, not, cond, Option, None, Some, option_map, List, [], ◌∷◌, ◌++◌, length, map, Contains, Global, String, ap, refl, sym, subst, arith}
-use Rattle.std.specs.Prelude.{fold, option_and_then, slice_get}
+use Rattle.std.specs.Prelude.{option_and_then, slice_get}
 use Rattle.std.specs.List.{list_any}
 use Rattle.std.specs.Option.{option_or}
 use Rattle.std.proofs.lemmas.Bool.{eqb-true}
 use Rattle.std.proofs.lemmas.List.{length-map}
-use Rattle.std.proofs.lemmas.List.Sums.{fold-append}
 use Rattle.std.proofs.lemmas.Option.{slice_get_past, slice_get-map}
 use Rattle.hack_base.proofs.Members.{Contains-head, Contains-tail}
 use Rattle.hack_base.specs.Names.{Name, names_of}
@@ -23,17 +22,7 @@ use Rattle.hack_planner.specs.Calls.{grouped_at, own_fault_at}
 use Rattle.hack_planner.specs.PackageRules.{PackageRulesRecord, rules_in}
 use Rattle.hack_planner.specs.declared.package_rules.PackageRules.{PackageRules}
 use Rattle.hack_words.specs.declared.cli.args.Args.{Args}
-use Rattle.hack_planner.specs.RulesFor.{Grouped, first_excluded, grouped_fault, kept_once, own_fault}
-
--- what was added of two lists, one after the other
-pub both-kept : (kept one two a b : List Name) → one ≡ fold kept_once kept a → two ≡ fold kept_once one b → two ≡ fold kept_once kept (a ++ b)
-both-kept kept one two a b first second = second ∙ ap (λ (l : List Name). fold kept_once l b) first ∙ sym (fold-append kept_once kept a b)
-
--- what was added of five lists
-pub all-kept : (a b c d e n1 n2 n3 n4 n5 : List Name) → n1 ≡ fold kept_once [] a → n2 ≡ fold kept_once n1 b → n3 ≡ fold kept_once n2 c → n4 ≡ fold kept_once n3 d → n5 ≡ fold kept_once n4 e
-    → n5 ≡ fold kept_once [] (a ++ (b ++ (c ++ (d ++ e))))
-all-kept a b c d e n1 n2 n3 n4 n5 h1 h2 h3 h4 h5 =
-    both-kept [] n1 n5 a (b ++ (c ++ (d ++ e))) h1 (both-kept n1 n2 n5 b (c ++ (d ++ e)) h2 (both-kept n2 n3 n5 c (d ++ e) h3 (both-kept n3 n4 n5 d e h4 h5)))
+use Rattle.hack_planner.specs.RulesFor.{Grouped, first_excluded, grouped_fault, own_fault}
 
 -- ---- a search for a package among the members
 

@@ -4,7 +4,7 @@ use Rattle.std.specs.Prelude.{IsSome, option_map, true, false}
 use Rattle.std.specs.List.{find}
 use Rattle.std.proofs.lemmas.Bool.{false≢true}
 use Rattle.hack_base.specs.Names.{Name}
-use Rattle.hack_files.specs.Faults.{IsOfRead, IsOfText, IsOfWrite, IsUnseenUnlessNoText}
+use Rattle.hack_files.specs.Faults.{IsOfRead, IsOfText, IsUnseenUnlessNoText}
 use Rattle.hack_files.specs.Files.{Contents}
 use Rattle.hack_files.specs.declared.fs.Files.{Ghosts as Filing}
 use Rattle.hack_files.specs.declared.fs.FsFault.{FsFault}
@@ -12,7 +12,6 @@ use Rattle.hack_files.specs.declared.fs.FsFault.TheVariants as fs
 use Rattle.hack_manifest.specs.LineRuns.{has_some}
 use Rattle.hack_files.specs.FailedCalls.{LookFailed, NoneFailed, WriteFailed}
 use Rattle.hack_prepare.specs.FailedCalls.{FailsOnlySo, IsAbsent, IsOfFailedCall}
-use Rattle.hack_prepare.specs.Faults.{IsDevFault, IsPrivateFault}
 use Rattle.hack_prepare.specs.Internal.{IsOfFile, KeepsApart, OnlyIf}
 use Rattle.hack_prepare.specs.Paths.{IsReadRoot}
 use Rattle.hack_prepare.specs.Prepared.{MemberManifest, Wanted, gone_manifests, is_root}
@@ -82,13 +81,6 @@ look-fails f absent path (fs.Write p) e a b at is h = absurd at
 look-fails f absent path (fs.NotText p) e a b at is h = absurd at
 look-fails f absent path fs.Memory e a b at is h = subst (IsOfFailedCall f absent a b) (sym is) (inr (path, inl h))
 
--- a path can't be written
-pub write-fails : {F : Type 0} (f : Filing F) (absent : Name → Type 0) (path : Name) (fault : FsFault) (e : PrepareFault) (a b : F) → IsOfWrite path fault → IsOfFile fault e → WriteFailed f path a b → IsOfFailedCall f absent a b e
-write-fails f absent path (fs.Read p) e a b at is h = absurd at
-write-fails f absent path (fs.Write p) e a b at is h = subst (IsOfFailedCall f absent a b) (sym is) (subst (λ (q : Name). WriteFailed f q a b) (sym at) h)
-write-fails f absent path (fs.NotText p) e a b at is h = absurd at
-write-fails f absent path fs.Memory e a b at is h = subst (IsOfFailedCall f absent a b) (sym is) (inr (path, inr h))
-
 -- a path isn't read as a text, or nothing is there
 pub text-fails : {F : Type 0} (f : Filing F) (reads : Name → Type 0) (path : Name) (fault : FsFault) (e : PrepareFault) (m n : ℕ) (a b : F) → reads path → IsOfText path f.tells (f.bytes_at a path) m n fault → IsOfFile fault e
     → f.refuses a b [] → IsUnseenUnlessNoText {T = Unit {0}} (f.unseen a b) f.tells (f.bytes_at a path) path (Err fault) → IsOfFailedCall f (IsAbsent f.tells (f.bytes_at a) reads) a b e
@@ -106,31 +98,6 @@ pub unseen-there : {F : Type 0} (f : Filing F) (path : Name) (a b c : F) → (f.
     → f.unseen b c (path ∷ []) ⊎ (f.unseen b c [] × f.tells × (f.bytes_at b path ≡ None)) → LookFailed f path a c
 unseen-there f path a b c there p again (inl u) = record { unseen = f.unseen_more a b c [] (path ∷ []) p.unseen u; refused = f.refuses_more a b c [] [] p.refused again }
 unseen-there f path a b c there p again (inr (u, tells, none)) = absurd (false≢true (subst IsSome none (there tells)))
-
--- an error of editing a text is no call's
-pub dev-calls : {F : Type 0} (f : Filing F) (absent : Name → Type 0) (path text : Name) (e : PrepareFault) (a : F) → IsDevFault path text e → IsOfFailedCall f absent a a e
-dev-calls f absent path text Memory a h = inl (no-call f a)
-dev-calls f absent path text (Files x) a h = absurd h
-dev-calls f absent path text PrivateRoot a h = absurd h
-dev-calls f absent path text (Toml p) a h = no-call f a
-dev-calls f absent path text (InlineTarget p) a h = no-call f a
-dev-calls f absent path text (WorkspaceForm p) a h = absurd h
-dev-calls f absent path text (PathText p) a h = absurd h
-dev-calls f absent path text (ReadBack p) a h = no-call f a
-
-pub private-calls : {F : Type 0} (f : Filing F) (absent : Name → Type 0) (path folder : Name) (ps : _) (text : Name) (e : PrepareFault) (a : F) → IsPrivateFault path folder ps text e → IsOfFailedCall f absent a a e
-private-calls f absent path folder ps text Memory a h = inl (no-call f a)
-private-calls f absent path folder ps text (Files x) a h = absurd h
-private-calls f absent path folder ps text PrivateRoot a h = absurd h
-private-calls f absent path folder ps text (Toml p) a h = no-call f a
-private-calls f absent path folder ps text (InlineTarget p) a h = absurd h
-private-calls f absent path folder ps text (WorkspaceForm p) a h = no-call f a
-private-calls f absent path folder ps text (PathText p) a h = no-call f a
-private-calls f absent path folder ps text (ReadBack p) a h = no-call f a
-
--- and so is out of memory before any call
-pub memory-calls : {F : Type 0} (f : Filing F) (absent : Name → Type 0) (e : PrepareFault) (a : F) → e ≡ Memory → IsOfFailedCall f absent a a e
-memory-calls f absent e a is = subst (IsOfFailedCall f absent a a) (sym is) (inl (no-call f a))
 
 -- ---- the manifest in the folder of the workspace
 

@@ -6,7 +6,7 @@ use Rattle.std.specs.Str.{bytes_eq}
 use Rattle.std.proofs.lemmas.Bool.{true≢false}
 use Rattle.std.proofs.lemmas.Slice.Eq.{bytes_eq-Decides}
 use Rattle.hack_base.specs.Names.{Name}
-use Rattle.hack_files.specs.Faults.{HoldsNoText, IsOfRead, IsOfText, IsOfWrite}
+use Rattle.hack_files.specs.Faults.{HoldsNoText, IsOfText}
 use Rattle.hack_files.specs.Files.{Contents, KeepsOthers}
 use Rattle.hack_files.specs.declared.fs.FsFault.{FsFault}
 use Rattle.hack_files.specs.declared.fs.FsFault.TheVariants as fs
@@ -40,20 +40,6 @@ pub err-among : {T : Type 0} (R S W X G H : Name → Type 0) (P Q : PrepareFault
     → (r : Result T PrepareFault) → IfErr r (IsPathFaultOr R W G P) → IfErr r (IsPathFaultOr S X H Q)
 err-among R S W X G H P Q r w g q (Ok v) x = x
 err-among R S W X G H P Q r w g q (Err e) x = fault-among R S W X G H P Q r w g q e x
-
--- a write that failed
-pub write-fault : (path : Name) (f : FsFault) (e : PrepareFault) → IsOfWrite path f → IsOfFile f e → IsPathFaultOr Nowhere (Only path) Nowhere NoFault e
-write-fault path (fs.Read p) e h is = absurd h
-write-fault path (fs.Write p) e h is = inr (inl (fs.Write p, is, h))
-write-fault path (fs.NotText p) e h is = absurd h
-write-fault path fs.Memory e h is = inl is
-
--- a read that failed
-pub read-fault : (path : Name) (f : FsFault) (e : PrepareFault) → IsOfRead path f → IsOfFile f e → IsPathFaultOr (Only path) Nowhere Nowhere NoFault e
-read-fault path (fs.Read p) e h is = inr (inl (fs.Read p, is, h))
-read-fault path (fs.Write p) e h is = absurd h
-read-fault path (fs.NotText p) e h is = absurd h
-read-fault path fs.Memory e h is = inl is
 
 -- a file that isn't read as a text
 pub text-fault : (path : Name) (asked : Bool) (tells : Type 0) (held : Contents) (P : PrepareFault → Type 0) (before now : _) (f : FsFault) (e : PrepareFault) → asked ≡ true

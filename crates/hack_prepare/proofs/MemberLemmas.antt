@@ -154,10 +154,6 @@ partly-more w ms m failed old mid new same now keeps h k d lt is =
 pub partly-none : (w : Wanted) (ms : List MemberManifest) (failed : Name → Type 0) (held : Contents) → ArePartlyTurned w ms failed held held
 partly-none w ms failed held k d lt is = inl refl
 
--- and nothing has failed
-pub partly-any : (w : Wanted) (ms : List MemberManifest) (failed : Name → Type 0) (old new : Contents) → ArePartlyTurned w ms (λ q. ⊥) old new → ArePartlyTurned w ms failed old new
-partly-any w ms failed old new h k d lt is = carried (failed (get_or ms k d).path) (get_or ms k d) old new new refl (h k d lt is)
-
 -- members that are found, one more
 pub found-more : (f : ℕ → Option MemberManifest) (ids : List PackageId) (k : ℕ) (id : PackageId) (m : MemberManifest) (old new : List MemberManifest) → k < length ids → id ≡ get_or ids k id
     → f id.index ≡ Some m → new ≡ old ++ m ∷ [] → old ≡ filter_map f (take k (map place_at ids)) → new ≡ filter_map f (take (k + 1) (map place_at ids))

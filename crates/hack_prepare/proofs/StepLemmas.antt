@@ -50,17 +50,6 @@ step_then tells P K a b c x y z f g = record {
       record { added = adds_then start (registered_files a) (registered_files b) (registered_files c) first.added then.added; others = then.others };
 }
 
--- a look that changes nothing
-pub step_look : (tells : Type 0) (P : Contents → Type 0) (K : Name → Type 0) (manager : Manager) (mid held : Contents)
-    → (tells → KeepsAll mid held) → IsStep tells P K manager manager mid held
-step_look tells P K manager mid held same = record {
-  needs = refl;
-  unkept = λ _. refl;
-  kept = λ q h. inl h;
-  safe = λ t needs start p h. safe_same (registered_files manager) start mid held (same t) h;
-  keeps = λ t needs start p free. record { added = none; others = λ q no. same t q ∙ free q no };
-}
-
 -- what is read at a path is written there, if it is kept
 pub step_read : (tells : Type 0) (path held : Name) (K : Name → Type 0) (old new : Manager) (first mid late : Contents)
     → (tells → KeepsAll first mid) → (tells → first path ≡ Some held) → IsStep tells (HeldUnkept old path held) K old new mid late → IsStep tells AnyStart K old new first late
@@ -160,14 +149,3 @@ pub locked_now : (file : Kept) (old new : Manager) → registered_files new ≡ 
     → old.needs_restore ≡ true → is_kept (registered_files new) file.path ≡ true
 locked_now file old new is e =
     subst (λ l. is_kept l file.path ≡ true) (sym (kept_by old.needs_restore (registered_files old) (kept_too (registered_files old) file) (registered_files new) is e)) (kept_now (registered_files old) file)
-
--- no more is kept, and at most this is looked at
-pub step_same : (tells : Type 0) (P : Contents → Type 0) (K : Name → Type 0) (old new : Manager) (mid held : Contents)
-    → registered_files new ≡ registered_files old → new.needs_restore ≡ old.needs_restore → (tells → KeepsAll mid held) → IsStep tells P K old new mid held
-step_same tells P K old new mid held is needs same = record {
-  needs = needs;
-  unkept = λ _. is;
-  kept = λ q took. inl (subst (λ l. is_kept l q ≡ true) is took);
-  safe = λ t e start p h. subst (λ l. AreSafe l start held) (sym is) (safe_same (registered_files old) start mid held (same t) h);
-  keeps = λ t e start p free. subst (λ l. KeepsHeld (registered_files old) l start held) (sym is) (record { added = none; others = λ q no. same t q ∙ free q no });
-}

@@ -49,13 +49,6 @@ one-or-not P c t u m n p (inr h) = (c ∷ [], inr (c, p, refl), h)
 pub some-made : (P Q : List Change → Type 0) (t u : List Change) (m n : Contents) → ((made : List Change) → P made → Q made) → MakesSome P t u m n → MakesSome Q t u m n
 some-made P Q t u m n f h = (h.0, f h.0 h.1, h.2)
 
-pub none-made : (P : List Change → Type 0) (t u : List Change) (m n : Contents) → P [] → Makes [] t u m n → MakesSome P t u m n
-none-made P t u m n p h = ([], p, h)
-
--- nothing is made, and then something
-pub later-made : (P : List Change → Type 0) (t u v : List Change) (m n w : Contents) → Makes [] t u m n → MakesSome P u v n w → MakesSome P t v m w
-later-made P t u v m n w f h = (h.0, h.1, makes_more [] h.0 t u v m n w f h.2)
-
 -- something is made, and then nothing
 pub made-still : (P : List Change → Type 0) (t u v : List Change) (m n w : Contents) → MakesSome P t u m n → Makes [] u v n w → MakesSome P t v m w
 made-still P t u v m n w h f = (h.0, h.1, subst (λ l. Makes l t v m w) (append-nil h.0) (makes_more h.0 [] t u v m n w h.2 f))
