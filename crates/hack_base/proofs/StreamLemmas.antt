@@ -1,7 +1,7 @@
 -- Texts that are written to a stream, one after the other.
-use Rattle.std.proofs.Common.{◌≡◌, inl, inr, ℕ, List, [], ◌∷◌, ◌++◌, Result, Ok, Err, OnOk, refl, subst}
+use Rattle.std.proofs.Common.{inl, inr, ℕ, List, [], ◌∷◌, ◌++◌, Result, Ok, Err, OnOk, subst}
 use Rattle.std.specs.Io.KnownBytes.{Appends}
-use Rattle.hack_base.specs.Streams.{Stream, WritesAll, WritesSome, WritesText, stream_of}
+use Rattle.hack_base.specs.Streams.{Stream, WritesAll, WritesText, stream_of}
 use Rattle.hack_base.specs.Writes.{AppendsFront, CountsErrors}
 use Rattle.hack_base.specs.declared.writes.Sink.{Ghosts as Taking}
 
@@ -15,14 +15,3 @@ wrote s a b text (Err fault) all front counted = inr (front, counted)
 pub wrote_more : (texts more : List (List ℕ)) (old mid new : Stream) → WritesAll texts old mid → WritesAll more mid new → WritesAll (texts ++ more) old new
 wrote_more [] more old mid new p q = subst (λ (s : Stream). WritesAll more s new) p q
 wrote_more (text ∷ texts) more old mid new p q = (p.0, p.1, wrote_more texts more p.0 mid new p.2 q)
-
-pub some_more : (old mid new : Stream) → WritesSome old mid → WritesSome mid new → WritesSome old new
-some_more old mid new p q = (p.0 ++ q.0, wrote_more p.0 q.0 old mid new p.1 q.1)
-
--- nothing was written
-pub wrote_none : (old new : Stream) → new ≡ old → WritesSome old new
-wrote_none old new same = ([], same)
-
--- one text was written
-pub wrote_one : (text : List ℕ) (old new : Stream) → WritesText text old new → WritesSome old new
-wrote_one text old new p = (text ∷ [], (new, p, refl))

@@ -22,7 +22,3 @@ WritesText text old new =
 abbrev pub WritesAll : List (List ℕ) → Stream → Stream → Type 0
 WritesAll [] old new = new ≡ old
 WritesAll (text ∷ more) old new = (mid : Stream) × WritesText text old mid × WritesAll more mid new
-
--- texts were written, one after the other
-abbrev pub WritesSome : Stream → Stream → Type 0
-WritesSome old new = (texts : List (List ℕ)) × WritesAll texts old new

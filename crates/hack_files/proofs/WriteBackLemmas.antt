@@ -1,19 +1,19 @@
 -- What is said of files that are written back, one after another.
-use Rattle.std.proofs.Common.{◌≡◌, ◌∙◌, ◌<◌, ◌≤◌, ◌+◌, ◌++◌, ℕ, List, [], ◌∷◌, Bool, true, false, Option, cond, append-nil, ap, inl, inr, map, refl, length, subst, sym, take}
+use Rattle.std.proofs.Common.{◌≡◌, ◌∙◌, ◌<◌, ◌≤◌, ◌+◌, ◌++◌, ℕ, List, [], ◌∷◌, Bool, true, false, Option, cond, append-nil, ap, map, refl, length, subst, sym, take}
 use Rattle.std.specs.Prelude.{not}
 use Rattle.std.specs.List.{filter, flat_map}
 use Rattle.std.proofs.lemmas.Grind.{flat_map-append}
 use Rattle.std.proofs.lemmas.List.{map-append, take_all}
 use Rattle.std.proofs.lemmas.List.Elements.{filter-append}
-use Rattle.hack_base.proofs.StreamLemmas.{wrote_more, wrote_none, wrote_one}
+use Rattle.hack_base.proofs.StreamLemmas.{wrote_more}
 use Rattle.hack_base.specs.Counters.{GrowsBy}
-use Rattle.hack_base.specs.Streams.{Stream, WritesAll, WritesSome, WritesText}
-use Rattle.hack_term.specs.Lines.{error_line, info_line}
+use Rattle.hack_base.specs.Streams.{Stream, WritesAll, WritesText}
+use Rattle.hack_term.specs.Lines.{error_line}
 use Rattle.hack_term.specs.declared.term.Coloring.{Coloring}
 use Rattle.hack_files.specs.BackTexts.{unwritten_text}
 use Rattle.hack_files.specs.Restore.{Back, Kept}
 use Rattle.hack_files.specs.declared.fs.Files.{Ghosts as Filing}
-use Rattle.hack_files.specs.WriteBacks.{SaysBack, SaysReason, WriteBack, back_lines, is_reported, refusal_lines, refused_among}
+use Rattle.hack_files.specs.WriteBacks.{SaysBack, WriteBack, back_lines, is_reported, refusal_lines, refused_among}
 use Rattle.hack_files.proofs.RestoreLemmas.{BackBut, IsAt, back_all, one_more}
 
 -- the line of a path that isn't reported otherwise
@@ -73,9 +73,3 @@ says_all f before after coloring verbose reported files i k old new end counted 
       back = λ t distinct. subst (λ ps. Back files ps (f.bytes_at before) (f.bytes_at after)) (sym says.refused) (all.back t distinct);
       said = says.said;
     }
-
-pub reason_some : (coloring : Coloring) (old new : Stream) → SaysReason coloring old new → WritesSome old new
-reason_some coloring old new says = elim says [
-  | inl none ↦ wrote_none old new none
-  | inr one ↦ wrote_one (info_line coloring one.0) old new one.1
-]

@@ -6,7 +6,7 @@ use Rattle.std.specs.List.{flat_map}
 use Rattle.std.specs.Result.{is_err}
 use Rattle.hack_base.specs.Names.{Name}
 use Rattle.hack_base.specs.Notes.{Note}
-use Rattle.hack_base.specs.Streams.{Stream, WritesAll, WritesSome, WritesText}
+use Rattle.hack_base.specs.Streams.{Stream, WritesAll, WritesText}
 use Rattle.hack_base.specs.Writes.{AppendsFront, HasFailed}
 use Rattle.hack_base.specs.declared.writes.Sink.{Ghosts as Taking}
 use Rattle.hack_drive.specs.Answered.{NeedsAnswer}
@@ -161,10 +161,6 @@ pub record SaysSteps (tells : Type 0) (listing : Bool) (cx : ContextRecord) (sta
   pub calls : new.calls ≡ last.scene.calls
   pub out : listing ≡ false → new.streams.out ≡ last.scene.streams.out
   pub err : new.streams.err ≡ last.scene.streams.err
-
--- nothing was called, and lines were said at most
-abbrev pub SaysLines : Bool → Scene → Scene → Type 0
-SaysLines listing old new = (new.calls ≡ old.calls) × (listing ≡ false → new.streams.out ≡ old.streams.out) × WritesSome old.streams.err new.streams.err
 
 -- nothing was called, and nothing printed
 abbrev pub CallsNothing : Bool → Scene → Scene → Type 0
