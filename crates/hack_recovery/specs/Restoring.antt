@@ -24,7 +24,7 @@ use Rattle.hack_recovery.specs.FailedFiles.{IsOfFailedPath, OneFailedAt}
 use Rattle.hack_recovery.specs.Scenes.{IsQuiet, OneMayFail, Scene, scene_with}
 use Rattle.hack_recovery.specs.Telling.{SaysFault, SaysRestored, SaysSettling, SaysStranger, SaysUncopied, Tells}
 use Rattle.hack_recovery.specs.declared.fault.CallFault.{CallFault}
-use Rattle.hack_recovery.specs.declared.fault.CallFault.TheVariants.{Memory, Busy, Unlocked, NoCopy}
+use Rattle.hack_recovery.specs.declared.fault.CallFault.TheVariants.{Memory, Busy, Unlocked}
 
 -- ---- a journal
 
@@ -81,10 +81,9 @@ module _ {F L : Type 0} (f : Filing F) (l : Filing L) (places : PlacesAt) where
   -- why it isn't copied, also where memory was refused: the lockfile was left unseen, or the write of the
   -- copy was refused
   abbrev pub IsWhyUncopied : ℕ → ℕ → ℕ → ℕ → CallFault → Type 0
-  IsWhyUncopied before now first last Memory = (GrowsBy 1 first last × IsUnseen l places.lockfile) ⊎ (GrowsBy 1 before now × IsRefused f places.copy)
-  IsWhyUncopied before now first last NoCopy = (GrowsBy 1 first last × IsUnseen l places.lockfile) ⊎ (GrowsBy 1 before now × IsRefused f places.copy)
   IsWhyUncopied before now first last Busy = ⊥
   IsWhyUncopied before now first last Unlocked = ⊥
+  IsWhyUncopied before now first last fault = (GrowsBy 1 first last × IsUnseen l places.lockfile) ⊎ (GrowsBy 1 before now × IsRefused f places.copy)
 
   -- the lockfile was copied, if there is one, no other file is changed, and no call failed; where it isn't
   -- done, there is a cause, and at most the copy is changed, and then it has what the lockfile holds
