@@ -1,13 +1,11 @@
 -- Names, lists of them, and tables of them.
-use Rattle.std.proofs.Common.{◌≡◌, ◌≢◌, ℕ, ◌+◌, ◌<◌, ◌≤◌, List, [], ◌∷◌, ◌++◌, length, get_or, take, refl, sym, ◌∙◌, ap, subst, arith, Bool, true, false, inl, inr, ◌↔◌, Any, Contains, String, string_bytes, append_assoc, not}
+use Rattle.std.proofs.Common.{◌≡◌, ◌≢◌, ℕ, ◌+◌, ◌<◌, ◌≤◌, List, [], ◌∷◌, ◌++◌, length, get_or, take, refl, sym, ◌∙◌, ap, subst, arith, Bool, true, false, Any, Contains, String, string_bytes, append_assoc, not}
 use Rattle.std.specs.List.{IsDistinct, list_any, join_with_byte}
 use Rattle.std.specs.Cmp.Lexicographic.{nat_list_eq_equiv}
 use Rattle.std.specs.Str.{bytes_eq}
 use Rattle.std.specs.Borrow.{Bor}
-use Rattle.std.proofs.Math.Seq.{take-length}
 use Rattle.std.proofs.lemmas.Slice.Eq.{bytes_eq-Decides}
 use Rattle.std.proofs.lemmas.List.{take_more, get_or-map, length-map, map-append}
-use Rattle.std.proofs.lemmas.List.Elements.{Contains-push_cases}
 use Rattle.std.proofs.lemmas.Map.Views.{list_any-from_Contains, Contains-from_any}
 use Rattle.std.proofs.lemmas.Map.Made.{length-le_from_is_member}
 use Rattle.hack_base.proofs.Members.{Contains-map, Contains-map_from}
@@ -37,19 +35,6 @@ names-more {Y} texts k t h e =
 
 pub length-names : {Y : Type 0} (texts : List (String Y)) → length (names_of texts) ≡ length texts
 length-names {Y} texts = length-map texts (λ (t : String Y). string_bytes t)
-
--- a text in a list
-pub names-at : {Y : Type 0} (texts : List (String Y)) (k : ℕ) (t : String Y) → k < length texts → t ≡ get_or texts k t → Contains (names_of texts) (string_bytes t)
-names-at {Y} texts k t h e = Contains-map (λ (t : String Y). string_bytes t) texts t (k, h, sym e)
-
--- all of the names, once the index is past the last
-pub names-whole : {Y : Type 0} (texts : List (String Y)) (k : ℕ) → length texts ≤ k → k ≤ length texts → take k (names_of texts) ≡ names_of texts
-names-whole texts k low high =
-    let all : k ≡ length (names_of texts) = omega (arith, length-names texts) in
-    ap (λ n. take n (names_of texts)) all ∙ take-length (names_of texts)
-
-pub missing-more : (names : List Name) (n v : Name) → ¬ Contains names v → n ≢ v → ¬ Contains (names ++ n ∷ []) v
-missing-more names n v h ne = λ k. elim (Contains-push_cases names n v k) [ inl w ↦ h w | inr e ↦ ne e ]
 
 pub differ : (x y : Name) → bytes_eq x y ≡ false → x ≢ y
 differ x y h = λ e. let z : true ≡ false = sym ((bytes_eq-Decides x y).1 e) ∙ h in cc
@@ -93,12 +78,6 @@ join-push (y ∷ z ∷ names) x h =
     ap (λ l. y ++ (44 ∷ l)) (join-push (z ∷ names) x (omega arith)) ∙ sym (append_assoc y (44 ∷ join_with_byte 44 (z ∷ names)) (44 ∷ x))
 
 -- ---- texts and references of which one has a name
-
-pub names-any : {Y : Type 0} (texts : List (String Y)) (v : Name) → Any (λ text. string_bytes text ≡ v) texts ↔ Contains (names_of texts) v
-names-any {Y} texts v = (
-  λ h. subst (λ n. Contains (names_of texts) n) h.4 (Contains-map (λ (t : String Y). string_bytes t) texts h.1 (h.0, h.2, h.3)),
-  λ h. let w = Contains-map_from (λ (t : String Y). string_bytes t) texts v h in (w.1.0, w.0, w.1.1, w.1.2, w.2),
-)
 
 pub shown-any : (P : Name → Type 0) (refs : List (Bor Name)) → Any (λ ref. P ref.now) refs → (n : Name) × Contains (names_behind refs) n × P n
 shown-any P refs h = (h.1.now, Contains-map (λ (b : Bor Name). b.now) refs h.1 (h.0, h.2, h.3), h.4)

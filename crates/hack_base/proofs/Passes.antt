@@ -1,9 +1,8 @@
 -- Tests of all and of some elements, and sums, of a list and of the list without one element.
-use Rattle.std.proofs.Common.{◌≡◌, ℕ, zero, suc, ◌≤◌, List, [], ◌∷◌, refl, sym, subst, arith, Bool, true, false, inl, inr, Contains}
-use Rattle.std.specs.Prelude.{sum_by, ◌||◌}
+use Rattle.std.proofs.Common.{◌≡◌, ℕ, zero, suc, List, [], ◌∷◌, refl, sym, subst, Bool, true, false, inl, inr, Contains}
+use Rattle.std.specs.Prelude.{◌||◌}
 use Rattle.std.specs.List.{list_all, list_any, remove}
 use Rattle.std.proofs.lemmas.Bool.{and_parts, and_from, or_cases}
-use Rattle.std.proofs.lemmas.List.Sums.{sum_by-cons}
 use Rattle.hack_base.proofs.Members.{Contains-nil, Contains-cons_cases, Contains-head, Contains-tail}
 
 pub all_pass : {X : Type 0} (p : X → Bool) (xs : List X) → ((x : X) → Contains xs x → p x ≡ true) → list_all p xs ≡ true
@@ -50,10 +49,3 @@ removed_member (y ∷ xs) (suc i) x c =
       | inl e ↦ subst (λ z. Contains (y ∷ xs) z) e (Contains-head y xs)
       | inr w ↦ Contains-tail y xs x (removed_member xs i x w)
     ]
-
--- the sum without one element is no greater
-pub sum_by-remove-le : {X : Type 0} (f : X → ℕ) (xs : List X) (i : ℕ) → sum_by f (remove xs i) ≤ sum_by f xs
-sum_by-remove-le f [] zero = omega arith
-sum_by-remove-le f [] (suc i) = omega arith
-sum_by-remove-le f (x ∷ xs) zero = omega (arith, sum_by-cons f x xs)
-sum_by-remove-le f (x ∷ xs) (suc i) = omega (arith, sum_by-cons f x xs, sum_by-cons f x (remove xs i), sum_by-remove-le f xs i)

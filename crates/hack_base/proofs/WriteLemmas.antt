@@ -1,11 +1,11 @@
 -- A prefix of a text that a writer took, and what is written after it.
-use Rattle.std.proofs.Common.{◌≡◌, inl, inr, ℕ, zero, suc, ◌-◌, List, ◌++◌, ◌<◌, Bool, true, false, lt-ltb, length, take, drop, Option, Some, None, Result, Ok, Err, IsErrAnd, OnOk, [], ap, sym, subst, ◌∙◌, append_assoc, take-append-drop, arith}
+use Rattle.std.proofs.Common.{◌≡◌, inl, inr, ℕ, zero, suc, ◌-◌, List, ◌++◌, ◌<◌, Bool, true, false, lt-ltb, length, take, drop, Option, Some, None, Result, Ok, Err, IsErrAnd, ap, sym, subst, ◌∙◌, append_assoc, take-append-drop, arith}
 use Rattle.std.specs.Prelude.{if◌then◌else◌}
 use Rattle.std.proofs.Math.Nat.{eq-or-lt_of_le}
 use Rattle.std.proofs.lemmas.List.{take_rest}
 use Rattle.std.specs.Io.KnownBytes.{Appends, Keeps}
-use Rattle.std.proofs.KnownBytes.{Appends-nil, Appends-trans}
-use Rattle.hack_base.specs.Writes.{AppendsFront, CountsErrors, CountsWrite, HasFailed, NoFewer, Writes, one_more}
+use Rattle.std.proofs.KnownBytes.{Appends-trans}
+use Rattle.hack_base.specs.Writes.{AppendsFront, CountsErrors, CountsWrite, HasFailed, NoFewer, one_more}
 
 -- all of one text, and a prefix of the next
 pub AppendsFront-then : (a b c : Option (List ℕ)) (bs cs : List ℕ) → Appends a b bs → AppendsFront b c cs → AppendsFront a c (bs ++ cs)
@@ -95,17 +95,3 @@ errors-later T E a b c (Ok done) p q = NoFewer-trans a b c p q
 errors-later T E a b c (Err fault) p q = failed-later a b c p q
 
 -- ---- a text that was written whole, or with a failure
-
--- what a result says of it
-pub writes-by : (T E : Type 0) (a b : Option (List ℕ)) (m n : Option ℕ) (text : List ℕ) (r : Result T E) → OnOk r (Appends a b text) → CountsErrors m n r → Writes a b m n text
-writes-by T E a b m n text (Ok done) p q = inr (p, q)
-writes-by T E a b m n text (Err fault) p q = inl q
-
-pub writes-none : (a : Option (List ℕ)) (m : Option ℕ) → Writes a a m m []
-writes-none a m = inr (Appends-nil a, NoFewer-refl m)
-
-pub writes-then : (a b c : Option (List ℕ)) (l m n : Option ℕ) (xs ys : List ℕ) → Writes a b l m xs → Writes b c m n ys → Writes a c l n (xs ++ ys)
-writes-then a b c l m n xs ys (inl p) (inl q) = inl (failed-first l m n p (grown m n q))
-writes-then a b c l m n xs ys (inl p) (inr q) = inl (failed-first l m n p q.1)
-writes-then a b c l m n xs ys (inr p) (inl q) = inl (failed-later l m n p.1 q)
-writes-then a b c l m n xs ys (inr p) (inr q) = inr (Appends-trans a b c xs ys p.0 q.0, NoFewer-trans l m n p.1 q.1)

@@ -11,7 +11,6 @@ use Rattle.hack_bisect.specs.Searches.{Trial, HasFailed, HasPassed, IsBeside, Ar
 use Rattle.hack_bisect.specs.declared.tries.Outcome.{Outcome}
 use Rattle.hack_bisect.specs.declared.tries.Outcome.TheVariants.{Passed, Failed, Broken}
 use Rattle.hack_bisect.specs.declared.find.Least.{Least}
-use Rattle.hack_bisect.specs.declared.find.Least.TheVariants.{At, Broken as BrokenOff}
 
 -- the trials so far, which leave the places from low to high
 pub record IsGoing (greatest : ℕ) (trials : List Trial) (low high : ℕ) : Type 0 where
@@ -163,21 +162,6 @@ module _ (greatest : ℕ) (trials : List Trial) (low high : ℕ) (going : IsGoin
     few = few_more;
     answered = (trials, place, ap (λ (p : Outcome). trials ++ record { place = place; outcome = p } ∷ []) e);
   }
-
--- nothing is left but one place
-pub search_done : (greatest : ℕ) (trials : List Trial) (low high : ℕ) → IsGoing greatest trials low high → high ≤ low → IsSearch greatest trials (At high)
-search_done greatest trials low high going le =
-    let ordered : low ≤ high = going.ordered in
-    let same : low ≡ high = omega arith in
-    record {
-      first = going.first;
-      halving = going.halving;
-      once = going.once;
-      within = going.within;
-      whole = going.whole;
-      few = going.few;
-      answered = subst (λ n. AreLeft trials n high) same going.left;
-    }
 
 -- the greatest place alone was tried
 

@@ -3,7 +3,7 @@ use Rattle.std.proofs.Common.{◌≡◌, ℕ, zero, suc, ◌<◌, List, [], ◌�
 use Rattle.std.specs.Prelude.{AllPairs, ◌||◌}
 use Rattle.std.proofs.lemmas.Bool.{false≢true, cases_lt, or_cases}
 use Rattle.std.proofs.lemmas.List.{get_or_past, get_or_default}
-use Rattle.std.proofs.lemmas.List.Elements.{All-nil, All-cons, All-head, All-tail, Contains-get_or}
+use Rattle.std.proofs.lemmas.List.Elements.{All-nil, All-cons, All-head, All-tail}
 use Rattle.std.proofs.lemmas.List.Kept.{AllPairs-cons}
 use Rattle.hack_base.proofs.Members.{Contains-nil, Contains-cons_cases, Contains-head, Contains-tail}
 use Rattle.hack_conflicts.specs.Sets.{Has}
@@ -21,9 +21,6 @@ has_none p h = false≢true h
 -- the position of a candidate
 pub position_of : (alone : List ℕ) (p : ℕ) → Contains alone p → (x : ℕ) × (x < length alone) × (candidate_at alone x ≡ p)
 position_of alone p (k, lt, is) = (k, lt, sym (get_or_default alone k p 0 lt) ∙ is)
-
-pub candidate_in : (alone : List ℕ) (x : ℕ) → x < length alone → Contains alone (candidate_at alone x)
-candidate_in alone x lt = Contains-get_or alone x 0 lt
 
 -- the candidates of a set's positions
 

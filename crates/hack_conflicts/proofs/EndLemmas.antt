@@ -4,13 +4,13 @@ use Rattle.std.specs.Prelude.{AllPairs}
 use Rattle.std.proofs.lemmas.Bool.{false≢true, cases_Bool}
 use Rattle.std.proofs.lemmas.List.Elements.{All-nil, All-contains}
 use Rattle.hack_conflicts.specs.Sets.{HasInside, IsInside, AreApart, rows_of}
-use Rattle.hack_conflicts.specs.Rules.{IsChoice, size_of}
+use Rattle.hack_conflicts.specs.Rules.{IsChoice}
 use Rattle.hack_conflicts.specs.Runs.{Run, runs_in, HasFailed, HasPassed, IsNew, IsLeast, IsDecided, Answers, IsMonotone}
-use Rattle.hack_conflicts.specs.Internal.{IsSound, IsSteady, IsSettled, IsWidest, members, told, conflicts_of, passing_of}
+use Rattle.hack_conflicts.specs.Internal.{IsSound, IsSettled, IsWidest, told, conflicts_of, passing_of}
 use Rattle.hack_conflicts.specs.declared.rules.Rules.{Rules}
 use Rattle.hack_conflicts.specs.declared.known.Known.{Known}
 use Rattle.hack_conflicts.specs.declared.tried.Outcome.{Outcome}
-use Rattle.hack_conflicts.specs.declared.tried.Outcome.TheVariants.{Passed, Failed, Broken}
+use Rattle.hack_conflicts.specs.declared.tried.Outcome.TheVariants.{Passed, Failed}
 use Rattle.hack_conflicts.proofs.ShrinkLemmas.{passed-not-failed}
 
 none_within : (most : Option ℕ) → (n : ℕ) → n ≡ 0 → IfSome most (λ m. n ≤ m)
@@ -41,16 +41,6 @@ sound_none r most k e f g =
 
 none_there : {X : Type 0} (xs : List X) (x : X) → xs ≡ [] → ¬ Contains xs x
 none_there xs x e (i, lt, is) = let none : length xs ≡ 0 = ap length e in absurd (omega arith)
-
-pub steady_none : (r : Rules) (size : ℕ) (k : Known) → k.runs.items ≡ [] → k.conflicts.items ≡ [] → k.passing.items ≡ [] → IsSteady r size k
-steady_none r size k e f g =
-    let runs : told k ≡ [] = ap runs_in e in
-    record {
-      going = subst (All (λ (run : Run). run.outcome ≢ Broken)) (sym runs) (All-nil (λ (run : Run). run.outcome ≢ Broken));
-      blamed = λ s there. absurd (none_there (told k) (record { set = s; outcome = Failed }) runs there);
-      large = subst (All (λ s. size ≤ members (size_of r) s)) (sym (ap rows_of g)) (All-nil (λ s. size ≤ members (size_of r) s));
-      paid = λ plain. (let none : length k.runs.items ≡ 0 = ap length e in omega arith);
-    }
 
 -- what is settled by what is known is decided by what is found
 pub decided_by : (k : Known) (passing : List (List Bool)) → ((s : List Bool) → HasPassed (told k) s → IsInside passing s) → (s : List Bool) → IsSettled k s → IsDecided (conflicts_of k) passing s

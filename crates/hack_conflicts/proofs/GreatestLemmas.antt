@@ -5,7 +5,7 @@ use Rattle.std.proofs.lemmas.Bool.{false≢true, cases_order, cases_lt}
 use Rattle.std.proofs.lemmas.List.{length-take, get_or-take, get_or_default, take_more, length-append, get_or-append_right}
 use Rattle.std.proofs.Math.ListN.{get_or-append}
 use Rattle.std.proofs.lemmas.List.Quantifiers.{all_pairs_push}
-use Rattle.std.proofs.lemmas.List.Elements.{All-nil, All-push, All-append, All-weaker, All-contains, All-contains_itself, Contains-get_or, Contains-push, Contains-push_cases, Contains-append_left, Contains-append_right}
+use Rattle.std.proofs.lemmas.List.Elements.{All-push, All-append, All-weaker, All-contains, All-contains_itself, Contains-get_or, Contains-push, Contains-push_cases, Contains-append_left, Contains-append_right}
 use Rattle.hack_conflicts.specs.Sets.{Has, IsWithin, IsInside, HasInside, AreApart}
 use Rattle.hack_conflicts.specs.Rules.{IsChoice}
 use Rattle.hack_conflicts.specs.Runs.{Run, HasPassed, IsDecided, IsGreatest}
@@ -57,22 +57,6 @@ module _ (set : List Bool) (all new : List (List Bool)) (i : ℕ) (lt : i < leng
     ];
     apart = all_pairs_push AreApart new (get_or all i []) h.apart (apart_there apart);
   })
-
-pub others_none : (set : List Bool) → KeepsOthers set [] []
-others_none set = record {
-  among = All-nil (Contains []);
-  outside = All-nil (λ s. ¬ IsWithin s set);
-  kept = λ s c. inl c;
-  apart = λ i j d lt le. absurd (omega arith);
-}
-
-pub no_others : (first : List (List Bool)) → AreOthers first [] []
-no_others first = record {
-  passed = All-nil (HasPassed []);
-  outside = All-nil (λ s. ¬ IsInside first s);
-  covers = λ s (i, lt, is). absurd (omega arith);
-  apart = λ i j d lt le. absurd (omega arith);
-}
 
 -- the run is the next behind the front
 module _ (first : List (List Bool)) (front : List Run) (run : Run) (others : List (List Bool)) (h : AreOthers first front others) where

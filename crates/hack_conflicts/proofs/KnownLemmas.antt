@@ -1,7 +1,7 @@
 -- What a search knows after another run.
 use Rattle.std.proofs.Common.{◌≡◌, ◌<◌, ◌≤◌, ℕ, ◌+◌, List, [], ◌∷◌, ◌++◌, length, get_or, set, ◌-◌, arith, Bool, sym, ◌∙◌, ap, subst, inl, inr, ◌⊎◌, All, Contains, Option, Some, None, IfSome}
 use Rattle.std.specs.Prelude.{AllPairs}
-use Rattle.std.proofs.lemmas.List.{map-append, length-map, length-append, map-set}
+use Rattle.std.proofs.lemmas.List.{length-map, length-append, map-set}
 use Rattle.std.proofs.Math.ListN.{get_or-map}
 use Rattle.std.proofs.Math.Seq.{get_or-append_seam, set-append_seam}
 use Rattle.std.proofs.lemmas.List.Quantifiers.{all_pairs_push}
@@ -18,10 +18,6 @@ use Rattle.hack_conflicts.specs.declared.tried.Outcome.TheVariants.{Passed, Fail
 
 pub each_of : {X : Type 0} (P : X → Type 0) (xs : List X) → ((x : X) → Contains xs x → P x) → All P xs
 each_of P xs h = All-weaker (Contains xs) P h xs (All-contains_itself xs)
-
--- the runs that are recorded, with one more
-pub runs-push : (xs : List Tried) (t : Tried) → runs_in (xs ++ t ∷ []) ≡ runs_in xs ++ record { set = t.set.items; outcome = t.outcome } ∷ []
-runs-push xs t = map-append (λ (one : Tried). record { set = one.set.items; outcome = one.outcome }) xs (t ∷ [])
 
 pub length-runs : (xs : List Tried) → length (runs_in xs) ≡ length xs
 length-runs xs = length-map xs (λ (one : Tried). record { set = one.set.items; outcome = one.outcome })

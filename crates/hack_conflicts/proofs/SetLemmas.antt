@@ -4,9 +4,8 @@ use Rattle.std.specs.Prelude.{Vec}
 use Rattle.std.proofs.lemmas.Bool.{false≢true, cases_lt, cases_Bool}
 use Rattle.std.proofs.lemmas.List.{get_or_past, get_or_default, length-map}
 use Rattle.hack_conflicts.specs.Sets.{Has, mark, IsWithin, IsInside, rows_of}
-use Rattle.std.proofs.lemmas.List.Elements.{All-from_get_or, Contains-get_or, Contains-append_left, Contains-append_right, Contains-append_cases}
+use Rattle.std.proofs.lemmas.List.Elements.{All-from_get_or, Contains-get_or, Contains-append_left}
 use borrow.Author.Count.{below_more}
-use Rattle.hack_conflicts.specs.Rules.{Meets}
 
 -- a member lies below the length
 pub has_below : (s : List Bool) (p : ℕ) → Has s p → p < length s
@@ -15,9 +14,6 @@ has_below s p h = elim (cases_lt p (length s)) [ inl lt ↦ lt | inr le ↦ absu
 -- what holds of each member below the length holds of each member
 pub within_all : (s t : List Bool) (n : ℕ) → length s ≤ n → ((p : ℕ) → p < n → Has s p → Has t p) → IsWithin s t
 within_all s t n le h p has = let lt : p < length s = has_below s p has in h p (omega arith) has
-
-pub meets_none : (s g : List Bool) (n : ℕ) → length s ≤ n → ((p : ℕ) → p < n → Has g p → Has s p → ⊥) → ¬ Meets s g
-meets_none s g n le h (p, in_group, in_set) = let lt : p < length s = has_below s p in_set in h p (omega arith) in_group in_set
 
 -- how many lists of items there are
 pub length-rows : {X Z : Type 0} (lists : List (Vec X Z)) → length (rows_of lists) ≡ length lists
@@ -47,12 +43,6 @@ within_or s t = elim (search_below s t (length s)) [ inl h ↦ inl (within_all s
 
 pub inside_left : (a b : List (List Bool)) (s : List Bool) → IsInside a s → IsInside (a ++ b) s
 inside_left a b s (t, there, w) = (t, Contains-append_left a b t there, w)
-
-pub inside_right : (a b : List (List Bool)) (s : List Bool) → IsInside b s → IsInside (a ++ b) s
-inside_right a b s (t, there, w) = (t, Contains-append_right a b t there, w)
-
-pub inside_cases : (a b : List (List Bool)) (s : List Bool) → IsInside (a ++ b) s → IsInside a s ⊎ IsInside b s
-inside_cases a b s (t, there, w) = elim (Contains-append_cases a b t there) [ inl h ↦ inl (t, h, w) | inr h ↦ inr (t, h, w) ]
 
 -- a set at a place is one of them
 pub contains_at : {Z : Type 0} (sets : List (Vec Bool Z)) (place : ℕ) → place < length sets → Contains (rows_of sets) (get_or (rows_of sets) place [])

@@ -110,14 +110,6 @@ blamed_part r k s large part h t there = elim (h.blamed t there) [
   | inr w ↦ inr (λ p has. w p (part.within p has))
 ]
 
-pub clear_less : (k : Known) (s t : List Bool) → IsWithin s t → IsClear k t → IsClear k s
-clear_less k s t w h = record {
-  going = h.going;
-  failed = λ u there v. h.failed u there (λ p has. w p (v p has));
-  conflicts = λ (u, there, v). h.conflicts (u, there, λ p has. w p (v p has));
-  passing = λ (u, there, v). h.passing (u, there, λ p has. w p (v p has));
-}
-
 -- nothing known is inside a part of a set that fails
 pub clear_part : (r : Rules) (k : Known) (s large : List Bool) → IsPart s large → IsFailing r k large → IsClear k s
 clear_part r k s large part h = record {

@@ -29,10 +29,6 @@ thinned-kept (y ∷ old) new x h =
 pub joined-push : (texts : List (List ℕ)) (text : List ℕ) → joined (texts ++ text ∷ []) ≡ joined texts ++ text
 joined-push texts text = flat_map-append (λ t. t) texts (text ∷ []) ∙ ap (λ t. joined texts ++ t) (append-nil text)
 
--- no element, and none kept
-pub keeps-none : (inside bytes : List ℕ) → bytes ≡ [] → KeepsSome inside 0 bytes
-keeps-none inside bytes none = record { elements = []; kept = []; split = refl; single = λ i d lt. absurd (omega arith); some = refl; is = none }
-
 -- one more element with its comma
 module _ (inside : List ℕ) (from at : ℕ) (behind : IsCommaBehind inside from at) where
   text : List ℕ

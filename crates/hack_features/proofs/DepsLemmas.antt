@@ -1,5 +1,5 @@
 -- Tables of what each key enables, and of the keys that serve a group.
-use Rattle.std.proofs.Common.{◌≡◌, ℕ, suc, ◌+◌, ◌<◌, List, arith, [], ◌∷◌, ◌++◌, refl, sym, ◌∙◌, ap, subst, map, Option, Some, None, IsSome, IfSome, Bool, true, false, cond, IsTrue, ◌⊎◌, inl, inr, ◌↔◌, Contains, ◌||◌, length, get_or, take, ◌≤◌, String, Vec, string_bytes}
+use Rattle.std.proofs.Common.{◌≡◌, ℕ, suc, ◌+◌, ◌<◌, List, arith, [], ◌∷◌, ◌++◌, refl, sym, ◌∙◌, ap, subst, map, Option, Some, None, IsSome, IfSome, Bool, true, false, cond, IsTrue, ◌⊎◌, inl, inr, ◌↔◌, Contains, ◌||◌, length, get_or, take, String, Vec, string_bytes}
 use Rattle.std.specs.List.{All, list_any}
 use Rattle.std.specs.Option.{is_some}
 use Rattle.std.specs.Map.{lookup}
@@ -11,7 +11,6 @@ use Rattle.std.specs.Ordering.{nat_cmp, is_eq}
 use Rattle.std.proofs.lemmas.Slice.Eq.{bytes_eq-Decides}
 use Rattle.std.proofs.lemmas.Map.Text.{is_eq-slice_cmp}
 use Rattle.std.proofs.lemmas.List.{take_more, get_or-map, length-map}
-use Rattle.std.proofs.Math.Seq.{take-length}
 use Rattle.hack_base.proofs.Members.{Contains-head, Contains-tail, Contains-nil, Contains-cons_cases}
 use Rattle.hack_base.proofs.NameLemmas.{same_text, differ}
 use Rattle.hack_features.proofs.NameSetLemmas.{has-more, has_just-nil}
@@ -159,8 +158,3 @@ pub groups-more : (features : List Feature) (k : ℕ) (f : Feature) → k < leng
 groups-more features k f h e =
     take_more (groups_of features) k (group_of f) (rw (length-map features group_of) h)
     ∙ ap (λ n. take k (groups_of features) ++ n ∷ []) (get_or-map group_of features k f (group_of f) h ∙ ap group_of (sym e))
-
-pub groups-whole : (features : List Feature) (k : ℕ) → length features ≤ k → k ≤ length features → take k (groups_of features) ≡ groups_of features
-groups-whole features k low high =
-    let all : k ≡ length (groups_of features) = omega (arith, length-map features group_of) in
-    ap (λ n. take n (groups_of features)) all ∙ take-length (groups_of features)

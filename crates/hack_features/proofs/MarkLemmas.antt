@@ -1,5 +1,5 @@
 -- Places marked by a search, and what chains of links lead to.
-use Rattle.std.proofs.Common.{◌≡◌, ◌≢◌, ℕ, zero, suc, ◌+◌, ◌<◌, ◌≤◌, List, [], ◌∷◌, ◌++◌, length, get_or, set, replicate, refl, sym, ◌∙◌, ap, subst, arith, Bool, true, false, ◌⊎◌, inl, inr, ◌↔◌, IsTrue, All, Contains, length-append, append_assoc, append-nil, Vec}
+use Rattle.std.proofs.Common.{◌≡◌, ◌≢◌, ℕ, zero, suc, ◌+◌, ◌<◌, ◌≤◌, List, [], ◌∷◌, ◌++◌, length, get_or, set, replicate, refl, sym, ◌∙◌, ap, subst, arith, Bool, true, false, ◌⊎◌, inl, inr, ◌↔◌, IsTrue, All, Contains, length-append, append_assoc, Vec}
 use Rattle.std.proofs.Math.ListN.{get_or-append}
 use Rattle.std.proofs.lemmas.List.{get_or_default, get_or-map, length-map}
 use Rattle.std.proofs.lemmas.List.Elements.{Contains-append_left, Contains-push, Contains-push_cases, Contains-get_or, All-contains}
@@ -14,11 +14,6 @@ use Rattle.hack_features.specs.Tables.{bit}
 use Rattle.hack_features.specs.InternalPlaces.{Leads, AddsPlaces, AreMarked, ones}
 
 -- ---- marks
-
-bit-beyond : (marks : List Bool) (place : ℕ) → bit marks place ≡ true → place < length marks
-bit-beyond [] place e = absurd (let z : false ≡ true = e in cc)
-bit-beyond (b ∷ marks) zero e = omega arith
-bit-beyond (b ∷ marks) (suc place) e = let r = bit-beyond marks place e in omega arith
 
 bit-set_here : (marks : List Bool) (place : ℕ) → place < length marks → bit (set marks place true) place ≡ true
 bit-set_here [] place lt = absurd (omega arith)
@@ -88,9 +83,6 @@ pub inside_of : (n : ℕ) (rows : List (List ℕ)) → length rows ≡ n → All
 inside_of n rows e h i j lt c = All-contains (λ place. place < n) (get_or rows i []) j (h i [] (omega arith)) c
 
 -- ---- what is added
-
-pub places-kept : (P : ℕ → Type 0) (old : List ℕ) → ((place : ℕ) → P place → Contains old place) → AddsPlaces P old old
-places-kept P old h = record { kept = ([], sym (append-nil old)); added = h; only = λ place c. inl c }
 
 pub places-one : (old : List ℕ) (place : ℕ) → AddsPlaces (λ j. place ≡ j) old (old ++ place ∷ [])
 places-one old place = record {

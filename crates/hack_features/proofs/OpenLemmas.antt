@@ -27,14 +27,6 @@ at-kept sets more (p ∷ places) h =
 more-inside : (sets : List (List ℕ)) (t : List ℕ) (places : List ℕ) → All (λ p. p < length sets) places → All (λ p. p < length (sets ++ t ∷ [])) places
 more-inside sets t places h = All-weaker (λ p. p < length sets) (λ p. p < length (sets ++ t ∷ [])) (λ p lt. omega (arith, length-append sets (t ∷ []))) places h
 
--- the empty set alone is open
-pub open-start : (may : List ℕ → Bool) → AreOpen may ([] ∷ []) (0 ∷ [])
-open-start may = record {
-  inside = All-push (λ p. p < 1) [] 0 (λ k d lt. absurd (omega arith)) (omega arith);
-  few = omega arith;
-  same = λ next. refl;
-}
-
 -- one more set, which is open
 pub open-more : (may : List ℕ → Bool) (sets : List (List ℕ)) (places : List ℕ) (t : List ℕ) → AreOpen may sets places → AreOpen may (sets ++ t ∷ []) (places ++ length sets ∷ [])
 open-more may sets places t h = record {

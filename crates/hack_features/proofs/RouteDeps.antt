@@ -2,17 +2,17 @@
 use Rattle.std.proofs.Common.{◌≡◌, ◌≢◌, ◌↔◌, ℕ, ◌+◌, ◌<◌, List, [], arith, length, get_or, refl, sym, ◌∙◌, ap, subst, Option, Some, IsSome, IfSome, Bool, true, false, cond, IsTrue, inl, inr, Contains}
 use Rattle.std.specs.Prelude.{◌==◌, ◌&&◌, not}
 use Rattle.std.specs.Option.{is_some}
-use Rattle.std.specs.Map.{lookup, update}
-use Rattle.std.specs.BTreeMap.{BTreeMap, is_at}
+use Rattle.std.specs.Map.{update}
+use Rattle.std.specs.BTreeMap.{BTreeMap}
 use Rattle.std.specs.Borrow.{Bor}
 use Rattle.std.specs.Str.{bytes_eq}
 use Rattle.std.specs.Cmp.Lexicographic.{slice_cmp}
 use Rattle.std.specs.Ordering.{nat_cmp, is_eq}
 use Rattle.std.proofs.lemmas.Bool.{or_right, and_parts, and_from}
 use Rattle.std.proofs.lemmas.List.{get_or_default, get_or-map}
-use Rattle.hack_base.proofs.Members.{Contains-nil, lt_or_same}
+use Rattle.hack_base.proofs.Members.{lt_or_same}
 use Rattle.hack_base.proofs.NameLemmas.{same_text, differ}
-use Rattle.hack_features.proofs.NameSetLemmas.{has-more, has_just-nil}
+use Rattle.hack_features.proofs.NameSetLemmas.{has-more}
 use Rattle.hack_features.proofs.TableLemmas.{differ_at, marked_or, not_same}
 use Rattle.hack_base.specs.Names.{Name, names_behind}
 use Rattle.hack_features.specs.FeatureMap.{FeatureMap, IsKey, Enables}
@@ -30,9 +30,6 @@ here_at refs items k e lt = ap (λ is. name_at (names_behind is) k) (sym e) ∙ 
 -- a set of the names at those of the first places that pass the test
 abbrev pub Tells : NameSet → List Name → (ℕ → Bool) → ℕ → Type 0
 Tells s names test n = (y : Name) → IsTrue (has_name s y) ↔ ((k : ℕ) × (k < n) × (name_at names k ≡ y) × IsTrue (test k))
-
-pub tells-none : (names : List Name) (test : ℕ → Bool) (s : NameSet) → s.keys ≡ [] → Tells s names test 0
-tells-none names test s e = λ y. (λ k. absurd (Contains-nil y ((has_just-nil s e y).0 k)), λ w. absurd (omega (arith, w.1)))
 
 -- one place more, which passes
 pub tells-more : (names : List Name) (test : ℕ → Bool) (n : ℕ) (old new : NameSet) → Tells old names test n → ((y : Name) → has_name new y ≡ cond (is_eq (slice_cmp nat_cmp (name_at names n) y)) true (has_name old y)) → test n ≡ true → Tells new names test (n + 1)
@@ -84,13 +81,6 @@ pub record Tabling (m : FeatureMap) (names : List Name) (deps : BTreeMap (Bor Na
   pub keys : (x : Name) → IsSome (get_at deps x) → IsKey m x
   pub told : (k : ℕ) → k < n → IsKey m (name_at names k) → IsSome (get_at deps (name_at names k))
   pub each : (x : Name) → IfSome (get_at deps x) (IsDepsOf m x)
-
-pub tabling-start : (m : FeatureMap) (names : List Name) (deps : BTreeMap (Bor Name) NameSet) → deps.entries ≡ [] → Tabling m names deps 0
-tabling-start m names deps e = record {
-  keys = λ x o. absurd (let z : false ≡ true = sym (ap (λ es. is_some (lookup (is_at (λ (b : Bor Name). slice_cmp nat_cmp x b.now)) es)) e) ∙ o in cc);
-  told = λ k lt. absurd (omega (arith, lt));
-  each = λ x. subst (λ es. IfSome (lookup (is_at (λ (b : Bor Name). slice_cmp nat_cmp x b.now)) es) (IsDepsOf m x)) (sym e) tt;
-}
 
 keys-next : (m : FeatureMap) (x y : Name) (s : NameSet) (old new : Option NameSet) (b : Bool) → bytes_eq x y ≡ b → new ≡ cond b (Some s) old → IsKey m x → (IsSome old → IsKey m y) → IsSome new → IsKey m y
 keys-next m x y s old new true t e k h o = subst (IsKey m) (same_text x y t) k

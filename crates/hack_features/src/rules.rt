@@ -120,7 +120,8 @@ impl<'a> Rules<'a> {
 
     /// How many positions a permitted set has at most, if a depth is given.
     pub fn most(&self) -> Option<usize>
-        ensures { (s : List ℕ) → IsTrue (may_of self.now s) → IsWithin result s }
+        ensures depth { result ≡ (choice_of self.now).depth }
+        ensures within { (s : List ℕ) → IsTrue (may_of self.now s) → IsWithin result s }
     {
         self.given.depth
     }

@@ -1,7 +1,7 @@
 -- Files are written back, one after another.
 use Rattle.std.proofs.Common.{◌≡◌, ◌≢◌, ◌⊎◌, inl, inr, ℕ, suc, zero, ◌+◌, ◌<◌, ◌≤◌, List, [], ◌∷◌, ◌++◌, Some, length, map, take, refl, sym, ◌∙◌, arith, subst, ap, below_more, append-nil, length-append, Bool, true, IsTrue, ◌↔◌}
 use Rattle.std.specs.Prelude.{Contains, slice_index_or}
-use Rattle.std.proofs.lemmas.List.{get_or-map, take_more, take_all, length-map}
+use Rattle.std.proofs.lemmas.List.{get_or-map, take_more, length-map}
 use Rattle.std.proofs.lemmas.List.Elements.{Contains-append_left, Contains-append_right}
 use Rattle.hack_files.specs.declared.saved.Saved.{Saved}
 use Rattle.hack_files.specs.Files.{Change, Contents, KeepsOthers, Makes, MakesOrNot}
@@ -151,9 +151,6 @@ tried_failed files i k file s t u old mid new lt at makes b =
       | inl left ↦ (b.0, subst (P b.0) (sym (one_more files i file lt at)) (failed file b.1), subst Q (append-nil b.0) (makes_more b.0 [] s t u old mid new b.2 left))
       | inr made ↦ (b.0 ++ write_of file ∷ [], subst (P (b.0 ++ write_of file ∷ [])) (sym (one_more files i file lt at)) (made_and_failed file b.1), makes_more b.0 (write_of file ∷ []) s t u old mid new b.2 made)
     ]
-
-pub tried_all : (files : List Kept) (i k : ℕ) (s t : List Change) (old new : Contents) → length files ≤ i → TriedTo files i k s t old new → (made : List Change) × Tried files made k × Makes made s t old new
-tried_all files i k s t old new end b = let P : List Kept → Type 0 = λ l. Tried l b.0 k in (b.0, subst P (take_all i files end) b.1, b.2)
 
 -- whether an error is noted: at first, after a write that fails, and after one that succeeds
 pub noted_none : (error : Bool) → IsTrue error ↔ (IsTrue error ⊎ (0 < 0))

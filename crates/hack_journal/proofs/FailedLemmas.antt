@@ -3,7 +3,6 @@ use Rattle.std.proofs.Common.{◌≡◌, ◌⊎◌, ◌≤◌, ◌-◌, ◌∙�
 use Rattle.std.specs.Prelude.{IsSome, OnErr, OnOk, Option, slice_index_or}
 use Rattle.std.proofs.lemmas.List.{take_all}
 use Rattle.std.proofs.lemmas.Bool.{false≢true}
-use Rattle.hack_files.specs.declared.fs.Files.{Ghosts as Filing}
 use Rattle.hack_files.specs.declared.fs.FsFault.TheVariants as fs
 use Rattle.hack_files.specs.FailedCalls.{LookFailed, NoneFailed, WriteFailed}
 use Rattle.hack_files.specs.Files.{Makes, MakesOrNot, refused_path}
@@ -13,7 +12,7 @@ use Rattle.hack_journal.specs.FileCalls.{ChangesOnly, Puts}
 use Rattle.hack_journal.specs.Journal.{Edit}
 use Rattle.hack_journal.specs.SafeFiles.{gives}
 use Rattle.hack_journal.specs.Recovery.{HasEntry}
-use Rattle.hack_journal.specs.Internal.{IsMemoryRefused, IsReadFault, IsWriteFault}
+use Rattle.hack_journal.specs.Internal.{IsMemoryRefused, IsWriteFault}
 use Rattle.hack_journal.specs.Rows.{Noted, file_at}
 use Rattle.hack_journal.specs.declared.recover.RecoverFault.{RecoverFault}
 use Rattle.hack_journal.specs.declared.recover.RecoverFault.TheVariants.{Memory, NotJournal, Changed, Files}
@@ -79,16 +78,6 @@ pub cannot_remove : {F : Type 0} (f : Filing F) (noted : Noted) (a b c : F) → 
 cannot_remove f noted a b c p (i, le, h) = inr (i, le, write_then f (file_at noted.journal i) a b c p h)
 
 -- ---- errors
-
--- the error of a read, or of a write, that failed
-pub read_failed : {F : Type 0} (f : Filing F) (path : List ℕ) (fault : RecoverFault) (a b : F) → IsReadFault path fault → LookFailed f path a b → IsOfFailedCall f a b fault
-read_failed f path Memory a b is h = inr (path, inl h)
-read_failed f path (NotJournal j) a b is h = absurd is
-read_failed f path (Changed p j) a b is h = absurd is
-read_failed f path (Files (fs.Read p)) a b is h = subst (λ (q : List ℕ). LookFailed f q a b) (sym is) h
-read_failed f path (Files (fs.Write p)) a b is h = absurd is
-read_failed f path (Files (fs.NotText p)) a b is h = absurd is
-read_failed f path (Files fs.Memory) a b is h = absurd is
 
 pub write_failed : {F : Type 0} (f : Filing F) (path : List ℕ) (fault : RecoverFault) (a b : F) → IsWriteFault path fault → WriteFailed f path a b → IsOfFailedCall f a b fault
 write_failed f path Memory a b is h = inr (path, inr h)

@@ -1,12 +1,11 @@
 -- Why an edit is refused, one step after another.
-use Rattle.std.proofs.Common.{◌≡◌, ◌+◌, inl, inr, subst, sym, ℕ, List, Option, Some, None, Result, Ok, Err, IfErr, false, length}
+use Rattle.std.proofs.Common.{◌≡◌, ◌+◌, inl, inr, subst, sym, ℕ, List, Option, Some, None, Result, Ok, Err, false, length}
 use Rattle.std.specs.Prelude.{IsSome}
 use Rattle.hack_files.specs.Files.{KeepsAll}
 use Rattle.hack_files.specs.declared.fs.FileFault.{FileFault}
 use Rattle.hack_files.specs.declared.fs.FileFault.TheVariants.{Memory, Device}
-use Rattle.hack_files.specs.declared.fs.Files.{Ghosts as Filing}
-use Rattle.hack_files.specs.FailedCalls.{LookFailed, NoneFailed, WriteFailed}
-use Rattle.hack_journal.specs.FailedCalls.{FailsRefusedAt, FailsUnseenAt}
+use Rattle.hack_files.specs.FailedCalls.{NoneFailed, WriteFailed}
+use Rattle.hack_journal.specs.FailedCalls.{FailsRefusedAt}
 use Rattle.hack_journal.specs.Internal.{IsHeld}
 use Rattle.hack_journal.specs.Journal.{Edit}
 use Rattle.hack_journal.specs.Keeping.{CannotAppend, CannotLookAhead, FailsOf, IsOfCause, IsOther, held_first}
@@ -29,16 +28,6 @@ of_cause P Device p = p
 pub fails_then : {F T : Type 0} (f : Filing F) (P Q : Type 0) (r : Result T FileFault) (a b c : F) → NoneFailed f a b → (P → Q) → FailsOf f P b c r → FailsOf f Q a c r
 fails_then f P Q (Ok v) a b c none to h = none_then f a b c none h
 fails_then f P Q (Err fault) a b c none to h = cause_wider P Q fault to h
-
--- a step that calls no files
-pub fails_alone : {F T : Type 0} (f : Filing F) (P Q : Type 0) (r : Result T FileFault) (a b : F) → NoneFailed f a b → (P → Q) → IfErr r (IsOfCause P) → FailsOf f Q a b r
-fails_alone f P Q (Ok v) a b none to h = none
-fails_alone f P Q (Err fault) a b none to h = cause_wider P Q fault to h
-
--- a look, or a write
-pub fails_look : {F T : Type 0} (f : Filing F) (path : List ℕ) (r : Result T FileFault) (a b : F) → FailsUnseenAt f path a b r → FailsOf f (LookFailed f path a b) a b r
-fails_look f path (Ok v) a b h = h
-fails_look f path (Err fault) a b h = of_cause (LookFailed f path a b) fault h
 
 pub fails_write : {F T : Type 0} (f : Filing F) (path : List ℕ) (r : Result T FileFault) (a b : F) → FailsRefusedAt f path a b r → FailsOf f (WriteFailed f path a b) a b r
 fails_write f path (Ok v) a b h = h

@@ -300,12 +300,6 @@ names_wider P Q to (fs.Write p) h = to (string_bytes p) h
 names_wider P Q to (fs.NotText p) h = absurd h
 names_wider P Q to fs.Memory h = absurd h
 
-pub fails_wider : (P Q : List ℕ → Type 0) → ((p : List ℕ) → P p → Q p) → (fault : RecoverFault) → FailsAt P fault → FailsAt Q fault
-fails_wider P Q to Memory h = tt
-fails_wider P Q to (NotJournal j) h = absurd h
-fails_wider P Q to (Changed p j) h = absurd h
-fails_wider P Q to (Files f) h = names_wider P Q to f h
-
 -- a file that can't be read, behind others that were read
 pub why_torn : (s : Spot) (tells : Type 0) (k : ℕ) (es : List Edit) (m n : Contents) (fault : RecoverFault) → (tells → KeepsAll m n) → (tells → AreRead s m k es) → IsWhyTorn s k tells n fault → IsWhyUnread s tells m fault
 why_torn s tells k es m n Memory same read why = tt
@@ -313,19 +307,6 @@ why_torn s tells k es m n (NotJournal p) same read why = (why.0, λ t. no_row s 
 why_torn s tells k es m n (Changed p q) same read why = absurd why
 why_torn s tells k es m n (Files f) same read why =
     names_wider (λ p. p ≡ file_at s.journal k) (IsReached s tells m) (λ p is. (k, is, λ t i lt. reached s m k es (read t).files i lt)) f why
-
-pub failed_not_told : (j : List ℕ) (tells : Type 0) (all : List Edit) (e : Edit) (m : Contents) (fault : RecoverFault) → FailsAt (λ p. p ≡ e.path) fault → IsWhyNotTold j tells all (e ∷ []) m fault
-failed_not_told j tells all e m Memory h = tt
-failed_not_told j tells all e m (NotJournal p) h = absurd h
-failed_not_told j tells all e m (Changed p q) h = absurd h
-failed_not_told j tells all e m (Files f) h = names_wider (λ p. p ≡ e.path) (HasEntry (e ∷ [])) (λ p is. inl (sym is)) f h
-
--- why checking some entries fails is also why checking more of them fails
-pub more_not_told : (j : List ℕ) (tells : Type 0) (all es fs : List Edit) (m : Contents) (fault : RecoverFault) → ((p : List ℕ) → HasEntry es p → HasEntry fs p) → IsWhyNotTold j tells all es m fault → IsWhyNotTold j tells all fs m fault
-more_not_told j tells all es fs m Memory to h = tt
-more_not_told j tells all es fs m (NotJournal p) to h = absurd h
-more_not_told j tells all es fs m (Changed p q) to h = (h.0, to (string_bytes p) h.1, h.2)
-more_not_told j tells all es fs m (Files f) to h = names_wider (HasEntry es) (HasEntry fs) to f h
 
 -- a file couldn't be put back, or a file of the journal couldn't be removed
 pub why_failed : (s : Spot) (tells : Type 0) (c : ℕ) (es : List Edit) (m : Contents) (fault : RecoverFault) → (tells → IsRowRead s m c es) → FailsAt (λ p. ((i : ℕ) × (i < c) × (p ≡ file_at s.journal i)) ⊎ HasEntry es p) fault → IsWhy s tells m fault

@@ -73,9 +73,6 @@ lines_some (b ∷ bs) rest h = elim (eqb_tells b 10) [
 pub sofar_never : (text read left : List ℕ) → left ≡ [] → SoFar text read left → (bytes after : List ℕ) → BeginsWithoutSpace after → text ≡ lines bytes ++ after → ⊥
 sofar_never text read left is before bytes after next h = let b = before bytes after next h in lines_some b.more after (sym is ∙ b.text)
 
-pub sofar_begun : (text : List ℕ) → SoFar text [] text
-sofar_begun text bytes rest next h = record { more = bytes; whole = refl; text = h }
-
 -- a text from which no space was stripped
 pub next_of : (rest : List ℕ) → ((r : List ℕ) → rest ≢ 32 ∷ r) → BeginsWithoutSpace rest
 next_of [] h = tt

@@ -1,8 +1,7 @@
 -- The sets between two sets are listed, so that the listed sets are at least as many.
 use Rattle.std.proofs.Common.{◌≡◌, ◌≢◌, ℕ, zero, suc, ◌+◌, ◌-◌, ◌^◌, ◌<◌, ◌≤◌, List, [], ◌∷◌, ◌++◌, length, get_or, set, map, filter, refl, sym, ◌∙◌, ap, subst, arith, Bool, true, false, inl, inr, All, Contains, length-append, pow-suc}
 use Rattle.std.specs.List.{list_any, remove}
-use Rattle.std.proofs.lemmas.Bool.Decides.{eqb_tells}
-use Rattle.std.proofs.lemmas.List.{length-map, length-set, get_or-set_same, get_or-set_other}
+use Rattle.std.proofs.lemmas.List.{length-map}
 use Rattle.std.proofs.lemmas.List.Edits.{length-remove}
 use Rattle.std.proofs.lemmas.List.Elements.{All-append, All-cons, All-head, All-map, All-nil, All-tail, Contains-append_cases, Contains-get_or}
 use Rattle.hack_base.proofs.Members.{Contains-cons_cases, Contains-head, Contains-map_from, Contains-nil, Contains-tail}
@@ -190,16 +189,6 @@ whole-inside rows s t inside h =
     (λ row c.
     let p = some_passes (bit row) (positions_of s) (each_passes (λ row. list_any (bit row) (positions_of s)) rows h row c) in
     any_passes (bit row) (positions_of t) p.0 ((member_iff t p.0).1 (inside.members p.0 ((member_iff s p.0).0 p.1))) p.2)
-
--- a set without a position is inside it
-pub inside-less : (s : List Bool) (p : ℕ) → p < length s → IsInside (set s p false) s
-inside-less s p lt = record { same = length-set s p false; members = λ q. at q }
-  where
-    at : (q : ℕ) → has (set s p false) q ≡ true → has s q ≡ true
-    at q e = elim (eqb_tells p q) [
-      | inl same ↦ absurd (let z : false ≡ true = sym (get_or-set_same s p false false lt) ∙ ap (has (set s p false)) same.1 ∙ e in cc)
-      | inr other ↦ sym (get_or-set_other s p q false false (λ f. other.1 (sym f))) ∙ e
-    ]
 
 -- ---- the listed sets of rules
 

@@ -1,10 +1,8 @@
 -- Where a text may be split again.
-use Rattle.std.proofs.Common.{◌≡◌, ℕ, ◌-◌, List, [], ◌∷◌, ◌++◌, length, drop, arith, length-append, append_assoc, take, subst, sym, ap, ◌∙◌, refl, true, false, encode_utf8, ◌==◌}
-use Rattle.std.proofs.lemmas.Bool.Decides.{nat_tests}
+use Rattle.std.proofs.Common.{◌≡◌, ℕ, ◌-◌, List, ◌++◌, length, drop, arith, length-append, append_assoc, take, subst, sym, ap, ◌∙◌, refl}
 use Rattle.std.proofs.lemmas.List.{drop_at, take-append-drop}
 use Rattle.std.proofs.lemmas.Str.{IsCharBoundary-at_seam}
 use Rattle.std.specs.Str.{IsCharBoundary, IsUtf8}
-use Rattle.hack_lexopt.specs.Cuts.{Nothing, Chain, first_letter, after_letter, chain_of}
 
 pub length_front : (bs xs ys : List ℕ) → bs ≡ xs ++ ys → length bs - length ys ≡ length xs
 length_front bs xs ys e = omega (arith, ap length e, length-append xs ys)
@@ -19,15 +17,3 @@ drop_front bs xs ys e = rw (length_front bs xs ys e) (rw e (drop_at xs ys (lengt
 -- an argument is a prefix, a letter and the rest
 pub word_parts : (word letter rest : List ℕ) (at : ℕ) → drop at word ≡ letter ++ rest → word ≡ (take at word ++ letter) ++ rest
 word_parts word letter rest at e = sym (take-append-drop at word) ∙ ap (λ (t : List ℕ). take at word ++ t) e ∙ sym (append_assoc (take at word) letter rest)
-
--- what remains after a letter
-pub after_letter-rest : (letters rest : List ℕ) (c : ℕ) → c ≡ first_letter letters → letters ≡ encode_utf8 c ++ rest → after_letter letters ≡ chain_of rest
-after_letter-rest letters rest c h e = ap (λ (n : ℕ). chain_of (drop (length (encode_utf8 n)) letters)) (sym h) ∙ ap (λ (t : List ℕ). chain_of (drop (length (encode_utf8 c)) t)) e ∙ ap chain_of (drop_at (encode_utf8 c) rest _ refl)
-
-pub chain_of-empty : (rest : List ℕ) → (length rest == 0) ≡ true → chain_of rest ≡ Nothing
-chain_of-empty [] h = refl
-chain_of-empty (b ∷ bs) h = absurd (grind (arith, nat_tests))
-
-pub chain_of-filled : (rest : List ℕ) → (length rest == 0) ≡ false → chain_of rest ≡ Chain rest
-chain_of-filled [] h = absurd (grind (arith, nat_tests))
-chain_of-filled (b ∷ bs) h = refl

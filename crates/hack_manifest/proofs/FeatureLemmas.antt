@@ -1,5 +1,5 @@
 -- The feature map that the members of a table make: each feature is inserted after those before it.
-use Rattle.std.proofs.Common.{◌≡◌, List, [], ◌∷◌, ◌++◌, map, Option, Some, None, option_map, option_and_then, String, Vec, Global, Ordering, Less, Equal, Greater, string_bytes, string_cmp, refl, sym, ap, subst, ◌∙◌, append_assoc, append-nil}
+use Rattle.std.proofs.Common.{◌≡◌, List, [], ◌∷◌, ◌++◌, map, Option, Some, None, option_map, option_and_then, String, Vec, Global, Ordering, Less, Equal, Greater, string_bytes, string_cmp, refl, sym, ap, subst, ◌∙◌, append_assoc}
 use Rattle.std.specs.BTreeMap.{BTreeMap, insert_entry}
 use Rattle.std.specs.List.{AllByRecursion}
 use Rattle.std.specs.List.Sorted.{IsStrictlySortedBy}
@@ -104,14 +104,3 @@ so_far-turn whole m n left rest e ds first is put so_far =
           ∙ more-first m (string_bytes e.0) (texts_in ds) more;
       sorted = subst S (keys-last m (string_bytes e.0) (texts_in ds) (names rest)) here.sorted;
     })
-
--- a value that is no array
-pub so_far-none : (whole : Option FeatureMap) (m : FeatureMap) (left rest : List Entry) (e : Entry) → left ≡ e ∷ rest → as_array (view e.1) ≡ None → IsSoFar whole m left → whole ≡ None
-so_far-none whole m left rest e first is so_far =
-    so_far.read ∙ ap (λ es. option_map (λ t. m ++ t) (feature_map_in (members_view es))) first
-    ∙ ap (λ o. option_map (λ t. m ++ t) (option_and_then (λ ds. option_map (λ t. (string_bytes e.0, texts_in ds) ∷ t) (feature_map_in (members_view rest))) o)) is
-
--- nothing is left
-pub so_far-end : (whole : Option FeatureMap) (m : FeatureMap) (left : List Entry) → left ≡ [] → IsSoFar whole m left → whole ≡ Some m
-so_far-end whole m left none so_far =
-    so_far.read ∙ ap (λ es. option_map (λ t. m ++ t) (feature_map_in (members_view es))) none ∙ ap Some (append-nil m)

@@ -1,18 +1,15 @@
 -- Runs of whole lines, and what the table that was read from a text implies.
-use Rattle.std.proofs.Common.{◌≡◌, ℕ, ◌+◌, ◌-◌, ◌<◌, ◌≤◌, List, [], ◌∷◌, ◌++◌, length, map, take, drop, get_or, Bool, true, false, not, Some, Option, None, String, Global, IsTrue, sym, refl, ap, subst, inl, inr, arith}
+use Rattle.std.proofs.Common.{◌≡◌, ℕ, ◌+◌, ◌-◌, ◌<◌, ◌≤◌, List, [], ◌∷◌, ◌++◌, length, map, take, drop, get_or, Bool, true, false, not, Some, String, Global, IsTrue, sym, refl, ap, subst, inl, inr, arith}
 use Rattle.std.specs.Prelude.{IsUtf8, ◌↔◌}
-use Rattle.std.specs.Option.{option_map_or}
 use Rattle.std.specs.Str.{IsCharBoundary}
 use Rattle.std.proofs.lemmas.Str.{IsCharBoundary-end, IsCharBoundary-after_ascii}
 use Rattle.std.proofs.lemmas.List.{length-take-le, take-append-drop}
-use Rattle.toml.specs.Data.{Members, no_members, member}
 use Rattle.toml.specs.View.{members_view}
 use Rattle.toml.specs.declared.value.Value.{Value}
 use Rattle.hack_base.specs.Names.{Name}
 use Rattle.hack_manifest.specs.LineRuns.{IsLines, IsRun, IsShortest, IsCutInto}
 use Rattle.hack_manifest.specs.Internal.{has_keys}
 use Rattle.hack_manifest.specs.Paths.{IsPathOfPiece, View, HavePaths, next_header}
-use Rattle.hack_manifest.specs.LineRuns.{chain}
 
 abbrev pub Entry : Type 0
 Entry = String Global × Value
@@ -43,12 +40,6 @@ has_keys-table (e ∷ es) false h = refl
 abbrev pub last_header : List Name → List View → List Name
 last_header header [] = header
 last_header header (p ∷ ps) = last_header (next_header header p) ps
-
--- where there are no keys, there are no names
-pub chain-no_keys : (o : Option Members) → has_keys o ≡ false → option_map_or chain o [] ≡ []
-chain-no_keys None h = refl
-chain-no_keys (Some no_members) h = refl
-chain-no_keys (Some (member k d ms)) h = cc
 
 -- one more piece after pieces with their paths
 pub HavePaths-last : (header : List (List ℕ)) (ps : List View) (p : View) → HavePaths header ps → IsPathOfPiece (last_header header ps) p.text p.path → HavePaths header (ps ++ p ∷ [])

@@ -1,34 +1,18 @@
 -- Looks at files, one after another.
-use Rattle.std.proofs.Common.{◌≡◌, ◌∙◌, ◌||◌, [], ◌∷◌, inl, inr, ℕ, Bool, true, false, IsTrue, ap, refl, subst, sym, Result, Ok, Err, string_bytes}
-use Rattle.std.specs.Prelude.{◌↔◌, IsSome, Option, Some, None, List, is_some}
+use Rattle.std.proofs.Common.{◌≡◌, ◌∙◌, ◌||◌, [], ◌∷◌, inl, inr, ℕ, Bool, false, ap, refl, subst, sym, Result, Ok, Err, string_bytes}
+use Rattle.std.specs.Prelude.{Option, Some, None, List, is_some}
 use Rattle.std.proofs.Math.Path.{fun_ext}
 use Rattle.hack_files.specs.Files.{Contents, KeepsAll}
-use Rattle.hack_files.specs.declared.fs.Files.{Ghosts as Filing}
 use Rattle.hack_files.specs.FailedCalls.{LookFailed, NoneFailed}
-use Rattle.hack_journal.specs.SafeLaws.{makes_append}
 use Rattle.hack_places.specs.CallPlaces.{PlacesAt, is_left}
-use Rattle.hack_places.specs.FileLooks.{AreLooksSeen, IsOfPath, IsOfUnseen, Unchanged}
+use Rattle.hack_places.specs.FileLooks.{AreLooksSeen, IsOfPath, IsOfUnseen}
 use Rattle.hack_places.specs.declared.look.LookFault.{LookFault}
 use Rattle.hack_places.specs.declared.look.LookFault.TheVariants.{Memory, Device}
-use Rattle.hack_files.specs.View.{FilesView}
 use Rattle.hack_places.proofs.CountLemmas.{grows_then}
 
 -- where each path holds the same, the contents are one function
 pub all_same : (m n : Contents) → KeepsAll m n → n ≡ m
 all_same m n h = fun_ext h
-
--- looks one after another change nothing
-pub unchanged_then : (T W : Type 0) (a b c : FilesView) → Unchanged T W a b → Unchanged T W b c → Unchanged T W a c
-unchanged_then T W a b c f g = record {
-  same = λ t q. g.same t q ∙ f.same t q;
-  untraced = λ w. makes_append [] [] _ _ _ _ _ _ (f.untraced w) (g.untraced w);
-}
-
--- a test of whether something is there
-pub is_some_of : (o : Option (List ℕ)) (there : Bool) → (IsTrue there ↔ IsSome o) → there ≡ is_some o
-is_some_of None true h = let e : IsSome {T = List ℕ} None = h.0 refl in cc
-is_some_of None false h = refl
-is_some_of (Some x) there h = h.1 refl
 
 -- three looks at what an interrupted call may have left
 pub left_is : (T : Type 0) (first mid late : Contents) (places : PlacesAt) (a b c any : Bool) → any ≡ (a || b || c) → (T → a ≡ is_some (first places.journal)) → (T → KeepsAll first mid)

@@ -13,7 +13,7 @@ use Rattle.hack_plan.specs.declared.versions.PlanInput.{PlanInput}
 use Rattle.hack_plan.specs.Inputs.{UsesVersion, IsVersion, slots_of}
 use Rattle.hack_plan.specs.Entries.{Lists, AddsEntries, Overfills, AreTooMany, Before, IsOlder, IsAdmissible, HasRun}
 use Rattle.hack_plan.specs.Parts.{InVersion, InWhole}
-use Rattle.hack_plan.proofs.Joins.{Adds-then, Adds-nil, Overfills-then}
+use Rattle.hack_plan.proofs.Joins.{Adds-then, Overfills-then}
 use Rattle.hack_plan.proofs.Growth.{Contains-take_more, Contains-take_up, Contains-take_last}
 
 older-some : (x y : Option Version) (m n : Version) → x ≡ Some m → y ≡ Some n → IsEarlierVersion m n → IsOlder x y
@@ -27,9 +27,6 @@ some-below (y ∷ ys) (suc p) o x e f = omega (arith, some-below ys p o x e f)
 -- the entries of some groups
 abbrev pub InGroups : PlanInput → List ℕ → List Version → List VersionGroup → PlanEntry → Type 0
 InGroups s counts steps groups q = IsAdmissible s counts steps q × ((g : VersionGroup) × Contains groups g × (q.version ≡ Some g.version))
-
-pub groups-none : (s : PlanInput) (counts : List ℕ) (steps : List Version) (old : List PlanEntry) → AddsEntries (InGroups s counts steps []) old old
-groups-none s counts steps old = Adds-nil _ old (λ q h. absurd (omega (arith, h.1.1.1)))
 
 has-first : (xs : List ℕ) → (xs ≡ [] → ⊥) → (x : ℕ) × Contains xs x
 has-first [] n = absurd (n refl)

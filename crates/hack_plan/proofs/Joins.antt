@@ -1,5 +1,5 @@
 -- Lists of entries joined.
-use Rattle.std.proofs.Common.{◌⊎◌, ℕ, ◌-◌, ◌<◌, ◌≤◌, List, [], ◌++◌, length, arith, refl, ap, sym, ◌∙◌, inl, inr, get_or, length-append, append_assoc, append-nil}
+use Rattle.std.proofs.Common.{◌⊎◌, ℕ, ◌-◌, ◌<◌, ◌≤◌, List, ◌++◌, length, arith, refl, ap, ◌∙◌, inl, inr, get_or, length-append, append_assoc}
 use Rattle.std.specs.List.{AllPairs, Contains}
 use Rattle.std.proofs.lemmas.List.{get_or_append_left, get_or-append_right}
 use Rattle.std.proofs.lemmas.List.Elements.{Contains-get_or, All-append, All-contains, All-weaker, Contains-append_left, Contains-append_right}
@@ -35,16 +35,6 @@ Adds-then P Q R old mid new f g before split left right = record {
   grown = g.grown ∙ ap (λ t. t ++ g.added) f.grown ∙ append_assoc old f.added g.added;
   lists = Lists-append P Q R f.added g.added f.lists g.lists before split left right;
 }
-
-pub Lists-nil : (P : PlanEntry → Type 0) → ((q : PlanEntry) → P q → ⊥) → Lists P []
-Lists-nil P none = record {
-  increasing = λ i j d l m. absurd (omega arith);
-  sound = λ k d h. absurd (omega arith);
-  complete = λ q p. absurd (none q p);
-}
-
-pub Adds-nil : (P : PlanEntry → Type 0) (old : List PlanEntry) → ((q : PlanEntry) → P q → ⊥) → AddsEntries P old old
-Adds-nil P old none = record { added = []; grown = sym (append-nil old); lists = Lists-nil P none }
 
 pub Overfills-then : (P Q R : PlanEntry → Type 0) (old mid : List PlanEntry) → AddsEntries P old mid → Overfills Q mid → ((a b : PlanEntry) → P a → Q b → Before a b) → ((q : PlanEntry) → P q → R q) → ((q : PlanEntry) → Q q → R q) → Overfills R old
 Overfills-then P Q R old mid f g before left right = record {

@@ -111,12 +111,6 @@ tail-more dir target other targets path run =
     let last : length (target ∷ other ∷ targets) - 1 ≡ suc (length (other ∷ targets) - 1) = omega arith in
     rw last refl
 
--- a target after its option, and then what is shown of the rest
-joined-target : (target more tail : List ℕ) → codes " --target" ++ (spaced_word target ++ (more ++ tail)) ≡ (shown_target target ++ more) ++ tail
-joined-target target more tail =
-    let grouped : (target ++ more) ++ tail ≡ target ++ (more ++ tail) = append_assoc target more tail in
-    ap (λ l. codes " --target " ++ l) (sym grouped)
-
 -- what is shown of a target, without its option, and of what follows
 abbrev ShowsTarget : List ℕ → List ℕ → List (List ℕ) → Option (List ℕ) → PackageRun → Type 0
 ShowsTarget dir target targets path run =
@@ -180,11 +174,6 @@ still-first f true [] is_empty e = e
 still-first f false [] is_empty e = refl
 still-first f true (x ∷ xs) is_empty e = e ∙ eqb-suc-zero (length xs)
 still-first f false (x ∷ xs) is_empty e = refl
-
--- all names, as a line shows them
-pub all-joined : (names : List (List ℕ)) → joined_names true names ≡ shown_features (with_names None names)
-all-joined [] = refl
-all-joined (x ∷ xs) = refl
 
 -- the names at one more position
 pub names-more : (names : List (List ℕ)) (groups : List (List (List ℕ))) (set : List ℕ) (i d : ℕ) → i < length set → (names ++ candidate_names_at groups (take i set)) ++ slice_index_or groups (get_or set i d) [] ≡ names ++ candidate_names_at groups (take (i + 1) set)

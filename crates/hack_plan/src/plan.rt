@@ -300,7 +300,7 @@ impl Plan {
     }
 
     /// The plan of these packages without a place, to which a search adds runs. Its single version is
-    /// none.
+    /// none, and has no preparation.
     pub fn bare(
         alloc: Global,
         words: CommandParts,
@@ -312,6 +312,8 @@ impl Plan {
         ensures entries { IfOk result (λ plan. plan.entries ≡ []) }
         ensures spans { IfOk result (λ plan. map span_of plan.versions
             ≡ record { version = None; first = 0; end = 0 } ∷ []) }
+        ensures prepared { IfOk result (λ plan. map (λ v. v.preparations.items) plan.versions
+            ≡ [] ∷ []) }
     {
         let mut versions = Vec::with_capacity(alloc, 1)?;
         versions.push(PlanVersion {

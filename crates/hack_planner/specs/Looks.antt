@@ -31,5 +31,5 @@ look_at cx id = option_and_then (λ p. option_and_then (λ f. look_of (rules_at 
 
 -- the texts on the packages that the call runs on, in order; none where it isn't known which these are
 pub data AreLongLooks (cx : ContextRecord) : List (List ℕ) → Type 0 where
-  of_chosen : (ids : List ℕ) → AreChosen cx ids → AreLongLooks cx (filter_map (look_at cx) ids)
+  of_chosen : (ids : List ℕ) → ((e : PackagesFault) → ¬ IsChoiceFault cx e) → AreChosen cx ids → AreLongLooks cx (filter_map (look_at cx) ids)
   of_unknown : (e : PackagesFault) → IsChoiceFault cx e → AreLongLooks cx []

@@ -6,7 +6,7 @@ use mathlib.Core.Bool.{beq}
 use Rattle.std.proofs.lemmas.Bool.{cases_lt}
 use Rattle.std.proofs.lemmas.List.{take-append-drop, get_or_default}
 use Rattle.std.proofs.lemmas.List.Edits.{length-insert, get_or-insert_below, get_or-insert_at, get_or-insert_above}
-use Rattle.std.proofs.lemmas.List.Elements.{Contains-append_left, Contains-append_right, Contains-append_cases, Contains-push, Contains-push_cases, Contains-get_or}
+use Rattle.std.proofs.lemmas.List.Elements.{Contains-append_left, Contains-append_right, Contains-append_cases, Contains-push, Contains-push_cases}
 use Rattle.hack_samples.specs.Sets.{has, rows_of}
 use Rattle.hack_samples.specs.Order.{IsMaskBefore}
 use Rattle.hack_samples.specs.Internal.{BelongsAt}
@@ -41,11 +41,6 @@ pub differ : (a b : Bool) → not (beq a b) ≡ true → a ≡ true → b ≡ fa
 differ true true h e = sym h
 differ true false h e = refl
 differ false b h e = absurd (not_both e refl)
-
-pub differ-off : (a b : Bool) → not (beq a b) ≡ true → a ≡ false → b ≡ true
-differ-off false false h e = h
-differ-off false true h e = refl
-differ-off true b h e = absurd (not_both refl e)
 
 module _ {X : Type 0} (R : X → X → Type 0) (xs : List X) (i : ℕ) (y : X) where
   both-past : (a b : ℕ) (d : X) → a < b + 1 → i < a → b < length xs → i ≤ length xs → AllPairs R xs → R (get_or (insert xs i y) a d) (get_or xs b d)
@@ -138,10 +133,3 @@ fits-here sets s t i at lt ordered front now = record {
         ]
       ];
 }
-
-pub fits-end : (sets : List (List Bool)) (s : List Bool) (i : ℕ) → i ≡ length sets → ((k : ℕ) (d : List Bool) → k < i → IsMaskBefore (get_or sets k d) s) → BelongsAt sets s i
-fits-end sets s i is front = record { within = omega arith; in_front = front; behind = λ k d le below. absurd (omega arith) }
-
--- a set that is the same as one of them is one of them
-pub found-here : (sets : List (List Bool)) (s t : List Bool) (i : ℕ) → get_or sets i t ≡ t → i < length sets → t ≡ s → Contains sets s
-found-here sets s t i at lt is = subst (Contains sets) (at ∙ is) (Contains-get_or sets i t lt)

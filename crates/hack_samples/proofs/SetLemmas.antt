@@ -6,7 +6,7 @@ use Rattle.std.proofs.lemmas.List.Folds.{list_any_at}
 use Rattle.std.proofs.lemmas.Bool.{both_ways, ltb-true, lt-ltb}
 use Rattle.std.proofs.lemmas.Bool.Decides.{eqb_tells}
 use Rattle.hack_samples.specs.Sets.{has, has_one_of, has_each, IsInside}
-use Rattle.hack_samples.specs.Internal.{may_join, IsClear, IsSuited}
+use Rattle.hack_samples.specs.Internal.{may_join, IsSuited}
 
 -- a truth value is one of two
 pub told : (b : Bool) → (b ≡ true) ⊎ (b ≡ false)
@@ -94,14 +94,6 @@ inside-empty n e s is size = record {
   same = ap length is ∙ length-replicate n false ∙ sym size;
   members = λ p h. absurd (not_both (subst (λ l. has l p ≡ true) is h) (has-empty n p));
 }
-
--- no position is banned
-pub clear-empty : (n : ℕ) (e s : List Bool) → e ≡ replicate n false → IsClear e s
-clear-empty n e s is = λ p h. absurd (not_both (subst (λ l. has l p ≡ true) is h) (has-empty n p))
-
--- the empty set has no banned member
-pub empty-clear : (n : ℕ) (banned e : List Bool) → e ≡ replicate n false → IsClear banned e
-empty-clear n banned e is = λ p h. subst (λ l. has l p ≡ false) (sym is) (has-empty n p)
 
 or-inside : (a b c d : Bool) → (a ≡ true → b ≡ true) → (c ≡ true → d ≡ true) → (a || c) ≡ true → (b || d) ≡ true
 or-inside true b c d f g h = ap (λ x. x || d) (f refl)

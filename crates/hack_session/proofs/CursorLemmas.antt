@@ -20,9 +20,6 @@ use Rattle.hack_session.proofs.HistoryLemmas.{Goes, IsHistory-push, goes_on, han
 drop_at_some : {X : Type 0} (xs : List X) (i : ℕ) (x : X) → slice_get xs i ≡ Some x → drop i xs ≡ x ∷ drop (i + 1) xs
 drop_at_some xs i x e = drop_more xs i x (slice_get_within xs i x e) ∙ ap (λ y. y ∷ drop (i + 1) xs) (get_or_from_slice_get xs i x x e)
 
-drop_at_none : {X : Type 0} (xs : List X) (i : ℕ) → slice_get xs i ≡ None → length xs ≤ i → drop i xs ≡ []
-drop_at_none xs i e le = drop_all i xs le
-
 -- at the start all steps are left
 pub left_first : (inside : ℕ → Bool) (vs : List PlanVersion) → steps_without_first inside 0 (drop 0 vs) ≡ flat_map (steps_of inside) vs
 left_first inside [] = refl
@@ -51,10 +48,6 @@ left_next inside vs i n v e f =
     from_start [] = refl
     from_start (w ∷ ws) = refl
 
--- after the last version
-pub left_none : (inside : ℕ → Bool) (vs : List PlanVersion) (i n : ℕ) → length vs ≤ i → steps_without_first inside n (drop i vs) ≡ []
-left_none inside vs i n le = ap (steps_without_first inside n) (drop_all i vs le)
-
 -- no step has an outcome yet
 pub no_outcomes : (ss : List Step) → with_outcomes ss [] ≡ []
 no_outcomes [] = refl
@@ -63,9 +56,6 @@ no_outcomes (s ∷ ss) = refl
 pub none_left : (ss : List Step) (os : List Outcome) → length os ≡ 0 → with_outcomes ss os ≡ []
 none_left ss [] e = no_outcomes ss
 none_left ss (o ∷ os) e = absurd (omega arith)
-
-pub first_outcome : (ss ts : List Step) (os ps : List Outcome) (s : Step) (o : Outcome) → ss ≡ s ∷ ts → os ≡ o ∷ ps → with_outcomes ss os ≡ record { step = s; outcome = o } ∷ with_outcomes ts ps
-first_outcome ss ts os ps s o e f = ap (λ (l : List Step). with_outcomes l os) e ∙ ap (λ (l : List Outcome). with_outcomes (s ∷ ts) l) f
 
 pub length-with_outcomes : (ss : List Step) (os : List Outcome) → length os ≤ length ss → length (with_outcomes ss os) ≡ length os
 length-with_outcomes [] [] le = refl

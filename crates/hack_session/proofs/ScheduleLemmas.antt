@@ -16,7 +16,6 @@ use Rattle.hack_plan.specs.Prepared.{span_of}
 use Rattle.hack_plan.specs.View.{PlanView}
 use Rattle.hack_session.specs.declared.step.Step.{Step}
 use Rattle.hack_session.specs.declared.step.Step.TheVariants.{Prepare, Skip, Run}
-use Rattle.hack_session.specs.Histories.{IsStepOf}
 use Rattle.hack_session.specs.Schedules.{IsSchedule, all_steps, in_piece, mark, steps_of, is_place}
 use Rattle.hack_session.proofs.Headline.{piece_test}
 
@@ -96,20 +95,6 @@ tiled_at from (w ∷ vs) to (suc i) v t e = tiled_at w.end vs to i v t.2 e
 pub found : (vs ws : List PlanVersion) (i : ℕ) (v : PlanVersion) → ws ≡ vs → i < length ws → v ≡ get_or ws i v → slice_get vs i ≡ Some v
 found vs ws i v e lt is = sym (ap (λ (l : List PlanVersion). slice_get l i) e) ∙ slice_get_read ws (length ws) i v refl lt is
 
--- a place of the plan has a step of it
-pub marked_step : (plan : PlanView) (inside : ℕ → Bool) (place : ℕ) → place < length plan.entries → IsStepOf plan (mark inside place)
-marked_step plan inside place lt = go (inside place)
-  where
-    go : (b : Bool) → IsStepOf plan (cond b (Run place) (Skip place))
-    go true = lt
-    go false = lt
-
--- the steps of a version: first its preparations
-prepared_at : (ps : List Preparation) (ms : List Step) (n : ℕ) (p : Preparation) → slice_get ps n ≡ Some p → slice_get (map Prepare ps ++ ms) n ≡ Some (Prepare p)
-prepared_at [] ms n p e = absurd (none-some p e)
-prepared_at (q ∷ ps) ms zero p e = ap (λ (x : Preparation). Some (Prepare x)) (same_Some q p e)
-prepared_at (q ∷ ps) ms (suc n) p e = prepared_at ps ms n p e
-
 past_prepared : (ps : List Preparation) (ms : List Step) (n : ℕ) → length ps ≤ n → slice_get (map Prepare ps ++ ms) n ≡ slice_get ms (n - length ps)
 past_prepared [] ms n le = ap (slice_get ms) whole
   where
@@ -120,10 +105,6 @@ past_prepared (q ∷ ps) ms (suc n) le = past_prepared ps ms n (omega arith) ∙
   where
     one_less : n - length ps ≡ suc n - suc (length ps)
     one_less = omega arith
-
-pub step_prepared : (inside : ℕ → Bool) (v : PlanVersion) (n : ℕ) (p : Preparation) → n < length v.preparations.items → p ≡ get_or v.preparations.items n p → Some (Prepare p) ≡ slice_get (steps_of inside v) n
-step_prepared inside v n p lt is =
-    sym (prepared_at v.preparations.items (map (mark inside) (range_with_len v.first (v.end - v.first))) n p (slice_get_read v.preparations.items (length v.preparations.items) n p refl lt is))
 
 -- then its places
 pub step_placed : (inside : ℕ → Bool) (v : PlanVersion) (n place : ℕ) → length v.preparations.items ≤ n → place ≡ n - length v.preparations.items → place < v.end - v.first → slice_get (steps_of inside v) n ≡ Some (mark inside (v.first + place))

@@ -4,7 +4,6 @@ use Rattle.std.proofs.lemmas.List.Elements.{Contains-get_or, Contains-append_lef
 use Rattle.std.proofs.lemmas.List.Quantifiers.{all_pairs_push}
 use Rattle.hack_plan.specs.View.{PlanView}
 use Rattle.hack_plan.specs.declared.places.PlanEntry.{PlanEntry}
-use Rattle.hack_suspects.specs.Suspects.{RunOutcome as Run_outcome}
 use Rattle.hack_session.specs.declared.step.Handed.{Handed}
 use Rattle.hack_session.specs.declared.step.Outcome.{Outcome}
 use Rattle.hack_session.specs.declared.step.Outcome.TheVariants.{Passed, Failed}
@@ -13,7 +12,6 @@ use Rattle.std.proofs.Common.{Result, Ok, Err, IfOk}
 use Rattle.std.specs.Prelude.{slice_get}
 use Rattle.std.specs.List.{slice_index_or}
 use Rattle.std.proofs.lemmas.List.{map-append}
-use Rattle.hack_suspects.specs.declared.suspect.Outcome.{Outcome as Ran}
 use Rattle.hack_suspects.specs.Suspects.{outcomes_of}
 use Rattle.hack_session.specs.Histories.{Course}
 use Rattle.hack_session.specs.Suspects.{AreExplained, ExplainedView, IsExplained, run_outcome_of, part_explained, settings_in}
@@ -44,9 +42,6 @@ single-failed plan h part f =
 pub none-failed : (plan : PlanView) (h : Handed) (part : Part) → is_failed h.outcome ≡ false → HasFailedRun plan (h ∷ []) part → ⊥
 none-failed plan h part passed f = bools-differ (single-failed plan h part f).0 passed
 
-pub no-part : (plan : PlanView) (h : Handed) (part : Part) → part_at plan h ≡ None → HasFailedRun plan (h ∷ []) part → ⊥
-no-part plan h part none f = let e : Some part ≡ None = sym (single-failed plan h part f).1 ∙ none in cc
-
 -- failed runs among earlier and later steps
 pub failed-before : (plan : PlanView) (xs ys : List Handed) (part : Part) → HasFailedRun plan xs part → HasFailedRun plan (xs ++ ys) part
 failed-before plan xs ys part f = record { by = f.by; among = Contains-append_left xs ys f.by f.among; failed = f.failed; of = f.of }
@@ -74,10 +69,6 @@ pub no-parts : (plan : PlanView) (parts : List Part) → parts ≡ [] → AllPai
 no-parts plan [] e = (λ i j d l m. absurd (omega arith), λ part. (λ c. absurd (empty-none part c), λ f. absurd (empty-none f.by f.among)))
 no-parts plan (p ∷ parts) e = absurd (cc)
 
--- no part is added
-pub parts-same : (parts : List Part) (Q : Part → Type 0) → ((part : Part) → Q part → ⊥) → (part : Part) → Contains parts part ↔ (Contains parts part ⊎ Q part)
-parts-same parts Q not part = (λ c. inl c, λ s. elim s [ inl c ↦ c | inr q ↦ absurd (not part q) ])
-
 -- the part that is added is that of a failed step
 pub parts-added : (plan : PlanView) (h : Handed) (added : Part) (old new : List Part) → is_failed h.outcome ≡ true → part_at plan h ≡ Some added → ((part : Part) → Contains new part ↔ (Contains old part ⊎ (added ≡ part)))
     → (part : Part) → Contains new part ↔ (Contains old part ⊎ HasFailedRun plan (h ∷ []) part)
@@ -88,15 +79,6 @@ parts-added plan h added old new failed of more part = (
   where
     same : (a b : Part) → Some a ≡ Some b → a ≡ b
     same a b e = cc
-
-pub there-already : (parts : List Part) (part : Part) → Contains parts part → (other : Part) → Contains parts other ↔ (Contains parts other ⊎ (part ≡ other))
-there-already parts part there other = (λ c. inl c, λ s. elim s [ inl c ↦ c | inr e ↦ subst (Contains parts) e there ])
-
-pub one-more : (parts : List Part) (part : Part) (other : Part) → Contains (parts ++ part ∷ []) other ↔ (Contains parts other ⊎ (part ≡ other))
-one-more parts part other = (
-  λ c. Contains-push_cases parts part other c,
-  λ s. elim s [ inl c ↦ Contains-append_left parts (part ∷ []) other c | inr e ↦ subst (Contains (parts ++ part ∷ [])) e (Contains-push parts part) ],
-)
 
 -- what failed before something else did so among more steps
 failed-first : (plan : PlanView) (xs ys : List Handed) (one other : Part) → FailsBefore plan xs one other → FailsBefore plan (xs ++ ys) one other

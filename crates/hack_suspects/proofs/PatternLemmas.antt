@@ -87,15 +87,6 @@ part-rises low n (x ∷ part) (y ∷ pattern) inside rises =
           part-rises low n (x ∷ part) pattern out (rises-lower low (y.candidate + 1) n pattern (omega arith) rises.2)
     ]
 
-pub part-small : (part pattern : List Setting) → IsPart part pattern → length part ≤ length pattern
-part-small [] pattern inside = omega arith
-part-small (x ∷ part) [] inside = absurd inside
-part-small (x ∷ part) (y ∷ pattern) inside =
-    elim inside [
-      | inl same ↦ let le : length part ≤ length pattern = part-small part pattern same.1 in omega arith
-      | inr out ↦ let le : suc (length part) ≤ length pattern = part-small (x ∷ part) pattern out in omega arith
-    ]
-
 -- the pattern without one of its settings is a part
 pub part-without : (pattern : List Setting) (i : ℕ) → IsPart (remove pattern i) pattern
 part-without [] zero = tt

@@ -7,7 +7,7 @@ use Rattle.std.specs.Result.{is_ok}
 use Rattle.std.proofs.lemmas.List.Sorted.{searchable_from_sorted}
 use Rattle.std.proofs.lemmas.Bool.{cases_lt}
 use Rattle.std.specs.Cmp.{IsTotalOrder, IsEquivalence}
-use Rattle.std.specs.Ordering.{partial_lt, partial_le, eq_by_cmp, ordering_reverse, is_lt}
+use Rattle.std.specs.Ordering.{partial_le, eq_by_cmp, ordering_reverse, is_lt}
 use Rattle.std.specs.declared.cmp.Ordering.TheVariants.{Less, Equal, Greater}
 use Rattle.std.proofs.lemmas.List.Kept.{Contains-dedup, Contains-from_dedup, IsStrictlySortedBy-dedup}
 use Rattle.std.proofs.lemmas.Map.Keys.{Less-from_sorted}
@@ -17,9 +17,6 @@ use Rattle.hack_versions.specs.contracts.version.VersionOrd.TheImpl as ord
 use Rattle.hack_versions.specs.declared.version.Version.{Version}
 use Rattle.hack_versions.specs.VersionOrder.{IsEarlierVersion, IsAtMost}
 use Rattle.hack_versions.proofs.OrderLemmas.{before-trans, three-way}
-
-pub lt-before : (a b : Version) → (partial_lt (partial_ord.ghosts).partial_cmp a b ≡ true) ↔ IsEarlierVersion a b
-lt-before a b = search rules
 
 pub le-at_most : (a b : Version) → (partial_le (partial_ord.ghosts).partial_cmp a b ≡ true) ↔ IsAtMost a b
 le-at_most a b = search rules

@@ -44,6 +44,7 @@ pub trait ObjectExt {
     fn remove_string(&mut self, key: &'static str) -> Result<String, MetadataFault>
         ensures value { ReturnsField string_bytes result (string_in key.now (members self.old)) }
         ensures no_memory { result ≢ Err MetadataFault.Memory }
+        ensures gone { get_member key.now (members self.new) ≡ None }
         ensures others { KeepsOtherFields key.now (members self.old) (members self.new) };
 
     /// Takes out an array.
@@ -51,6 +52,7 @@ pub trait ObjectExt {
         ensures value { ReturnsField (λ v. items_view v.items) result
             (array_in key.now (members self.old)) }
         ensures no_memory { result ≢ Err MetadataFault.Memory }
+        ensures gone { get_member key.now (members self.new) ≡ None }
         ensures others { KeepsOtherFields key.now (members self.old) (members self.new) };
 
     /// Takes out an object.
@@ -58,6 +60,7 @@ pub trait ObjectExt {
         ensures value { ReturnsField (λ m. members_view m.entries) result
             (object_in key.now (members self.old)) }
         ensures no_memory { result ≢ Err MetadataFault.Memory }
+        ensures gone { get_member key.now (members self.new) ≡ None }
         ensures others { KeepsOtherFields key.now (members self.old) (members self.new) };
 
     /// Takes out a value that may be null. None where it is null.
@@ -65,6 +68,7 @@ pub trait ObjectExt {
         ensures value { ReturnsField (option_map view) result (nullable_in key.now
             (members self.old)) }
         ensures no_memory { result ≢ Err MetadataFault.Memory }
+        ensures gone { get_member key.now (members self.new) ≡ None }
         ensures others { KeepsOtherFields key.now (members self.old) (members self.new) };
 }
 
@@ -156,6 +160,7 @@ pub(crate) fn take_text(object: &mut Object, key: &str) -> Option<String>
 /// Takes out what a field holds.
 pub(crate) fn take(object: &mut Object, key: &str) -> Option<Value>
     ensures value { option_map view result ≡ get_member key.now (members_view object.old.entries) }
+    ensures gone { get_member key.now (members_view object.new.entries) ≡ None }
     ensures others { KeepsOtherFields key.now (members_view object.old.entries)
         (members_view object.new.entries) }
 {

@@ -18,7 +18,7 @@ pub returns-in-Ok : goal.returns-in-Ok
 returns-in-Ok c =
     let cx = context_view c.args.cx.now in
     IfOk-weaker c.looks_at.result _ _
-    (λ texts e. subst (AreLongLooks cx) (sym (e ∙ ap (λ (ids : List PackageId). filter_map (look_at cx) (map place_at ids)) c.as_slice.ensures.value)) (of_chosen (map place_at c.in-Ok.answer.0.ids.items) c.in-Ok.ensures.ok))
+    (λ texts e. subst (AreLongLooks cx) (sym (e ∙ ap (λ (ids : List PackageId). filter_map (look_at cx) (map place_at ids)) c.as_slice.ensures.value)) (of_chosen (map place_at c.in-Ok.answer.0.ids.items) c.in-Ok.ensures.never c.in-Ok.ensures.ok))
     c.looks_at.ensures
 
 pub returns : goal.returns

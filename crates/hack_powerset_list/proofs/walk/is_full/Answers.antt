@@ -10,5 +10,5 @@ returns-in-Some c = λ full s is p.
     let r = c.args.rules.now in
     let reached : c.in-Some.most ≤ c.args.positions = leb-true c.in-Some.most c.args.positions full in
     too-long (may_of r) c.in-Some.most (p ∷ s)
-    (subst (λ (most : Option ℕ). (t : List ℕ) → IsTrue (may_of r t) → IsWithin most t) c.in-Some.is c.most.ensures)
+    (subst (λ (most : Option ℕ). (t : List ℕ) → IsTrue (may_of r t) → IsWithin most t) c.in-Some.is c.most.ensures.within)
     (omega (arith, reached, is))

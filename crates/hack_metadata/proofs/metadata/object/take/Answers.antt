@@ -8,6 +8,9 @@ use Rattle.hack_metadata.proofs.metadata.object.take.Goals as goal
 pub returns-clause-value : goal.returns-clause-value
 returns-clause-value c = ap (option_map view) c.remove.ensures.value ∙ view-lookup c.args.key.now c.args.object.now.entries
 
+pub returns-clause-gone : goal.returns-clause-gone
+returns-clause-gone c = sym (view-lookup c.args.key.now c.remove.new.self.entries) ∙ ap (option_map view) c.remove.ensures.updates.1
+
 pub returns-clause-others : goal.returns-clause-others
 returns-clause-others c = record {
   others = λ q other.
