@@ -11,6 +11,7 @@ use Rattle.hack_bisect.specs.Searches.{Trial, HasFailed, HasPassed, IsBeside, Ar
 use Rattle.hack_bisect.specs.declared.tries.Outcome.{Outcome}
 use Rattle.hack_bisect.specs.declared.tries.Outcome.TheVariants.{Passed, Failed, Broken}
 use Rattle.hack_bisect.specs.declared.find.Least.{Least}
+use Rattle.hack_bisect.specs.declared.find.Least.TheVariants.{Broken as BrokenOff}
 
 -- the trials so far, which leave the places from low to high
 pub record IsGoing (greatest : ℕ) (trials : List Trial) (low high : ℕ) : Type 0 where

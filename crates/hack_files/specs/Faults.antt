@@ -1,5 +1,5 @@
 -- What the errors of calls of files say.
-use Rattle.std.specs.Prelude.{◌≡◌, ◌⊎◌, [], ◌∷◌, ℕ, Bool, true, false, List, Option, Some, None, Result, Ok, Err, string_bytes}
+use Rattle.std.specs.Prelude.{◌≡◌, ◌⊎◌, ◌++◌, [], ◌∷◌, ℕ, Bool, true, false, List, Option, Some, None, Result, Ok, Err, codes, string_bytes}
 use Rattle.std.specs.Str.{IsUtf8}
 use Rattle.hack_base.specs.Counters.{GrowsBy}
 use Rattle.hack_files.specs.declared.fs.FsFault.{FsFault}
@@ -40,6 +40,13 @@ IsUnseenUnlessNoText Unseen tells held path (Err (Read p)) = Unseen (path ∷ []
 IsUnseenUnlessNoText Unseen tells held path (Err (Write p)) = ⊥
 IsUnseenUnlessNoText Unseen tells held path (Err (NotText p)) = Unseen []
 IsUnseenUnlessNoText Unseen tells held path (Err Memory) = Unseen (path ∷ []) ⊎ Unseen []
+
+-- what the error says
+abbrev pub file_text : FsFault → List ℕ
+file_text (Read p) = codes "failed to read from file `" ++ (string_bytes p ++ codes "`")
+file_text (Write p) = codes "failed to write to file `" ++ (string_bytes p ++ codes "`")
+file_text (NotText p) = codes "file `" ++ (string_bytes p ++ codes "` is not UTF-8 text")
+file_text Memory = codes "out of memory"
 
 -- the device failed, so that the files may say why
 abbrev pub of_device : FsFault → Bool

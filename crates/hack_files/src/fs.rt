@@ -14,8 +14,9 @@ pub use crate::disk::Disk;
 pub use crate::failing::{FailingFiles, FailingWriter};
 pub use crate::memory::{MemoryFiles, Step};
 use std::alloc::{AllocError, Global};
+use std::error::Error;
+use std::fmt;
 use std::io;
-use thiserror::Error;
 
 /// Why a call of a `Files` failed.
 #[derive(Clone, Copy, Debug, PartialEq, Eq)]
@@ -166,20 +167,34 @@ pub trait Overwrites: Files {
 }
 
 /// Why a file can't be read or written. Each value but `Memory` has the path.
-#[derive(Debug, Drop, PartialEq, Eq, Error)]
+#[derive(Debug, Drop, PartialEq, Eq)]
 pub enum FsFault {
     /// The device failed, or nothing is at the path.
-    #[error("failed to read from file `{0}`")]
     Read(String),
     /// The device failed.
-    #[error("failed to write to file `{0}`")]
     Write(String),
     /// The bytes are not UTF-8.
-    #[error("file `{0}` is not UTF-8 text")]
     NotText(String),
-    #[error("out of memory")]
     Memory,
 }
+
+/// Written out, so that the texts are proved.
+impl fmt::Display for FsFault {
+    ghost use Rattle.hack_files.specs.Faults.{file_text};
+
+    ghost output = { λ fault. Some (file_text fault) };
+
+    fn fmt<W: fmt::Write>(&self, f: &mut fmt::Formatter<W>) -> fmt::Result {
+        match self {
+            FsFault::Read(path) => write!(f, "failed to read from file `{path}`"),
+            FsFault::Write(path) => write!(f, "failed to write to file `{path}`"),
+            FsFault::NotText(path) => write!(f, "file `{path}` is not UTF-8 text"),
+            FsFault::Memory => f.write_str("out of memory"),
+        }
+    }
+}
+
+impl Error for FsFault {}
 
 /// Counts one more failure of files. A count at its greatest value stays.
 pub fn count_failure(failures: &mut u64)

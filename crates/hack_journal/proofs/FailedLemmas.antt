@@ -3,6 +3,7 @@ use Rattle.std.proofs.Common.{◌≡◌, ◌⊎◌, ◌≤◌, ◌-◌, ◌∙�
 use Rattle.std.specs.Prelude.{IsSome, OnErr, OnOk, Option, slice_index_or}
 use Rattle.std.proofs.lemmas.List.{take_all}
 use Rattle.std.proofs.lemmas.Bool.{false≢true}
+use Rattle.hack_files.specs.declared.fs.Files.{Ghosts as Filing}
 use Rattle.hack_files.specs.declared.fs.FsFault.TheVariants as fs
 use Rattle.hack_files.specs.FailedCalls.{LookFailed, NoneFailed, WriteFailed}
 use Rattle.hack_files.specs.Files.{Makes, MakesOrNot, refused_path}

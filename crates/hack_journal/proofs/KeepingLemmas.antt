@@ -4,6 +4,7 @@ use Rattle.std.specs.Prelude.{IsSome}
 use Rattle.hack_files.specs.Files.{KeepsAll}
 use Rattle.hack_files.specs.declared.fs.FileFault.{FileFault}
 use Rattle.hack_files.specs.declared.fs.FileFault.TheVariants.{Memory, Device}
+use Rattle.hack_files.specs.declared.fs.Files.{Ghosts as Filing}
 use Rattle.hack_files.specs.FailedCalls.{NoneFailed, WriteFailed}
 use Rattle.hack_journal.specs.FailedCalls.{FailsRefusedAt}
 use Rattle.hack_journal.specs.Internal.{IsHeld}

@@ -1,6 +1,7 @@
 -- What an interrupted call had edited is put back.
 use Rattle.std.specs.Prelude.{◌≡◌, ◌≢◌, ◌⊎◌, ◌<◌, ◌≤◌, ◌++◌, [], ◌∷◌, ℕ, List, Option, Some, None, IsSome, false, Result, Ok, Err, codes, length, take, drop, string_bytes}
 use Rattle.std.specs.Str.{IsUtf8}
+use Rattle.hack_files.specs.Faults.{file_text}
 use Rattle.hack_files.specs.Files.{Contents, KeepsAll, after_change}
 use Rattle.hack_base.specs.Counters.{GrowsBy}
 use Rattle.hack_files.specs.declared.fs.FsFault.{FsFault}
@@ -132,14 +133,14 @@ IsJournalRefusal (NotJournal j) = Unit {0}
 IsJournalRefusal (Changed p j) = Unit {0}
 IsJournalRefusal (Files f) = ⊥
 
--- the text of the error, but for that of a file, which its own type writes
-abbrev pub unrecovered_text : RecoverFault → Option (List ℕ)
-unrecovered_text Memory = Some (codes "out of memory")
-unrecovered_text (NotJournal j) = Some (codes "`" ++ (string_bytes j ++ codes "` is not a whole journal of edited files; put back by hand what it tells, and remove it"))
+-- the text of the error
+abbrev pub unrecovered_text : RecoverFault → List ℕ
+unrecovered_text Memory = codes "out of memory"
+unrecovered_text (NotJournal j) = codes "`" ++ (string_bytes j ++ codes "` is not a whole journal of edited files; put back by hand what it tells, and remove it")
 unrecovered_text (Changed p j) =
-    Some (codes "`" ++ (string_bytes p ++ (codes "` was changed after an interrupted call had edited it; put back by hand what `"
-    ++ (string_bytes j ++ (codes "` tells, and remove `" ++ (string_bytes j ++ codes "`"))))))
-unrecovered_text (Files f) = None
+    codes "`" ++ (string_bytes p ++ (codes "` was changed after an interrupted call had edited it; put back by hand what `"
+    ++ (string_bytes j ++ (codes "` tells, and remove `" ++ (string_bytes j ++ codes "`")))))
+unrecovered_text (Files f) = file_text f
 
 -- the error of a file counts one failure, a refusal none; refused memory none, or one of the files'
 abbrev pub CountsRecoverFault : ℕ → ℕ → RecoverFault → Type 0

@@ -46,7 +46,7 @@ pub enum RecoverFault {
 impl fmt::Display for RecoverFault {
     ghost use Rattle.hack_journal.specs.Recovery.{unrecovered_text};
 
-    ghost output = { λ fault. unrecovered_text fault };
+    ghost output = { λ fault. Some (unrecovered_text fault) };
 
     fn fmt<W: fmt::Write>(&self, f: &mut fmt::Formatter<W>) -> fmt::Result {
         match self {

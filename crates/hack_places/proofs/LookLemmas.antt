@@ -3,6 +3,7 @@ use Rattle.std.proofs.Common.{◌≡◌, ◌∙◌, ◌||◌, [], ◌∷◌, inl
 use Rattle.std.specs.Prelude.{Option, Some, None, List, is_some}
 use Rattle.std.proofs.Math.Path.{fun_ext}
 use Rattle.hack_files.specs.Files.{Contents, KeepsAll}
+use Rattle.hack_files.specs.declared.fs.Files.{Ghosts as Filing}
 use Rattle.hack_files.specs.FailedCalls.{LookFailed, NoneFailed}
 use Rattle.hack_places.specs.CallPlaces.{PlacesAt, is_left}
 use Rattle.hack_places.specs.FileLooks.{AreLooksSeen, IsOfPath, IsOfUnseen}

@@ -1,5 +1,5 @@
 -- What is said, and recorded, of a step that may report an error.
-use Rattle.std.specs.Prelude.{◌≡◌, ◌≢◌, ◌⊎◌, ◌<◌, ℕ, Bool, true, false, IfSome, List, MatchBool, None, Option, Some, Result, Ok, Err, codes, length, map, take}
+use Rattle.std.specs.Prelude.{◌≡◌, ◌≢◌, ◌⊎◌, ◌<◌, ℕ, Bool, true, false, List, MatchBool, None, Option, Some, Result, Ok, Err, codes, length, map, take}
 use Rattle.hack_base.specs.Counters.{GrowsBy}
 use Rattle.hack_base.specs.Names.{Name}
 use Rattle.hack_base.specs.Streams.{Stream, WritesAll, WritesText}
@@ -41,10 +41,10 @@ SaysWhy coloring (unrecovered.NotJournal j) old new = WritesText (info_line colo
 SaysWhy coloring (unrecovered.Changed p j) old new = WritesText (info_line coloring row_text) old new
 SaysWhy coloring (unrecovered.Files f) old new = MatchBool (of_device f) (SaysReason coloring old new) (new ≡ old)
 
--- its own line, unless memory was refused for it; of the text of a file's error nothing is known here
+-- its own line, unless memory was refused for it
 abbrev pub SaysError : Coloring → RecoverFault → Result Bool CallFault → Stream → Stream → Type 0
 SaysError coloring fault (Ok true) old new = ⊥
-SaysError coloring fault (Ok false) old new = (text : Name) × IfSome (unrecovered_text fault) (λ known. text ≡ known) × WritesText (error_line coloring text) old new
+SaysError coloring fault (Ok false) old new = WritesText (error_line coloring (unrecovered_text fault)) old new
 SaysError coloring fault (Err refused) old new = new ≡ old
 
 -- both, one after the other

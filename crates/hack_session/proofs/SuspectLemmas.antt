@@ -12,7 +12,9 @@ use Rattle.std.proofs.Common.{Result, Ok, Err, IfOk}
 use Rattle.std.specs.Prelude.{slice_get}
 use Rattle.std.specs.List.{slice_index_or}
 use Rattle.std.proofs.lemmas.List.{map-append}
+use Rattle.hack_suspects.specs.declared.suspect.Outcome.{Outcome as Ran}
 use Rattle.hack_suspects.specs.Suspects.{outcomes_of}
+use Rattle.hack_suspects.specs.Suspects.{RunOutcome as Run_outcome}
 use Rattle.hack_session.specs.Histories.{Course}
 use Rattle.hack_session.specs.Suspects.{AreExplained, ExplainedView, IsExplained, run_outcome_of, part_explained, settings_in}
 use Rattle.hack_session.specs.Suspects.{AreDistinctParts, FailsBefore, HasFailedRun, is_failed, part_at, part_where, part_of, plan_entry_of}

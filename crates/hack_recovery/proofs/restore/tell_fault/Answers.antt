@@ -12,4 +12,4 @@ returns-in_err-text-clause-said g c =
 
 pub returns-clause-said : goal.returns-clause-said
 returns-clause-said g c =
-    (_, still_known (unrecovered_text c.args.fault) _ _ c.deref.ensures c.in_ok-text.ensures.ok, wrote g.E.Sink _ _ _ c.error.result c.error.ensures.line c.error.ensures.front c.error.ensures.counted)
+    subst (λ (text : List ℕ). WritesText (error_line c.args.term.now.coloring text) (stream_of g.E.Sink c.args.err.now) (stream_of g.E.Sink c.error.new.out)) (c.deref.ensures ∙ c.in_ok-text.ensures.ok) (wrote g.E.Sink _ _ _ c.error.result c.error.ensures.line c.error.ensures.front c.error.ensures.counted)
