@@ -1,13 +1,12 @@
 //! Files in memory, which keep each change that was made.
 
-ghost use Rattle.std.specs.Prelude.{◌≡◌, ◌⊎◌, ◌++◌, ◌∷◌, [], List, ℕ, None, IfErr, OnOk, OnErr, length, map};
+ghost use Rattle.std.specs.Prelude.{◌≡◌, ◌++◌, ◌∷◌, [], List, ℕ, None, OnOk, OnErr, length, map};
 ghost use Rattle.std.proofs.Common.{inl};
 ghost use Rattle.std.specs.Option.{option_map};
 ghost use Rattle.hack_base.specs.Counters.{GrowsBy};
 ghost use Rattle.hack_files.specs.Files.{Change, GrowsAtLeastBy};
 ghost use Rattle.hack_files.specs.RefusalLaws.{at_least_none, at_least_more, at_least_some};
 ghost use Rattle.hack_files.specs.Memory.{held_after, change_of};
-ghost use Rattle.hack_files.specs.declared.fs.FileFault.TheVariants.{Memory};
 
 use crate::fs::{FileFault, Files, Overwrites, count_failure};
 use std::alloc::{AllocError, Global};
@@ -74,7 +73,6 @@ impl MemoryFiles {
 
     /// Counts a call for which memory was refused.
     fn starve(&mut self) -> FileFault
-        ensures fault { result ≡ Memory }
         ensures failures { GrowsBy 1 self.old.failures self.new.failures }
         ensures starved { GrowsBy 1 self.old.starved self.new.starved }
         ensures steps { self.new.steps ≡ self.old.steps }
@@ -140,10 +138,7 @@ impl Files for MemoryFiles {
 
     ghost failed = { λ files. files.failures };
 
-    fn read(&mut self, alloc: Global, path: &str) -> Result<Vec<u8>, FileFault>
-        ensures fault { IfErr result (λ fault. (fault ≡ Memory)
-            ⊎ (held_after self.old.steps.items path.now ≡ None)) }
-    {
+    fn read(&mut self, alloc: Global, path: &str) -> Result<Vec<u8>, FileFault> {
         let Some(bytes) = held_at(&self.steps, path) else {
             count_failure(&mut self.failures);
             return Err(FileFault::Device);
@@ -154,24 +149,18 @@ impl Files for MemoryFiles {
         }
     }
 
-    fn write(&mut self, path: &str, bytes: &[u8]) -> Result<(), FileFault>
-        ensures fault { IfErr result (λ fault. fault ≡ Memory) }
-    {
+    fn write(&mut self, path: &str, bytes: &[u8]) -> Result<(), FileFault> {
         match self.add(path, Some(bytes)) {
             Ok(()) => Ok(()),
             Err(_) => Err(self.starve()),
         }
     }
 
-    fn exists(&mut self, path: &str) -> Result<bool, FileFault>
-        ensures never { OnErr result ⊥ }
-    {
+    fn exists(&mut self, path: &str) -> Result<bool, FileFault> {
         Ok(held_at(&self.steps, path).is_some())
     }
 
-    fn remove(&mut self, path: &str) -> Result<(), FileFault>
-        ensures fault { IfErr result (λ fault. fault ≡ Memory) }
-    {
+    fn remove(&mut self, path: &str) -> Result<(), FileFault> {
         match self.add(path, None) {
             Ok(()) => Ok(()),
             Err(_) => Err(self.starve()),

@@ -11,7 +11,7 @@ use Rattle.hack_load.specs.declared.answers.Answers.{Answers}
 use Rattle.hack_starts.specs.Events.{Event, calls_of}
 use Rattle.hack_lanes.specs.Lanes.{Goes, Scene, State, Turn}
 use Rattle.hack_run.specs.Lanes.{FollowsInLanes, MayRunInLanes, RunsInLanes, RunsOne, layout_for, scene_at}
-use Rattle.hack_run.specs.Questions.{AsksStable}
+use Rattle.hack_run.specs.Questions.{AsksStable, MayAskStable}
 
 -- ending what is left makes no call
 pub cleared_calls : {S : Type 0} (tells : Type 0) (calls : S → List Call) (did : List Event → S → S → Type 0)
@@ -46,18 +46,18 @@ module _ {S : Type 0} (did : List Event → S → S → Type 0) (course : S → 
       → OnOk r ((cx.args.print_command_list ≡ true) ⊎ RunsInLanes did cx stable rustup before new) → OnOk r (FollowsInLanes did course talks calls true args answers rustup old new)
   follows_in_lanes (Err e) args answers cx stable rustup old before new between asked context lists h = tt
   follows_in_lanes (Ok v) args answers cx stable rustup old before new between asked context lists (inl listed) =
-      inl (more old before new between (lists listed), inr (subst (λ (a : Args). a.print_command_list ≡ true) context.2.args listed))
-  follows_in_lanes (Ok v) args answers cx stable rustup old before new between asked context lists (inr ran) = inr (cx, context, stable, before, between, asked, ran)
+      inl (more old before new between (lists listed), subst (λ (a : Args). a.print_command_list ≡ true) context.2.args listed)
+  follows_in_lanes (Ok v) args answers cx stable rustup old before new between asked context lists (inr ran) = inr (inr (cx, context, stable, before, between, asked, ran))
 
   -- the same, where an error may have ended it
   pub may_follow_in_lanes : (args : Args) (answers : Answers) (cx : ContextRecord) (stable : Stable) (rustup : Name) (old before new : S) (lists : Bool)
-      → cx.args.print_command_list ≡ lists → course old before → (talks → AsksStable rustup stable (calls old) (calls before)) → IsContextFrom args answers cx → (cx.args.print_command_list ≡ true → course before new)
+      → cx.args.print_command_list ≡ lists → course old before → (talks → MayAskStable rustup (calls old) (calls before)) → (talks → AsksStable rustup stable (calls old) (calls before)) → IsContextFrom args answers cx → (cx.args.print_command_list ≡ true → course before new)
       → (cx.args.print_command_list ≡ false → MayRunInLanes did cx stable rustup before new) → FollowsInLanes did course talks calls false args answers rustup old new
-  may_follow_in_lanes args answers cx stable rustup old before new true is between asked context lists may = inl (more old before new between (lists is), inl refl)
-  may_follow_in_lanes args answers cx stable rustup old before new false is between asked context lists may =
+  may_follow_in_lanes args answers cx stable rustup old before new true is between made asked context lists may = inl (more old before new between (lists is), subst (λ (a : Args). a.print_command_list ≡ true) context.2.args is)
+  may_follow_in_lanes args answers cx stable rustup old before new false is between made asked context lists may =
       elim (may is) [
-        | inl same ↦ inl (subst (course old) (sym same) between, inl refl)
-        | inr ran ↦ inr (cx, context, stable, before, between, asked, ran)
+        | inl same ↦ inr (inl (refl, subst (course old) (sym same) between, λ t. inr (subst (λ (s : S). MayAskStable rustup (calls old) (calls s)) (sym same) (made t))))
+        | inr ran ↦ inr (inr (cx, context, stable, before, between, asked, ran))
       ]
 
 -- what holds of a success holds of what follows from it

@@ -46,20 +46,24 @@ listed_one h is = elim (cases_Bool (is_sent h)) [
 ]
 
 -- how a list ends where memory wasn't refused, by what is kept of its steps
-abbrev ComesOfKept : Result (Unit {0}) RunFault → Looks → State → Stream → Stream → Option ProcessFault → Type 0
-ComesOfKept came now last old new kept = MatchOption kept (((came ≡ Err fault.Unlisted) × HasFailed old.failed new.failed) ⊎ ((came ≡ Ok tt) × (now.reported ≡ last.told))) (λ failed. came ≡ Err (fault.Process failed))
+abbrev ComesOfKept : Result (Unit {0}) RunFault → Looks → List Handed → State → Stream → Stream → Option ProcessFault → Type 0
+ComesOfKept came now handed last old new kept = MatchOption kept (((came ≡ Err fault.Unlisted) × HasFailed old.failed new.failed) ⊎ ((came ≡ Ok tt) × All IsListed handed × (now.reported ≡ last.told))) (λ failed. came ≡ Err (fault.Process failed))
 
 list_comes : (refused short flushed : Bool) (missed : ℕ) (kept : Option ProcessFault) (came : Result (Unit {0}) RunFault) (now : Looks) (handed : List Handed) (last : State) (old new : Stream) → kept ≡ last.kept → now.reported ≡ last.told
     → (IsUnwritten short flushed missed → HasFailed old.failed new.failed) → ((◌≡◌ {A = Result Bool PlanFault} (Ok refused) (Ok false)) × (missed ≡ 0) → All IsListedStep handed)
     → EndsList short (IsUnwritten short flushed missed) (Ok refused) kept came → ComesOfList came now handed last old new
 list_comes true short flushed missed kept came now handed last old new is noted counted listed ends = inl ends
 list_comes false true flushed missed kept came now handed last old new is noted counted listed ends = inl ends
-list_comes false false flushed missed kept came now handed last old new is noted counted listed ends = inr (cause missed listed counted, subst (λ (o : Option ProcessFault). ComesOfKept came now last old new o) is (go kept ends))
+list_comes false false flushed missed kept came now handed last old new is noted counted listed ends = inr (cause missed listed counted, subst (λ (o : Option ProcessFault). ComesOfKept came now handed last old new o) is (go kept ends))
   where
-    go : (kept : Option ProcessFault) → EndsList false (IsUnwritten false flushed missed) (Ok false) kept came → ComesOfKept came now last old new kept
+    go : (kept : Option ProcessFault) → EndsList false (IsUnwritten false flushed missed) (Ok false) kept came → ComesOfKept came now handed last old new kept
     go None (inl line) = inl (line.0, counted line.1)
-    go None (inr fine) = inr (fine, noted)
+    go None (inr fine) = inr (fine.0, whole missed listed fine.1, noted)
     go (Some failed) is = is
+
+    whole : (n : ℕ) → ((◌≡◌ {A = Result Bool PlanFault} (Ok false) (Ok false)) × (n ≡ 0) → All IsListedStep handed) → ¬ IsUnwritten false flushed n → All IsListed handed
+    whole zero listed none = λ k d lt. listed_one (get_or handed k d) (listed (refl, refl) k d lt)
+    whole (suc n) listed none = absurd (none (refl, inl (omega arith)))
 
     cause : (n : ℕ) → ((◌≡◌ {A = Result Bool PlanFault} (Ok false) (Ok false)) × (n ≡ 0) → All IsListedStep handed) → (IsUnwritten false flushed n → HasFailed old.failed new.failed) → All IsListed handed ⊎ HasFailed old.failed new.failed
     cause zero listed counted = inl (λ k d lt. listed_one (get_or handed k d) (listed (refl, refl) k d lt))

@@ -1,7 +1,7 @@
 -- The errors that end a call, as they are told.
 use Rattle.std.specs.Prelude.{◌≡◌, ◌⊎◌, ◌&&◌, Bool, Err, IfSome, List, None, Ok, Option, Result, Some, codes, false, map, option_map, string_bytes, true, ℕ, if◌then◌else◌}
 use Rattle.std.specs.List.{starts_with}
-use Rattle.std.specs.Option.{option_or, option_to_list}
+use Rattle.std.specs.Option.{option_or, option_to_list, unwrap_or}
 use Rattle.std.specs.Prelude.{nat_eq, option_and_then}
 use Rattle.std.specs.Str.{bytes_eq}
 use Rattle.hack_base.specs.Names.{Name}
@@ -17,7 +17,8 @@ use Rattle.hack_rules.specs.declared.fault.CliFault.TheVariants as words
 use Rattle.hack_term.specs.Lines.{error_line, info_line}
 use Rattle.hack_term.specs.declared.term.Coloring.{Coloring}
 use Rattle.hack_words.specs.declared.cli.env.Env.{Env}
-use Rattle.hack_files.specs.Faults.{of_device}
+use Rattle.hack_files.specs.Faults.{file_text, of_device}
+use Rattle.hack_files.specs.declared.fs.FsFault.{FsFault}
 use Rattle.hack_run.specs.declared.fault.RunFault.{RunFault}
 use Rattle.hack_run.specs.declared.fault.RunFault.TheVariants as fault
 
@@ -30,12 +31,16 @@ failed_command (fault.Context (context.Process failed)) = Some failed
 failed_command (fault.Context (context.Asked (asked.Process failed))) = Some failed
 failed_command other = None
 
+-- the error of a file, where that is the error
+abbrev pub failed_file : RunFault → Option FsFault
+failed_file (fault.Context (context.Files f)) = Some f
+failed_file (fault.Context (context.Asked (asked.Files f))) = Some f
+failed_file (fault.Manifests (prepare.Files f)) = Some f
+failed_file other = None
+
 -- the error is that of a file which couldn't be read or written
 abbrev pub is_of_file : RunFault → Bool
-is_of_file (fault.Context (context.Files f)) = of_device f
-is_of_file (fault.Context (context.Asked (asked.Files f))) = of_device f
-is_of_file (fault.Manifests (prepare.Files f)) = of_device f
-is_of_file other = false
+is_of_file fault = unwrap_or (option_map of_device (failed_file fault)) false
 
 -- a call ends with such an error
 abbrev pub ends_at_file : Result (Unit {0}) RunFault → Bool
@@ -56,12 +61,12 @@ abbrev pub stable_reason : RunFault → Option (List ℕ)
 stable_reason (fault.Plan (plan.Stable text)) = Some (string_bytes text)
 stable_reason other = None
 
--- the text of an error that is the call's own, that of a command that failed, or why stable's version isn't known; that
--- of any other is written by its type
+-- the text of an error that is the call's own, that of a command or of a file that failed, or why stable's version isn't
+-- known; that of any other is written by its type
 abbrev pub own_text : RunFault → Option (List ℕ)
 own_text fault.Unlisted = Some (codes "failed to write the command list")
 own_text fault.Unprinted = Some (codes "failed to write to standard output")
-own_text other = option_or (option_map fault_text (failed_command other)) (stable_reason other)
+own_text other = option_or (option_map fault_text (failed_command other)) (option_or (option_map file_text (failed_file other)) (stable_reason other))
 
 -- the same, and what is said where memory was refused
 abbrev pub text_of : RunFault → Option (List ℕ)

@@ -219,8 +219,8 @@ ListsSteps NoneMissed tells cx stable rustup now reported looks had has old new 
     × (NoneMissed → All IsListedStep steps.course.handed)
 
 -- how a list ends: as there is no plan; or for want of memory, where a step or a line lacked it; else with the error
--- that stopped its steps, or since a line is unwritten, or without an error
+-- that stopped its steps, or since a line is unwritten, or, where none is, without an error
 abbrev pub EndsList : Bool → Type 0 → Result Bool PlanFault → Option ProcessFault → Result (Unit {0}) RunFault → Type 0
 EndsList short Unwritten (Err e) stopped came = came ≡ Err (fault.Plan e)
 EndsList short Unwritten (Ok refused) stopped came = MatchBool (refused || short) (came ≡ Err fault.Memory)
-    (MatchOption stopped (((came ≡ Err fault.Unlisted) × Unwritten) ⊎ (came ≡ Ok tt)) (λ failed. came ≡ Err (fault.Process failed)))
+    (MatchOption stopped (((came ≡ Err fault.Unlisted) × Unwritten) ⊎ ((came ≡ Ok tt) × ¬ Unwritten)) (λ failed. came ≡ Err (fault.Process failed)))

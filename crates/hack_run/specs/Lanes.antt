@@ -18,11 +18,11 @@ use Rattle.hack_files.specs.Files.{Contents}
 use Rattle.hack_load.specs.ContextOf.{IsContextFrom}
 use Rattle.hack_load.specs.Contexts.{ContextRecord}
 use Rattle.hack_load.specs.declared.answers.Answers.{Answers}
-use Rattle.hack_process.specs.Calls.{Call}
+use Rattle.hack_process.specs.Calls.{Call, MayAdd}
 use Rattle.hack_planner.specs.CallPlan.{IsPlanOf}
 use Rattle.hack_run.specs.Handed.{IsPlannedAsAsked, is_search}
 use Rattle.hack_run.specs.Loading.{AreLoaded}
-use Rattle.hack_run.specs.Questions.{AsksRustup, AsksStable}
+use Rattle.hack_run.specs.Questions.{AsksRustup, AsksStable, MayAskStable, rustup_asked}
 use Rattle.hack_session.specs.Histories.{Course}
 use Rattle.hack_starts.specs.Events.{Event, Layout}
 use Rattle.hack_lanes.specs.Lanes.{Scene, Goes}
@@ -86,11 +86,16 @@ MayRunInLanes did cx stable rustup old new = (new ≡ old) ⊎ RunsInLanes did c
 -- `did` says what became of commands that were started, `course` which calls were made between, and `calls` which the caller
 -- tells, where it does
 module _ {S : Type 0} (did : List Event → S → S → Type 0) (course : S → S → Type 0) (talks : Type 0) (calls : S → List Call) where
-  -- Calls in the caller's course alone were made, where the plan is listed, or an error ended the call; or a context was
-  -- made of these answers, stable's version asked for, and the plan performed in lanes.
+  -- an error ended the call before its plan: stable's version was asked for at most
+  abbrev pub EndsEarly : Bool → Name → S → S → Type 0
+  EndsEarly done rustup old new =
+      (done ≡ false) × course old new × (talks → (calls new ≡ calls old) ⊎ MayAskStable rustup (calls old) (calls new))
+
+  -- Calls in the caller's course alone were made, where the plan is listed, or before an error; or a context was made of
+  -- these answers, stable's version asked for, and the plan performed in lanes.
   abbrev pub FollowsInLanes : Bool → Args → Answers → Name → S → S → Type 0
   FollowsInLanes done args answers rustup old new =
-      (course old new × ((done ≡ false) ⊎ (args.print_command_list ≡ true)))
+      (course old new × (args.print_command_list ≡ true)) ⊎ EndsEarly done rustup old new
       ⊎ ((cx : ContextRecord) × IsContextFrom args answers cx × (stable : Stable) × (before : S) × course old before
       × (talks → AsksStable rustup stable (calls old) (calls before)) × RunsInLanes did cx stable rustup before new)
 
@@ -116,8 +121,9 @@ module _ {S : Type 0} (did : List Event → S → S → Type 0) (course : S → 
     pub read : IsAnswer (around_of env rustup) (ComesTo (around_of env rustup) words) answer notes
     pub obeyed : ObeysInLanes done tells answer env held mid new
 
-  -- after a call in the caller's course at most, a command line was read and obeyed in lanes, or an error ended the call
+  -- rustup's version was asked for at most; then a command line was read and obeyed in lanes, or an error ended the call
   pub record IsLaneCall (done : Bool) (tells : Type 0) (words : List Name) (env : Env) (held : Contents) (old new : S) : Type 0 where
     pub mid : S
     pub between : course old mid
+    pub asked : talks → MayAdd (rustup_asked (string_bytes env.rustup)) (calls old) (calls mid)
     pub behind : ((done ≡ false) × (new ≡ mid)) ⊎ ReadsInLanes done tells words env held old mid new

@@ -218,11 +218,12 @@ abbrev pub IsListed : Handed → Type 0
 IsListed h = (is_sent h ≡ true) ⊎ (has_failed h.outcome ≡ false)
 
 -- How a list ends: for want of memory. Or each listed step passed, unless the list's stream counted a failure; and it
--- ends with the error that stopped its steps; else with that of a line that is missing for this, or without one.
+-- ends with the error that stopped its steps; else with that of a line that is missing for this, or, where each passed,
+-- without one.
 abbrev pub ComesOfList : Result (Unit {0}) RunFault → Looks → List Handed → State → Stream → Stream → Type 0
 ComesOfList came now handed last old new = (came ≡ Err fault.Memory)
     ⊎ ((All IsListed handed ⊎ HasFailed old.failed new.failed)
-    × MatchOption last.kept (((came ≡ Err fault.Unlisted) × HasFailed old.failed new.failed) ⊎ ((came ≡ Ok tt) × (now.reported ≡ last.told)))
+    × MatchOption last.kept (((came ≡ Err fault.Unlisted) × HasFailed old.failed new.failed) ⊎ ((came ≡ Ok tt) × All IsListed handed × (now.reported ≡ last.told)))
     (λ failed. came ≡ Err (fault.Process failed)))
 
 -- The same of a list's steps that aren't listed. Whatever came of them, just the lines of the steps that passed were

@@ -1,8 +1,10 @@
 //! The errors that end a call.
 
 ghost use Rattle.std.specs.Prelude.{◌≡◌, Some, option_copied, true};
-ghost use Rattle.hack_run.specs.Errors.{failed_command, is_memory, is_of_file, text_of};
+ghost use Rattle.hack_run.specs.Errors.{failed_command, failed_file, is_memory, is_of_file};
+ghost use Rattle.hack_run.specs.Errors.{text_of};
 
+use hack_files::fs::FsFault;
 use hack_files::reason::is_of_device;
 use hack_load::context::ContextFault;
 use hack_metadata::metadata::AskFault;
@@ -39,11 +41,21 @@ impl RunFault {
     pub fn is_of_file(&self) -> bool
         ensures { result ≡ is_of_file self.now }
     {
+        match self.failed_file() {
+            Some(fault) => is_of_device(fault),
+            None => false,
+        }
+    }
+
+    /// The error of a file, where that is the error.
+    fn failed_file(&self) -> Option<&FsFault>
+        ensures { option_copied result ≡ failed_file self.now }
+    {
         match self {
-            RunFault::Context(ContextFault::Files(fault)) => is_of_device(fault),
-            RunFault::Context(ContextFault::Asked(AskFault::Files(fault))) => is_of_device(fault),
-            RunFault::Manifests(PrepareFault::Files(fault)) => is_of_device(fault),
-            _ => false,
+            RunFault::Context(ContextFault::Files(fault)) => Some(fault),
+            RunFault::Context(ContextFault::Asked(AskFault::Files(fault))) => Some(fault),
+            RunFault::Manifests(PrepareFault::Files(fault)) => Some(fault),
+            _ => None,
         }
     }
 
@@ -83,6 +95,9 @@ impl fmt::Display for RunFault {
             return f.write_str("out of memory");
         }
         if let Some(fault) = self.failed_command() {
+            return write!(f, "{fault}");
+        }
+        if let Some(fault) = self.failed_file() {
             return write!(f, "{fault}");
         }
         match self {

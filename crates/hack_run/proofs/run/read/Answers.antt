@@ -63,6 +63,7 @@ returns-in-Accepted-clause-lanes g c =
     on_success _ _ c.obey.result (λ obeyed. record {
       mid = c.reading_of.new.caller;
       between = c.reading_of.ensures.course;
+      asked = c.reading_of.ensures.may;
       behind = inr (record { rustup = after.rustup; answer = c.in-Accepted.parsed; notes = map note_of c.in-Accepted.notices.items; told = after.asked; read = after.read; obeyed = obeyed });
     })
     c.obey.ensures.lanes
@@ -73,14 +74,15 @@ returns-in-Accepted-clause-in_lanes g c =
     record {
       mid = c.reading_of.new.caller;
       between = c.reading_of.ensures.course;
+      asked = c.reading_of.ensures.may;
       behind = inr (record { rustup = after.rustup; answer = c.in-Accepted.parsed; notes = map note_of c.in-Accepted.notices.items; told = after.asked; read = after.read; obeyed = c.obey.ensures.in_lanes });
     }
 
 pub returns-in-Refused-clause-in_lanes : goal.returns-in-Refused-clause-in_lanes
-returns-in-Refused-clause-in_lanes g c = record { mid = c.reading_of.new.caller; between = c.reading_of.ensures.course; behind = inl (refl, refl) }
+returns-in-Refused-clause-in_lanes g c = record { mid = c.reading_of.new.caller; between = c.reading_of.ensures.course; asked = c.reading_of.ensures.may; behind = inl (refl, refl) }
 
 pub returns-in_err-parsed-clause-in_lanes : goal.returns-in_err-parsed-clause-in_lanes
-returns-in_err-parsed-clause-in_lanes g c = record { mid = c.reading_of.new.caller; between = c.reading_of.ensures.course; behind = inl (refl, refl) }
+returns-in_err-parsed-clause-in_lanes g c = record { mid = c.reading_of.new.caller; between = c.reading_of.ensures.course; asked = c.reading_of.ensures.may; behind = inl (refl, refl) }
 
 pub returns-in-Accepted-clause-shown : goal.returns-in-Accepted-clause-shown
 returns-in-Accepted-clause-shown g c = λ t.

@@ -110,13 +110,16 @@ pub returns-clause-in_lanes : goal.returns-clause-in_lanes
 returns-clause-in_lanes g c =
     let cx = context_view c.in_ok-cx.cx in
     may_follow_in_lanes g.C.Starts.did g.C.Caller.course g.C.Caller.course_more g.C.Caller.tells g.C.Caller.calls c.args.args c.args.answers cx c.in_ok-stable.stable (string_bytes c.args.host.now.env.now.rustup) c.args.host.now.caller.now c.stable_for.new.caller c.run_plan.new.host.caller.now
-    cx.args.print_command_list refl c.in_ok-stable.ensures.course c.in_ok-stable.ensures.asked c.in_ok-cx.ensures.ok c.run_plan.ensures.listed c.run_plan.ensures.lanes
+    cx.args.print_command_list refl c.in_ok-stable.ensures.course c.stable_for.ensures.made c.in_ok-stable.ensures.asked c.in_ok-cx.ensures.ok c.run_plan.ensures.listed c.run_plan.ensures.lanes
 
 pub returns-in_err-cx-clause-in_lanes : goal.returns-in_err-cx-clause-in_lanes
-returns-in_err-cx-clause-in_lanes g c = inl (g.C.Caller.course_none _, inl refl)
+returns-in_err-cx-clause-in_lanes g c = inr (inl (refl, g.C.Caller.course_none _, λ _. inl refl))
+
+pub returns-in_err-stable-clause-in_lanes : goal.returns-in_err-stable-clause-in_lanes
+returns-in_err-stable-clause-in_lanes g c = inr (inl (refl, c.stable_for.ensures.course, λ t. inr (c.stable_for.ensures.made t)))
 
 pub returns-in_err-edit-clause-in_lanes : goal.returns-in_err-edit-clause-in_lanes
-returns-in_err-edit-clause-in_lanes g c = inl (g.C.Caller.course_none _, inl refl)
+returns-in_err-edit-clause-in_lanes g c = inr (inl (refl, g.C.Caller.course_none _, λ _. inl refl))
 
 pub returns-in_err-cx-clause-shown : goal.returns-in_err-cx-clause-shown
 returns-in_err-cx-clause-shown g c = λ t.
