@@ -15,8 +15,7 @@ pub use crate::failing::{FailingFiles, FailingWriter};
 pub use crate::memory::{MemoryFiles, Step};
 use std::alloc::{AllocError, Global};
 use std::error::Error;
-use std::fmt;
-use std::io;
+use std::{fmt, io};
 
 /// Why a call of a `Files` failed.
 #[derive(Clone, Copy, Debug, PartialEq, Eq)]
