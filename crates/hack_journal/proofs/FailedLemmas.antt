@@ -6,7 +6,7 @@ use Rattle.std.proofs.lemmas.Bool.{false≢true}
 use Rattle.hack_files.specs.declared.fs.Files.{Ghosts as Filing}
 use Rattle.hack_files.specs.declared.fs.FsFault.TheVariants as fs
 use Rattle.hack_files.specs.FailedCalls.{LookFailed, NoneFailed, WriteFailed}
-use Rattle.hack_files.specs.Files.{Makes, MakesOrNot, refused_path}
+use Rattle.hack_files.specs.Files.{CountsFailedCall, KeepsOthers, Makes, MakesOrNot, refused_path}
 use Rattle.hack_files.proofs.FailedLemmas.{none_failed, none_then, look_then, write_then}
 use Rattle.hack_journal.specs.FailedCalls.{CannotEnd, FailsOnlySo, FailsRefusedAt, FailsRemoval, FailsUnseen, IsOfFailedCall, RemovalFailed}
 use Rattle.hack_journal.specs.FileCalls.{ChangesOnly, Puts}
@@ -22,6 +22,10 @@ use Rattle.hack_journal.proofs.CountLemmas.{grows_then}
 fails_refused : {F T E : Type 0} (f : Filing F) (path : List ℕ) (r : Result T E) (a b : F) → f.unseen a b [] → f.refuses a b (refused_path r path) → FailsRefusedAt f path a b r
 fails_refused f path (Ok v) a b unseen refused = record { unseen = unseen; refused = refused }
 fails_refused f path (Err e) a b unseen refused = record { unseen = unseen; refused = refused }
+
+-- what a call of files itself says
+pub changes_of : {F T E : Type 0} (f : Filing F) (path : List ℕ) (r : Result T E) (a b : F) → f.stays a b → CountsFailedCall (f.failed a) (f.failed b) r → f.refuses a b (refused_path r path) → f.unseen a b [] → (f.tells → KeepsOthers path (f.bytes_at a) (f.bytes_at b)) → ChangesOnly f path a b r
+changes_of f path r a b stays counted refused_path unseen_none others = record { stays = stays; counted = counted; refused_path = refused_path; unseen_none = unseen_none; others = others }
 
 -- of a call that changes at most its path, it is known which failed
 pub puts_of : {F T E : Type 0} (f : Filing F) (path : List ℕ) (bytes : Option (List ℕ)) (r : Result T E) (a b : F) → ChangesOnly f path a b r → OnOk r (f.tells → f.bytes_at b path ≡ bytes)

@@ -1,11 +1,12 @@
 -- The journal is removed where nothing is to be put back.
-use Rattle.std.proofs.Common.{◌≡◌, ◌<◌, ◌+◌, ◌^◌, inl, inr, ℕ, suc, List, [], ◌∷◌, ◌++◌, Option, Some, None, length, refl, sym, ◌∙◌, subst, ap, append-nil, arith, true, false, Bool}
+use Rattle.std.proofs.Common.{◌≡◌, ◌<◌, ◌+◌, ◌^◌, inl, inr, ℕ, suc, List, [], ◌∷◌, ◌++◌, Option, Some, None, length, refl, sym, ◌∙◌, subst, ap, append-nil, arith, true, false, Bool, cond}
 use Rattle.std.specs.Prelude.{IsTrue, IsSome, ◌↔◌}
 use Rattle.std.proofs.Math.Path.{fun_ext}
 use Rattle.std.proofs.lemmas.List.{length-append}
+use Rattle.std.specs.Str.{bytes_eq}
 use Rattle.hack_files.specs.Files.{Change, Contents, Makes, MakesOrNot, removes, KeepsAll, KeepsOthers}
 use Rattle.hack_journal.specs.Journal.{Edit, journal_text}
-use Rattle.hack_journal.specs.Rows.{Spot, AreEach, IsFresh, IsNoteOf, KeepsBeside, file_at}
+use Rattle.hack_journal.specs.Rows.{Spot, AreEach, IsFresh, IsNoteOf, KeepsBeside, OnlyRemoves, file_at}
 use Rattle.hack_journal.specs.SafeFiles.{SomeEntryHasBytes, KeepFirst, IsJournaled, IsSafe, StaysSafe, Stays, AreBack}
 use Rattle.hack_journal.specs.Strangers.{first_stranger}
 use Rattle.hack_journal.specs.Internal.{IsAllBack, ShortensRow}
@@ -123,3 +124,26 @@ removed_first s o es m n k all gone others =
     (λ q out. others q (λ i lt. apart_from s.journal i q out) ∙ back_first s o es m k all q out)
     (λ i lt. gone i (omega (arith, lt)))
     (λ q own beside. others q (λ i lt. beside i (omega (arith, lt))))
+
+-- ---- nothing is written
+
+-- where nothing was changed
+pub only_looked : (t u : List Change) (m n : Contents) → Makes [] t u m n → OnlyRemoves m n
+only_looked t u m n made = λ q. inl (ap (λ (c : Contents). c q) made.holds)
+
+-- a removal, made or not
+pub only_removed : (path : List ℕ) (t u : List Change) (m n : Contents) → MakesOrNot (removes path) t u m n → OnlyRemoves m n
+only_removed path t u m n (inl none) = only_looked t u m n none
+only_removed path t u m n (inr made) = λ q.
+    let here : n q ≡ cond (bytes_eq path q) None (m q) = ap (λ (c : Contents). c q) made.holds in
+    elim (cases_Bool (bytes_eq path q)) [
+      | inl same ↦ inr (here ∙ ap (λ (b : Bool). cond b None (m q)) same)
+      | inr other ↦ inl (here ∙ ap (λ (b : Bool). cond b None (m q)) other)
+    ]
+
+-- first the one, then the other
+pub only_then : (m n w : Contents) → OnlyRemoves m n → OnlyRemoves n w → OnlyRemoves m w
+only_then m n w first next = λ q. elim (next q) [
+  | inr none ↦ inr none
+  | inl same ↦ elim (first q) [ inl was ↦ inl (same ∙ was) | inr none ↦ inr (same ∙ none) ]
+]

@@ -38,6 +38,11 @@ pub record GoesToOne {A B : Type 0} (path : List ℕ) (old new : Apart A B) : Ty
   pub files : IsTrue (is_lockfile path) → new.files ≡ old.files
   pub lockfiles : ¬ IsTrue (is_lockfile path) → new.lockfiles ≡ old.lockfiles
 
+-- a call puts these bytes at this path in those of two files that it goes to, and in no other way
+pub record PutsByKind {A B T E : Type 0} (a : Filing A) (b : Filing B) (path : List ℕ) (bytes : Option (List ℕ)) (old new : Apart A B) (result : Result T E) : Type 0 where
+  pub files : ¬ IsTrue (is_lockfile path) → Puts a path bytes old.files new.files result
+  pub lockfiles : IsTrue (is_lockfile path) → Puts b path bytes old.lockfiles new.lockfiles result
+
 -- where the journal of these files lies
 abbrev pub spot_in : {F U : Type 0} → Journaled F U → Spot
 spot_in files = record { folder = string_bytes files.folder; journal = files.notes.journal }

@@ -10,6 +10,7 @@ use Rattle.hack_journal.specs.Journal.{Edit}
 use Rattle.hack_journal.specs.Rows.{Noted, file_at, is_of_journal, leads_to}
 use Rattle.hack_journal.specs.SafeFiles.{first_entry_of}
 use Rattle.hack_journal.specs.Strangers.{is_edit_of_manifest}
+use Rattle.hack_journal.specs.declared.unkept.Unkept.{Ghosts as Noting}
 
 -- memory was refused, or there is this cause
 abbrev pub IsOfCause : Type 0 → FileFault → Type 0
@@ -51,12 +52,26 @@ abbrev pub CannotKeep : {F : Type 0} → Filing F → List ℕ → Noted → Lis
 CannotKeep f folder noted path bytes old new =
     (LookFailed f path old new ⊎ IsOther f noted path bytes old) ⊎ CannotAppend f folder noted path old new
 
--- why a path can't be given these bytes, or removed: it is the journal's own, or what it holds can't
--- be kept, or the files below refuse it
+-- why a call is refused before the files below are asked: the path is the journal's own, or what it holds can't be kept
+abbrev pub IsOwnRefusal : {F : Type 0} → Filing F → List ℕ → Noted → List ℕ → Option (List ℕ) → F → F → Type 0
+IsOwnRefusal f folder noted path bytes old new =
+    (is_of_journal noted.journal path ≡ true) ⊎ CannotKeep f folder noted path bytes old new
+
+-- why a path can't be given these bytes, or removed: it is refused so, or by the files below
 abbrev pub CannotChange : {F : Type 0} → Filing F → List ℕ → Noted → List ℕ → Option (List ℕ) → F → F → Type 0
 CannotChange f folder noted path bytes old new =
-    (is_of_journal noted.journal path ≡ true) ⊎ (CannotKeep f folder noted path bytes old new ⊎ WriteFailed f path old new)
+    IsOwnRefusal f folder noted path bytes old new ⊎ WriteFailed f path old new
 
 -- a write or removal fails only so
 abbrev pub FailsToChange : {F T : Type 0} → Filing F → List ℕ → Noted → List ℕ → Option (List ℕ) → F → F → Result T FileFault → Type 0
 FailsToChange f folder noted path bytes old new result = FailsOf f (CannotChange f folder noted path bytes old new) old new result
+
+-- a call failed, for memory or for this cause
+abbrev pub FailsFor : {T : Type 0} → Type 0 → Result T FileFault → Type 0
+FailsFor P (Ok _) = ⊥
+FailsFor P (Err fault) = IsOfCause P fault
+
+-- nobody was told that something couldn't be kept; or it failed for that, and its own path was told
+abbrev pub TellsItsOwn : {F U T : Type 0} → Filing F → Noting U → List ℕ → Noted → List ℕ → Option (List ℕ) → F → F → U → U → Result T FileFault → Type 0
+TellsItsOwn f u folder noted path bytes old new was now result =
+    (now ≡ was) ⊎ (FailsFor (IsOwnRefusal f folder noted path bytes old new) result × u.misses was now path)

@@ -32,10 +32,6 @@ IsUnseenOrUntold tells f path = IsUnseen f path ⊎ ¬ tells
 abbrev pub IsRefusedOrUnkept : {F U : Type 0} → Filing F → Noting U → List ℕ → Type 0
 IsRefusedOrUnkept f u path = IsRefused f path ⊎ IsUnkept u path
 
--- nobody was told that something couldn't be kept; or the call failed, and its own path was told
-abbrev pub TellsItsOwn : {U T E : Type 0} → Noting U → List ℕ → Result T E → U → U → Type 0
-TellsItsOwn u path result old new = (new ≡ old) ⊎ (IsErr result × u.misses old new path)
-
 -- P holds of the path, or Q where it is a lockfile's
 pub record HoldsByKind (P Q : List ℕ → Type 0) (path : List ℕ) : Type 0 where
   pub files : ¬ IsTrue (is_lockfile path) → P path

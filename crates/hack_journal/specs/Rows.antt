@@ -1,5 +1,5 @@
 -- The row of files that a journal is.
-use Rattle.std.specs.Prelude.{◌≡◌, ◌≢◌, ◌++◌, ◌==◌, ◌<◌, [], ◌∷◌, ℕ, zero, suc, Bool, false, IsTrue, List, Option, Some, None, codes, map, nat_eq, string_bytes, if◌then◌else◌}
+use Rattle.std.specs.Prelude.{◌≡◌, ◌≢◌, ◌⊎◌, ◌++◌, ◌==◌, ◌<◌, [], ◌∷◌, ℕ, zero, suc, Bool, false, IsTrue, List, Option, Some, None, codes, map, nat_eq, string_bytes, if◌then◌else◌}
 use Rattle.std.specs.Fmt.{decimal}
 use Rattle.std.specs.List.{starts_with}
 use Rattle.std.specs.Str.{IsUtf8}
@@ -43,6 +43,10 @@ IsBeside journal k path = (i : ℕ) → i < k → path ≢ file_at journal i
 -- each path but those of the row's first k files holds what it held
 abbrev pub KeepsBeside : List ℕ → ℕ → Contents → Contents → Type 0
 KeepsBeside journal k old new = (path : List ℕ) → IsBeside journal k path → new path ≡ old path
+
+-- each path holds what it held, or nothing any more
+abbrev pub OnlyRemoves : Contents → Contents → Type 0
+OnlyRemoves old new = (path : List ℕ) → (new path ≡ old path) ⊎ (new path ≡ None)
 
 -- ---- what a file of the row holds
 

@@ -48,7 +48,7 @@ impl<A: Files, B: Files> Apart<A, B> {
 impl<A: Files, B: Files> Files for Apart<A, B> {
     ghost use Rattle.std.proofs.Common.{refl, ◌∙◌};
     ghost use Rattle.hack_journal.specs.FailedCalls.{LooksOrUnseen, ReadsOrUnseen};
-    ghost use Rattle.hack_journal.specs.FileCalls.{OnlyLooks, ChangesOnly, GoesToOne};
+    ghost use Rattle.hack_journal.specs.FileCalls.{OnlyLooks, ChangesOnly, GoesToOne, PutsByKind};
     ghost use Rattle.hack_journal.specs.Refusing.{AreJust, GrowsAsBoth, HoldsByKind, IsRefused};
     ghost use Rattle.hack_journal.specs.Refusing.{UnseenByKind};
     ghost use Rattle.hack_journal.specs.RefusingLaws.{both_more, both_none, both_or_not};
@@ -136,6 +136,8 @@ impl<A: Files, B: Files> Files for Apart<A, B> {
         ensures written { OnOk result (A.tells × B.tells →
             apart (A.bytes_at self.new.files) (B.bytes_at self.new.lockfiles) path.now ≡
             Some bytes.now) }
+        ensures puts { PutsByKind A.Files B.Files path.now (Some bytes.now)
+            self.old self.new result }
         ensures one { GoesToOne path.now self.old self.new }
     {
         let outcome = if is_lockfile(path) {
@@ -171,6 +173,7 @@ impl<A: Files, B: Files> Files for Apart<A, B> {
         ensures removed { OnOk result (A.tells × B.tells →
             apart (A.bytes_at self.new.files) (B.bytes_at self.new.lockfiles) path.now ≡
             None) }
+        ensures puts { PutsByKind A.Files B.Files path.now None self.old self.new result }
         ensures one { GoesToOne path.now self.old self.new }
     {
         let outcome = if is_lockfile(path) {

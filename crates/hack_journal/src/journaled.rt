@@ -13,12 +13,13 @@ ghost use Rattle.std.specs.Prelude.{IfOk, OnOk, OnErr, IsTrue, IsSome, ◌↔◌
 ghost use Rattle.std.specs.Option.{option_map};
 ghost use Rattle.hack_files.specs.Files.{Contents, CountsFailedCall, KeepsOthers, KeepsAll};
 ghost use Rattle.hack_files.specs.Files.{Makes, MakesOrNot, refused_path};
-ghost use Rattle.hack_journal.specs.Keeping.{FailsToChange};
+ghost use Rattle.hack_journal.specs.Keeping.{FailsToChange, TellsItsOwn};
 ghost use Rattle.hack_journal.specs.Rows.{spot_of, file_at, is_of_journal, KeepsBeside};
+ghost use Rattle.hack_journal.specs.Rows.{OnlyRemoves};
 ghost use Rattle.hack_journal.specs.SafeFiles.{SomeEntryHasBytes, AreBack, gives};
 ghost use Rattle.hack_journal.specs.SafeFiles.{IsJournaled, Stays, changes_besides, without};
 ghost use Rattle.hack_journal.specs.Internal.{ShortensRow};
-ghost use Rattle.hack_journal.specs.Refusing.{IsCounted, IsRefusedOrUnkept, TellsItsOwn};
+ghost use Rattle.hack_journal.specs.Refusing.{IsCounted, IsRefusedOrUnkept};
 
 use crate::contents::{are_back, put_over};
 use crate::notes::Notes;
@@ -93,7 +94,9 @@ impl<F: Overwrites, U: Unkept> Journaled<F, U> {
         ensures counted { IsCounted result (F.failed self.old.files) (F.failed self.new.files)
             (U.told self.old.unkept) (U.told self.new.unkept) }
         ensures why { OnErr result (IsRefusedOrUnkept F.Files U.Unkept path.now) }
-        ensures unkept { TellsItsOwn U.Unkept path.now result self.old.unkept self.new.unkept }
+        ensures unkept { TellsItsOwn F.Files U.Unkept (string_bytes self.old.folder)
+            self.old.notes path.now (option_map (λ bytes. bytes.now) bytes.entry)
+            self.old.files self.new.files self.old.unkept self.new.unkept result }
         ensures sure { SomeEntryHasBytes self.old.notes.entries path.now
             (option_map (λ bytes. bytes.now) bytes.entry) →
             is_of_journal self.old.notes.journal path.now ≡ false →
@@ -154,6 +157,8 @@ impl<F: Files, U: Unkept> Journaled<F, U> {
         ensures others { F.tells → KeepsBeside self.old.notes.journal
             (length self.old.notes.entries + 1)
             (F.bytes_at self.old.files) (F.bytes_at self.new.files) }
+        ensures only { F.whole → OnlyRemoves (F.bytes_at self.old.files)
+            (F.bytes_at self.new.files) }
         ensures stays { F.tells → F.whole → ShortensRow (spot_in self.old)
             self.old.notes.entries self.new.notes.entries
             (F.trace self.old.files) (F.trace self.new.files)
@@ -186,6 +191,8 @@ impl<F: Files, U: Unkept> Journaled<F, U> {
         ensures others { F.tells → KeepsBeside self.old.notes.journal
             (length self.old.notes.entries + 1)
             (F.bytes_at self.old.files) (F.bytes_at self.new.files) }
+        ensures only { F.whole → OnlyRemoves (F.bytes_at self.old.files)
+            (F.bytes_at self.new.files) }
         ensures stays { StaysJournaled F.Files self.old self.new }
         ensures gone { IfOk result (λ gone. IsTrue gone → F.tells →
             F.bytes_at self.new.files self.old.notes.journal ≡ None) }
@@ -287,9 +294,11 @@ impl<F: Overwrites, U: Unkept> Files for Journaled<F, U> {
         // Not even a journal is written.
         ensures below { F.whole → Makes [] (F.trace self.old.files) (F.trace self.new.files)
             (F.bytes_at self.old.files) (F.bytes_at self.new.files) }
-        // Nobody is told of a refused write.
+        // Nobody is told of a refused write, and of a read only where the path is the journal's.
         ensures unkept { is_of_journal self.old.notes.journal path.now ≡ false →
             self.new.unkept ≡ self.old.unkept }
+        ensures told { is_of_journal self.old.notes.journal path.now ≡ true →
+            U.reads self.old.unkept self.new.unkept }
     {
         if self.notes.is_of_journal(path) {
             self.unkept.note_read(Refusal::of(path));
@@ -303,7 +312,10 @@ impl<F: Overwrites, U: Unkept> Files for Journaled<F, U> {
     fn write(&mut self, path: &str, bytes: &[u8]) -> Result<(), FileFault>
         ensures puts { Puts ⟦<Journaled<F, U> as Files>⟧ path.now (Some bytes.now)
             self.old self.new result }
-        ensures unkept { TellsItsOwn U.Unkept path.now result self.old.unkept self.new.unkept }
+        // It tells of what it refuses before it asks the files below, and of nothing else.
+        ensures unkept { TellsItsOwn F.Files U.Unkept (string_bytes self.old.folder)
+            self.old.notes path.now (Some bytes.now) self.old.files self.new.files
+            self.old.unkept self.new.unkept result }
         // What an entry has already nothing but the files below can refuse.
         ensures sure { SomeEntryHasBytes self.old.notes.entries path.now (Some bytes.now) →
             is_of_journal self.old.notes.journal path.now ≡ false →
@@ -337,7 +349,10 @@ impl<F: Overwrites, U: Unkept> Files for Journaled<F, U> {
 
     fn remove(&mut self, path: &str) -> Result<(), FileFault>
         ensures puts { Puts ⟦<Journaled<F, U> as Files>⟧ path.now None self.old self.new result }
-        ensures unkept { TellsItsOwn U.Unkept path.now result self.old.unkept self.new.unkept }
+        // It tells of what it refuses before it asks the files below, and of nothing else.
+        ensures unkept { TellsItsOwn F.Files U.Unkept (string_bytes self.old.folder)
+            self.old.notes path.now None self.old.files self.new.files
+            self.old.unkept self.new.unkept result }
         // What an entry has already nothing but the files below can refuse.
         ensures sure { SomeEntryHasBytes self.old.notes.entries path.now None →
             is_of_journal self.old.notes.journal path.now ≡ false →

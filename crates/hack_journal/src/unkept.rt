@@ -40,6 +40,9 @@ pub trait Unkept {
     /// Between these states it was told of a write or removal of this path.
     ghost misses: { Self → Self → List ℕ → Type 0 };
 
+    /// Between these states it was told of a read of the journal, and of nothing else.
+    ghost reads: { Self → Self → Type 0 };
+
     /// Tells that a write or removal was refused: what it replaces couldn't be kept.
     fn note(&mut self, refusal: Refusal<'_>)
         ensures told { GrowsBy 1 (told self.old) (told self.new) }
@@ -47,7 +50,8 @@ pub trait Unkept {
 
     /// Tells that a path of the journal was to be read.
     fn note_read(&mut self, refusal: Refusal<'_>)
-        ensures { GrowsBy 1 (told self.old) (told self.new) };
+        ensures told { GrowsBy 1 (told self.old) (told self.new) }
+        ensures read { reads self.old self.new };
 }
 
 /// A number counts them.
@@ -55,6 +59,8 @@ impl Unkept for u64 {
     ghost told = { λ count. count };
 
     ghost misses = { λ old new _. GrowsBy 1 old new };
+
+    ghost reads = { λ old new. GrowsBy 1 old new };
 
     fn note(&mut self, _refusal: Refusal<'_>) {
         count_failure(self);

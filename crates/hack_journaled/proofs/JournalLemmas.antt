@@ -23,12 +23,12 @@ use Rattle.hack_words.specs.declared.cli.env.Env.{Env}
 use Rattle.hack_words.specs.declared.cli.parse.Parsed.{Parsed}
 use Rattle.hack_words.specs.declared.cli.parse.Parsed.TheVariants as parsed
 use Rattle.hack_base.specs.Names.{Name}
-use Rattle.hack_journaled.specs.Journals.{IsAccounted, IsWhyItStays, contents_seen}
+use Rattle.hack_journaled.specs.Journals.{IsAccounted, IsAtEnd, IsWhyItStays, contents_seen}
 
 -- a journal that can't be ended stays for this cause
-pub why_it_stays : {F : Type 0} (f : Filing F) (spot : Spot) (first : Contents) (noted : Noted) (old new : F) → spot.journal ≡ noted.journal
-    → (f.tells → f.whole → first spot.journal ≡ None → AreEach spot (f.bytes_at old) 0 noted.entries) → CannotEnd f noted old new → IsWhyItStays f spot first
-why_it_stays f spot first noted old new named each (inl look) = inl (
+pub why_it_stays : {F : Type 0} (f : Filing F) (spot : Spot) (first last : Contents) (noted : Noted) (old new : F) → spot.journal ≡ noted.journal
+    → (f.tells → f.whole → first spot.journal ≡ None → AreEach spot (f.bytes_at old) 0 noted.entries) → IsAtEnd f last old new → CannotEnd f noted old new → IsWhyItStays f spot first last
+why_it_stays f spot first last noted old new named each ends (inl look) = inl (
   look.0,
   record {
     before = old;
@@ -38,16 +38,16 @@ why_it_stays f spot first noted old new named each (inl look) = inl (
       | inl at ↦ inl (at ∙ sym named)
       | inr one ↦ inr (λ tells whole absent. record { entries = noted.entries; each = each tells whole absent; one = one })
     ];
+    at_end = ends;
   },
 )
-why_it_stays f spot first noted old new named each (inr removal) = inr (
-  removal.0,
-  record {
-    before = old;
-    after = new;
-    refused = subst (λ (j : List ℕ). f.refuses old new (file_at j removal.0 ∷ [])) (sym named) removal.2.refused;
-  },
-)
+why_it_stays f spot first last noted old new named each ends (inr removal) = inr (record {
+  before = old;
+  after = new;
+  place = removal.0;
+  refused = subst (λ (j : List ℕ). f.refuses old new (file_at j removal.0 ∷ [])) (sym named) removal.2.refused;
+  at_end = ends;
+})
 
 -- one more call failed at the end, or none
 pub one_at_most : {Why : Type 0} (n m : ℕ) → ((m ≡ n) ⊎ ((m ≡ min (n + 1) (2 ^ 64 - 1)) × Why)) → (m ≡ n) ⊎ (m ≡ min (n + 1) (2 ^ 64 - 1))

@@ -5,8 +5,7 @@ use Rattle.hack_files.specs.Files.{Contents}
 use Rattle.hack_journal.specs.Journal.{Edit}
 use Rattle.hack_journal.specs.LockfilesApart.{apart}
 use Rattle.hack_journal.specs.Recovery.{HasEntry}
-use Rattle.hack_journal.specs.Refusing.{IsRefused}
-use Rattle.hack_journal.specs.Rows.{AreEach, Spot, file_at}
+use Rattle.hack_journal.specs.Rows.{AreEach, OnlyRemoves, Spot, file_at}
 use Rattle.hack_journal.specs.SafeFiles.{without}
 use Rattle.hack_files.specs.View.{FilesView}
 use Rattle.hack_files.specs.declared.fs.Files.{Ghosts as Filing}
@@ -43,22 +42,37 @@ pub record IsInJournal (spot : Spot) (held : Contents) (path : List ℕ) : Type 
   pub each : AreEach spot held 0 entries
   pub one : HasEntry entries path
 
+-- between these states files came to what they hold at the end, by removals alone: whatever else a call changes was
+-- changed before
+pub record IsAtEnd {F : Type 0} (f : Filing F) (last : Contents) (before after : F) : Type 0 where
+  pub ended : f.bytes_at after ≡ last
+  pub only : f.whole → OnlyRemoves (f.bytes_at before) last
+
 -- at its end such files left this path unseen: the journal's own, or that of an entry of the journal, where none was
 -- there at `first`
-pub record IsUnseenAtEnd {F : Type 0} (f : Filing F) (spot : Spot) (first : Contents) (path : List ℕ) : Type 0 where
+pub record IsUnseenAtEnd {F : Type 0} (f : Filing F) (spot : Spot) (first last : Contents) (path : List ℕ) : Type 0 where
   pub before : F
   pub after : F
   pub unseen : f.unseen before after (path ∷ [])
   pub kept : (path ≡ spot.journal) ⊎ (f.tells → f.whole → first spot.journal ≡ None → IsInJournal spot (f.bytes_at before) path)
+  pub at_end : IsAtEnd f last before after
+
+-- at its end they refused to remove a file of the journal
+pub record IsStuckAtEnd {F : Type 0} (f : Filing F) (spot : Spot) (last : Contents) : Type 0 where
+  pub before : F
+  pub after : F
+  pub place : ℕ
+  pub refused : f.refuses before after (file_at spot.journal place ∷ [])
+  pub at_end : IsAtEnd f last before after
 
 -- why a journal stays where each path holds what it held: one that the end looks at was left unseen, or a file of the
 -- journal couldn't be removed
-abbrev pub IsWhyItStays : {F : Type 0} → Filing F → Spot → Contents → Type 0
-IsWhyItStays f spot first = ((path : List ℕ) × IsUnseenAtEnd f spot first path) ⊎ ((i : ℕ) × IsRefused f (file_at spot.journal i))
+abbrev pub IsWhyItStays : {F : Type 0} → Filing F → Spot → Contents → Contents → Type 0
+IsWhyItStays f spot first last = ((path : List ℕ) × IsUnseenAtEnd f spot first last path) ⊎ IsStuckAtEnd f spot last
 
 -- no call failed, or just one that left the journal there
-abbrev pub OnlyEndFailed : {F : Type 0} → Filing F → Spot → Contents → ℕ → Type 0
-OnlyEndFailed f spot first failed = (failed ≡ 0) ⊎ ((failed ≡ 1) × IsWhyItStays f spot first)
+abbrev pub OnlyEndFailed : {F : Type 0} → Filing F → Spot → Contents → Contents → ℕ → Type 0
+OnlyEndFailed f spot first last failed = (failed ≡ 0) ⊎ ((failed ≡ 1) × IsWhyItStays f spot first last)
 
 -- Between two states of files and of lockfiles a call saw this: in code over any of both no other states are to be had
 -- than those that they were in.

@@ -10,7 +10,7 @@ ghost use Rattle.hack_journal.specs.FileCalls.{spot_in};
 ghost use Rattle.hack_journal.specs.LockfilesApart.{KeepsLockfiles, KeepsOtherFiles};
 ghost use Rattle.hack_journal.specs.Refusing.{AreJust, HoldsByKind, IsRefused};
 ghost use Rattle.hack_journal.specs.Refusing.{IsRefusedOrUnkept};
-ghost use Rattle.hack_journal.specs.Rows.{KeepsBeside, spot_of};
+ghost use Rattle.hack_journal.specs.Rows.{KeepsBeside, OnlyRemoves, spot_of};
 ghost use Rattle.hack_journal.specs.SafeFiles.{AreBack, Stays, StaysSafe, without};
 ghost use Rattle.hack_journaled.specs.Journals.{BetweenBoth, IsAccounted, IsWhyItStays};
 ghost use Rattle.hack_journaled.specs.Journals.{OnlyEndFailed};
@@ -104,7 +104,7 @@ pub fn run_journaled<F: Overwrites, L: Files, U: Unkept, C: Starts, O: Sink, E: 
         (files_seen (string_bytes place.journal) (F.bytes_at result.1) (L.bytes_at result.2)
         result.3) }
     ensures few { host.new.term.now.error ≡ false
-        → OnlyEndFailed F.Files (spot_of place) (F.bytes_at files) result.3 }
+        → OnlyEndFailed F.Files (spot_of place) (F.bytes_at files) (F.bytes_at result.1) result.3 }
 
     // And these are paths whose writes were refused: a lockfile's by `lockfiles`, any other's by
     // `files`, or it couldn't be kept. A failed read leaves no path changed.
@@ -134,7 +134,7 @@ pub fn run_journaled<F: Overwrites, L: Files, U: Unkept, C: Starts, O: Sink, E: 
         (contents_seen (string_bytes place.journal) (F.bytes_at result.1) (L.bytes_at result.2))
         → F.bytes_at files (string_bytes place.journal) ≡ None
         → (F.bytes_at result.1 (string_bytes place.journal) ≡ None)
-        ⊎ IsWhyItStays F.Files (spot_of place) (F.bytes_at files) }
+        ⊎ IsWhyItStays F.Files (spot_of place) (F.bytes_at files) (F.bytes_at result.1) }
 
     // What each single call of the files and of the lockfiles keeps is kept by all of them. Through
     // `lockfiles` no other file is changed, and through `files` no lockfile.
@@ -180,6 +180,8 @@ fn end_journal<F: Overwrites, U: Unkept>(files: &mut Journaled<F, U>, failed: u6
     ensures others { F.tells → KeepsBeside files.old.notes.journal
         (length files.old.notes.entries + 1)
         (F.bytes_at files.old.files) (F.bytes_at files.new.files) }
+    ensures only { F.whole
+        → OnlyRemoves (F.bytes_at files.old.files) (F.bytes_at files.new.files) }
     ensures stays { F.tells → F.whole → Stays (spot_in files.old)
         files.old.notes.entries files.new.notes.entries
         (F.trace files.old.files) (F.trace files.new.files)

@@ -145,13 +145,13 @@ pub record Journals {F L U J : Type 0} (f : Filing F) (l : Filing L) (u : Noting
   pub back : RestoresEdits env words → f.tells → l.tells
       → BringsBack (files_seen spot.journal old.files.held old.lockfiles.held 0) (files_seen spot.journal new.files.held new.lockfiles.held failed)
   pub stood : new.host.term.error ≡ false → EditsStand (WereBetween f l spot.journal) (f.tells × l.tells) talks words env (contents_seen spot.journal old.files.held old.lockfiles.held) old.host.calls
-  pub few : new.host.term.error ≡ false → OnlyEndFailed f spot old.files.held failed
+  pub few : new.host.term.error ≡ false → OnlyEndFailed f spot old.files.held new.files.held failed
   pub spoilt : RestoresEdits env words → KeepsAllBut (λ paths. AreJust (HoldsByKind (IsRefusedOrUnkept f u) (IsRefused l)) paths 0 failed) (f.tells × l.tells)
       (contents_seen spot.journal old.files.held old.lockfiles.held) (contents_seen spot.journal new.files.held new.lockfiles.held)
   pub number : IsAccounted old.files.failed new.files.failed old.lockfiles.failed new.lockfiles.failed old.unkept new.unkept failed
   pub gone : RestoresEdits env words → f.tells → f.whole → l.tells → failed ≡ 0 → old.files.held spot.journal ≡ None → new.files.held spot.journal ≡ None
   pub ended : f.tells → f.whole → l.tells → KeepsAll (contents_seen spot.journal old.files.held old.lockfiles.held) (contents_seen spot.journal new.files.held new.lockfiles.held)
-      → old.files.held spot.journal ≡ None → (new.files.held spot.journal ≡ None) ⊎ IsWhyItStays f spot old.files.held
+      → old.files.held spot.journal ≡ None → (new.files.held spot.journal ≡ None) ⊎ IsWhyItStays f spot old.files.held new.files.held
   pub safe : f.tells → f.whole → old.files.held spot.journal ≡ None → StaysSafe spot old.files.held old.files.trace new.files.trace old.files.held new.files.held
   pub others : l.tells → KeepsOtherFiles old.lockfiles.held new.lockfiles.held
   pub locks : new.locks ≡ old.locks

@@ -10,7 +10,7 @@ use Rattle.hack_journal.specs.LockfilesApart.{KeepsLockfiles, apart}
 use Rattle.hack_journal.specs.Rows.{AreEach, Noted, Spot, spot_of}
 use Rattle.hack_journal.specs.SafeFiles.{without}
 use Rattle.hack_journal.specs.SafeLaws.{stays_join}
-use Rattle.hack_journaled.specs.Journals.{IsWhyItStays, contents_seen, files_seen, world_seen}
+use Rattle.hack_journaled.specs.Journals.{IsAtEnd, IsWhyItStays, contents_seen, files_seen, world_seen}
 use Rattle.hack_files.specs.View.{FilesView}
 use Rattle.hack_run.specs.Worlds.{host_view}
 use Rattle.hack_journaled.proofs.JournalLemmas.{accounted, edits_between, entries_back, leaves_end, leaves_nothing, none_before, one_at_most, only_end, refused_once, seen_same, spoilt_end, why_it_stays}
@@ -83,11 +83,11 @@ returns-clause-back g c = λ back files lockfiles.
     (one_at_most _ _ c.end_journal-failed.ensures.failed) left
 
 -- the cause by which the end leaves the journal there
-stays-since : {F : Type 0} (f : Filing F) (place spot at : Spot) (first : Contents) (noted : Noted) (old new : F) → place ≡ spot → spot ≡ at → at.journal ≡ noted.journal
-    → (f.tells → f.whole → first place.journal ≡ None → AreEach spot (f.bytes_at old) 0 noted.entries) → CannotEnd f noted old new → IsWhyItStays f place first
-stays-since f place spot at first noted old new begun same named each cannot =
-    why_it_stays f place first noted old new (ap (λ (s : Spot). s.journal) (begun ∙ same) ∙ named)
-    (λ tells whole absent. subst (λ (s : Spot). AreEach s (f.bytes_at old) 0 noted.entries) (sym begun) (each tells whole absent)) cannot
+stays-since : {F : Type 0} (f : Filing F) (place spot at : Spot) (first last : Contents) (noted : Noted) (old new : F) → place ≡ spot → spot ≡ at → at.journal ≡ noted.journal
+    → (f.tells → f.whole → first place.journal ≡ None → AreEach spot (f.bytes_at old) 0 noted.entries) → IsAtEnd f last old new → CannotEnd f noted old new → IsWhyItStays f place first last
+stays-since f place spot at first last noted old new begun same named each ends cannot =
+    why_it_stays f place first last noted old new (ap (λ (s : Spot). s.journal) (begun ∙ same) ∙ named)
+    (λ tells whole absent. subst (λ (s : Spot). AreEach s (f.bytes_at old) 0 noted.entries) (sym begun) (each tells whole absent)) ends cannot
 
 pub returns-clause-few : goal.returns-clause-few
 returns-clause-few g c = λ quiet.
@@ -95,10 +95,11 @@ returns-clause-few g c = λ quiet.
     let mid = c.run-status.new.files.files in
     let bytes = g.F.Files.bytes_at in
     let ran = rw c.new-files.ensures.files at c.run-status.ensures.stays in
+    let ends : IsAtEnd g.F.Files (bytes c.into_inner-below.result.0) mid.files c.end_journal-failed.new.files.files = record { ended = rw c.into_inner-below.ensures.files refl; only = rw c.into_inner-below.ensures.files c.end_journal-failed.ensures.only } in
     only_end c.failures-known.result c.end_journal-failed.result
     (omega (arith, c.failures-known.ensures, c.new-files.ensures.failures, (c.run-status.ensures.clean quiet).0 (omega (arith, c.new-files.ensures.failures))))
-    (stays-since g.F.Files (spot_of c.args.place) (spot_in first) (spot_in mid) (bytes c.args.files) mid.notes mid.files c.end_journal-failed.new.files.files (sym c.new.ensures.place) ran.0.0 refl
-    (λ tells whole absent. (ran.0.1 tells whole (bytes c.args.files) (c.new.ensures.begun absent)).1.each))
+    (stays-since g.F.Files (spot_of c.args.place) (spot_in first) (spot_in mid) (bytes c.args.files) (bytes c.into_inner-below.result.0) mid.notes mid.files c.end_journal-failed.new.files.files (sym c.new.ensures.place) ran.0.0 refl
+    (λ tells whole absent. (ran.0.1 tells whole (bytes c.args.files) (c.new.ensures.begun absent)).1.each) ends)
     c.end_journal-failed.ensures.failed
 
 pub returns-clause-gone : goal.returns-clause-gone
@@ -131,10 +132,11 @@ returns-clause-ended g c = λ tells whole lockfiles same absent.
     (sym (seen_same j mid.files.notes.journal (length mid.files.notes.entries + 1) (bytes mid.files.files) (bytes c.end_journal-failed.new.files.files) (bytes c.into_inner-below.result.0) (g.L.Files.bytes_at mid.lockfiles) (sym named) (c.end_journal-failed.ensures.others tells) (rw c.into_inner-below.ensures.files refl))) same in
     let is_back = entries_back j (bytes c.args.files) (bytes mid.files.files) (g.L.Files.bytes_at c.args.lockfiles) (g.L.Files.bytes_at mid.lockfiles) mid.files.notes.entries kept.more
     (rw begun at kept.keeps) (rw named at all) (rw (c.new.ensures.files, begun, named) at (ran.2 tells)) in
+    let ends : IsAtEnd g.F.Files (bytes c.into_inner-below.result.0) mid.files.files c.end_journal-failed.new.files.files = record { ended = rw c.into_inner-below.ensures.files refl; only = rw c.into_inner-below.ensures.files c.end_journal-failed.ensures.only } in
     elim (c.end_journal-failed.ensures.ended tells is_back) [
       | inl gone ↦ inl (rw (c.into_inner-below.ensures.files, sym named) gone)
-      | inr cannot ↦ inr (stays-since g.F.Files (spot_of c.args.place) (spot_in first) (spot_in mid.files) (bytes c.args.files) mid.files.notes mid.files.files c.end_journal-failed.new.files.files (sym c.new.ensures.place) ran.0.0 refl
-          (λ tells whole absent. (ran.0.1 tells whole (bytes c.args.files) (c.new.ensures.begun absent)).1.each) cannot)
+      | inr cannot ↦ inr (stays-since g.F.Files (spot_of c.args.place) (spot_in first) (spot_in mid.files) (bytes c.args.files) (bytes c.into_inner-below.result.0) mid.files.notes mid.files.files c.end_journal-failed.new.files.files (sym c.new.ensures.place) ran.0.0 refl
+          (λ tells whole absent. (ran.0.1 tells whole (bytes c.args.files) (c.new.ensures.begun absent)).1.each) ends cannot)
     ]
 
 pub returns-clause-stays : goal.returns-clause-stays

@@ -1,4 +1,6 @@
-use Rattle.std.proofs.Common.{◌≡◌, ap, refl, rules}
+use Rattle.std.proofs.Common.{◌≡◌, ◌∙◌, Some, None, ap, refl, rules, sym}
+use Rattle.std.proofs.lemmas.Bool.{false≢true}
+use Rattle.hack_journal.proofs.FailedLemmas.{changes_of, puts_of}
 use Rattle.hack_journal.proofs.RefusingLemmas.{just_looks, just_refused, other_file, other_lockfile, refused_lockfile, refused_other, both_first, both_second}
 use Rattle.hack_journal.proofs.apart.ApartFiles.remove.Goals.{then-is_lockfile, else-is_lockfile}
 use Rattle.hack_journal.proofs.apart.ApartFiles.remove.Goals as goal
@@ -20,3 +22,15 @@ returns-clause-changes g c =
       unseen_none = just_looks _ _ _ _ counted;
       others = search rules;
     }
+
+pub returns-clause-puts : goal.returns-clause-puts
+returns-clause-puts g c = rw c.counted.ensures.same (elim c.if-is_lockfile.branch [
+  | then-is_lockfile w ↦ rw (w.self-is, w.outcome-is) (record {
+    files = λ other. absurd (other (sym w.if-is_lockfile.ensures));
+    lockfiles = λ lock. puts_of g.B.Files c.args.path.now None w.remove-outcome.result _ _ (changes_of g.B.Files c.args.path.now w.remove-outcome.result _ _ w.remove-outcome.ensures.stays w.remove-outcome.ensures.counted w.remove-outcome.ensures.refused_path w.remove-outcome.ensures.unseen_none w.remove-outcome.ensures.others) w.remove-outcome.ensures.removed w.remove-outcome.ensures.traced w.remove-outcome.ensures.refused;
+  })
+  | else-is_lockfile w ↦ rw (w.self-is, w.outcome-is) (record {
+    files = λ other. puts_of g.A.Files c.args.path.now None w.remove-outcome-else-is_lockfile.result _ _ (changes_of g.A.Files c.args.path.now w.remove-outcome-else-is_lockfile.result _ _ w.remove-outcome-else-is_lockfile.ensures.stays w.remove-outcome-else-is_lockfile.ensures.counted w.remove-outcome-else-is_lockfile.ensures.refused_path w.remove-outcome-else-is_lockfile.ensures.unseen_none w.remove-outcome-else-is_lockfile.ensures.others) w.remove-outcome-else-is_lockfile.ensures.removed w.remove-outcome-else-is_lockfile.ensures.traced w.remove-outcome-else-is_lockfile.ensures.refused;
+    lockfiles = λ lock. absurd (false≢true (w.if-is_lockfile.ensures ∙ lock));
+  })
+])

@@ -1,4 +1,6 @@
-use Rattle.std.proofs.Common.{◌≡◌, ap, refl, rules}
+use Rattle.std.proofs.Common.{◌≡◌, ◌∙◌, Some, None, ap, refl, rules, sym}
+use Rattle.std.proofs.lemmas.Bool.{false≢true}
+use Rattle.hack_journal.proofs.FailedLemmas.{changes_of, puts_of}
 use Rattle.hack_journal.proofs.RefusingLemmas.{just_looks, just_refused, other_file, other_lockfile, refused_lockfile, refused_other, both_first, both_second}
 use Rattle.hack_journal.proofs.apart.ApartFiles.write.Goals.{then-is_lockfile, else-is_lockfile}
 use Rattle.hack_journal.proofs.apart.ApartFiles.write.Goals as goal
@@ -20,3 +22,15 @@ returns-clause-changes g c =
       unseen_none = just_looks _ _ _ _ counted;
       others = search rules;
     }
+
+pub returns-clause-puts : goal.returns-clause-puts
+returns-clause-puts g c = rw c.counted.ensures.same (elim c.if-is_lockfile.branch [
+  | then-is_lockfile w ↦ rw (w.self-is, w.outcome-is) (record {
+    files = λ other. absurd (other (sym w.if-is_lockfile.ensures));
+    lockfiles = λ lock. puts_of g.B.Files c.args.path.now (Some c.args.bytes.now) w.write-outcome.result _ _ (changes_of g.B.Files c.args.path.now w.write-outcome.result _ _ w.write-outcome.ensures.stays w.write-outcome.ensures.counted w.write-outcome.ensures.refused_path w.write-outcome.ensures.unseen_none w.write-outcome.ensures.others) w.write-outcome.ensures.written w.write-outcome.ensures.traced w.write-outcome.ensures.refused;
+  })
+  | else-is_lockfile w ↦ rw (w.self-is, w.outcome-is) (record {
+    files = λ other. puts_of g.A.Files c.args.path.now (Some c.args.bytes.now) w.write-outcome-else-is_lockfile.result _ _ (changes_of g.A.Files c.args.path.now w.write-outcome-else-is_lockfile.result _ _ w.write-outcome-else-is_lockfile.ensures.stays w.write-outcome-else-is_lockfile.ensures.counted w.write-outcome-else-is_lockfile.ensures.refused_path w.write-outcome-else-is_lockfile.ensures.unseen_none w.write-outcome-else-is_lockfile.ensures.others) w.write-outcome-else-is_lockfile.ensures.written w.write-outcome-else-is_lockfile.ensures.traced w.write-outcome-else-is_lockfile.ensures.refused;
+    lockfiles = λ lock. absurd (false≢true (w.if-is_lockfile.ensures ∙ lock));
+  })
+])

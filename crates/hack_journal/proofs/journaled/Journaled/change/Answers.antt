@@ -11,17 +11,23 @@ use Rattle.hack_journal.proofs.KeepingLemmas.{cause_wider, fails_then, fails_wri
 use Rattle.hack_journal.proofs.journaled.Journaled.change.Goals as goal
 
 pub returns-then-is_of_journal-clause-cause : goal.returns-then-is_of_journal-clause-cause
-returns-then-is_of_journal-clause-cause g c = inl (sym c.is_of_journal.ensures ∙ c.if-is_of_journal.true)
+returns-then-is_of_journal-clause-cause g c = inl (inl (sym c.is_of_journal.ensures ∙ c.if-is_of_journal.true))
 
 pub returns-in-Err-clause-cause : goal.returns-in-Err-clause-cause
-returns-in-Err-clause-cause g c = cause_wider _ _ c.in-Err.fault (λ h. inr (inl h)) c.in-Err.ensures.why
+returns-in-Err-clause-cause g c = cause_wider _ _ c.in-Err.fault (λ h. inl (inr h)) c.in-Err.ensures.why
+
+pub returns-then-is_of_journal-clause-unkept : goal.returns-then-is_of_journal-clause-unkept
+returns-then-is_of_journal-clause-unkept g c = inr (inl (sym c.is_of_journal.ensures ∙ c.if-is_of_journal.true), rw c.of.ensures.path at c.note.ensures.path)
+
+pub returns-in-Err-clause-unkept : goal.returns-in-Err-clause-unkept
+returns-in-Err-clause-unkept g c = inr (cause_wider _ _ c.in-Err.fault inr c.in-Err.ensures.why, rw (c.of-in-Err.ensures.path, ap (λ s. s.unkept) c.in-Err.ensures.rest) at c.note-in-Err.ensures.path)
 
 pub returns-in-Ok-clause-cause : goal.returns-in-Ok-clause-cause
 returns-in-Ok-clause-cause g c =
     let s = c.args.self.now in
     let path = c.args.path.now in
     fails_then g.F.Files (WriteFailed g.F.Files path c.keep.new.self.files c.put_over.new.files) _ c.put_over.result s.files c.keep.new.self.files c.put_over.new.files c.in-Ok.ensures.why
-    (λ h. inr (inr (write_then g.F.Files path s.files c.keep.new.self.files c.put_over.new.files c.in-Ok.ensures.why h))) (fails_write g.F.Files path c.put_over.result c.keep.new.self.files c.put_over.new.files c.put_over.ensures.calls)
+    (λ h. inr (write_then g.F.Files path s.files c.keep.new.self.files c.put_over.new.files c.in-Ok.ensures.why h)) (fails_write g.F.Files path c.put_over.result c.keep.new.self.files c.put_over.new.files c.put_over.ensures.calls)
 
 pub returns-then-is_of_journal-clause-stays : goal.returns-then-is_of_journal-clause-stays
 returns-then-is_of_journal-clause-stays g c = λ tells whole. stays_none _ _ _ _ _ _ (makes_none _ _)

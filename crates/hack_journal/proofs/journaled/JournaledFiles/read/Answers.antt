@@ -12,7 +12,7 @@ returns-then-is_of_journal-clause-looks g c = record {
     refl,
     λ tells whole. stays_none _ _ _ _ _ _ (makes_none _ _),
     g.F.Files.stays_none c.args.self.now.files,
-    record { first = 0; second = 1; both = 1; one = grows_none _; two = c.note_read.ensures; sum = c.count_failure.ensures; most = omega arith },
+    record { first = 0; second = 1; both = 1; one = grows_none _; two = c.note_read.ensures.told; sum = c.count_failure.ensures; most = omega arith },
   );
   counted = c.count_failure.ensures;
   refused_none = just_grown _ 1 _ _ c.count_failure.ensures;
