@@ -15,8 +15,8 @@ use Rattle.hack_words.specs.declared.cli.env.Env.{Env}
 use Rattle.hack_places.specs.CallPlaces.{PlacesAt}
 use Rattle.hack_recovery.specs.AskedEdits.{is_restore}
 use Rattle.hack_recovery.specs.CallCourses.{IsCopyTold, IsJournalClosed}
-use Rattle.hack_recovery.specs.CallCourses.IsCopyTold.{absent, lacking, there, unsure}
-use Rattle.hack_recovery.specs.CallCourses.IsJournalClosed.{copy_kept, copy_stays, gone, starved, stays, unseen}
+use Rattle.hack_recovery.specs.CallCourses.IsCopyTold.{absent, there, unsure}
+use Rattle.hack_recovery.specs.CallCourses.IsJournalClosed.{copy_kept, copy_stays, gone, stays, unseen}
 use Rattle.hack_recovery.specs.LaneCalls.{AsksToRestore, CallsInLanes, over_journal, plain, unperformed}
 use Rattle.hack_recovery.specs.Ready.{Both, GetReady}
 use Rattle.hack_recovery.specs.Ready.GetReady.{further, looked_at}
@@ -45,13 +45,11 @@ copy_quiet : {F : Type 0} (f : Filing F) (copy : Name) (old new : FilesView) (wa
 copy_quiet f copy old new was now err now_err (there warns counted has same) quiet = warned_quiet _ was now err now_err warns quiet
 copy_quiet f copy old new was now err now_err (unsure warns counted seen same) quiet = warned_quiet _ was now err now_err warns quiet
 copy_quiet f copy old new was now err now_err (absent same silent counted none kept) quiet = ap (λ (t : Term). t.error) (sym same) ∙ quiet
-copy_quiet f copy old new was now err now_err (lacking is counted same) quiet = starved_quiet was now err now_err is quiet
 
 pub closed_quiet : {F : Type 0} (f : Filing F) (places : PlacesAt) (unwritten : Bool) (old new : FilesView) (was now : Term) (err now_err : Stream) → IsJournalClosed f places unwritten old new was now err now_err → now.error ≡ false → was.error ≡ false
 closed_quiet f places unwritten old new was now err now_err (gone written same silent counted journal copy) quiet = ap (λ (t : Term). t.error) (sym same) ∙ quiet
 closed_quiet f places unwritten old new was now err now_err (stays warns counted journal same) quiet = warned_quiet _ was now err now_err warns quiet
 closed_quiet f places unwritten old new was now err now_err (unseen warns counted journal same) quiet = warned_quiet _ was now err now_err warns quiet
-closed_quiet f places unwritten old new was now err now_err (starved is counted same) quiet = starved_quiet was now err now_err is quiet
 closed_quiet f places unwritten old new was now err now_err (copy_stays written warns counted refused journal) quiet = warned_quiet _ was now err now_err warns quiet
 closed_quiet f places unwritten old new was now err now_err (copy_kept mid doubted counted journal same told) quiet = copy_quiet f places.copy mid new was now err now_err told quiet
 

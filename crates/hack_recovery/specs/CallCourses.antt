@@ -40,7 +40,7 @@ use Rattle.hack_recovery.specs.GuardEvents.{GuardsView, after_leave, after_start
 use Rattle.hack_recovery.specs.LockEvents.{LocksView, after_release}
 use Rattle.hack_recovery.specs.Restoring.{KeepsCopy, TakesBack, journal_spot}
 use Rattle.hack_recovery.specs.Scenes.{IsQuiet, IsToldWhy, OneMayFail, Refuses, Scene, Untouched, said_in, scene_with, world_in}
-use Rattle.hack_recovery.specs.Telling.{IsStarved, SaysUnrestored, SaysUnseen, SaysUnsure, SaysWatched, Warns}
+use Rattle.hack_recovery.specs.Telling.{SaysUnrestored, SaysUnseen, SaysUnsure, SaysWatched, Warns}
 use Rattle.hack_recovery.specs.Texts.{copy_keeps, copy_left, copy_may_keep, journal_may_stay, journal_stays, stay_text}
 
 -- ---- the beginning
@@ -158,24 +158,21 @@ pub record Journals {F L U J : Type 0} (f : Filing F) (l : Filing L) (u : Noting
   pub guards : new.guards ≡ old.guards
 
 -- what is told of a copy that is as it was: that it stays; that it may, where a look at it failed; nothing where none is
--- there; or memory was refused for that
+-- there
 pub data IsCopyTold {F : Type 0} (f : Filing F) (copy : Name) (old new : FilesView) (was now : Term) (err now_err : Stream) : Type 0 where
   there : Warns (stay_text copy copy_keeps None) was now err now_err → GrowsBy 0 old.failed new.failed → (f.tells → IsSome (old.held copy)) → Unchanged f.tells f.whole old new → IsCopyTold f copy old new was now err now_err
   unsure : Warns (stay_text copy copy_may_keep None) was now err now_err → GrowsBy 1 old.failed new.failed → IsUnseen f copy → Unchanged f.tells f.whole old new → IsCopyTold f copy old new was now err now_err
   absent : now ≡ was → now_err ≡ err → GrowsBy 0 old.failed new.failed → (f.tells → old.held copy ≡ None) → Unchanged f.tells f.whole old new → IsCopyTold f copy old new was now err now_err
-  lacking : IsStarved was now err now_err → OneMayFail old.failed new.failed → Unchanged f.tells f.whole old new → IsCopyTold f copy old new was now err now_err
 
 -- after it no file is at the journal's path, and the lockfile's copy is gone; or one of them stays, or
--- a look at the journal failed, which is reported as a warning, and so is memory that was refused for it,
--- which is an error besides; the copy is as it was, and told, where a journal stays or the lockfile may be
--- unwritten
+-- a look at the journal failed, which is reported as a warning; the copy is as it was, and told, where a journal stays
+-- or the lockfile may be unwritten
 pub data IsJournalClosed {F : Type 0} (f : Filing F) (places : PlacesAt) (unwritten : Bool) (old new : FilesView) (was now : Term) (err now_err : Stream) : Type 0 where
   gone : unwritten ≡ false → now ≡ was → now_err ≡ err → GrowsBy 0 old.failed new.failed → (f.tells → old.held places.journal ≡ None) → (f.tells → new.held places.copy ≡ None) → IsJournalClosed f places unwritten old new was now err now_err
   stays : Warns (stay_text places.journal journal_stays (then_some unwritten places.copy)) was now err now_err → GrowsBy 0 old.failed new.failed → (f.tells → IsSome (old.held places.journal)) → Unchanged f.tells f.whole old new
       → IsJournalClosed f places unwritten old new was now err now_err
   unseen : Warns (stay_text places.journal journal_may_stay (then_some unwritten places.copy)) was now err now_err → GrowsBy 1 old.failed new.failed → IsUnseen f places.journal → Unchanged f.tells f.whole old new
       → IsJournalClosed f places unwritten old new was now err now_err
-  starved : IsStarved was now err now_err → OneMayFail old.failed new.failed → Unchanged f.tells f.whole old new → IsJournalClosed f places unwritten old new was now err now_err
   copy_stays : unwritten ≡ false → Warns (stay_text places.copy copy_left None) was now err now_err → GrowsBy 1 old.failed new.failed → IsRefused f places.copy → (f.tells → old.held places.journal ≡ None)
       → IsJournalClosed f places unwritten old new was now err now_err
   copy_kept : (mid : FilesView) → unwritten ≡ true → GrowsBy 0 old.failed mid.failed → (f.tells → old.held places.journal ≡ None) → Unchanged f.tells f.whole old mid → IsCopyTold f places.copy mid new was now err now_err

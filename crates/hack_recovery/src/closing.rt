@@ -12,7 +12,7 @@ ghost use Rattle.hack_recovery.specs.Texts.{stay_text as text_of_stay};
 
 use hack_base::writes::Sink;
 use hack_files::fs::Files;
-use hack_places::look::{LookFault, is_there};
+use hack_places::look::is_there;
 use hack_places::places::Places;
 use hack_term::term::Term;
 use std::alloc::{AllocError, Global};
@@ -44,11 +44,10 @@ pub(crate) fn close<F: Files, E: Sink>(
             let how = "stays: the next call brings back what it tells";
             return tell_stay(alloc, journal, how, kept, term, err);
         }
-        Err(LookFault::Device(_)) => {
+        Err(_) => {
             let how = "may stay: then the next call brings back what it tells";
             return tell_stay(alloc, journal, how, kept, term, err);
         }
-        Err(LookFault::Memory) => return tell_memory(term, err),
     }
     if unwritten {
         return tell_copy(alloc, copy, files, term, err);
@@ -86,11 +85,10 @@ fn tell_copy<F: Files, E: Sink>(
             let how = "stays: it has what the lockfile held, and the next call removes it";
             tell_stay(alloc, copy, how, None, term, err)
         }
-        Err(LookFault::Device(_)) => {
+        Err(_) => {
             let how = "may stay: then it has what the lockfile held, and the next call removes it";
             tell_stay(alloc, copy, how, None, term, err)
         }
-        Err(LookFault::Memory) => tell_memory(term, err),
     }
 }
 

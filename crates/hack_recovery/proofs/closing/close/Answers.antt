@@ -28,12 +28,9 @@ returns-in-Ok-true-clause-told g c =
     (rw (c.as_str-journal.ensures.value, kept_known (λ copy. copy.now) _ c.args.unwritten _ _ c.then_some-kept.ensures c.as_str-copy.ensures.value) at c.tell_stay.ensures)
     c.in-Ok-true.ensures.counted (λ t. some_there _ c.in-Ok-true.field-0 c.in-Ok-true.field-0-test (found t)) (record { same = c.is_there.ensures.same; untraced = c.is_there.ensures.untraced })
 
-pub returns-in-Err-Device-clause-told : goal.returns-in-Err-Device-clause-told
-returns-in-Err-Device-clause-told g c =
-    let seen = rw c.in-Err-Device.field-0-is at c.in-Err-Device.ensures.seen in
-    let named = rw c.in-Err-Device.field-0-is at c.in-Err-Device.ensures.named in
-    unseen
-    (rw (c.as_str-journal.ensures.value, kept_known (λ copy. copy.now) _ c.args.unwritten _ _ c.then_some-kept.ensures c.as_str-copy.ensures.value) at c.tell_stay-in-Err-Device.ensures)
-    (rw c.in-Err-Device.field-0-is at c.in-Err-Device.ensures.counted)
-    (rw (sym (named ∙ c.as_str-journal.ensures.value)) (record { before = c.args.files.now; after = c.is_there.new.files; unseen = seen.unseen }))
+pub returns-in-Err-clause-told : goal.returns-in-Err-clause-told
+returns-in-Err-clause-told g c = unseen
+    (rw (c.as_str-journal.ensures.value, kept_known (λ copy. copy.now) _ c.args.unwritten _ _ c.then_some-kept.ensures c.as_str-copy.ensures.value) at c.tell_stay-in-Err.ensures)
+    c.in-Err.ensures.failed.1
+    (rw (sym c.as_str-journal.ensures.value) (record { before = c.args.files.now; after = c.is_there.new.files; unseen = c.in-Err.ensures.failed.0.unseen }))
     (record { same = c.is_there.ensures.same; untraced = c.is_there.ensures.untraced })
