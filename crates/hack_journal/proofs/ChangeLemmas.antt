@@ -5,7 +5,7 @@ use Rattle.std.proofs.lemmas.Slice.Eq.{bytes_eq-Decides}
 use Rattle.std.proofs.lemmas.Bool.{cases_Bool}
 use Rattle.hack_files.specs.Files.{Change, Contents, after_change, KeepsOthers, Makes}
 
-changed_here : (c : Change) (m : Contents) → after_change c m c.path ≡ c.bytes
+pub changed_here : (c : Change) (m : Contents) → after_change c m c.path ≡ c.bytes
 changed_here c m = ap (λ b. cond b c.bytes (m c.path)) ((bytes_eq-Decides c.path c.path).1 refl)
 
 pub bytes_differ : (p q : List ℕ) → p ≢ q → bytes_eq p q ≡ false

@@ -7,6 +7,7 @@ mod FinishLemmas
 pub mod RecoverLemmas
 mod CountLemmas
 mod CutLemmas
+mod SafeCutLemmas
 mod KnownLemmas
 pub mod OnceLemmas
 pub mod RefusingLemmas

@@ -74,7 +74,7 @@ first_one s m (suc c) es fs h k =
     let last = text_one s.folder _ h.1 k.1 h.3 k.3 in
     h.4 ∙ ap (λ l. l ++ h.1) before ∙ ap (λ l. k.0 ++ l) last ∙ sym k.4
 
-row_one : (s : Spot) (m : Contents) (es fs : List Edit) → IsRowOf s m es → IsRowOf s m fs → es ≡ fs
+pub row_one : (s : Spot) (m : Contents) (es fs : List Edit) → IsRowOf s m es → IsRowOf s m fs → es ≡ fs
 row_one s m es fs h k =
     let count = same_count s m h.count k.count es fs h.files h.ends k.files k.ends in
     first_one s m h.count es fs h.files (subst (λ (c : ℕ). AreFirst s m c fs) count k.files)

@@ -122,6 +122,10 @@ row_only s m c es fs h r =
     let is = same_count s m c r.count es fs h.files.files h.ends r.files r.ends in
     (is, h.files.only fs (subst (λ (n : ℕ). AreFirst s m n fs) is r.files))
 
+-- a row is the same where its files hold the same
+abbrev pub row_along : (s : Spot) (m n : Contents) (es : List Edit) → ((k : ℕ) → n (file_at s.journal k) ≡ m (file_at s.journal k)) → IsRowOf s m es → IsRowOf s n es
+row_along s m n es same r = record { count = r.count; files = first_along s m n r.count es (λ k lt. same k) r.files; ends = same r.count ∙ r.ends }
+
 -- ---- what was not there at first
 
 -- whether a path is one of the first files'

@@ -52,6 +52,10 @@ pub trait Unkept {
     fn note_read(&mut self, refusal: Refusal<'_>)
         ensures told { GrowsBy 1 (told self.old) (told self.new) }
         ensures read { reads self.old self.new };
+
+    /// How many it was told of.
+    fn count(&self) -> u64
+        ensures { result ≡ told self.now };
 }
 
 /// A number counts them.
@@ -68,5 +72,9 @@ impl Unkept for u64 {
 
     fn note_read(&mut self, _refusal: Refusal<'_>) {
         count_failure(self);
+    }
+
+    fn count(&self) -> u64 {
+        *self
     }
 }

@@ -40,7 +40,7 @@ use Rattle.hack_recovery.specs.GuardEvents.{GuardsView, after_leave, after_start
 use Rattle.hack_recovery.specs.LockEvents.{LocksView, after_release}
 use Rattle.hack_recovery.specs.Restoring.{KeepsCopy, TakesBack, journal_spot}
 use Rattle.hack_recovery.specs.Scenes.{IsQuiet, IsToldWhy, OneMayFail, Refuses, Scene, Untouched, said_in, scene_with, world_in}
-use Rattle.hack_recovery.specs.Telling.{SaysUnrestored, SaysUnseen, SaysUnsure, SaysWatched, Warns}
+use Rattle.hack_recovery.specs.Telling.{SaysUnkept, SaysUnrestored, SaysUnseen, SaysUnsure, SaysWatched, Warns}
 use Rattle.hack_recovery.specs.Texts.{copy_keeps, copy_left, copy_may_keep, journal_may_stay, journal_stays, stay_text}
 
 -- ---- the beginning
@@ -188,13 +188,15 @@ pub record Closes {F : Type 0} (f : Filing F) (places : PlacesAt) (unwritten : B
 
 -- ---- the ways
 
--- the call was performed with a journal, and what stays of it was reported; the lockfile's copy stays where a call of the
--- lockfiles failed, since the lockfile may be unwritten
+-- the call was performed with a journal, whether that refused an edit was said, and what stays of it was reported; the
+-- lockfile's copy stays where a call of the lockfiles failed, since the lockfile may be unwritten
 pub record RunsOverJournal {F L U J : Type 0} (f : Filing F) (l : Filing L) (u : Noting U) (j : Filing J) (talks : Type 0) (words : List Name) (env : Env) (places : PlacesAt) (old new : Scene) : Type 0 where
   pub failed : ℕ
   pub last : Scene
+  pub err : Stream
   pub journals : Journals f l u j talks words env (journal_spot places) failed old last
-  pub closes : Closes f places (not (nat_eq old.lockfiles.failed last.lockfiles.failed)) last new
+  pub unkept : SaysUnkept (not (nat_eq old.unkept last.unkept)) last.host.term.coloring places.journal last.streams.err err
+  pub closes : Closes f places (not (nat_eq old.lockfiles.failed last.lockfiles.failed)) (scene_with last.files last.host.term err last) new
 
 -- how a call with a journal goes once its guard was asked for: the lockfile is copied, and then it is
 -- performed; or the lockfile can't be copied for this reason, and nothing else is changed or called

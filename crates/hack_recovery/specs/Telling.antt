@@ -13,7 +13,7 @@ use Rattle.hack_journal.specs.declared.recover.RecoverFault.{RecoverFault}
 use Rattle.hack_journal.specs.declared.recover.RecoverFault.TheVariants as unrecovered
 use Rattle.hack_places.specs.CallPlaces.{PlacesAt}
 use Rattle.hack_recovery.specs.FailedFiles.{OneFailedAt}
-use Rattle.hack_recovery.specs.Texts.{left_text, restored_text, row_text, short_unsure_text, stranger_text, unknown_text, unrestored_text, unseen_text, unsettled_text, unsure_text, unwatched_text}
+use Rattle.hack_recovery.specs.Texts.{left_text, restored_text, row_text, short_unsure_text, stranger_text, short_unkept_text, unkept_text, unknown_text, unrestored_text, unseen_text, unsettled_text, unsure_text, unwatched_text}
 use Rattle.hack_recovery.specs.declared.fault.CallFault.{CallFault}
 use Rattle.hack_recovery.specs.declared.fault.CallFault.TheVariants.{Memory, Busy, Unlocked, NoCopy}
 use Rattle.hack_term.specs.Lines.{error_line, info_line, warning_line}
@@ -162,3 +162,9 @@ IsStarved was now old new = (now ≡ record was { warn = true; error = true })
 abbrev pub Warns : Name → Term → Term → Stream → Stream → Type 0
 Warns text was now old new =
     ((now ≡ record was { warn = true }) × WritesText (warning_line was.coloring text) old new) ⊎ IsStarved was now old new
+
+-- where an edit was refused for the journal, just that is said; the journal is named unless memory was refused for it
+abbrev pub SaysUnkept : Bool → Coloring → Name → Stream → Stream → Type 0
+SaysUnkept false coloring journal old new = new ≡ old
+SaysUnkept true coloring journal old new =
+    WritesText (info_line coloring (unkept_text journal)) old new ⊎ WritesText (info_line coloring short_unkept_text) old new

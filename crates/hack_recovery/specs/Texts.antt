@@ -81,3 +81,11 @@ copy_may_keep = codes "may stay: then it has what the lockfile held, and the nex
 -- where memory is refused for that
 abbrev pub unknown_text : Name
 unknown_text = codes "what a journal keeps may stay: the next call looks after it"
+
+-- an edit was refused for the journal
+abbrev pub unkept_text : Name → Name
+unkept_text journal = codes "an edit was refused, since what it replaces can't be kept in `" ++ (journal ++ codes "`")
+
+-- the same without the journal
+abbrev pub short_unkept_text : Name
+short_unkept_text = codes "an edit was refused, since what it replaces can't be kept"

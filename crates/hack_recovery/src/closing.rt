@@ -7,8 +7,8 @@ ghost use Rattle.hack_files.specs.Files.{KeepsAll, KeepsOthers, Makes, MakesOrNo
 ghost use Rattle.hack_files.specs.View.{files_view};
 ghost use Rattle.hack_places.specs.PlacesView.{places_view};
 ghost use Rattle.hack_recovery.specs.CallCourses.{IsCopyTold, IsJournalClosed};
-ghost use Rattle.hack_recovery.specs.Telling.{IsStarved, Warns};
-ghost use Rattle.hack_recovery.specs.Texts.{stay_text as text_of_stay};
+ghost use Rattle.hack_recovery.specs.Telling.{IsStarved, SaysUnkept, Warns};
+ghost use Rattle.hack_recovery.specs.Texts.{stay_text as text_of_stay, unkept_text};
 
 use hack_base::writes::Sink;
 use hack_files::fs::Files;
@@ -62,6 +62,38 @@ pub(crate) fn close<F: Files, E: Sink>(
             err,
         );
     }
+}
+
+/// Says that an edit was refused for the journal, where one was: it can't keep what the edit replaces.
+pub(crate) fn tell_unkept<E: Sink>(
+    alloc: Global,
+    journal: &str,
+    missed: bool,
+    term: &Term,
+    err: &mut E,
+)
+    ensures { SaysUnkept missed term.now.coloring journal.now
+        (stream_of E.Sink err.old) (stream_of E.Sink err.new) }
+{
+    if !missed {
+        return;
+    }
+    match unkept_text(alloc, journal) {
+        Ok(text) => {
+            let _ = term.info(&text, err);
+        }
+        Err(_) => {
+            let short = "an edit was refused, since what it replaces can't be kept";
+            let _ = term.info(short, err);
+        }
+    }
+}
+
+/// That an edit was refused for this journal.
+fn unkept_text(alloc: Global, journal: &str) -> Result<String, AllocError>
+    ensures { IfOk result (λ text. string_bytes text ≡ unkept_text journal.now) }
+{
+    format!(in alloc; "an edit was refused, since what it replaces can't be kept in `{journal}`")
 }
 
 /// Warns of a copy of the lockfile, if there is one.

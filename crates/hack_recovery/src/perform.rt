@@ -27,7 +27,7 @@ ghost use Rattle.hack_run.specs.Worlds.{IsSameHost, IsStatus, host_view};
 use crate::admit::{Way, admit};
 use crate::asked::Edits;
 use crate::begin::{Begun, Halt, begin};
-use crate::closing::close;
+use crate::closing::{close, tell_unkept};
 use crate::fault::CallFault;
 use crate::guards::Guards;
 use crate::keepers::Keepers;
@@ -462,10 +462,14 @@ fn over_journal<F: Overwrites, L: Files, U: Unkept, C: Starts, O: Sink, E: Sink>
         ..
     } = begun;
     let before = lockfiles.failures();
+    let noted = unkept.count();
     let (_, files, lockfiles, _, unkept) = run_journaled(
         words, reading, files, lockfiles, place, unkept, host,
     );
     let mut files = files;
+    let missed = noted != unkept.count();
+    let journal = places.place.journal.as_str();
+    tell_unkept(host.alloc, journal, missed, host.term, host.err);
     let unwritten = before != lockfiles.failures();
     close(
         host.alloc, &places, unwritten, &mut files, host.term, host.err,
