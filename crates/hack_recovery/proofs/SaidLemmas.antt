@@ -1,6 +1,5 @@
 -- What is said, line by line.
 use Rattle.std.proofs.Common.{◌≡◌, ◌∙◌, ◌++◌, ◌∷◌, [], ℕ, List, Result, OnOk, ap, map, refl, subst, sym}
-use Rattle.std.specs.Prelude.{IfSome, Option, Some, None}
 use Rattle.std.specs.Io.KnownBytes.{Appends}
 use Rattle.std.proofs.lemmas.List.{map-append}
 use Rattle.hack_base.proofs.StreamLemmas.{wrote, wrote_more}
@@ -17,11 +16,6 @@ use Rattle.hack_recovery.specs.Texts.{restored_text}
 pub wrote_as : {S T E : Type 0} (s : Taking S) (a b : S) (line : List ℕ → List ℕ) (text known : List ℕ) (r : Result T E) → text ≡ known → OnOk r (Appends (s.contents a) (s.contents b) (line text)) → AppendsFront (s.contents a) (s.contents b) (line text)
     → CountsErrors (s.failed a) (s.failed b) r → WritesText (line known) (stream_of s a) (stream_of s b)
 wrote_as s a b line text known r is all front counted = subst (λ (t : List ℕ). WritesText (line t) (stream_of s a) (stream_of s b)) is (wrote s a b (line text) r all front counted)
-
--- what is known of a text is known of its bytes
-pub still_known : (o : Option (List ℕ)) (text bytes : List ℕ) → text ≡ bytes → IfSome o (λ known. bytes ≡ known) → IfSome o (λ known. text ≡ known)
-still_known (Some known) text bytes same is = same ∙ is
-still_known None text bytes same is = tt
 
 -- the line of one more file that was restored
 pub said_more : (coloring : Coloring) (dir : Name) (before more : List Name) (path : Name) (old mid new : Stream) → more ≡ before ++ path ∷ [] → WritesAll (restored_lines coloring dir before) old mid
