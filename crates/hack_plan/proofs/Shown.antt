@@ -111,6 +111,12 @@ tail-more dir target other targets path run =
     let last : length (target ∷ other ∷ targets) - 1 ≡ suc (length (other ∷ targets) - 1) = omega arith in
     rw last refl
 
+-- a target after its option, and then what is shown of the rest
+joined-target : (target more tail : List ℕ) → codes " --target" ++ (spaced_word target ++ (more ++ tail)) ≡ (shown_target target ++ more) ++ tail
+joined-target target more tail =
+    let grouped : (target ++ more) ++ tail ≡ target ++ (more ++ tail) = append_assoc target more tail in
+    ap (λ l. codes " --target " ++ l) (sym grouped)
+
 -- what is shown of a target, without its option, and of what follows
 abbrev ShowsTarget : List ℕ → List ℕ → List (List ℕ) → Option (List ℕ) → PackageRun → Type 0
 ShowsTarget dir target targets path run =
