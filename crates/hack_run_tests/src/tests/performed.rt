@@ -171,6 +171,13 @@ fn files_that_fail(rt: HostRuntime) -> Result<(), Wrong> {
             | no copy
             | status 1
 
+            > performed: hack check --no-dev-deps; broken look 23
+            | info: --no-dev-deps modifies real `Cargo.toml` while cargo-hack is running and restores it when finished
+            | error: failed to write to file `/w/Cargo.toml`
+            | info: an edit was refused, since what it replaces can't be kept in `/w/.cargo-hack-journal`
+            | no copy
+            | status 1
+
             > performed: hack check --no-dev-deps; broken look 25; broken call 5
             | info: --no-dev-deps modifies real `Cargo.toml` while cargo-hack is running and restores it when finished
             | info: running `cargo check` on p (1/1)
