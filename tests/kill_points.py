@@ -428,7 +428,7 @@ def lockfile_of_cargo(place):
 
 
 def full_disk(place):
-    """A manifest that can't be written, as on a full disk: that is told once, by the error of the call, and before it why."""
+    """A full disk: the journal can't be written, and so no manifest. That is told by the error of the call, and before it why."""
     place.lay_out()
     path = f"{place.workspace}/p/Cargo.toml"
     rewrite(path, read(path) + "# more than the limit of the size of a file\n" * 100)
@@ -444,6 +444,7 @@ def full_disk(place):
     error = f"error: failed to write to file `{path}`"
     must(status == 1 and told.count(error) == told.count("error: ") == 1, f"status {status}: {told}")
     must(f"info: File too large (os error 27)\n{error}" in told, f"before the error it doesn't say why: {told}")
+    must("\ninfo: an edit was refused, since what it replaces can't be kept in `" in told, f"it doesn't name the journal: {told}")
     place.as_before()
 
 
