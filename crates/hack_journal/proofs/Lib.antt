@@ -5,6 +5,7 @@ mod NoteLemmas
 pub mod SafeLemmas
 mod FinishLemmas
 pub mod RecoverLemmas
+mod RemovalLemmas
 mod CountLemmas
 mod CutLemmas
 mod SafeCutLemmas

@@ -12,14 +12,10 @@ use Rattle.hack_journal.specs.Rows.{Spot, IsRowOf, file_at, is_of_journal}
 use Rattle.hack_journal.specs.SafeFiles.{IsSafe, KeepFirst, SomeEntryHasBytes}
 use Rattle.hack_journal.proofs.ChangeLemmas.{changed_here, changed_other}
 use Rattle.hack_journal.proofs.OnceLemmas.{row_one}
+use Rattle.hack_journal.proofs.RecoverLemmas.{own_told}
 use Rattle.hack_journal.proofs.RowLemmas.{fresh_apart, own_file, row_along}
 
--- a call left what an entry has
-left_told : (es : List Edit) (q : List ℕ) (x : Option (List ℕ)) → SomeEntryHasBytes es q x → IsOwn es q x
-unfolding IsOwn
-left_told es q x h = inl h
-
--- and what a cut write left
+-- a call left what a cut write left
 left_cut : (es : List Edit) (q new was now : List ℕ) (x : Option (List ℕ)) → SomeEntryHasBytes es q (Some new) → SomeEntryHasBytes es q (Some was) → x ≡ Some now → IsCut new was now → IsOwn es q x
 unfolding IsOwn
 left_cut es q new was now x h k is cut = inr (new, was, now, h, k, is, cut)
@@ -86,7 +82,7 @@ cut_between s first old path new was now before next out held cut = record {
 
     widened : (q : List ℕ) → (old q ≡ first q) ⊎ SomeEntryHasBytes next.entries q (old q) → (old q ≡ first q) ⊎ IsOwn next.entries q (old q)
     widened q (inl same) = inl same
-    widened q (inr h) = inr (left_told next.entries q (old q) h)
+    widened q (inr h) = inr (own_told next.entries q (old q) h)
 
     same_or : (q : List ℕ) → (path ≡ q) ⊎ (q ≢ path)
     same_or q = elim (cases_Bool (bytes_eq path q)) [

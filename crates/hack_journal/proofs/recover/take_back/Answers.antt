@@ -4,7 +4,8 @@ use Rattle.hack_journal.specs.Journal.{edits_of}
 use Rattle.hack_journal.specs.Recovery.{AreChanged}
 use Rattle.hack_journal.specs.Rows.{spot_of}
 use Rattle.hack_files.proofs.FailedLemmas.{none_then}
-use Rattle.hack_journal.proofs.RecoverLemmas.{back_but_of, changed_along, puts_safe, puts_then_safe}
+use Rattle.hack_journal.proofs.RecoverLemmas.{changed_along, puts_safe, puts_then_safe}
+use Rattle.hack_journal.proofs.RemovalLemmas.{back_but_of}
 use Rattle.hack_journal.proofs.RowLemmas.{apart_from}
 use Rattle.hack_journal.proofs.recover.take_back.Goals as goal
 
