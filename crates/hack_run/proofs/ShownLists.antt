@@ -56,14 +56,14 @@ list_comes true short flushed missed kept came now handed last old new is noted 
 list_comes false true flushed missed kept came now handed last old new is noted counted listed ends = inl ends
 list_comes false false flushed missed kept came now handed last old new is noted counted listed ends = inr (cause missed listed counted, subst (λ (o : Option ProcessFault). ComesOfKept came now handed last old new o) is (go kept ends))
   where
+    whole : (n : ℕ) → ((◌≡◌ {A = Result Bool PlanFault} (Ok false) (Ok false)) × (n ≡ 0) → All IsListedStep handed) → ¬ IsUnwritten false flushed n → All IsListed handed
+    whole zero listed none = λ k d lt. listed_one (get_or handed k d) (listed (refl, refl) k d lt)
+    whole (suc n) listed none = absurd (none (refl, inl (omega arith)))
+
     go : (kept : Option ProcessFault) → EndsList false (IsUnwritten false flushed missed) (Ok false) kept came → ComesOfKept came now handed last old new kept
     go None (inl line) = inl (line.0, counted line.1)
     go None (inr fine) = inr (fine.0, whole missed listed fine.1, noted)
     go (Some failed) is = is
-
-    whole : (n : ℕ) → ((◌≡◌ {A = Result Bool PlanFault} (Ok false) (Ok false)) × (n ≡ 0) → All IsListedStep handed) → ¬ IsUnwritten false flushed n → All IsListed handed
-    whole zero listed none = λ k d lt. listed_one (get_or handed k d) (listed (refl, refl) k d lt)
-    whole (suc n) listed none = absurd (none (refl, inl (omega arith)))
 
     cause : (n : ℕ) → ((◌≡◌ {A = Result Bool PlanFault} (Ok false) (Ok false)) × (n ≡ 0) → All IsListedStep handed) → (IsUnwritten false flushed n → HasFailed old.failed new.failed) → All IsListed handed ⊎ HasFailed old.failed new.failed
     cause zero listed counted = inl (λ k d lt. listed_one (get_or handed k d) (listed (refl, refl) k d lt))
