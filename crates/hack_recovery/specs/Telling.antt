@@ -163,8 +163,12 @@ abbrev pub Warns : Name → Term → Term → Stream → Stream → Type 0
 Warns text was now old new =
     ((now ≡ record was { warn = true }) × WritesText (warning_line was.coloring text) old new) ⊎ IsStarved was now old new
 
--- where an edit was refused for the journal, just that is said; the journal is named unless memory was refused for it
+-- an edit was refused for the journal, which is named unless memory was refused for that
+abbrev pub SaysRefused : Coloring → Name → Stream → Stream → Type 0
+SaysRefused coloring journal old new =
+    WritesText (info_line coloring (unkept_text journal)) old new ⊎ WritesText (info_line coloring short_unkept_text) old new
+
+-- just where it was, that is said
 abbrev pub SaysUnkept : Bool → Coloring → Name → Stream → Stream → Type 0
 SaysUnkept false coloring journal old new = new ≡ old
-SaysUnkept true coloring journal old new =
-    WritesText (info_line coloring (unkept_text journal)) old new ⊎ WritesText (info_line coloring short_unkept_text) old new
+SaysUnkept true coloring journal old new = SaysRefused coloring journal old new

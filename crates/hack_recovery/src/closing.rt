@@ -7,7 +7,7 @@ ghost use Rattle.hack_files.specs.Files.{KeepsAll, KeepsOthers, Makes, MakesOrNo
 ghost use Rattle.hack_files.specs.View.{files_view};
 ghost use Rattle.hack_places.specs.PlacesView.{places_view};
 ghost use Rattle.hack_recovery.specs.CallCourses.{IsCopyTold, IsJournalClosed};
-ghost use Rattle.hack_recovery.specs.Telling.{IsStarved, SaysUnkept, Warns};
+ghost use Rattle.hack_recovery.specs.Telling.{IsStarved, SaysRefused, SaysUnkept, Warns};
 ghost use Rattle.hack_recovery.specs.Texts.{stay_text as text_of_stay, unkept_text};
 
 use hack_base::writes::Sink;
@@ -78,6 +78,14 @@ pub(crate) fn tell_unkept<E: Sink>(
     if !missed {
         return;
     }
+    tell_refused(alloc, journal, term, err);
+}
+
+/// Says that this journal couldn't keep what an edit replaces. It isn't named where memory is refused.
+fn tell_refused<E: Sink>(alloc: Global, journal: &str, term: &Term, err: &mut E)
+    ensures { SaysRefused term.now.coloring journal.now
+        (stream_of E.Sink err.old) (stream_of E.Sink err.new) }
+{
     match unkept_text(alloc, journal) {
         Ok(text) => {
             let _ = term.info(&text, err);

@@ -1,8 +1,0 @@
-use Rattle.std.proofs.Common.{◌∙◌, inl}
-use Rattle.hack_term.specs.Lines.{info_line}
-use Rattle.hack_recovery.proofs.SaidLemmas.{wrote_as}
-use Rattle.hack_recovery.proofs.closing.tell_unkept.Goals as goal
-
-pub returns-in-Ok : goal.returns-in-Ok
-returns-in-Ok g c =
-    inl (wrote_as g.E.Sink _ _ (info_line c.args.term.now.coloring) _ _ c.info.result (c.deref.ensures ∙ c.in-Ok.ensures) c.info.ensures.line c.info.ensures.front c.info.ensures.counted)
