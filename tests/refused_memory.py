@@ -7,8 +7,9 @@ A small allocator, built by the machine's C compiler and loaded before the progr
 all after it, for n from 1 (with K: 1, K + 1, ..) until a run meets no refusal. Each run has to end with the status and the
 bytes of a run with ample memory, or with status 1 and the last line `error: out of memory` (or, where such a run fails,
 its last line) but for a warning of the lockfile's copy and a line on a refused edit, never by a signal; and every file of
-the workspace has to hold its bytes at the end. So a sample, in whose search memory was refused, is the very same or none. `memory_calls` makes the calls
-that take memory step by step, and says in which one it was refused: each of them has to be among these.
+the workspace has to hold its bytes at the end. So a sample, in whose search memory was refused, is the very same or none.
+`memory_calls` makes the calls that take memory step by step, and says in which one it was refused: each of them has to be
+among these.
 
 Prints a line for each call. The last line is `N passed, M failed, K skipped`; the status is 1 where one failed.
 """
