@@ -142,7 +142,7 @@ look_then_puts s o t u v m n w look g =
 
 -- ---- files where a write may have been cut
 
-has_of : (es : List Edit) (q : List ℕ) (x : Option (List ℕ)) → SomeEntryHasBytes es q x → HasEntry es q
+pub has_of : (es : List Edit) (q : List ℕ) (x : Option (List ℕ)) → SomeEntryHasBytes es q x → HasEntry es q
 has_of [] q x h = absurd h
 has_of (e ∷ es) q x h = elim h [ inl fit ↦ inl fit.0 | inr told ↦ inr (has_of es q x told) ]
 
@@ -278,7 +278,7 @@ call_of j o all keeps [] k = tt
 call_of j o all keeps (e ∷ es) k =
     ((k.1, k.2, agrees_of o all e.path (first_entry_of all e.path) e.held (first_keeps j o all [] e.path (subst (λ (l : List Edit). KeepFirst j o l) (sym (append-nil all)) keeps)) k.0), call_of j o all keeps es k.3)
 
-tells_first : (j : List ℕ) (o : Contents) (es : List Edit) (q : List ℕ) → KeepFirst j o es → HasEntry es q → (is_of_journal j q ≡ false) × SomeEntryHasBytes es q (o q)
+pub tells_first : (j : List ℕ) (o : Contents) (es : List Edit) (q : List ℕ) → KeepFirst j o es → HasEntry es q → (is_of_journal j q ≡ false) × SomeEntryHasBytes es q (o q)
 tells_first j o [] q k has = absurd has
 tells_first j o (e ∷ es) q k has = elim has [
   | inl is ↦ (ap (is_of_journal j) (sym is) ∙ k.1, inl (is, inl (ap o (sym is) ∙ k.0)))

@@ -1,5 +1,5 @@
 -- A write that is cut, between two states of safe files.
-use Rattle.std.proofs.Common.{◌≡◌, ◌≢◌, ◌∙◌, ◌⊎◌, ◌++◌, inl, inr, ℕ, Bool, true, false, IsTrue, List, [], ◌∷◌, Option, Some, drop, take, ap, refl, subst, sym}
+use Rattle.std.proofs.Common.{◌≡◌, ◌≢◌, ◌∙◌, ◌⊎◌, ◌++◌, inl, inr, ℕ, Bool, true, false, IsTrue, List, Option, Some, drop, take, ap, refl, subst, sym}
 use Rattle.std.proofs.lemmas.Bool.{cases_Bool, false≢true}
 use Rattle.std.proofs.lemmas.List.{take-append-drop}
 use Rattle.std.proofs.lemmas.Slice.Eq.{bytes_eq-Decides}
@@ -12,19 +12,13 @@ use Rattle.hack_journal.specs.Rows.{Spot, IsRowOf, file_at, is_of_journal}
 use Rattle.hack_journal.specs.SafeFiles.{IsSafe, KeepFirst, SomeEntryHasBytes}
 use Rattle.hack_journal.proofs.ChangeLemmas.{changed_here, changed_other}
 use Rattle.hack_journal.proofs.OnceLemmas.{row_one}
-use Rattle.hack_journal.proofs.RecoverLemmas.{own_told}
+use Rattle.hack_journal.proofs.RecoverLemmas.{has_of, own_told, tells_first}
 use Rattle.hack_journal.proofs.RowLemmas.{fresh_apart, own_file, row_along}
 
--- a call left what a cut write left
+-- a cut write over bytes that an entry has, by others that one has, is a call's own
 left_cut : (es : List Edit) (q new was now : List ℕ) (x : Option (List ℕ)) → SomeEntryHasBytes es q (Some new) → SomeEntryHasBytes es q (Some was) → x ≡ Some now → IsCut new was now → IsOwn es q x
 unfolding IsOwn
 left_cut es q new was now x h k is cut = inr (new, was, now, h, k, is, cut)
-
--- a path of which something is kept has an entry with what it held at first
-first_kept : (j : List ℕ) (first : Contents) (es : List Edit) (q : List ℕ) (x : Option (List ℕ)) → KeepFirst j first es → SomeEntryHasBytes es q x → SomeEntryHasBytes es q (first q)
-first_kept j first [] q x keep h = absurd h
-first_kept j first (e ∷ es) q x keep (inl fit) = inl (fit.0, inl (ap first (sym fit.0) ∙ keep.0))
-first_kept j first (e ∷ es) q x keep (inr more) = inr (first_kept j first es q x keep.3 more)
 
 -- a write of what is there already leaves that, wherever it is cut
 cut_same : (new was now : List ℕ) → new ≡ was → IsCut new was now → now ≡ was
@@ -36,8 +30,8 @@ cut_here : (j : List ℕ) (first : Contents) (es : List Edit) (p new was now : L
 cut_here j first es p new was now x keep is cut (inl old) (inl made) =
     let same : new ≡ was = let both : Some new ≡ Some was = made ∙ sym old in cc in
     inl (is ∙ ap Some (cut_same new was now same cut) ∙ old)
-cut_here j first es p new was now x keep is cut (inl old) (inr made) = inr (left_cut es p new was now x made (subst (SomeEntryHasBytes es p) (sym old) (first_kept j first es p (Some new) keep made)) is cut)
-cut_here j first es p new was now x keep is cut (inr old) (inl made) = inr (left_cut es p new was now x (subst (SomeEntryHasBytes es p) (sym made) (first_kept j first es p (Some was) keep old)) old is cut)
+cut_here j first es p new was now x keep is cut (inl old) (inr made) = inr (left_cut es p new was now x made (subst (SomeEntryHasBytes es p) (sym old) (tells_first j first es p keep (has_of es p (Some new) made)).1) is cut)
+cut_here j first es p new was now x keep is cut (inr old) (inl made) = inr (left_cut es p new was now x (subst (SomeEntryHasBytes es p) (sym made) (tells_first j first es p keep (has_of es p (Some was) old)).1) old is cut)
 cut_here j first es p new was now x keep is cut (inr old) (inr made) = inr (left_cut es p new was now x made old is cut)
 
 -- files that are safe before a write and after it are so where it is cut
