@@ -310,7 +310,7 @@ def changed_in_the_run(place):
 
 
 def torn(place):
-    """A file of the journal that was cut short by hand, and one of which nothing is left."""
+    """A file of the journal that was cut short by hand, and one of which nothing is left. A text is printed all the same."""
     place.lay_out()
     place.interrupt()
     for path in (place.journal, f"{place.journal}~1"):
@@ -318,6 +318,9 @@ def torn(place):
         for front in (text[: len(text) // 2], ""):
             rewrite(path, front)
             place.refuses(PLAIN, os.path.basename(place.journal))
+            for asked in ("--help", "--version"):
+                status, told = place.call(["hack", asked])
+                must(status == 0 and not told, f"{asked} ends with {status} beside a torn journal: {told}")
         rewrite(path, text)
     place.restores(PLAIN, ["p/Cargo.toml", "q/Cargo.toml"])
     place.as_before()

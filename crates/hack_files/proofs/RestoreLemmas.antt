@@ -4,10 +4,10 @@ use Rattle.std.specs.Prelude.{Contains, slice_index_or}
 use Rattle.std.proofs.lemmas.List.{get_or-map, take_more, length-map}
 use Rattle.std.proofs.lemmas.List.Elements.{Contains-append_left, Contains-append_right}
 use Rattle.hack_files.specs.declared.saved.Saved.{Saved}
-use Rattle.hack_files.specs.Files.{Change, Contents, KeepsOthers, Makes, MakesOrNot}
+use Rattle.hack_files.specs.Files.{Change, Contents, KeepsOthers, Makes, MakesOrNot, Trace}
 use Rattle.hack_base.specs.Counters.{GrowsBy}
 use Rattle.hack_files.specs.Restore.{Kept, kept_file, paths, Brings, ComesBackBut, AreDistinct, Tried, none, written, failed, made_and_failed, write_of}
-use Rattle.hack_files.proofs.FilesLemmas.{makes_more}
+use Rattle.hack_files.specs.TraceLaws.{makes_more, makes_none, makes_still}
 
 -- a count that goes up by a, and then by b, goes up by a + b
 pub grows_more : (a b x y z : ℕ) → GrowsBy a x y → GrowsBy b y z → GrowsBy (a + b) x z
@@ -127,28 +127,27 @@ pub brings_of : (R : List (List ℕ) → Type 0) (tells : Type 0) (files : List 
 brings_of R tells files old new k b t distinct = (b.spoilt, omega (arith, b.number), b.back t distinct)
 
 -- the writes of the first i files were tried, and k failed
-abbrev pub TriedTo : List Kept → ℕ → ℕ → List Change → List Change → Contents → Contents → Type 0
+abbrev pub TriedTo : List Kept → ℕ → ℕ → Trace → Trace → Contents → Contents → Type 0
 TriedTo files i k old_trace new_trace old new = (made : List Change) × Tried (take i files) made k × Makes made old_trace new_trace old new
 
-pub tried_none : (files : List Kept) (s : List Change) (old : Contents) → TriedTo files 0 0 s s old old
-tried_none files s old = ([], none, record { traced = sym (append-nil s); holds = refl })
+pub tried_none : (files : List Kept) (s : Trace) (old : Contents) → TriedTo files 0 0 s s old old
+tried_none files s old = ([], none, makes_none s old)
 
 pub one_more : (files : List Kept) (i : ℕ) (file : Kept) → i < length files → IsAt files i file → take (i + 1) files ≡ take i files ++ file ∷ []
 one_more files i file lt at = take_more files i file lt ∙ ap (λ f. take i files ++ f ∷ []) (at file)
 
-pub tried_written : (files : List Kept) (i k : ℕ) (file : Kept) (s t u : List Change) (old mid new : Contents) → i < length files → IsAt files i file
+pub tried_written : (files : List Kept) (i k : ℕ) (file : Kept) (s t u : Trace) (old mid new : Contents) → i < length files → IsAt files i file
     → Makes (write_of file ∷ []) t u mid new → TriedTo files i k s t old mid → TriedTo files (i + 1) k s u old new
 tried_written files i k file s t u old mid new lt at makes b =
     let P : List Kept → Type 0 = λ l. Tried l (b.0 ++ write_of file ∷ []) k in
     (b.0 ++ write_of file ∷ [], subst P (sym (one_more files i file lt at)) (written file b.1), makes_more b.0 (write_of file ∷ []) s t u old mid new b.2 makes)
 
-pub tried_failed : (files : List Kept) (i k : ℕ) (file : Kept) (s t u : List Change) (old mid new : Contents) → i < length files → IsAt files i file
+pub tried_failed : (files : List Kept) (i k : ℕ) (file : Kept) (s t u : Trace) (old mid new : Contents) → i < length files → IsAt files i file
     → MakesOrNot (write_of file) t u mid new → TriedTo files i k s t old mid → TriedTo files (i + 1) (k + 1) s u old new
 tried_failed files i k file s t u old mid new lt at makes b =
     let P : List Change → List Kept → Type 0 = λ cs l. Tried l cs (k + 1) in
-    let Q : List Change → Type 0 = λ cs. Makes cs s u old new in
     elim makes [
-      | inl left ↦ (b.0, subst (P b.0) (sym (one_more files i file lt at)) (failed file b.1), subst Q (append-nil b.0) (makes_more b.0 [] s t u old mid new b.2 left))
+      | inl left ↦ (b.0, subst (P b.0) (sym (one_more files i file lt at)) (failed file b.1), makes_still b.0 s t u old mid new b.2 left)
       | inr made ↦ (b.0 ++ write_of file ∷ [], subst (P (b.0 ++ write_of file ∷ [])) (sym (one_more files i file lt at)) (made_and_failed file b.1), makes_more b.0 (write_of file ∷ []) s t u old mid new b.2 made)
     ]
 

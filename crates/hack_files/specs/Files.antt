@@ -1,6 +1,7 @@
 -- What files hold, and how a call changes it.
 use Rattle.hack_base.specs.Counters.{GrowsBy}
-use Rattle.std.specs.Prelude.{◌≡◌, ◌≢◌, ◌⊎◌, ◌<◌, ◌≤◌, ◌+◌, ◌-◌, ◌^◌, ◌++◌, [], ◌∷◌, ℕ, List, Option, Some, None, Result, Ok, Err, Contains, cond, min}
+use Rattle.std.specs.Prelude.{◌≡◌, ◌≢◌, ◌⊎◌, ◌<◌, ◌≤◌, ◌+◌, ◌-◌, ◌^◌, ◌++◌, [], ◌∷◌, ℕ, Bool, not, List, Option, Some, None, Result, Ok, Err, Contains, cond, min}
+use Rattle.std.specs.List.{filter}
 use Rattle.std.specs.Str.{bytes_eq}
 
 -- what the paths hold: the bytes of each, and nothing where no file is
@@ -29,13 +30,26 @@ abbrev pub after : List Change → Contents → Contents
 after [] m = m
 after (c ∷ cs) m = after cs (after_change c m)
 
+-- The changes that files have seen, in order; where paths of one kind are in files of their own, those of
+-- this kind and all others: between these two the order isn't known.
+pub data Trace : Type 0 where
+  in_order : List Change → Trace
+  by_kind : (List ℕ → Bool) → Trace → Trace → Trace
+
+-- just these changes came next, in this order
+abbrev pub ComesNext : List Change → Trace → Trace → Type 0
+ComesNext cs (in_order old) (in_order new) = new ≡ old ++ cs
+ComesNext cs (by_kind is these others) (by_kind was these_new others_new) =
+    (was ≡ is) × ComesNext (filter (λ c. is c.path) cs) these these_new × ComesNext (filter (λ c. not (is c.path)) cs) others others_new
+ComesNext cs old new = ⊥
+
 -- these changes were made, and no others
-pub record Makes (cs old_trace new_trace : List Change) (old new : Contents) : Type 0 where
-  pub traced : new_trace ≡ old_trace ++ cs
+pub record Makes (cs : List Change) (old_trace new_trace : Trace) (old new : Contents) : Type 0 where
+  pub traced : ComesNext cs old_trace new_trace
   pub holds : new ≡ after cs old
 
 -- this change was made whole, or none at all
-abbrev pub MakesOrNot : Change → List Change → List Change → Contents → Contents → Type 0
+abbrev pub MakesOrNot : Change → Trace → Trace → Contents → Contents → Type 0
 MakesOrNot c old_trace new_trace old new =
     Makes [] old_trace new_trace old new ⊎ Makes (c ∷ []) old_trace new_trace old new
 

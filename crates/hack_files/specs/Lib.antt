@@ -5,5 +5,6 @@ pub mod Restore
 pub mod BackTexts
 pub mod WriteBacks
 pub mod RefusalLaws
+pub mod TraceLaws
 pub mod View
 pub mod FailedCalls

@@ -2,7 +2,7 @@
 
 ghost use Rattle.std.specs.Prelude.{◌≡◌, [], None, length};
 ghost use Rattle.std.proofs.Common.{inr};
-ghost use Rattle.hack_files.specs.Files.{CountsFailedCall, GrowsAtLeastBy};
+ghost use Rattle.hack_files.specs.Files.{CountsFailedCall, GrowsAtLeastBy, in_order};
 ghost use Rattle.hack_files.specs.RefusalLaws.{at_least_none, at_least_more, at_least_some};
 
 use crate::fs::{FileFault, Files, Overwrites, count_failure};
@@ -272,7 +272,7 @@ impl<R: rt::Files + AllocGlobal + Drop> Files for Disk<R> {
 
     ghost bytes_at = { λ _ _. None };
 
-    ghost trace = { λ _. [] };
+    ghost trace = { λ _. in_order [] };
 
     ghost failed = { λ files. files.failures };
 

@@ -4,7 +4,7 @@
 ghost use Rattle.std.specs.Prelude.{◌≡◌, ◌↔◌, ◌⊎◌, [], ◌∷◌, ◌++◌, List, ℕ, Some, None};
 ghost use Rattle.std.specs.Prelude.{string_bytes};
 ghost use Rattle.std.specs.Prelude.{IfOk, IfErr, OnOk, OnErr, IsTrue, IsSome};
-ghost use Rattle.hack_files.specs.Files.{Change, Contents, CountsFailedCall};
+ghost use Rattle.hack_files.specs.Files.{Contents, CountsFailedCall, Trace};
 ghost use Rattle.hack_base.specs.Counters.{GrowsBy};
 ghost use Rattle.hack_files.specs.Files.{KeepsOthers, KeepsAll, Makes, MakesOrNot, puts, removes};
 ghost use Rattle.hack_files.specs.Files.{Grows, IsUnseenUnlessAbsent, refused_path};
@@ -38,8 +38,9 @@ pub trait Files {
     /// The bytes at each path. It means something only where `tells` holds.
     ghost bytes_at: { Self → Contents };
 
-    /// The changes that were made, in order. It means something only where `whole` holds.
-    ghost trace: { Self → List Change };
+    /// The changes that were made, in order, but for files that are kept apart from others. It means
+    /// something only where `whole` holds.
+    ghost trace: { Self → Trace };
 
     /// What each call keeps beyond that: a relation between the files before a call and after it.
     /// By `stays_none` and `stays_more` it holds over any number of calls.

@@ -4,7 +4,7 @@ ghost use Rattle.std.specs.Prelude.{◌≡◌, ◌++◌, ◌∷◌, [], List, �
 ghost use Rattle.std.proofs.Common.{inl};
 ghost use Rattle.std.specs.Option.{option_map};
 ghost use Rattle.hack_base.specs.Counters.{GrowsBy};
-ghost use Rattle.hack_files.specs.Files.{Change, GrowsAtLeastBy};
+ghost use Rattle.hack_files.specs.Files.{Change, GrowsAtLeastBy, in_order};
 ghost use Rattle.hack_files.specs.RefusalLaws.{at_least_none, at_least_more, at_least_some};
 ghost use Rattle.hack_files.specs.Memory.{held_after, change_of};
 
@@ -134,7 +134,7 @@ impl Files for MemoryFiles {
 
     ghost bytes_at = { λ files. held_after files.steps.items };
 
-    ghost trace = { λ files. map change_of files.steps.items };
+    ghost trace = { λ files. in_order (map change_of files.steps.items) };
 
     ghost failed = { λ files. files.failures };
 

@@ -1,21 +1,23 @@
 -- The journal is removed where nothing is to be put back.
 use Rattle.std.proofs.Common.{◌≡◌, ◌<◌, ◌+◌, ◌^◌, inl, inr, ℕ, suc, List, [], ◌∷◌, ◌++◌, Option, Some, None, length, refl, sym, ◌∙◌, subst, ap, append-nil, arith, true, false, Bool, cond}
-use Rattle.std.specs.Prelude.{IsTrue, IsSome, ◌↔◌}
+use Rattle.std.specs.Prelude.{All, IsTrue, IsSome, map, not, ◌↔◌}
 use Rattle.std.proofs.Math.Path.{fun_ext}
 use Rattle.std.proofs.lemmas.Bool.{cases_Bool}
-use Rattle.std.proofs.lemmas.List.{length-append}
+use Rattle.std.proofs.lemmas.List.{length-append, map-append}
+use Rattle.std.proofs.lemmas.List.Elements.{All-append, All-cons, All-head, All-nil, All-tail}
 use Rattle.std.specs.Str.{bytes_eq}
-use Rattle.hack_files.specs.Files.{Change, Contents, Makes, MakesOrNot, removes, KeepsAll, KeepsOthers}
+use Rattle.hack_files.specs.Files.{Change, Contents, KeepsAll, KeepsOthers, Makes, MakesOrNot, Trace, removes}
 use Rattle.hack_journal.specs.Journal.{Edit, journal_text}
-use Rattle.hack_journal.specs.Rows.{Spot, AreEach, IsFresh, IsNoteOf, KeepsBeside, OnlyRemoves, file_at}
-use Rattle.hack_journal.specs.SafeFiles.{SomeEntryHasBytes, KeepFirst, IsJournaled, IsSafe, StaysSafe, Stays, AreBack}
+use Rattle.hack_journal.specs.Rows.{Spot, AreEach, IsFresh, IsNoteOf, KeepsBeside, RemovesOwn, file_at, is_of_journal}
+use Rattle.hack_journal.specs.SafeFiles.{SomeEntryHasBytes, KeepFirst, IsJournaled, IsSafe, StaysSafe, Stays, AreBack, changes_besides, trace_besides, without}
 use Rattle.hack_journal.specs.Strangers.{first_stranger}
 use Rattle.hack_journal.specs.Internal.{IsAllBack, ShortensRow}
-use Rattle.hack_journal.specs.SafeLaws.{fresh_less, makes_append, note_text, safe_of, stay_append, stay_none}
-use Rattle.hack_journal.proofs.ChangeLemmas.{makes_here, makes_others}
+use Rattle.hack_files.specs.TraceLaws.{makes_more}
+use Rattle.hack_journal.specs.SafeLaws.{fresh_less, note_text, safe_of, stay_append, stay_none}
+use Rattle.hack_files.proofs.FilesLemmas.{makes_here, makes_others}
 use Rattle.hack_journal.proofs.KnownLemmas.{known_left}
-use Rattle.hack_journal.proofs.RowLemmas.{all_first, apart_from, each_along, each_less, file_differ, file_zero, fresh_changed}
-use Rattle.hack_journal.proofs.SafeLemmas.{keeps_left, stay_one}
+use Rattle.hack_journal.proofs.RowLemmas.{all_first, apart_from, each_along, each_less, file_differ, file_zero, fresh_changed, own_file}
+use Rattle.hack_journal.proofs.SafeLemmas.{hides, keeps_left, stay_one}
 
 pub all_same : (m n : Contents) → KeepsAll m n → n ≡ m
 all_same m n h = fun_ext h
@@ -32,7 +34,7 @@ pub back_first : (s : Spot) (o : Contents) (es : List Edit) (m : Contents) → I
 back_first s o es m k all q out = elim (k.holds q out) [ inl same ↦ same | inr told ↦ told_first s.journal o es k.more m q (m q) k.keeps all told ]
 
 -- the file that comes next was removed
-removed_next : (s : Spot) (o : Contents) (es : List Edit) (t u : List Change) (m n : Contents) → length es < 2 ^ 64 → Makes (removes (file_at s.journal (length es)) ∷ []) t u m n → IsAllBack s.journal o m → IsJournaled s o es m → IsJournaled s o es n
+removed_next : (s : Spot) (o : Contents) (es : List Edit) (t u : Trace) (m n : Contents) → length es < 2 ^ 64 → Makes (removes (file_at s.journal (length es)) ∷ []) t u m n → IsAllBack s.journal o m → IsJournaled s o es m → IsJournaled s o es n
 removed_next s o es t u m n low makes same k =
     let j = s.journal in
     let here : n (file_at j (length es)) ≡ None = makes_here t u (removes (file_at j (length es))) m n makes in
@@ -68,18 +70,18 @@ popped s o fs es e n is none same k =
     popped_here s o es e n (subst (λ (l : List Edit). n (file_at s.journal (length l)) ≡ None) is none) same (subst (λ (l : List Edit). IsJournaled s o l n) is k)
 
 -- the removal failed
-pub shorten_err : (s : Spot) (es : List Edit) (t u : List Change) (m n : Contents) → length es < 2 ^ 64 → MakesOrNot (removes (file_at s.journal (length es))) t u m n → ShortensRow s es es t u m n
+pub shorten_err : (s : Spot) (es : List Edit) (t u : Trace) (m n : Contents) → length es < 2 ^ 64 → MakesOrNot (removes (file_at s.journal (length es))) t u m n → ShortensRow s es es t u m n
 shorten_err s es t u m n low makes o k same = elim makes [
   | inl none ↦ (stay_none (IsSafe s o) t u m n none (safe_of s o es m k), subst (λ (x : Contents). IsJournaled s o es x) (sym none.holds) k)
   | inr made ↦ let now = removed_next s o es t u m n low made same k in (stay_one (IsSafe s o) (removes (file_at s.journal (length es))) t u m n made (safe_of s o es m k) (safe_of s o es n now), now)
 ]
 
 -- the last file was removed
-pub shorten_last : (s : Spot) (es fs : List Edit) (t u : List Change) (m n : Contents) → length es < 2 ^ 64 → es ≡ fs → Makes (removes (file_at s.journal (length es)) ∷ []) t u m n → ShortensRow s es fs t u m n
+pub shorten_last : (s : Spot) (es fs : List Edit) (t u : Trace) (m n : Contents) → length es < 2 ^ 64 → es ≡ fs → Makes (removes (file_at s.journal (length es)) ∷ []) t u m n → ShortensRow s es fs t u m n
 shorten_last s es fs t u m n low is made = subst (λ (l : List Edit). ShortensRow s es l t u m n) is (shorten_err s es t u m n low (inr made))
 
 -- a file was removed, and then the rest
-pub shorten_more : (s : Spot) (es fs gs : List Edit) (e : Edit) (t u v : List Change) (m n w : Contents) → length es < 2 ^ 64 → es ≡ fs ++ e ∷ [] → Makes (removes (file_at s.journal (length es)) ∷ []) t u m n → ShortensRow s fs gs u v n w → ShortensRow s es gs t v m w
+pub shorten_more : (s : Spot) (es fs gs : List Edit) (e : Edit) (t u v : Trace) (m n w : Contents) → length es < 2 ^ 64 → es ≡ fs ++ e ∷ [] → Makes (removes (file_at s.journal (length es)) ∷ []) t u m n → ShortensRow s fs gs u v n w → ShortensRow s es gs t v m w
 shorten_more s es fs gs e t u v m n w low is made rest o k same =
     let now = removed_next s o es t u m n low made same k in
     let here : n (file_at s.journal (length es)) ≡ None = makes_here t u (removes (file_at s.journal (length es))) m n made in
@@ -89,9 +91,9 @@ shorten_more s es fs gs e t u v m n w low is made rest o k same =
     (stay_append (IsSafe s o) t u v m n w one more.0, more.1)
 
 -- after two looks, the second of which found each path back, the row is removed, or that fails
-pub finish_stays : (s : Spot) (es fs : List Edit) (t u v x : List Change) (k l m n : Contents) → Makes [] t u k l → Makes [] u v l m → AreBack es l → ShortensRow s es fs v x m n → Stays s es fs t x k n
+pub finish_stays : (s : Spot) (es fs : List Edit) (t u v x : Trace) (k l m n : Contents) → Makes [] t u k l → Makes [] u v l m → AreBack es l → ShortensRow s es fs v x m n → Stays s es fs t x k n
 finish_stays s es fs t u v x k l m n look again all shorten o h =
-    let looks = makes_append [] [] t u v k l m look again in
+    let looks = makes_more [] [] t u v k l m look again in
     let there : IsJournaled s o es m = subst (λ (y : Contents). IsJournaled s o es y) (sym looks.holds) h in
     let back : AreBack es m = subst (λ (y : Contents). AreBack es y) (sym again.holds) all in
     let rest = shorten o there (back_first s o es m there back) in
@@ -126,25 +128,32 @@ removed_first s o es m n k all gone others =
     (λ i lt. gone i (omega (arith, lt)))
     (λ q own beside. others q (λ i lt. beside i (omega (arith, lt))))
 
--- ---- nothing is written
+-- ---- nothing but the journal's own files is removed
 
 -- where nothing was changed
-pub only_looked : (t u : List Change) (m n : Contents) → Makes [] t u m n → OnlyRemoves m n
-only_looked t u m n made = λ q. inl (ap (λ (c : Contents). c q) made.holds)
+pub only_looked : (j : List ℕ) (t u : Trace) (m n : Contents) → Makes [] t u m n → RemovesOwn j t u m n
+only_looked j t u m n made = record { paths = []; own = All-nil (λ (p : List ℕ). is_of_journal j p ≡ true); makes = made }
 
--- a removal, made or not
-pub only_removed : (path : List ℕ) (t u : List Change) (m n : Contents) → MakesOrNot (removes path) t u m n → OnlyRemoves m n
-only_removed path t u m n (inl none) = only_looked t u m n none
-only_removed path t u m n (inr made) = λ q.
-    let here : n q ≡ cond (bytes_eq path q) None (m q) = ap (λ (c : Contents). c q) made.holds in
-    elim (cases_Bool (bytes_eq path q)) [
-      | inl same ↦ inr (here ∙ ap (λ (b : Bool). cond b None (m q)) same)
-      | inr other ↦ inl (here ∙ ap (λ (b : Bool). cond b None (m q)) other)
-    ]
+-- a file of the row was removed, or not
+pub only_removed : (j path : List ℕ) (k : ℕ) (t u : Trace) (m n : Contents) → path ≡ file_at j k → MakesOrNot (removes path) t u m n → RemovesOwn j t u m n
+only_removed j path k t u m n is (inl none) = only_looked j t u m n none
+only_removed j path k t u m n is (inr made) = record { paths = path ∷ []; own = All-cons (λ (p : List ℕ). is_of_journal j p ≡ true) path [] (ap (is_of_journal j) is ∙ own_file j k) (All-nil (λ (p : List ℕ). is_of_journal j p ≡ true)); makes = made }
 
 -- first the one, then the other
-pub only_then : (m n w : Contents) → OnlyRemoves m n → OnlyRemoves n w → OnlyRemoves m w
-only_then m n w first next = λ q. elim (next q) [
-  | inr none ↦ inr none
-  | inl same ↦ elim (first q) [ inl was ↦ inl (same ∙ was) | inr none ↦ inr (same ∙ none) ]
-]
+pub only_then : (j : List ℕ) (t u v : Trace) (m n w : Contents) → RemovesOwn j t u m n → RemovesOwn j u v n w → RemovesOwn j t v m w
+only_then j t u v m n w first next = record {
+  paths = first.paths ++ next.paths;
+  own = All-append (λ (p : List ℕ). is_of_journal j p ≡ true) first.paths next.paths first.own next.own;
+  makes = subst (λ (cs : List Change). Makes cs t v m w) (sym (map-append removes first.paths next.paths)) (makes_more (map removes first.paths) (map removes next.paths) t u v m n w first.makes next.makes);
+}
+
+none_besides : (j : List ℕ) (paths : List (List ℕ)) → All (λ path. is_of_journal j path ≡ true) paths → changes_besides j (map removes paths) ≡ []
+none_besides j [] own = refl
+none_besides j (p ∷ ps) own =
+    let Own : List ℕ → Type 0 = λ (q : List ℕ). is_of_journal j q ≡ true in
+    let rest = changes_besides j (map removes ps) in
+    ap (λ (b : Bool). cond (not b) (removes p ∷ rest) rest) {y = true} (All-head Own p ps own) ∙ none_besides j ps (All-tail Own p ps own)
+
+-- so nothing else is changed
+pub only_besides : (j : List ℕ) (t u : Trace) (m n : Contents) → RemovesOwn j t u m n → Makes [] (trace_besides j t) (trace_besides j u) (without j m) (without j n)
+only_besides j t u m n h = subst (λ (cs : List Change). Makes cs (trace_besides j t) (trace_besides j u) (without j m) (without j n)) (none_besides j h.paths h.own) (hides j (map removes h.paths) t u m n h.makes)

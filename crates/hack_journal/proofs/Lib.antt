@@ -1,9 +1,9 @@
 mod TextLemmas
-mod ChangeLemmas
+pub mod ApartLemmas
 pub mod RowLemmas
 mod NoteLemmas
 pub mod SafeLemmas
-mod FinishLemmas
+pub mod FinishLemmas
 pub mod RecoverLemmas
 mod RemovalLemmas
 mod CountLemmas

@@ -7,7 +7,7 @@ use Rattle.std.proofs.Math.Seq.{take-length}
 use Rattle.std.proofs.lemmas.Slice.Eq.{bytes_eq-Decides}
 use Rattle.std.proofs.lemmas.Bool.{cases_Bool, cases_lt, false≢true}
 use Rattle.std.proofs.lemmas.Bool.Decides.{eqb_tells}
-use Rattle.hack_files.specs.Files.{Change, Contents, after_change, after, Makes, MakesOrNot, KeepsAll, KeepsOthers}
+use Rattle.hack_files.specs.Files.{Change, Contents, KeepsAll, KeepsOthers, Makes, MakesOrNot, Trace, after, after_change}
 use Rattle.hack_files.specs.declared.fs.FsFault.{FsFault}
 use Rattle.hack_files.specs.declared.fs.FsFault.TheVariants as fs
 use Rattle.hack_journal.specs.Journal.{Edit, journal_text, HaveTextPaths}
@@ -18,8 +18,9 @@ use Rattle.hack_journal.specs.Recovery.{HasEntry, AgreesOnHeld, AreOfCall, AreTo
 use Rattle.hack_journal.specs.Internal.{AddsChanged, AddsIfOther, HoldsNoText, IsRead, IsReadMore, IsWhyNotTold, IsWhyTorn, NamesNoJournal, Nears, PutsBack, PutsBackOrSafe, FailsAt, backs}
 use Rattle.hack_journal.specs.declared.recover.RecoverFault.{RecoverFault}
 use Rattle.hack_journal.specs.declared.recover.RecoverFault.TheVariants.{Memory, NotJournal, Changed, Files}
-use Rattle.hack_journal.specs.SafeLaws.{makes_none, stay_none, stay_append}
-use Rattle.hack_journal.proofs.ChangeLemmas.{changed_other}
+use Rattle.hack_files.specs.TraceLaws.{makes_more, makes_none}
+use Rattle.hack_journal.specs.SafeLaws.{stay_none, stay_append}
+use Rattle.hack_files.proofs.FilesLemmas.{changed_other}
 use Rattle.hack_journal.proofs.FinishLemmas.{all_same}
 use Rattle.hack_journal.proofs.RowLemmas.{all_first, apart_from, file_zero, first_along, first_there, fresh_apart, own_file, row_of, row_only, there_not_none}
 use Rattle.hack_journal.proofs.SafeLemmas.{stay_one, stay_wider, First, first_keeps}
@@ -102,13 +103,13 @@ nears_one j o p x m held out q = elim (cases_Bool (bytes_eq p q)) [
   | inr f ↦ inl (ap (λ b. cond b x (m q)) f)
 ]
 
-pub puts_or_not : (j : List ℕ) (o : Contents) (p : List ℕ) (x : Option (List ℕ)) (t u : List Change) (m n : Contents) → MakesOrNot (gives p x) t u m n → o p ≡ x → is_of_journal j p ≡ false → PutsBack j o t u m n
+pub puts_or_not : (j : List ℕ) (o : Contents) (p : List ℕ) (x : Option (List ℕ)) (t u : Trace) (m n : Contents) → MakesOrNot (gives p x) t u m n → o p ≡ x → is_of_journal j p ≡ false → PutsBack j o t u m n
 puts_or_not j o p x t u m n makes held out = elim makes [
   | inl none ↦ stay_none (Nears j o m) t u m n none (λ q. inl refl)
   | inr made ↦ stay_one (Nears j o m) (gives p x) t u m n made (λ q. inl refl) (subst (Nears j o m) (sym made.holds) (nears_one j o p x m held out))
 ]
 
-pub puts_nothing : (j : List ℕ) (o : Contents) (t : List Change) (m : Contents) → PutsBack j o t t m m
+pub puts_nothing : (j : List ℕ) (o : Contents) (t : Trace) (m : Contents) → PutsBack j o t t m m
 puts_nothing j o t m = stay_none (Nears j o m) t t m m (makes_none t m) (λ q. inl refl)
 
 nears_then : (j : List ℕ) (o m n w : Contents) → Nears j o m n → Nears j o n w → Nears j o m w
@@ -118,24 +119,24 @@ nears_then j o m n w f g q = elim (g q) [
 ]
 
 -- what holds after every front holds at the end
-at_end : (P : Contents → Type 0) (t u : List Change) (m n : Contents) → AfterEachFront P t u m n → P n
+at_end : (P : Contents → Type 0) (t u : Trace) (m n : Contents) → AfterEachFront P t u m n → P n
 at_end P t u m n f = subst P (sym f.makes.holds) (subst (λ (cs : List Change). P (after cs m)) (take-length f.added) (f.fronts (length f.added)))
 
 -- several steps, one after another
-pub puts_then : (j : List ℕ) (o : Contents) (t u v : List Change) (m n w : Contents) → PutsBack j o t u m n → PutsBack j o u v n w → PutsBack j o t v m w
+pub puts_then : (j : List ℕ) (o : Contents) (t u v : Trace) (m n w : Contents) → PutsBack j o t u m n → PutsBack j o u v n w → PutsBack j o t v m w
 puts_then j o t u v m n w f g =
     stay_append (Nears j o m) t u v m n w f (stay_wider u v n w (λ x. nears_then j o m n x (at_end (Nears j o m) t u m n f)) g)
 
-pub puts_safe : (s : Spot) (o : Contents) (t u : List Change) (m n : Contents) → PutsBack s.journal o t u m n → PutsBackOrSafe s o t u m n
+pub puts_safe : (s : Spot) (o : Contents) (t u : Trace) (m n : Contents) → PutsBack s.journal o t u m n → PutsBackOrSafe s o t u m n
 puts_safe s o t u m n = stay_wider t u m n (λ x near. inl near)
 
 -- and then the row is removed
-pub puts_then_safe : (s : Spot) (o : Contents) (t u v : List Change) (m n w : Contents) → PutsBack s.journal o t u m n → StaysSafe s o u v n w → PutsBackOrSafe s o t v m w
+pub puts_then_safe : (s : Spot) (o : Contents) (t u v : Trace) (m n w : Contents) → PutsBack s.journal o t u m n → StaysSafe s o u v n w → PutsBackOrSafe s o t v m w
 puts_then_safe s o t u v m n w f g =
     stay_append (λ x. Nears s.journal o m x ⊎ IsSafe s o x) t u v m n w (puts_safe s o t u m n f) (stay_wider u v n w (λ x safe. inr safe) g)
 
 -- after a look that changed nothing
-look_then_puts : (s : Spot) (o : Contents) (t u v : List Change) (m n w : Contents) → Makes [] t u m n → PutsBackOrSafe s o u v n w → PutsBackOrSafe s o t v m w
+look_then_puts : (s : Spot) (o : Contents) (t u v : Trace) (m n w : Contents) → Makes [] t u m n → PutsBackOrSafe s o u v n w → PutsBackOrSafe s o t v m w
 look_then_puts s o t u v m n w look g =
     let P : Contents → Contents → Type 0 = λ y x. Nears s.journal o y x ⊎ IsSafe s o x in
     stay_append (P m) t u v m n w (stay_none (P m) t u m n look (inl (λ q. inl refl))) (subst (λ (y : Contents). AfterEachFront (P y) u v n w) look.holds g)
@@ -191,7 +192,7 @@ nears_kept {Left = Left} s o m n near h =
     }
 
 -- from kept files, where safe ones are kept too
-pub puts_stay : {Left : List Edit → List ℕ → Option (List ℕ) → Type 0} (s : Spot) (o : Contents) (t u : List Change) (m n : Contents) → ((x : Contents) → IsSafe s o x → IsKept Left s o x) → IsKept Left s o m → PutsBackOrSafe s o t u m n → AfterEachFront (IsKept Left s o) t u m n
+pub puts_stay : {Left : List Edit → List ℕ → Option (List ℕ) → Type 0} (s : Spot) (o : Contents) (t u : Trace) (m n : Contents) → ((x : Contents) → IsSafe s o x → IsKept Left s o x) → IsKept Left s o m → PutsBackOrSafe s o t u m n → AfterEachFront (IsKept Left s o) t u m n
 puts_stay s o t u m n kept h = stay_wider t u m n (λ x f. elim f [ inl near ↦ nears_kept s o m x near h | inr safe ↦ kept x safe ])
 
 pub after_along : (cs : List Change) (m n w : Contents) → KeepsAll m n → KeepsAll (after cs n) w → KeepsAll (after cs m) w
@@ -218,7 +219,7 @@ safe_at s o c es m h read =
     subst (λ (l : List Edit). (by : IsKeptBy IsOwn s o l m) × (by.row.count ≡ c)) (sym is.1) (h.by, is.0)
 
 -- after looks that changed nothing, what the row keeps is put back
-pub looked_puts : (s : Spot) (o : Contents) (c : ℕ) (es : List Edit) (t u v : List Change) (m n w : Contents) → IsSafeOrCut s o m → IsRowRead s m c es → Makes [] t u m n → ((by : IsKeptBy IsOwn s o es n) → by.row.count ≡ c → PutsBackOrSafe s o u v n w) → PutsBackOrSafe s o t v m w
+pub looked_puts : (s : Spot) (o : Contents) (c : ℕ) (es : List Edit) (t u v : Trace) (m n w : Contents) → IsSafeOrCut s o m → IsRowRead s m c es → Makes [] t u m n → ((by : IsKeptBy IsOwn s o es n) → by.row.count ≡ c → PutsBackOrSafe s o u v n w) → PutsBackOrSafe s o t v m w
 looked_puts s o c es t u v m n w h read looks f =
     let at = subst (λ (x : Contents). (by : IsKeptBy IsOwn s o es x) × (by.row.count ≡ c)) (sym looks.holds) (safe_at s o c es m h read) in
     look_then_puts s o t u v m n w looks (f at.0 at.1)
@@ -446,6 +447,15 @@ comes_back_of s o c es m n w same by is back gone =
     (λ q out. all q (λ i lt. apart_from s.journal i q out) ∙ backs_first s o es m by q out)
     gone
     (λ q own beside. all q beside ∙ backs_own s o es m q by.keeps own)
+
+-- after a look a path was given these bytes, or removed; or that may have been refused
+pub put_made : (path q : List ℕ) (held x : Option (List ℕ)) (s t u : Trace) (l m n : Contents) → q ≡ path → x ≡ held → Makes [] s t l m → Makes (gives q x ∷ []) t u m n → Makes (gives path held ∷ []) s u l n
+put_made path q held x s t u l m n at is look made =
+    makes_more [] (gives path held ∷ []) s t u l m n look (subst (λ (p : List ℕ). Makes (gives p held ∷ []) t u m n) at (subst (λ (y : Option (List ℕ)). Makes (gives q y ∷ []) t u m n) is made))
+
+pub put_or_not : (path q : List ℕ) (held x : Option (List ℕ)) (s t u : Trace) (l m n : Contents) → q ≡ path → x ≡ held → Makes [] s t l m → MakesOrNot (gives q x) t u m n → MakesOrNot (gives path held) s u l n
+put_or_not path q held x s t u l m n at is look (inl left) = inl (makes_more [] [] s t u l m n look left)
+put_or_not path q held x s t u l m n at is look (inr made) = inr (put_made path q held x s t u l m n at is look made)
 
 -- after a look a path was given what it held at first
 pub put_keeps : (p q : List ℕ) (x y : Option (List ℕ)) (l m n : Contents) → q ≡ p → y ≡ x → KeepsAll l m → n q ≡ y → KeepsOthers q m n → KeepsAll (after_change (gives p x) l) n

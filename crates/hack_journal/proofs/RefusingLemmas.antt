@@ -1,5 +1,5 @@
 -- What a single call adds to the refused paths and to the counts.
-use Rattle.std.proofs.Common.{◌≡◌, ◌≢◌, ◌∙◌, ◌⊎◌, inl, inr, ap, sym, subst, Bool, true, false, get_or, ℕ, List, [], ◌∷◌, ◌+◌, Option, None, Result, Ok, Err, OnErr, IsTrue, arith, if◌then◌else◌}
+use Rattle.std.proofs.Common.{refl, ◌≡◌, ◌≢◌, ◌∙◌, ◌⊎◌, inl, inr, ap, sym, subst, Bool, true, false, get_or, ℕ, List, [], ◌∷◌, ◌+◌, Option, None, Result, Ok, Err, OnErr, IsTrue, arith, if◌then◌else◌}
 use Rattle.std.proofs.lemmas.Bool.{false≢true}
 use Rattle.std.proofs.lemmas.List.Elements.{All-nil}
 use Rattle.hack_base.specs.Counters.{GrowsBy}
@@ -80,8 +80,8 @@ read_other a b path r lockfiles old new x y is counted h =
     ])
 
 pub within_first : {T E : Type 0} (r : Result T E) (a b x u v : ℕ) → CountsFailedCall a b r → CountsFailedCall u v r → GrowsWithin a b x x u v
-within_first (Ok e) a b x u v f g = record { first = 0; second = 0; both = 0; one = f; two = grows_none x; sum = g; most = omega arith }
-within_first (Err e) a b x u v f g = record { first = 1; second = 0; both = 1; one = f; two = grows_none x; sum = g; most = omega arith }
+within_first (Ok e) a b x u v f g = record { first = 0; second = 0; both = 0; one = f; two = grows_none x; sum = g; most = omega arith; least = omega arith }
+within_first (Err e) a b x u v f g = record { first = 1; second = 0; both = 1; one = f; two = grows_none x; sum = g; most = omega arith; least = omega arith }
 
 -- a call of two that is counted by the one that it goes to
 pub both_first : {T E : Type 0} (r : Result T E) (a b x u v : ℕ) → CountsFailedCall a b r → CountsFailedCall u v r → GrowsAsBoth a b x x u v
@@ -94,8 +94,8 @@ both_second (Err e) a x y u v f g = record { first = 0; second = 1; one = grows_
 
 -- a call that is counted by one of two counts
 pub within_counted : {T E : Type 0} (r : Result T E) (a b x y u v : ℕ) → IsCounted r a b x y → CountsFailedCall u v r → GrowsWithin a b x y u v
-within_counted (Ok e) a b x y u v f g = record { first = f.first; second = f.second; both = 0; one = f.one; two = f.two; sum = g; most = omega arith }
-within_counted (Err e) a b x y u v f g = record { first = f.first; second = f.second; both = 1; one = f.one; two = f.two; sum = g; most = f.some }
+within_counted (Ok e) a b x y u v f g = record { first = f.first; second = f.second; both = 0; one = f.one; two = f.two; sum = g; most = omega arith; least = omega (arith, f.once) }
+within_counted (Err e) a b x y u v f g = record { first = f.first; second = f.second; both = 1; one = f.one; two = f.two; sum = g; most = f.some; least = f.once }
 
 -- by the files that the path goes to
 pub refused_lockfile : {A B T E : Type 0} (a : Filing A) (b : Filing B) (path : List ℕ) (r : Result T E) (old new : B) → true ≡ is_lockfile path → b.refuses old new (refused_path r path) → OnErr r (HoldsByKind (IsRefused a) (IsRefused b) path)
@@ -115,5 +115,5 @@ other_file path q is other same = other (ap is_lockfile same ∙ sym is)
 
 -- after calls that only looked, a call that the first of two counts counts
 pub counted_below : {T E : Type 0} (r : Result T E) (a b c x y : ℕ) → Grows a b → CountsFailedCall b c r → y ≡ x → IsCounted r a c x y
-counted_below (Ok v) a b c x y f g same = record { first = f.0 + 0; second = 0; one = grows_more f.0 0 a b c f.1 g; two = λ low. omega (arith, low, same); some = tt }
-counted_below (Err e) a b c x y f g same = record { first = f.0 + 1; second = 0; one = grows_more f.0 1 a b c f.1 g; two = λ low. omega (arith, low, same); some = omega arith }
+counted_below (Ok v) a b c x y f g same = record { first = f.0 + 0; second = 0; one = grows_more f.0 0 a b c f.1 g; two = λ low. omega (arith, low, same); some = tt; once = refl }
+counted_below (Err e) a b c x y f g same = record { first = f.0 + 1; second = 0; one = grows_more f.0 1 a b c f.1 g; two = λ low. omega (arith, low, same); some = omega arith; once = omega arith }

@@ -1,6 +1,6 @@
 -- The row of a journal is removed, once all is put back.
 use Rattle.std.proofs.Common.{◌≡◌, ◌≢◌, ◌<◌, ◌-◌, ◌^◌, inl, inr, ℕ, suc, List, [], ◌∷◌, None, sym, ◌∙◌, subst, ap, true, arith}
-use Rattle.hack_files.specs.Files.{Change, Contents, after, Makes, MakesOrNot, KeepsAll, KeepsOthers, removes}
+use Rattle.hack_files.specs.Files.{Contents, KeepsAll, KeepsOthers, Makes, MakesOrNot, Trace, after, removes}
 use Rattle.hack_journal.specs.Journal.{Edit}
 use Rattle.hack_journal.specs.Rows.{Spot, file_at, is_of_journal}
 use Rattle.hack_journal.specs.SafeFiles.{KeepFirst, IsKeptBy, IsSafe, StaysSafe}
@@ -8,7 +8,7 @@ use Rattle.hack_journal.specs.Recovery.{IsOwn}
 use Rattle.hack_journal.specs.Internal.{IsBackBut, backs}
 use Rattle.hack_journal.specs.SafeLaws.{fresh_less, stay_none, stay_append}
 use Rattle.hack_journal.specs.Strangers.{first_stranger}
-use Rattle.hack_journal.proofs.ChangeLemmas.{makes_here, makes_others}
+use Rattle.hack_files.proofs.FilesLemmas.{makes_here, makes_others}
 use Rattle.hack_journal.proofs.KnownLemmas.{known_left}
 use Rattle.hack_journal.proofs.RecoverLemmas.{backs_first, backs_own}
 use Rattle.hack_journal.proofs.RowLemmas.{apart_from, file_differ, first_along, fresh_apart, fresh_changed, own_file}
@@ -21,7 +21,7 @@ back_but_safe s o c m h = record {
 }
 
 -- its last file was removed
-pub removed_last : (s : Spot) (o : Contents) (c : ℕ) (t u : List Change) (m n : Contents) → suc c < 2 ^ 64 → Makes (removes (file_at s.journal c) ∷ []) t u m n → IsBackBut s o (suc c) m → IsBackBut s o c n
+pub removed_last : (s : Spot) (o : Contents) (c : ℕ) (t u : Trace) (m n : Contents) → suc c < 2 ^ 64 → Makes (removes (file_at s.journal c) ∷ []) t u m n → IsBackBut s o (suc c) m → IsBackBut s o c n
 removed_last s o c t u m n low makes h =
     let j = s.journal in
     let here : n (file_at j c) ≡ None = makes_here t u (removes (file_at j c)) m n makes in
@@ -36,7 +36,7 @@ removed_last s o c t u m n low makes h =
       same = λ q out. others q (apart_from j c q out) ∙ h.same q out;
     }
 
-pub last_or_not : (s : Spot) (o : Contents) (c : ℕ) (t u : List Change) (m n : Contents) → suc c < 2 ^ 64 → MakesOrNot (removes (file_at s.journal c)) t u m n → IsBackBut s o (suc c) m → StaysSafe s o t u m n
+pub last_or_not : (s : Spot) (o : Contents) (c : ℕ) (t u : Trace) (m n : Contents) → suc c < 2 ^ 64 → MakesOrNot (removes (file_at s.journal c)) t u m n → IsBackBut s o (suc c) m → StaysSafe s o t u m n
 last_or_not s o c t u m n low makes h = elim makes [
   | inl none ↦ stay_none (IsSafe s o) t u m n none (back_but_safe s o (suc c) m h)
   | inr made ↦ stay_one (IsSafe s o) (removes (file_at s.journal c)) t u m n made (back_but_safe s o (suc c) m h) (back_but_safe s o c n (removed_last s o c t u m n low made h))
@@ -58,13 +58,13 @@ back_but_of s o c es m n by is back =
     })
 
 -- its last file could not be removed, or it was made all the same
-pub remove_failed : (s : Spot) (o : Contents) (count : ℕ) (p : List ℕ) (t u : List Change) (m n : Contents) → count ≢ 0 → count < 2 ^ 64 → p ≡ file_at s.journal (count - 1) → MakesOrNot (removes p) t u m n → IsBackBut s o count m → StaysSafe s o t u m n
+pub remove_failed : (s : Spot) (o : Contents) (count : ℕ) (p : List ℕ) (t u : Trace) (m n : Contents) → count ≢ 0 → count < 2 ^ 64 → p ≡ file_at s.journal (count - 1) → MakesOrNot (removes p) t u m n → IsBackBut s o count m → StaysSafe s o t u m n
 remove_failed s o count p t u m n some low is makes h =
     let one : count ≡ suc (count - 1) = omega (arith, some) in
     last_or_not s o (count - 1) t u m n (omega (arith, some, low)) (subst (λ (q : List ℕ). MakesOrNot (removes q) t u m n) is makes) (subst (λ (c : ℕ). IsBackBut s o c m) one h)
 
 -- it was removed, and then the others
-pub remove_went : (s : Spot) (o : Contents) (count : ℕ) (p : List ℕ) (t u v : List Change) (m n w : Contents) → count ≢ 0 → count < 2 ^ 64 → p ≡ file_at s.journal (count - 1) → Makes (removes p ∷ []) t u m n → IsBackBut s o count m → (IsBackBut s o (count - 1) n → StaysSafe s o u v n w) → StaysSafe s o t v m w
+pub remove_went : (s : Spot) (o : Contents) (count : ℕ) (p : List ℕ) (t u v : Trace) (m n w : Contents) → count ≢ 0 → count < 2 ^ 64 → p ≡ file_at s.journal (count - 1) → Makes (removes p ∷ []) t u m n → IsBackBut s o count m → (IsBackBut s o (count - 1) n → StaysSafe s o u v n w) → StaysSafe s o t v m w
 remove_went s o count p t u v m n w some low is makes h rest =
     let one : count ≡ suc (count - 1) = omega (arith, some) in
     let made : Makes (removes (file_at s.journal (count - 1)) ∷ []) t u m n = subst (λ (q : List ℕ). Makes (removes q ∷ []) t u m n) is makes in

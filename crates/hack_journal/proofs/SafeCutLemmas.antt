@@ -1,5 +1,5 @@
 -- A write that is cut, between two states of safe files.
-use Rattle.std.proofs.Common.{◌≡◌, ◌≢◌, ◌∙◌, ◌⊎◌, ◌++◌, inl, inr, ℕ, Bool, true, false, IsTrue, List, Option, Some, drop, take, ap, refl, subst, sym}
+use Rattle.std.proofs.Common.{◌≡◌, ◌≢◌, ◌∙◌, ◌⊎◌, ◌++◌, inl, inr, ℕ, true, false, IsTrue, List, Option, Some, drop, take, ap, subst, sym}
 use Rattle.std.proofs.lemmas.Bool.{cases_Bool, false≢true}
 use Rattle.std.proofs.lemmas.List.{take-append-drop}
 use Rattle.std.proofs.lemmas.Slice.Eq.{bytes_eq-Decides}
@@ -8,9 +8,9 @@ use Rattle.hack_files.specs.Files.{Contents, after_change, puts}
 use Rattle.hack_journal.specs.CutFiles.{IsSafeOrCut}
 use Rattle.hack_journal.specs.Journal.{Edit}
 use Rattle.hack_journal.specs.Recovery.{IsCut, IsOwn}
-use Rattle.hack_journal.specs.Rows.{Spot, IsRowOf, file_at, is_of_journal}
+use Rattle.hack_journal.specs.Rows.{Spot, file_at, is_of_journal}
 use Rattle.hack_journal.specs.SafeFiles.{IsSafe, KeepFirst, SomeEntryHasBytes}
-use Rattle.hack_journal.proofs.ChangeLemmas.{changed_here, changed_other}
+use Rattle.hack_files.proofs.FilesLemmas.{changed_here, changed_other}
 use Rattle.hack_journal.proofs.OnceLemmas.{row_one}
 use Rattle.hack_journal.proofs.RecoverLemmas.{has_of, own_told, tells_first}
 use Rattle.hack_journal.proofs.RowLemmas.{fresh_apart, own_file, row_along}

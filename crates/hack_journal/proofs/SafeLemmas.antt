@@ -1,18 +1,22 @@
 -- The journal keeps what a path held, before the path is changed.
 use Rattle.std.proofs.Common.{◌≡◌, ◌≢◌, ◌<◌, ◌^◌, length, arith, ◌+◌, add-one, inl, inr, ℕ, zero, suc, take, List, [], ◌∷◌, ◌++◌, Option, Some, None, refl, sym, ◌∙◌, subst, ap, append-nil, true, Result, Ok, Err, OnOk, OnErr, false, cond}
+use Rattle.std.specs.Prelude.{Bool, not}
+use Rattle.std.specs.List.{filter}
 use Rattle.std.specs.Str.{bytes_eq, IsUtf8}
 use Rattle.std.proofs.Math.Path.{fun_ext}
 use Rattle.std.proofs.lemmas.Slice.Eq.{bytes_eq-Decides}
 use Rattle.std.proofs.lemmas.Bool.{cases_Bool}
 use Rattle.std.proofs.lemmas.List.{length-append}
-use Rattle.hack_files.specs.Files.{Change, Contents, after_change, after, KeepsAll, KeepsOthers, Makes, MakesOrNot, puts}
+use Rattle.std.proofs.lemmas.List.Elements.{filter-append}
+use Rattle.hack_files.specs.Files.{Change, ComesNext, Contents, KeepsAll, KeepsOthers, Makes, MakesOrNot, Trace, after, after_change, by_kind, in_order, puts}
 use Rattle.hack_journal.specs.Journal.{Edit}
 use Rattle.hack_journal.specs.Rows.{Spot, IsFresh, IsNoteOf, IsTextOf, file_at, is_of_journal}
-use Rattle.hack_journal.specs.SafeFiles.{gives, SomeEntryHasBytes, first_entry_of, AfterEachFront, KeepFirst, HoldFirstOr, IsSafe, IsJournaled, Stays, changes_besides, without}
+use Rattle.hack_journal.specs.SafeFiles.{gives, SomeEntryHasBytes, first_entry_of, AfterEachFront, KeepFirst, HoldFirstOr, IsSafe, IsJournaled, Stays, changes_besides, trace_besides, without}
 use Rattle.hack_journal.specs.Strangers.{first_stranger, is_edit_of_manifest}
 use Rattle.hack_journal.specs.Internal.{Hidden, IsHeld, IsNotable}
-use Rattle.hack_journal.specs.SafeLaws.{makes_append, holds_left, note_text, safe_of, fronts_none, stays_more, stays_none}
-use Rattle.hack_journal.proofs.ChangeLemmas.{makes_here, makes_others, changed_other}
+use Rattle.hack_files.specs.TraceLaws.{makes_more}
+use Rattle.hack_journal.specs.SafeLaws.{holds_left, note_text, safe_of, fronts_none, stays_more, stays_none}
+use Rattle.hack_files.proofs.FilesLemmas.{makes_here, makes_others, changed_other}
 use Rattle.hack_journal.proofs.KnownLemmas.{known_left, known_more}
 use Rattle.hack_journal.proofs.RowLemmas.{apart_from, each_along, each_more, file_differ, fresh_apart, fresh_changed, fresh_more, file_zero, nothing_yet, own_file}
 
@@ -50,11 +54,11 @@ fronts_one P c m h g zero = h
 fronts_one P c m h g (suc k) = fronts_none P (after_change c m) g k
 
 -- one change
-pub stay_one : (P : Contents → Type 0) (c : Change) (t u : List Change) (m n : Contents) → Makes (c ∷ []) t u m n → P m → P n → AfterEachFront P t u m n
+pub stay_one : (P : Contents → Type 0) (c : Change) (t u : Trace) (m n : Contents) → Makes (c ∷ []) t u m n → P m → P n → AfterEachFront P t u m n
 stay_one P c t u m n h a b = record { added = c ∷ []; makes = h; fronts = fronts_one P c m a (subst P h.holds b) }
 
 -- where P holds, so does Q
-pub stay_wider : {P Q : Contents → Type 0} (t u : List Change) (m n : Contents) → ((x : Contents) → P x → Q x) → AfterEachFront P t u m n → AfterEachFront Q t u m n
+pub stay_wider : {P Q : Contents → Type 0} (t u : Trace) (m n : Contents) → ((x : Contents) → P x → Q x) → AfterEachFront P t u m n → AfterEachFront Q t u m n
 stay_wider t u m n wider f = record { added = f.added; makes = f.makes; fronts = λ k. wider (after (take k f.added) m) (f.fronts k) }
 
 pub keeps_left : (j : List ℕ) (o : Contents) (es more : List Edit) → KeepFirst j o (es ++ more) → KeepFirst j o es
@@ -70,7 +74,7 @@ pub record IsReady (s : Spot) (es : List Edit) (m : Contents) (text : List ℕ) 
   pub low : suc (length es) < 2 ^ 64
 
 -- the next file was written: the files are journaled, with one entry more in the row
-written : (s : Spot) (o : Contents) (es : List Edit) (text : List ℕ) (e : Edit) (t u : List Change) (m n : Contents) → IsReady s es m text e → Makes (puts (file_at s.journal (length es)) text ∷ []) t u m n → IsJournaled s o es m → IsJournaled s o es n
+written : (s : Spot) (o : Contents) (es : List Edit) (text : List ℕ) (e : Edit) (t u : Trace) (m n : Contents) → IsReady s es m text e → Makes (puts (file_at s.journal (length es)) text ∷ []) t u m n → IsJournaled s o es m → IsJournaled s o es n
 written s o es text e t u m n r makes k =
     let j = s.journal in
     let here : n (file_at j (length es)) ≡ Some text = makes_here t u (puts (file_at j (length es)) text) m n makes in
@@ -104,12 +108,12 @@ moved s o es e n low note none k is =
       holds = holds_left s.journal o es (e ∷ []) n k.holds;
     }
 
-pub made_here : (s : Spot) (es : List Edit) (text : List ℕ) (e : Edit) (t u : List Change) (m n : Contents) → IsReady s es m text e → Makes (puts (file_at s.journal (length es)) text ∷ []) t u m n → Stays s es es t u m n
+pub made_here : (s : Spot) (es : List Edit) (text : List ℕ) (e : Edit) (t u : Trace) (m n : Contents) → IsReady s es m text e → Makes (puts (file_at s.journal (length es)) text ∷ []) t u m n → Stays s es es t u m n
 made_here s es text e t u m n r makes o k =
     let now = written s o es text e t u m n r makes k in
     (stay_one (IsSafe s o) (puts (file_at s.journal (length es)) text) t u m n makes (safe_of s o es m k) (safe_of s o es n now), now)
 
-pub noted_here : (s : Spot) (es : List Edit) (text : List ℕ) (e : Edit) (t u : List Change) (m n : Contents) → IsReady s es m text e → Makes (puts (file_at s.journal (length es)) text ∷ []) t u m n → Stays s es (es ++ e ∷ []) t u m n
+pub noted_here : (s : Spot) (es : List Edit) (text : List ℕ) (e : Edit) (t u : Trace) (m n : Contents) → IsReady s es m text e → Makes (puts (file_at s.journal (length es)) text ∷ []) t u m n → Stays s es (es ++ e ∷ []) t u m n
 unfolding written
 noted_here s es text e t u m n r makes o k =
     let now = written s o es text e t u m n r makes k in
@@ -120,7 +124,7 @@ noted_here s es text e t u m n r makes o k =
       moved s o es e n low (subst (λ (x : Option (List ℕ)). IsNoteOf s.folder x e) (sym here) r.note) none now refl,
     )
 
-pub made_or_not : (s : Spot) (es : List Edit) (text : List ℕ) (e : Edit) (t u : List Change) (m n : Contents) → IsReady s es m text e → MakesOrNot (puts (file_at s.journal (length es)) text) t u m n → Stays s es es t u m n
+pub made_or_not : (s : Spot) (es : List Edit) (text : List ℕ) (e : Edit) (t u : Trace) (m n : Contents) → IsReady s es m text e → MakesOrNot (puts (file_at s.journal (length es)) text) t u m n → Stays s es es t u m n
 made_or_not s es text e t u m n r makes = elim makes [ inl none ↦ stays_none s es t u m n none | inr made ↦ made_here s es text e t u m n r made ]
 
 -- after looks that changed nothing
@@ -134,11 +138,11 @@ ready_of s es l m text e is notable utf8 note absent low = record {
 }
 
 -- after a look the next file was written, or not
-pub append_made : (s : Spot) (es : List Edit) (e : Edit) (p text : List ℕ) (t u v : List Change) (l m n : Contents) → p ≡ file_at s.journal (length es) → Makes [] t u l m → IsReady s es m text e → MakesOrNot (puts p text) u v m n → Stays s es es t v l n
+pub append_made : (s : Spot) (es : List Edit) (e : Edit) (p text : List ℕ) (t u v : Trace) (l m n : Contents) → p ≡ file_at s.journal (length es) → Makes [] t u l m → IsReady s es m text e → MakesOrNot (puts p text) u v m n → Stays s es es t v l n
 append_made s es e p text t u v l m n is look r makes =
     stays_more s es es es t u v l m n (stays_none s es t u l m look) (made_or_not s es text e u v m n r (subst (λ (q : List ℕ). MakesOrNot (puts q text) u v m n) is makes))
 
-pub append_noted : (s : Spot) (es fs : List Edit) (e : Edit) (p text : List ℕ) (t u v : List Change) (l m n : Contents) → fs ≡ es ++ e ∷ [] → p ≡ file_at s.journal (length es) → Makes [] t u l m → IsReady s es m text e → Makes (puts p text ∷ []) u v m n → Stays s es fs t v l n
+pub append_noted : (s : Spot) (es fs : List Edit) (e : Edit) (p text : List ℕ) (t u v : Trace) (l m n : Contents) → fs ≡ es ++ e ∷ [] → p ≡ file_at s.journal (length es) → Makes [] t u l m → IsReady s es m text e → Makes (puts p text ∷ []) u v m n → Stays s es fs t v l n
 append_noted s es fs e p text t u v l m n added is look r makes =
     subst (λ (x : List Edit). Stays s es x t v l n) (sym added)
     (stays_more s es es (es ++ e ∷ []) t u v l m n (stays_none s es t u l m look) (noted_here s es text e u v m n r (subst (λ (q : List ℕ). Makes (puts q text ∷ []) u v m n) is makes)))
@@ -151,7 +155,7 @@ told_ok (Ok a) es fs e p x is path wrote = told_end es fs e p x is path wrote
 told_ok (Err a) es fs e p x is path wrote = tt
 
 -- a path is changed to bytes that an entry of it has
-pub put_stays : (s : Spot) (es : List Edit) (p : List ℕ) (x : Option (List ℕ)) (t u : List Change) (m n : Contents) → is_of_journal s.journal p ≡ false → SomeEntryHasBytes es p x → Makes (gives p x ∷ []) t u m n → Stays s es es t u m n
+pub put_stays : (s : Spot) (es : List Edit) (p : List ℕ) (x : Option (List ℕ)) (t u : Trace) (m n : Contents) → is_of_journal s.journal p ≡ false → SomeEntryHasBytes es p x → Makes (gives p x ∷ []) t u m n → Stays s es es t u m n
 put_stays s es p x t u m n out told makes o k =
     let here = makes_here t u (gives p x) m n makes in
     let others : KeepsOthers p m n = makes_others t u (gives p x) m n makes in
@@ -175,14 +179,31 @@ put_stays s es p x t u m n out told makes o k =
     } in
     (stay_one (IsSafe s o) (gives p x) t u m n makes (safe_of s o es m k) (safe_of s o es n now), now)
 
-pub put_or_not_stays : (s : Spot) (es : List Edit) (p : List ℕ) (x : Option (List ℕ)) (t u : List Change) (m n : Contents) → is_of_journal s.journal p ≡ false → SomeEntryHasBytes es p x → MakesOrNot (gives p x) t u m n → Stays s es es t u m n
+pub put_or_not_stays : (s : Spot) (es : List Edit) (p : List ℕ) (x : Option (List ℕ)) (t u : Trace) (m n : Contents) → is_of_journal s.journal p ≡ false → SomeEntryHasBytes es p x → MakesOrNot (gives p x) t u m n → Stays s es es t u m n
 put_or_not_stays s es p x t u m n out told makes = elim makes [ inl none ↦ stays_none s es t u m n none | inr made ↦ put_stays s es p x t u m n out told made ]
 
 -- ---- the changes besides the journal's, and the paths without it
 
 but_append : (j : List ℕ) (xs ys : List Change) → changes_besides j (xs ++ ys) ≡ changes_besides j xs ++ changes_besides j ys
-but_append j [] ys = refl
-but_append j (c ∷ xs) ys = elim (cases_Bool (is_of_journal j c.path)) [ inl t ↦ rw t (but_append j xs ys) | inr f ↦ rw f (ap (λ l. c ∷ l) (but_append j xs ys)) ]
+but_append j = filter-append (λ c. not (is_of_journal j c.path))
+
+-- of some of the changes those besides the journal's
+but_some : (j : List ℕ) (p : Change → Bool) (cs : List Change) → changes_besides j (filter p cs) ≡ filter p (changes_besides j cs)
+but_some j p [] = refl
+but_some j p (c ∷ cs) = elim (cases_Bool (p c)) [
+  | inl y ↦ elim (cases_Bool (is_of_journal j c.path)) [ inl own ↦ rw (y, own) (but_some j p cs) | inr out ↦ rw (y, out, y) (ap (λ l. c ∷ l) (but_some j p cs)) ]
+  | inr n ↦ elim (cases_Bool (is_of_journal j c.path)) [ inl own ↦ rw (n, own) (but_some j p cs) | inr out ↦ rw (n, out, n) (but_some j p cs) ]
+]
+
+but_next : (j : List ℕ) (cs : List Change) (t u : Trace) → ComesNext cs t u → ComesNext (changes_besides j cs) (trace_besides j t) (trace_besides j u)
+but_next j cs (in_order t) (in_order u) h = ap (changes_besides j) h ∙ but_append j t cs
+but_next j cs (by_kind is a b) (by_kind was c d) h = (
+  h.0,
+  subst (λ (l : List Change). ComesNext l (trace_besides j a) (trace_besides j c)) (but_some j (λ x. is x.path) cs) (but_next j (filter (λ x. is x.path) cs) a c h.1),
+  subst (λ (l : List Change). ComesNext l (trace_besides j b) (trace_besides j d)) (but_some j (λ x. not (is x.path)) cs) (but_next j (filter (λ x. not (is x.path)) cs) b d h.2),
+)
+but_next j cs (in_order t) (by_kind was c d) h = absurd h
+but_next j cs (by_kind is a b) (in_order u) h = absurd h
 
 -- two paths of which one is set aside for the journal
 two_paths : (j p q : List ℕ) → is_of_journal j p ≡ true → is_of_journal j q ≡ false → q ≢ p
@@ -205,8 +226,8 @@ without_out j c m out = fun_ext λ q. elim (cases_Bool (is_of_journal j q)) [
 without_after : (j : List ℕ) (cs : List Change) (m : Contents) → without j (after cs m) ≡ after (changes_besides j cs) (without j m)
 without_after j [] m = refl
 without_after j (c ∷ cs) m = elim (cases_Bool (is_of_journal j c.path)) [
-  | inl t ↦ without_after j cs (after_change c m) ∙ ap (after (changes_besides j cs)) (without_in j c m t) ∙ sym (ap (λ b. after (cond b (changes_besides j cs) (c ∷ changes_besides j cs)) (without j m)) t)
-  | inr f ↦ without_after j cs (after_change c m) ∙ ap (after (changes_besides j cs)) (without_out j c m f) ∙ sym (ap (λ b. after (cond b (changes_besides j cs) (c ∷ changes_besides j cs)) (without j m)) f)
+  | inl t ↦ without_after j cs (after_change c m) ∙ ap (after (changes_besides j cs)) (without_in j c m t) ∙ sym (ap (λ b. after (cond (not b) (c ∷ changes_besides j cs) (changes_besides j cs)) (without j m)) t)
+  | inr f ↦ without_after j cs (after_change c m) ∙ ap (after (changes_besides j cs)) (without_out j c m f) ∙ sym (ap (λ b. after (cond (not b) (c ∷ changes_besides j cs) (changes_besides j cs)) (without j m)) f)
 ]
 
 pub without_all : (j : List ℕ) (m n : Contents) → KeepsAll m n → KeepsAll (without j m) (without j n)
@@ -222,52 +243,55 @@ without_file j k m n same q = ap (λ f. f q) (without_same j m n (λ p out. same
 pub without_at : (j : List ℕ) (m : Contents) (q : List ℕ) → is_of_journal j q ≡ false → without j m q ≡ m q
 without_at j m q out = ap (λ b. cond b None (m q)) out
 
-pub hides : (j : List ℕ) (cs t u : List Change) (m n : Contents) → Makes cs t u m n → Makes (changes_besides j cs) (changes_besides j t) (changes_besides j u) (without j m) (without j n)
-hides j cs t u m n h = record { traced = ap (changes_besides j) h.traced ∙ but_append j t cs; holds = ap (without j) h.holds ∙ without_after j cs m }
+pub hides : (j : List ℕ) (cs : List Change) (t u : Trace) (m n : Contents) → Makes cs t u m n → Makes (changes_besides j cs) (trace_besides j t) (trace_besides j u) (without j m) (without j n)
+hides j cs t u m n h = record { traced = but_next j cs t u h.traced; holds = ap (without j) h.holds ∙ without_after j cs m }
 
 but_one : (j p : List ℕ) (x : Option (List ℕ)) (cs : List Change) → is_of_journal j p ≡ false → changes_besides j cs ≡ [] → changes_besides j (cs ++ gives p x ∷ []) ≡ gives p x ∷ []
-but_one j p x cs ne none = but_append j cs (gives p x ∷ []) ∙ ap (λ l. l ++ changes_besides j (gives p x ∷ [])) none ∙ ap (λ b. cond b [] (gives p x ∷ [])) ne
+but_one j p x cs ne none = but_append j cs (gives p x ∷ []) ∙ ap (λ l. l ++ changes_besides j (gives p x ∷ [])) none ∙ ap (λ b. cond (not b) (gives p x ∷ []) []) ne
 
-pub hidden_put : (j p : List ℕ) (x : Option (List ℕ)) (s t u : List Change) (l m n : Contents) → is_of_journal j p ≡ false → Hidden j s t l m → Makes (gives p x ∷ []) t u m n → Makes (gives p x ∷ []) (changes_besides j s) (changes_besides j u) (without j l) (without j n)
+pub hidden_put : (j p : List ℕ) (x : Option (List ℕ)) (s t u : Trace) (l m n : Contents) → is_of_journal j p ≡ false → Hidden j s t l m → Makes (gives p x ∷ []) t u m n → Makes (gives p x ∷ []) (trace_besides j s) (trace_besides j u) (without j l) (without j n)
 hidden_put j p x s t u l m n ne h makes =
-    subst (λ (cs : List Change). Makes cs (changes_besides j s) (changes_besides j u) (without j l) (without j n)) (but_one j p x h.added ne h.journals)
-    (hides j (h.added ++ gives p x ∷ []) s u l n (makes_append h.added (gives p x ∷ []) s t u l m n h.makes makes))
+    subst (λ (cs : List Change). Makes cs (trace_besides j s) (trace_besides j u) (without j l) (without j n)) (but_one j p x h.added ne h.journals)
+    (hides j (h.added ++ gives p x ∷ []) s u l n (makes_more h.added (gives p x ∷ []) s t u l m n h.makes makes))
 
-pub hidden_alone : (j : List ℕ) (s t : List Change) (l m : Contents) → Hidden j s t l m → Makes [] (changes_besides j s) (changes_besides j t) (without j l) (without j m)
-hidden_alone j s t l m h = subst (λ (cs : List Change). Makes cs (changes_besides j s) (changes_besides j t) (without j l) (without j m)) h.journals (hides j h.added s t l m h.makes)
+pub hidden_alone : (j : List ℕ) (s t : Trace) (l m : Contents) → Hidden j s t l m → Makes [] (trace_besides j s) (trace_besides j t) (without j l) (without j m)
+hidden_alone j s t l m h = subst (λ (cs : List Change). Makes cs (trace_besides j s) (trace_besides j t) (without j l) (without j m)) h.journals (hides j h.added s t l m h.makes)
 
-pub hidden_or_not : (j p : List ℕ) (x : Option (List ℕ)) (s t u : List Change) (l m n : Contents) → is_of_journal j p ≡ false → Hidden j s t l m → MakesOrNot (gives p x) t u m n → MakesOrNot (gives p x) (changes_besides j s) (changes_besides j u) (without j l) (without j n)
+pub hidden_or_not : (j p : List ℕ) (x : Option (List ℕ)) (s t u : Trace) (l m n : Contents) → is_of_journal j p ≡ false → Hidden j s t l m → MakesOrNot (gives p x) t u m n → MakesOrNot (gives p x) (trace_besides j s) (trace_besides j u) (without j l) (without j n)
 hidden_or_not j p x s t u l m n ne h makes = elim makes [
-  | inl none ↦ inl (subst (λ (cs : List Change). Makes cs (changes_besides j s) (changes_besides j u) (without j l) (without j n)) (ap (changes_besides j) (append-nil h.added) ∙ h.journals)
-      (hides j (h.added ++ []) s u l n (makes_append h.added [] s t u l m n h.makes none)))
+  | inl none ↦ inl (subst (λ (cs : List Change). Makes cs (trace_besides j s) (trace_besides j u) (without j l) (without j n)) (ap (changes_besides j) (append-nil h.added) ∙ h.journals)
+      (hides j (h.added ++ []) s u l n (makes_more h.added [] s t u l m n h.makes none)))
   | inr made ↦ inr (hidden_put j p x s t u l m n ne h made)
 ]
 
 -- a file of the row was changed
-pub hidden_file : (j : List ℕ) (k : ℕ) (x : Option (List ℕ)) (s t u : List Change) (l m n : Contents) → Makes [] s t l m → Makes (gives (file_at j k) x ∷ []) t u m n → Hidden j s u l n
+pub hidden_file : (j : List ℕ) (k : ℕ) (x : Option (List ℕ)) (s t u : Trace) (l m n : Contents) → Makes [] s t l m → Makes (gives (file_at j k) x ∷ []) t u m n → Hidden j s u l n
 hidden_file j k x s t u l m n look makes = record {
   added = gives (file_at j k) x ∷ [];
-  makes = makes_append [] (gives (file_at j k) x ∷ []) s t u l m n look makes;
-  journals = ap (λ b. cond b [] (gives (file_at j k) x ∷ [])) (own_file j k);
+  makes = makes_more [] (gives (file_at j k) x ∷ []) s t u l m n look makes;
+  journals = ap (λ b. cond (not b) (gives (file_at j k) x ∷ []) []) (own_file j k);
 }
 
-pub hidden_none : (j : List ℕ) (s t : List Change) (l m : Contents) → Makes [] s t l m → Hidden j s t l m
+pub hidden_none : (j : List ℕ) (s t : Trace) (l m : Contents) → Makes [] s t l m → Hidden j s t l m
 hidden_none j s t l m look = record { added = []; makes = look; journals = refl }
 
-pub hidden_file_or_not : (j : List ℕ) (k : ℕ) (x : Option (List ℕ)) (s t u : List Change) (l m n : Contents) → Makes [] s t l m → MakesOrNot (gives (file_at j k) x) t u m n → Hidden j s u l n
+pub hidden_then : (j : List ℕ) (s t u : Trace) (l m n : Contents) → Makes [] s t l m → Hidden j t u m n → Hidden j s u l n
+hidden_then j s t u l m n look h = record { added = h.added; makes = makes_more [] h.added s t u l m n look h.makes; journals = h.journals }
+
+pub hidden_file_or_not : (j : List ℕ) (k : ℕ) (x : Option (List ℕ)) (s t u : Trace) (l m n : Contents) → Makes [] s t l m → MakesOrNot (gives (file_at j k) x) t u m n → Hidden j s u l n
 hidden_file_or_not j k x s t u l m n look makes = elim makes [
-  | inl none ↦ hidden_none j s u l n (makes_append [] [] s t u l m n look none)
+  | inl none ↦ hidden_none j s u l n (makes_more [] [] s t u l m n look none)
   | inr made ↦ hidden_file j k x s t u l m n look made
 ]
 
-pub append_hidden : (j p text : List ℕ) (k : ℕ) (t u v : List Change) (l m n : Contents) → p ≡ file_at j k → Makes [] t u l m → MakesOrNot (puts p text) u v m n → Hidden j t v l n
+pub append_hidden : (j p text : List ℕ) (k : ℕ) (t u v : Trace) (l m n : Contents) → p ≡ file_at j k → Makes [] t u l m → MakesOrNot (puts p text) u v m n → Hidden j t v l n
 append_hidden j p text k t u v l m n is look makes = hidden_file_or_not j k (Some text) t u v l m n look (subst (λ (q : List ℕ). MakesOrNot (puts q text) u v m n) is makes)
 
 pub append_others : (j p : List ℕ) (k : ℕ) (l m n : Contents) → p ≡ file_at j k → KeepsAll l m → KeepsOthers p m n → KeepsAll (without j l) (without j n)
 append_others j p k l m n is look others q = without_file j k m n (subst (λ (r : List ℕ). KeepsOthers r m n) is others) q ∙ without_all j l m look q
 
 -- a change was made or not, whatever the call returns
-pub at_either : {A E W : Type 0} (r : Result A E) (c : Change) (t u : List Change) (m n : Contents) → OnOk r (W → Makes (c ∷ []) t u m n) → OnErr r (W → MakesOrNot c t u m n) → W → MakesOrNot c t u m n
+pub at_either : {A E W : Type 0} (r : Result A E) (c : Change) (t u : Trace) (m n : Contents) → OnOk r (W → Makes (c ∷ []) t u m n) → OnErr r (W → MakesOrNot c t u m n) → W → MakesOrNot c t u m n
 at_either (Ok x) c t u m n ok err w = inr (ok w)
 at_either (Err x) c t u m n ok err w = err w
 

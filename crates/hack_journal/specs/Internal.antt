@@ -1,7 +1,7 @@
 -- What only private functions of the crate promise each other.
 use Rattle.std.specs.Prelude.{◌≡◌, ◌≢◌, ◌⊎◌, ◌++◌, [], ◌∷◌, ℕ, false, true, List, Option, Some, None, IsSome, string_bytes}
 use Rattle.hack_base.specs.Counters.{GrowsBy}
-use Rattle.hack_files.specs.Files.{Change, Contents, Makes}
+use Rattle.hack_files.specs.Files.{Change, Contents, Makes, Trace}
 use Rattle.hack_files.specs.declared.fs.FsFault.TheVariants as fs
 use Rattle.hack_journal.specs.Journal.{Edit}
 use Rattle.hack_journal.specs.Rows.{Spot, AreFirst, IsFresh, IsTextOf, file_at, is_of_journal}
@@ -147,11 +147,11 @@ Nears journal first old now =
     (q : List ℕ) → (now q ≡ old q) ⊎ ((is_of_journal journal q ≡ false) × (now q ≡ first q))
 
 -- changes were made, and after every front of them each path holds one of these
-abbrev pub PutsBack : List ℕ → Contents → List Change → List Change → Contents → Contents → Type 0
+abbrev pub PutsBack : List ℕ → Contents → Trace → Trace → Contents → Contents → Type 0
 PutsBack journal first old_trace new_trace old new = AfterEachFront (Nears journal first old) old_trace new_trace old new
 
 -- changes were made, and after every front of them each path holds one of these, or the files are safe
-abbrev pub PutsBackOrSafe : Spot → Contents → List Change → List Change → Contents → Contents → Type 0
+abbrev pub PutsBackOrSafe : Spot → Contents → Trace → Trace → Contents → Contents → Type 0
 PutsBackOrSafe spot first old_trace new_trace old new =
     AfterEachFront (λ now. Nears spot.journal first old now ⊎ IsSafe spot first now) old_trace new_trace old new
 
@@ -181,14 +181,14 @@ pub record IsNotable (journal : List ℕ) (entries : List Edit) (now : Contents)
   pub held : IsHeld (first_entry_of entries e.path) (now e.path) e.held
 
 -- changes of the journal alone were made
-pub record Hidden (journal : List ℕ) (old_trace new_trace : List Change) (old new : Contents) : Type 0 where
+pub record Hidden (journal : List ℕ) (old_trace new_trace : Trace) (old new : Contents) : Type 0 where
   pub added : List Change
   pub makes : Makes added old_trace new_trace old new
   pub journals : changes_besides journal added ≡ []
 
 -- whatever the paths held at first: where the files are journaled and all is back, the row was made
 -- shorter, up to these entries
-abbrev pub ShortensRow : Spot → List Edit → List Edit → List Change → List Change → Contents → Contents → Type 0
+abbrev pub ShortensRow : Spot → List Edit → List Edit → Trace → Trace → Contents → Contents → Type 0
 ShortensRow spot es fs old_trace new_trace old new =
     (first : Contents) → IsJournaled spot first es old → IsAllBack spot.journal first old
     → StaysSafe spot first old_trace new_trace old new × IsJournaled spot first fs new

@@ -1,5 +1,5 @@
 -- Which writes and removals were refused, and by whom.
-use Rattle.std.specs.Prelude.{◌≡◌, ◌⊎◌, ◌≤◌, ◌+◌, ◌∷◌, [], ℕ, List, Result, OnErr, IsErr, IsTrue, All, length}
+use Rattle.std.specs.Prelude.{◌≡◌, ◌⊎◌, ◌≤◌, ◌+◌, ◌∷◌, [], ℕ, List, MatchResult, Result, OnErr, IsErr, IsTrue, All, length}
 use Rattle.hack_base.specs.Counters.{GrowsBy}
 use Rattle.hack_files.specs.Files.{GrowsAtLeastBy}
 use Rattle.hack_files.specs.declared.fs.Files.{Ghosts as Filing}
@@ -46,7 +46,7 @@ pub record AreJust (P : List ℕ → Type 0) (paths : List (List ℕ)) (old new 
   pub each : All P paths
   pub failed : GrowsAtLeastBy (length paths) old new
 
--- a count grew by no more than two others together
+-- a count grew by no more than two others together, and by no less than the second
 pub record GrowsWithin (one_old one_new two_old two_new old new : ℕ) : Type 0 where
   pub first : ℕ
   pub second : ℕ
@@ -55,6 +55,7 @@ pub record GrowsWithin (one_old one_new two_old two_new old new : ℕ) : Type 0 
   pub two : GrowsBy second two_old two_new
   pub sum : GrowsBy both old new
   pub most : both ≤ first + second
+  pub least : second ≤ both
 
 -- a count grew by what two others did together
 pub record GrowsAsBoth (one_old one_new two_old two_new old new : ℕ) : Type 0 where
@@ -64,10 +65,11 @@ pub record GrowsAsBoth (one_old one_new two_old two_new old new : ℕ) : Type 0 
   pub two : GrowsBy second two_old two_new
   pub sum : GrowsBy (first + second) old new
 
--- a call that failed is counted by one of two counts
+-- a call that failed is counted by one of two counts; the second counts it once at most, and no other call
 pub record IsCounted {T E : Type 0} (result : Result T E) (one_old one_new two_old two_new : ℕ) : Type 0 where
   pub first : ℕ
   pub second : ℕ
   pub one : GrowsBy first one_old one_new
   pub two : GrowsBy second two_old two_new
   pub some : OnErr result (1 ≤ first + second)
+  pub once : MatchResult result (λ _. second ≡ 0) (λ _. second ≤ 1)

@@ -28,7 +28,7 @@ pub grows_more : (i j x y z : ℕ) → GrowsBy i x y → GrowsBy j y z → Grows
 grows_more i j x y z f g = λ low. let first = f low in let second = g (omega (arith, first)) in omega (arith, first, second)
 
 pub within_none : (a b c : ℕ) → GrowsWithin a a b b c c
-within_none a b c = record { first = 0; second = 0; both = 0; one = grows_none a; two = grows_none b; sum = grows_none c; most = omega arith }
+within_none a b c = record { first = 0; second = 0; both = 0; one = grows_none a; two = grows_none b; sum = grows_none c; most = omega arith; least = omega arith }
 
 pub within_more : (a b c x y z u v w : ℕ) → GrowsWithin a b x y u v → GrowsWithin b c y z v w → GrowsWithin a c x z u w
 within_more a b c x y z u v w f g = record {
@@ -39,6 +39,7 @@ within_more a b c x y z u v w f g = record {
   two = grows_more f.second g.second x y z f.two g.two;
   sum = grows_more f.both g.both u v w f.sum g.sum;
   most = omega (arith, f.most, g.most);
+  least = omega (arith, f.least, g.least);
 }
 
 pub both_none : (a b c : ℕ) → GrowsAsBoth a a b b c c

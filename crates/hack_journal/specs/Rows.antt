@@ -1,10 +1,10 @@
 -- The row of files that a journal is.
-use Rattle.std.specs.Prelude.{◌≡◌, ◌≢◌, ◌⊎◌, ◌++◌, ◌==◌, ◌<◌, [], ◌∷◌, ℕ, zero, suc, Bool, false, IsTrue, List, Option, Some, None, codes, map, nat_eq, string_bytes, if◌then◌else◌}
+use Rattle.std.specs.Prelude.{◌≡◌, ◌≢◌, ◌++◌, ◌==◌, ◌<◌, [], ◌∷◌, ℕ, zero, suc, Bool, false, IsTrue, All, List, Option, Some, None, codes, map, nat_eq, string_bytes, true, if◌then◌else◌}
 use Rattle.std.specs.Fmt.{decimal}
 use Rattle.std.specs.List.{starts_with}
 use Rattle.std.specs.Str.{IsUtf8}
 use Rattle.hack_base.specs.PathTexts.{is_rooted, join_of, normal_of}
-use Rattle.hack_files.specs.Files.{Contents}
+use Rattle.hack_files.specs.Files.{Contents, Makes, Trace, removes}
 use Rattle.hack_journal.specs.Journal.{Edit, HaveTextPaths, journal_text}
 use Rattle.hack_journal.specs.declared.place.Place.{Place}
 
@@ -44,9 +44,11 @@ IsBeside journal k path = (i : ℕ) → i < k → path ≢ file_at journal i
 abbrev pub KeepsBeside : List ℕ → ℕ → Contents → Contents → Type 0
 KeepsBeside journal k old new = (path : List ℕ) → IsBeside journal k path → new path ≡ old path
 
--- each path holds what it held, or nothing any more
-abbrev pub OnlyRemoves : Contents → Contents → Type 0
-OnlyRemoves old new = (path : List ℕ) → (new path ≡ old path) ⊎ (new path ≡ None)
+-- nothing was changed but that paths which are set aside for the journal were removed
+pub record RemovesOwn (journal : List ℕ) (old_trace new_trace : Trace) (old new : Contents) : Type 0 where
+  pub paths : List (List ℕ)
+  pub own : All (λ path. is_of_journal journal path ≡ true) paths
+  pub makes : Makes (map removes paths) old_trace new_trace old new
 
 -- ---- what a file of the row holds
 

@@ -1,7 +1,8 @@
 -- What a journal keeps while files are edited.
-use Rattle.std.specs.Prelude.{◌≡◌, ◌⊎◌, ◌++◌, [], ◌∷◌, ℕ, suc, List, Option, Some, None, false, length, take, cond}
+use Rattle.std.specs.Prelude.{◌≡◌, ◌⊎◌, ◌++◌, [], ◌∷◌, ℕ, suc, List, Option, Some, None, false, length, not, take, cond}
+use Rattle.std.specs.List.{filter}
 use Rattle.std.specs.Str.{bytes_eq, IsUtf8}
-use Rattle.hack_files.specs.Files.{Change, Contents, after, Makes}
+use Rattle.hack_files.specs.Files.{Change, Contents, Makes, Trace, after, by_kind, in_order}
 use Rattle.hack_journal.specs.Journal.{Edit}
 use Rattle.hack_journal.specs.Rows.{Spot, file_at, is_of_journal, AreEach, IsFresh, IsRowOf, IsTextOf}
 use Rattle.hack_journal.specs.Strangers.{first_stranger}
@@ -79,19 +80,20 @@ pub record IsJournaled (spot : Spot) (first : Contents) (entries : List Edit) (n
   pub keeps : KeepFirst spot.journal first (entries ++ more)
   pub holds : HoldFirstOr SomeEntryHasBytes spot.journal first entries now
 
--- changes were made, and P holds after every front of them
-pub record AfterEachFront (P : Contents → Type 0) (old_trace new_trace : List Change) (old new : Contents) : Type 0 where
+-- changes were made, and P holds after every front of them; where files are kept apart by their kind, after those of some
+-- order that each kind has
+pub record AfterEachFront (P : Contents → Type 0) (old_trace new_trace : Trace) (old new : Contents) : Type 0 where
   pub added : List Change
   pub makes : Makes added old_trace new_trace old new
   pub fronts : (k : ℕ) → P (after (take k added) old)
 
 -- changes were made, and after every front of them the files are safe
-abbrev pub StaysSafe : Spot → Contents → List Change → List Change → Contents → Contents → Type 0
+abbrev pub StaysSafe : Spot → Contents → Trace → Trace → Contents → Contents → Type 0
 StaysSafe spot first = AfterEachFront (IsSafe spot first)
 
 -- whatever the paths held at first: where the files are journaled, the changes keep them safe, and
 -- the files are journaled after them
-abbrev pub Stays : Spot → List Edit → List Edit → List Change → List Change → Contents → Contents → Type 0
+abbrev pub Stays : Spot → List Edit → List Edit → Trace → Trace → Contents → Contents → Type 0
 Stays spot es fs old_trace new_trace old new =
     (first : Contents) → IsJournaled spot first es old → StaysSafe spot first old_trace new_trace old new × IsJournaled spot first fs new
 
@@ -99,8 +101,12 @@ Stays spot es fs old_trace new_trace old new =
 
 -- the changes except those of paths that are set aside for the journal
 abbrev pub changes_besides : List ℕ → List Change → List Change
-changes_besides journal [] = []
-changes_besides journal (c ∷ cs) = cond (is_of_journal journal c.path) (changes_besides journal cs) (c ∷ changes_besides journal cs)
+changes_besides journal = filter (λ c. not (is_of_journal journal c.path))
+
+-- the same of all that the files have seen
+abbrev pub trace_besides : List ℕ → Trace → Trace
+trace_besides journal (in_order cs) = in_order (changes_besides journal cs)
+trace_besides journal (by_kind is these others) = by_kind is (trace_besides journal these) (trace_besides journal others)
 
 -- what the paths hold, as if nothing were at those that are set aside for the journal
 abbrev pub without : List ℕ → Contents → Contents

@@ -4,24 +4,12 @@ use Rattle.std.specs.Str.{bytes_eq}
 use Rattle.std.proofs.lemmas.Bool.{cases_Bool}
 use Rattle.std.proofs.lemmas.Bool.Decides.{eqb_tells}
 use Rattle.std.proofs.lemmas.Slice.Eq.{bytes_eq-Decides}
-use Rattle.hack_files.specs.Files.{Change, Contents, after_change, after, Makes}
+use Rattle.hack_files.specs.Files.{Change, Contents, Makes, Trace, after, after_change}
+use Rattle.hack_files.specs.TraceLaws.{makes_more}
 use Rattle.hack_journal.specs.Journal.{Edit}
 use Rattle.hack_journal.specs.Rows.{Spot, AreEach, AreFirst, IsBeside, IsFresh, IsNoteOf, IsTextOf, file_at}
 use Rattle.hack_journal.specs.Strangers.{first_stranger}
 use Rattle.hack_journal.specs.SafeFiles.{AfterEachFront, KeepFirst, SomeEntryHasBytes, HoldFirstOr, IsSafe, IsJournaled, Stays}
-
-pub after_append : (xs ys : List Change) (m : Contents) → after (xs ++ ys) m ≡ after ys (after xs m)
-after_append [] ys m = refl
-after_append (x ∷ xs) ys m = after_append xs ys (after_change x m)
-
-pub makes_none : (t : List Change) (m : Contents) → Makes [] t t m m
-makes_none t m = record { traced = sym (append-nil t); holds = refl }
-
-pub makes_append : (xs ys t u v : List Change) (m n w : Contents) → Makes xs t u m n → Makes ys u v n w → Makes (xs ++ ys) t v m w
-makes_append xs ys t u v m n w f g = record {
-  traced = g.traced ∙ ap (λ l. l ++ ys) f.traced ∙ append_assoc t xs ys;
-  holds = g.holds ∙ ap (after ys) f.holds ∙ sym (after_append xs ys m);
-}
 
 pub tells_left : (es fs : List Edit) (p : List ℕ) (x : Option (List ℕ)) → SomeEntryHasBytes es p x → SomeEntryHasBytes (es ++ fs) p x
 tells_left [] fs p x h = absurd h
@@ -103,23 +91,23 @@ pub fronts_none : (P : Contents → Type 0) (m : Contents) → P m → (k : ℕ)
 fronts_none P m h zero = h
 fronts_none P m h (suc k) = h
 
-pub stay_append : (P : Contents → Type 0) (t u v : List Change) (m n w : Contents) → AfterEachFront P t u m n → AfterEachFront P u v n w → AfterEachFront P t v m w
+pub stay_append : (P : Contents → Type 0) (t u v : Trace) (m n w : Contents) → AfterEachFront P t u m n → AfterEachFront P u v n w → AfterEachFront P t v m w
 stay_append P t u v m n w f g = record {
   added = f.added ++ g.added;
-  makes = makes_append f.added g.added t u v m n w f.makes g.makes;
+  makes = makes_more f.added g.added t u v m n w f.makes g.makes;
   fronts = fronts_append f.added g.added P m f.fronts (λ k. subst (λ (x : Contents). P (after (take k g.added) x)) f.makes.holds (g.fronts k));
 }
 
-pub stay_none : (P : Contents → Type 0) (t u : List Change) (m n : Contents) → Makes [] t u m n → P m → AfterEachFront P t u m n
+pub stay_none : (P : Contents → Type 0) (t u : Trace) (m n : Contents) → Makes [] t u m n → P m → AfterEachFront P t u m n
 stay_none P t u m n h p = record { added = []; makes = h; fronts = fronts_none P m p }
 
 -- nothing was changed
-pub stays_none : (j : Spot) (es : List Edit) (t u : List Change) (m n : Contents) → Makes [] t u m n → Stays j es es t u m n
+pub stays_none : (j : Spot) (es : List Edit) (t u : Trace) (m n : Contents) → Makes [] t u m n → Stays j es es t u m n
 stays_none j es t u m n h o k = (stay_none (IsSafe j o) t u m n h (safe_of j o es m k), subst (λ (x : Contents). IsJournaled j o es x) (sym h.holds) k)
 
-pub stays_more : (j : Spot) (es fs gs : List Edit) (t u v : List Change) (m n w : Contents) → Stays j es fs t u m n → Stays j fs gs u v n w → Stays j es gs t v m w
+pub stays_more : (j : Spot) (es fs gs : List Edit) (t u v : Trace) (m n w : Contents) → Stays j es fs t u m n → Stays j fs gs u v n w → Stays j es gs t v m w
 stays_more j es fs gs t u v m n w f g o k = let a = f o k in let b = g o a.1 in (stay_append (IsSafe j o) t u v m n w a.0 b.0, b.1)
 
 -- several changes, one after another, where the paths of the two journals are equal
-pub stays_join : (i j : Spot) (es fs gs : List Edit) (t u v : List Change) (m n w : Contents) → i ≡ j → Stays i es fs t u m n → Stays j fs gs u v n w → Stays i es gs t v m w
+pub stays_join : (i j : Spot) (es fs gs : List Edit) (t u v : Trace) (m n w : Contents) → i ≡ j → Stays i es fs t u m n → Stays j fs gs u v n w → Stays i es gs t v m w
 stays_join i j es fs gs t u v m n w e f g = stays_more i es fs gs t u v m n w f (subst (λ (x : Spot). Stays x fs gs u v n w) (sym e) g)

@@ -3,7 +3,8 @@
 //! Cargo itself changes `Cargo.lock` during a call, so a journal can't say what it held. Where the
 //! other files have a journal, writes of lockfiles don't go through it.
 
-ghost use Rattle.std.specs.Prelude.{◌≡◌, ◌↔◌, [], None, Some, IfOk, OnOk, IsTrue, IsSome};
+ghost use Rattle.std.specs.Prelude.{◌≡◌, ◌↔◌, None, Some, IfOk, IsTrue, IsSome};
+ghost use Rattle.hack_files.specs.Files.{by_kind};
 ghost use Rattle.hack_journal.specs.LockfilesApart.{is_lockfile, apart, KeepsLockfiles};
 ghost use Rattle.hack_journal.specs.LockfilesApart.{KeepsOtherFiles};
 
@@ -48,7 +49,7 @@ impl<A: Files, B: Files> Apart<A, B> {
 impl<A: Files, B: Files> Files for Apart<A, B> {
     ghost use Rattle.std.proofs.Common.{refl, ◌∙◌};
     ghost use Rattle.hack_journal.specs.FailedCalls.{LooksOrUnseen, ReadsOrUnseen};
-    ghost use Rattle.hack_journal.specs.FileCalls.{OnlyLooks, ChangesOnly, GoesToOne, PutsByKind};
+    ghost use Rattle.hack_journal.specs.FileCalls.{OnlyLooks, GoesToOne, Puts, PutsByKind};
     ghost use Rattle.hack_journal.specs.Refusing.{AreJust, GrowsAsBoth, HoldsByKind, IsRefused};
     ghost use Rattle.hack_journal.specs.Refusing.{UnseenByKind};
     ghost use Rattle.hack_journal.specs.RefusingLaws.{both_more, both_none, both_or_not};
@@ -56,8 +57,7 @@ impl<A: Files, B: Files> Files for Apart<A, B> {
 
     ghost tells = { A.tells × B.tells };
 
-    // The order of changes across the two is not known.
-    ghost whole = { ⊥ };
+    ghost whole = { A.whole × B.whole };
 
     // What `A` holds at paths of lockfiles never changes, nor what `B` holds at others, and just what
     // failed in one of the two is counted.
@@ -109,7 +109,8 @@ impl<A: Files, B: Files> Files for Apart<A, B> {
 
     ghost bytes_at = { λ s. apart (A.bytes_at s.files) (B.bytes_at s.lockfiles) };
 
-    ghost trace = { λ _. [] };
+    // The order of changes is known in each of the two, not across them.
+    ghost trace = { λ s. by_kind is_lockfile (B.trace s.lockfiles) (A.trace s.files) };
 
     ghost failed = { λ s. s.failures };
 
@@ -132,11 +133,9 @@ impl<A: Files, B: Files> Files for Apart<A, B> {
     }
 
     fn write(&mut self, path: &str, bytes: &[u8]) -> Result<(), FileFault>
-        ensures changes { ChangesOnly ⟦<Apart<A, B> as Files>⟧ path.now self.old self.new result }
-        ensures written { OnOk result (A.tells × B.tells →
-            apart (A.bytes_at self.new.files) (B.bytes_at self.new.lockfiles) path.now ≡
-            Some bytes.now) }
-        ensures puts { PutsByKind A.Files B.Files path.now (Some bytes.now)
+        ensures puts { Puts ⟦<Apart<A, B> as Files>⟧ path.now (Some bytes.now)
+            self.old self.new result }
+        ensures below { PutsByKind A.Files B.Files path.now (Some bytes.now)
             self.old self.new result }
         ensures one { GoesToOne path.now self.old self.new }
     {
@@ -169,11 +168,8 @@ impl<A: Files, B: Files> Files for Apart<A, B> {
     }
 
     fn remove(&mut self, path: &str) -> Result<(), FileFault>
-        ensures changes { ChangesOnly ⟦<Apart<A, B> as Files>⟧ path.now self.old self.new result }
-        ensures removed { OnOk result (A.tells × B.tells →
-            apart (A.bytes_at self.new.files) (B.bytes_at self.new.lockfiles) path.now ≡
-            None) }
-        ensures puts { PutsByKind A.Files B.Files path.now None self.old self.new result }
+        ensures puts { Puts ⟦<Apart<A, B> as Files>⟧ path.now None self.old self.new result }
+        ensures below { PutsByKind A.Files B.Files path.now None self.old self.new result }
         ensures one { GoesToOne path.now self.old self.new }
     {
         let outcome = if is_lockfile(path) {

@@ -15,7 +15,7 @@ use hack_files::fs::{FileFault, Files, Overwrites};
 use std::alloc::Global;
 
 /// Returns what a path holds, or `None` where nothing is there.
-#[tactic(auto, using(crate::proofs::CountLemmas::grows_then))]
+#[tactic(auto, using(crate::proofs::CountLemmas::grows_then, hack_files::proofs::FilesLemmas::trace_steps))]
 pub fn look<F: Files>(
     alloc: Global,
     files: &mut F,

@@ -15,9 +15,9 @@ ghost use Rattle.hack_files.specs.Files.{Contents, CountsFailedCall, KeepsOthers
 ghost use Rattle.hack_files.specs.Files.{Makes, MakesOrNot, refused_path};
 ghost use Rattle.hack_journal.specs.Keeping.{FailsToChange, TellsItsOwn};
 ghost use Rattle.hack_journal.specs.Rows.{spot_of, file_at, is_of_journal, KeepsBeside};
-ghost use Rattle.hack_journal.specs.Rows.{OnlyRemoves};
+ghost use Rattle.hack_journal.specs.Rows.{RemovesOwn};
 ghost use Rattle.hack_journal.specs.SafeFiles.{SomeEntryHasBytes, AreBack, gives};
-ghost use Rattle.hack_journal.specs.SafeFiles.{IsJournaled, Stays, changes_besides, without};
+ghost use Rattle.hack_journal.specs.SafeFiles.{IsJournaled, Stays, trace_besides, without};
 ghost use Rattle.hack_journal.specs.Internal.{ShortensRow};
 ghost use Rattle.hack_journal.specs.Refusing.{IsCounted, IsRefusedOrUnkept};
 
@@ -109,14 +109,14 @@ impl<F: Overwrites, U: Unkept> Journaled<F, U> {
             (without self.old.notes.journal (F.bytes_at self.new.files)) }
         ensures traced { OnOk result (F.whole →
             Makes (gives path.now (option_map (λ bytes. bytes.now) bytes.entry) ∷ [])
-            (changes_besides self.old.notes.journal (F.trace self.old.files))
-            (changes_besides self.old.notes.journal (F.trace self.new.files))
+            (trace_besides self.old.notes.journal (F.trace self.old.files))
+            (trace_besides self.old.notes.journal (F.trace self.new.files))
             (without self.old.notes.journal (F.bytes_at self.old.files))
             (without self.old.notes.journal (F.bytes_at self.new.files))) }
         ensures refused { OnErr result (F.whole →
             MakesOrNot (gives path.now (option_map (λ bytes. bytes.now) bytes.entry))
-            (changes_besides self.old.notes.journal (F.trace self.old.files))
-            (changes_besides self.old.notes.journal (F.trace self.new.files))
+            (trace_besides self.old.notes.journal (F.trace self.old.files))
+            (trace_besides self.old.notes.journal (F.trace self.new.files))
             (without self.old.notes.journal (F.bytes_at self.old.files))
             (without self.old.notes.journal (F.bytes_at self.new.files))) }
         ensures stays { StaysJournaled F.Files self.old self.new }
@@ -157,8 +157,8 @@ impl<F: Files, U: Unkept> Journaled<F, U> {
         ensures others { F.tells → KeepsBeside self.old.notes.journal
             (length self.old.notes.entries + 1)
             (F.bytes_at self.old.files) (F.bytes_at self.new.files) }
-        ensures only { F.whole → OnlyRemoves (F.bytes_at self.old.files)
-            (F.bytes_at self.new.files) }
+        ensures only { F.whole → RemovesOwn self.old.notes.journal (F.trace self.old.files)
+            (F.trace self.new.files) (F.bytes_at self.old.files) (F.bytes_at self.new.files) }
         ensures stays { F.tells → F.whole → ShortensRow (spot_in self.old)
             self.old.notes.entries self.new.notes.entries
             (F.trace self.old.files) (F.trace self.new.files)
@@ -191,8 +191,8 @@ impl<F: Files, U: Unkept> Journaled<F, U> {
         ensures others { F.tells → KeepsBeside self.old.notes.journal
             (length self.old.notes.entries + 1)
             (F.bytes_at self.old.files) (F.bytes_at self.new.files) }
-        ensures only { F.whole → OnlyRemoves (F.bytes_at self.old.files)
-            (F.bytes_at self.new.files) }
+        ensures only { F.whole → RemovesOwn self.old.notes.journal (F.trace self.old.files)
+            (F.trace self.new.files) (F.bytes_at self.old.files) (F.bytes_at self.new.files) }
         ensures stays { StaysJournaled F.Files self.old self.new }
         ensures gone { IfOk result (λ gone. IsTrue gone → F.tells →
             F.bytes_at self.new.files self.old.notes.journal ≡ None) }
@@ -219,7 +219,8 @@ impl<F: Files, U: Unkept> Journaled<F, U> {
 
 impl<F: Overwrites, U: Unkept> Files for Journaled<F, U> {
     ghost use Rattle.std.proofs.Common.{refl, ◌∙◌};
-    ghost use Rattle.hack_journal.specs.SafeLaws.{stays_none, stays_join, makes_none};
+    ghost use Rattle.hack_files.specs.TraceLaws.{makes_none};
+    ghost use Rattle.hack_journal.specs.SafeLaws.{stays_none, stays_join};
     ghost use Rattle.hack_journal.specs.FailedCalls.{LooksOrUnseen, ReadsOrUnseen};
     ghost use Rattle.hack_journal.specs.FileCalls.{OnlyLooks, Puts, spot_in};
     ghost use Rattle.hack_journal.specs.Refusing.{AreJust, GrowsWithin, IsUnseenOrUntold};
@@ -281,7 +282,7 @@ impl<F: Overwrites, U: Unkept> Files for Journaled<F, U> {
 
     ghost bytes_at = { λ files. without files.notes.journal (F.bytes_at files.files) };
 
-    ghost trace = { λ files. changes_besides files.notes.journal (F.trace files.files) };
+    ghost trace = { λ files. trace_besides files.notes.journal (F.trace files.files) };
 
     ghost failed = { λ files. files.failures };
 

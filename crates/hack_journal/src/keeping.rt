@@ -29,6 +29,7 @@ impl<F: Files, U: Unkept> Journaled<F, U> {
     ghost use Rattle.hack_journal.specs.FileCalls.{StaysJournaled};
 
     /// Returns what the path held before its first edit.
+    #[tactic(auto, using(hack_files::proofs::FilesLemmas::trace_steps))]
     fn held_at_first(&mut self, path: &str) -> Result<Option<Vec<u8>>, FileFault>
         ensures handed { F.stays self.old.files self.new.files }
         ensures below { Grows (F.failed self.old.files) (F.failed self.new.files) }
@@ -80,6 +81,7 @@ impl<F: Files, U: Unkept> Journaled<F, U> {
 
     /// Looks that the row will end behind the file that comes next, and returns the path there: what
     /// is there already would become part of the row.
+    #[tactic(auto, using(hack_files::proofs::FilesLemmas::trace_steps))]
     fn look_ahead(&mut self) -> Result<String, FileFault>
         ensures handed { F.stays self.old.files self.new.files }
         ensures below { Grows (F.failed self.old.files) (F.failed self.new.files) }

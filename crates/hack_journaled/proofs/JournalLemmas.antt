@@ -4,16 +4,18 @@ use Rattle.std.proofs.lemmas.List.{length-append}
 use Rattle.std.proofs.lemmas.List.Elements.{Contains-append_left}
 use Rattle.std.specs.Prelude.{All}
 use Rattle.hack_base.specs.Counters.{GrowsBy}
-use Rattle.hack_files.specs.Files.{Contents, KeepsAll, KeepsAllBut}
+use Rattle.hack_files.specs.Files.{Contents, KeepsAll, KeepsAllBut, Makes, Trace, by_kind}
 use Rattle.hack_files.specs.declared.fs.Files.{Ghosts as Filing}
 use Rattle.hack_journal.specs.LockfilesApart.{KeepsLockfiles, apart, is_lockfile}
 use Rattle.hack_journal.specs.FailedCalls.{CannotEnd}
 use Rattle.hack_journal.specs.Journal.{Edit}
-use Rattle.hack_journal.specs.SafeFiles.{AreBack, KeepFirst, without}
+use Rattle.hack_journal.specs.SafeFiles.{AreBack, KeepFirst, trace_besides, without}
 use Rattle.hack_journal.specs.Refusing.{AreJust, GrowsAsBoth, GrowsWithin, HoldsByKind, IsRefused, IsRefusedOrUnkept}
 use Rattle.hack_journal.specs.RefusingLaws.{grows_more}
-use Rattle.hack_journal.specs.Rows.{AreEach, KeepsBeside, Noted, Spot, file_at, is_of_journal}
+use Rattle.hack_journal.specs.Rows.{AreEach, KeepsBeside, Noted, RemovesOwn, Spot, file_at, is_of_journal}
 use Rattle.hack_journal.specs.declared.unkept.Unkept.{Ghosts as Noting}
+use Rattle.hack_journal.proofs.ApartLemmas.{files_kept}
+use Rattle.hack_journal.proofs.FinishLemmas.{only_besides}
 use Rattle.hack_journal.proofs.RowLemmas.{apart_from}
 use Rattle.hack_journal.proofs.SafeLemmas.{without_at, without_same}
 use Rattle.hack_load.specs.FilesAfterLoading.{LeavesFew}
@@ -27,7 +29,7 @@ use Rattle.hack_journaled.specs.Journals.{IsAccounted, IsAtEnd, IsWhyItStays, co
 
 -- a journal that can't be ended stays for this cause
 pub why_it_stays : {F : Type 0} (f : Filing F) (spot : Spot) (first last : Contents) (noted : Noted) (old new : F) → spot.journal ≡ noted.journal
-    → (f.tells → f.whole → first spot.journal ≡ None → AreEach spot (f.bytes_at old) 0 noted.entries) → IsAtEnd f last old new → CannotEnd f noted old new → IsWhyItStays f spot first last
+    → (f.tells → f.whole → first spot.journal ≡ None → AreEach spot (f.bytes_at old) 0 noted.entries) → IsAtEnd f spot.journal last old new → CannotEnd f noted old new → IsWhyItStays f spot first last
 why_it_stays f spot first last noted old new named each ends (inl look) = inl (
   look.0,
   record {
@@ -63,6 +65,11 @@ only_end n m none turn (inr one) = inr (omega (arith, one.0, none), turn one.1)
 pub seen_same : (first j : List ℕ) (k : ℕ) (m n last lockfiles : Contents) → first ≡ j → KeepsBeside j k m n → last ≡ n → apart (without j m) lockfiles ≡ contents_seen first last lockfiles
 seen_same first j k m n last lockfiles named same is =
     ap (λ c. apart c lockfiles) (sym (without_same j m n (λ q out. same q (λ i lt. apart_from j i q out)))) ∙ ap (λ c. apart (without j c) lockfiles) (sym is) ∙ ap (λ k. apart (without k last) lockfiles) (sym named)
+
+-- there no change is seen either
+pub traced_same : (first j : List ℕ) (t u v last_trace : Trace) (m n last lockfiles : Contents) → first ≡ j → RemovesOwn j t u m n → last_trace ≡ u → last ≡ n
+    → Makes [] (by_kind is_lockfile v (trace_besides j t)) (by_kind is_lockfile v (trace_besides first last_trace)) (apart (without j m) lockfiles) (contents_seen first last lockfiles)
+traced_same first j t u v last_trace m n last lockfiles named removes same is = rw (named, same, is) (files_kept v (trace_besides j t) (trace_besides j u) lockfiles (without j m) (without j n) (only_besides j t u m n removes))
 
 -- what is left of files where the removal of the journal may fail
 pub leaves_end : (a b c : Contents) (n m : ℕ) → b ≡ c → ((m ≡ n) ⊎ (m ≡ min (n + 1) (2 ^ 64 - 1))) → LeavesFew (Unit {0}) a b 0 n → LeavesFew (Unit {0}) a c 0 m
@@ -114,7 +121,12 @@ accounted f g h l m u v one two last below both end = record {
       let second = both.sum (omega arith) in
       let third = end.2 (omega (arith, second)) in
       omega (arith, first, again, second, third, below.most);
-  least = let second = both.sum (omega arith) in let third = end.2 (omega (arith, second)) in omega (arith, second, third);
+  least =
+      let first = below.sum (omega arith) in
+      let again = both.one (omega arith) in
+      let second = both.sum (omega arith) in
+      let third = end.2 (omega (arith, second)) in
+      omega (arith, first, again, second, third, below.least);
 }
 
 -- what was refused over a journal was refused below it, or couldn't be kept

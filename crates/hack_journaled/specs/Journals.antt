@@ -1,12 +1,12 @@
 -- What a call over files with a journal sees.
 use Rattle.std.specs.Prelude.{◌≡◌, ◌⊎◌, [], ◌∷◌, ◌+◌, ◌≤◌, ℕ, List, None, ◌-◌, ◌^◌, min}
 use Rattle.hack_base.specs.Counters.{GrowsBy}
-use Rattle.hack_files.specs.Files.{Contents}
+use Rattle.hack_files.specs.Files.{Contents, by_kind}
 use Rattle.hack_journal.specs.Journal.{Edit}
-use Rattle.hack_journal.specs.LockfilesApart.{apart}
+use Rattle.hack_journal.specs.LockfilesApart.{apart, is_lockfile}
 use Rattle.hack_journal.specs.Recovery.{HasEntry}
-use Rattle.hack_journal.specs.Rows.{AreEach, OnlyRemoves, Spot, file_at}
-use Rattle.hack_journal.specs.SafeFiles.{without}
+use Rattle.hack_journal.specs.Rows.{AreEach, RemovesOwn, Spot, file_at}
+use Rattle.hack_journal.specs.SafeFiles.{trace_besides, without}
 use Rattle.hack_files.specs.View.{FilesView}
 use Rattle.hack_files.specs.declared.fs.Files.{Ghosts as Filing}
 use Rattle.hack_run.specs.Worlds.{HostView, World}
@@ -17,15 +17,19 @@ abbrev pub contents_seen : List ℕ → Contents → Contents → Contents
 contents_seen journal files lockfiles = apart (without journal files) lockfiles
 
 -- these as files, of which so many calls failed; the order of changes across the two isn't known
-abbrev pub files_seen : List ℕ → Contents → Contents → ℕ → FilesView
-files_seen journal files lockfiles failed = record { held = contents_seen journal files lockfiles; trace = []; failed = failed }
+abbrev pub files_seen : List ℕ → FilesView → FilesView → ℕ → FilesView
+files_seen journal files lockfiles failed = record {
+  held = contents_seen journal files.held lockfiles.held;
+  trace = by_kind is_lockfile lockfiles.trace (trace_besides journal files.trace);
+  failed = failed;
+}
 
 -- the same with a host
-abbrev pub world_seen : List ℕ → Contents → Contents → ℕ → HostView → World
+abbrev pub world_seen : List ℕ → FilesView → FilesView → ℕ → HostView → World
 world_seen journal files lockfiles failed host = record { files = files_seen journal files lockfiles failed; host = host }
 
--- a number of failures is no greater than by how much three counts grew together, and no less than that of the
--- lockfiles grew
+-- a number of failures is no greater than by how much three counts grew together, and no less than what those of the
+-- lockfiles and of what couldn't be kept grew by
 pub record IsAccounted (files_old files_new lockfiles_old lockfiles_new unkept_old unkept_new number : ℕ) : Type 0 where
   pub of_files : ℕ
   pub of_lockfiles : ℕ
@@ -34,7 +38,7 @@ pub record IsAccounted (files_old files_new lockfiles_old lockfiles_new unkept_o
   pub lockfiles : GrowsBy of_lockfiles lockfiles_old lockfiles_new
   pub unkept : GrowsBy of_unkept unkept_old unkept_new
   pub most : number ≤ of_files + of_lockfiles + of_unkept
-  pub least : min of_lockfiles (2 ^ 64 - 1) ≤ number
+  pub least : min (of_lockfiles + of_unkept) (2 ^ 64 - 1) ≤ number
 
 -- the journal's files, in order, hold entries of which one is of this path
 pub record IsInJournal (spot : Spot) (held : Contents) (path : List ℕ) : Type 0 where
@@ -42,11 +46,11 @@ pub record IsInJournal (spot : Spot) (held : Contents) (path : List ℕ) : Type 
   pub each : AreEach spot held 0 entries
   pub one : HasEntry entries path
 
--- between these states files came to what they hold at the end, by removals alone: whatever else a call changes was
--- changed before
-pub record IsAtEnd {F : Type 0} (f : Filing F) (last : Contents) (before after : F) : Type 0 where
+-- between these states files came to what they hold at the end, by removals of the journal's own files alone: whatever
+-- else a call changes was changed before
+pub record IsAtEnd {F : Type 0} (f : Filing F) (journal : List ℕ) (last : Contents) (before after : F) : Type 0 where
   pub ended : f.bytes_at after ≡ last
-  pub only : f.whole → OnlyRemoves (f.bytes_at before) last
+  pub only : f.whole → RemovesOwn journal (f.trace before) (f.trace after) (f.bytes_at before) (f.bytes_at after)
 
 -- at its end such files left this path unseen: the journal's own, or that of an entry of the journal, where none was
 -- there at `first`
@@ -55,7 +59,7 @@ pub record IsUnseenAtEnd {F : Type 0} (f : Filing F) (spot : Spot) (first last :
   pub after : F
   pub unseen : f.unseen before after (path ∷ [])
   pub kept : (path ≡ spot.journal) ⊎ (f.tells → f.whole → first spot.journal ≡ None → IsInJournal spot (f.bytes_at before) path)
-  pub at_end : IsAtEnd f last before after
+  pub at_end : IsAtEnd f spot.journal last before after
 
 -- at its end they refused to remove a file of the journal
 pub record IsStuckAtEnd {F : Type 0} (f : Filing F) (spot : Spot) (last : Contents) : Type 0 where
@@ -63,7 +67,7 @@ pub record IsStuckAtEnd {F : Type 0} (f : Filing F) (spot : Spot) (last : Conten
   pub after : F
   pub place : ℕ
   pub refused : f.refuses before after (file_at spot.journal place ∷ [])
-  pub at_end : IsAtEnd f last before after
+  pub at_end : IsAtEnd f spot.journal last before after
 
 -- why a journal stays where each path holds what it held: one that the end looks at was left unseen, or a file of the
 -- journal couldn't be removed

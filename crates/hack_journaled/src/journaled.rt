@@ -5,16 +5,18 @@ ghost use Rattle.std.specs.Prelude.{IfSome, length, string_bytes, true};
 ghost use Rattle.hack_base.specs.Names.{names_of};
 ghost use Rattle.hack_base.specs.Counters.{GrowsBy};
 ghost use Rattle.hack_files.specs.Files.{KeepsAll, KeepsAllBut};
+ghost use Rattle.hack_files.specs.View.{files_view};
 ghost use Rattle.hack_journal.specs.FailedCalls.{CannotEnd};
 ghost use Rattle.hack_journal.specs.FileCalls.{spot_in};
 ghost use Rattle.hack_journal.specs.LockfilesApart.{KeepsLockfiles, KeepsOtherFiles};
 ghost use Rattle.hack_journal.specs.Refusing.{AreJust, HoldsByKind, IsRefused};
 ghost use Rattle.hack_journal.specs.Refusing.{IsRefusedOrUnkept};
-ghost use Rattle.hack_journal.specs.Rows.{KeepsBeside, OnlyRemoves, spot_of};
+ghost use Rattle.hack_journal.specs.Rows.{KeepsBeside, RemovesOwn, spot_of};
 ghost use Rattle.hack_journal.specs.SafeFiles.{AreBack, Stays, StaysSafe, without};
 ghost use Rattle.hack_journaled.specs.Journals.{BetweenBoth, IsAccounted, IsWhyItStays};
 ghost use Rattle.hack_journaled.specs.Journals.{OnlyEndFailed};
 ghost use Rattle.hack_journaled.specs.Journals.{contents_seen, files_seen, world_seen};
+ghost use Rattle.hack_run.specs.CallChanges.{IsChangeTrace};
 ghost use Rattle.hack_run.specs.CallTrace.{IsCallTrace};
 ghost use Rattle.hack_run.specs.Lanes.{IsLaneCall};
 ghost use Rattle.hack_run.specs.Readings.{IsEarlyReadingOrRefusal};
@@ -61,10 +63,19 @@ pub fn run_journaled<F: Overwrites, L: Files, U: Unkept, C: Starts, O: Sink, E: 
         (host_view C.Caller O.Sink host.old) (host_view C.Caller O.Sink host.new) }
     ensures done { host.new.term.now.error ≡ false → C.tells
         → IsCallTrace true (F.tells × L.tells) (names_of words.now) host.old.env.now
-        (world_seen (string_bytes place.journal) (F.bytes_at files) (L.bytes_at lockfiles) 0
-        (host_view C.Caller O.Sink host.old))
-        (world_seen (string_bytes place.journal) (F.bytes_at result.1) (L.bytes_at result.2)
-        result.3 (host_view C.Caller O.Sink host.new)) }
+        (world_seen (string_bytes place.journal) (files_view F.Files files)
+        (files_view L.Files lockfiles) 0 (host_view C.Caller O.Sink host.old))
+        (world_seen (string_bytes place.journal) (files_view F.Files result.1)
+        (files_view L.Files result.2) result.3 (host_view C.Caller O.Sink host.new)) }
+
+    // Then files that show their changes show just those that `run` promises, in order among
+    // lockfiles and among all others; what the journal's own files were changed by is left out.
+    ensures traced { host.new.term.now.error ≡ false → C.tells → F.tells → F.whole → L.whole
+        → IsChangeTrace (F.tells × L.tells) (names_of words.now) host.old.env.now
+        (world_seen (string_bytes place.journal) (files_view F.Files files)
+        (files_view L.Files lockfiles) 0 (host_view C.Caller O.Sink host.old))
+        (world_seen (string_bytes place.journal) (files_view F.Files result.1)
+        (files_view L.Files result.2) result.3 (host_view C.Caller O.Sink host.new)) }
 
     // And each manifest that the arguments have edited held its edit once, every other path what it
     // held.
@@ -75,10 +86,10 @@ pub fn run_journaled<F: Overwrites, L: Files, U: Unkept, C: Starts, O: Sink, E: 
         (C.calls host.old.caller.now) }
     ensures made { C.tells
         → IsCallTrace false (F.tells × L.tells) (names_of words.now) host.old.env.now
-        (world_seen (string_bytes place.journal) (F.bytes_at files) (L.bytes_at lockfiles) 0
-        (host_view C.Caller O.Sink host.old))
-        (world_seen (string_bytes place.journal) (F.bytes_at result.1) (L.bytes_at result.2)
-        result.3 (host_view C.Caller O.Sink host.new)) }
+        (world_seen (string_bytes place.journal) (files_view F.Files files)
+        (files_view L.Files lockfiles) 0 (host_view C.Caller O.Sink host.old))
+        (world_seen (string_bytes place.journal) (files_view F.Files result.1)
+        (files_view L.Files result.2) result.3 (host_view C.Caller O.Sink host.new)) }
     ensures clean { host.new.term.now.error ≡ false
         → RestoresEdits host.old.env.now (names_of words.now) → F.tells → L.tells → KeepsAll
         (contents_seen (string_bytes place.journal) (F.bytes_at files) (L.bytes_at lockfiles))
@@ -100,9 +111,10 @@ pub fn run_journaled<F: Overwrites, L: Files, U: Unkept, C: Starts, O: Sink, E: 
     // no error was reported, at most one call failed, and that left the journal there.
     ensures back { RestoresEdits host.old.env.now (names_of words.now) → F.tells → L.tells
         → BringsBack
-        (files_seen (string_bytes place.journal) (F.bytes_at files) (L.bytes_at lockfiles) 0)
-        (files_seen (string_bytes place.journal) (F.bytes_at result.1) (L.bytes_at result.2)
-        result.3) }
+        (files_seen (string_bytes place.journal) (files_view F.Files files)
+        (files_view L.Files lockfiles) 0)
+        (files_seen (string_bytes place.journal) (files_view F.Files result.1)
+        (files_view L.Files result.2) result.3) }
     ensures few { host.new.term.now.error ≡ false
         → OnlyEndFailed F.Files (spot_of place) (F.bytes_at files) (F.bytes_at result.1) result.3 }
 
@@ -115,7 +127,8 @@ pub fn run_journaled<F: Overwrites, L: Files, U: Unkept, C: Starts, O: Sink, E: 
         (contents_seen (string_bytes place.journal) (F.bytes_at files) (L.bytes_at lockfiles))
         (contents_seen (string_bytes place.journal) (F.bytes_at result.1) (L.bytes_at result.2)) }
 
-    // The number of failed calls is no greater than what `files`, `lockfiles` and `unkept` count.
+    // The number of failed calls is no greater than what `files`, `lockfiles` and `unkept` count, and
+    // no less than what the last two do.
     ensures number { IsAccounted (F.failed files) (F.failed result.1)
         (L.failed lockfiles) (L.failed result.2)
         (U.told unkept) (U.told result.4) result.3 }
@@ -180,8 +193,8 @@ fn end_journal<F: Overwrites, U: Unkept>(files: &mut Journaled<F, U>, failed: u6
     ensures others { F.tells → KeepsBeside files.old.notes.journal
         (length files.old.notes.entries + 1)
         (F.bytes_at files.old.files) (F.bytes_at files.new.files) }
-    ensures only { F.whole
-        → OnlyRemoves (F.bytes_at files.old.files) (F.bytes_at files.new.files) }
+    ensures only { F.whole → RemovesOwn files.old.notes.journal (F.trace files.old.files)
+        (F.trace files.new.files) (F.bytes_at files.old.files) (F.bytes_at files.new.files) }
     ensures stays { F.tells → F.whole → Stays (spot_in files.old)
         files.old.notes.entries files.new.notes.entries
         (F.trace files.old.files) (F.trace files.new.files)

@@ -3,7 +3,7 @@ use Rattle.std.proofs.Common.{◌≡◌, inl, inr, ℕ, List, [], ◌∷◌, ◌
 use Rattle.std.specs.Prelude.{IfOk}
 use Rattle.std.proofs.lemmas.List.{length-map}
 use Rattle.std.proofs.lemmas.Slice.Zip.{AllZip-long}
-use Rattle.hack_files.specs.Files.{Change, Contents, Makes}
+use Rattle.hack_files.specs.Files.{Change, Contents, Makes, Trace}
 use Rattle.hack_process.specs.Calls.{Call}
 use Rattle.hack_metadata.specs.QuestionCalls.{EndsSo, Stage, Wrote, WroteWhereKnown, begun, first, locked, newer, taken, to_cargo, versioned}
 use Rattle.hack_metadata.specs.FilesAfterAsking.{Whole}
@@ -20,7 +20,7 @@ use Rattle.hack_load.specs.Internal.{ReadsOnly}
 use Rattle.hack_load.specs.CargoQuestions.{AreOfMembers, IsOfMember}
 use Rattle.hack_load.specs.declared.fault.ContextFault.{ContextFault}
 use Rattle.hack_load.specs.declared.loaded.Loaded.{Loaded}
-use Rattle.hack_load.proofs.LeaveLemmas.{makes_still}
+use Rattle.hack_files.specs.TraceLaws.{makes_still}
 use Rattle.hack_load.proofs.MemberLemmas.{each-earlier, member-fault-earlier}
 
 -- one manifest for each member
@@ -38,7 +38,7 @@ wrote-by tells held P Q f (locked minor text) made (inr h) = inr (h.0, h.1, f (m
 wrote-by tells held P Q f (taken by text minor) made h = f made h
 
 -- just these writes were made, where no change follows them
-pub wrote-still : (whole tells : Type 0) (before mid now : List Change) (held later last : Contents) → (whole → Makes [] mid now later last) → (stage : Stage) (made : List Change)
+pub wrote-still : (whole tells : Type 0) (before mid now : Trace) (held later last : Contents) → (whole → Makes [] mid now later last) → (stage : Stage) (made : List Change)
     → WroteWhereKnown whole tells before mid held later stage made → WroteWhereKnown whole tells before now held last stage made
 wrote-still whole tells before mid now held later last still stage made wrote = λ w.
     wrote-by tells held (λ cs. Makes cs before mid held later) (λ cs. Makes cs before now held last) (λ cs h. makes_still cs before mid now held later last h (still w)) stage made (wrote w)

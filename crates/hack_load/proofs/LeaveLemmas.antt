@@ -1,7 +1,7 @@
 -- What the files hold after several calls.
-use Rattle.std.proofs.Common.{inl, inr, ℕ, List, [], ◌∷◌, Result, Ok, Err, refl, sym, ◌∙◌, append-nil, arith}
+use Rattle.std.proofs.Common.{inl, inr, ℕ, [], ◌∷◌, Result, Ok, Err, refl, sym, ◌∙◌, arith}
 use Rattle.hack_base.specs.Names.{Name}
-use Rattle.hack_files.specs.Files.{Change, Contents, Grows, KeepsAll, Makes}
+use Rattle.hack_files.specs.Files.{Contents, Grows, KeepsAll}
 use Rattle.hack_base.specs.Counters.{GrowsBy}
 use Rattle.hack_metadata.specs.FilesAfterAsking.{Whole, Spoilt, LeftBy}
 use Rattle.hack_metadata.specs.declared.ask.fault.AskFault.{AskFault}
@@ -23,16 +23,6 @@ whole-more tells a b c x y z f g = (count-more 0 x y z f.0 g.0, λ t q. g.1 t q 
 pub may-more : (tells : Type 0) (a b c : Contents) (x y z : ℕ) → Whole tells a b x y → MayFail tells b c y z → MayFail tells a c x z
 may-more tells a b c x y z f (inl g) = inl (whole-more tells a b c x y z f g)
 may-more tells a b c x y z f (inr g) = inr (count-more 1 x y z f.0 g.0, λ t q. g.1 t q ∙ f.1 t q)
-
--- ---- which changes were made
-
--- none is made yet
-pub makes_none : (t : List Change) (m : Contents) → Makes [] t t m m
-makes_none t m = record { traced = sym (append-nil t); holds = refl }
-
--- none is made after these
-pub makes_still : (cs t u v : List Change) (m n w : Contents) → Makes cs t u m n → Makes [] u v n w → Makes cs t v m w
-makes_still cs t u v m n w f g = record { traced = g.traced ∙ append-nil u ∙ f.traced; holds = g.holds ∙ f.holds }
 
 -- ---- as many paths as calls that failed
 

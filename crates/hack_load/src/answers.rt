@@ -40,6 +40,7 @@ impl Answers {
     /// Asks cargo for its version, asks it or stable's cargo for the metadata, reads the manifest
     /// of each member, and asks cargo for the current manifest. An error ends the questions, unless
     /// it is one of the version; where memory is refused, they always end.
+    #[tactic(auto, using(hack_files::proofs::FilesLemmas::trace_steps))]
     pub fn ask<'a, C: Caller, F: Files>(
         alloc: Global,
         args: &'a Args,

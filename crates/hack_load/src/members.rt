@@ -19,6 +19,7 @@ use hack_metadata::metadata::{Metadata, Package, PackageId};
 use std::alloc::Global;
 
 /// Reads the manifests of the members, in their order.
+#[tactic(auto, using(hack_files::proofs::FilesLemmas::trace_steps))]
 pub(crate) fn manifests_of<F: Files>(
     alloc: Global,
     metadata: &Metadata,

@@ -5,13 +5,12 @@ use Rattle.std.proofs.Common.{◌++◌, ◌∷◌, [], ◌∙◌, ap, subst, ari
 use Rattle.std.specs.Str.{bytes_eq}
 use Rattle.std.proofs.lemmas.Slice.Eq.{bytes_eq-Decides}
 use Rattle.std.proofs.lemmas.Bool.{cases_Bool, true≢false}
-use Rattle.std.proofs.lemmas.List.{append-nil}
 use Rattle.serde_json.specs.Data.{Members}
 use Rattle.hack_base.specs.Names.{Name}
-use Rattle.hack_files.specs.Files.{Change, Contents, KeepsOthers, Makes, puts}
+use Rattle.hack_files.specs.Files.{Change, Contents, KeepsOthers, Makes, MakesOrNot, Trace, puts}
 use Rattle.hack_base.specs.Counters.{GrowsBy}
 use Rattle.hack_files.specs.Restore.{Kept, write_of}
-use Rattle.hack_files.proofs.FilesLemmas.{makes_more}
+use Rattle.hack_files.specs.TraceLaws.{makes_more}
 use Rattle.hack_process.specs.Calls.{Asked, Call, MayAdd}
 use Rattle.hack_process.specs.CommandTexts.{Command, text_of}
 use Rattle.hack_process.specs.Commands.{asked_of, plain_command}
@@ -190,10 +189,7 @@ left-more path tells a b c x y z (fault.Field name) f g = whole-more tells a b c
 
 -- ---- what is written
 
-pub wrote-none : (t : List Change) (a : Contents) → Makes [] t t a a
-wrote-none t a = record { traced = sym (append-nil t); holds = refl }
-
-module _ (tells whole : Type 0) (a b c : Contents) (s t u : List Change) (x y : ℕ) (path text : Name) (before : Whole tells a b x y) (lock : IsLockfile text path) (none : whole → Makes [] s t a b) where
+module _ (tells whole : Type 0) (a b c : Contents) (s t u : Trace) (x y : ℕ) (path text : Name) (before : Whole tells a b x y) (lock : IsLockfile text path) (none : whole → Makes [] s t a b) where
   -- the bytes at the path now are those that it held before
   puts-back : (bytes : List ℕ) → (tells → b path ≡ Some bytes) → PutsBack tells a text (puts path bytes)
   puts-back bytes kept = record { path = path; bytes = bytes; lockfile = lock; kept = λ told. sym (before.1 told path) ∙ kept told; is = refl }
@@ -210,13 +206,20 @@ module _ (tells whole : Type 0) (a b c : Contents) (s t u : List Change) (x y : 
   ]
 
 -- the lockfile is kept, a command is asked, and it is put back
-module _ (tells whole : Type 0) (path : Name) (a b c : Contents) (s t u : List Change) (old mid : List Kept) (keeps : KeepsOneMore path tells a old mid) (none : whole → Makes [] s t a b) where
+module _ (tells whole : Type 0) (path : Name) (a b c : Contents) (s t u : Trace) (old mid : List Kept) (keeps : KeepsOneMore path tells a old mid) (none : whole → Makes [] s t a b) where
   pub held-back : ((file : Kept) (earlier : List Kept) → mid ≡ earlier ++ file ∷ [] → whole → Makes (write_of file ∷ []) t u b c) → PutsHeld tells a path (λ put. whole → Makes (put ∷ []) s u a c)
   held-back back = (keeps.0, keeps.2, λ w. makes_more [] (puts path keeps.0 ∷ []) s t u a b c (none w) (back (record { path = path; bytes = keeps.0 }) old keeps.1 w))
 
+  -- or that may have been refused
+  pub held-or-not : ((file : Kept) (earlier : List Kept) → mid ≡ earlier ++ file ∷ [] → whole → MakesOrNot (write_of file) t u b c) → whole → Makes [] s u a c ⊎ PutsHeld tells a path (λ put. Makes (put ∷ []) s u a c)
+  held-or-not back w = elim (back (record { path = path; bytes = keeps.0 }) old keeps.1 w) [
+    | inl left ↦ inl (makes_more [] [] s t u a b c (none w) left)
+    | inr made ↦ inr (keeps.0, keeps.2, makes_more [] (puts path keeps.0 ∷ []) s t u a b c (none w) made)
+  ]
+
 -- ---- where a question ends
 
-module _ (tells whole : Type 0) (q : Question) (held later : Contents) (before now : List Change) (start new : List Call) where
+module _ (tells whole : Type 0) (q : Question) (held later : Contents) (before now : Trace) (start new : List Call) where
   -- an answer is used
   pub counts-ends : (c : Command) (text : Name) (minor : ℕ) (made : List Change) (r : Result Metadata AskFault) → LeadsToStage tells q held start (taken c text minor) new made → (whole → Makes made before now held later)
       → UsesAnswer q c text minor new r → EndsSo tells q held start new (WroteWhereKnown whole tells before now held later) r

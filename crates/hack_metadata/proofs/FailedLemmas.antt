@@ -7,7 +7,7 @@ use Rattle.hack_files.specs.FailedCalls.{LookFailed, NoneFailed, WriteFailed}
 use Rattle.hack_files.specs.declared.fs.Files.{Ghosts as Filing}
 use Rattle.hack_files.specs.declared.fs.FsFault.TheVariants as fs
 use Rattle.hack_files.proofs.FailedLemmas.{look_then, none_failed, none_then, read_then, write_then}
-use Rattle.hack_files.proofs.FilesLemmas.{makes_more}
+use Rattle.hack_files.specs.TraceLaws.{makes_more}
 use Rattle.hack_process.specs.Calls.{Call}
 use Rattle.hack_process.specs.CommandTexts.{Command}
 use Rattle.hack_process.specs.Commands.{plain_command}

@@ -3,7 +3,7 @@ use Rattle.std.specs.Prelude.{◌≡◌, ◌⊎◌, ◌<◌, ◌≤◌, ◌++◌
 use Rattle.std.specs.Str.{IsUtf8}
 use Rattle.serde_json.specs.Data.{Members}
 use Rattle.hack_base.specs.Names.{Name}
-use Rattle.hack_files.specs.Files.{Change, Contents, Makes, puts}
+use Rattle.hack_files.specs.Files.{Change, Contents, Makes, Trace, puts}
 use Rattle.hack_metadata.specs.FileFaults.{IsUnread, IsUnwritten}
 use Rattle.hack_versions.specs.declared.version.Version.{Version}
 use Rattle.hack_versions.specs.declared.rustup.VersionTextFault.{VersionTextFault}
@@ -162,5 +162,5 @@ Wrote tells held Made (locked minor text) made = Made made ⊎ ((put : Change) �
 Wrote tells held Made _ made = Made made
 
 -- where the files say which changes were made, these are all of them
-abbrev pub WroteWhereKnown : Type 0 → Type 0 → List Change → List Change → Contents → Contents → Stage → List Change → Type 0
+abbrev pub WroteWhereKnown : Type 0 → Type 0 → Trace → Trace → Contents → Contents → Stage → List Change → Type 0
 WroteWhereKnown whole tells before now held later stage made = whole → Wrote tells held (λ cs. Makes cs before now held later) stage made

@@ -6,7 +6,7 @@ use Rattle.std.specs.Str.{bytes_eq}
 use Rattle.std.proofs.lemmas.List.{map-append, take_all}
 use Rattle.std.proofs.lemmas.List.Elements.{filter-append}
 use Rattle.hack_base.specs.Names.{Name}
-use Rattle.hack_files.specs.Files.{Change, Contents}
+use Rattle.hack_files.specs.Files.{Change, Contents, Trace}
 use Rattle.hack_files.specs.Restore.{Kept, is_kept, kept_too, paths, registered_files}
 use Rattle.hack_files.specs.declared.restore.Manager.{Manager}
 use Rattle.hack_prepare.specs.EditSteps.{KeepsInOrder, change_paths, kept_paths}
@@ -14,7 +14,8 @@ use Rattle.hack_prepare.specs.Internal.{KeepsNext, alone_paths, one_if}
 use Rattle.hack_prepare.specs.Prepared.{MemberManifest, Wanted, edits_root, is_alone}
 use Rattle.hack_prepare.specs.Writes.{AreWrites, IsDevWrite, IsOneIf, IsRootWrite, MakesSome}
 use Rattle.hack_prepare.proofs.StepLemmas.{kept_by}
-use Rattle.hack_prepare.proofs.WriteLemmas.{makes_none, none-written}
+use Rattle.hack_files.specs.TraceLaws.{makes_none}
+use Rattle.hack_prepare.proofs.WriteLemmas.{none-written}
 
 -- ---- paths, each of them once
 
@@ -107,7 +108,7 @@ in-order lockfile made ps a b c are needs f (inr g) e =
     inr (next-then ps (lockfile ∷ []) a b c needs f g e ∙ ap (λ l. kept_paths (paths (registered_files a)) (l ++ lockfile ∷ [])) (sym are))
 
 -- the files of the writes that were made, and then the lockfile
-pub made-in-order : (tells : Type 0) (w : Wanted) (ms : List MemberManifest) (held : Contents) (a b c d : Manager) (t u : List Change) (m n : Contents)
+pub made-in-order : (tells : Type 0) (w : Wanted) (ms : List MemberManifest) (held : Contents) (a b c d : Manager) (t u : Trace) (m n : Contents)
     → b.needs_restore ≡ a.needs_restore → c.needs_restore ≡ b.needs_restore
     → KeepsNext (alone_paths w ms) a b → KeepsNext (one_if (edits_root w ms) w.root) b c → (KeepsNext [] c d) ⊎ (KeepsNext (w.lockfile ∷ []) c d)
     → MakesSome (AreWrites tells w ms held) t u m n
@@ -118,6 +119,6 @@ made-in-order tells w ms held a b c d t u m n first second f g l h =
     (h.0, (h.1, in-order w.lockfile h.0 (ps ++ qs) a c d (write-paths tells w ms held h.0 h.1) (second ∙ first) (next-then ps qs a b c first f g) l), h.2)
 
 -- nothing is asked, so nothing is made and nothing is kept
-pub none-in-order : (tells : Type 0) (w : Wanted) (ms : List MemberManifest) (held : Contents) (manager : Manager) (t : List Change) → w.drops_dev ≡ false → w.no_private ≡ false
+pub none-in-order : (tells : Type 0) (w : Wanted) (ms : List MemberManifest) (held : Contents) (manager : Manager) (t : Trace) → w.drops_dev ≡ false → w.no_private ≡ false
     → MakesSome (λ made. AreWrites tells w ms held made × (manager.needs_restore ≡ true → KeepsInOrder w.lockfile made (paths (registered_files manager)) (paths (registered_files manager)))) t t held held
 none-in-order tells w ms held manager t d n = ([], (none-written tells w ms held d n, λ _. inl refl), makes_none t held)

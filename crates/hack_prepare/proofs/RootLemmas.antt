@@ -4,6 +4,7 @@ use Rattle.std.specs.Prelude.{◌&&◌, ◌||◌, not, MatchOption, option_map}
 use Rattle.std.specs.List.{find, list_any}
 use Rattle.std.specs.Str.{bytes_eq}
 use Rattle.std.proofs.lemmas.Bool.{cases_Bool, true≢false}
+use Rattle.std.proofs.lemmas.Bool.Decides.{eqb_tells}
 use Rattle.std.proofs.lemmas.Slice.Eq.{bytes_eq-Decides}
 use Rattle.hack_base.specs.Names.{Name, names_behind}
 use Rattle.hack_files.specs.Files.{Contents, KeepsAll, KeepsOthers}
@@ -26,6 +27,10 @@ text_in m = m.text
 pub some-left : (l : List (Bor (List ℕ))) → false ≡ (length l == 0) → has_some (names_behind l) ≡ true
 some-left [] h = absurd (true≢false (sym h))
 some-left (x ∷ xs) h = refl
+
+pub none-left : (l : List (Bor (List ℕ))) → true ≡ (length l == 0) → has_some (names_behind l) ≡ false
+none-left [] h = refl
+none-left (x ∷ xs) h = elim (eqb_tells (length (x ∷ xs)) 0) [ inl e ↦ absurd (let empty : length (x ∷ xs) ≡ 0 = e.1 in omega arith) | inr w ↦ absurd (true≢false (h ∙ w.0)) ]
 
 -- ---- the member there
 

@@ -5,8 +5,8 @@ use Rattle.std.specs.List.{AllZip, filter, find}
 use Rattle.std.proofs.lemmas.List.{take_all}
 use Rattle.std.proofs.lemmas.List.Elements.{filter-append}
 use Rattle.hack_base.specs.Names.{Name}
-use Rattle.hack_files.specs.Files.{Change, Contents, Makes, MakesOrNot, puts}
-use Rattle.hack_files.proofs.FilesLemmas.{makes_more}
+use Rattle.hack_files.specs.Files.{Change, Contents, Makes, MakesOrNot, Trace, puts}
+use Rattle.hack_files.specs.TraceLaws.{makes_more, makes_none}
 use Rattle.hack_edits.specs.DevDeps.{IsWithoutDev}
 use Rattle.hack_edits.specs.Members.{in_order}
 use Rattle.hack_edits.specs.PrivateCrates.{IsWithoutPrivate}
@@ -24,9 +24,6 @@ pub made-err : {T E : Type 0} (whole : Type 0) (A B : Type 0) (r : Result T E) �
 made-err whole A B (Ok v) f h = tt
 made-err whole A B (Err e) f h = λ y. f (h y)
 
-pub makes_none : (t : List Change) (m : Contents) → Makes [] t t m m
-makes_none t m = record { traced = sym (append-nil t); holds = refl }
-
 -- one for each, and then one for each
 each-join : {A B : Type 0} (P : A → B → Type 0) (xs ys : List A) (fs gs : List B) → AllZip P xs fs → AllZip P ys gs → AllZip P (xs ++ ys) (fs ++ gs)
 each-join P [] ys [] gs h k = k
@@ -37,20 +34,20 @@ each-join P (x ∷ xs) ys (f ∷ fs) gs h k = (h.0, each-join P xs ys fs gs h.1 
 -- ---- one write
 
 -- a text is written
-pub one-made : (P : Change → Type 0) (c : Change) (t u : List Change) (m n : Contents) → P c → Makes (c ∷ []) t u m n → MakesSome (IsOne P) t u m n
+pub one-made : (P : Change → Type 0) (c : Change) (t u : Trace) (m n : Contents) → P c → Makes (c ∷ []) t u m n → MakesSome (IsOne P) t u m n
 one-made P c t u m n p h = (c ∷ [], (c, p, refl), h)
 
 -- or not
-pub one-or-not : (P : Change → Type 0) (c : Change) (t u : List Change) (m n : Contents) → P c → MakesOrNot c t u m n → MakesSome (IsAtMostOne P) t u m n
+pub one-or-not : (P : Change → Type 0) (c : Change) (t u : Trace) (m n : Contents) → P c → MakesOrNot c t u m n → MakesSome (IsAtMostOne P) t u m n
 one-or-not P c t u m n p (inl h) = ([], inl refl, h)
 one-or-not P c t u m n p (inr h) = (c ∷ [], inr (c, p, refl), h)
 
 -- changes that are made, as others are
-pub some-made : (P Q : List Change → Type 0) (t u : List Change) (m n : Contents) → ((made : List Change) → P made → Q made) → MakesSome P t u m n → MakesSome Q t u m n
+pub some-made : (P Q : List Change → Type 0) (t u : Trace) (m n : Contents) → ((made : List Change) → P made → Q made) → MakesSome P t u m n → MakesSome Q t u m n
 some-made P Q t u m n f h = (h.0, f h.0 h.1, h.2)
 
 -- something is made, and then nothing
-pub made-still : (P : List Change → Type 0) (t u v : List Change) (m n w : Contents) → MakesSome P t u m n → Makes [] u v n w → MakesSome P t v m w
+pub made-still : (P : List Change → Type 0) (t u v : Trace) (m n w : Contents) → MakesSome P t u m n → Makes [] u v n w → MakesSome P t v m w
 made-still P t u v m n w h f = (h.0, h.1, subst (λ l. Makes l t v m w) (append-nil h.0) (makes_more h.0 [] t u v m n w h.2 f))
 
 -- where a call succeeded, or not
@@ -64,7 +61,7 @@ on-err A B (Err e) f h = f h
 
 -- ---- the members' writes
 
-module _ {T E : Type 0} (whole : Type 0) (r : Result T E) (m : MemberManifest) (turned text : Name) (t u : List Change) (a b : Contents) (same : text ≡ turned) (edit : IsWithoutDev m.text turned) where
+module _ {T E : Type 0} (whole : Type 0) (r : Result T E) (m : MemberManifest) (turned text : Name) (t u : Trace) (a b : Contents) (same : text ≡ turned) (edit : IsWithoutDev m.text turned) where
   is-dev : IsDevWrite m (puts m.path text)
   is-dev = record { turned = turned; edit = edit; is = ap (puts m.path) same }
 
@@ -87,7 +84,7 @@ dev-more w ms m made c e is h =
     (sym (filter-append (is_alone w) ms (m ∷ []) ∙ ap (λ b. filter (is_alone w) ms ++ cond b (m ∷ []) []) e))
     (each-join IsDevWrite (filter (is_alone w) ms) (m ∷ []) made (c ∷ []) h (is, tt))
 
-module _ (w : Wanted) (ms : List MemberManifest) (k : ℕ) (m : MemberManifest) (one : take (k + 1) ms ≡ take k ms ++ m ∷ []) (t u v : List Change) (a b z : Contents) where
+module _ (w : Wanted) (ms : List MemberManifest) (k : ℕ) (m : MemberManifest) (one : take (k + 1) ms ≡ take k ms ++ m ∷ []) (t u v : Trace) (a b z : Contents) where
   pub left-made : is_alone w m ≡ false → MakesSome (AreDevWrites w (take k ms)) t u a b → MakesSome (AreDevWrites w (take (k + 1) ms)) t u a b
   left-made e h = (h.0, subst (λ l. AreDevWrites w l h.0) (sym one) (dev-same w (take k ms) m h.0 e h.1), h.2)
 
@@ -110,19 +107,19 @@ module _ (w : Wanted) (ms : List MemberManifest) (k : ℕ) (m : MemberManifest) 
   ]
 
 -- no member's yet
-pub dev_none : (whole : Type 0) (w : Wanted) (t : List Change) (m : Contents) → whole → MakesSome (AreDevWrites w []) t t m m
+pub dev_none : (whole : Type 0) (w : Wanted) (t : Trace) (m : Contents) → whole → MakesSome (AreDevWrites w []) t t m m
 dev_none whole w t m y = ([], tt, makes_none t m)
 
 -- nothing is begun
-pub begun_none : (whole tells : Type 0) (w : Wanted) (ms : List MemberManifest) (held : Contents) (t : List Change) (m : Contents) → whole → MakesSome (BeginWrites tells w ms held) t t m m
+pub begun_none : (whole tells : Type 0) (w : Wanted) (ms : List MemberManifest) (held : Contents) (t : Trace) (m : Contents) → whole → MakesSome (BeginWrites tells w ms held) t t m m
 begun_none whole tells w ms held t m y = ([], inl (0, tt), makes_none t m)
 
 -- all members'
-pub dev_all : (whole : Type 0) (w : Wanted) (ms : List MemberManifest) (k : ℕ) (t u : List Change) (m n : Contents) → length ms ≤ k → (whole → MakesSome (AreDevWrites w (take k ms)) t u m n) → whole → MakesSome (AreDevWrites w ms) t u m n
+pub dev_all : (whole : Type 0) (w : Wanted) (ms : List MemberManifest) (k : ℕ) (t u : Trace) (m n : Contents) → length ms ≤ k → (whole → MakesSome (AreDevWrites w (take k ms)) t u m n) → whole → MakesSome (AreDevWrites w ms) t u m n
 dev_all whole w ms k t u m n end h y = let r = h y in (r.0, subst (λ l. AreDevWrites w l r.0) (take_all k ms end) r.1, r.2)
 
 -- the members so far
-pub so-far-begun : (w : Wanted) (ms : List MemberManifest) (k : ℕ) (t u : List Change) (m n : Contents) → MakesSome (AreDevWrites w (take k ms)) t u m n → MakesSome (BeginDevWrites w ms) t u m n
+pub so-far-begun : (w : Wanted) (ms : List MemberManifest) (k : ℕ) (t u : Trace) (m n : Contents) → MakesSome (AreDevWrites w (take k ms)) t u m n → MakesSome (BeginDevWrites w ms) t u m n
 so-far-begun w ms k t u m n h = (h.0, (k, h.1), h.2)
 
 -- ---- the root's write
@@ -151,11 +148,11 @@ pub if-unasked : (a : Bool) (P : Change → Type 0) → a ≡ false → IsOneIf 
 if-unasked a P is = subst (λ x. IsOneIf x P []) (sym is) refl
 
 -- a held text's edit is written
-pub held-made : (a : Bool) (P : Change → Type 0) (c : Change) (t u : List Change) (m n : Contents) → a ≡ true → P c → Makes (c ∷ []) t u m n → MakesSome (IsOneIf a P) t u m n
+pub held-made : (a : Bool) (P : Change → Type 0) (c : Change) (t u : Trace) (m n : Contents) → a ≡ true → P c → Makes (c ∷ []) t u m n → MakesSome (IsOneIf a P) t u m n
 held-made a P c t u m n on p h = (c ∷ [], if-asked a P on (c ∷ []) (c, p, refl), h)
 
 -- or not
-pub held-or-not : (a : Bool) (P : Change → Type 0) (c : Change) (t u : List Change) (m n : Contents) → a ≡ true → P c → MakesOrNot c t u m n → MakesSome (λ made. (made ≡ []) ⊎ IsOneIf a P made) t u m n
+pub held-or-not : (a : Bool) (P : Change → Type 0) (c : Change) (t u : Trace) (m n : Contents) → a ≡ true → P c → MakesOrNot c t u m n → MakesSome (λ made. (made ≡ []) ⊎ IsOneIf a P made) t u m n
 held-or-not a P c t u m n on p (inl h) = ([], inl refl, h)
 held-or-not a P c t u m n on p (inr h) = (c ∷ [], inr (if-asked a P on (c ∷ []) (c, p, refl)), h)
 
@@ -180,7 +177,7 @@ module _ (tells : Type 0) (w : Wanted) (ms : List MemberManifest) (private : Lis
       subst (λ l. IsRootWrite w (drops_at_root w ms) l (ReadsRoot tells w ms held) c) same
       (root-wider w drops (drops_at_root w ms) private R (ReadsRoot tells w ms held) (sym is) to c h)
 
-  module _ (text : Name) (t u : List Change) (m n : Contents) (found : Some text ≡ option_map text_in (find (is_root w) ms)) where
+  module _ (text : Name) (t u : Trace) (m n : Contents) (found : Some text ≡ option_map text_in (find (is_root w) ms)) where
     found-drops : drops_at_root w ms ≡ w.drops_dev
     found-drops = drops-found w ms (root-found w ms text found)
 
@@ -200,7 +197,7 @@ module _ (tells : Type 0) (w : Wanted) (ms : List MemberManifest) (private : Lis
         → OnErr r (whole → MakesSome (MayWriteRoot tells w ms held) t u m n)
     found-refused whole r h = made-err whole _ _ r found-begun h
 
-  module _ (t u : List Change) (m n : Contents) (missed : None ≡ option_map text_in (find (is_root w) ms)) where
+  module _ (t u : Trace) (m n : Contents) (missed : None ≡ option_map text_in (find (is_root w) ms)) where
     missed-drops : drops_at_root w ms ≡ false
     missed-drops = drops-missed w ms (root-missed w ms missed)
 
@@ -221,7 +218,7 @@ module _ (tells : Type 0) (w : Wanted) (ms : List MemberManifest) (private : Lis
     missed-refused whole r h = made-err whole _ _ r missed-begun h
 
 -- the edit of a held text
-module _ {T E : Type 0} (whole : Type 0) (r : Result T E) (w : Wanted) (drops : Bool) (private : List Name) (held between turned text : Name) (t u : List Change) (a b : Contents) (asked : (drops || has_some private) ≡ true) (same : text ≡ turned)
+module _ {T E : Type 0} (whole : Type 0) (r : Result T E) (w : Wanted) (drops : Bool) (private : List Name) (held between turned text : Name) (t u : Trace) (a b : Contents) (asked : (drops || has_some private) ≡ true) (same : text ≡ turned)
     (dev : MatchBool drops (IsWithoutDev held between) (between ≡ held)) (members : MatchBool (has_some private) (IsWithoutPrivate w.folder (in_order private) between turned) (turned ≡ between)) where
   is-held : IsRootWrite w drops private (λ x. x ≡ held) (puts w.root text)
   is-held = record { text = held; turned = turned; read = refl; edit = record { between = between; dev = dev; members = members }; is = ap (puts w.root) same }
@@ -235,7 +232,7 @@ module _ {T E : Type 0} (whole : Type 0) (r : Result T E) (w : Wanted) (drops : 
       (λ f y. held-or-not (drops || has_some private) (IsRootWrite w drops private (λ x. x ≡ held)) (puts w.root text) t u a b asked is-held (f y)) h
 
 -- what was read is edited
-module _ {T E : Type 0} (whole : Type 0) (r : Result T E) (tells : Type 0) (w : Wanted) (private : List Name) (text held : Name) (old mid : Contents) (t u v : List Change) (new : Contents) (same : held ≡ text) (read : tells → old w.root ≡ Some text) (none : whole → Makes [] t u old mid) where
+module _ {T E : Type 0} (whole : Type 0) (r : Result T E) (tells : Type 0) (w : Wanted) (private : List Name) (text held : Name) (old mid : Contents) (t u v : Trace) (new : Contents) (same : held ≡ text) (read : tells → old w.root ≡ Some text) (none : whole → Makes [] t u old mid) where
   read-write : (c : Change) → IsRootWrite w false private (λ x. x ≡ held) c → IsRootWrite w false private (λ x. tells → old w.root ≡ Some x) c
   read-write = root-wider w false false private (λ x. x ≡ held) (λ x. tells → old w.root ≡ Some x) refl (λ x is s. read s ∙ ap Some (sym (is ∙ same)))
 
@@ -257,7 +254,7 @@ module _ {T E : Type 0} (whole : Type 0) (r : Result T E) (tells : Type 0) (w : 
 -- ---- all together
 
 -- where the members' manifests were written before
-module _ (tells : Type 0) (w : Wanted) (ms : List MemberManifest) (old mid new : Contents) (t u v : List Change) (apart : tells → KeepsApart w ms old mid) where
+module _ (tells : Type 0) (w : Wanted) (ms : List MemberManifest) (old mid new : Contents) (t u v : Trace) (apart : tells → KeepsApart w ms old mid) where
   reads-earlier : (x : Name) → ReadsRoot tells w ms mid x → ReadsRoot tells w ms old x
   reads-earlier x h = by (find (is_root w) ms) refl h
     where
@@ -282,7 +279,7 @@ module _ (tells : Type 0) (w : Wanted) (ms : List MemberManifest) (old mid new :
   ]
 
 -- where private members stay the root's manifest isn't written
-pub unwanted : (tells : Type 0) (w : Wanted) (ms : List MemberManifest) (held : Contents) (t : List Change) (m : Contents) → w.no_private ≡ false → MakesSome (AreRootWrites tells w ms held) t t m m
+pub unwanted : (tells : Type 0) (w : Wanted) (ms : List MemberManifest) (held : Contents) (t : Trace) (m : Contents) → w.no_private ≡ false → MakesSome (AreRootWrites tells w ms held) t t m m
 unwanted tells w ms held t m n = ([], if-unasked (edits_root w ms) (WritesRoot tells w ms held) (ap (λ b. b && (drops_at_root w ms || has_some (gone_manifests w ms))) n), makes_none t m)
 
 -- where nothing is asked nothing is written

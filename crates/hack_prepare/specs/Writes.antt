@@ -2,12 +2,12 @@
 use Rattle.std.specs.Prelude.{◌≡◌, ◌⊎◌, ◌++◌, ◌∷◌, [], ℕ, Bool, MatchBool, MatchOption, List, Some, take}
 use Rattle.std.specs.List.{AllZip, filter, find}
 use Rattle.hack_base.specs.Names.{Name}
-use Rattle.hack_files.specs.Files.{Change, Contents, Makes, puts}
+use Rattle.hack_files.specs.Files.{Change, Contents, Makes, Trace, puts}
 use Rattle.hack_edits.specs.DevDeps.{IsWithoutDev}
 use Rattle.hack_prepare.specs.Prepared.{IsRootEdit, MemberManifest, Wanted, drops_at_root, edits_root, gone_manifests, is_alone, is_root}
 
 -- such changes were made, and no others
-abbrev pub MakesSome : (List Change → Type 0) → List Change → List Change → Contents → Contents → Type 0
+abbrev pub MakesSome : (List Change → Type 0) → Trace → Trace → Contents → Contents → Type 0
 MakesSome P old_trace new_trace old new = (made : List Change) × P made × Makes made old_trace new_trace old new
 
 -- just one change, and it is such a one

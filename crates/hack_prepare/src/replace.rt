@@ -15,7 +15,7 @@ use hack_files::restore::Manager;
 use std::alloc::Global;
 
 /// Replaces what a manifest holds by a text. What it held is kept first.
-#[tactic(auto, using(crate::proofs::StepLemmas::keeps_none, crate::proofs::WriteLemmas::makes_none, crate::proofs::FailedLemmas::call_steps))]
+#[tactic(auto, using(crate::proofs::StepLemmas::keeps_none, crate::proofs::FailedLemmas::call_steps))]
 pub(crate) fn replace<F: Files>(
     alloc: Global,
     path: &str,

@@ -24,7 +24,7 @@ use Rattle.hack_recovery.specs.declared.asked.Edits.{Edits}
 use Rattle.hack_recovery.specs.declared.asked.Edits.TheVariants as edits
 use Rattle.hack_recovery.specs.AskedEdits.{AsksForEdits}
 use Rattle.hack_versions.specs.declared.rustup.Rustup.TheVariants.{Unasked}
-use Rattle.hack_recovery.specs.AskedEdits.AsksForEdits.{parsed, faulty}
+use Rattle.hack_recovery.specs.AskedEdits.Asks.{parsed, faulty}
 
 -- parsed arguments are those of the uses that broke no rule
 accepted : (behavior b : WorkspaceBehavior) (trailing t : List Name) (found us : List Use) (early late : Option Fault) (lists : Bool) → Parsed b t us ≡ option_map_or Faulty early (if lists then Listing found else option_map_or Faulty late (Parsed behavior trailing found)) → us ≡ found
@@ -59,12 +59,15 @@ not_permanent true removes leaves e = cc
 not_permanent false false leaves e = refl
 not_permanent false true leaves e = cc
 
+unedited : {X : Type 0} (does : Edits) (path : Option Name) → does ≡ edits.Temporary → ◌≡◌ {A = Edits × Option Name} (does, path) (edits.None, None) → X
+unedited does path back is = let no : edits.Temporary ≡ edits.None = sym back ∙ ap (λ p. p.0) is in absurd (cc)
+
 pub back_restores : (env : Env) (words : List Name) (does : Edits) (path : Option Name) → AsksForEdits env words does path → does ≡ edits.Temporary → RestoresEdits env words
-back_restores env words does path (parsed (answer.Args args) notes h is at) back rustup (answer.Args more) told k =
+back_restores env words does path (parsed (answer.Args args) notes h is) back rustup (answer.Args more) told k =
     let same = same_uses (around_of env rustup) (around_of env Unasked) words k.0 h.0 k.1 h.1 k.2 h.2 k.3 h.3 in
-    k.4.flags.remove_dev_deps ∙ ap (λ (us : List Use). is_given opt.RemoveDevDeps us) same ∙ sym h.4.flags.remove_dev_deps ∙ not_permanent args.restore args.remove_dev_deps (args.no_dev_deps || args.no_private) (sym back ∙ is)
-back_restores env words does path (parsed (answer.Args args) notes h is at) back rustup (answer.Print text) told k = tt
-back_restores env words does path (parsed (answer.Args args) notes h is at) back rustup answer.List told k = tt
-back_restores env words does path (parsed (answer.Print text) notes h is at) back rustup read told k = cc
-back_restores env words does path (parsed answer.List notes h is at) back rustup read told k = cc
-back_restores env words does path (faulty fault h is at) back rustup read told k = cc
+    k.4.flags.remove_dev_deps ∙ ap (λ (us : List Use). is_given opt.RemoveDevDeps us) same ∙ sym h.4.flags.remove_dev_deps ∙ not_permanent args.restore args.remove_dev_deps (args.no_dev_deps || args.no_private) (sym back ∙ ap (λ p. p.0) is)
+back_restores env words does path (parsed (answer.Args args) notes h is) back rustup (answer.Print text) told k = tt
+back_restores env words does path (parsed (answer.Args args) notes h is) back rustup answer.List told k = tt
+back_restores env words does path (parsed (answer.Print text) notes h is) back rustup read told k = unedited does path back is
+back_restores env words does path (parsed answer.List notes h is) back rustup read told k = unedited does path back is
+back_restores env words does path (faulty fault h is) back rustup read told k = unedited does path back is

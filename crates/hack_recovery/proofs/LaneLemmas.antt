@@ -6,7 +6,7 @@ use Rattle.hack_base.specs.Streams.{Stream}
 use Rattle.hack_files.specs.Files.{Contents}
 use Rattle.hack_files.specs.View.{FilesView}
 use Rattle.hack_files.specs.declared.fs.Files.{Ghosts as Filing}
-use Rattle.hack_journal.specs.SafeLaws.{makes_none}
+use Rattle.hack_files.specs.TraceLaws.{makes_none}
 use Rattle.hack_process.specs.Calls.{Call}
 use Rattle.hack_run.specs.Lanes.{IsLaneCall}
 use Rattle.hack_starts.specs.Events.{Event}

@@ -49,21 +49,33 @@ manifest_by (answer.Args args) = optional_text args.manifest_path
 manifest_by (answer.Print text) = None
 manifest_by answer.List = None
 
--- what a command line does to manifests, and the one that it names: what it is parsed into says
--- so, and one that is refused does nothing and names none; what is known of rustup matters only for
--- whether it is refused
-pub data AsksForEdits (env : Env) (words : List Name) (does : Edits) (path : Option Name) : Type 0 where
-  parsed : (read : Parsed) (notes : List Note) → IsAnswer (around_of env Unasked) (ComesTo (around_of env Unasked) words) read notes
-      → does ≡ edits_by read → path ≡ manifest_by read → AsksForEdits env words does path
-  faulty : (told : Fault) → ComesTo (around_of env Unasked) words (Faulty told) → does ≡ edits.None → path ≡ None → AsksForEdits env words does path
-
 -- whether a parsed command line asks for more messages
 abbrev pub verbose_by : Parsed → Bool
 verbose_by (answer.Args args) = args.verbose
 verbose_by (answer.Print text) = false
 verbose_by answer.List = false
 
--- whether a command line does; one that is refused doesn't
-pub data AsksVerbose (env : Env) (words : List Name) (verbose : Bool) : Type 0 where
-  parsed : (read : Parsed) (notes : List Note) → IsAnswer (around_of env Unasked) (ComesTo (around_of env Unasked) words) read notes → verbose ≡ verbose_by read → AsksVerbose env words verbose
-  faulty : (told : Fault) → ComesTo (around_of env Unasked) words (Faulty told) → verbose ≡ false → AsksVerbose env words verbose
+-- whether a parsed command line asks for a text, or for cargo's list
+abbrev pub prints_by : Parsed → Bool
+prints_by (answer.Args args) = false
+prints_by (answer.Print text) = true
+prints_by answer.List = true
+
+-- what a command line asks for: what it is parsed into says so, and one that is refused asks for
+-- `refused`; what is known of rustup matters only for whether it is refused
+pub data Asks {A : Type 0} (of : Parsed → A) (refused : A) (env : Env) (words : List Name) (asked : A) : Type 0 where
+  parsed : (read : Parsed) (notes : List Note) → IsAnswer (around_of env Unasked) (ComesTo (around_of env Unasked) words) read notes → asked ≡ of read → Asks of refused env words asked
+  faulty : (told : Fault) → ComesTo (around_of env Unasked) words (Faulty told) → asked ≡ refused → Asks of refused env words asked
+
+-- what a command line does to manifests, and the one that it names; one that is refused does nothing,
+-- and names none
+abbrev pub AsksForEdits : Env → List Name → Edits → Option Name → Type 0
+AsksForEdits env words does path = Asks {A = Edits × Option Name} (λ read. (edits_by read, manifest_by read)) (edits.None, None) env words (does, path)
+
+-- whether a command line asks for more messages; one that is refused doesn't
+abbrev pub AsksVerbose : Env → List Name → Bool → Type 0
+AsksVerbose = Asks verbose_by false
+
+-- whether a command line asks for a text, or for cargo's list; one that is refused doesn't
+abbrev pub AsksToPrint : Env → List Name → Bool → Type 0
+AsksToPrint = Asks prints_by false

@@ -29,7 +29,7 @@ use Rattle.hack_recovery.specs.declared.asked.Edits.{Edits}
 use Rattle.hack_recovery.specs.declared.asked.Edits.TheVariants as edits
 use Rattle.hack_recovery.specs.declared.fault.CallFault.{CallFault}
 use Rattle.hack_recovery.specs.declared.fault.CallFault.TheVariants.{Memory}
-use Rattle.hack_recovery.specs.AskedEdits.{AsksForEdits, AsksVerbose, is_change, is_restore}
+use Rattle.hack_recovery.specs.AskedEdits.{AsksForEdits, AsksToPrint, AsksVerbose, is_change, is_restore}
 use Rattle.hack_recovery.specs.Admission.{IsAdmitted}
 use Rattle.hack_places.specs.CallPlaces.{ArePlacesOf, PlacesAt, is_left}
 use Rattle.hack_places.specs.FileLooks.{Unchanged}
@@ -54,9 +54,10 @@ pub record ArePlacesFound (tells records : Type 0) (real : Name → Name) (held 
   pub are : ArePlacesOf tells held places.folder places
   pub seen : tells → left ≡ is_left held places
 
--- what the call does to manifests, its places, and whether an interrupted call left anything there;
--- where edits are to come back, the call asks for none that stay
+-- The call asks for no text and no list of cargo's. What it does to manifests, its places, and whether an interrupted call left
+-- anything there; where edits are to come back, the call asks for none that stay.
 pub record Begins (tells records : Type 0) (real : Name → Name) (words : List Name) (env : Env) (does : Edits) (places : PlacesAt) (left : Bool) (old : FilesView) : Type 0 where
+  pub prints_nothing : AsksToPrint env words false
   pub path : Option Name
   pub asked : AsksForEdits env words does path
   pub back : does ≡ edits.Temporary → RestoresEdits env words
@@ -80,10 +81,11 @@ pub data IsLookedAt (tells records : Type 0) (real : Name → Name) (held : Cont
   for_places : (folder : Name) (places : PlacesAt) → (tells → folder ≡ workspace_from held (start_at path dir)) → (records → places.folder ≡ real folder)
       → ArePlacesOf tells held places.folder places → IsPlaceLook places looked → IsLookedAt tells records real held path dir looked
 
--- it is known what the call does to manifests, but not where its journal is, or whether an
--- interrupted call left one: one call of files failed, which left a path unseen that is looked at for
--- that, and nothing was changed
+-- the call asks for no text and no list of cargo's; it is known what it does to manifests, but not where its journal is, or
+-- whether an interrupted call left one: one call of files failed, which left a path unseen that is looked
+-- at for that, and nothing was changed
 pub record CannotSee {F : Type 0} (f : Filing F) (records : Type 0) (real : Name → Name) (words : List Name) (env : Env) (does : Edits) (old new : Scene) : Type 0 where
+  pub prints_nothing : AsksToPrint env words false
   pub path : Option Name
   pub asked : AsksForEdits env words does path
   pub failed : GrowsBy 1 old.files.failed new.files.failed
@@ -135,15 +137,17 @@ pub record PerformsUnjournaled {F : Type 0} (f : Filing F) (talks : Type 0) (wor
 pub record Journals {F L U J : Type 0} (f : Filing F) (l : Filing L) (u : Noting U) (j : Filing J) (talks : Type 0) (words : List Name) (env : Env) (spot : Spot) (failed : ℕ) (old new : Scene) : Type 0 where
   pub refused : AreRefused env words → ReportsRefusal talks env old.host new.host
   pub done : new.host.term.error ≡ false → talks → IsCallTrace true (f.tells × l.tells) words env
-      (world_seen spot.journal old.files.held old.lockfiles.held 0 old.host) (world_seen spot.journal new.files.held new.lockfiles.held failed new.host)
+      (world_seen spot.journal old.files old.lockfiles 0 old.host) (world_seen spot.journal new.files new.lockfiles failed new.host)
+  pub traced : new.host.term.error ≡ false → talks → f.tells → f.whole → l.whole → IsChangeTrace (f.tells × l.tells) words env
+      (world_seen spot.journal old.files old.lockfiles 0 old.host) (world_seen spot.journal new.files new.lockfiles failed new.host)
   pub made : talks → IsCallTrace false (f.tells × l.tells) words env
-      (world_seen spot.journal old.files.held old.lockfiles.held 0 old.host) (world_seen spot.journal new.files.held new.lockfiles.held failed new.host)
+      (world_seen spot.journal old.files old.lockfiles 0 old.host) (world_seen spot.journal new.files new.lockfiles failed new.host)
   pub said : talks → SaysCallOver j (contents_seen spot.journal old.files.held old.lockfiles.held) (contents_seen spot.journal new.files.held new.lockfiles.held)
       talks words env (looks_of old.host.term) (looks_of new.host.term) (said_in old) (said_in new)
   pub clean : new.host.term.error ≡ false → RestoresEdits env words → f.tells → l.tells
       → KeepsAll (contents_seen spot.journal old.files.held old.lockfiles.held) (contents_seen spot.journal new.files.held new.lockfiles.held)
   pub back : RestoresEdits env words → f.tells → l.tells
-      → BringsBack (files_seen spot.journal old.files.held old.lockfiles.held 0) (files_seen spot.journal new.files.held new.lockfiles.held failed)
+      → BringsBack (files_seen spot.journal old.files old.lockfiles 0) (files_seen spot.journal new.files new.lockfiles failed)
   pub stood : new.host.term.error ≡ false → EditsStand (WereBetween f l spot.journal) (f.tells × l.tells) talks words env (contents_seen spot.journal old.files.held old.lockfiles.held) old.host.calls
   pub few : new.host.term.error ≡ false → OnlyEndFailed f spot old.files.held new.files.held failed
   pub spoilt : RestoresEdits env words → KeepsAllBut (λ paths. AreJust (HoldsByKind (IsRefusedOrUnkept f u) (IsRefused l)) paths 0 failed) (f.tells × l.tells)
@@ -248,6 +252,8 @@ pub data IsCallCourse {F L U J : Type 0} (f : Filing F) (l : Filing L) (u : Noti
   -- memory was refused before it began: nothing was changed or called, and at most one look failed
   starved : Untouched f.tells f.whole old new → OneMayFail old.files.failed new.files.failed → new.locks ≡ old.locks → IsToldWhy Memory old new
       → IsCallCourse f l u j talks records watched real words env old new
+  -- it asks for a text or cargo's list: it is performed, whatever an interrupted call left
+  printed : AsksToPrint env words true → PerformsUnjournaled f talks words env old new → IsCallCourse f l u j talks records watched real words env old new
   -- it isn't known whether an interrupted call left anything: a call that would change manifests ends
   -- with an error, and nothing was changed or called
   blind : (does : Edits) (cannot : CannotSee f records real words env does old new) → is_change does ≡ true → new.host.term ≡ record old.host.term { error = true }

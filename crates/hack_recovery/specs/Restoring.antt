@@ -95,7 +95,7 @@ module _ {F L : Type 0} (f : Filing F) (l : Filing L) (places : PlacesAt) where
     pub failed : OneMayFail old.files.failed new.files.failed × OneMayFail old.lockfiles.failed new.lockfiles.failed
     pub made : f.whole → Makes [] old.files.trace new.files.trace old.files.held new.files.held
         ⊎ ((bytes : Name) × (l.tells → old.lockfiles.held places.lockfile ≡ Some bytes) × MakesOrNot (puts places.copy bytes) old.files.trace new.files.trace old.files.held new.files.held)
-    pub same : l.tells → KeepsAll old.lockfiles.held new.lockfiles.held
+    pub same : Unchanged l.tells l.whole old.lockfiles new.lockfiles
     pub host : new.host ≡ old.host
     pub said : SaysUncopied old.host.term.coloring came old.streams.err new.streams.err
     pub quiet : IsQuiet old new
@@ -115,7 +115,9 @@ module _ {F L : Type 0} (f : Filing F) (l : Filing L) (places : PlacesAt) where
     pub kept : env.by_guard ≡ true → f.tells → l.tells → (bytes : Name) → old.files.held places.copy ≡ Some bytes → (new.files.held places.copy ≡ Some bytes) ⊎ (new.lockfiles.held places.lockfile ≡ Some bytes)
     pub only : l.tells → (new.lockfiles.held places.lockfile ≡ old.lockfiles.held places.lockfile)
         ⊎ ((f.tells → new.lockfiles.held places.lockfile ≡ old.files.held places.copy) ⊎ IsRefused l places.lockfile)
-    pub left : env.by_guard ≡ false → l.tells → KeepsAll old.lockfiles.held new.lockfiles.held
+    pub left : env.by_guard ≡ false → Unchanged l.tells l.whole old.lockfiles new.lockfiles
+    pub wrote : l.whole → Makes [] old.lockfiles.trace new.lockfiles.trace old.lockfiles.held new.lockfiles.held
+        ⊎ ((bytes : Name) × (f.tells → old.files.held places.copy ≡ Some bytes) × MakesOrNot (puts places.lockfile bytes) old.lockfiles.trace new.lockfiles.trace old.lockfiles.held new.lockfiles.held)
     pub none : f.tells → old.files.held places.copy ≡ None → l.tells → KeepsAll old.lockfiles.held new.lockfiles.held
     pub apart : l.tells → KeepsOthers places.lockfile old.lockfiles.held new.lockfiles.held
     pub told : Tells old.host.term new.host.term came

@@ -6,8 +6,9 @@ ghost use Rattle.hack_rules.specs.declared.fault.CliFault.TheVariants.{Memory};
 ghost use Rattle.hack_words.specs.Start.{wants_rustup as rustup_wanted};
 ghost use Rattle.hack_run.specs.Readings.{IsEarlyReading};
 ghost use Rattle.hack_run.specs.TemporaryEdits.{RestoresEdits};
-ghost use Rattle.hack_recovery.specs.AskedEdits.{AsksForEdits, AsksVerbose, edits_asked, edits_by};
-ghost use Rattle.hack_recovery.specs.AskedEdits.{is_change, is_edit, manifest_by, verbose_by};
+ghost use Rattle.hack_recovery.specs.AskedEdits.{AsksForEdits, AsksToPrint, AsksVerbose};
+ghost use Rattle.hack_recovery.specs.AskedEdits.{edits_asked, edits_by, is_change, is_edit};
+ghost use Rattle.hack_recovery.specs.AskedEdits.{manifest_by, prints_by, verbose_by};
 
 use hack_base::copies::copy_of;
 use hack_run::reading::Reading;
@@ -51,9 +52,12 @@ impl Edits {
     }
 }
 
-/// What a command line says about manifests: what is done to them, and the one that it names.
+/// What a command line asks for: whether it only prints, what is done to manifests, and the one that
+/// it names.
 #[derive(Drop)]
 pub struct Asked {
+    /// Whether it asks for a text or cargo's list, for which no manifest matters.
+    pub prints: bool,
     pub edits: Edits,
     /// Whether it asks for more messages.
     pub verbose: bool,
@@ -78,9 +82,11 @@ pub fn edits_of(args: &Args) -> Edits
 }
 
 impl Asked {
-    /// What this command line asks for. One that is refused, or that asks for a text, does nothing
-    /// to manifests.
+    /// What this command line asks for. One that is refused, or that asks for a text or cargo's list,
+    /// does nothing to manifests.
     pub fn of(alloc: Global, words: &[String], env: &Env) -> Result<Asked, AllocError>
+        ensures prints { IfOk result (λ asked. AsksToPrint env.now (names_of words.now)
+            asked.prints) }
         ensures asks { IfOk result (λ asked. AsksForEdits env.now (names_of words.now)
             asked.edits (optional_text asked.manifest_path)) }
         ensures verbose { IfOk result (λ asked. AsksVerbose env.now (names_of words.now)
@@ -94,10 +100,12 @@ impl Asked {
         // What is known of rustup matters only for whether the command line is refused.
         match Reading::of(alloc, words, env, Rustup::Unasked) {
             Reading::Accepted(parsed, notices) => {
+                let prints = prints(&parsed);
                 let edits = edits_by(&parsed);
                 let verbose = is_verbose(&parsed);
                 let manifest_path = manifest_by(&parsed)?;
                 Ok(Asked {
+                    prints,
                     edits,
                     verbose,
                     manifest_path,
@@ -107,6 +115,7 @@ impl Asked {
             Reading::Refused(fault) => {
                 let fault = lasting(fault)?;
                 Ok(Asked {
+                    prints: false,
                     edits: Edits::None,
                     verbose: false,
                     manifest_path: None,
@@ -124,6 +133,16 @@ fn lasting(fault: CliFault) -> Result<CliFault, AllocError>
     match fault {
         CliFault::Memory => Err(AllocError),
         fault => Ok(fault),
+    }
+}
+
+/// Whether a parsed command line asks for a text, or for cargo's list.
+fn prints(parsed: &Parsed) -> bool
+    ensures { result ≡ prints_by parsed.now }
+{
+    match parsed {
+        Parsed::Args(_) => false,
+        Parsed::Print(_) | Parsed::List => true,
     }
 }
 

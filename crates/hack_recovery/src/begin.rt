@@ -44,6 +44,9 @@ pub(crate) struct Begun {
 #[derive(Drop)]
 pub(crate) enum Halt {
     Memory,
+    /// It asks for a text or cargo's list: nothing was looked at. The command line is read into this,
+    /// unless an argument needs rustup's version.
+    Prints(Option<Reading>),
     /// This path can't be looked at, so it isn't known whether an interrupted call left anything.
     Unseen { asked: Asked, path: String },
 }
@@ -65,7 +68,8 @@ struct Found {
     is_left: bool,
 }
 
-/// Reads what the call asks for, and looks where its journal is. Nothing is changed.
+/// Reads what the call asks for, and looks where its journal is, unless it only prints. Nothing is
+/// changed.
 #[tactic(auto, using(crate::proofs::CountLemmas::counts))]
 pub(crate) fn begin<F: Files, K: Locks>(
     alloc: Global,
@@ -84,13 +88,15 @@ pub(crate) fn begin<F: Files, K: Locks>(
         (IsEarlyReading env.now (names_of words.now))) }
     ensures counted { OnOk result (GrowsBy 0 (F.failed files.old) (F.failed files.new)) }
     ensures halted { IfErr result (IsHalt F.Files K.tells (K.real locks.now) env.now
-        (names_of words.now) (F.bytes_at files.old)
-        (F.failed files.old) (F.failed files.new)) }
+        (names_of words.now) files.old files.new) }
     ensures same { F.tells → KeepsAll (F.bytes_at files.old) (F.bytes_at files.new) }
     ensures untraced { F.whole → Makes [] (F.trace files.old) (F.trace files.new)
         (F.bytes_at files.old) (F.bytes_at files.new) }
 {
     let asked = Asked::of(alloc, words, env)?;
+    if asked.prints {
+        return Err(Halt::Prints(asked.reading));
+    }
     let Found { places, is_left } = match find(alloc, &asked, env, files, locks) {
         Ok(found) => found,
         Err(LookFault::Memory) => return Err(Halt::Memory),

@@ -1,7 +1,7 @@
 //! A whole call that restores first what an interrupted one left, and keeps a journal while it
 //! edits, under the eyes of a guard: which calls are journaled, who may use a journal, and what it
 //! may tell.
-#![tactic(auto)]
+#![tactic(auto, using(hack_files::proofs::FilesLemmas::trace_steps))]
 
 pub mod admit;
 pub mod asked;
@@ -15,4 +15,5 @@ mod lockfile;
 pub mod locks;
 pub mod perform;
 mod restore;
+mod unjournaled;
 mod unseen;

@@ -70,6 +70,8 @@ pub(crate) fn keep_copy<F: Files, L: Files, E: Sink>(
         × MakesOrNot (puts (string_bytes places.now.copy) bytes)
         (F.trace files.old) (F.trace files.new) (F.bytes_at files.old) (F.bytes_at files.new)) }
     ensures same { L.tells → KeepsAll (L.bytes_at lockfiles.old) (L.bytes_at lockfiles.new) }
+    ensures untraced { L.whole → Makes [] (L.trace lockfiles.old) (L.trace lockfiles.new)
+        (L.bytes_at lockfiles.old) (L.bytes_at lockfiles.new) }
     ensures said { SaysUncopied term.now.coloring result
         (stream_of E.Sink err.old) (stream_of E.Sink err.new) }
 {
@@ -161,6 +163,15 @@ pub(crate) fn settle<F: Files, L: Files, C: Caller, O: Sink, E: Sink>(
         → L.tells → KeepsAll (L.bytes_at lockfiles.old) (L.bytes_at lockfiles.new) }
     ensures apart { L.tells → KeepsOthers (string_bytes places.now.lockfile)
         (L.bytes_at lockfiles.old) (L.bytes_at lockfiles.new) }
+    ensures untraced { host.old.env.now.by_guard ≡ false → L.whole
+        → Makes [] (L.trace lockfiles.old) (L.trace lockfiles.new)
+        (L.bytes_at lockfiles.old) (L.bytes_at lockfiles.new) }
+    ensures wrote { L.whole → Makes [] (L.trace lockfiles.old) (L.trace lockfiles.new)
+        (L.bytes_at lockfiles.old) (L.bytes_at lockfiles.new)
+        ⊎ ((bytes : Name) × (F.tells → F.bytes_at files.old (string_bytes places.now.copy)
+        ≡ Some bytes) × MakesOrNot (puts (string_bytes places.now.lockfile) bytes)
+        (L.trace lockfiles.old) (L.trace lockfiles.new)
+        (L.bytes_at lockfiles.old) (L.bytes_at lockfiles.new)) }
     ensures said { SaysSettling F.Files L.Files (places_view places.now) host.old.env.now.by_guard
         (string_bytes host.old.env.now.current_dir) host.old.term.now.coloring
         (files_view F.Files files.old) (files_view F.Files files.new)
@@ -218,6 +229,9 @@ fn give_back<L: Files, C: Caller, O: Sink, E: Sink>(
     ensures failed { OneMayFail (L.failed lockfiles.old) (L.failed lockfiles.new) }
     ensures apart { L.tells → KeepsOthers (string_bytes places.now.lockfile)
         (L.bytes_at lockfiles.old) (L.bytes_at lockfiles.new) }
+    ensures wrote { L.whole → MakesOrNot (puts (string_bytes places.now.lockfile) bytes.now)
+        (L.trace lockfiles.old) (L.trace lockfiles.new)
+        (L.bytes_at lockfiles.old) (L.bytes_at lockfiles.new) }
     ensures said { SaysOfLockfile L.Files host.old.term.now.coloring
         (string_bytes places.now.lockfile) bytes.now (info_line host.old.term.now.coloring
         (restored_text (string_bytes host.old.env.now.current_dir)
@@ -259,6 +273,8 @@ fn leave<L: Files, C: Caller, O: Sink, E: Sink>(
         (L.failed lockfiles.old) (L.failed lockfiles.new) }
     ensures failed { OneMayFail (L.failed lockfiles.old) (L.failed lockfiles.new) }
     ensures same { L.tells → KeepsAll (L.bytes_at lockfiles.old) (L.bytes_at lockfiles.new) }
+    ensures untraced { L.whole → Makes [] (L.trace lockfiles.old) (L.trace lockfiles.new)
+        (L.bytes_at lockfiles.old) (L.bytes_at lockfiles.new) }
     ensures said { SaysOfLockfile L.Files host.old.term.now.coloring
         (string_bytes places.now.lockfile) bytes.now (info_line host.old.term.now.coloring
         (left_text (string_bytes host.old.env.now.current_dir)
@@ -297,6 +313,8 @@ fn holds<F: Files>(
     ensures counted { CountsFailedCall (F.failed files.old) (F.failed files.new) result }
     ensures unseen { FailsUnseenAt F.Files path.now files.old files.new result }
     ensures same { F.tells → KeepsAll (F.bytes_at files.old) (F.bytes_at files.new) }
+    ensures untraced { F.whole → Makes [] (F.trace files.old) (F.trace files.new)
+        (F.bytes_at files.old) (F.bytes_at files.new) }
 {
     let held = look(alloc, files, path)?;
     Ok(same(held.as_deref(), Some(bytes)))

@@ -34,6 +34,7 @@ use crate::keepers::Keepers;
 use crate::lockfile::{keep_copy, settle};
 use crate::locks::Locks;
 use crate::restore::restore;
+use crate::unjournaled::unjournaled;
 use crate::unseen::blindly;
 use hack_base::writes::Sink;
 use hack_files::fs::{Files, Overwrites};
@@ -45,17 +46,15 @@ use hack_places::places::Places;
 use hack_process::process::Caller;
 use hack_run::host::Host;
 use hack_run::reading::Reading;
-use hack_run::run::run;
 use hack_starts::starts::Starts;
 use hack_term::term::Term;
 
 /// Performs a call as `run` does, and returns its exit status, the files, the lockfiles and
-/// `unkept`. Before anything else it restores what an interrupted call left edited, unless another
-/// call is running; with `--restore` that is all. Where it edits manifests and restores them
+/// `unkept`. Unless it only prints, it first restores what an interrupted call left edited, where no
+/// other call is running; with `--restore` that is all. Where it edits manifests and restores them
 /// itself, it keeps a journal of its edits, under a lock of its workspace's folder, and a guard
 /// restores them where it ends early. `files` and `lockfiles` are the same file system; `unkept` is
 /// told of what the journal refuses on its own, which a `u64` counts.
-#[tactic(auto, using(hack_run::proofs::ReadingLemmas::some_or_refusal))]
 pub fn perform<
     F: Overwrites,
     L: Files,
@@ -95,6 +94,10 @@ pub fn perform<
         Ok(begun) => begun,
         Err(Halt::Memory) => {
             let status = report(CallFault::Memory, host);
+            return (status, files, lockfiles, unkept);
+        }
+        Err(Halt::Prints(reading)) => {
+            let status = unjournaled(words, reading, &mut files, host);
             return (status, files, lockfiles, unkept);
         }
         Err(Halt::Unseen { asked, path }) => {
@@ -138,7 +141,6 @@ fn report<C: Caller, O: Sink, E: Sink>(fault: CallFault, host: &mut Host<'_, C, 
 }
 
 /// Performs a call without a journal. Where it is to restore, there is nothing that it may.
-#[tactic(auto, using(hack_run::proofs::ReadingLemmas::some_or_refusal))]
 fn plainly<F: Files, C: Starts, O: Sink, E: Sink>(
     words: &[String],
     begun: Begun,
@@ -172,7 +174,7 @@ fn plainly<F: Files, C: Starts, O: Sink, E: Sink>(
         tell_unrestored(host.env.by_guard, begun.is_left, host.term, host.err);
         return host.status();
     }
-    run(words, begun.reading, files, host)
+    unjournaled(words, begun.reading, files, host)
 }
 
 /// Says why nothing is restored, unless the guard calls.
@@ -279,7 +281,6 @@ fn is_done(came: &Result<bool, CallFault>) -> bool
 }
 
 /// Performs a call under its own lock, where nothing of an interrupted call is left.
-#[tactic(auto, using(hack_run::proofs::ReadingLemmas::some_or_refusal))]
 fn go_on<F: Overwrites, L: Files, U: Unkept, K: Locks, G: Guards, C: Starts, O: Sink, E: Sink>(
     words: &[String],
     begun: Begun,
@@ -311,11 +312,11 @@ fn go_on<F: Overwrites, L: Files, U: Unkept, K: Locks, G: Guards, C: Starts, O: 
     match begun.edits {
         Edits::None => {
             keepers.locks.release();
-            let status = run(words, begun.reading, &mut files, host);
+            let status = unjournaled(words, begun.reading, &mut files, host);
             (status, files, lockfiles, unkept)
         }
         Edits::Permanent => {
-            let status = run(words, begun.reading, &mut files, host);
+            let status = unjournaled(words, begun.reading, &mut files, host);
             (status, files, lockfiles, unkept)
         }
         Edits::Temporary => {

@@ -18,18 +18,17 @@ ghost use Rattle.hack_run.specs.Worlds.{IsSameHost, IsStatus, host_view};
 ghost use Rattle.hack_term.specs.Lines.{error_line, warning_line};
 
 use crate::asked::Asked;
+use crate::unjournaled::unjournaled;
 use hack_base::writes::Sink;
 use hack_files::fs::Files;
 use hack_files::reason::tell_reason;
 use hack_run::host::Host;
-use hack_run::run::run;
 use hack_starts::starts::Starts;
 use hack_term::term::Term;
 use std::alloc::Global;
 
 /// Refuses a call that would change manifests, and performs any other, after a warning. `path` is
 /// what can't be looked at.
-#[tactic(auto, using(hack_run::proofs::ReadingLemmas::some_or_refusal))]
 pub(crate) fn blindly<F: Files, C: Starts, O: Sink, E: Sink>(
     words: &[String],
     asked: Asked,
@@ -68,7 +67,7 @@ pub(crate) fn blindly<F: Files, C: Starts, O: Sink, E: Sink>(
         return host.status();
     }
     warn(host.alloc, path, host.term, host.err);
-    run(words, asked.reading, files, host)
+    unjournaled(words, asked.reading, files, host)
 }
 
 /// Reports that this path can't be looked at, as an error.

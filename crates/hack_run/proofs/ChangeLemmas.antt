@@ -11,7 +11,7 @@ use Rattle.hack_files.specs.Files.{Change, Contents, KeepsAll, Makes, after, aft
 use Rattle.hack_files.specs.Restore.{AreSafe, Brings, ComesBackBut, Kept, Tried, failed, is_kept, made_and_failed, none, paths, registered_files, write_of, written}
 use Rattle.hack_files.specs.declared.fs.Files.{Ghosts as Filing}
 use Rattle.hack_files.specs.declared.restore.Manager.{Manager}
-use Rattle.hack_files.proofs.FilesLemmas.{makes_more}
+use Rattle.hack_files.specs.TraceLaws.{makes_more, makes_still}
 use Rattle.hack_load.specs.Answers.{AreAnswers, IsAskFault, IsLoaded, LoadsFromMetadata, LoadsTo}
 use Rattle.hack_load.specs.ContextOf.{IsContextFrom}
 use Rattle.hack_load.specs.Contexts.{ContextRecord}
@@ -312,3 +312,40 @@ pub traces : {T E : Type 0} (tells told whole quiet : Type 0) (r : Result T E) (
 traces tells told whole quiet r words env old new mid rustup answer notes read asked obeyed =
     on_ok (quiet → tells → whole → ObeysAndChanges told answer env (warned_by answer notes old.host.term.warn) (world_at mid old) new) (quiet → tells → whole → IsChangeTrace told words env old new) r
     (λ f q t w. record { mid = mid; rustup = rustup; answer = answer; notes = notes; told = asked t; read = read; obeyed = f q t w }) obeyed
+
+-- ---- files that are changed no more
+
+all_on : (tells : Type 0) (cx : ContextRecord) (asked : List Change) (old new later : FilesView) → Makes [] new.trace later.trace new.held later.held → AreChanges tells cx asked old new → AreChanges tells cx asked old later
+all_on tells cx asked old new later still h = record {
+  edits = h.edits;
+  back = h.back;
+  edited = h.edited;
+  undone = h.undone;
+  are = makes_still (asked ++ (h.edits ++ h.back)) old.trace new.trace later.trace old.held new.held later.held h.are still;
+}
+
+obeys_on : (tells : Type 0) (answer : Parsed) (env : Env) (warned : Bool) (old new : World) (later : FilesView) → Makes [] new.files.trace later.trace new.files.held later.held
+    → ObeysAndChanges tells answer env warned old new → ObeysAndChanges tells answer env warned old (record new { files = later })
+obeys_on tells (parsed.Args args) env warned old new later still h = record {
+  answers = h.answers;
+  mid = h.mid;
+  cx = h.cx;
+  asked = answers_by tells args env old.files.held old.files.failed new.files.failed later.failed (λ stage asked. AreChanges tells h.cx asked old.files new.files) (λ stage asked. AreChanges tells h.cx asked old.files later) old.host.calls h.mid h.answers h.context.0 h.context.1
+      (λ c text n made are. all_on tells h.cx made old.files new.files later still are) h.asked;
+  context = h.context;
+  performed = h.performed;
+}
+obeys_on tells (parsed.Print text) env warned old new later still h = makes_still [] old.files.trace new.files.trace later.trace old.files.held new.files.held later.held h still
+obeys_on tells parsed.List env warned old new later still h = makes_still [] old.files.trace new.files.trace later.trace old.files.held new.files.held later.held h still
+
+pub changes_on : (tells : Type 0) (words : List Name) (env : Env) (old new : World) (later : FilesView) → Makes [] new.files.trace later.trace new.files.held later.held
+    → IsChangeTrace tells words env old new → IsChangeTrace tells words env old (record new { files = later })
+changes_on tells words env old new later still h = record {
+  mid = h.mid;
+  rustup = h.rustup;
+  answer = h.answer;
+  notes = h.notes;
+  told = h.told;
+  read = h.read;
+  obeyed = obeys_on tells h.answer env (warned_by h.answer h.notes old.host.term.warn) (world_at h.mid old) new later still h.obeyed;
+}

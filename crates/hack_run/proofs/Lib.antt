@@ -1,6 +1,6 @@
 mod BackLemmas
 pub mod CallLemmas
-mod ChangeLemmas
+pub mod ChangeLemmas
 mod GatherLemmas
 mod LoadingLemmas
 pub mod ReadingLemmas

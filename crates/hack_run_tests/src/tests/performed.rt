@@ -108,6 +108,18 @@ fn own_lines(rt: HostRuntime) -> Result<(), Wrong> {
             | no copy
             | status 1
 
+            > performed: hack --version; file: /w/.cargo-hack-journal; | torn
+            | no copy
+            | status 0
+
+            > performed: hack --version; broken look 1
+            | no copy
+            | status 0
+
+            > performed: hack --list; broken look 1; file: /w/.cargo-hack-journal; | torn
+            | no copy
+            | status 0
+
             > performed: hack --restore; file: /w/.cargo-hack-journal; | edited files; | path src/lib.rs; | held; |  a; | wrote; |  b; | end
             | info: a journal goes on in files that are named as it is, with `~1`, `~2` and so on behind that, which are to be removed with it
             | error: `/w/.cargo-hack-journal` tells of `/w/src/lib.rs`, which no call edits; put back by hand what it tells, and remove it

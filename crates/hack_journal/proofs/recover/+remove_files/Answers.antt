@@ -1,6 +1,7 @@
 use Rattle.std.proofs.Common.{◌-◌, ◌∙◌, List, ℕ, ap, sym, arith}
 use Rattle.hack_journal.specs.Rows.{file_at}
-use Rattle.hack_journal.specs.SafeLaws.{makes_none, stay_none}
+use Rattle.hack_files.specs.TraceLaws.{makes_none}
+use Rattle.hack_journal.specs.SafeLaws.{stay_none}
 use Rattle.hack_journal.proofs.FailedLemmas.{ends_then}
 use Rattle.hack_journal.proofs.RemovalLemmas.{back_but_safe, remove_failed, remove_went}
 use Rattle.hack_journal.proofs.recover.+remove_files.Goals as goal

@@ -1,7 +1,8 @@
+use Rattle.std.proofs.Common.{inr}
 use Rattle.hack_journal.specs.Journal.{edit_of}
 use Rattle.hack_files.proofs.FailedLemmas.{none_then}
 use Rattle.hack_journal.proofs.FailedLemmas.{fault_then, memory_only, write_failed}
-use Rattle.hack_journal.proofs.RecoverLemmas.{on_ok_always, put_keeps}
+use Rattle.hack_journal.proofs.RecoverLemmas.{on_ok_always, put_keeps, put_made, put_or_not}
 use Rattle.hack_journal.proofs.recover.put_back.Goals as goal
 
 pub returns-in-Ok-put-clause-back : goal.returns-in-Ok-put-clause-back
@@ -24,3 +25,15 @@ pub returns-clause-calls : goal.returns-clause-calls
 returns-clause-calls g c =
     fault_then g.F.Files c.write_fault.result c.args.files.now c.look.new.files c.put.new.files c.in-Ok.ensures.unseen
     (write_failed g.F.Files (edit_of c.args.entry.now).path c.write_fault.result c.look.new.files c.put.new.files (rw c.deref-in-Err-put.ensures at c.write_fault.ensures.write) (rw c.deref-2.ensures at c.in-Err-put.ensures.calls))
+
+pub returns-in-Ok-put-clause-made : goal.returns-in-Ok-put-clause-made
+returns-in-Ok-put-clause-made g c = λ whole.
+    inr (put_made (edit_of c.args.entry.now).path _ (edit_of c.args.entry.now).held _ _ _ _ _ _ _ c.deref-2.ensures c.as_deref-3.ensures.value (c.in-Ok.ensures.untraced whole) (c.in-Ok-put.ensures.traced whole))
+
+pub returns-in-Ok-2-clause-made : goal.returns-in-Ok-2-clause-made
+returns-in-Ok-2-clause-made g c = λ whole.
+    inr (put_made (edit_of c.args.entry.now).path _ (edit_of c.args.entry.now).held _ _ _ _ _ _ _ c.deref-2.ensures c.as_deref-3.ensures.value (c.in-Ok.ensures.untraced whole) (c.in-Ok-2.ensures.traced whole))
+
+pub returns-clause-made : goal.returns-clause-made
+returns-clause-made g c = λ whole.
+    put_or_not (edit_of c.args.entry.now).path _ (edit_of c.args.entry.now).held _ _ _ _ _ _ _ c.deref-2.ensures c.as_deref-3.ensures.value (c.in-Ok.ensures.untraced whole) (c.in-Err-put.ensures.refused whole)

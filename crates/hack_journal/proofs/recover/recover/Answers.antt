@@ -3,7 +3,8 @@ use Rattle.std.proofs.lemmas.Result.{err_from_is_err_and, IfErr-weaker}
 use Rattle.hack_base.specs.Names.{names_of}
 use Rattle.hack_journal.specs.Journal.{edits_of}
 use Rattle.hack_journal.specs.Rows.{spot_of}
-use Rattle.hack_journal.specs.SafeLaws.{makes_append}
+use Rattle.hack_files.specs.TraceLaws.{makes_more}
+use Rattle.hack_journal.specs.SafeLaws.{stay_none}
 use Rattle.hack_journal.proofs.FinishLemmas.{all_same}
 use Rattle.hack_journal.proofs.RowLemmas.{row_of}
 use Rattle.hack_journal.proofs.RecoverLemmas.{looked_puts, never_cut_no_journal, puts_stay, safe_at, safe_cut, safe_told, why_unread, why_failed, why_not_told, never_not_told, told_at, restored_of, comes_back_of, on_err_always, on_three, on_two, safe_none}
@@ -73,13 +74,13 @@ returns-clause-comes_back g c =
 pub returns-clause-safe : goal.returns-clause-safe
 returns-clause-safe g c = λ tells whole first safe.
     let s = spot_of c.args.place.now in
-    let looks = makes_append [] [] _ _ _ _ _ _ (c.in_ok-row.ensures.untraced whole) (c.in_ok-check_all.ensures.untraced whole) in
+    let looks = makes_more [] [] _ _ _ _ _ _ (c.in_ok-row.ensures.untraced whole) (c.in_ok-check_all.ensures.untraced whole) in
     puts_stay s first _ _ _ _ (λ now is. is) safe (looked_puts s first c.in-Some.row.count _ _ _ _ _ _ _ (safe_cut s first _ safe) (c.in_ok-row.ensures.some c.in-Some.row c.in-Some.is tells) looks (c.take_back.ensures.safe tells whole first))
 
 pub returns-clause-safe_after_cut : goal.returns-clause-safe_after_cut
 returns-clause-safe_after_cut g c = λ tells whole first safe.
     let s = spot_of c.args.place.now in
-    let looks = makes_append [] [] _ _ _ _ _ _ (c.in_ok-row.ensures.untraced whole) (c.in_ok-check_all.ensures.untraced whole) in
+    let looks = makes_more [] [] _ _ _ _ _ _ (c.in_ok-row.ensures.untraced whole) (c.in_ok-check_all.ensures.untraced whole) in
     puts_stay s first _ _ _ _ (safe_cut s first) safe (looked_puts s first c.in-Some.row.count _ _ _ _ _ _ _ safe (c.in_ok-row.ensures.some c.in-Some.row c.in-Some.is tells) looks (c.take_back.ensures.safe tells whole first))
 
 pub returns-clause-why : goal.returns-clause-why
@@ -111,3 +112,11 @@ returns-clause-refused g c = IfErr-weaker c.take_back.result _ _ (λ fault not r
 
 pub returns-clause-never : goal.returns-clause-never
 returns-clause-never g c = IfErr-weaker c.take_back.result _ _ (λ fault not refusal. absurd (not refusal)) c.take_back.ensures.fault
+
+pub returns-in_err-check_all-clause-safe : goal.returns-in_err-check_all-clause-safe
+returns-in_err-check_all-clause-safe g c = λ tells whole first safe.
+    stay_none _ _ _ _ _ (makes_more [] [] _ _ _ _ _ _ (c.in_ok-row.ensures.untraced whole) (c.in_err-check_all.ensures.untraced whole)) safe
+
+pub returns-in_err-check_all-clause-safe_after_cut : goal.returns-in_err-check_all-clause-safe_after_cut
+returns-in_err-check_all-clause-safe_after_cut g c = λ tells whole first safe.
+    stay_none _ _ _ _ _ (makes_more [] [] _ _ _ _ _ _ (c.in_ok-row.ensures.untraced whole) (c.in_err-check_all.ensures.untraced whole)) safe

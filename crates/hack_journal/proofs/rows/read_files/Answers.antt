@@ -3,7 +3,7 @@ use Rattle.std.proofs.lemmas.Result.{err_from_is_err_and}
 use Rattle.std.proofs.lemmas.Grind.{common_steps}
 use Rattle.hack_journal.specs.Journal.{edits_of}
 use Rattle.hack_journal.specs.Rows.{spot_of}
-use Rattle.hack_journal.specs.SafeLaws.{makes_append}
+use Rattle.hack_files.specs.TraceLaws.{makes_more}
 use Rattle.hack_files.proofs.FailedLemmas.{none_then}
 use Rattle.hack_journal.proofs.FailedLemmas.{fault_then}
 use Rattle.hack_journal.proofs.RecoverLemmas.{read_more_at, why_torn}
@@ -28,7 +28,7 @@ loop-number-preserved g c =
       failures = grind (arith, common_steps, i.failures, c.in_ok-read_file.ensures.failures);
       calls = none_then g.F.Files _ _ _ i.calls c.in_ok-read_file.ensures.calls;
       same = λ tells q. c.in_ok-read_file.ensures.same tells q ∙ i.same tells q;
-      untraced = λ whole. makes_append _ _ _ _ _ _ _ _ (i.untraced whole) (c.in_ok-read_file.ensures.untraced whole);
+      untraced = λ whole. makes_more _ _ _ _ _ _ _ _ (i.untraced whole) (c.in_ok-read_file.ensures.untraced whole);
       read = λ tells. read_more_at s (g.F.Files.bytes_at c.args.files.now) (g.F.Files.bytes_at c.loop-number.files) c.loop-number.number _ _ (i.same tells) (i.read tells) (c.in_ok-read_file.ensures.some c.if-not-branch.false tells);
     }
 

@@ -1,19 +1,20 @@
 use Rattle.std.proofs.Common.{◌≡◌, ◌∙◌, ◌+◌, ℕ, List, None, ap, length, [], true, false, arith, inl, inr, refl, string_bytes, subst, sym}
 use Rattle.hack_base.specs.Names.{names_of}
-use Rattle.hack_files.specs.Files.{Contents, KeepsAll}
+use Rattle.hack_files.specs.Files.{Contents, KeepsAll, by_kind}
 use Rattle.hack_files.specs.declared.fs.Files.{Ghosts as Filing}
 use Rattle.hack_journal.specs.FailedCalls.{CannotEnd}
 use Rattle.hack_journal.specs.FileCalls.{spot_in}
 use Rattle.hack_journal.proofs.RowLemmas.{apart_from}
 use Rattle.hack_journal.proofs.SafeLemmas.{without_same}
-use Rattle.hack_journal.specs.LockfilesApart.{KeepsLockfiles, apart}
+use Rattle.hack_journal.specs.LockfilesApart.{KeepsLockfiles, apart, is_lockfile}
 use Rattle.hack_journal.specs.Rows.{AreEach, Noted, Spot, spot_of}
-use Rattle.hack_journal.specs.SafeFiles.{without}
+use Rattle.hack_journal.specs.SafeFiles.{trace_besides, without}
 use Rattle.hack_journal.specs.SafeLaws.{stays_join}
 use Rattle.hack_journaled.specs.Journals.{IsAtEnd, IsWhyItStays, contents_seen, files_seen, world_seen}
-use Rattle.hack_files.specs.View.{FilesView}
+use Rattle.hack_files.specs.View.{FilesView, files_view}
 use Rattle.hack_run.specs.Worlds.{host_view}
-use Rattle.hack_journaled.proofs.JournalLemmas.{accounted, edits_between, entries_back, leaves_end, leaves_nothing, none_before, one_at_most, only_end, refused_once, seen_same, spoilt_end, why_it_stays}
+use Rattle.hack_journaled.proofs.JournalLemmas.{accounted, edits_between, entries_back, leaves_end, leaves_nothing, none_before, one_at_most, only_end, refused_once, seen_same, spoilt_end, traced_same, why_it_stays}
+use Rattle.hack_run.proofs.ChangeLemmas.{changes_on}
 use Rattle.hack_run.proofs.TraceLemmas.{call_moved, keeps_same, unended}
 use Rattle.hack_journaled.proofs.journaled.run_journaled.Goals as goal
 
@@ -25,12 +26,27 @@ returns-clause-done g c = λ quiet t.
     let ran = rw c.new-files.ensures.files at c.run-status.ensures.stays in
     let same : string_bytes c.args.place.journal ≡ mid.files.notes.journal = sym named ∙ ap (λ (s : Spot). s.journal) ran.0.0 in
     let did = rw (c.new-files.ensures.files, c.new-files.ensures.lockfiles, c.new-files.ensures.failures, named, c.new.ensures.files) at (c.run-status.ensures.done quiet t) in
-    let seen : FilesView = record { held = apart (without mid.files.notes.journal (bytes mid.files.files)) (g.L.Files.bytes_at mid.lockfiles); trace = []; failed = mid.failures } in
-    let last = files_seen (string_bytes c.args.place.journal) (bytes c.into_inner-below.result.0) (g.L.Files.bytes_at mid.lockfiles) c.end_journal-failed.result in
-    call_moved true (g.F.Files.tells × g.L.Files.tells) (names_of c.args.words.now) c.args.host.now.env.now (world_seen (string_bytes c.args.place.journal) (bytes c.args.files) (g.L.Files.bytes_at c.args.lockfiles) 0 (host_view g.C.Caller g.O.Sink c.args.host.now))
+    let seen : FilesView = record { held = apart (without mid.files.notes.journal (bytes mid.files.files)) (g.L.Files.bytes_at mid.lockfiles); trace = by_kind is_lockfile (g.L.Files.trace mid.lockfiles) (trace_besides mid.files.notes.journal (g.F.Files.trace mid.files.files)); failed = mid.failures } in
+    let last = files_seen (string_bytes c.args.place.journal) (files_view g.F.Files c.into_inner-below.result.0) (files_view g.L.Files mid.lockfiles) c.end_journal-failed.result in
+    call_moved true (g.F.Files.tells × g.L.Files.tells) (names_of c.args.words.now) c.args.host.now.env.now (world_seen (string_bytes c.args.place.journal) (files_view g.F.Files c.args.files) (files_view g.L.Files c.args.lockfiles) 0 (host_view g.C.Caller g.O.Sink c.args.host.now))
     (record { files = seen; host = host_view g.C.Caller g.O.Sink c.run-status.new.host }) last c.run-status.new.host.term.now
     (λ d told. keeps_same seen.held last.held (seen_same (string_bytes c.args.place.journal) mid.files.notes.journal (length mid.files.notes.entries + 1) (bytes mid.files.files) (bytes c.end_journal-failed.new.files.files) (bytes c.into_inner-below.result.0) (g.L.Files.bytes_at mid.lockfiles) same (c.end_journal-failed.ensures.others told.0) (rw c.into_inner-below.ensures.files refl)))
     (λ d. refl) did
+
+pub returns-clause-traced : goal.returns-clause-traced
+returns-clause-traced g c = λ quiet t tells whole lockfiles.
+    let named : c.new.result.notes.journal ≡ string_bytes c.args.place.journal = ap (λ (s : Spot). s.journal) c.new.ensures.place in
+    let mid = c.run-status.new.files in
+    let bytes = g.F.Files.bytes_at in
+    let trace = g.F.Files.trace in
+    let ran = rw c.new-files.ensures.files at c.run-status.ensures.stays in
+    let same : string_bytes c.args.place.journal ≡ mid.files.notes.journal = sym named ∙ ap (λ (s : Spot). s.journal) ran.0.0 in
+    let did = rw (c.new-files.ensures.files, c.new-files.ensures.lockfiles, c.new-files.ensures.failures, named, c.new.ensures.files) at (c.run-status.ensures.traced quiet t ((tells, whole), lockfiles)) in
+    let seen : FilesView = record { held = apart (without mid.files.notes.journal (bytes mid.files.files)) (g.L.Files.bytes_at mid.lockfiles); trace = by_kind is_lockfile (g.L.Files.trace mid.lockfiles) (trace_besides mid.files.notes.journal (trace mid.files.files)); failed = mid.failures } in
+    changes_on (g.F.Files.tells × g.L.Files.tells) (names_of c.args.words.now) c.args.host.now.env.now (world_seen (string_bytes c.args.place.journal) (files_view g.F.Files c.args.files) (files_view g.L.Files c.args.lockfiles) 0 (host_view g.C.Caller g.O.Sink c.args.host.now))
+    (record { files = seen; host = host_view g.C.Caller g.O.Sink c.run-status.new.host }) (files_seen (string_bytes c.args.place.journal) (files_view g.F.Files c.into_inner-below.result.0) (files_view g.L.Files mid.lockfiles) c.end_journal-failed.result)
+    (traced_same (string_bytes c.args.place.journal) mid.files.notes.journal (trace mid.files.files) (trace c.end_journal-failed.new.files.files) (g.L.Files.trace mid.lockfiles) (trace c.into_inner-below.result.0) (bytes mid.files.files) (bytes c.end_journal-failed.new.files.files) (bytes c.into_inner-below.result.0) (g.L.Files.bytes_at mid.lockfiles) same
+    (c.end_journal-failed.ensures.only whole) (rw c.into_inner-below.ensures.files refl) (rw c.into_inner-below.ensures.files refl)) did
 
 pub returns-clause-made : goal.returns-clause-made
 returns-clause-made g c = λ t.
@@ -38,9 +54,9 @@ returns-clause-made g c = λ t.
     let mid = c.run-status.new.files in
     let bytes = g.F.Files.bytes_at in
     let did = rw (c.new-files.ensures.files, c.new-files.ensures.lockfiles, c.new-files.ensures.failures, named, c.new.ensures.files) at (c.run-status.ensures.made t) in
-    let seen : FilesView = record { held = apart (without mid.files.notes.journal (bytes mid.files.files)) (g.L.Files.bytes_at mid.lockfiles); trace = []; failed = mid.failures } in
-    call_moved false (g.F.Files.tells × g.L.Files.tells) (names_of c.args.words.now) c.args.host.now.env.now (world_seen (string_bytes c.args.place.journal) (bytes c.args.files) (g.L.Files.bytes_at c.args.lockfiles) 0 (host_view g.C.Caller g.O.Sink c.args.host.now))
-    (record { files = seen; host = host_view g.C.Caller g.O.Sink c.run-status.new.host }) (files_seen (string_bytes c.args.place.journal) (bytes c.into_inner-below.result.0) (g.L.Files.bytes_at mid.lockfiles) c.end_journal-failed.result)
+    let seen : FilesView = record { held = apart (without mid.files.notes.journal (bytes mid.files.files)) (g.L.Files.bytes_at mid.lockfiles); trace = by_kind is_lockfile (g.L.Files.trace mid.lockfiles) (trace_besides mid.files.notes.journal (g.F.Files.trace mid.files.files)); failed = mid.failures } in
+    call_moved false (g.F.Files.tells × g.L.Files.tells) (names_of c.args.words.now) c.args.host.now.env.now (world_seen (string_bytes c.args.place.journal) (files_view g.F.Files c.args.files) (files_view g.L.Files c.args.lockfiles) 0 (host_view g.C.Caller g.O.Sink c.args.host.now))
+    (record { files = seen; host = host_view g.C.Caller g.O.Sink c.run-status.new.host }) (files_seen (string_bytes c.args.place.journal) (files_view g.F.Files c.into_inner-below.result.0) (files_view g.L.Files mid.lockfiles) c.end_journal-failed.result)
     c.run-status.new.host.term.now (λ e. unended e) (λ e. unended e) did
 
 pub returns-clause-clean : goal.returns-clause-clean
@@ -84,10 +100,11 @@ returns-clause-back g c = λ back files lockfiles.
 
 -- the cause by which the end leaves the journal there
 stays-since : {F : Type 0} (f : Filing F) (place spot at : Spot) (first last : Contents) (noted : Noted) (old new : F) → place ≡ spot → spot ≡ at → at.journal ≡ noted.journal
-    → (f.tells → f.whole → first place.journal ≡ None → AreEach spot (f.bytes_at old) 0 noted.entries) → IsAtEnd f last old new → CannotEnd f noted old new → IsWhyItStays f place first last
+    → (f.tells → f.whole → first place.journal ≡ None → AreEach spot (f.bytes_at old) 0 noted.entries) → IsAtEnd f noted.journal last old new → CannotEnd f noted old new → IsWhyItStays f place first last
 stays-since f place spot at first last noted old new begun same named each ends cannot =
-    why_it_stays f place first last noted old new (ap (λ (s : Spot). s.journal) (begun ∙ same) ∙ named)
-    (λ tells whole absent. subst (λ (s : Spot). AreEach s (f.bytes_at old) 0 noted.entries) (sym begun) (each tells whole absent)) ends cannot
+    let is : place.journal ≡ noted.journal = ap (λ (s : Spot). s.journal) (begun ∙ same) ∙ named in
+    why_it_stays f place first last noted old new is
+    (λ tells whole absent. subst (λ (s : Spot). AreEach s (f.bytes_at old) 0 noted.entries) (sym begun) (each tells whole absent)) (subst (λ (j : List ℕ). IsAtEnd f j last old new) (sym is) ends) cannot
 
 pub returns-clause-few : goal.returns-clause-few
 returns-clause-few g c = λ quiet.
@@ -95,7 +112,7 @@ returns-clause-few g c = λ quiet.
     let mid = c.run-status.new.files.files in
     let bytes = g.F.Files.bytes_at in
     let ran = rw c.new-files.ensures.files at c.run-status.ensures.stays in
-    let ends : IsAtEnd g.F.Files (bytes c.into_inner-below.result.0) mid.files c.end_journal-failed.new.files.files = record { ended = rw c.into_inner-below.ensures.files refl; only = rw c.into_inner-below.ensures.files c.end_journal-failed.ensures.only } in
+    let ends : IsAtEnd g.F.Files mid.notes.journal (bytes c.into_inner-below.result.0) mid.files c.end_journal-failed.new.files.files = record { ended = rw c.into_inner-below.ensures.files refl; only = c.end_journal-failed.ensures.only } in
     only_end c.failures-known.result c.end_journal-failed.result
     (omega (arith, c.failures-known.ensures, c.new-files.ensures.failures, (c.run-status.ensures.clean quiet).0 (omega (arith, c.new-files.ensures.failures))))
     (stays-since g.F.Files (spot_of c.args.place) (spot_in first) (spot_in mid) (bytes c.args.files) (bytes c.into_inner-below.result.0) mid.notes mid.files c.end_journal-failed.new.files.files (sym c.new.ensures.place) ran.0.0 refl
@@ -132,7 +149,7 @@ returns-clause-ended g c = λ tells whole lockfiles same absent.
     (sym (seen_same j mid.files.notes.journal (length mid.files.notes.entries + 1) (bytes mid.files.files) (bytes c.end_journal-failed.new.files.files) (bytes c.into_inner-below.result.0) (g.L.Files.bytes_at mid.lockfiles) (sym named) (c.end_journal-failed.ensures.others tells) (rw c.into_inner-below.ensures.files refl))) same in
     let is_back = entries_back j (bytes c.args.files) (bytes mid.files.files) (g.L.Files.bytes_at c.args.lockfiles) (g.L.Files.bytes_at mid.lockfiles) mid.files.notes.entries kept.more
     (rw begun at kept.keeps) (rw named at all) (rw (c.new.ensures.files, begun, named) at (ran.2 tells)) in
-    let ends : IsAtEnd g.F.Files (bytes c.into_inner-below.result.0) mid.files.files c.end_journal-failed.new.files.files = record { ended = rw c.into_inner-below.ensures.files refl; only = rw c.into_inner-below.ensures.files c.end_journal-failed.ensures.only } in
+    let ends : IsAtEnd g.F.Files mid.files.notes.journal (bytes c.into_inner-below.result.0) mid.files.files c.end_journal-failed.new.files.files = record { ended = rw c.into_inner-below.ensures.files refl; only = c.end_journal-failed.ensures.only } in
     elim (c.end_journal-failed.ensures.ended tells is_back) [
       | inl gone ↦ inl (rw (c.into_inner-below.ensures.files, sym named) gone)
       | inr cannot ↦ inr (stays-since g.F.Files (spot_of c.args.place) (spot_in first) (spot_in mid.files) (bytes c.args.files) (bytes c.into_inner-below.result.0) mid.files.notes mid.files.files c.end_journal-failed.new.files.files (sym c.new.ensures.place) ran.0.0 refl

@@ -5,7 +5,8 @@ use Rattle.hack_metadata.specs.RecordViews.{nodes_view}
 use Rattle.hack_metadata.specs.MetadataView.{metadata_view}
 use Rattle.hack_metadata.specs.declared.metadata.resolve.PackageId.{PackageId}
 use Rattle.hack_load.specs.CargoQuestions.{IsOfMember, IsPackageFault}
-use Rattle.hack_load.proofs.LeaveLemmas.{makes_still, may-more, whole-more}
+use Rattle.hack_files.specs.TraceLaws.{makes_still}
+use Rattle.hack_load.proofs.LeaveLemmas.{may-more, whole-more}
 use Rattle.hack_load.proofs.MemberLemmas.{each-more, fault-earlier, id-contained, of-earlier}
 use Rattle.hack_files.proofs.FailedLemmas.{none_then}
 use Rattle.hack_load.specs.FailedLoads.{IsManifestAt, IsMemberPath, IsOfReadAt}

@@ -1,7 +1,7 @@
 use Rattle.std.proofs.Common.{◌≡◌, ◌∙◌, ◌-◌, ◌+◌, suc, [], length, Some, None, ap, arith, refl, string_bytes, sym}
 use Rattle.std.proofs.lemmas.Result.{err_from_is_err_and}
 use Rattle.std.specs.Option.{option_map}
-use Rattle.hack_journal.specs.SafeLaws.{makes_append, makes_none}
+use Rattle.hack_files.specs.TraceLaws.{makes_more, makes_none}
 use Rattle.hack_places.specs.Folders.{At, Here, Nothing, workspace_from}
 use Rattle.hack_places.proofs.CountLemmas.{grows_then}
 use Rattle.hack_places.proofs.FolderLemmas.{after_absent, after_unsaid, or_now, rest_here, rest_none, rest_of, rest_there, step_is, unwrap_now}
@@ -53,7 +53,7 @@ loop-step-preserved g c =
       counted = grows_then 0 _ _ _ c.loop-step.invariant.counted c.in_ok-said_at.ensures.counted;
       seen = seen_more g.F.Files _ _ _ c.loop-step.invariant.seen c.in_ok-said_at.ensures.seen;
       same = λ t q. c.in_ok-said_at.ensures.same t q ∙ c.loop-step.invariant.same t q;
-      untraced = λ w. makes_append [] [] _ _ _ _ _ _ (c.loop-step.invariant.untraced w) (c.in_ok-said_at.ensures.untraced w);
+      untraced = λ w. makes_more [] [] _ _ _ _ _ _ (c.loop-step.invariant.untraced w) (c.in_ok-said_at.ensures.untraced w);
     }
 
 pub returns-in_err-said_at-clause-looked : goal.returns-in_err-said_at-clause-looked

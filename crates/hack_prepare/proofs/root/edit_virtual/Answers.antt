@@ -1,6 +1,7 @@
 use Rattle.std.proofs.Common.{◌∙◌, refl, [], Some, ap, sym, string_bytes}
 use Rattle.std.proofs.lemmas.Result.{on_ok_weaker}
 use Rattle.hack_base.specs.Names.{names_behind}
+use Rattle.hack_files.specs.TraceLaws.{makes_none}
 use Rattle.hack_prepare.specs.FailureCounts.{WriteFails}
 use Rattle.hack_prepare.specs.Internal.{IsHeldFault, OnlyIf}
 use Rattle.hack_manifest.specs.LineRuns.{has_some}
@@ -8,9 +9,9 @@ use Rattle.hack_prepare.specs.PreparedView.{wanted_view}
 use Rattle.hack_prepare.proofs.CountLemmas.{calls_then, write_then}
 use Rattle.hack_prepare.proofs.FaultLemmas.{text-fault, virtual-fault}
 use Rattle.hack_prepare.proofs.FailedLemmas.{text-fails}
-use Rattle.hack_prepare.proofs.RootLemmas.{edited-read, partly-read, some-left}
+use Rattle.hack_prepare.proofs.RootLemmas.{edited-read, none-left, partly-read, some-left}
 use Rattle.hack_prepare.proofs.StepLemmas.{step_read}
-use Rattle.hack_prepare.proofs.WriteLemmas.{virtual-begun, virtual-made}
+use Rattle.hack_prepare.proofs.WriteLemmas.{if-unasked, virtual-begun, virtual-made}
 use Rattle.hack_prepare.proofs.root.edit_virtual.Goals as goal
 
 pub returns-in-Ok-clause-counted : goal.returns-in-Ok-clause-counted
@@ -76,3 +77,6 @@ returns-in-Err-clause-calls g c =
     let root = c.args.wanted.now.root.now in
     text-fails g.F.Files (OnlyIf (has_some (names_behind c.args.private.now)) root) root c.in-Err.fault c.of_file.result (g.F.Files.failed c.args.files.now) (g.F.Files.failed c.read_to_string.new.files) c.args.files.now c.read_to_string.new.files
     (some-left c.args.private.now c.if-is_empty.ensures, refl) c.in-Err.ensures.fault c.of_file.ensures c.read_to_string.ensures.refused_none c.in-Err.ensures.unseen
+
+pub returns-then-is_empty-clause-traced : goal.returns-then-is_empty-clause-traced
+returns-then-is_empty-clause-traced g c = λ whole. ([], if-unasked (has_some (names_behind c.args.private.now)) _ (none-left c.args.private.now c.if-is_empty.ensures), makes_none _ _)

@@ -1,6 +1,9 @@
-use Rattle.std.proofs.Common.{◌∙◌, sym}
+use Rattle.std.proofs.Common.{◌∙◌, None, refl, string_bytes, sym}
+use Rattle.hack_files.specs.Files.{removes}
 use Rattle.hack_files.specs.View.{files_view}
 use Rattle.hack_recovery.specs.CallCourses.IsJournalClosed.{copy_kept, copy_stays, stays, unseen}
+use Rattle.hack_journal.proofs.RecoverLemmas.{put_or_not}
+use Rattle.hack_journal.proofs.SafeLemmas.{at_either}
 use Rattle.hack_places.proofs.CountLemmas.{failed_call, grows_then}
 use Rattle.hack_places.proofs.LookLemmas.{none_there}
 use Rattle.hack_recovery.proofs.FailedLemmas.{refused_by, some_there}
@@ -34,3 +37,13 @@ returns-in-Err-clause-told g c = unseen
     c.in-Err.ensures.failed.1
     (rw (sym c.as_str-journal.ensures.value) (record { before = c.args.files.now; after = c.is_there.new.files; unseen = c.in-Err.ensures.failed.0.unseen }))
     (record { same = c.is_there.ensures.same; untraced = c.is_there.ensures.untraced })
+
+pub returns-clause-made : goal.returns-clause-made
+returns-clause-made g c = λ whole.
+    let removed = at_either c.remove.result (removes c.as_str-copy.result.now) _ _ _ _ c.remove.ensures.traced c.remove.ensures.refused whole in
+    put_or_not (string_bytes c.args.places.now.copy) _ None _ _ _ _ _ _ _ c.as_str-copy.ensures.value refl (c.is_there.ensures.untraced whole) removed
+
+pub returns-then-is_err-clause-made : goal.returns-then-is_err-clause-made
+returns-then-is_err-clause-made g c = λ whole.
+    let removed = at_either c.remove.result (removes c.as_str-copy.result.now) _ _ _ _ c.remove.ensures.traced c.remove.ensures.refused whole in
+    put_or_not (string_bytes c.args.places.now.copy) _ None _ _ _ _ _ _ _ c.as_str-copy.ensures.value refl (c.is_there.ensures.untraced whole) removed

@@ -1,8 +1,10 @@
-use Rattle.std.proofs.Common.{◌≡◌, ◌∙◌, Some, ap, false, inl, inr, string_bytes, sym}
+use Rattle.std.proofs.Common.{◌≡◌, ◌∙◌, None, Some, ap, refl, false, inl, inr, string_bytes, sym}
 use Rattle.std.specs.Prelude.{Ok}
+use Rattle.std.proofs.lemmas.Bool.{false≢true}
 use Rattle.std.proofs.lemmas.Result.{err_from_is_err_and}
 use Rattle.hack_base.specs.Counters.{GrowsBy}
 use Rattle.hack_base.specs.Streams.{stream_of}
+use Rattle.hack_journal.proofs.RecoverLemmas.{put_or_not}
 use Rattle.hack_places.proofs.CountLemmas.{grows_then}
 use Rattle.hack_files.specs.View.{FilesView, files_view}
 use Rattle.hack_term.specs.Lines.{info_line}
@@ -81,3 +83,40 @@ returns-clause-said g c =
     ] in
     settled bytes (stream_of g.E.Sink c.if-host.host.err.now) held counted told
     (since_one _ _ coloring copy c.drop_copy.result _ _ (λ one. (grows_then 1 _ _ _ c.in-Ok-Some.ensures.failures one.0, one.1)) (rw still at c.drop_copy.ensures.said))
+
+pub returns-in_err-is_settled-clause-wrote : goal.returns-in_err-is_settled-clause-wrote
+returns-in_err-is_settled-clause-wrote g c = λ whole.
+    let held = rw (c.in-Ok-Some.field-0-is, c.as_str.ensures.value) at c.in-Ok-Some.ensures.held in
+    inr (c.in-Ok-Some.bytes.items, held, rw c.deref.ensures.value at (c.in_err-is_settled.ensures.wrote whole))
+
+pub returns-clause-made : goal.returns-clause-made
+returns-clause-made g c = λ whole.
+    put_or_not (string_bytes c.args.places.now.copy) _ None _ _ _ _ _ _ _ refl refl (c.in-Ok-Some.ensures.untraced whole) (c.drop_copy.ensures.made whole)
+
+pub returns-then-not-is_settled-clause-wrote : goal.returns-then-not-is_settled-clause-wrote
+returns-then-not-is_settled-clause-wrote g c = λ whole.
+    let held = rw (c.in-Ok-Some.field-0-is, c.as_str.ensures.value) at c.in-Ok-Some.ensures.held in
+    elim c.if-host.branch [
+      | then-host+in_ok-is_settled w ↦ rw w.lockfiles-is (inr (c.in-Ok-Some.bytes.items, held, rw w.deref.ensures.value at (w.in_ok-is_settled.ensures.wrote whole)))
+      | else-host+in_ok-is_settled-2 w ↦ rw w.lockfiles-is (inl (w.in_ok-is_settled-2.ensures.untraced whole))
+    ]
+
+pub returns-clause-wrote : goal.returns-clause-wrote
+returns-clause-wrote g c = λ whole.
+    let held = rw (c.in-Ok-Some.field-0-is, c.as_str.ensures.value) at c.in-Ok-Some.ensures.held in
+    elim c.if-host.branch [
+      | then-host+in_ok-is_settled w ↦ rw w.lockfiles-is (inr (c.in-Ok-Some.bytes.items, held, rw w.deref.ensures.value at (w.in_ok-is_settled.ensures.wrote whole)))
+      | else-host+in_ok-is_settled-2 w ↦ rw w.lockfiles-is (inl (w.in_ok-is_settled-2.ensures.untraced whole))
+    ]
+
+pub returns-then-not-is_settled-clause-untraced : goal.returns-then-not-is_settled-clause-untraced
+returns-then-not-is_settled-clause-untraced g c = λ off whole. elim c.if-host.branch [
+  | then-host+in_ok-is_settled w ↦ absurd (false≢true (sym off ∙ w.if-host.true))
+  | else-host+in_ok-is_settled-2 w ↦ rw w.lockfiles-is (w.in_ok-is_settled-2.ensures.untraced whole)
+]
+
+pub returns-clause-untraced : goal.returns-clause-untraced
+returns-clause-untraced g c = λ off whole. elim c.if-host.branch [
+  | then-host+in_ok-is_settled w ↦ absurd (false≢true (sym off ∙ w.if-host.true))
+  | else-host+in_ok-is_settled-2 w ↦ rw w.lockfiles-is (w.in_ok-is_settled-2.ensures.untraced whole)
+]

@@ -17,7 +17,7 @@ returns-clause-goes g c = λ locks guards.
       err = stream_of g.E.Sink c.tell_unkept.new.err;
       unkept = rw (c.count-noted.ensures, c.count.ensures, c.as_str-journal.ensures.value) at c.tell_unkept.ensures;
       journals = journals_at g.F.Files g.L.Files g.U.Unkept _ _ _ _ _ _ _ old last c.requires.place
-          (record { refused = ran.refused; done = ran.done; made = ran.made; said = ran.shown; clean = ran.clean; back = ran.back; stood = λ quiet. edits_between _ _ _ _ _ _ _ _ (λ held was. (_, _, _, _, was)) (ran.stood quiet); few = ran.few; spoilt = ran.spoilt; number = ran.number; gone = ran.gone; ended = ran.ended; safe = ran.safe; others = ran.others; locks = refl; guards = refl });
+          (record { refused = ran.refused; done = ran.done; traced = ran.traced; made = ran.made; said = ran.shown; clean = ran.clean; back = ran.back; stood = λ quiet. edits_between _ _ _ _ _ _ _ _ (λ held was. (_, _, _, _, was)) (ran.stood quiet); few = ran.few; spoilt = ran.spoilt; number = ran.number; gone = ran.gone; ended = ran.ended; safe = ran.safe; others = ran.others; locks = refl; guards = refl });
       closes = record {
         others = c.close.ensures.others;
         made = c.close.ensures.made;

@@ -9,15 +9,15 @@ use Rattle.hack_session.specs.StepOutput.{streams}
 use Rattle.hack_places.specs.PlacesView.{places_view}
 use Rattle.hack_recovery.specs.AskedEdits.{AsksForEdits, is_change, is_restore}
 use Rattle.hack_recovery.specs.CallCourses.{CannotSee}
-use Rattle.hack_recovery.specs.CallCourses.IsCallCourse.{starved, turned_away, under_its_lock}
-use Rattle.hack_recovery.specs.LaneCalls.{unperformed}
+use Rattle.hack_recovery.specs.CallCourses.IsCallCourse.{printed, starved, turned_away, under_its_lock}
+use Rattle.hack_recovery.specs.LaneCalls.{plain, unperformed}
 use Rattle.hack_recovery.specs.Ready.{Both}
 use Rattle.hack_recovery.specs.Ready.GetReady.{looked_at}
 use Rattle.hack_recovery.specs.Scenes.{Scene, scene_by, scene_of, scene_with}
 use Rattle.hack_recovery.specs.Telling.{SaysUnseen}
 use Rattle.hack_recovery.specs.declared.asked.Edits.{Edits}
 use Rattle.hack_recovery.proofs.CallLemmas.{plain_course, unseen_course}
-use Rattle.hack_recovery.proofs.LaneLemmas.{asked_to, behind, in_lanes_or_not, restore_is}
+use Rattle.hack_recovery.proofs.LaneLemmas.{asked_to, behind, in_lanes_or_not, ready_now, restore_is}
 use Rattle.hack_recovery.proofs.perform.perform.Goals as goal
 
 pub returns-in-Ok-Plain-clause-goes : goal.returns-in-Ok-Plain-clause-goes
@@ -119,6 +119,12 @@ returns-in-Err-Memory-clause-goes g c =
     })
     (rw c.in-Err-Memory.field-0-is at c.in-Err-Memory.ensures.halted) refl (c.report-status.ensures.refuses lockfiles lockfiles unkept locks guards).0
 
+pub returns-in-Err-Prints-clause-goes : goal.returns-in-Err-Prints-clause-goes
+returns-in-Err-Prints-clause-goes g c =
+    let halted = rw c.in-Err-Prints.field-0-is at c.in-Err-Prints.ensures.halted in
+    let lockfiles : FilesView = files_view g.L.Files c.args.lockfiles in
+    printed halted.1 (rw halted.0 at (c.unjournaled-status.ensures.runs lockfiles (g.U.Unkept.told c.args.unkept) (g.K.Locks.shown c.args.keepers.now.locks) (g.G.Guards.shown c.args.keepers.now.guards)))
+
 pub returns-in-Err-Unseen-clause-goes : goal.returns-in-Err-Unseen-clause-goes
 returns-in-Err-Unseen-clause-goes g c =
     let asked = c.in-Err-Unseen.asked in
@@ -135,6 +141,7 @@ returns-in-Err-Unseen-clause-goes g c =
     let err = c.blindly-status.new.host.err.now in
     let Unseen : Scene → Type 0 = CannotSee g.F.Files g.K.Locks.tells (g.K.Locks.real c.args.keepers.now.locks) (names_of c.args.words.now) c.args.host.now.env.now asked.edits old in
     let unseen : (now : Term) (told : Stream) → Unseen (scene_with seen now told old) = λ now told. record {
+      prints_nothing = halted.5;
       path = optional_text asked.manifest_path;
       asked = halted.2;
       failed = halted.0;
@@ -189,6 +196,11 @@ returns-in-Err-clause-in_lanes g c = unperformed (inl (ap (λ (t : Term). not t.
 
 pub returns-in-Err-Memory-clause-in_lanes : goal.returns-in-Err-Memory-clause-in_lanes
 returns-in-Err-Memory-clause-in_lanes g c = unperformed (inl (ap (λ (t : Term). not t.error) c.report-status.ensures.noted)) c.report-status.ensures.still.0
+
+pub returns-in-Err-Prints-clause-in_lanes : goal.returns-in-Err-Prints-clause-in_lanes
+returns-in-Err-Prints-clause-in_lanes g c =
+    let halted = rw c.in-Err-Prints.field-0-is at c.in-Err-Prints.ensures.halted in
+    plain (files_view g.F.Files c.args.files, files_view g.L.Files c.args.lockfiles) (ready_now g.F.Files g.L.Files _ _) (rw halted.0 at c.unjournaled-status.ensures.in_lanes)
 
 pub returns-in-Err-Unseen-clause-in_lanes : goal.returns-in-Err-Unseen-clause-in_lanes
 returns-in-Err-Unseen-clause-in_lanes g c =

@@ -33,7 +33,8 @@ returns-clause-goes g c = λ unkept locks guards.
       given = settled-by.given;
       kept = settled-by.kept;
       only = settled-by.only;
-      left = settled-by.left;
+      left = λ off. record { same = settled-by.left off; untraced = settled-by.untraced off };
+      wrote = settled-by.wrote;
       none = settled-by.none;
       apart = settled-by.apart;
       told = settled-by.told;

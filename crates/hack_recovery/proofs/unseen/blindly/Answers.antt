@@ -1,37 +1,15 @@
-use Rattle.std.proofs.Common.{refl}
 use Rattle.hack_base.specs.Streams.{stream_of}
-use Rattle.hack_journaled.proofs.JournalLemmas.{edits_between}
-use Rattle.hack_recovery.proofs.CallLemmas.{lasting_by, spoilt_by}
-use Rattle.hack_recovery.proofs.LaneLemmas.{lanes_by_error}
 use Rattle.hack_recovery.proofs.unseen.blindly.Goals as goal
 
 pub returns-clause-runs : goal.returns-clause-runs
 returns-clause-runs g c = λ off. (
   stream_of g.E.Sink c.warn.new.err,
   (stream_of g.E.Sink c.tell_reason.new.err, c.tell_reason.ensures, c.warn.ensures.said),
-  λ lockfiles unkept locks guards.
-      let ran = c.run.ensures in
-      let warned = c.warn.ensures.noted in
-      record {
-        refused = ran.refused;
-        done = rw warned at ran.done;
-        traced = rw warned at ran.traced;
-        made = rw warned at ran.made;
-        said = λ t. record { before = c.args.files.now; after = c.run.new.files; first = refl; last = refl; said = rw warned at (ran.shown t) };
-        back = ran.back;
-        stood = λ quiet. edits_between _ _ _ _ _ _ _ _ (λ held was. (_, _, was)) (ran.stood quiet);
-        spoilt = λ back. spoilt_by g.F.Files _ _ _ _ _ (ran.spoilt back);
-        lasting = lasting_by g.F.Files _ _ _ _ _ _ _ _ _ ran.lasting;
-        clean = ran.clean;
-        lockfiles = refl;
-        unkept = refl;
-        locks = refl;
-        guards = refl;
-      },
+  λ lockfiles unkept locks guards. rw c.warn.ensures.noted at (c.unjournaled.ensures.runs lockfiles unkept locks guards),
 )
 
 pub returns-clause-in_lanes : goal.returns-clause-in_lanes
-returns-clause-in_lanes g c = λ off. lanes_by_error g.C.Starts.did g.C.Caller.course g.C.Caller.tells g.C.Caller.calls _ _ _ _ _ _ c.run.new.host.term.now.error c.run.ensures.lanes c.run.ensures.in_lanes
+returns-clause-in_lanes g c = λ off. c.unjournaled.ensures.in_lanes
 
 pub returns-then-is_change-clause-said : goal.returns-then-is_change-clause-said
 returns-then-is_change-clause-said g c = λ on. (stream_of g.E.Sink c.tell_reason.new.err, c.tell_reason.ensures, c.refuse.ensures.said)

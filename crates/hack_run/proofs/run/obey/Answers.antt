@@ -9,7 +9,7 @@ use Rattle.hack_run.specs.TemporaryEdits.{ComesBack, IsClean}
 use Rattle.hack_run.specs.CallTrace.{warned_by}
 use Rattle.hack_files.specs.View.{files_view}
 use Rattle.hack_run.specs.Worlds.{world_of}
-use Rattle.hack_load.proofs.LeaveLemmas.{makes_none}
+use Rattle.hack_files.specs.TraceLaws.{makes_none}
 use Rattle.hack_run.proofs.BackLemmas.{clean_rest}
 use Rattle.hack_run.proofs.ChangeLemmas.{obeys_changes, obeys_unloaded}
 use Rattle.hack_run.proofs.LastingLemmas.{obeys_left}

@@ -1,4 +1,5 @@
 use Rattle.std.proofs.Common.{◌≡◌, ap, refl, rules}
+use Rattle.hack_journal.proofs.ApartLemmas.{files_kept, lockfiles_kept}
 use Rattle.hack_journal.proofs.RefusingLemmas.{just_looks, read_lockfile, read_other, both_first, both_second}
 use Rattle.hack_journal.proofs.apart.ApartFiles.read.Goals.{then-is_lockfile, else-is_lockfile}
 use Rattle.hack_journal.proofs.apart.ApartFiles.read.Goals as goal
@@ -15,7 +16,10 @@ returns-clause-looks g c =
       counted = search rules;
       refused_none = just_looks _ _ _ _ counted;
       same = search rules;
-      untraced = λ e. absurd e;
+      untraced = λ both. elim c.if-is_lockfile.branch [
+        | then-is_lockfile w ↦ rw w.self-is (lockfiles_kept _ _ _ _ _ _ (w.read-outcome.ensures.untraced both.1))
+        | else-is_lockfile w ↦ rw w.self-is (files_kept _ _ _ _ _ _ (w.read-outcome-else-is_lockfile.ensures.untraced both.0))
+      ];
     }
 
 pub returns-clause-unseen : goal.returns-clause-unseen

@@ -3,20 +3,21 @@ use Rattle.std.proofs.lemmas.Bool.{false≢true}
 use Rattle.hack_files.specs.Files.{Makes, MakesOrNot, removes}
 use Rattle.hack_journal.specs.Journal.{Edit}
 use Rattle.hack_journal.specs.FileCalls.{spot_in}
-use Rattle.hack_journal.specs.Rows.{file_at}
+use Rattle.hack_journal.specs.Rows.{RemovesOwn, file_at}
 use Rattle.hack_journal.specs.Internal.{ShortensRow}
 use Rattle.hack_journal.proofs.FailedLemmas.{row_then}
 use Rattle.hack_journal.proofs.FinishLemmas.{only_removed, only_then, shorten_err, shorten_last, shorten_more}
 use Rattle.hack_journal.proofs.journaled.Journaled.+remove_row.Goals as goal
 
 pub returns-in_err-remove-clause-only : goal.returns-in_err-remove-clause-only
-returns-in_err-remove-clause-only g t c = λ whole. only_removed _ _ _ _ _ (c.in_err-remove.ensures.refused whole)
+returns-in_err-remove-clause-only g t c = λ whole. only_removed _ _ _ _ _ _ _ c.next.ensures.path (c.in_err-remove.ensures.refused whole)
 
 pub returns-else-pop-clause-only : goal.returns-else-pop-clause-only
-returns-else-pop-clause-only g t c = λ whole. only_removed _ _ _ _ _ (inr (c.in_ok-remove.ensures.traced whole))
+returns-else-pop-clause-only g t c = λ whole. only_removed _ _ _ _ _ _ _ c.next.ensures.path (inr (c.in_ok-remove.ensures.traced whole))
 
 pub returns-then-pop-clause-only : goal.returns-then-pop-clause-only
-returns-then-pop-clause-only g t c = λ whole. only_then _ _ _ (only_removed _ _ _ _ _ (inr (c.in_ok-remove.ensures.traced whole))) (c.remove_row.ensures.only whole)
+returns-then-pop-clause-only g t c = λ whole. only_then _ _ _ _ _ _ _ (only_removed _ _ _ _ _ _ _ c.next.ensures.path (inr (c.in_ok-remove.ensures.traced whole)))
+    (subst (λ (j : List ℕ). RemovesOwn j (g.F.Files.trace c.remove.new.self) (g.F.Files.trace c.remove_row.new.self.files) (g.F.Files.bytes_at c.remove.new.self) (g.F.Files.bytes_at c.remove_row.new.self.files)) c.pop.ensures.journal (c.remove_row.ensures.only whole))
 
 pub returns-in_err-remove-clause-stays : goal.returns-in_err-remove-clause-stays
 returns-in_err-remove-clause-stays g t c = λ tells whole.

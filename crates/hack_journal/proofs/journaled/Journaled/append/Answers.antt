@@ -4,8 +4,9 @@ use Rattle.hack_journal.specs.Journal.{Edit, edit_of}
 use Rattle.hack_journal.specs.Rows.{Noted, file_at}
 use Rattle.hack_journal.specs.FileCalls.{spot_in}
 use Rattle.hack_journal.specs.SafeFiles.{Stays}
-use Rattle.hack_journal.specs.SafeLaws.{stays_none, makes_none}
-use Rattle.hack_journal.proofs.SafeLemmas.{append_hidden, append_made, append_noted, append_others, ready_of}
+use Rattle.hack_files.specs.TraceLaws.{makes_none}
+use Rattle.hack_journal.specs.SafeLaws.{stays_none}
+use Rattle.hack_journal.proofs.SafeLemmas.{append_hidden, append_made, append_noted, append_others, hidden_none, ready_of}
 use Rattle.hack_journal.proofs.FinishLemmas.{all_same}
 use Rattle.hack_journal.proofs.RefusingLemmas.{grow_more}
 use Rattle.std.proofs.Common.{inl, string_bytes}
@@ -136,3 +137,6 @@ returns-in-Ok-clause-below g c = grow_more _ _ _ c.in_ok-after.ensures.below (_,
 
 pub returns-clause-below : goal.returns-clause-below
 returns-clause-below g c = grow_more _ _ _ c.in_ok-after.ensures.below (_, c.in_ok-write.ensures.counted)
+
+pub returns-in_err-text-clause-hidden : goal.returns-in_err-text-clause-hidden
+returns-in_err-text-clause-hidden g c = λ whole. hidden_none _ _ _ _ _ (makes_none _ _)

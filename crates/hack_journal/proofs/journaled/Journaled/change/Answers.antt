@@ -1,10 +1,11 @@
-use Rattle.std.proofs.Common.{◌≡◌, ◌∙◌, ap, false, inl, sym}
+use Rattle.std.proofs.Common.{◌≡◌, ◌∙◌, ap, arith, false, inl, inr, sym}
 use Rattle.std.proofs.lemmas.Result.{on_ok_weaker, on_err_weaker}
 use Rattle.hack_journal.specs.Rows.{is_of_journal}
-use Rattle.hack_journal.specs.SafeLaws.{stays_none, makes_none, stays_more}
+use Rattle.hack_files.specs.TraceLaws.{makes_none}
+use Rattle.hack_journal.specs.RefusingLaws.{grows_none}
+use Rattle.hack_journal.specs.SafeLaws.{stays_none, stays_more}
 use Rattle.hack_journal.proofs.RefusingLemmas.{counted_below}
 use Rattle.hack_journal.proofs.SafeLemmas.{hidden_put, hidden_alone, hidden_or_not, put_or_not_stays, at_either}
-use Rattle.std.proofs.Common.{inr}
 use Rattle.hack_files.specs.FailedCalls.{WriteFailed}
 use Rattle.hack_files.proofs.FailedLemmas.{write_then}
 use Rattle.hack_journal.proofs.KeepingLemmas.{cause_wider, fails_then, fails_write}
@@ -38,6 +39,14 @@ returns-in-Err-clause-refused g c = λ whole. inl (hidden_alone _ _ _ _ _ (c.in-
 pub returns-in-Ok-clause-handed : goal.returns-in-Ok-clause-handed
 returns-in-Ok-clause-handed g c = g.F.Files.stays_more _ _ _ c.in-Ok.ensures.handed c.put_over.ensures.changes.stays
 
+pub returns-then-is_of_journal-clause-counted : goal.returns-then-is_of_journal-clause-counted
+returns-then-is_of_journal-clause-counted g c = record { first = 0; second = 1; one = grows_none _; two = c.note.ensures.told; some = omega arith; once = omega arith }
+
+pub returns-in-Err-clause-counted : goal.returns-in-Err-clause-counted
+returns-in-Err-clause-counted g c =
+    let below = c.in-Err.ensures.below in
+    record { first = below.0; second = 1; one = below.1; two = rw (ap (λ s. s.unkept) c.in-Err.ensures.rest) at c.note-in-Err.ensures.told; some = omega arith; once = omega arith }
+
 pub returns-in-Ok-clause-counted : goal.returns-in-Ok-clause-counted
 returns-in-Ok-clause-counted g c = counted_below c.put_over.result _ _ _ _ _ c.in-Ok.ensures.below c.put_over.ensures.changes.counted (ap (λ s. g.U.Unkept.told s.unkept) c.in-Ok.ensures.rest)
 
@@ -57,3 +66,6 @@ returns-in-Ok-clause-stays g c = λ tells whole.
     let makes = at_either c.put_over.result _ _ _ _ _ c.put_over.ensures.traced c.put_over.ensures.refused whole in
     let told = rw c.in-Ok.is at c.keep.ensures.told in
     stays_more _ _ _ _ _ _ _ _ _ _ (c.in-Ok.ensures.stays out tells whole) (put_or_not_stays _ _ _ _ _ _ _ _ out told makes)
+
+pub returns-then-is_of_journal-clause-refused : goal.returns-then-is_of_journal-clause-refused
+returns-then-is_of_journal-clause-refused g c = λ whole. inl (makes_none _ _)

@@ -11,22 +11,22 @@ use Rattle.hack_journal.specs.FileCalls.{spot_in}
 use Rattle.hack_journal.proofs.journaled.Journaled.finish.Goals as goal
 
 pub returns-in_err-counted-clause-only : goal.returns-in_err-counted-clause-only
-returns-in_err-counted-clause-only g c = λ whole. only_looked _ _ _ _ (c.exists-there.ensures.untraced whole)
+returns-in_err-counted-clause-only g c = λ whole. only_looked _ _ _ _ _ (c.exists-there.ensures.untraced whole)
 
 pub returns-then-not-branch-clause-only : goal.returns-then-not-branch-clause-only
-returns-then-not-branch-clause-only g c = λ whole. only_looked _ _ _ _ (c.exists-there.ensures.untraced whole)
+returns-then-not-branch-clause-only g c = λ whole. only_looked _ _ _ _ _ (c.exists-there.ensures.untraced whole)
 
 pub returns-in_err-counted-2-clause-only : goal.returns-in_err-counted-2-clause-only
-returns-in_err-counted-2-clause-only g c = λ whole. only_then _ _ _ (only_looked _ _ _ _ (c.exists-there.ensures.untraced whole)) (only_looked _ _ _ _ (c.are_back-back.ensures.untraced whole))
+returns-in_err-counted-2-clause-only g c = λ whole. only_then _ _ _ _ _ _ _ (only_looked _ _ _ _ _ (c.exists-there.ensures.untraced whole)) (only_looked _ _ _ _ _ (c.are_back-back.ensures.untraced whole))
 
 pub returns-then-not-branch-2-clause-only : goal.returns-then-not-branch-2-clause-only
-returns-then-not-branch-2-clause-only g c = λ whole. only_then _ _ _ (only_looked _ _ _ _ (c.exists-there.ensures.untraced whole)) (only_looked _ _ _ _ (c.are_back-back.ensures.untraced whole))
+returns-then-not-branch-2-clause-only g c = λ whole. only_then _ _ _ _ _ _ _ (only_looked _ _ _ _ _ (c.exists-there.ensures.untraced whole)) (only_looked _ _ _ _ _ (c.are_back-back.ensures.untraced whole))
 
 pub returns-in_err-counted-3-clause-only : goal.returns-in_err-counted-3-clause-only
-returns-in_err-counted-3-clause-only g c = λ whole. only_then _ _ _ (only_looked _ _ _ _ (c.exists-there.ensures.untraced whole)) (only_then _ _ _ (only_looked _ _ _ _ (c.are_back-back.ensures.untraced whole)) (c.remove_row-removed.ensures.only whole))
+returns-in_err-counted-3-clause-only g c = λ whole. only_then _ _ _ _ _ _ _ (only_looked _ _ _ _ _ (c.exists-there.ensures.untraced whole)) (only_then _ _ _ _ _ _ _ (only_looked _ _ _ _ _ (c.are_back-back.ensures.untraced whole)) (c.remove_row-removed.ensures.only whole))
 
 pub returns-clause-only : goal.returns-clause-only
-returns-clause-only g c = λ whole. only_then _ _ _ (only_looked _ _ _ _ (c.exists-there.ensures.untraced whole)) (only_then _ _ _ (only_looked _ _ _ _ (c.are_back-back.ensures.untraced whole)) (c.remove_row-removed.ensures.only whole))
+returns-clause-only g c = λ whole. only_then _ _ _ _ _ _ _ (only_looked _ _ _ _ _ (c.exists-there.ensures.untraced whole)) (only_then _ _ _ _ _ _ _ (only_looked _ _ _ _ _ (c.are_back-back.ensures.untraced whole)) (c.remove_row-removed.ensures.only whole))
 
 pub returns-in_err-counted-clause-stays : goal.returns-in_err-counted-clause-stays
 returns-in_err-counted-clause-stays g c = λ tells whole. stays_none _ _ _ _ _ _ (c.exists-there.ensures.untraced whole)

@@ -1,12 +1,13 @@
 use Rattle.std.proofs.Common.{◌≡◌, ap, sym, subst}
-use Rattle.hack_journal.specs.SafeLaws.{stays_none, stays_join, makes_none}
+use Rattle.hack_files.specs.TraceLaws.{makes_none}
+use Rattle.hack_journal.specs.SafeLaws.{stays_none, stays_join}
 use Rattle.hack_journal.specs.SafeFiles.{Stays}
 use Rattle.hack_journal.specs.Internal.{IsNotable}
 use Rattle.hack_journal.specs.Rows.{Noted}
 use Rattle.hack_journal.specs.FileCalls.{spot_in}
 use Rattle.hack_journal.proofs.FinishLemmas.{all_same}
 use Rattle.hack_journal.proofs.RefusingLemmas.{grow_more}
-use Rattle.hack_journal.proofs.SafeLemmas.{notable_of, told_ok}
+use Rattle.hack_journal.proofs.SafeLemmas.{hidden_none, hidden_then, notable_of, told_ok}
 use Rattle.hack_journal.specs.Journal.{edit_of}
 use Rattle.std.proofs.Common.{inl, inr, string_bytes}
 use Rattle.std.proofs.lemmas.Result.{err_from_is_err_and}
@@ -61,3 +62,11 @@ returns-clause-handed g c = g.F.Files.stays_more _ _ _ c.in_ok-entry.ensures.han
 
 pub returns-clause-below : goal.returns-clause-below
 returns-clause-below g c = grow_more _ _ _ c.in_ok-entry.ensures.below c.append.ensures.below
+
+pub returns-then-tells-clause-hidden : goal.returns-then-tells-clause-hidden
+returns-then-tells-clause-hidden g c = λ whole. hidden_none _ _ _ _ _ (makes_none _ _)
+
+pub returns-clause-hidden : goal.returns-clause-hidden
+returns-clause-hidden g c = λ whole.
+    let hidden = rw (ap (λ s. s.notes.journal) c.in_ok-entry.ensures.rest) at (c.append.ensures.hidden whole) in
+    hidden_then _ _ _ _ _ _ _ (c.in_ok-entry.ensures.untraced whole) hidden

@@ -1,6 +1,7 @@
 use Rattle.std.proofs.Common.{refl, rules, []}
 use Rattle.hack_journal.specs.RefusingLaws.{just_none, within_none}
-use Rattle.hack_journal.specs.SafeLaws.{stays_none, makes_none}
+use Rattle.hack_files.specs.TraceLaws.{makes_none}
+use Rattle.hack_journal.specs.SafeLaws.{stays_none}
 use Rattle.hack_journal.proofs.RefusingLemmas.{just_looks, just_refused, unseen_below, within_first}
 use Rattle.hack_journal.proofs.SafeLemmas.{hides, without_all}
 use Rattle.hack_journal.proofs.journaled.JournaledFiles.exists.Goals as goal
@@ -29,3 +30,6 @@ returns-then-is_of_journal-clause-unseen_path g c = just_none _ _
 pub returns-clause-unseen_path : goal.returns-clause-unseen_path
 returns-clause-unseen_path g c =
     rw c.counted.ensures.same (just_refused _ _ c.exists-outcome.result _ _ c.counted.ensures.counted (unseen_below g.F.Files.tells g.F.Files _ c.exists-outcome.result _ _ c.exists-outcome.ensures.unseen_path))
+
+pub returns-then-is_of_journal-clause-below : goal.returns-then-is_of_journal-clause-below
+returns-then-is_of_journal-clause-below g c = λ whole. makes_none _ _

@@ -1,7 +1,8 @@
 use Rattle.std.proofs.Common.{◌≡◌, ◌∙◌, ap, cond, false, inl, inr, refl, sym, arith, [], None}
 use Rattle.hack_journal.specs.RefusingLaws.{grows_none}
 use Rattle.hack_journal.specs.Rows.{is_of_journal}
-use Rattle.hack_journal.specs.SafeLaws.{stays_none, makes_none}
+use Rattle.hack_files.specs.TraceLaws.{makes_none}
+use Rattle.hack_journal.specs.SafeLaws.{stays_none}
 use Rattle.hack_journal.proofs.RefusingLemmas.{just_grown, just_looks, just_one, just_read, within_first}
 use Rattle.hack_journal.proofs.SafeLemmas.{hides, without_all, without_at}
 use Rattle.hack_journal.proofs.journaled.JournaledFiles.read.Goals as goal
@@ -12,7 +13,7 @@ returns-then-is_of_journal-clause-looks g c = record {
     refl,
     λ tells whole. stays_none _ _ _ _ _ _ (makes_none _ _),
     g.F.Files.stays_none c.args.self.now.files,
-    record { first = 0; second = 1; both = 1; one = grows_none _; two = c.note_read.ensures.told; sum = c.count_failure.ensures; most = omega arith },
+    record { first = 0; second = 1; both = 1; one = grows_none _; two = c.note_read.ensures.told; sum = c.count_failure.ensures; most = omega arith; least = omega arith },
   );
   counted = c.count_failure.ensures;
   refused_none = just_grown _ 1 _ _ c.count_failure.ensures;
@@ -41,3 +42,6 @@ returns-clause-unseen g c =
     rw c.counted.ensures.same (just_read _ (g.F.Files.unseen c.args.self.now.files c.read-outcome.new.self) g.F.Files.tells g.F.Files.tells _ _ _ c.read-outcome.result _ _ c.counted.ensures.counted c.read-outcome.ensures.unseen
     (λ u. inl (record { before = c.args.self.now.files; after = c.read-outcome.new.self; unseen = u }))
     (λ tells none. inl (tells, without_at c.args.self.now.notes.journal (g.F.Files.bytes_at c.args.self.now.files) c.args.path.now out ∙ none)))
+
+pub returns-then-is_of_journal-clause-below : goal.returns-then-is_of_journal-clause-below
+returns-then-is_of_journal-clause-below g c = λ whole. makes_none _ _

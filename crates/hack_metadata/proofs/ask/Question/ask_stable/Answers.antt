@@ -8,7 +8,8 @@ use Rattle.hack_metadata.specs.InternalAskView.{question_of}
 use Rattle.hack_metadata.specs.QuestionCalls.{ReadsOutput, FailsToRead, IsLockfile, first, locked, answers, tells_newer}
 use Rattle.hack_metadata.specs.MetadataReading.{read_metadata}
 use Rattle.hack_metadata.specs.Requests.{by_stable}
-use Rattle.hack_metadata.proofs.AskWays.{asked-counts, back-wrote, counts-ends, fallen-ends, first-ends, left-more, over-stops, over-wrote, text-spares, unchanged, whole-left, whole-leaves, whole-more, wrote-none}
+use Rattle.hack_files.specs.TraceLaws.{makes_none}
+use Rattle.hack_metadata.proofs.AskWays.{asked-counts, back-wrote, counts-ends, fallen-ends, first-ends, left-more, over-stops, over-wrote, text-spares, unchanged, whole-left, whole-leaves, whole-more}
 use Rattle.hack_metadata.proofs.SpoiltLemmas.{left-grows}
 use Rattle.hack_files.proofs.FailedLemmas.{none_failed, none_then}
 use Rattle.hack_metadata.proofs.FailedLemmas.{counts-fails, fallen-fails, first-fails, look-first, look-path, none-only, path-then, put-then}
@@ -27,7 +28,7 @@ returns-in_err-first-clause-ends g c =
     let held = g.F.Files.bytes_at c.args.files.now in
     let trace = g.F.Files.trace c.args.files.now in
     rw (p.1, p.2) (λ called start way. first-ends g.F.Files.tells g.F.Files.whole (question_of c.args.self.now) held held trace trace start (g.C.Caller.calls c.first.new.caller) (g.C.Caller.calls c.args.caller.now) c.args.minor c.in_err-first.field-0.0 way
-    (λ w. wrote-none trace held) (c.in_err-first.ensures.err called c.args.minor))
+    (λ w. makes_none trace held) (c.in_err-first.ensures.err called c.args.minor))
 
 pub returns-in_err-make_lockfile-clause-left : goal.returns-in_err-make_lockfile-clause-left
 returns-in_err-make_lockfile-clause-left g c =

@@ -4,7 +4,7 @@ use Rattle.hack_files.specs.FailedCalls.{WriteFailed}
 use Rattle.hack_files.specs.Restore.{Kept, registered_files}
 use Rattle.hack_files.proofs.FailedLemmas.{none_then, write_then}
 use Rattle.hack_files.proofs.RefusalLemmas.{but_same, but_then}
-use Rattle.hack_metadata.proofs.AskWays.{held-back, restored, unread-over}
+use Rattle.hack_metadata.proofs.AskWays.{held-back, held-or-not, restored, unread-over}
 use Rattle.hack_metadata.proofs.FailedLemmas.{path-then, write-of}
 use Rattle.hack_metadata.proofs.SpoiltLemmas.{but_one, left-grows}
 use Rattle.hack_metadata.proofs.ask.Question.read_over.Goals as goal
@@ -89,3 +89,15 @@ returns-in-Err-clause-undone g c =
       held-back g.F.Files.tells g.F.Files.whole c.args.over.now.lockfile.now (g.F.Files.bytes_at c.args.files.now) (g.F.Files.bytes_at c.keep.new.files) (g.F.Files.bytes_at c.put_back.new.files) (g.F.Files.trace c.args.files.now) (g.F.Files.trace c.keep.new.files) (g.F.Files.trace c.put_back.new.files)
           (registered_files c.args.manager.now) (registered_files c.keep.new.manager) c.in_ok-keep.ensures.ok c.in_ok-keep.ensures.untraced c.in_ok-put_back.ensures.traced,
     ))
+
+pub returns-in_err-put_back-clause-refused : goal.returns-in_err-put_back-clause-refused
+returns-in_err-put_back-clause-refused g c =
+    let p = err_from_is_err_and c.from_residual-in_err-put_back.result c.from_residual-in_err-put_back.ensures.1 in
+    rw p.1 (held-or-not g.F.Files.tells g.F.Files.whole c.args.over.now.lockfile.now (g.F.Files.bytes_at c.args.files.now) (g.F.Files.bytes_at c.keep.new.files) (g.F.Files.bytes_at c.put_back.new.files) (g.F.Files.trace c.args.files.now) (g.F.Files.trace c.keep.new.files) (g.F.Files.trace c.put_back.new.files)
+    (registered_files c.args.manager.now) (registered_files c.keep.new.manager) c.in_ok-keep.ensures.ok c.in_ok-keep.ensures.untraced c.in_err-put_back.ensures.refused)
+
+pub returns-in-Err-clause-refused : goal.returns-in-Err-clause-refused
+returns-in-Err-clause-refused g c = λ w.
+    let put = held-back g.F.Files.tells g.F.Files.whole c.args.over.now.lockfile.now (g.F.Files.bytes_at c.args.files.now) (g.F.Files.bytes_at c.keep.new.files) (g.F.Files.bytes_at c.put_back.new.files) (g.F.Files.trace c.args.files.now) (g.F.Files.trace c.keep.new.files) (g.F.Files.trace c.put_back.new.files)
+    (registered_files c.args.manager.now) (registered_files c.keep.new.manager) c.in_ok-keep.ensures.ok c.in_ok-keep.ensures.untraced c.in_ok-put_back.ensures.traced in
+    inr (put.0, put.1, put.2 w)

@@ -5,7 +5,8 @@ use Rattle.hack_metadata.specs.InternalAskView.{question_of}
 use Rattle.hack_metadata.specs.QuestionCalls.{EndsSo, LeadsToStage, WroteWhereKnown, begun, newer, versioned, starts, tells_minor, is_older, is_newer}
 use Rattle.hack_metadata.specs.InternalQuestionCalls.{AsksCargo}
 use Rattle.hack_metadata.specs.Requests.{question, version_command}
-use Rattle.hack_metadata.proofs.AskWays.{cargo-ends, question-stops, unchanged, whole-leaves, wrote-none}
+use Rattle.hack_files.specs.TraceLaws.{makes_none}
+use Rattle.hack_metadata.proofs.AskWays.{cargo-ends, question-stops, unchanged, whole-leaves}
 use Rattle.hack_files.proofs.FailedLemmas.{none_failed}
 use Rattle.hack_metadata.specs.FailedQuestions.{FailsSo}
 use Rattle.hack_metadata.proofs.FailedLemmas.{cargo-fails, none-only, question-none}
@@ -14,7 +15,7 @@ use Rattle.hack_metadata.proofs.metadata.Metadata.new.Goals as goal
 pub returns-in_err-stable-clause-ends : goal.returns-in_err-stable-clause-ends
 returns-in_err-stable-clause-ends g c =
     let p = err_from_is_err_and c.from_residual.result c.from_residual.ensures.1 in
-    rw (p.1, p.2) (λ called. (begun, g.C.Caller.calls c.args.caller.now, [], starts, inr (version_command (string_bytes c.args.env.now.rustup), refl, c.in_err-stable.ensures.err called), λ w. wrote-none (g.F.Files.trace c.args.files.now) (g.F.Files.bytes_at c.args.files.now)))
+    rw (p.1, p.2) (λ called. (begun, g.C.Caller.calls c.args.caller.now, [], starts, inr (version_command (string_bytes c.args.env.now.rustup), refl, c.in_err-stable.ensures.err called), λ w. makes_none (g.F.Files.trace c.args.files.now) (g.F.Files.bytes_at c.args.files.now)))
 
 pub returns-in_err-question-clause-ends : goal.returns-in_err-question-clause-ends
 returns-in_err-question-clause-ends g c =
@@ -27,7 +28,7 @@ returns-in_err-question-clause-ends g c =
       [],
       tells_minor c.in_ok-stable.stable (c.in_ok-stable.ensures.ok called),
       question-stops q new c.in_ok-stable.stable c.in_err-question.field-0.0 c.in_err-question.ensures.err,
-      λ w. wrote-none (g.F.Files.trace c.args.files.now) (g.F.Files.bytes_at c.args.files.now),
+      λ w. makes_none (g.F.Files.trace c.args.files.now) (g.F.Files.bytes_at c.args.files.now),
     ))
 
 pub returns-then-stable-cargo_version-clause-ends : goal.returns-then-stable-cargo_version-clause-ends
@@ -55,7 +56,7 @@ returns-clause-ends g c =
     let is : question_of c.in_ok-question.question ≡ question c.args.args.now c.args.env.now c.args.cargo_version (option_copied c.args.host) = c.in_ok-question.ensures.ok in
     let le : c.in_ok-stable.stable ≤ c.args.cargo_version = search rules in
     λ called. cargo-ends g.F.Files.tells g.F.Files.whole q held held trace trace old new mid [] c.ask_cargo.result (is_older (tells_minor c.in_ok-stable.stable (c.in_ok-stable.ensures.ok called)) le)
-    (λ w. wrote-none trace held) (subst (λ x. AsksCargo x mid new c.ask_cargo.result) is (c.ask_cargo.ensures.asked called))
+    (λ w. makes_none trace held) (subst (λ x. AsksCargo x mid new c.ask_cargo.result) is (c.ask_cargo.ensures.asked called))
 
 pub returns-in_err-stable-clause-calls : goal.returns-in_err-stable-clause-calls
 returns-in_err-stable-clause-calls g c =
