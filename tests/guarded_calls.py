@@ -133,14 +133,22 @@ def failing_run(place):
 
 
 def next_calls(place):
-    """Calls of any kind restore what a call left that was killed with its guard, also where a warning counts as an error."""
+    """Calls of any kind restore what a call left that was killed with its guard, also where a warning counts as an error; but one
+    that only prints leaves it to the next."""
     more = {"CARGO_HACK_DENY_WARNINGS": "true"}
-    kinds = [(PLAIN, 0), (EDITS, 0), (LEAVES_OUT, 0), (["hack", "--help"], 0), ([*PLAIN, "--print-command-list"], 0)]
+    kinds = [(PLAIN, 0), (EDITS, 0), (LEAVES_OUT, 0), ([*PLAIN, "--print-command-list"], 0)]
     kinds += [(["hack", "check", "--strength", "x"], 1), (RESTORE, 0), ([*RESTORE, "--workspace"], 1)]
     place.lay_out()
     for words, status in kinds:
         place.interrupt()
         place.restores(words, BOTH, status, **more)
+        place.as_before()
+    for asked in ("--help", "--version", "--list"):
+        place.interrupt()
+        status, told = place.call(["hack", asked], **more)
+        must(status == 0 and not told, f"{asked} ends with {status}: {told}")
+        must(place.edited() == BOTH, f"behind {asked} edited are {place.edited()}")
+        place.restores(PLAIN, BOTH, 0, **more)
         place.as_before()
 
 
