@@ -1,6 +1,6 @@
 //! Where a call's workspace is, and what an interrupted call may have left there: the folder, its
 //! repository, the journal, the lockfile and its copy.
-#![tactic(auto, using(hack_files::proofs::FilesLemmas::trace_steps))]
+#![tactic(auto)]
 
 pub mod journal;
 pub mod look;

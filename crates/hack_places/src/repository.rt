@@ -110,6 +110,7 @@ fn own_folder<F: Files>(
 }
 
 /// The folder that the bytes of a file `.git` name, if it is a repository's own one.
+#[tactic(auto, using(hack_files::proofs::FilesLemmas::trace_steps))]
 fn linked<F: Files>(
     alloc: Global,
     folder: &str,
@@ -152,6 +153,7 @@ fn link_in(alloc: Global, bytes: &[u8]) -> Result<Option<String>, AllocError>
 }
 
 /// Whether a folder has a file `HEAD`, as the own folder of each repository has.
+#[tactic(auto, using(hack_files::proofs::FilesLemmas::trace_steps))]
 fn has_head<F: Files>(alloc: Global, folder: &str, files: &mut F) -> Result<bool, LookFault>
     ensures found { IfOk result (λ found. F.tells
         → found ≡ has_head (F.bytes_at files.old) folder.now) }
@@ -167,6 +169,7 @@ fn has_head<F: Files>(alloc: Global, folder: &str, files: &mut F) -> Result<bool
 }
 
 /// Whether a path is a folder's, which has itself as `.`.
+#[tactic(auto, using(hack_files::proofs::FilesLemmas::trace_steps))]
 fn is_folder<F: Files>(alloc: Global, path: &str, files: &mut F) -> Result<bool, LookFault>
     ensures found { IfOk result (λ found. F.tells
         → found ≡ is_folder (F.bytes_at files.old) path.now) }

@@ -23,6 +23,7 @@ use toml::{Table, Value};
 /// The folder of the workspace: at or above the folder of `--manifest-path`, or else the current
 /// one, the nearest whose manifest is a workspace's, or what the nearest says that names its
 /// workspace; if there is none, the nearest with a manifest.
+#[tactic(auto, using(hack_files::proofs::FilesLemmas::trace_steps))]
 pub fn workspace<F: Files>(
     alloc: Global,
     manifest_path: Option<&str>,
@@ -163,6 +164,7 @@ fn said_by_package(alloc: Global, table: &Table) -> Result<Said, AllocError>
 }
 
 /// The manifest in a folder, if there is one that is text.
+#[tactic(auto, using(hack_files::proofs::FilesLemmas::trace_steps))]
 fn manifest<F: Files>(
     alloc: Global,
     folder: &str,

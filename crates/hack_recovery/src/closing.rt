@@ -19,6 +19,7 @@ use std::alloc::{AllocError, Global};
 
 /// Warns where a journal stays, or may; where none does, the lockfile's copy is removed, unless the
 /// lockfile may be unwritten. A copy that stays then is warned of too.
+#[tactic(auto, using(hack_files::proofs::FilesLemmas::trace_steps))]
 pub(crate) fn close<F: Files, E: Sink>(
     alloc: Global,
     places: &Places,

@@ -1,7 +1,7 @@
 //! A whole call that restores first what an interrupted one left, and keeps a journal while it
 //! edits, under the eyes of a guard: which calls are journaled, who may use a journal, and what it
 //! may tell.
-#![tactic(auto, using(hack_files::proofs::FilesLemmas::trace_steps))]
+#![tactic(auto)]
 
 pub mod admit;
 pub mod asked;
