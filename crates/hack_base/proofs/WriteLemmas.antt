@@ -1,11 +1,11 @@
 -- A prefix of a text that a writer took, and what is written after it.
-use Rattle.std.proofs.Common.{◌≡◌, inl, inr, ℕ, zero, suc, ◌-◌, List, ◌++◌, ◌<◌, Bool, true, false, lt-ltb, length, take, drop, Option, Some, None, Result, Ok, Err, IsErrAnd, ap, sym, subst, ◌∙◌, append_assoc, take-append-drop, arith}
+use Rattle.std.proofs.Common.{◌≡◌, inl, inr, ℕ, ◌-◌, List, ◌++◌, ◌<◌, Bool, true, false, ◌&&◌, lt-ltb, length, take, drop, Option, Some, None, Result, Ok, Err, IsErrAnd, ap, sym, subst, ◌∙◌, append_assoc, take-append-drop, arith}
 use Rattle.std.specs.Prelude.{if◌then◌else◌}
 use Rattle.std.proofs.Math.Nat.{eq-or-lt_of_le}
 use Rattle.std.proofs.lemmas.List.{take_rest}
 use Rattle.std.specs.Io.KnownBytes.{Appends, Keeps}
 use Rattle.std.proofs.KnownBytes.{Appends-trans}
-use Rattle.hack_base.specs.Writes.{AppendsFront, CountsErrors, CountsWrite, HasFailed, NoFewer, one_more}
+use Rattle.hack_base.specs.Writes.{AppendsFront, CountsErrors, CountsWrite, HasFailed, NoFewer, one_more, takes_none}
 
 -- all of one text, and a prefix of the next
 pub AppendsFront-then : (a b c : Option (List ℕ)) (bs cs : List ℕ) → Appends a b bs → AppendsFront b c cs → AppendsFront a c (bs ++ cs)
@@ -73,9 +73,8 @@ write-grows true a b is = grown a b (one-failed a b is)
 write-grows false a b is = stayed a b is
 
 -- a write that takes none of some bytes counts as failed
-pub took-none : (E : Type 0) (bytes : List ℕ) (a b : Option ℕ) (n : ℕ) → CountsWrite {E = E} bytes a b (Ok n) → n ≡ 0 → 0 < length bytes → HasFailed a b
-took-none E bytes a b zero is none some = one-failed a b (is ∙ ap (λ failed. if failed then one_more a else a) (lt-ltb 0 (length bytes) some))
-took-none E bytes a b (suc n) is none some = absurd (omega (arith, none))
+pub took-none : (E : Type 0) (bytes : List ℕ) (a b : Option ℕ) (r : Result ℕ E) → CountsWrite bytes a b r → 0 < length bytes → takes_none r ≡ true → HasFailed a b
+took-none E bytes a b r is some none = one-failed a b (is ∙ ap (λ failed. if failed then one_more a else a) (ap (λ more. more && takes_none r) (lt-ltb 0 (length bytes) some) ∙ none))
 
 -- a write after tries that took nothing
 pub Appends-after : (a b c : Option (List ℕ)) (bs : List ℕ) → Keeps a b → Appends b c bs → Appends a c bs

@@ -40,11 +40,15 @@ abbrev pub CountsFailure : {T E : Type 0} → Option ℕ → Option ℕ → Resu
 CountsFailure old new (Ok done) = new ≡ old
 CountsFailure old new (Err fault) = new ≡ one_more old
 
--- a write fails where it answers an error, and where it takes none of some bytes
-abbrev pub write_failed : {E : Type 0} → List ℕ → Result ℕ E → Bool
-write_failed bytes (Ok n) = nat_eq n 0 && nat_lt 0 (length bytes)
-write_failed bytes (Err fault) = true
+-- nothing was taken
+abbrev pub takes_none : {E : Type 0} → Result ℕ E → Bool
+takes_none (Ok n) = nat_eq n 0
+takes_none (Err fault) = true
 
--- a write that fails is counted, and one that doesn't isn't: taking none of no bytes counts nothing
+-- a write fails where none of some bytes are taken: a write of no bytes never does
+abbrev pub write_failed : {E : Type 0} → List ℕ → Result ℕ E → Bool
+write_failed bytes result = nat_lt 0 (length bytes) && takes_none result
+
+-- a write that fails is counted, and one that doesn't isn't: a write of no bytes counts nothing
 abbrev pub CountsWrite : {E : Type 0} → List ℕ → Option ℕ → Option ℕ → Result ℕ E → Type 0
 CountsWrite bytes old new result = new ≡ (if write_failed bytes result then one_more old else old)

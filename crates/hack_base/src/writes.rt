@@ -1,10 +1,10 @@
 //! What lines and lists are written to, and texts written as far as it takes them.
 
-ghost use Rattle.std.specs.Prelude.{◌≡◌, ◌<◌, ℕ, List, Option, None, Some, OnOk, MatchResult, length};
+ghost use Rattle.std.specs.Prelude.{◌≡◌, ◌<◌, ℕ, List, Option, None, Some, OnOk, length, true};
 ghost use Rattle.std.specs.Io.{WritesAtMost};
 ghost use Rattle.std.specs.Io.KnownBytes.{Appends, Keeps, WriteAppends};
 ghost use Rattle.hack_base.specs.Writes.{AppendsFront, CountsErrors, CountsFailure, CountsWrite};
-ghost use Rattle.hack_base.specs.Writes.{HasFailed, NoFewer, line, write_failed};
+ghost use Rattle.hack_base.specs.Writes.{HasFailed, NoFewer, line, takes_none, write_failed};
 
 use std::io;
 use std::io::{ErrorKind, Write};
@@ -18,7 +18,7 @@ pub trait Sink {
     ghost failed: { Self → Option ℕ };
 
     /// Writes some bytes from the front on, and returns how many. Taking none of some counts as a
-    /// failure.
+    /// failure, and a write of no bytes never does.
     fn put_some(&mut self, bytes: &[u8]) -> io::Result<usize>
         ensures bound { WritesAtMost result bytes.now }
         ensures bytes { WriteAppends (contents self.old) (contents self.new) result bytes.now }
@@ -80,20 +80,16 @@ impl<W: Write> Sink for Counted<'_, W> {
 fn has_failed(bytes: &[u8], outcome: &io::Result<usize>) -> bool
     ensures { result ≡ write_failed bytes.now outcome.now }
 {
-    match outcome {
-        Ok(n) => *n == 0 && bytes.len() > 0,
-        Err(_) => true,
-    }
+    !bytes.is_empty() && matches!(outcome, Ok(0) | Err(_))
 }
 
-/// Writes some bytes, again where that was interrupted.
-fn put_again<W: Sink>(bytes: &[u8], out: &mut W) -> io::Result<usize>
+/// Writes some bytes from the front on, again where that was interrupted, and returns how many.
+pub fn put_again<W: Sink>(bytes: &[u8], out: &mut W) -> io::Result<usize>
     ensures bound { WritesAtMost result bytes.now }
     ensures bytes { WriteAppends (W.contents out.old) (W.contents out.new) result bytes.now }
     ensures grows { NoFewer (W.failed out.old) (W.failed out.new) }
-    ensures missed { MatchResult result
-        (λ n. n ≡ 0 → 0 < length bytes.now → HasFailed (W.failed out.old) (W.failed out.new))
-        (λ _. HasFailed (W.failed out.old) (W.failed out.new)) }
+    ensures missed { 0 < length bytes.now → takes_none result ≡ true
+        → HasFailed (W.failed out.old) (W.failed out.new) }
 {
     for _ in 0..u64::MAX {
         match out.put_some(bytes) {

@@ -39,8 +39,8 @@ pub data Trace : Type 0 where
 -- just these changes came next, in this order
 abbrev pub ComesNext : List Change → Trace → Trace → Type 0
 ComesNext cs (in_order old) (in_order new) = new ≡ old ++ cs
-ComesNext cs (by_kind is these others) (by_kind was these_new others_new) =
-    (was ≡ is) × ComesNext (filter (λ c. is c.path) cs) these these_new × ComesNext (filter (λ c. not (is c.path)) cs) others others_new
+ComesNext cs (by_kind kind these others) (by_kind kind_now these_now others_now) =
+    (kind_now ≡ kind) × ComesNext (filter (λ c. kind c.path) cs) these these_now × ComesNext (filter (λ c. not (kind c.path)) cs) others others_now
 ComesNext cs old new = ⊥
 
 -- these changes were made, and no others

@@ -38,8 +38,8 @@ pub trait Files {
     /// The bytes at each path. It means something only where `tells` holds.
     ghost bytes_at: { Self → Contents };
 
-    /// The changes that were made, in order, but for files that are kept apart from others. It means
-    /// something only where `whole` holds.
+    /// The changes that were made, in order; of files that are kept apart by their kind, in order
+    /// within each kind. It means something only where `whole` holds.
     ghost trace: { Self → Trace };
 
     /// What each call keeps beyond that: a relation between the files before a call and after it.

@@ -7,7 +7,7 @@ use Rattle.hack_files.specs.declared.fs.Files.{Ghosts as Filing}
 use Rattle.hack_files.specs.declared.fs.FsFault.TheVariants as fs
 use Rattle.hack_files.specs.FailedCalls.{LookFailed, NoneFailed, WriteFailed}
 use Rattle.hack_files.specs.Files.{CountsFailedCall, KeepsOthers, Makes, MakesOrNot, refused_path}
-use Rattle.hack_files.specs.TraceLaws.{none_next, nothing_next}
+use Rattle.hack_files.proofs.FilesLemmas.{trace_steps}
 use Rattle.hack_files.proofs.FailedLemmas.{none_failed, none_then, look_then, write_then}
 use Rattle.hack_journal.specs.FailedCalls.{CannotEnd, FailsOnlySo, FailsRefusedAt, FailsRemoval, FailsUnseen, IsOfFailedCall, RemovalFailed}
 use Rattle.hack_journal.specs.FileCalls.{ChangesOnly, Puts}
@@ -73,7 +73,7 @@ unseen_rest f e es (Ok v) a b c p h = none_then f a b c p h
 unseen_rest f e es (Err fault) a b c p (path, has, h) = (path, inr has, look_then f path a b c p h)
 
 -- what calls of which at most the last failed are put together by
-pub ruleset call_steps = (grows_then, none_failed, none_then, fault_then, ends_then, unseen_rest, none_next, nothing_next)
+pub ruleset call_steps = (grows_then, none_failed, none_then, fault_then, ends_then, unseen_rest, trace_steps)
 
 -- ---- why a journal can't be ended
 

@@ -2,7 +2,7 @@
 use Rattle.std.proofs.Common.{◌≡◌, ◌∙◌, ◌||◌, [], ◌∷◌, inl, inr, ℕ, Bool, false, ap, refl, subst, sym, Result, Ok, Err, string_bytes}
 use Rattle.std.specs.Prelude.{Option, Some, None, List, is_some}
 use Rattle.std.proofs.Math.Path.{fun_ext}
-use Rattle.hack_files.specs.TraceLaws.{none_next, nothing_next}
+use Rattle.hack_files.proofs.FilesLemmas.{trace_steps}
 use Rattle.hack_files.specs.Files.{Contents, KeepsAll}
 use Rattle.hack_files.specs.declared.fs.Files.{Ghosts as Filing}
 use Rattle.hack_files.specs.FailedCalls.{LookFailed, NoneFailed}
@@ -53,7 +53,7 @@ seen_then f (Ok found) a b c p h = seen_more f a b c p h
 seen_then f (Err fault) a b c p h = fault_then f fault a b c p h
 
 -- what looks of which at most the last failed are put together by
-pub ruleset look_steps = (grows_then, seen_more, fault_then, seen_then, none_next, nothing_next)
+pub ruleset look_steps = (grows_then, seen_more, fault_then, seen_then, trace_steps)
 
 -- the error of a look that failed
 pub fault_of : {F : Type 0} (f : Filing F) (path : List ℕ) (fault : LookFault) (a b : F) → IsOfPath path fault → LookFailed f path a b → IsOfUnseen f a b fault

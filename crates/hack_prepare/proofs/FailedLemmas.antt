@@ -10,7 +10,7 @@ use Rattle.hack_files.specs.declared.fs.Files.{Ghosts as Filing}
 use Rattle.hack_files.specs.declared.fs.FsFault.{FsFault}
 use Rattle.hack_files.specs.declared.fs.FsFault.TheVariants as fs
 use Rattle.hack_manifest.specs.LineRuns.{has_some}
-use Rattle.hack_files.specs.TraceLaws.{none_next, nothing_next}
+use Rattle.hack_files.proofs.FilesLemmas.{trace_steps}
 use Rattle.hack_files.specs.FailedCalls.{LookFailed, NoneFailed, WriteFailed}
 use Rattle.hack_prepare.specs.FailedCalls.{FailsOnlySo, IsAbsent, IsOfFailedCall}
 use Rattle.hack_prepare.specs.Internal.{IsOfFile, KeepsApart, OnlyIf}
@@ -124,4 +124,4 @@ root-calls f w ms start mid e a b c apart none h =
     )) h)
 
 -- what calls of which at most the last failed are put together by
-pub ruleset call_steps = (no-call, calls-on, result-on, none_next, nothing_next)
+pub ruleset call_steps = (no-call, calls-on, result-on, trace_steps)

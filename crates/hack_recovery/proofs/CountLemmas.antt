@@ -1,7 +1,7 @@
 -- Counts to which at most one failure is added, and files that are only looked at.
 use Rattle.std.proofs.Common.{ℕ, inl, inr}
 use Rattle.hack_base.specs.Counters.{GrowsBy}
-use Rattle.hack_files.specs.TraceLaws.{none_next, nothing_next}
+use Rattle.hack_files.proofs.FilesLemmas.{trace_steps}
 use Rattle.hack_journal.specs.RefusingLaws.{grows_none}
 use Rattle.hack_places.proofs.CountLemmas.{grows_then}
 use Rattle.hack_recovery.specs.Scenes.{OneMayFail}
@@ -14,4 +14,4 @@ may_then x y z none (inl same) = inl (grows_then 0 x y z none same)
 may_then x y z none (inr one) = inr (grows_then 1 x y z none one)
 
 -- all of these
-pub ruleset counts = (may_none, may_then, grows_then, none_next, nothing_next)
+pub ruleset counts = (may_none, may_then, grows_then, trace_steps)
