@@ -4,7 +4,7 @@ use Rattle.std.specs.Prelude.{AllPairs}
 use Rattle.std.proofs.lemmas.List.Elements.{All-append, All-contains, Contains-append_left, Contains-append_right, Contains-get_or}
 use Rattle.hack_base.proofs.Members.{Contains-nil, Contains-cons_cases, Contains-head, Contains-tail}
 use Rattle.hack_base.specs.Names.{Name}
-use Rattle.hack_features.specs.Sets.{Pairwise}
+use Rattle.hack_sets.specs.Sets.{Pairwise}
 use Rattle.hack_features.specs.Rules.{Choice, names_at, names_in}
 use Rattle.hack_features.proofs.Single.{member_of}
 

@@ -5,7 +5,7 @@ use Rattle.hack_base.specs.Names.{Name}
 use Rattle.hack_conflicts.specs.Sets.{Has, mark}
 use Rattle.hack_conflicts.specs.Rules.{IsPreorder, IsChoice, size_of, enables}
 use Rattle.hack_conflicts.specs.declared.rules.Rules.{Rules as SearchRules}
-use Rattle.hack_features.specs.Sets.{IsSelection}
+use Rattle.hack_sets.specs.Sets.{IsSelection}
 use Rattle.hack_features.specs.Rules.{Choice, CandidateReaches, IsExclusive, IsWanted, IsListed, IsEnabledBy}
 use Rattle.hack_features.specs.Samples.{IsOn}
 use Rattle.hack_features.specs.Settings.{IsOnWithAll}

@@ -5,7 +5,7 @@ use Rattle.hack_base.specs.Names.{Name}
 use Rattle.hack_conflicts.specs.Sets.{Has, mark, rows_of, IsWithin}
 use Rattle.hack_conflicts.specs.Rules.{enables}
 use Rattle.hack_conflicts.specs.declared.rules.Rules.{Rules as SearchRules}
-use Rattle.hack_features.specs.Sets.{IsSelection}
+use Rattle.hack_sets.specs.Sets.{IsSelection}
 use Rattle.hack_features.specs.Rules.{Choice, CandidateReaches, IsRequired}
 use Rattle.hack_features.specs.Settings.{IsOnWithAll}
 use Rattle.hack_features.specs.Tables.{is_required}

@@ -13,14 +13,14 @@ use Rattle.hack_base.proofs.Members.{Contains-nil, Contains-cons_cases, Contains
 use Rattle.hack_base.proofs.Passes.{all_pass, each_passes, some_passes, any_passes, removed_member}
 use Rattle.hack_features.proofs.Coverage.{Chain-append, named_in, within_left, exclusive_left, selection_left, enables_left, nonempty_left, name_left, name_kept}
 use Rattle.hack_features.proofs.Single.{member_of, key_from}
-use Rattle.hack_features.proofs.Listing.{selection_pop, selection_push, selection_up, before_new, before_push}
+use Rattle.hack_sets.proofs.Listing.{selection_pop, selection_push, selection_up, before_new, before_push}
 use Rattle.hack_base.specs.Names.{Name}
 use Rattle.hack_features.specs.FeatureMap.{IsKey, here, Enables}
 use Rattle.hack_features.specs.Tables.{leads}
 use Rattle.hack_features.specs.Places.{name_at, ArePlaced}
 use Rattle.hack_features.specs.declared.reach.Edges.TheVariants.{Enabling}
 use Rattle.hack_features.proofs.TableLemmas.{placed, shown_at, low_at}
-use Rattle.hack_features.specs.Sets.{IsSelection, IsBefore}
+use Rattle.hack_sets.specs.Sets.{IsSelection, IsBefore}
 use Rattle.hack_features.specs.Rules.{Choice, names_at, IsEnabledBy, EnableTheSame, IsRedundant, Serves, IsRequired, IsWanted, IsFirstCover}
 use Rattle.hack_features.specs.InternalCover.{set_enables_test, covers_test}
 
@@ -34,28 +34,6 @@ member_by p x s (inr n) (inr m) = inr (λ c. elim (Contains-cons_cases x s p c) 
 pub member : (s : List ℕ) (p : ℕ) → Contains s p ⊎ (¬ Contains s p)
 member [] p = inr (Contains-nil p)
 member (x ∷ s) p = member_by p x s (cases_eq x p) (member s p)
-
--- the order of sets
-
-pub before_trans : (s t u : List ℕ) → IsBefore s t → IsBefore t u → IsBefore s u
-before_trans s t u a b =
-    elim (cases_lt a.greatest b.greatest) [
-      | inl lt ↦ record {
-        greatest = b.greatest;
-        absent = λ c. b.absent ((a.above b.greatest lt).0 c);
-        present = b.present;
-        above = λ p gt. (λ c. (b.above p gt).0 ((a.above p (omega arith)).0 c), λ c. (a.above p (omega arith)).1 ((b.above p gt).1 c));
-      }
-      | inr le ↦ elim (cases_eq a.greatest b.greatest) [
-        | inl e ↦ absurd (b.absent (subst (λ g. Contains t g) e a.present))
-        | inr n ↦ record {
-          greatest = a.greatest;
-          absent = a.absent;
-          present = (b.above a.greatest (let ne : a.greatest ≢ b.greatest = n in omega arith)).0 a.present;
-          above = λ p gt. (λ c. (b.above p (omega arith)).0 ((a.above p gt).0 c), λ c. (a.above p gt).1 ((b.above p (omega arith)).1 c));
-        }
-      ]
-    ]
 
 -- one set is before another, the same, or after it
 abbrev pub Ordered : List ℕ → List ℕ → Type 0

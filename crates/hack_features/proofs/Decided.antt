@@ -17,7 +17,7 @@ use Rattle.hack_features.specs.FeatureMap.{FeatureMap, values_at, IsKey, Chain, 
 use Rattle.hack_features.specs.Search.{edge_of}
 use Rattle.hack_features.specs.InternalSearch.{target_of, IsTarget, Adds, IsReach}
 use Rattle.hack_features.specs.Places.{name_at, AreAt, AreAllAt, AreRoutes, ArePlaced}
-use Rattle.hack_features.specs.Sets.{Pairwise}
+use Rattle.hack_sets.specs.Sets.{Pairwise}
 use Rattle.hack_features.specs.Rules.{Choice, names_at, names_in, SparesNames, NotBothReach, Serves, CandidateReaches}
 use Rattle.hack_features.specs.Tables.{AreTables, is_exclusive, is_required, cell, bit, count_at, leads}
 use Rattle.hack_features.specs.declared.reach.Edges.{Edges}

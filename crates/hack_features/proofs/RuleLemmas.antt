@@ -3,14 +3,14 @@ use Rattle.std.proofs.Common.{[], ◌≢◌, ◌≡◌, ℕ, List, length, refl,
 use Rattle.std.specs.Prelude.{◌==◌, not}
 use Rattle.std.proofs.lemmas.Bool.{and_parts, and_from, leb-true, le-leb}
 use Rattle.hack_features.specs.declared.rules.Rules.{Rules}
-use Rattle.hack_features.specs.Sets.{IsSelection, IsWithin, IsListing, items_at}
+use Rattle.hack_sets.specs.Sets.{IsSelection, IsWithin, IsListing, items_at}
 use Rattle.hack_samples.specs.Sets.{rows_of}
 use Rattle.hack_features.specs.Rules.{Choice, IsRequired, IsPermitted, IsListed, IsWanted, Covers, AreSingle, EnableTheSame, AreCovers}
 use Rattle.hack_features.specs.Tables.{keeps_depth, is_lean, is_exclusive, is_required, AreTables}
 use Rattle.hack_features.specs.InternalTables.{wanted_test}
 use Rattle.hack_features.specs.View.{choice_of, size_of, may_of, whole_of}
 use Rattle.hack_features.specs.InternalView.{AreTablesOf}
-use Rattle.hack_features.specs.Questions.{IsWholeSet, IsCheap}
+use Rattle.hack_sets.specs.Questions.{IsWholeSet, IsCheap}
 use Rattle.hack_features.specs.RoutesView.{routed_names}
 use Rattle.hack_features.specs.PlacedView.{IsPlaced}
 use Rattle.hack_features.specs.declared.reach.Edges.TheVariants.{Enabling}

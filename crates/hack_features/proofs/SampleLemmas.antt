@@ -17,7 +17,7 @@ use Rattle.hack_samples.specs.Order as orders
 use Rattle.hack_samples.specs.declared.sets.Setting.{Setting}
 use Rattle.hack_base.specs.Names.{Name}
 use Rattle.hack_features.specs.declared.rules.Rules.{Rules}
-use Rattle.hack_features.specs.Sets.{IsSelection, IsBefore, Pairwise}
+use Rattle.hack_sets.specs.Sets.{IsSelection, IsBefore, Pairwise}
 use Rattle.hack_samples.specs.Sets.{rows_of}
 use Rattle.hack_features.specs.Rules.{Choice, names_at, IsEnabledBy, IsListed}
 use Rattle.hack_features.specs.InternalCover.{set_enables_test}
@@ -29,7 +29,7 @@ use Rattle.hack_features.specs.Samples.{positions_of, IsOn, SetShows, CoversPatt
 use Rattle.hack_features.specs.InternalSamples.{one_leads, providers_of, all_providers}
 use Rattle.hack_features.proofs.FrontLemmas.{all-same}
 use Rattle.hack_features.proofs.CandidateLemmas.{length-candidates_of}
-use Rattle.hack_features.proofs.Listing.{selection_none, selection_push, selection_up}
+use Rattle.hack_sets.proofs.Listing.{selection_none, selection_push, selection_up}
 use Rattle.hack_features.proofs.CoverLemmas.{ordered, set_enables_iff}
 use Rattle.hack_features.proofs.MemberLemmas.{seen-hit, seen-missed, member_iff, meet-either, both_told}
 use Rattle.hack_features.proofs.RuleLemmas.{tables_of, placed_of, listed_by, listed_permitted, permitted_iff, required_iff_whole}

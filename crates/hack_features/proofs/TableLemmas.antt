@@ -21,7 +21,7 @@ use Rattle.hack_features.specs.Deps.{IsDropped}
 use Rattle.hack_features.specs.Places.{name_at, AreAt, AreRoutes, ArePlaced}
 use Rattle.hack_features.specs.declared.reach.Edges.{Edges}
 use Rattle.hack_features.specs.declared.reach.Edges.TheVariants.{Enabling, Reaching}
-use Rattle.hack_features.specs.Sets.{IsSelection, Pairwise}
+use Rattle.hack_sets.specs.Sets.{IsSelection, Pairwise}
 use Rattle.hack_features.specs.Rules.{Choice, unlifted_groups, names_at, names_in, SparesNames, Spares, IsRedundant, NotBothReach, IsExclusive, Serves, IsRequired, CandidateReaches}
 use Rattle.hack_features.specs.Tables.{bit, count_at, cell, is_lean, is_exclusive, is_required, leads}
 use Rattle.hack_features.specs.InternalTables.{spares_test, serves_test, Counts, Matched, CountsHits, SaysServers, RowsServe}

@@ -2,7 +2,7 @@
 use Rattle.std.specs.Prelude.{◌≡◌, ◌≤◌, ◌+◌, ℕ, List, [], ◌∷◌, Bool, cond, IsTrue, All, Contains, length, ◌↔◌}
 use Rattle.hack_samples.specs.declared.sets.Setting.{Setting}
 use Rattle.hack_features.specs.declared.rules.Rules.{Rules}
-use Rattle.hack_features.specs.Sets.{IsSelection, IsBefore, Pairwise}
+use Rattle.hack_sets.specs.Sets.{IsSelection, IsBefore, Pairwise}
 use Rattle.hack_features.specs.Rules.{Choice, names_at, IsEnabledBy, IsListed}
 use Rattle.hack_features.specs.View.{choice_of, size_of, may_of, whole_of}
 

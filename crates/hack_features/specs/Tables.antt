@@ -1,7 +1,7 @@
 -- What tables answer on sets, entry by entry.
 use Rattle.std.specs.Prelude.{◌≡◌, ◌<◌, ℕ, List, [], Bool, false, true, not, nat_le, sum_by, length, Option, None, Some, IsTrue, ◌↔◌, ◌||◌, ◌==◌}
 use Rattle.std.specs.List.{slice_index_or, list_all, list_any}
-use Rattle.hack_features.specs.Sets.{IsSelection}
+use Rattle.hack_sets.specs.Sets.{IsSelection}
 use Rattle.hack_features.specs.Rules.{Choice, Spares, IsExclusive, IsRequired, CandidateReaches}
 
 -- the entry of a row, false past its end

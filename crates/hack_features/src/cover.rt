@@ -3,7 +3,7 @@
 ghost use Rattle.std.specs.Prelude.{◌≡◌, ◌<◌, [], length, slice_index, vec_len, IfOk};
 ghost use Rattle.std.specs.Prelude.{if◌then◌else◌};
 ghost use Rattle.std.specs.List.{slice_index_or, remove};
-ghost use Rattle.hack_features.specs.Sets.{IsSelection};
+ghost use Rattle.hack_sets.specs.Sets.{IsSelection};
 ghost use Rattle.hack_samples.specs.Sets.{rows_of};
 ghost use Rattle.hack_features.specs.Rules.{Choice, IsFirstCover, IsWanted};
 ghost use Rattle.hack_features.specs.PlacedView.{IsPlaced};

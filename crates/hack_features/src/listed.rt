@@ -4,15 +4,15 @@
 
 ghost use Rattle.std.specs.Prelude.{◌≡◌, ◌≤◌, ◌+◌, IfOk};
 
-use crate::forest::Pruned;
-use crate::questions::pruned_within;
 use crate::rules::Rules;
+use hack_sets::forest::Pruned;
+use hack_sets::questions::pruned_within;
 use std::alloc::{AllocError, Global};
 
 impl Rules<'_> {
-    ghost use Rattle.hack_features.specs.Forest.{sets_in};
-    ghost use Rattle.hack_features.specs.Sets.{IsListing};
-    ghost use Rattle.hack_features.specs.Questions.{IsCheap};
+    ghost use Rattle.hack_sets.specs.Forest.{sets_in};
+    ghost use Rattle.hack_sets.specs.Sets.{IsListing};
+    ghost use Rattle.hack_sets.specs.Questions.{IsCheap};
     ghost use Rattle.hack_features.specs.Rules.{IsListed, IsPermitted, AreCovers};
     ghost use Rattle.hack_features.specs.View.{choice_of, size_of, questions_asked};
 

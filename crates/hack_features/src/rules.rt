@@ -2,7 +2,7 @@
 
 ghost use Rattle.std.specs.Prelude.{◌≡◌, ◌≤◌, ◌+◌, ◌-◌, ◌^◌, ℕ, List, [], length};
 ghost use Rattle.std.specs.Prelude.{IsTrue, IfOk, MatchOption, true};
-ghost use Rattle.hack_features.specs.Sets.{IsSelection};
+ghost use Rattle.hack_sets.specs.Sets.{IsSelection};
 ghost use Rattle.hack_samples.specs.Sets.{rows_of};
 ghost use Rattle.hack_features.specs.Rules.{Choice, IsPermitted, IsRequired};
 ghost use Rattle.hack_features.specs.Rules.{IsFirstCover, IsWanted};
@@ -18,10 +18,10 @@ use crate::feature::Feature;
 use crate::marks::row_at;
 use crate::members::count_members;
 use crate::placed::Placed;
-use crate::questions::{Limits, Questions};
 use crate::reach::Edges;
 use crate::tables::{Given, Tables, count};
 use crate::tally::Tally;
+use hack_sets::questions::{Limits, Questions};
 use std::alloc::{AllocError, Global};
 use std::collections::BTreeMap;
 
@@ -42,8 +42,8 @@ pub struct Rules<'a> {
 
 impl<'a> Rules<'a> {
     ghost use Rattle.std.specs.Prelude.{◌↔◌, ◌++◌, ◌∷◌, min};
-    ghost use Rattle.hack_features.specs.Sets.{IsWithin};
-    ghost use Rattle.hack_features.specs.InternalQuestions.{AreLimits, IsFree};
+    ghost use Rattle.hack_sets.specs.Sets.{IsWithin};
+    ghost use Rattle.hack_sets.specs.InternalQuestions.{AreLimits, IsFree};
     ghost use Rattle.hack_features.specs.View.{choice_of, size_of, questions_asked, may_of};
     ghost use Rattle.hack_features.specs.View.{whole_of, asked_in};
     ghost use Rattle.hack_features.specs.Samples.{positions_of, IsSame};
@@ -313,6 +313,8 @@ impl Questions for Rules<'_> {
     ghost use Rattle.hack_features.specs.View.{choice_of, size_of, questions_asked, may_of};
     ghost use Rattle.hack_features.specs.View.{whole_of};
     ghost use Rattle.hack_features.specs.ClosureLaws.{may_of-empty, may_of-remove};
+
+    ghost given = { Choice };
 
     ghost choice = { choice_of };
 

@@ -4,17 +4,17 @@
 ghost use Rattle.std.specs.Prelude.{◌≡◌, map, IfOk, replicate, ◌++◌, ◌∷◌, [], length, true};
 ghost use Rattle.hack_samples.specs.Sets.{rows_of as rows_in, tables_of};
 ghost use Rattle.hack_samples.specs.Sets.{rows_of};
-ghost use Rattle.hack_features.specs.Forest.{sets_in};
+ghost use Rattle.hack_sets.specs.Forest.{sets_in};
 ghost use Rattle.hack_features.specs.Samples.{positions_of};
 ghost use Rattle.hack_features.specs.InternalSamples.{one_leads, providers_of};
 ghost use Rattle.hack_features.specs.InternalSamples.{all_providers};
 
-use crate::forest::{FeatureSets, Forest};
 use crate::members::members_of;
 use crate::placed::Placed;
 use crate::routes::Routes;
 use crate::rules::Rules;
 use hack_samples::{Allowed, SampleFault, sample};
+use hack_sets::forest::{FeatureSets, Forest};
 use std::alloc::{AllocError, Global};
 
 /// Whether one of the names leads to `y`.
@@ -135,7 +135,7 @@ impl Allowed for Rules<'_> {
 impl Rules<'_> {
     ghost use Rattle.std.specs.Prelude.{◌≡◌, ◌≤◌, ◌+◌, ◌-◌, ◌^◌, min, IfOk, IfErr};
     ghost use Rattle.hack_samples.specs.Questions.{IsTired};
-    ghost use Rattle.hack_features.specs.Forest.{sets_in};
+    ghost use Rattle.hack_sets.specs.Forest.{sets_in};
     ghost use Rattle.hack_features.specs.Samples.{IsSample, CoversPatterns, IsLean};
     ghost use Rattle.hack_features.specs.View.{choice_of, size_of, questions_asked};
 

@@ -13,10 +13,10 @@ use Rattle.hack_closures.specs.Closures.{IsBuildFor}
 use Rattle.hack_closures.specs.declared.build.Build.{Build}
 use Rattle.hack_closures.specs.declared.build.Build.TheVariants.{NoFeatures, AllFeatures, Set}
 use Rattle.hack_conflicts.specs.declared.rules.Rules.{Rules as SearchRules}
-use Rattle.hack_features.proofs.CoverLemmas.{before_trans}
-use Rattle.hack_features.proofs.OrderLemmas.{Increases, Stand, front_below, none_first, other_last, same_last, same_of}
+use Rattle.hack_sets.proofs.OrderLemmas.{before_trans}
+use Rattle.hack_sets.proofs.OrderLemmas.{Increases, Stand, front_below, none_first, other_last, same_last, same_of}
 use Rattle.hack_features.specs.Rules.{Choice}
-use Rattle.hack_features.specs.Sets.{IsBefore}
+use Rattle.hack_sets.specs.Sets.{IsBefore}
 use Rattle.hack_hunt.specs.Hunts.{AreInOrder, Precedes}
 use Rattle.hack_hunt.specs.Internal.{Rises, compared, key_of}
 

@@ -20,7 +20,7 @@ use Rattle.hack_features.specs.ChoiceView.{choice}
 use Rattle.hack_features.specs.Feature.{groups_of}
 use Rattle.hack_features.specs.FeatureMap.{feature_map}
 use Rattle.hack_features.specs.Rules.{Choice, IsListed, IsRequired, unlifted_groups}
-use Rattle.hack_features.specs.Sets.{IsListing}
+use Rattle.hack_sets.specs.Sets.{IsListing}
 use Rattle.hack_features.specs.View.{choice_of}
 use Rattle.hack_features.specs.declared.feature.Feature.{Feature}
 use Rattle.hack_features.specs.declared.rules.Rules.{Rules}

@@ -17,7 +17,7 @@ use Rattle.hack_culprits.specs.declared.aim.Aim.{Aim}
 use Rattle.hack_culprits.specs.declared.fault.CulpritsFault.{CulpritsFault}
 use Rattle.hack_culprits.specs.declared.fault.CulpritsFault.TheVariants as fault
 use Rattle.hack_features.specs.Rules.{Choice, IsListed, IsRequired}
-use Rattle.hack_features.specs.Sets.{IsBefore, IsListing}
+use Rattle.hack_sets.specs.Sets.{IsBefore, IsListing}
 use Rattle.hack_load.specs.Contexts.{ContextRecord, features_at, package_at}
 use Rattle.hack_load.specs.declared.features.Features.{Features}
 use Rattle.hack_metadata.specs.Records.{PackageRecord}

@@ -5,7 +5,7 @@ ghost use Rattle.hack_closures.specs.View.{search_of};
 ghost use Rattle.hack_conflicts.specs.Rules.{IsChoice};
 ghost use Rattle.hack_conflicts.specs.Runs.{finding_of};
 ghost use Rattle.hack_features.specs.Rules.{IsListed};
-ghost use Rattle.hack_features.specs.Sets.{IsListing};
+ghost use Rattle.hack_sets.specs.Sets.{IsListing};
 ghost use Rattle.hack_features.specs.View.{choice_of};
 ghost use Rattle.hack_plan.specs.Runs.{is_plain as are_plain};
 ghost use Rattle.hack_planner.specs.Kinds.{options_of};

@@ -9,15 +9,15 @@ use Rattle.hack_base.proofs.Passes.{all_pass, any_passes, each_passes, some_pass
 use Rattle.hack_samples.specs.Sets.{has, IsInside}
 use Rattle.hack_features.specs.declared.rules.Rules.{Rules}
 use Rattle.hack_features.specs.ClosureLaws.{may-inside, may_of-empty, may_of-remove}
-use Rattle.hack_features.specs.Questions.{IsWholeSet, is_whole}
+use Rattle.hack_sets.specs.Questions.{IsWholeSet, is_whole}
 use Rattle.hack_features.specs.Rules.{IsListed}
 use Rattle.hack_features.specs.Samples.{positions_from, positions_of, IsSame}
-use Rattle.hack_features.specs.Sets.{IsListing, IsSelection, Pairwise}
+use Rattle.hack_sets.specs.Sets.{IsListing, IsSelection, Pairwise}
 use Rattle.hack_samples.specs.Sets.{rows_of}
 use Rattle.hack_features.specs.Tables.{bit, is_required}
 use Rattle.hack_features.specs.View.{choice_of, may_of, size_of, whole_of}
 use Rattle.hack_features.proofs.MemberLemmas.{member_iff}
-use Rattle.hack_features.proofs.Permitted.{Passes, listing_filter, listing_same, permitted_below, permitted_listing, whole_iff}
+use Rattle.hack_sets.proofs.Permitted.{Passes, listing_filter, listing_same, permitted_below, permitted_listing, whole_iff}
 use Rattle.hack_features.proofs.RuleLemmas.{listing_of, tables_of}
 use Rattle.hack_features.proofs.SampleLemmas.{selected}
 use Rattle.hack_least.specs.Least.{ListsAtLeast}

@@ -1,7 +1,7 @@
 -- How many sets are listed at least.
 use Rattle.std.specs.Prelude.{◌≤◌, ℕ, List, length}
 use Rattle.hack_features.specs.Rules.{Choice, IsListed}
-use Rattle.hack_features.specs.Sets.{IsListing}
+use Rattle.hack_sets.specs.Sets.{IsListing}
 
 -- the listed sets are at least so many
 pub record ListsAtLeast (c : Choice) (n least : ℕ) : Type 0 where

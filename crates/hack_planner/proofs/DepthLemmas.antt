@@ -9,11 +9,11 @@ use Rattle.hack_load.specs.declared.features.Features.{Features}
 use Rattle.hack_metadata.specs.Records.{PackageRecord}
 use Rattle.hack_planner.specs.PackageRules.{PackageRulesRecord}
 use Rattle.hack_base.specs.Names.{Name}
-use Rattle.hack_features.specs.Sets.{IsSelection, IsBefore, IsListing, IsWithin, Pairwise, singles}
+use Rattle.hack_sets.specs.Sets.{IsSelection, IsBefore, IsListing, IsWithin, Pairwise, singles}
 use Rattle.hack_features.specs.Rules.{Choice, IsListed, IsRedundant, NotBothReach, Serves, names_at, names_in}
 use Rattle.hack_features.specs.FeatureMap.{EnablesOneOf}
 use Rattle.hack_base.proofs.Members.{Contains-cons_cases}
-use Rattle.hack_features.proofs.Listing.{selection_none, selection_push, selection_up}
+use Rattle.hack_sets.proofs.Listing.{selection_none, selection_push, selection_up}
 use Rattle.hack_features.proofs.CoverLemmas.{before_trans}
 use Rattle.std.specs.Option.{is_none, option_map_or}
 use Rattle.hack_plan.specs.Runs.{PackageRun, Plain, AllFeatures, NoDefaultFeatures, Set, is_plain, keeps_all, run_if, in_turn}

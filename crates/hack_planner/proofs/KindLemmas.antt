@@ -11,7 +11,7 @@ use Rattle.hack_planner.specs.PackageRules.{PackageRulesRecord}
 use Rattle.hack_features.specs.declared.feature.Feature.{Feature}
 use Rattle.hack_features.specs.Feature.{group_of, groups_of, candidates_of}
 use Rattle.hack_features.specs.Rules.{Choice, AreCovers}
-use Rattle.hack_features.specs.Sets.{singles}
+use Rattle.hack_sets.specs.Sets.{singles}
 use Rattle.hack_base.proofs.Steps.{seen-next}
 use Rattle.hack_plan.specs.declared.runs.RunOptions.{RunOptions}
 use Rattle.std.specs.Option.{option_map_or}

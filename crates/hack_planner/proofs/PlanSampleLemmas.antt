@@ -9,7 +9,7 @@ use Rattle.hack_planner.specs.PackageRules.{PackageRulesRecord}
 use Rattle.hack_base.proofs.Members.{Contains-cons_cases, Contains-head, Contains-tail, Contains-nil, Contains-map}
 use Rattle.hack_features.specs.Rules.{IsListed}
 use Rattle.hack_features.specs.Samples.{IsNeeded, SetShows}
-use Rattle.hack_features.specs.Sets.{IsSelection, Pairwise}
+use Rattle.hack_sets.specs.Sets.{IsSelection, Pairwise}
 use Rattle.hack_samples.specs.declared.sets.Setting.{Setting}
 use Rattle.hack_load.specs.Contexts.{ContextRecord, package_at, features_at}
 use Rattle.hack_load.specs.declared.features.Features.{Features}

@@ -6,7 +6,7 @@ use Rattle.std.proofs.lemmas.List.{take-append-drop, get_or_append_left, get_or-
 use Rattle.std.proofs.lemmas.List.Elements.{All-append, All-cons, All-head, All-tail, Contains-append_left, Contains-append_right, Contains-append_cases, filter_map-append}
 use Rattle.std.specs.Bool.{MatchBool}
 use Rattle.hack_planner.specs.PackageRules.{PackageRulesRecord}
-use Rattle.hack_features.specs.Sets.{IsBefore, Pairwise}
+use Rattle.hack_sets.specs.Sets.{IsBefore, Pairwise}
 use Rattle.hack_load.specs.Contexts.{ContextRecord, package_at, features_at}
 use Rattle.hack_load.specs.declared.features.Features.{Features}
 use Rattle.hack_metadata.specs.Records.{PackageRecord}

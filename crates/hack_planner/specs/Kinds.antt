@@ -3,7 +3,7 @@ use Rattle.std.specs.Prelude.{◌≡◌, ◌==◌, ℕ, List, [], ◌∷◌, Boo
 use Rattle.std.specs.Bool.{MatchBool}
 use Rattle.std.specs.List.{AllZip}
 use Rattle.std.specs.Option.{option_map_or}
-use Rattle.hack_features.specs.Sets.{IsListing, IsSelection, singles}
+use Rattle.hack_sets.specs.Sets.{IsListing, IsSelection, singles}
 use Rattle.hack_features.specs.Rules.{Choice, IsListed, IsWanted, Covers}
 use Rattle.hack_features.specs.Samples.{IsSample, CoversPatterns, IsLean}
 use Rattle.hack_features.specs.Settings.{AreSettings, AreSettingsOfAll}

@@ -2,7 +2,7 @@
 use Rattle.std.specs.Prelude.{ℕ, ◌≡◌, ◌≢◌, ◌↔◌, List, Option, Some, None, length, Contains}
 use Rattle.std.specs.List.{AllZip, filter_map}
 use Rattle.hack_features.specs.Rules.{Choice, IsListed}
-use Rattle.hack_features.specs.Sets.{IsSelection, Pairwise}
+use Rattle.hack_sets.specs.Sets.{IsSelection, Pairwise}
 use Rattle.hack_load.specs.Contexts.{ContextRecord, package_at, features_at}
 use Rattle.hack_load.specs.declared.features.Features.{Features}
 use Rattle.hack_metadata.specs.Records.{PackageRecord}

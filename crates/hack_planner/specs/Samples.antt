@@ -2,7 +2,7 @@
 use Rattle.std.specs.Prelude.{ℕ, ◌≡◌, ◌≢◌, ◌<◌, ◌≤◌, List, Option, None, Some, length, Contains, IsSomeAnd, slice_get}
 use Rattle.hack_features.specs.Rules.{Choice, IsListed}
 use Rattle.hack_features.specs.Samples.{CoversPatterns, IsLean, SetShows}
-use Rattle.hack_features.specs.Sets.{IsSelection, Pairwise}
+use Rattle.hack_sets.specs.Sets.{IsSelection, Pairwise}
 use Rattle.hack_samples.specs.declared.sets.Setting.{Setting}
 use Rattle.hack_load.specs.Contexts.{ContextRecord, package_at, features_at}
 use Rattle.hack_load.specs.declared.features.Features.{Features}

@@ -6,7 +6,7 @@ ghost use Rattle.std.specs.Prelude.{IfSome, IsSome, length};
 ghost use Rattle.std.specs.List.{AllZip};
 ghost use Rattle.std.specs.Option.{option_map_or};
 ghost use Rattle.hack_features.specs.Feature.{groups_of, candidates_of};
-ghost use Rattle.hack_features.specs.Forest.{sets_in};
+ghost use Rattle.hack_sets.specs.Forest.{sets_in};
 ghost use Rattle.hack_features.specs.Rules.{Choice, AreCovers};
 ghost use Rattle.hack_features.specs.Samples.{IsSample, CoversPatterns, IsLean};
 ghost use Rattle.hack_features.specs.View.{choice_of as rules_choice, size_of, questions_asked};

@@ -6,11 +6,11 @@ use Rattle.std.proofs.lemmas.List.Elements.{filter-append, All-contains, Contain
 use Rattle.std.proofs.Math.Seq.{drop-append_seam, take-append_seam}
 use Rattle.std.proofs.lemmas.Grind.{flat_map-append}
 use Rattle.hack_features.specs.declared.rules.Rules.{Rules}
-use Rattle.hack_features.specs.Sets.{IsSelection, IsBefore, Pairwise}
-use Rattle.hack_features.specs.Questions.{is_whole}
+use Rattle.hack_sets.specs.Sets.{IsSelection, IsBefore, Pairwise}
+use Rattle.hack_sets.specs.Questions.{is_whole}
 use Rattle.hack_features.specs.View.{may_of, size_of, whole_of}
 use Rattle.hack_base.proofs.Members.{Contains-head, Contains-tail, Contains-cons_cases}
-use Rattle.hack_features.specs.Walk.{below}
+use Rattle.hack_sets.specs.Walk.{below}
 use Rattle.hack_plan.specs.Runs.{Set}
 use Rattle.hack_plan.specs.RunsView.{with_last_first}
 use Rattle.hack_base.specs.Names.{Name}

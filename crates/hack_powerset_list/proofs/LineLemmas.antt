@@ -7,7 +7,7 @@ use Rattle.std.proofs.lemmas.List.Elements.{filter_map-append}
 use Rattle.hack_base.specs.Names.{Name, names_of}
 use Rattle.hack_features.specs.declared.feature.Feature.{Feature}
 use Rattle.hack_features.specs.Feature.{name_of}
-use Rattle.hack_features.specs.Sets.{items_at}
+use Rattle.hack_sets.specs.Sets.{items_at}
 use Rattle.hack_base.proofs.Steps.{filter_map-found, filter_map-missed, seen-next}
 
 module _ (names : List Name) (before xs : List ℕ) (i : ℕ) (lt : i < length xs) where

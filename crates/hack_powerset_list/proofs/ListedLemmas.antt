@@ -4,12 +4,12 @@ use Rattle.std.specs.Prelude.{Vec, if◌then◌else◌, is_some, MatchOption, �
 use Rattle.std.proofs.lemmas.List.Elements.{filter-append}
 use Rattle.std.proofs.lemmas.Grind.{flat_map-append}
 use Rattle.hack_base.specs.Names.{Name}
-use Rattle.hack_features.proofs.Listing.{below_or_same}
+use Rattle.hack_sets.proofs.Listing.{below_or_same}
 use Rattle.hack_plan.specs.Runs.{Set}
 use Rattle.hack_powerset_list.specs.Lines.{run_line}
-use Rattle.hack_features.specs.Walk.{below}
+use Rattle.hack_sets.specs.Walk.{below}
 use Rattle.hack_features.specs.declared.rules.Rules.{Rules}
-use Rattle.hack_features.specs.Questions.{is_whole}
+use Rattle.hack_sets.specs.Questions.{is_whole}
 use Rattle.hack_features.specs.View.{may_of, size_of, whole_of}
 use Rattle.hack_powerset_list.specs.Walks.{EndsIn, is_other, listed_below, listed_in, set_lines}
 

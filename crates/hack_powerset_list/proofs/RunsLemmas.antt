@@ -5,7 +5,7 @@ use Rattle.std.proofs.lemmas.Bool.{lt-ltb}
 use Rattle.std.proofs.lemmas.Grind.{flat_map-append}
 use Rattle.hack_base.specs.Names.{Name}
 use Rattle.hack_features.specs.declared.feature.Feature.{Feature}
-use Rattle.hack_features.proofs.Permitted.{nonzero}
+use Rattle.hack_sets.proofs.Permitted.{nonzero}
 use Rattle.hack_plan.specs.declared.runs.RunOptions.{RunOptions}
 use Rattle.std.specs.Option.{option_map_or}
 use Rattle.hack_plan.specs.Runs.{Plain, AllFeatures, NoDefaultFeatures, Set, run_if, keeps_all, is_plain, in_turn, last_first, runs_from}

@@ -5,8 +5,8 @@ use Rattle.std.proofs.lemmas.List.{get_or-map, length-map, take_more}
 use Rattle.std.proofs.lemmas.Grind.{flat_map-append}
 use Rattle.std.proofs.lemmas.List.Elements.{All-cons}
 use Rattle.hack_base.specs.Names.{Name, names_of}
-use Rattle.hack_features.specs.Sets.{items_at, IsSelection}
-use Rattle.hack_features.proofs.Listing.{chosen-push, slice_get-at}
+use Rattle.hack_sets.specs.Sets.{items_at, IsSelection}
+use Rattle.hack_sets.proofs.Listing.{chosen-push, slice_get-at}
 use Rattle.hack_process.specs.CommandTexts.{with_names, shown_features}
 use Rattle.hack_plan.specs.Runs.{Set}
 use Rattle.hack_powerset_list.specs.Lines.{run_line}

@@ -1,17 +1,17 @@
 -- The sets that a walk lists are the listed ones.
 use Rattle.std.proofs.Common.{◌≡◌, true, [], ◌∷◌, List, length, refl, subst}
 use Rattle.hack_features.specs.declared.rules.Rules.{Rules}
-use Rattle.hack_features.specs.Questions.{is_whole, IsWholeSet}
+use Rattle.hack_sets.specs.Questions.{is_whole, IsWholeSet}
 use Rattle.hack_features.specs.declared.feature.Feature.{Feature}
 use Rattle.hack_features.specs.FeatureMap.{FeatureMap}
 use Rattle.hack_features.specs.Rules.{Choice, IsListed}
-use Rattle.hack_features.specs.Sets.{IsListing}
+use Rattle.hack_sets.specs.Sets.{IsListing}
 use Rattle.hack_features.specs.View.{may_of, size_of, whole_of, choice_of}
-use Rattle.hack_features.specs.Walk.{below}
+use Rattle.hack_sets.specs.Walk.{below}
 use Rattle.hack_features.specs.ClosureLaws.{may_of-empty, may_of-remove}
-use Rattle.hack_features.proofs.Permitted.{Passes, listing_filter, listing_same, whole_iff}
+use Rattle.hack_sets.proofs.Permitted.{Passes, listing_filter, listing_same, whole_iff}
 use Rattle.hack_features.proofs.RuleLemmas.{tables_of, listing_of}
-use Rattle.hack_features.proofs.Walked.{walk_listing}
+use Rattle.hack_sets.proofs.Walked.{walk_listing}
 use Rattle.hack_plan.specs.Runs.{runs_from}
 use Rattle.hack_powerset_list.specs.declared.wishes.Wishes.{Wishes}
 use Rattle.hack_powerset_list.specs.ListRuns.{options_from}

@@ -2,9 +2,9 @@
 use Rattle.std.specs.Prelude.{◌≡◌, ℕ, List, [], ◌∷◌, ◌++◌, Bool, ◌&&◌, not, filter, flat_map, bytes_eq}
 use Rattle.hack_features.specs.declared.rules.Rules.{Rules}
 use Rattle.hack_base.specs.Names.{Name}
-use Rattle.hack_features.specs.Questions.{is_whole}
+use Rattle.hack_sets.specs.Questions.{is_whole}
 use Rattle.hack_features.specs.View.{may_of, size_of, whole_of}
-use Rattle.hack_features.specs.Walk.{below}
+use Rattle.hack_sets.specs.Walk.{below}
 use Rattle.hack_plan.specs.Runs.{Set}
 use Rattle.hack_powerset_list.specs.Lines.{run_line}
 

@@ -3,7 +3,7 @@
 ghost use Rattle.std.specs.Prelude.{◌≡◌, [], ◌∷◌, codes, map, string_bytes, IfOk};
 ghost use Rattle.hack_base.specs.Names.{names_behind};
 ghost use Rattle.hack_features.specs.Feature.{name_of};
-ghost use Rattle.hack_features.specs.Sets.{items_at};
+ghost use Rattle.hack_sets.specs.Sets.{items_at};
 ghost use Rattle.hack_process.specs.CommandTexts.{listed_of};
 ghost use Rattle.hack_process.specs.Commands.{command_of};
 ghost use Rattle.hack_plan.specs.Runs.{run_of};

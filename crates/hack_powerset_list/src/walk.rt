@@ -4,7 +4,7 @@ ghost use Rattle.std.specs.Prelude.{◌≡◌, ◌<◌, ◌≤◌, ◌++◌, ◌
 ghost use Rattle.std.specs.Prelude.{length, IfOk, OnOk, OnErr, IsTrue, MatchOption, false};
 ghost use Rattle.std.specs.Prelude.{string_bytes};
 ghost use Rattle.hack_features.specs.Feature.{name_of};
-ghost use Rattle.hack_features.specs.Sets.{IsSelection, items_at};
+ghost use Rattle.hack_sets.specs.Sets.{IsSelection, items_at};
 ghost use Rattle.hack_features.specs.View.{may_of, size_of, whole_of};
 ghost use Rattle.hack_base.specs.Writes.{AppendsFront};
 ghost use Rattle.hack_plan.specs.Runs.{Set};
@@ -12,7 +12,7 @@ ghost use Rattle.hack_powerset_list.specs.Lines.{run_line};
 ghost use Rattle.hack_powerset_list.specs.LineWords.{PrintsText, others_text};
 ghost use Rattle.hack_powerset_list.specs.LinesView.{AreTexts};
 ghost use Rattle.hack_powerset_list.specs.Room.{set_in, most_in};
-ghost use Rattle.hack_features.specs.Walk.{below};
+ghost use Rattle.hack_sets.specs.Walk.{below};
 ghost use Rattle.hack_powerset_list.specs.Walks.{EndsIn, is_other, listed_below, set_lines};
 ghost use Rattle.hack_powerset_list.specs.Streams.{CountsUnlessMemory};
 

@@ -13,7 +13,7 @@
 //! - `order 0 1 0,1`: how each set compares with each.
 
 ghost use Rattle.std.specs.Prelude.{◌≡◌, IsTrue, IfOk, length};
-ghost use Rattle.hack_features.specs.Sets.{IsSelection};
+ghost use Rattle.hack_sets.specs.Sets.{IsSelection};
 ghost use Rattle.hack_features.specs.View.{size_of};
 
 use crate::tests::given::{Case, case_of, depth_of, numbers, refs, word_at};

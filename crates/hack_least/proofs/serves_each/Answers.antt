@@ -1,5 +1,5 @@
 use Rattle.std.proofs.Common.{◌∙◌, sym, subst}
-use Rattle.hack_features.specs.Sets.{IsSelection}
+use Rattle.hack_sets.specs.Sets.{IsSelection}
 use Rattle.hack_features.specs.View.{size_of}
 use Rattle.hack_features.proofs.SampleLemmas.{selected}
 use Rattle.hack_least.proofs.serves_each.Goals as goal

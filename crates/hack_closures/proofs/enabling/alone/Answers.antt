@@ -2,11 +2,11 @@ use Rattle.std.proofs.Common.{◌≡◌, ℕ, ◌<◌, ◌+◌, ◌∷◌, ◌++
 use Rattle.std.proofs.lemmas.Bool.{false≢true}
 use Rattle.std.proofs.lemmas.List.Elements.{Contains-push, Contains-push_cases, Contains-append_left, All-contains}
 use Rattle.hack_base.proofs.Members.{lt_or_same}
-use Rattle.hack_features.specs.Sets.{IsSelection}
+use Rattle.hack_sets.specs.Sets.{IsSelection}
 use Rattle.hack_features.specs.Rules.{IsExclusive}
 use Rattle.hack_features.specs.View.{choice_of}
 use Rattle.hack_features.proofs.CandidateLemmas.{length-candidates_of}
-use Rattle.hack_features.proofs.Listing.{selection_push, selection_up}
+use Rattle.hack_sets.proofs.Listing.{selection_push, selection_up}
 use Rattle.hack_closures.proofs.enabling.alone.Goals as goal
 use Rattle.hack_closures.proofs.enabling.alone.Goals.{then-is_exclusive_alone+in_ok-push, else-is_exclusive_alone}
 

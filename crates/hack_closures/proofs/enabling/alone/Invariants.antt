@@ -1,5 +1,5 @@
 use Rattle.std.proofs.Common.{◌∷◌, [], ℕ, ◌<◌, ◌↔◌, Contains}
-use Rattle.hack_features.specs.Sets.{IsSelection}
+use Rattle.hack_sets.specs.Sets.{IsSelection}
 use Rattle.hack_features.specs.Rules.{IsExclusive}
 use Rattle.hack_features.specs.View.{choice_of}
 use Rattle.hack_closures.proofs.enabling.alone.Given as goal

@@ -1,6 +1,6 @@
 use Rattle.std.proofs.Common.{◌≡◌, ◌∷◌, ◌++◌, [], List, Bool, sym, ap, ◌∙◌, subst, cond, append-nil, map}
 use Rattle.hack_conflicts.specs.Sets.{rows_of}
-use Rattle.hack_features.specs.Sets.{IsSelection}
+use Rattle.hack_sets.specs.Sets.{IsSelection}
 use Rattle.hack_features.specs.View.{choice_of}
 use Rattle.hack_features.proofs.CandidateLemmas.{length-candidates_of}
 use Rattle.hack_closures.specs.Internal.{AreServing, AreNeeded}

@@ -1,6 +1,6 @@
 use Rattle.std.proofs.Common.{◌<◌, ◌∙◌, [], List, Bool, map, length, All, get_or, sym, ap, refl, subst}
 use Rattle.hack_samples.specs.Sets.{rows_of}
-use Rattle.hack_features.specs.Forest.{sets_of}
+use Rattle.hack_sets.specs.Forest.{sets_of}
 use Rattle.hack_features.specs.Samples.{positions_of}
 use Rattle.hack_features.proofs.MemberLemmas.{sets-within, sets-same, rows-next}
 use Rattle.hack_features.proofs.samples.sets_from.Goals as goal

@@ -1,6 +1,6 @@
 use Rattle.std.proofs.Common.{◌≡◌, ◌<◌, take, map, All, length, get_or, []}
 use Rattle.hack_samples.specs.Sets.{rows_of}
-use Rattle.hack_features.specs.Forest.{sets_of}
+use Rattle.hack_sets.specs.Forest.{sets_of}
 use Rattle.hack_features.specs.Samples.{positions_of}
 use Rattle.hack_features.proofs.samples.sets_from.Given as goal
 

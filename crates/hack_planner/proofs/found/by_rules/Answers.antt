@@ -1,5 +1,5 @@
 use Rattle.std.proofs.Common.{subst}
-use Rattle.hack_features.specs.Forest.{sets_in}
+use Rattle.hack_sets.specs.Forest.{sets_in}
 use Rattle.hack_features.specs.Rules.{Choice}
 use Rattle.hack_plan.specs.RunsView.{runs_in}
 use Rattle.hack_samples.specs.Sets.{rows_of}

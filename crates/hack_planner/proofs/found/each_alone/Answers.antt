@@ -1,5 +1,5 @@
 use Rattle.std.proofs.Common.{ap}
-use Rattle.hack_features.specs.Forest.{sets_in}
+use Rattle.hack_sets.specs.Forest.{sets_in}
 use Rattle.hack_plan.specs.RunsView.{runs_in}
 use Rattle.hack_samples.specs.Sets.{rows_of}
 use Rattle.hack_planner.specs.PackageRules.{rules_in}

@@ -1,8 +1,8 @@
 use Rattle.std.proofs.Common.{◌≡◌, ◌⊎◌, Some, is_some, ap}
 use Rattle.hack_planner.specs.PackageRules.{PackageRulesRecord, rules_in}
 use Rattle.hack_features.specs.Samples.{IsSample, CoversPatterns, IsLean}
-use Rattle.hack_features.specs.Forest.{sets_in}
-use Rattle.hack_features.specs.declared.forest.FeatureSets.{FeatureSets}
+use Rattle.hack_sets.specs.Forest.{sets_in}
+use Rattle.hack_sets.specs.declared.forest.FeatureSets.{FeatureSets}
 use Rattle.hack_features.specs.View.{choice_of, size_of, questions_asked}
 use Rattle.hack_planner.specs.Internal.{IsGivenUp, IsRefused}
 use Rattle.hack_planner.specs.declared.fault.RunsFault.TheVariants.{Memory}

@@ -6,7 +6,7 @@ use Rattle.std.proofs.lemmas.List.{map-append}
 use Rattle.std.proofs.lemmas.Option.{slice_get_read, slice_get_past, slice_get-map}
 use Rattle.hack_base.specs.Names.{Name, names_behind}
 use Rattle.hack_features.specs.Feature.{name_of}
-use Rattle.hack_features.specs.Sets.{items_at}
+use Rattle.hack_sets.specs.Sets.{items_at}
 use Rattle.hack_powerset_list.proofs.LineLemmas.{chosen-found, chosen-missed}
 use Rattle.hack_powerset_list.proofs.commands.names_at.Goals as goal
 

@@ -8,7 +8,7 @@ use Rattle.hack_plan.specs.RunsView.{with_last_first}
 use Rattle.hack_powerset_list.specs.Lines.{run_line}
 use Rattle.hack_powerset_list.specs.LineWords.{PrintsText}
 use Rattle.hack_powerset_list.specs.Room.{set_in}
-use Rattle.hack_features.specs.Walk.{below}
+use Rattle.hack_sets.specs.Walk.{below}
 use Rattle.hack_powerset_list.specs.Walks.{is_other, listed_in, set_lines}
 use Rattle.hack_powerset_list.proofs.PageLemmas.{prints-none, prints-then, prints-stopped, on_err-any, on_ok-then, on_err-then}
 use Rattle.hack_powerset_list.proofs.LastLemmas.{first-text, behind-text, text-others, last-selection, last-some}

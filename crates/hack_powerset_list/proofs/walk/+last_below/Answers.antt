@@ -1,9 +1,9 @@
 use Rattle.std.proofs.Common.{◌≡◌, ◌∙◌, ◌<◌, ◌≤◌, ◌-◌, ◌++◌, ◌∷◌, ℕ, suc, List, Bool, cond, length, filter, true, false, ap, sym, subst, arith, drop}
 use Rattle.std.specs.Prelude.{not}
-use Rattle.hack_features.specs.Questions.{is_whole}
-use Rattle.hack_features.specs.Sets.{IsSelection}
+use Rattle.hack_sets.specs.Questions.{is_whole}
+use Rattle.hack_sets.specs.Sets.{IsSelection}
 use Rattle.hack_features.specs.View.{may_of, size_of, whole_of}
-use Rattle.hack_features.proofs.Permitted.{whole-cons}
+use Rattle.hack_sets.proofs.Permitted.{whole-cons}
 use Rattle.hack_powerset_list.specs.Walks.{listed_below}
 use Rattle.hack_powerset_list.specs.Room.{set_in}
 use Rattle.hack_powerset_list.proofs.WalkLemmas.{selection-front, selection-short, above-front}

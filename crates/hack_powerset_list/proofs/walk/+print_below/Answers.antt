@@ -3,11 +3,11 @@ use Rattle.hack_base.specs.Writes.{AppendsFront, NoFewer}
 use Rattle.hack_base.proofs.WriteLemmas.{NoFewer-trans, stayed}
 use Rattle.hack_base.specs.Names.{Name}
 use Rattle.hack_features.specs.Feature.{name_of}
-use Rattle.hack_features.specs.Sets.{IsSelection, items_at}
+use Rattle.hack_sets.specs.Sets.{IsSelection, items_at}
 use Rattle.hack_features.specs.View.{may_of, size_of, whole_of}
 use Rattle.hack_powerset_list.specs.LineWords.{PrintsText, others_text}
 use Rattle.hack_powerset_list.specs.Room.{set_in, most_in}
-use Rattle.hack_features.specs.Walk.{below}
+use Rattle.hack_sets.specs.Walk.{below}
 use Rattle.hack_powerset_list.specs.Walks.{is_other, set_lines}
 use Rattle.hack_powerset_list.proofs.PageLemmas.{prints-none, prints-then, prints-front, prints-stopped, on_err-any}
 use Rattle.hack_powerset_list.proofs.StreamLemmas.{stops-refused}

@@ -4,7 +4,7 @@ use Rattle.hack_features.specs.Feature.{name_of}
 use Rattle.hack_features.specs.View.{may_of, size_of, whole_of}
 use Rattle.hack_powerset_list.specs.LineWords.{PrintsText}
 use Rattle.hack_powerset_list.specs.Room.{set_in, most_in}
-use Rattle.hack_features.specs.Walk.{below}
+use Rattle.hack_sets.specs.Walk.{below}
 use Rattle.hack_powerset_list.specs.Walks.{is_other, set_lines}
 use Rattle.hack_powerset_list.proofs.walk.+print_below.Given as goal
 

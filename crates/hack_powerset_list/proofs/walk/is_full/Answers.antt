@@ -1,8 +1,8 @@
 use Rattle.std.proofs.Common.{◌≤◌, ◌∷◌, ℕ, List, Option, IsTrue, subst, arith}
 use Rattle.std.proofs.lemmas.Bool.{leb-true}
-use Rattle.hack_features.specs.Sets.{IsWithin}
+use Rattle.hack_sets.specs.Sets.{IsWithin}
 use Rattle.hack_features.specs.View.{may_of}
-use Rattle.hack_features.proofs.OpenLemmas.{too-long}
+use Rattle.hack_sets.proofs.OpenLemmas.{too-long}
 use Rattle.hack_powerset_list.proofs.walk.is_full.Goals as goal
 
 pub returns-in-Some : goal.returns-in-Some

@@ -4,9 +4,9 @@ use Rattle.std.proofs.lemmas.Bool.{and_from}
 use Rattle.hack_base.specs.Writes.{AppendsFront}
 use Rattle.hack_base.specs.Names.{Name}
 use Rattle.hack_features.specs.Feature.{name_of}
-use Rattle.hack_features.specs.Questions.{is_whole}
+use Rattle.hack_sets.specs.Questions.{is_whole}
 use Rattle.hack_features.specs.View.{whole_of}
-use Rattle.hack_features.proofs.Permitted.{whole-cons}
+use Rattle.hack_sets.proofs.Permitted.{whole-cons}
 use Rattle.hack_plan.specs.Runs.{Set}
 use Rattle.hack_powerset_list.specs.Lines.{run_line}
 use Rattle.hack_powerset_list.specs.Walks.{is_other, set_lines}

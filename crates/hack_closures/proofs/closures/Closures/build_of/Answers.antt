@@ -1,7 +1,7 @@
 use Rattle.std.proofs.Common.{◌≡◌, List, Bool, ℕ, sym, ap, ◌∙◌, subst, length, IsTrue, arith}
 use Rattle.std.proofs.lemmas.Bool.{false≢true}
 use Rattle.hack_conflicts.specs.Sets.{Has, mark}
-use Rattle.hack_features.specs.Sets.{IsSelection}
+use Rattle.hack_sets.specs.Sets.{IsSelection}
 use Rattle.hack_features.specs.Rules.{IsWanted, IsFirstCover}
 use Rattle.hack_features.proofs.CandidateLemmas.{length-candidates_of}
 use Rattle.hack_closures.specs.declared.closures.Closures.{Closures}

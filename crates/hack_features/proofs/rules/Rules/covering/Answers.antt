@@ -1,5 +1,5 @@
 use Rattle.std.proofs.Common.{length, sym, ◌∙◌, subst}
-use Rattle.hack_features.specs.Sets.{IsSelection}
+use Rattle.hack_sets.specs.Sets.{IsSelection}
 use Rattle.hack_features.specs.View.{choice_of}
 use Rattle.hack_features.proofs.CandidateLemmas.{length-candidates_of}
 use Rattle.hack_features.proofs.RuleLemmas.{tables_of, placed_of, wanted_iff, false_from}

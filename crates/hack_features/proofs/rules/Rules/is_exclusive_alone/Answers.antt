@@ -1,6 +1,6 @@
 use Rattle.std.proofs.Common.{◌<◌, ◌∷◌, [], ℕ, length, sym, subst, arith, ◌↔◌, IsTrue}
 use Rattle.std.proofs.lemmas.List.Elements.{All-cons, All-nil}
-use Rattle.hack_features.specs.Sets.{IsSelection}
+use Rattle.hack_sets.specs.Sets.{IsSelection}
 use Rattle.hack_features.specs.Rules.{IsExclusive}
 use Rattle.hack_features.specs.View.{choice_of}
 use Rattle.hack_features.proofs.CandidateLemmas.{length-candidates_of}

@@ -1,10 +1,10 @@
 use Rattle.std.proofs.Common.{IsTrue, IfOk, subst}
 use Rattle.std.proofs.lemmas.Result.{IfOk-weaker}
-use Rattle.hack_features.specs.declared.forest.Pruned.{Pruned}
-use Rattle.hack_features.specs.Sets.{IsListing}
-use Rattle.hack_features.specs.Forest.{sets_in}
+use Rattle.hack_sets.specs.declared.forest.Pruned.{Pruned}
+use Rattle.hack_sets.specs.Sets.{IsListing}
+use Rattle.hack_sets.specs.Forest.{sets_in}
 use Rattle.hack_features.specs.Rules.{IsListed, IsPermitted, AreCovers}
-use Rattle.hack_features.specs.Questions.{IsWholeSet, IsCheap}
+use Rattle.hack_sets.specs.Questions.{IsWholeSet, IsCheap}
 use Rattle.hack_features.specs.View.{choice_of, size_of, may_of, whole_of}
 use Rattle.hack_features.proofs.RuleLemmas.{tables_of, listing_of, covers_of, cheap_of}
 use Rattle.hack_features.proofs.rules.Rules.listed.Goals as goal

@@ -1,7 +1,7 @@
 use Rattle.std.proofs.Common.{◌++◌, ◌∷◌, [], List, ℕ, ◌↔◌, IsTrue, subst, sym, arith}
 use Rattle.hack_features.specs.Rules.{IsPermitted}
 use Rattle.hack_features.specs.View.{choice_of, size_of}
-use Rattle.hack_features.proofs.Listing.{selection_push, selection_up}
+use Rattle.hack_sets.proofs.Listing.{selection_push, selection_up}
 use Rattle.hack_features.proofs.RuleLemmas.{tables_of, permitted_iff}
 use Rattle.hack_features.proofs.rules.RulesQuestions.may_extend.Goals as goal
 

@@ -1,5 +1,0 @@
-use Rattle.std.proofs.Common.{length}
-use Rattle.hack_features.proofs.sets.+compare_sets.Given as goal
-
-abbrev pub decreases-compare_sets : goal.decreases-compare_sets
-decreases-compare_sets l = length l.first.now
