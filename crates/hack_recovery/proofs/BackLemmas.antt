@@ -20,8 +20,8 @@ use Rattle.hack_words.specs.CommandLine.{Around, ComesFrom, ComesTo, Faulty, IsE
 use Rattle.hack_words.specs.Start.{Cuts, Refuses, Start, start_of}
 use Rattle.hack_words.specs.declared.cli.env.Env.{Env}
 use Rattle.hack_words.specs.declared.cli.parse.Parsed.TheVariants as answer
-use Rattle.hack_recovery.specs.declared.asked.Edits.{Edits}
-use Rattle.hack_recovery.specs.declared.asked.Edits.TheVariants as edits
+use Rattle.hack_words.specs.declared.cli.edits.Edits.{Edits}
+use Rattle.hack_words.specs.declared.cli.edits.Edits.TheVariants as edits
 use Rattle.hack_recovery.specs.AskedEdits.{AsksForEdits}
 use Rattle.hack_versions.specs.declared.rustup.Rustup.TheVariants.{Unasked}
 use Rattle.hack_recovery.specs.AskedEdits.Asks.{parsed, faulty}

@@ -15,7 +15,7 @@ use Rattle.hack_run.specs.LastingEdits.{LeavesAtMostEdits}
 use Rattle.hack_session.specs.StepOutput.{Streams, streams}
 use Rattle.hack_term.specs.declared.term.Term.{Term}
 use Rattle.hack_words.specs.declared.cli.env.Env.{Env}
-use Rattle.hack_recovery.specs.AskedEdits.{is_change, is_restore}
+use Rattle.hack_words.specs.Edits.{is_change, is_restore}
 use Rattle.hack_recovery.specs.Admission.{IsAdmitted}
 use Rattle.hack_recovery.specs.CallCourses.{Begins, CannotSee, IsCallCourse, Journals, PerformsUnjournaled}
 use Rattle.hack_recovery.specs.CallCourses.IsCallCourse.{blind, unrestored, warned, without_journal}
@@ -26,7 +26,7 @@ use Rattle.hack_recovery.specs.LockEvents.{LocksView}
 use Rattle.hack_recovery.specs.Scenes.{Scene, Untouched, scene_with}
 use Rattle.hack_recovery.specs.Telling.{SaysUnrestored, SaysUnseen, SaysUnsure}
 use Rattle.hack_recovery.specs.declared.admit.Way.TheVariants.{Plain}
-use Rattle.hack_recovery.specs.declared.asked.Edits.{Edits}
+use Rattle.hack_words.specs.declared.cli.edits.Edits.{Edits}
 
 -- a scene before any call was made, by its parts
 abbrev scene : FilesView → FilesView → ℕ → LocksView → GuardsView → List Call → Option (List ℕ) → Term → Bool → Streams → Scene

@@ -13,7 +13,7 @@ use Rattle.hack_starts.specs.Events.{Event}
 use Rattle.hack_term.specs.declared.term.Term.{Term}
 use Rattle.hack_words.specs.declared.cli.env.Env.{Env}
 use Rattle.hack_places.specs.CallPlaces.{PlacesAt}
-use Rattle.hack_recovery.specs.AskedEdits.{is_restore}
+use Rattle.hack_words.specs.Edits.{is_restore}
 use Rattle.hack_recovery.specs.CallCourses.{IsCopyTold, IsJournalClosed}
 use Rattle.hack_recovery.specs.CallCourses.IsCopyTold.{absent, there, unsure}
 use Rattle.hack_recovery.specs.CallCourses.IsJournalClosed.{copy_kept, copy_stays, gone, stays, unseen}
@@ -21,8 +21,8 @@ use Rattle.hack_recovery.specs.LaneCalls.{AsksToRestore, CallsInLanes, over_jour
 use Rattle.hack_recovery.specs.Ready.{Both, GetReady}
 use Rattle.hack_recovery.specs.Ready.GetReady.{further, looked_at}
 use Rattle.hack_recovery.specs.Telling.{IsStarved, Warns}
-use Rattle.hack_recovery.specs.declared.asked.Edits.{Edits}
-use Rattle.hack_recovery.specs.declared.asked.Edits.TheVariants as edits
+use Rattle.hack_words.specs.declared.cli.edits.Edits.{Edits}
+use Rattle.hack_words.specs.declared.cli.edits.Edits.TheVariants as edits
 
 pub restore_is : (does : Edits) → is_restore does ≡ true → does ≡ edits.Restore
 restore_is edits.None on = cc

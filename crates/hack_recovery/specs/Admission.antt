@@ -3,12 +3,12 @@ use Rattle.std.specs.Prelude.{◌≡◌, ◌&&◌, ◌||◌, Bool, true, false, 
 use Rattle.hack_base.specs.Names.{Name}
 use Rattle.hack_recovery.specs.declared.admit.Way.{Way}
 use Rattle.hack_recovery.specs.declared.admit.Way.TheVariants.{Plain, Guarded}
-use Rattle.hack_recovery.specs.declared.asked.Edits.{Edits}
+use Rattle.hack_words.specs.declared.cli.edits.Edits.{Edits}
 use Rattle.hack_recovery.specs.declared.fault.CallFault.{CallFault}
 use Rattle.hack_recovery.specs.declared.fault.CallFault.TheVariants.{Memory, Busy, Unlocked}
 use Rattle.hack_recovery.specs.declared.locks.Holder.{Holder}
 use Rattle.hack_recovery.specs.declared.locks.Holder.TheVariants.{Ours, Theirs, Unknown}
-use Rattle.hack_recovery.specs.AskedEdits.{is_change, is_edit}
+use Rattle.hack_words.specs.Edits.{is_change, is_edit}
 use Rattle.hack_recovery.specs.LockEvents.{LocksView, after_asking}
 
 -- there is something to guard: the call edits manifests, or an interrupted one left something

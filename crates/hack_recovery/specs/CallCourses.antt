@@ -25,11 +25,12 @@ use Rattle.hack_term.specs.declared.term.Term.{Term}
 use Rattle.hack_words.specs.declared.cli.env.Env.{Env}
 use Rattle.hack_recovery.specs.declared.admit.Way.{Way}
 use Rattle.hack_recovery.specs.declared.admit.Way.TheVariants.{Plain, Guarded}
-use Rattle.hack_recovery.specs.declared.asked.Edits.{Edits}
-use Rattle.hack_recovery.specs.declared.asked.Edits.TheVariants as edits
+use Rattle.hack_words.specs.declared.cli.edits.Edits.{Edits}
+use Rattle.hack_words.specs.declared.cli.edits.Edits.TheVariants as edits
 use Rattle.hack_recovery.specs.declared.fault.CallFault.{CallFault}
 use Rattle.hack_recovery.specs.declared.fault.CallFault.TheVariants.{Memory}
-use Rattle.hack_recovery.specs.AskedEdits.{AsksForEdits, AsksToPrint, AsksVerbose, is_change, is_restore}
+use Rattle.hack_recovery.specs.AskedEdits.{AsksForEdits, AsksToPrint, AsksVerbose}
+use Rattle.hack_words.specs.Edits.{is_change, is_restore}
 use Rattle.hack_recovery.specs.Admission.{IsAdmitted}
 use Rattle.hack_places.specs.CallPlaces.{ArePlacesOf, PlacesAt, is_left}
 use Rattle.hack_places.specs.FileLooks.{Unchanged}

@@ -15,7 +15,7 @@ use Rattle.hack_starts.specs.Events.{Event}
 use Rattle.hack_words.specs.declared.cli.env.Env.{Env}
 use Rattle.hack_recovery.specs.AskedEdits.{AsksForEdits}
 use Rattle.hack_recovery.specs.Ready.{Both, GetReady}
-use Rattle.hack_recovery.specs.declared.asked.Edits.TheVariants as edits
+use Rattle.hack_words.specs.declared.cli.edits.Edits.TheVariants as edits
 
 -- the command line asks for nothing but to restore what an interrupted call left
 abbrev pub AsksToRestore : Env → List Name → Type 0

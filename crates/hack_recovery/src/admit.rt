@@ -3,9 +3,9 @@
 ghost use Rattle.std.specs.Prelude.{◌≡◌};
 ghost use Rattle.hack_recovery.specs.Admission.{IsAdmitted, needs_lock, way_of};
 
-use crate::asked::Edits;
 use crate::fault::CallFault;
 use crate::locks::{Holder, Locks};
+use hack_words::cli::Edits;
 use std::alloc::Global;
 
 /// How a call may go on.

@@ -7,50 +7,13 @@ ghost use Rattle.hack_words.specs.Start.{wants_rustup as rustup_wanted};
 ghost use Rattle.hack_run.specs.Readings.{IsEarlyReading};
 ghost use Rattle.hack_run.specs.TemporaryEdits.{RestoresEdits};
 ghost use Rattle.hack_recovery.specs.AskedEdits.{AsksForEdits, AsksToPrint, AsksVerbose};
-ghost use Rattle.hack_recovery.specs.AskedEdits.{edits_asked, edits_by, is_change, is_edit};
-ghost use Rattle.hack_recovery.specs.AskedEdits.{manifest_by, prints_by, verbose_by};
+ghost use Rattle.hack_recovery.specs.AskedEdits.{edits_by, manifest_by, prints_by, verbose_by};
 
 use hack_base::copies::copy_of;
 use hack_run::reading::Reading;
 use hack_versions::rustup::Rustup;
-use hack_words::cli::{Args, CliFault, Env, Parsed, wants_rustup};
+use hack_words::cli::{CliFault, Edits, Env, Parsed, wants_rustup};
 use std::alloc::{AllocError, Global};
-
-/// What a call does to manifests.
-#[derive(Clone, Copy, Debug, PartialEq, Eq)]
-pub enum Edits {
-    /// They stay unchanged.
-    None,
-    /// They are edited and restored.
-    Temporary,
-    /// They are edited permanently.
-    Permanent,
-    /// They stay unchanged, but for what an interrupted call left: that is restored, and nothing
-    /// else is done.
-    Restore,
-}
-
-impl Edits {
-    /// Whether manifests are edited at all.
-    pub fn is_edit(self) -> bool
-        ensures { result ≡ is_edit self }
-    {
-        match self {
-            Edits::None | Edits::Restore => false,
-            Edits::Temporary | Edits::Permanent => true,
-        }
-    }
-
-    /// Whether manifests are changed at all, by an edit or by restoring them.
-    pub fn is_change(self) -> bool
-        ensures { result ≡ is_change self }
-    {
-        match self {
-            Edits::None => false,
-            Edits::Temporary | Edits::Permanent | Edits::Restore => true,
-        }
-    }
-}
 
 /// What a command line asks for: whether it only prints, what is done to manifests, and the one that
 /// it names.
@@ -64,21 +27,6 @@ pub struct Asked {
     pub manifest_path: Option<String>,
     /// What the command line is read into, unless an argument needs rustup's version.
     pub reading: Option<Reading>,
-}
-
-/// What arguments do to manifests.
-pub fn edits_of(args: &Args) -> Edits
-    ensures { result ≡ edits_asked args.now }
-{
-    if args.restore {
-        Edits::Restore
-    } else if args.remove_dev_deps {
-        Edits::Permanent
-    } else if args.no_dev_deps || args.no_private {
-        Edits::Temporary
-    } else {
-        Edits::None
-    }
 }
 
 impl Asked {
@@ -151,7 +99,7 @@ fn edits_by(parsed: &Parsed) -> Edits
     ensures { result ≡ edits_by parsed.now }
 {
     match parsed {
-        Parsed::Args(args) => edits_of(args),
+        Parsed::Args(args) => args.edits(),
         Parsed::Print(_) | Parsed::List => Edits::None,
     }
 }

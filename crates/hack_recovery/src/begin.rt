@@ -14,7 +14,7 @@ ghost use Rattle.hack_places.specs.PlacesView.{places_view};
 ghost use Rattle.hack_run.specs.Readings.{IsEarlyReading};
 ghost use Rattle.hack_files.specs.View.{files_view};
 
-use crate::asked::{Asked, Edits};
+use crate::asked::Asked;
 use crate::locks::Locks;
 use hack_base::copies::text_in;
 use hack_files::fs::Files;
@@ -23,7 +23,7 @@ use hack_places::look::LookFault;
 use hack_places::places::{Places, place_at};
 use hack_places::workspace::workspace;
 use hack_run::reading::Reading;
-use hack_words::cli::Env;
+use hack_words::cli::{Edits, Env};
 use std::alloc::{AllocError, Global};
 
 /// What a call does to manifests, and where its journal lies.

@@ -7,7 +7,8 @@ ghost use Rattle.hack_base.specs.Names.{names_of};
 ghost use Rattle.hack_base.specs.Streams.{stream_of};
 ghost use Rattle.hack_journal.specs.Rows.{spot_of};
 ghost use Rattle.hack_journaled.specs.Journals.{contents_seen};
-ghost use Rattle.hack_recovery.specs.AskedEdits.{AsksVerbose, is_restore};
+ghost use Rattle.hack_recovery.specs.AskedEdits.{AsksVerbose};
+ghost use Rattle.hack_words.specs.Edits.{is_restore};
 ghost use Rattle.hack_recovery.specs.CallCourses.{Continues, IsCallCourse, RunsOverJournal};
 ghost use Rattle.hack_recovery.specs.CallCourses.{CopiesAndRuns, IsJournaledCall, IsLockedCourse};
 ghost use Rattle.hack_recovery.specs.CallCourses.{PerformsUnjournaled};
@@ -25,7 +26,6 @@ ghost use Rattle.hack_files.specs.View.{FilesView, files_view};
 ghost use Rattle.hack_run.specs.Worlds.{IsSameHost, IsStatus, host_view};
 
 use crate::admit::{Way, admit};
-use crate::asked::Edits;
 use crate::begin::{Begun, Halt, begin};
 use crate::closing::{close, tell_unkept};
 use crate::fault::CallFault;
@@ -48,6 +48,7 @@ use hack_run::host::Host;
 use hack_run::reading::Reading;
 use hack_starts::starts::Starts;
 use hack_term::term::Term;
+use hack_words::cli::Edits;
 
 /// Performs a call as `run` does, and returns its exit status, the files, the lockfiles and
 /// `unkept`. Unless it only prints, it first restores what an interrupted call left edited, where no

@@ -4,7 +4,7 @@
 ghost use Rattle.std.specs.Prelude.{◌≡◌, ◌⊎◌, ℕ, IfSome, codes, false, not, true};
 ghost use Rattle.hack_base.specs.Names.{names_of};
 ghost use Rattle.hack_base.specs.Streams.{Stream, WritesText, stream_of};
-ghost use Rattle.hack_recovery.specs.AskedEdits.{is_change};
+ghost use Rattle.hack_words.specs.Edits.{is_change};
 ghost use Rattle.hack_recovery.specs.CallCourses.{PerformsUnjournaled};
 ghost use Rattle.hack_recovery.specs.GuardEvents.{GuardsView};
 ghost use Rattle.hack_recovery.specs.LockEvents.{LocksView};

@@ -1,6 +1,7 @@
 pub mod ParseAnswers
 pub mod ArgsView
 pub mod AskedColoring
+pub mod Edits
 pub mod CommandLine
 pub mod EnvView
 pub mod RustupView

@@ -2,6 +2,7 @@
 
 mod args;
 mod coloring;
+mod edits;
 mod env;
 mod laws;
 mod notes;
@@ -10,6 +11,7 @@ mod start;
 
 pub use args::Args;
 pub use coloring::coloring_asked;
+pub use edits::Edits;
 pub use env::Env;
 pub use hack_features::Feature;
 pub use hack_options::{Help, Opt};

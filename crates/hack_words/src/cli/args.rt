@@ -10,9 +10,11 @@ ghost use Rattle.hack_rules.specs.AskedFields.{verbose_words};
 ghost use Rattle.hack_rules.specs.ListsView.{AreListsOf};
 ghost use Rattle.hack_rules.specs.Rules.{counts};
 ghost use Rattle.hack_words.specs.CommandLine.{ComesTo};
+ghost use Rattle.hack_words.specs.Edits.{edits_asked};
 ghost use Rattle.hack_words.specs.ParseAnswers.{AnswersCommandLine, BreakNoRule, Refuses};
 ghost use Rattle.hack_words.specs.ParseAnswers.{around_of};
 
+use crate::cli::edits::Edits;
 use crate::cli::env::Env;
 use crate::cli::parse::{Parsed, Surroundings, read_words};
 use hack_base::copies::{copy_of, push_copies};
@@ -134,6 +136,21 @@ impl Args {
             rustup: &rustup,
         };
         read_words(alloc, around, words)
+    }
+
+    /// What these arguments do to manifests.
+    pub fn edits(&self) -> Edits
+        ensures { result ≡ edits_asked self.now }
+    {
+        if self.restore {
+            Edits::Restore
+        } else if self.remove_dev_deps {
+            Edits::Permanent
+        } else if self.no_dev_deps || self.no_private {
+            Edits::Temporary
+        } else {
+            Edits::None
+        }
     }
 }
 

@@ -7,7 +7,8 @@ use Rattle.hack_files.specs.View.{FilesView, files_view}
 use Rattle.hack_run.specs.Worlds.{HostView, host_view}
 use Rattle.hack_session.specs.StepOutput.{streams}
 use Rattle.hack_places.specs.PlacesView.{places_view}
-use Rattle.hack_recovery.specs.AskedEdits.{AsksForEdits, is_change, is_restore}
+use Rattle.hack_recovery.specs.AskedEdits.{AsksForEdits}
+use Rattle.hack_words.specs.Edits.{is_change, is_restore}
 use Rattle.hack_recovery.specs.CallCourses.{CannotSee}
 use Rattle.hack_recovery.specs.CallCourses.IsCallCourse.{printed, starved, turned_away, under_its_lock}
 use Rattle.hack_recovery.specs.LaneCalls.{plain, unperformed}
@@ -15,7 +16,7 @@ use Rattle.hack_recovery.specs.Ready.{Both}
 use Rattle.hack_recovery.specs.Ready.GetReady.{looked_at}
 use Rattle.hack_recovery.specs.Scenes.{Scene, scene_by, scene_of, scene_with}
 use Rattle.hack_recovery.specs.Telling.{SaysUnseen}
-use Rattle.hack_recovery.specs.declared.asked.Edits.{Edits}
+use Rattle.hack_words.specs.declared.cli.edits.Edits.{Edits}
 use Rattle.hack_recovery.proofs.CallLemmas.{plain_course, unseen_course}
 use Rattle.hack_recovery.proofs.LaneLemmas.{asked_to, behind, in_lanes_or_not, ready_now, restore_is}
 use Rattle.hack_recovery.proofs.perform.perform.Goals as goal
