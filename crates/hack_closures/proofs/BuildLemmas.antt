@@ -11,11 +11,11 @@ use Rattle.hack_base.specs.Names.{Name}
 use Rattle.hack_conflicts.specs.Sets.{Has, mark, rows_of}
 use Rattle.hack_conflicts.specs.Rules.{IsPreorder, IsChoice, HasOneOf, Meets, size_of, enables}
 use Rattle.hack_conflicts.specs.declared.rules.Rules.{Rules as SearchRules}
-use Rattle.hack_features.specs.FeatureMap.{Reaches}
+use Rattle.hack_routes.specs.FeatureMap.{Reaches}
 use Rattle.hack_sets.specs.Sets.{IsSelection, IsWithin}
 use Rattle.hack_features.specs.Rules.{Choice, names_at, CandidateReaches, IsExclusive, IsRequired, IsWanted, IsEnabledBy, EnableTheSame, IsFirstCover}
 use Rattle.hack_features.specs.Samples.{IsOn}
-use Rattle.hack_features.specs.Tables.{bit}
+use Rattle.hack_routes.specs.Rows.{bit}
 use Rattle.hack_features.proofs.CoverLemmas.{required_same}
 use Rattle.hack_features.proofs.Decided.{Told, had, bool_told}
 use Rattle.hack_features.proofs.MemberLemmas.{both_told}

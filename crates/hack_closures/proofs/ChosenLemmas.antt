@@ -11,10 +11,10 @@ use Rattle.hack_base.specs.Names.{Name}
 use Rattle.hack_conflicts.specs.Sets.{Has, mark, rows_of}
 use Rattle.hack_conflicts.specs.Rules.{IsPreorder, IsChoice, IsClosed, IsExclusive as IsSearchExclusive, HasOneOf, HasAbove, Meets, IsRequired as IsSearchRequired, enables, row_of}
 use Rattle.hack_conflicts.specs.declared.rules.Rules.{Rules as SearchRules}
-use Rattle.hack_features.specs.FeatureMap.{Reaches}
+use Rattle.hack_routes.specs.FeatureMap.{Reaches}
 use Rattle.hack_sets.specs.Sets.{IsSelection}
 use Rattle.hack_features.specs.Rules.{Choice, CandidateReaches, IsRequired, IsWanted}
-use Rattle.hack_features.specs.Tables.{bit}
+use Rattle.hack_routes.specs.Rows.{bit}
 use Rattle.hack_sets.proofs.Listing.{selection_none}
 use Rattle.hack_closures.specs.Closures.{AreAlone, AreChosen, IsClosureOf, TurnsOn, candidate_at}
 use Rattle.hack_closures.specs.Internal.{AreRows, IsPair}

@@ -3,7 +3,7 @@ use Rattle.std.proofs.Common.{ℕ, List, [], ◌∷◌, get_or, sym, subst, inl,
 use Rattle.std.proofs.lemmas.List.Elements.{All-contains, Contains-get_or}
 use Rattle.hack_base.proofs.Members.{Contains-nil, Contains-cons_cases, Contains-head}
 use Rattle.hack_base.specs.Names.{Name}
-use Rattle.hack_features.specs.FeatureMap.{here, Enables}
+use Rattle.hack_routes.specs.FeatureMap.{here, Enables}
 use Rattle.hack_features.specs.Rules.{Choice, names_at, names_in, IsEnabledBy}
 use Rattle.hack_features.specs.Samples.{IsOn}
 use Rattle.hack_features.specs.Settings.{IsOnWithAll, IsEnabledByKey}

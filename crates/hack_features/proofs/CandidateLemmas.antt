@@ -5,7 +5,7 @@ use Rattle.std.proofs.lemmas.List.{get_or-map, length-map}
 use Rattle.std.specs.Borrow.{Bor}
 use Rattle.hack_features.specs.declared.feature.Feature.{Feature}
 use Rattle.hack_features.specs.Feature.{group_of, candidates_of}
-use Rattle.hack_features.specs.Tables.{cell}
+use Rattle.hack_routes.specs.Rows.{cell}
 
 -- a table has no entry past its rows
 pub past_end : (rows : List (List Bool)) (p q : ℕ) → length rows ≤ p → not (cell rows p q) ≡ true

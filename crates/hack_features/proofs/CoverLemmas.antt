@@ -15,10 +15,10 @@ use Rattle.hack_features.proofs.Coverage.{Chain-append, named_in, within_left, e
 use Rattle.hack_features.proofs.Single.{member_of, key_from}
 use Rattle.hack_sets.proofs.Listing.{selection_pop, selection_push, selection_up, before_new, before_push}
 use Rattle.hack_base.specs.Names.{Name}
-use Rattle.hack_features.specs.FeatureMap.{IsKey, here, Enables}
-use Rattle.hack_features.specs.Tables.{leads}
-use Rattle.hack_features.specs.Places.{name_at, ArePlaced}
-use Rattle.hack_features.specs.declared.reach.Edges.TheVariants.{Enabling}
+use Rattle.hack_routes.specs.FeatureMap.{IsKey, here, Enables}
+use Rattle.hack_routes.specs.Rows.{leads}
+use Rattle.hack_routes.specs.Places.{name_at, ArePlaced}
+use Rattle.hack_routes.specs.declared.reach.Edges.TheVariants.{Enabling}
 use Rattle.hack_features.proofs.TableLemmas.{placed, shown_at, low_at}
 use Rattle.hack_sets.specs.Sets.{IsSelection, IsBefore}
 use Rattle.hack_features.specs.Rules.{Choice, names_at, IsEnabledBy, EnableTheSame, IsRedundant, Serves, IsRequired, IsWanted, IsFirstCover}

@@ -6,7 +6,7 @@ use Rattle.std.proofs.lemmas.List.Edits.{length-remove}
 use Rattle.std.proofs.lemmas.List.Quantifiers.{all_pairs_remove}
 use Rattle.hack_base.proofs.Members.{Contains-nil, Contains-cons_cases}
 use Rattle.hack_base.specs.Names.{Name}
-use Rattle.hack_features.specs.FeatureMap.{Chain, here, step, Enables, IsKey}
+use Rattle.hack_routes.specs.FeatureMap.{Chain, here, step, Enables, IsKey}
 use Rattle.hack_sets.specs.Sets.{IsSelection, IsWithin, Pairwise}
 use Rattle.hack_features.specs.Rules.{Choice, names_at, names_in, IsEnabledBy, IsRedundant, NotBothReach, IsExclusive, IsRequired, IsPermitted, Covers, IsWanted}
 

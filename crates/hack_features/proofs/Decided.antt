@@ -11,17 +11,18 @@ use Rattle.std.proofs.lemmas.List.Elements.{All-head, All-tail, All-nil, All-con
 use Rattle.std.proofs.lemmas.Map.Views.{list_any-from_Contains, Contains-from_any}
 use Rattle.hack_base.proofs.Members.{Contains-nil, Contains-cons_cases, Contains-head, Contains-tail}
 use Rattle.hack_base.proofs.NameLemmas.{same_text, differ}
-use Rattle.hack_features.proofs.ReachLemmas.{all_targets, adds-one, adds-there, adds-target, adds-no_target, adds-no_targets, adds-edges, Searching, searching-start, searching-next, searching-bound, searching-end}
+use Rattle.hack_routes.proofs.ReachLemmas.{all_targets, adds-one, adds-there, adds-target, adds-no_target, adds-no_targets, adds-edges, Searching, searching-start, searching-next, searching-bound, searching-end}
 use Rattle.hack_base.specs.Names.{Name}
-use Rattle.hack_features.specs.FeatureMap.{FeatureMap, values_at, IsKey, Chain, Enables, EnablesOneOf, Reaches}
-use Rattle.hack_features.specs.Search.{edge_of}
-use Rattle.hack_features.specs.InternalSearch.{target_of, IsTarget, Adds, IsReach}
-use Rattle.hack_features.specs.Places.{name_at, AreAt, AreAllAt, AreRoutes, ArePlaced}
+use Rattle.hack_routes.specs.FeatureMap.{FeatureMap, values_at, IsKey, Chain, Enables, EnablesOneOf, Reaches}
+use Rattle.hack_routes.specs.Search.{edge_of}
+use Rattle.hack_routes.specs.InternalSearch.{target_of, IsTarget, Adds, IsReach}
+use Rattle.hack_routes.specs.Places.{name_at, AreAt, AreAllAt, AreRoutes, ArePlaced}
 use Rattle.hack_sets.specs.Sets.{Pairwise}
 use Rattle.hack_features.specs.Rules.{Choice, names_at, names_in, SparesNames, NotBothReach, Serves, CandidateReaches}
-use Rattle.hack_features.specs.Tables.{AreTables, is_exclusive, is_required, cell, bit, count_at, leads}
-use Rattle.hack_features.specs.declared.reach.Edges.{Edges}
-use Rattle.hack_features.specs.declared.reach.Edges.TheVariants.{Enabling, Reaching}
+use Rattle.hack_features.specs.Tables.{AreTables, is_exclusive, is_required, count_at}
+use Rattle.hack_routes.specs.Rows.{cell, bit, leads}
+use Rattle.hack_routes.specs.declared.reach.Edges.{Edges}
+use Rattle.hack_routes.specs.declared.reach.Edges.TheVariants.{Enabling, Reaching}
 
 -- P holds, or it doesn't
 abbrev pub Told : Type 0 → Type 0

@@ -13,27 +13,14 @@ use Rattle.std.proofs.lemmas.Map.Text.{is_eq-slice_cmp}
 use Rattle.std.proofs.lemmas.List.{take_more, get_or-map, length-map}
 use Rattle.hack_base.proofs.Members.{Contains-head, Contains-tail, Contains-nil, Contains-cons_cases}
 use Rattle.hack_base.proofs.NameLemmas.{same_text, differ}
-use Rattle.hack_features.proofs.NameSetLemmas.{has-more, has_just-nil}
+use Rattle.hack_routes.proofs.NameSetLemmas.{has-more, has_just-nil}
 use Rattle.hack_base.specs.Names.{Name, names_of}
-use Rattle.hack_features.specs.FeatureMap.{FeatureMap, IsKey, Enables, here}
-use Rattle.hack_features.specs.Deps.{NameSet, has_name, get_at, IsDepsOf, AreDepsOf, AreServers, ServeGroups, dropped, kept}
+use Rattle.hack_routes.specs.FeatureMap.{FeatureMap, IsKey, Enables, here}
+use Rattle.hack_features.specs.Deps.{IsDepsOf, AreDepsOf, AreServers, ServeGroups, dropped, kept}
+use Rattle.hack_routes.specs.NameSets.{NameSet, has_name, get_at}
 use Rattle.hack_features.specs.InternalDeps.{IsServedBy}
 use Rattle.hack_features.specs.Feature.{group_of, groups_of}
 use Rattle.hack_features.specs.declared.feature.Feature.{Feature}
-
--- ---- the keys of a map
-
-is_key-step : {V : Type 0} (x k : Name) (ks : List Name) (o : Option V) (v : V) (b : Bool) → bytes_eq x k ≡ b → (IsTrue (is_some o) ↔ Contains ks x) → IsTrue (is_some (cond b (Some v) o)) ↔ Contains (k ∷ ks) x
-is_key-step x k ks o v true e h = (λ t. subst (λ n. Contains (n ∷ ks) x) (same_text x k e) (Contains-head x ks), λ c. refl)
-is_key-step x k ks o v false e h = (
-  λ t. Contains-tail k ks x (h.0 t),
-  λ c. elim (Contains-cons_cases k ks x c) [ inl s ↦ absurd (differ x k e (sym s)) | inr w ↦ h.1 w ],
-)
-
-pub is_key-entries : {Y Z : Type 0} (x : Name) (es : List (String Y × Vec (String Y) Z)) → IsKey (map (λ e. (string_bytes e.0, names_of e.1.items)) es) x ↔ Contains (names_of (map (λ e. e.0) es)) x
-is_key-entries x [] = (λ t. absurd (let z : false ≡ true = t in cc), λ c. absurd (Contains-nil x c))
-is_key-entries x (e ∷ es) =
-    is_key-step x (string_bytes e.0) (names_of (map (λ e. e.0) es)) (lookup (bytes_eq x) (map (λ e. (string_bytes e.0, names_of e.1.items)) es)) (names_of e.1.items) (bytes_eq x (string_bytes e.0)) refl (is_key-entries x es)
 
 -- ---- the keys that serve a group
 

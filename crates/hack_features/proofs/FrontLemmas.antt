@@ -6,7 +6,8 @@ use Rattle.std.proofs.lemmas.List.Folds.{list_all-append}
 use Rattle.std.proofs.lemmas.List.Sums.{sum_by-cons}
 use Rattle.hack_features.specs.declared.rules.Rules.{Rules}
 use Rattle.hack_samples.specs.Sets.{rows_of}
-use Rattle.hack_features.specs.Tables.{keeps_depth, is_lean, is_exclusive, cell, count_at}
+use Rattle.hack_features.specs.Tables.{keeps_depth, is_lean, is_exclusive, count_at}
+use Rattle.hack_routes.specs.Rows.{cell}
 use Rattle.hack_features.specs.View.{may_of}
 
 one_more : (s : List ℕ) (p : ℕ) → length (p ∷ s) ≡ length (s ++ p ∷ [])

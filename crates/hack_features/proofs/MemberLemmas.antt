@@ -14,7 +14,8 @@ use Rattle.hack_base.proofs.Members.{Contains-nil, Contains-cons_cases, Contains
 use Rattle.hack_base.proofs.Passes.{some_passes, any_passes, all_pass, each_passes}
 use Rattle.hack_features.specs.declared.rules.Rules.{Rules}
 use Rattle.hack_samples.specs.Sets.{rows_of}
-use Rattle.hack_features.specs.Tables.{keeps_depth, is_lean, is_exclusive, cell, count_at, bit}
+use Rattle.hack_features.specs.Tables.{keeps_depth, is_lean, is_exclusive, count_at}
+use Rattle.hack_routes.specs.Rows.{cell, bit}
 use Rattle.hack_features.specs.View.{may_of}
 use Rattle.hack_features.specs.Samples.{positions_from, positions_of}
 use Rattle.hack_features.proofs.FrontLemmas.{all-same}

@@ -12,14 +12,15 @@ use Rattle.std.proofs.lemmas.Bool.{or_right, and_parts, and_from}
 use Rattle.std.proofs.lemmas.List.{get_or_default, get_or-map}
 use Rattle.hack_base.proofs.Members.{lt_or_same}
 use Rattle.hack_base.proofs.NameLemmas.{same_text, differ}
-use Rattle.hack_features.proofs.NameSetLemmas.{has-more}
+use Rattle.hack_routes.proofs.NameSetLemmas.{has-more}
 use Rattle.hack_features.proofs.TableLemmas.{differ_at, marked_or, not_same}
 use Rattle.hack_base.specs.Names.{Name, names_behind}
-use Rattle.hack_features.specs.FeatureMap.{FeatureMap, IsKey, Enables}
-use Rattle.hack_features.specs.Deps.{NameSet, has_name, get_at, IsDepsOf, AreDepsOf}
-use Rattle.hack_features.specs.Tables.{cell}
-use Rattle.hack_features.specs.Places.{name_at, AreRoutes}
-use Rattle.hack_features.specs.declared.reach.Edges.TheVariants.{Enabling}
+use Rattle.hack_routes.specs.FeatureMap.{FeatureMap, IsKey, Enables}
+use Rattle.hack_features.specs.Deps.{IsDepsOf, AreDepsOf}
+use Rattle.hack_routes.specs.NameSets.{NameSet, has_name, get_at}
+use Rattle.hack_routes.specs.Rows.{cell}
+use Rattle.hack_routes.specs.Places.{name_at, AreRoutes}
+use Rattle.hack_routes.specs.declared.reach.Edges.TheVariants.{Enabling}
 
 -- the name that a loop over the names holds is the one at its place
 pub here_at : (refs items : List (Bor Name)) (k : ℕ) → items ≡ refs → k < length items → name_at (names_behind refs) k ≡ (get_or items k (record { ref_ptr = (0, 0); now = [] })).now

@@ -11,9 +11,9 @@ use Rattle.hack_features.specs.InternalTables.{wanted_test}
 use Rattle.hack_features.specs.View.{choice_of, size_of, may_of, whole_of}
 use Rattle.hack_features.specs.InternalView.{AreTablesOf}
 use Rattle.hack_sets.specs.Questions.{IsWholeSet, IsCheap}
-use Rattle.hack_features.specs.RoutesView.{routed_names}
+use Rattle.hack_routes.specs.RoutesView.{routed_names}
 use Rattle.hack_features.specs.PlacedView.{IsPlaced}
-use Rattle.hack_features.specs.declared.reach.Edges.TheVariants.{Enabling}
+use Rattle.hack_routes.specs.declared.reach.Edges.TheVariants.{Enabling}
 use Rattle.hack_features.proofs.Decided.{are_tables, are_placed}
 use Rattle.hack_base.proofs.Members.{Contains-map}
 use Rattle.hack_features.proofs.CandidateLemmas.{length-candidates_of}

@@ -21,9 +21,9 @@ use Rattle.hack_sets.specs.Sets.{IsSelection, IsBefore, Pairwise}
 use Rattle.hack_samples.specs.Sets.{rows_of}
 use Rattle.hack_features.specs.Rules.{Choice, names_at, IsEnabledBy, IsListed}
 use Rattle.hack_features.specs.InternalCover.{set_enables_test}
-use Rattle.hack_features.specs.Tables.{bit}
-use Rattle.hack_features.specs.Places.{name_at, AreAt}
-use Rattle.hack_features.specs.RoutesView.{routed_names}
+use Rattle.hack_routes.specs.Rows.{bit}
+use Rattle.hack_routes.specs.Places.{name_at, AreAt}
+use Rattle.hack_routes.specs.RoutesView.{routed_names}
 use Rattle.hack_features.specs.View.{choice_of, size_of, may_of, whole_of}
 use Rattle.hack_features.specs.Samples.{positions_of, IsOn, SetShows, CoversPatterns, IsSample, IsNeeded, IsLean}
 use Rattle.hack_features.specs.InternalSamples.{one_leads, providers_of, all_providers}

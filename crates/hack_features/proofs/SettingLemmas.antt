@@ -12,18 +12,18 @@ use Rattle.hack_base.proofs.Members.{Contains-filter, Contains-filter_from}
 use Rattle.hack_base.proofs.Passes.{some_passes, any_passes, all_pass, each_passes}
 use Rattle.hack_base.specs.Names.{Name}
 use Rattle.hack_samples.specs.declared.sets.Setting.{Setting}
-use Rattle.hack_features.specs.declared.reach.Edges.TheVariants.{Enabling}
-use Rattle.hack_features.specs.FeatureMap.{IsKey, Enables}
-use Rattle.hack_features.specs.Places.{name_at, AreAt, AreAllAt, ArePlaced}
+use Rattle.hack_routes.specs.declared.reach.Edges.TheVariants.{Enabling}
+use Rattle.hack_routes.specs.FeatureMap.{IsKey, Enables}
+use Rattle.hack_routes.specs.Places.{name_at, AreAt, AreAllAt, ArePlaced}
 use Rattle.hack_features.specs.Rules.{Choice, names_at, names_in, IsEnabledBy}
 use Rattle.hack_features.specs.InternalSamples.{one_leads}
-use Rattle.hack_features.specs.Tables.{bit, leads}
+use Rattle.hack_routes.specs.Rows.{bit, leads}
 use Rattle.hack_features.specs.Settings.{IsEnabledByKey, SaysOfEach, AreSettings, AreSettingsOfAll, IsOfCandidates}
 use Rattle.hack_samples.specs.Samples.{RowShows}
 use Rattle.hack_features.specs.InternalSettings.{leads_to_each, AreKeyPlaces}
 use Rattle.hack_features.specs.View.{choice_of}
 use Rattle.hack_samples.specs.Sets.{rows_of}
-use Rattle.hack_features.specs.RoutesView.{routed_names as names_by_place}
+use Rattle.hack_routes.specs.RoutesView.{routed_names as names_by_place}
 use Rattle.hack_features.specs.declared.rules.Rules.{Rules}
 use Rattle.hack_features.specs.declared.placed.Placed.{Placed}
 use Rattle.hack_base.proofs.NameLemmas.{length-shown}

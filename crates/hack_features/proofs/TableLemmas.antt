@@ -4,7 +4,7 @@ use Rattle.std.specs.Prelude.{count_by, sum_by, not, nat_le, ◌==◌, ◌||◌,
 use Rattle.std.specs.List.{list_all, list_any, filter_map, cons_option}
 use Rattle.std.proofs.lemmas.List.{map-append, get_or_default, get_or_push, take_more}
 use Rattle.std.proofs.Math.ListN.{get_or-append}
-use Rattle.hack_features.proofs.MarkLemmas.{nil_from}
+use Rattle.hack_routes.proofs.MarkLemmas.{nil_from}
 use Rattle.std.proofs.lemmas.Bool.{leb-true, le-leb, and_cases, and_parts, and_from, or_cases, or_right, cases_eq}
 use Rattle.std.proofs.lemmas.Bool.Decides.{eqb_tells}
 use Rattle.std.proofs.lemmas.List.Sums.{sum_by-cons}
@@ -15,44 +15,18 @@ use Rattle.hack_base.proofs.NameLemmas.{from_not_true, from_not_false}
 use Rattle.hack_features.proofs.Coverage.{named_in}
 use Rattle.hack_features.proofs.Single.{member_of}
 use Rattle.hack_base.specs.Names.{Name}
-use Rattle.hack_features.specs.FeatureMap.{FeatureMap, IsKey, Chain, Enables, Reaches, EnablesOneOf}
-use Rattle.hack_features.specs.Search.{edge_of}
+use Rattle.hack_routes.specs.FeatureMap.{FeatureMap, IsKey, Chain, Enables, Reaches, EnablesOneOf}
+use Rattle.hack_routes.specs.Search.{edge_of}
 use Rattle.hack_features.specs.Deps.{IsDropped}
-use Rattle.hack_features.specs.Places.{name_at, AreAt, AreRoutes, ArePlaced}
-use Rattle.hack_features.specs.declared.reach.Edges.{Edges}
-use Rattle.hack_features.specs.declared.reach.Edges.TheVariants.{Enabling, Reaching}
+use Rattle.hack_routes.specs.Places.{name_at, AreAt, AreRoutes, ArePlaced}
+use Rattle.hack_routes.specs.declared.reach.Edges.{Edges}
+use Rattle.hack_routes.specs.declared.reach.Edges.TheVariants.{Enabling, Reaching}
 use Rattle.hack_sets.specs.Sets.{IsSelection, Pairwise}
 use Rattle.hack_features.specs.Rules.{Choice, unlifted_groups, names_at, names_in, SparesNames, Spares, IsRedundant, NotBothReach, IsExclusive, Serves, IsRequired, CandidateReaches}
-use Rattle.hack_features.specs.Tables.{bit, count_at, cell, is_lean, is_exclusive, is_required, leads}
+use Rattle.hack_features.specs.Tables.{count_at, is_lean, is_exclusive, is_required}
+use Rattle.hack_routes.specs.Rows.{bit, cell, leads}
 use Rattle.hack_features.specs.InternalTables.{spares_test, serves_test, Counts, Matched, CountsHits, SaysServers, RowsServe}
 use Rattle.hack_features.specs.InternalTables as table
-
--- which candidate spares which
-
-filter_map_from-go : {A B : Type 0} (f : A → Option B) (x : A) (xs : List A) (y : B) (o : Option B) → f x ≡ o → Contains (cons_option o (filter_map f xs)) y
-    → (Contains (filter_map f xs) y → (z : A) × Contains xs z × (f z ≡ Some y)) → (z : A) × Contains (x ∷ xs) z × (f z ≡ Some y)
-filter_map_from-go f x xs y None e c again = let r = again c in (r.0, Contains-tail x xs r.0 r.1, r.2)
-filter_map_from-go f x xs y (Some v) e c again =
-    elim (Contains-cons_cases v (filter_map f xs) y c) [
-      | inl s ↦ (x, Contains-head x xs, e ∙ ap Some s)
-      | inr w ↦ let r = again w in (r.0, Contains-tail x xs r.0 r.1, r.2)
-    ]
-
-pub filter_map_from : {A B : Type 0} (f : A → Option B) (xs : List A) (y : B) → Contains (filter_map f xs) y → (x : A) × Contains xs x × (f x ≡ Some y)
-filter_map_from f [] y c = absurd (Contains-nil y c)
-filter_map_from f (x ∷ xs) y c = filter_map_from-go f x xs y (f x) refl c (filter_map_from f xs y)
-
-filter_map_has-go : {B : Type 0} (o : Option B) (ys : List B) (y : B) → Contains ys y → Contains (cons_option o ys) y
-filter_map_has-go None ys y c = c
-filter_map_has-go (Some v) ys y c = Contains-tail v ys y c
-
-pub filter_map_has : {A B : Type 0} (f : A → Option B) (xs : List A) (x : A) (y : B) → Contains xs x → f x ≡ Some y → Contains (filter_map f xs) y
-filter_map_has f [] x y c e = absurd (Contains-nil x c)
-filter_map_has f (z ∷ xs) x y c e =
-    elim (Contains-cons_cases z xs x c) [
-      | inl s ↦ subst (λ o. Contains (cons_option o (filter_map f xs)) y) (sym (ap f s ∙ e)) (Contains-head y (filter_map f xs))
-      | inr w ↦ filter_map_has-go (f z) (filter_map f xs) y (filter_map_has f xs x y w e)
-    ]
 
 -- names by their places
 module _ (edges : Edges) (m : FeatureMap) (names : List Name) (keys : List Bool) (marks : List (List Bool)) (h : AreRoutes edges m names keys marks) where

@@ -7,7 +7,8 @@ use Rattle.std.proofs.lemmas.List.Edits.{length-remove}
 use Rattle.std.proofs.lemmas.List.Elements.{All-append, All-take, All-drop, All-weaker, All-nil, All-cons, All-head, All-tail}
 use Rattle.std.proofs.lemmas.List.Sums.{AllPass-from_list_all, list_all-from_AllPass, sum_by-append, sum_by-cons, sum_by-take-drop, sum_by-drop_more}
 use Rattle.hack_features.specs.declared.rules.Rules.{Rules}
-use Rattle.hack_features.specs.Tables.{count_at, cell, keeps_depth, is_lean, is_exclusive}
+use Rattle.hack_features.specs.Tables.{count_at, keeps_depth, is_lean, is_exclusive}
+use Rattle.hack_routes.specs.Rows.{cell}
 use Rattle.hack_features.specs.View.{may_of, size_of}
 use Rattle.hack_features.specs.Samples.{positions_from, positions_of, IsSame}
 use Rattle.hack_samples.specs.Sets.{IsInside}

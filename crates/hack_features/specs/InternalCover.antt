@@ -1,7 +1,7 @@
 -- What a set still enables, by marks at the places that names lead to.
 use Rattle.std.specs.Prelude.{ℕ, List, [], Bool, length, not, ◌&&◌, ◌==◌}
 use Rattle.std.specs.List.{list_all, list_any, slice_index_or}
-use Rattle.hack_features.specs.Tables.{leads}
+use Rattle.hack_routes.specs.Rows.{leads}
 
 -- some name of a member leads to y
 abbrev pub set_enables_test : List (List Bool) → List (List ℕ) → List ℕ → ℕ → Bool

@@ -1,7 +1,7 @@
 -- What only private functions of the crate promise each other.
 use Rattle.std.specs.Prelude.{ℕ, List, Bool, map}
 use Rattle.std.specs.List.{list_any}
-use Rattle.hack_features.specs.Tables.{leads}
+use Rattle.hack_routes.specs.Rows.{leads}
 use Rattle.hack_features.specs.Samples.{positions_of}
 
 -- one of the names leads to y

@@ -2,7 +2,7 @@
 use Rattle.std.specs.Prelude.{◌<◌, ℕ, List, Bool, IsTrue, Contains, ◌↔◌}
 use Rattle.std.specs.List.{list_all}
 use Rattle.hack_features.specs.InternalSamples.{one_leads}
-use Rattle.hack_features.specs.Tables.{bit}
+use Rattle.hack_routes.specs.Rows.{bit}
 
 -- for each of the names, by place, one of these places leads to it
 abbrev pub leads_to_each : List (List Bool) → List ℕ → List ℕ → Bool

@@ -2,9 +2,10 @@
 use Rattle.std.specs.Prelude.{◌<◌, ◌+◌, ℕ, List, [], ◌∷◌, ◌++◌, Bool, not, length, Option, IsTrue, Contains, ◌↔◌, ◌&&◌, ◌==◌}
 use Rattle.std.specs.List.{slice_index_or, list_all, list_any}
 use Rattle.hack_base.specs.Names.{Name}
-use Rattle.hack_features.specs.FeatureMap.{FeatureMap, Reaches, EnablesOneOf}
+use Rattle.hack_routes.specs.FeatureMap.{FeatureMap, Reaches, EnablesOneOf}
 use Rattle.hack_features.specs.Deps.{IsDropped}
-use Rattle.hack_features.specs.Tables.{bit, cell, count_at, is_exclusive, is_required, keeps_depth, leads}
+use Rattle.hack_features.specs.Tables.{count_at, is_exclusive, is_required, keeps_depth}
+use Rattle.hack_routes.specs.Rows.{bit, cell, leads}
 
 -- the set is not empty, and keeps the depth, the exclusions and the groups
 abbrev pub wanted_test : Option ℕ → List (List ℕ) → List (List Bool) → List ℕ → Bool

@@ -1,12 +1,12 @@
 -- What `Placed` shows: the candidates and groups, as places of names.
 use Rattle.std.specs.Prelude.{List}
 use Rattle.hack_base.specs.Names.{Name}
-use Rattle.hack_features.specs.FeatureMap.{FeatureMap}
+use Rattle.hack_routes.specs.FeatureMap.{FeatureMap}
 use Rattle.hack_samples.specs.Sets.{rows_of}
-use Rattle.hack_features.specs.Places.{ArePlaced}
-use Rattle.hack_features.specs.RoutesView.{routed_names}
+use Rattle.hack_routes.specs.Places.{ArePlaced}
+use Rattle.hack_routes.specs.RoutesView.{routed_names}
 use Rattle.hack_features.specs.declared.placed.Placed.{Placed}
-use Rattle.hack_features.specs.declared.reach.Edges.{Edges}
+use Rattle.hack_routes.specs.declared.reach.Edges.{Edges}
 
 -- p has what the map says of these candidates and groups
 abbrev pub IsPlaced : Edges → FeatureMap → List (List Name) → List (List Name) → Placed → Type 0

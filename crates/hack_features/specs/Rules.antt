@@ -2,7 +2,7 @@
 use Rattle.std.specs.Prelude.{◌≡◌, ◌≢◌, ◌<◌, ℕ, List, [], ◌∷◌, flat_map, length, Option, All, Contains, ◌↔◌, ◌⊎◌, Bool, cond}
 use Rattle.std.specs.List.{slice_index_or}
 use Rattle.hack_base.specs.Names.{Name}
-use Rattle.hack_features.specs.FeatureMap.{FeatureMap, IsKey, Enables, Reaches, EnablesOneOf}
+use Rattle.hack_routes.specs.FeatureMap.{FeatureMap, IsKey, Enables, Reaches, EnablesOneOf}
 use Rattle.hack_sets.specs.Sets.{IsSelection, IsBefore, IsWithin, Pairwise}
 
 -- what the sets of a package are chosen from, and the rules; a candidate is the list of its names

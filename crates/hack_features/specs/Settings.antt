@@ -3,7 +3,7 @@ use Rattle.std.specs.Prelude.{◌≡◌, ◌<◌, ℕ, List, Bool, false, IsTrue
 use Rattle.std.specs.List.{slice_index_or}
 use Rattle.hack_base.specs.Names.{Name}
 use Rattle.hack_samples.specs.declared.sets.Setting.{Setting}
-use Rattle.hack_features.specs.FeatureMap.{FeatureMap, IsKey, Enables}
+use Rattle.hack_routes.specs.FeatureMap.{FeatureMap, IsKey, Enables}
 use Rattle.hack_features.specs.Rules.{Choice, names_at}
 use Rattle.hack_features.specs.Samples.{IsOn}
 

@@ -2,23 +2,12 @@
 use Rattle.std.specs.Prelude.{◌≡◌, ◌<◌, ℕ, List, [], Bool, false, true, not, nat_le, sum_by, length, Option, None, Some, IsTrue, ◌↔◌, ◌||◌, ◌==◌}
 use Rattle.std.specs.List.{slice_index_or, list_all, list_any}
 use Rattle.hack_sets.specs.Sets.{IsSelection}
+use Rattle.hack_routes.specs.Rows.{bit, cell}
 use Rattle.hack_features.specs.Rules.{Choice, Spares, IsExclusive, IsRequired, CandidateReaches}
-
--- the entry of a row, false past its end
-abbrev pub bit : List Bool → ℕ → Bool
-bit row p = slice_index_or row p false
 
 -- the entry of a row, 0 past its end
 abbrev pub count_at : List ℕ → ℕ → ℕ
 count_at row p = slice_index_or row p 0
-
--- the entry of a table
-abbrev pub cell : List (List Bool) → ℕ → ℕ → Bool
-cell rows p q = bit (slice_index_or rows p []) q
-
--- a chain leads from a place to another, as the marks say; a place leads to itself
-abbrev pub leads : List (List Bool) → ℕ → ℕ → Bool
-leads marks from to = from == to || cell marks from to
 
 -- the set has at most as many members as the depth, if there is one
 abbrev pub keeps_depth : Option ℕ → List ℕ → Bool

@@ -8,11 +8,11 @@ ghost use Rattle.hack_samples.specs.Sets.{rows_of};
 ghost use Rattle.hack_features.specs.Rules.{Choice, IsFirstCover, IsWanted};
 ghost use Rattle.hack_features.specs.PlacedView.{IsPlaced};
 ghost use Rattle.hack_features.specs.InternalCover.{set_enables_test, covers_test};
-ghost use Rattle.hack_features.specs.declared.reach.Edges.TheVariants.{Enabling};
+ghost use Rattle.hack_routes.specs.declared.reach.Edges.TheVariants.{Enabling};
 
-use crate::marks::row_at;
 use crate::placed::Placed;
 use crate::samples::one_leads;
+use hack_routes::marks::row_at;
 use std::alloc::{AllocError, Global};
 
 /// Returns what is left of the set after a pass over its members, the greatest first. The pass

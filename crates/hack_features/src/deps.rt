@@ -1,20 +1,21 @@
 //! What each key of a feature map enables, and which keys serve an at-least-one group.
 
 ghost use Rattle.std.specs.Prelude.{◌≡◌, ◌<◌, ◌↔◌, ◌||◌, bytes_eq, length, IsTrue, IfOk};
-ghost use Rattle.hack_features.specs.FeatureMap.{FeatureMap, feature_map};
-ghost use Rattle.hack_features.specs.Deps.{AreDepsOf, AreServers, IsDepsOf, has_name};
+ghost use Rattle.hack_routes.specs.FeatureMap.{FeatureMap, feature_map};
+ghost use Rattle.hack_features.specs.Deps.{AreDepsOf, AreServers, IsDepsOf};
+ghost use Rattle.hack_routes.specs.NameSets.{has_name};
 ghost use Rattle.hack_features.specs.InternalDeps.{IsServedBy};
 ghost use Rattle.hack_features.specs.Deps.{ServeGroups};
 ghost use Rattle.hack_features.specs.Feature.{group_of, groups_of};
-ghost use Rattle.hack_features.specs.Places.{name_at};
-ghost use Rattle.hack_features.specs.RoutesView.{routed_names};
-ghost use Rattle.hack_features.specs.InternalRoutesView.{AreRoutesOf};
-ghost use Rattle.hack_features.specs.declared.reach.Edges.TheVariants.{Enabling};
+ghost use Rattle.hack_routes.specs.Places.{name_at};
+ghost use Rattle.hack_routes.specs.RoutesView.{routed_names};
+ghost use Rattle.hack_routes.specs.InternalRoutesView.{AreRoutesOf};
+ghost use Rattle.hack_routes.specs.declared.reach.Edges.TheVariants.{Enabling};
 
 use crate::feature::Feature;
-use crate::names::Names;
-use crate::reach::Edges;
-use crate::routes::Routes;
+use hack_routes::names::Names;
+use hack_routes::reach::Edges;
+use hack_routes::routes::Routes;
 use std::alloc::{AllocError, Global};
 use std::collections::{BTreeMap, BTreeSet};
 

@@ -4,12 +4,12 @@ ghost use Rattle.std.specs.Prelude.{◌≡◌, ◌↔◌, ◌∷◌, [], ◌++�
 ghost use Rattle.std.specs.Prelude.{Contains, string_bytes};
 ghost use Rattle.std.specs.List.{join_with_byte};
 ghost use Rattle.hack_base.specs.Names.{names_of};
-ghost use Rattle.hack_features.specs.FeatureMap.{feature_map, Reaches};
+ghost use Rattle.hack_routes.specs.FeatureMap.{feature_map, Reaches};
 ghost use Rattle.std.specs.Cmp.{IsTotalOrder};
 ghost use Rattle.std.specs.Ordering.{is_eq};
 ghost use Rattle.hack_features.specs.FeatureOrder.{feature_order, AreSame};
 
-use crate::reach::{Edges, names_from};
+use hack_routes::reach::{Edges, names_from};
 use std::alloc::{AllocError, Global};
 use std::cmp::Ordering;
 use std::collections::BTreeMap;

@@ -5,12 +5,13 @@ ghost use Rattle.std.specs.Prelude.{◌≡◌, ◌≤◌, ◌++◌, ◌∷◌, �
 ghost use Rattle.std.specs.Prelude.{sum_by, IfOk};
 ghost use Rattle.std.specs.List.{list_all};
 ghost use Rattle.hack_samples.specs.Sets.{rows_of};
-ghost use Rattle.hack_features.specs.Tables.{bit, count_at, cell};
+ghost use Rattle.hack_features.specs.Tables.{count_at};
+ghost use Rattle.hack_routes.specs.Rows.{bit, cell};
 ghost use Rattle.hack_features.specs.Samples.{positions_of};
 
-use crate::marks::row_at;
-use crate::routes::bit;
 use crate::tables::count;
+use hack_routes::marks::row_at;
+use hack_routes::routes::bit;
 use std::alloc::{AllocError, Global};
 
 /// How many members the set has.

@@ -1,17 +1,17 @@
 //! The candidates of a package and groups of names, as places in one table of names.
 
 ghost use Rattle.std.specs.Prelude.{IfOk, OnOk};
-ghost use Rattle.hack_features.specs.FeatureMap.{feature_map};
+ghost use Rattle.hack_routes.specs.FeatureMap.{feature_map};
 ghost use Rattle.hack_features.specs.Feature.{groups_of, candidates_of};
 ghost use Rattle.hack_samples.specs.Sets.{rows_of};
-ghost use Rattle.hack_features.specs.Places.{AreAllAt};
-ghost use Rattle.hack_features.specs.InternalPlaces.{IsMore};
-ghost use Rattle.hack_features.specs.InternalNamesView.{table, IsInStep};
+ghost use Rattle.hack_routes.specs.Places.{AreAllAt};
+ghost use Rattle.hack_routes.specs.InternalPlaces.{IsMore};
+ghost use Rattle.hack_routes.specs.InternalNamesView.{table, IsInStep};
 
 use crate::feature::Feature;
-use crate::names::Names;
-use crate::reach::Edges;
-use crate::routes::Routes;
+use hack_routes::names::Names;
+use hack_routes::reach::Edges;
+use hack_routes::routes::Routes;
 use std::alloc::{AllocError, Global};
 use std::collections::BTreeMap;
 

@@ -11,8 +11,8 @@ ghost use Rattle.hack_features.specs.InternalSamples.{all_providers};
 
 use crate::members::members_of;
 use crate::placed::Placed;
-use crate::routes::Routes;
 use crate::rules::Rules;
+use hack_routes::routes::Routes;
 use hack_samples::{Allowed, SampleFault, sample};
 use hack_sets::forest::{FeatureSets, Forest};
 use std::alloc::{AllocError, Global};

@@ -6,11 +6,11 @@ ghost use Rattle.std.specs.List.{slice_index_or};
 ghost use Rattle.hack_samples.specs.Sets.{rows_of};
 ghost use Rattle.hack_features.specs.InternalSettings.{leads_to_each, AreKeyPlaces};
 
-use crate::marks::row_at;
 use crate::placed::Placed;
-use crate::routes::Routes;
 use crate::rules::Rules;
 use crate::samples::one_leads;
+use hack_routes::marks::row_at;
+use hack_routes::routes::Routes;
 use std::alloc::{AllocError, Global};
 
 /// The places of the names of the set's members, one after another.

@@ -5,24 +5,25 @@ ghost use Rattle.std.specs.Prelude.{◌≡◌, ◌<◌, ◌++◌, ◌∷◌, ◌
 ghost use Rattle.std.specs.Prelude.{count_by, nat_le, sum_by, IfOk, IsTrue, false};
 ghost use Rattle.std.specs.List.{list_all, list_any, slice_index_or};
 ghost use Rattle.hack_base.specs.Names.{Name};
-ghost use Rattle.hack_features.specs.FeatureMap.{feature_map, FeatureMap};
+ghost use Rattle.hack_routes.specs.FeatureMap.{feature_map, FeatureMap};
 ghost use Rattle.hack_features.specs.Feature.{groups_of, candidates_of};
 ghost use Rattle.hack_samples.specs.Sets.{rows_of};
 ghost use Rattle.hack_features.specs.Rules.{unlifted_groups};
-ghost use Rattle.hack_features.specs.Tables.{leads};
+ghost use Rattle.hack_routes.specs.Rows.{leads};
 ghost use Rattle.hack_features.specs.PlacedView.{IsPlaced};
-ghost use Rattle.hack_features.specs.Tables.{bit, count_at, cell, is_lean, is_exclusive};
+ghost use Rattle.hack_features.specs.Tables.{count_at, is_lean, is_exclusive};
+ghost use Rattle.hack_routes.specs.Rows.{bit, cell};
 ghost use Rattle.hack_features.specs.Tables.{is_required};
 ghost use Rattle.hack_features.specs.InternalTables.{spares_test, serves_test, Counts};
 ghost use Rattle.hack_features.specs.InternalTables.{Matched, CountsHits, RowsServe};
-ghost use Rattle.hack_features.specs.declared.reach.Edges.TheVariants.{Enabling};
+ghost use Rattle.hack_routes.specs.declared.reach.Edges.TheVariants.{Enabling};
 
 use crate::feature::Feature;
-use crate::marks::row_at;
 use crate::members::{at_most_one_in, is_clear};
 use crate::placed::Placed;
-use crate::reach::Edges;
-use crate::routes::{Routes, bit};
+use hack_routes::marks::row_at;
+use hack_routes::reach::Edges;
+use hack_routes::routes::{Routes, bit};
 use std::alloc::{AllocError, Global};
 use std::collections::BTreeMap;
 

@@ -18,7 +18,7 @@ use Rattle.hack_conflicts.specs.declared.tried.Outcome.TheVariants.{Failed, Pass
 use Rattle.hack_culprits.specs.declared.aim.Aim.{Aim}
 use Rattle.hack_features.specs.ChoiceView.{choice}
 use Rattle.hack_features.specs.Feature.{groups_of}
-use Rattle.hack_features.specs.FeatureMap.{feature_map}
+use Rattle.hack_routes.specs.FeatureMap.{feature_map}
 use Rattle.hack_features.specs.Rules.{Choice, IsListed, IsRequired, unlifted_groups}
 use Rattle.hack_sets.specs.Sets.{IsListing}
 use Rattle.hack_features.specs.View.{choice_of}

@@ -14,7 +14,8 @@ use Rattle.hack_features.specs.Rules.{IsListed}
 use Rattle.hack_features.specs.Samples.{positions_from, positions_of, IsSame}
 use Rattle.hack_sets.specs.Sets.{IsListing, IsSelection, Pairwise}
 use Rattle.hack_samples.specs.Sets.{rows_of}
-use Rattle.hack_features.specs.Tables.{bit, is_required}
+use Rattle.hack_features.specs.Tables.{is_required}
+use Rattle.hack_routes.specs.Rows.{bit}
 use Rattle.hack_features.specs.View.{choice_of, may_of, size_of, whole_of}
 use Rattle.hack_features.proofs.MemberLemmas.{member_iff}
 use Rattle.hack_sets.proofs.Permitted.{Passes, listing_filter, listing_same, permitted_below, permitted_listing, whole_iff}

@@ -4,7 +4,7 @@ use Rattle.std.specs.Prelude.{Contains}
 use Rattle.std.proofs.Math.Seq.{drop-cons}
 use Rattle.std.proofs.lemmas.Bool.{cases_lt}
 use Rattle.std.proofs.lemmas.List.{drop_all, get_or-map, get_or_default}
-use Rattle.hack_features.specs.FeatureMap.{feature_map}
+use Rattle.hack_routes.specs.FeatureMap.{feature_map}
 use Rattle.hack_metadata.specs.Records.{MetadataRecord}
 use Rattle.hack_metadata.specs.RecordViews.{place_at}
 use Rattle.hack_metadata.specs.declared.metadata.fault.MetadataFault.{MetadataFault}

@@ -5,7 +5,7 @@ use Rattle.std.specs.List.{find, flat_map, list_any}
 use Rattle.std.specs.Map.{keys_of, lookup}
 use Rattle.std.specs.Str.{bytes_eq}
 use Rattle.hack_base.specs.Names.{Name}
-use Rattle.hack_features.specs.FeatureMap.{FeatureMap}
+use Rattle.hack_routes.specs.FeatureMap.{FeatureMap}
 use Rattle.hack_metadata.specs.MetadataReading.{distinct}
 use Rattle.hack_metadata.specs.Optional.{optional_in}
 use Rattle.hack_metadata.specs.Records.{DependencyRecord, PackageRecord, KindRecord, NodeDepRecord, MetadataRecord, node_at}

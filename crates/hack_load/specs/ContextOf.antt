@@ -2,7 +2,7 @@
 use Rattle.std.specs.Prelude.{◌≡◌, ◌≢◌, ◌⊎◌, ◌<◌, ◌∷◌, [], ℕ, Bool, true, List, Some, None, Result, Ok, Err, Contains, string_bytes}
 use Rattle.std.specs.Result.{result_unwrap_or}
 use Rattle.hack_base.specs.Names.{Name}
-use Rattle.hack_features.specs.FeatureMap.{feature_map}
+use Rattle.hack_routes.specs.FeatureMap.{feature_map}
 use Rattle.hack_base.specs.Notes.{Note}
 use Rattle.hack_base.specs.declared.notice.NoticeKind.TheVariants.{Warn}
 use Rattle.hack_metadata.specs.Fields.{object_in_text}

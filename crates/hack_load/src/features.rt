@@ -7,7 +7,7 @@ ghost use Rattle.std.specs.List.{AllZip, list_any};
 ghost use Rattle.hack_features.specs.Feature.{IsNormal, IsPath};
 ghost use Rattle.std.specs.Map.{keys_of};
 ghost use Rattle.std.specs.Str.{bytes_eq};
-ghost use Rattle.hack_features.specs.FeatureMap.{feature_map};
+ghost use Rattle.hack_routes.specs.FeatureMap.{feature_map};
 ghost use Rattle.hack_base.specs.Names.{names_of};
 ghost use Rattle.hack_load.specs.Candidates.{MissesNode, is_named, is_implicit};
 ghost use Rattle.hack_load.specs.Candidates.{optional_names, is_normal};

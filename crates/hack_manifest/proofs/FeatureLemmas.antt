@@ -10,7 +10,7 @@ use Rattle.toml.specs.Data.{Items, as_array}
 use Rattle.toml.specs.View.{view, members_view}
 use Rattle.toml.specs.declared.value.Value.{Value}
 use Rattle.hack_base.specs.Names.{Name, names_of}
-use Rattle.hack_features.specs.FeatureMap.{FeatureMap, feature_map}
+use Rattle.hack_routes.specs.FeatureMap.{FeatureMap, feature_map}
 use Rattle.hack_manifest.specs.Manifest.{texts_in, feature_map_in}
 use Rattle.hack_manifest.specs.Internal.{by_bytes}
 

@@ -10,7 +10,7 @@ use Rattle.toml.specs.Parse.{parse_document}
 use Rattle.toml.specs.Text.{has_items}
 use Rattle.hack_base.specs.FieldReadings.{FieldReading, ◌>>=◌}
 use Rattle.hack_base.specs.Names.{Name}
-use Rattle.hack_features.specs.FeatureMap.{FeatureMap}
+use Rattle.hack_routes.specs.FeatureMap.{FeatureMap}
 use Rattle.hack_manifest.specs.Paths.{View, is_header, AreCut}
 
 -- the key of the table of features

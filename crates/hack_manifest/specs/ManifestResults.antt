@@ -4,7 +4,7 @@ use Rattle.std.specs.BTreeMap.{BTreeMap}
 use Rattle.std.specs.declared.alloc.Global.{Global}
 use Rattle.toml.specs.Parse.{parse_document}
 use Rattle.hack_base.specs.Names.{optional_text}
-use Rattle.hack_features.specs.FeatureMap.{feature_map}
+use Rattle.hack_routes.specs.FeatureMap.{feature_map}
 use Rattle.hack_manifest.specs.Manifest.{Facts, IsReadAs}
 use Rattle.hack_base.specs.FieldReadings.{FieldReading}
 use Rattle.hack_manifest.specs.declared.fault.ReadFault.{ReadFault}

@@ -5,7 +5,7 @@ ghost use Rattle.std.specs.BTreeMap.{insert_entry};
 ghost use Rattle.toml.specs.Data.{get_member};
 ghost use Rattle.toml.specs.View.{table_view, array_view};
 ghost use Rattle.hack_base.specs.Names.{names_of};
-ghost use Rattle.hack_features.specs.FeatureMap.{feature_map};
+ghost use Rattle.hack_routes.specs.FeatureMap.{feature_map};
 ghost use Rattle.hack_manifest.specs.Manifest.{texts_in, feature_map_in, features_from};
 ghost use Rattle.hack_manifest.specs.Manifest.{features_key};
 ghost use Rattle.hack_manifest.specs.Internal.{by_bytes};

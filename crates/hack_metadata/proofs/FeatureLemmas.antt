@@ -12,7 +12,7 @@ use Rattle.serde_json.specs.Find.{as_array}
 use Rattle.serde_json.specs.View.{view, items_view, members_view}
 use Rattle.serde_json.specs.declared.value.Value.{Value}
 use Rattle.hack_base.specs.Names.{names_of}
-use Rattle.hack_features.specs.FeatureMap.{FeatureMap, feature_map}
+use Rattle.hack_routes.specs.FeatureMap.{FeatureMap, feature_map}
 use Rattle.hack_metadata.specs.Fields.{texts_of_items}
 use Rattle.hack_metadata.specs.MetadataReading.{has_items, features_of}
 

@@ -5,7 +5,7 @@ use Rattle.std.specs.Hash.{HashWrites, usize}
 use Rattle.hack_base.specs.FieldReadings.{FieldReading}
 use Rattle.hack_base.specs.Names.{names_of, optional_text}
 use Rattle.hack_features.specs.Feature.{groups_of}
-use Rattle.hack_features.specs.FeatureMap.{feature_map}
+use Rattle.hack_routes.specs.FeatureMap.{feature_map}
 use Rattle.hack_metadata.specs.Records.{DependencyRecord, RulesRecord, PackageRecord, KindRecord, NodeDepRecord, Nodes}
 use Rattle.hack_metadata.specs.declared.metadata.package.Dependency.{Dependency}
 use Rattle.hack_metadata.specs.RuleTables.{LimitsRecord}

@@ -11,7 +11,7 @@ use Rattle.hack_planner.specs.PackageRules.{PackageRulesRecord}
 use Rattle.hack_base.specs.Names.{Name}
 use Rattle.hack_sets.specs.Sets.{IsSelection, IsBefore, IsListing, IsWithin, Pairwise, singles}
 use Rattle.hack_features.specs.Rules.{Choice, IsListed, IsRedundant, NotBothReach, Serves, names_at, names_in}
-use Rattle.hack_features.specs.FeatureMap.{EnablesOneOf}
+use Rattle.hack_routes.specs.FeatureMap.{EnablesOneOf}
 use Rattle.hack_base.proofs.Members.{Contains-cons_cases}
 use Rattle.hack_sets.proofs.Listing.{selection_none, selection_push, selection_up}
 use Rattle.hack_features.proofs.CoverLemmas.{before_trans}

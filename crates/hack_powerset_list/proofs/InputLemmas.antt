@@ -12,7 +12,7 @@ use Rattle.serde_json.specs.declared.value.Value.{Value}
 use Rattle.hack_features.specs.declared.feature.Feature.{Feature}
 use Rattle.hack_base.specs.Names.{names_of}
 use Rattle.hack_features.specs.Feature.{group_of, groups_of, candidates_of}
-use Rattle.hack_features.specs.FeatureMap.{FeatureMap, feature_map}
+use Rattle.hack_routes.specs.FeatureMap.{FeatureMap, feature_map}
 use Rattle.hack_base.proofs.Steps.{seen-next}
 use Rattle.hack_powerset_list.specs.Input.{values_in, with_members, read_map, keys_of}
 

@@ -5,7 +5,7 @@ use Rattle.std.proofs.lemmas.List.{length-map}
 use Rattle.hack_base.specs.Names.{Name}
 use Rattle.hack_features.specs.declared.feature.Feature.{Feature}
 use Rattle.hack_features.specs.Feature.{name_of, group_of, groups_of}
-use Rattle.hack_features.specs.FeatureMap.{FeatureMap}
+use Rattle.hack_routes.specs.FeatureMap.{FeatureMap}
 use Rattle.hack_sets.specs.Sets.{IsListing}
 use Rattle.hack_features.specs.Rules.{Choice, IsListed, unlifted_groups}
 use Rattle.hack_plan.specs.declared.runs.RunOptions.{RunOptions}

@@ -3,7 +3,7 @@ use Rattle.std.proofs.Common.{◌≡◌, true, [], ◌∷◌, List, length, refl
 use Rattle.hack_features.specs.declared.rules.Rules.{Rules}
 use Rattle.hack_sets.specs.Questions.{is_whole, IsWholeSet}
 use Rattle.hack_features.specs.declared.feature.Feature.{Feature}
-use Rattle.hack_features.specs.FeatureMap.{FeatureMap}
+use Rattle.hack_routes.specs.FeatureMap.{FeatureMap}
 use Rattle.hack_features.specs.Rules.{Choice, IsListed}
 use Rattle.hack_sets.specs.Sets.{IsListing}
 use Rattle.hack_features.specs.View.{may_of, size_of, whole_of, choice_of}

@@ -6,7 +6,7 @@ use Rattle.std.specs.BTreeMap.{insert_entry}
 use Rattle.serde_json.specs.Data.{Data, null, boolean, number, string, array, object, Items, no_items, item, Members, no_members, member}
 use Rattle.serde_json.specs.Read.{read}
 use Rattle.hack_base.specs.Names.{Name}
-use Rattle.hack_features.specs.FeatureMap.{FeatureMap}
+use Rattle.hack_routes.specs.FeatureMap.{FeatureMap}
 
 -- the text, if the data are one
 abbrev pub text_in : Data → Option Name

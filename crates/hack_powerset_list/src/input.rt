@@ -4,7 +4,7 @@ ghost use Rattle.std.specs.Prelude.{◌≡◌, [], ◌∷◌, map, IfOk, MatchOp
 ghost use Rattle.serde_json.specs.View.{view};
 ghost use Rattle.hack_base.specs.Names.{names_of};
 ghost use Rattle.hack_features.specs.Feature.{groups_of, candidates_of, name_of};
-ghost use Rattle.hack_features.specs.FeatureMap.{feature_map};
+ghost use Rattle.hack_routes.specs.FeatureMap.{feature_map};
 ghost use Rattle.hack_powerset_list.specs.Input.{values_in, IsMapText, IsNoMapText, keys_of};
 
 use hack_features::Feature;

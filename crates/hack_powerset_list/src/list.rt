@@ -3,7 +3,7 @@
 ghost use Rattle.std.specs.Prelude.{◌≡◌, length, map, string_bytes, OnOk, IfOk, IfErr};
 ghost use Rattle.hack_base.specs.Writes.{NoFewer};
 ghost use Rattle.hack_features.specs.Feature.{candidates_of, groups_of};
-ghost use Rattle.hack_features.specs.FeatureMap.{feature_map};
+ghost use Rattle.hack_routes.specs.FeatureMap.{feature_map};
 ghost use Rattle.hack_features.specs.View.{choice_of, size_of};
 ghost use Rattle.hack_powerset_list.specs.CommandList.{WritesList, RefusesList};
 ghost use Rattle.hack_powerset_list.specs.Internal.{chosen_from};

@@ -6,7 +6,7 @@ ghost use Rattle.std.specs.Option.{ok_or};
 ghost use Rattle.serde_json.specs.Find.{as_array};
 ghost use Rattle.serde_json.specs.View.{view, items_view, members_view};
 ghost use Rattle.hack_base.specs.Names.{names_of, optional_text};
-ghost use Rattle.hack_features.specs.FeatureMap.{feature_map};
+ghost use Rattle.hack_routes.specs.FeatureMap.{feature_map};
 ghost use Rattle.hack_metadata.specs.Fields.{read_all, object_in, nullable_in};
 ghost use Rattle.hack_metadata.specs.Fields.{optional_text_in, texts_of_items};
 ghost use Rattle.hack_base.specs.FieldReadings.{◌>>=◌ as ◌≫=◌};

@@ -2,7 +2,7 @@ use Rattle.std.proofs.Common.{◌≡◌, ◌<◌, ◌+◌, ◌-◌, [], List, �
 use Rattle.std.specs.List.{remove}
 use Rattle.hack_features.specs.InternalCover.{covers_test}
 use Rattle.hack_samples.specs.Sets.{rows_of}
-use Rattle.hack_features.specs.RoutesView.{routed_names}
+use Rattle.hack_routes.specs.RoutesView.{routed_names}
 use Rattle.hack_features.proofs.CoverLemmas.{Greedy, greedy_start, greedy_turn, greedy_end, kept_room}
 use Rattle.hack_features.proofs.cover.first_cover.Goals as goal
 

@@ -2,7 +2,7 @@ use Rattle.std.proofs.Common.{◌≤◌, length}
 use Rattle.hack_features.specs.Rules.{Choice, IsWanted}
 use Rattle.hack_sets.specs.Sets.{IsSelection}
 use Rattle.hack_features.specs.PlacedView.{IsPlaced}
-use Rattle.hack_features.specs.declared.reach.Edges.TheVariants.{Enabling}
+use Rattle.hack_routes.specs.declared.reach.Edges.TheVariants.{Enabling}
 use Rattle.hack_features.proofs.CoverLemmas.{Greedy}
 use Rattle.hack_features.proofs.cover.first_cover.Given as goal
 

@@ -2,10 +2,10 @@ use Rattle.std.proofs.Common.{◌≡◌, ◌+◌, ◌∙◌, ◌≤◌, ℕ, sym
 use Rattle.std.specs.Prelude.{◌==◌, ◌&&◌, not}
 use Rattle.std.specs.Cmp.Lexicographic.{slice_cmp}
 use Rattle.std.specs.Ordering.{nat_cmp, is_eq}
-use Rattle.hack_features.specs.Deps.{has_name}
+use Rattle.hack_routes.specs.NameSets.{has_name}
 use Rattle.hack_samples.specs.Sets.{rows_of}
-use Rattle.hack_features.specs.Tables.{cell}
-use Rattle.hack_features.specs.RoutesView.{routed_names}
+use Rattle.hack_routes.specs.Rows.{cell}
+use Rattle.hack_routes.specs.RoutesView.{routed_names}
 use Rattle.hack_base.proofs.NameLemmas.{length-shown}
 use Rattle.hack_features.proofs.RouteDeps.{Tells, here_at, tells-more, tells-skip, tells-end}
 use Rattle.hack_features.proofs.deps.deps_at.Goals as goal

@@ -1,7 +1,7 @@
 use Rattle.std.specs.Prelude.{◌==◌, ◌&&◌, not}
 use Rattle.hack_samples.specs.Sets.{rows_of}
-use Rattle.hack_features.specs.Tables.{cell}
-use Rattle.hack_features.specs.RoutesView.{routed_names}
+use Rattle.hack_routes.specs.Rows.{cell}
+use Rattle.hack_routes.specs.RoutesView.{routed_names}
 use Rattle.hack_features.proofs.RouteDeps.{Tells}
 use Rattle.hack_features.proofs.deps.deps_at.Given as goal
 

@@ -3,11 +3,11 @@ use Rattle.std.specs.Map.{update}
 use Rattle.std.specs.Str.{bytes_eq}
 use Rattle.std.proofs.lemmas.Map.Text.{btree_map_updates_str}
 use Rattle.hack_base.specs.Names.{Name}
-use Rattle.hack_features.specs.Deps.{get_at}
+use Rattle.hack_routes.specs.NameSets.{get_at}
 use Rattle.hack_samples.specs.Sets.{rows_of}
-use Rattle.hack_features.specs.Places.{name_at}
-use Rattle.hack_features.specs.RoutesView.{routed_names}
-use Rattle.hack_features.specs.declared.reach.Edges.TheVariants.{Enabling}
+use Rattle.hack_routes.specs.Places.{name_at}
+use Rattle.hack_routes.specs.RoutesView.{routed_names}
+use Rattle.hack_routes.specs.declared.reach.Edges.TheVariants.{Enabling}
 use Rattle.hack_base.proofs.NameLemmas.{length-shown}
 use Rattle.hack_features.proofs.TableLemmas.{key_of, of_key}
 use Rattle.hack_features.proofs.RouteDeps.{Tabling, here_at, tabling-next, tabling-skip, tabling-end}

@@ -1,7 +1,7 @@
-use Rattle.hack_features.specs.FeatureMap.{FeatureMap}
-use Rattle.hack_features.specs.RoutesView.{routed_names}
-use Rattle.hack_features.specs.InternalRoutesView.{AreRoutesOf}
-use Rattle.hack_features.specs.declared.reach.Edges.TheVariants.{Enabling}
+use Rattle.hack_routes.specs.FeatureMap.{FeatureMap}
+use Rattle.hack_routes.specs.RoutesView.{routed_names}
+use Rattle.hack_routes.specs.InternalRoutesView.{AreRoutesOf}
+use Rattle.hack_routes.specs.declared.reach.Edges.TheVariants.{Enabling}
 use Rattle.hack_features.proofs.RouteDeps.{Tabling}
 use Rattle.hack_features.proofs.deps.deps_by_place.Given as goal
 

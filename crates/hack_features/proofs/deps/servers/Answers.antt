@@ -4,7 +4,7 @@ use Rattle.std.specs.Borrow.{Bor}
 use Rattle.std.proofs.lemmas.Map.Iter.{rest_more}
 use Rattle.hack_base.specs.Names.{Name}
 use Rattle.hack_features.specs.Feature.{group_of}
-use Rattle.hack_features.specs.Deps.{NameSet}
+use Rattle.hack_routes.specs.NameSets.{NameSet}
 use Rattle.hack_base.proofs.Members.{not_from}
 use Rattle.hack_features.proofs.DepsLemmas.{Serving, serving-start, serving-kept, serving-left_out, serving-end}
 use Rattle.hack_features.proofs.deps.servers.Goals as goal

@@ -7,7 +7,7 @@ use Rattle.std.proofs.lemmas.Iterator.Search.{any_from_yields_List}
 use Rattle.std.proofs.lemmas.Slice.Eq.{bytes_eq-Decides}
 use Rattle.hack_base.specs.Names.{Name, names_of}
 use Rattle.hack_base.proofs.Passes.{some_passes, any_passes}
-use Rattle.hack_features.specs.Deps.{has_name}
+use Rattle.hack_routes.specs.NameSets.{has_name}
 use Rattle.hack_features.specs.InternalDeps.{IsServedBy}
 use Rattle.hack_features.proofs.TableLemmas.{list_any-map}
 use Rattle.hack_features.proofs.deps.serves.Goals as goal

@@ -1,6 +1,6 @@
 use Rattle.std.proofs.Common.{◌∙◌, sym}
 use Rattle.hack_samples.specs.Sets.{rows_of}
-use Rattle.hack_features.specs.Tables.{cell}
+use Rattle.hack_routes.specs.Rows.{cell}
 use Rattle.hack_features.proofs.MemberLemmas.{none-next, none-stop}
 use Rattle.hack_features.proofs.members.none_at.Goals as goal
 

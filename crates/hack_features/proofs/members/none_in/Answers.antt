@@ -1,5 +1,5 @@
 use Rattle.std.proofs.Common.{◌∙◌, sym}
-use Rattle.hack_features.specs.Tables.{bit}
+use Rattle.hack_routes.specs.Rows.{bit}
 use Rattle.hack_features.proofs.MemberLemmas.{none-next, none-stop}
 use Rattle.hack_features.proofs.members.none_in.Goals as goal
 

@@ -1,9 +1,9 @@
 use Rattle.std.proofs.Common.{take}
 use Rattle.hack_samples.specs.Sets.{rows_of}
 use Rattle.hack_features.specs.Feature.{candidates_of}
-use Rattle.hack_features.specs.Places.{AreAllAt}
-use Rattle.hack_features.specs.InternalPlaces.{IsMore}
-use Rattle.hack_features.specs.InternalNamesView.{table, IsInStep}
+use Rattle.hack_routes.specs.Places.{AreAllAt}
+use Rattle.hack_routes.specs.InternalPlaces.{IsMore}
+use Rattle.hack_routes.specs.InternalNamesView.{table, IsInStep}
 use Rattle.hack_features.proofs.placed.candidate_places.Given as goal
 
 abbrev pub invariant-loop-candidate : goal.invariant-loop-candidate

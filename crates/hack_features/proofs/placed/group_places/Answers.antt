@@ -2,10 +2,10 @@ use Rattle.std.proofs.Common.{◌+◌, ◌++◌, ◌∷◌, [], ◌∙◌, ◌�
 use Rattle.std.proofs.lemmas.List.{map-append, take_all, length-map}
 use Rattle.hack_samples.specs.Sets.{rows_of}
 use Rattle.hack_features.specs.Feature.{group_of, groups_of}
-use Rattle.hack_features.specs.Places.{AreAllAt, AreAt}
-use Rattle.hack_features.specs.InternalNamesView.{table}
+use Rattle.hack_routes.specs.Places.{AreAllAt, AreAt}
+use Rattle.hack_routes.specs.InternalNamesView.{table}
 use Rattle.hack_base.proofs.Steps.{seen-next, row_items}
-use Rattle.hack_features.proofs.PlaceLemmas.{all_at-nothing, all_at-front, all_at-push, more-none, more-then}
+use Rattle.hack_routes.proofs.PlaceLemmas.{all_at-nothing, all_at-front, all_at-push, more-none, more-then}
 use Rattle.hack_features.proofs.placed.group_places.Goals as goal
 
 pub loop-group-init : goal.loop-group-init

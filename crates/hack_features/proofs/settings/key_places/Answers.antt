@@ -3,7 +3,7 @@ use Rattle.std.proofs.lemmas.Iterator.{YieldsList-from_range, items_from_collect
 use Rattle.std.proofs.lemmas.Iterator.Consumers.{YieldsList-from_filter}
 use Rattle.std.proofs.lemmas.Result.{IfOk-weaker}
 use Rattle.hack_features.specs.InternalSettings.{AreKeyPlaces}
-use Rattle.hack_features.specs.Tables.{bit}
+use Rattle.hack_routes.specs.Rows.{bit}
 use Rattle.hack_features.proofs.SettingLemmas.{keys-of}
 use Rattle.hack_features.proofs.settings.key_places.Goals as goal
 

@@ -7,7 +7,7 @@ use Rattle.std.proofs.lemmas.List.Folds.{list_all-map}
 use Rattle.hack_samples.specs.Sets.{rows_of}
 use Rattle.hack_base.proofs.Passes.{each_passes}
 use Rattle.hack_base.proofs.Steps.{row_items}
-use Rattle.hack_features.proofs.MarkLemmas.{nil_from}
+use Rattle.hack_routes.proofs.MarkLemmas.{nil_from}
 use Rattle.hack_features.proofs.TableLemmas.{lean-bare}
 use Rattle.hack_features.proofs.tables.are_empty.Goals as goal
 

@@ -1,6 +1,6 @@
 use Rattle.std.proofs.Common.{◌≡◌, ◌++◌, ◌∷◌, [], sym, refl, ◌∙◌, ℕ, List, Bool, true, eqb-true, length}
 use Rattle.std.specs.Prelude.{not}
-use Rattle.hack_features.specs.Tables.{bit}
+use Rattle.hack_routes.specs.Rows.{bit}
 use Rattle.hack_base.proofs.Steps.{all_always}
 use Rattle.hack_features.proofs.tables.has_none.Goals as goal
 

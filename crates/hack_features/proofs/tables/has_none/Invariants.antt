@@ -1,7 +1,7 @@
 use Rattle.std.proofs.Common.{◌≡◌, take, true}
 use Rattle.std.specs.Prelude.{not}
 use Rattle.std.specs.List.{list_all}
-use Rattle.hack_features.specs.Tables.{bit}
+use Rattle.hack_routes.specs.Rows.{bit}
 use Rattle.hack_features.proofs.tables.has_none.Given as goal
 
 abbrev pub invariant-loop-p : goal.invariant-loop-p

@@ -2,10 +2,10 @@ use Rattle.std.proofs.Common.{◌≡◌, [], sym, arith, ℕ, get_or, subst, Lis
 use Rattle.std.specs.Prelude.{count_by}
 use Rattle.std.specs.List.{list_any}
 use Rattle.hack_samples.specs.Sets.{rows_of}
-use Rattle.hack_features.specs.Tables.{leads}
+use Rattle.hack_routes.specs.Rows.{leads}
 use Rattle.hack_features.specs.InternalTables.{Counts}
 use Rattle.hack_base.proofs.Steps.{row-pushed}
-use Rattle.hack_features.proofs.MarkLemmas.{row_at}
+use Rattle.hack_routes.proofs.MarkLemmas.{row_at}
 use Rattle.hack_features.proofs.TableLemmas.{counts_by}
 use Rattle.hack_features.proofs.tables.hit_row.Goals as goal
 

@@ -1,7 +1,8 @@
 use Rattle.std.proofs.Common.{◌≡◌, ◌<◌, ℕ, [], length, get_or, IsTrue}
 use Rattle.std.specs.List.{list_any}
 use Rattle.hack_samples.specs.Sets.{rows_of}
-use Rattle.hack_features.specs.Tables.{count_at, leads}
+use Rattle.hack_features.specs.Tables.{count_at}
+use Rattle.hack_routes.specs.Rows.{leads}
 use Rattle.hack_features.specs.InternalTables.{Counts}
 use Rattle.hack_features.proofs.tables.hit_row.Given as goal
 

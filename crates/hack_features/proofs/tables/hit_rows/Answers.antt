@@ -1,16 +1,16 @@
 use Rattle.std.proofs.Common.{◌≡◌, ◌<◌, ◌≤◌, ◌+◌, ◌∷◌, [], arith, List, ℕ, take, length, get_or, subst, sym, ap, ◌∙◌, eqb-true}
 use Rattle.std.proofs.lemmas.List.{map-append, take_all, take_more, length-map}
 use Rattle.hack_base.specs.Names.{Name}
-use Rattle.hack_features.specs.FeatureMap.{feature_map}
+use Rattle.hack_routes.specs.FeatureMap.{feature_map}
 use Rattle.hack_features.specs.Feature.{candidates_of, groups_of, group_of}
 use Rattle.hack_features.specs.Rules.{unlifted_groups}
 use Rattle.hack_samples.specs.Sets.{rows_of}
-use Rattle.hack_features.specs.RoutesView.{routed_names}
+use Rattle.hack_routes.specs.RoutesView.{routed_names}
 use Rattle.hack_features.specs.InternalTables as table
-use Rattle.hack_features.specs.Tables.{bit}
+use Rattle.hack_routes.specs.Rows.{bit}
 use Rattle.hack_features.specs.InternalTables.{Matched, CountsHits}
 use Rattle.hack_base.proofs.Steps.{row_items}
-use Rattle.hack_features.proofs.MarkLemmas.{nil_from}
+use Rattle.hack_routes.proofs.MarkLemmas.{nil_from}
 use Rattle.hack_features.proofs.TableLemmas.{unlifted-more, lifted_group, next_group, hits_of}
 use Rattle.hack_features.proofs.tables.hit_rows.Goals as goal
 use Rattle.hack_features.proofs.tables.hit_rows.Goals.{then-not-bit+in_ok-hit_row+in_ok-push, else-not-bit}

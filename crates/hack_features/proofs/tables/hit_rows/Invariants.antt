@@ -1,5 +1,5 @@
 use Rattle.std.proofs.Common.{take}
-use Rattle.hack_features.specs.FeatureMap.{feature_map}
+use Rattle.hack_routes.specs.FeatureMap.{feature_map}
 use Rattle.hack_features.specs.Feature.{candidates_of, groups_of}
 use Rattle.hack_features.specs.Rules.{unlifted_groups}
 use Rattle.hack_samples.specs.Sets.{rows_of}

@@ -3,7 +3,7 @@ use Rattle.std.specs.List.{list_any}
 use Rattle.hack_samples.specs.Sets.{rows_of}
 use Rattle.hack_features.specs.InternalTables.{serves_test}
 use Rattle.hack_base.proofs.Steps.{row-pushed}
-use Rattle.hack_features.proofs.MarkLemmas.{row_at}
+use Rattle.hack_routes.proofs.MarkLemmas.{row_at}
 use Rattle.hack_features.proofs.tables.serve_row.Goals as goal
 
 pub loop-names-preserved : goal.loop-names-preserved

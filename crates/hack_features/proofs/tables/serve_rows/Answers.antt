@@ -2,12 +2,12 @@ use Rattle.std.proofs.Common.{◌≡◌, ◌<◌, ◌≤◌, ◌+◌, ◌∷◌,
 use Rattle.std.specs.List.{list_any}
 use Rattle.std.proofs.lemmas.List.{take_all, map-append, length-map}
 use Rattle.hack_samples.specs.Sets.{rows_of}
-use Rattle.hack_features.specs.RoutesView.{routed_names}
+use Rattle.hack_routes.specs.RoutesView.{routed_names}
 use Rattle.hack_features.specs.InternalTables as table
 use Rattle.hack_features.specs.InternalTables.{RowsServe, serves_test}
 use Rattle.hack_base.proofs.NameLemmas.{length-shown}
 use Rattle.hack_base.proofs.Steps.{row_items}
-use Rattle.hack_features.proofs.MarkLemmas.{row_at}
+use Rattle.hack_routes.proofs.MarkLemmas.{row_at}
 use Rattle.hack_features.proofs.TableLemmas.{rows-kept, rows-dropped}
 use Rattle.hack_features.proofs.tables.serve_rows.Goals as goal
 use Rattle.hack_features.proofs.tables.serve_rows.Goals.{then-is_served+in_ok-serve_row+in_ok-push, else-is_served}

@@ -1,7 +1,7 @@
 use Rattle.std.proofs.Common.{◌<◌, [], sym, ap, ◌∙◌, arith, get_or, List, ℕ}
 use Rattle.std.proofs.lemmas.List.{length-map}
 use Rattle.hack_samples.specs.Sets.{rows_of}
-use Rattle.hack_features.specs.Tables.{bit}
+use Rattle.hack_routes.specs.Rows.{bit}
 use Rattle.hack_base.proofs.Steps.{row_items}
 use Rattle.hack_features.proofs.TableLemmas.{spares_nothing, has_names}
 use Rattle.hack_features.proofs.tables.spare_row.Goals as goal

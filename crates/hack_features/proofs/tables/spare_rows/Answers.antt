@@ -1,10 +1,10 @@
 use Rattle.std.proofs.Common.{◌≡◌, ◌<◌, [], sym, ap, ◌∙◌, arith, Bool, List, ℕ, length, get_or}
 use Rattle.std.proofs.lemmas.List.{map-append, length-map}
 use Rattle.hack_samples.specs.Sets.{rows_of}
-use Rattle.hack_features.specs.Tables.{bit}
+use Rattle.hack_routes.specs.Rows.{bit}
 use Rattle.hack_features.specs.InternalTables.{spares_test}
 use Rattle.hack_base.proofs.Steps.{row-pushed, row_items}
-use Rattle.hack_features.proofs.MarkLemmas.{row_at}
+use Rattle.hack_routes.proofs.MarkLemmas.{row_at}
 use Rattle.hack_features.proofs.tables.spare_rows.Goals as goal
 
 pub loop-names-preserved : goal.loop-names-preserved

@@ -1,6 +1,6 @@
 use Rattle.std.proofs.Common.{◌≡◌, ◌<◌, ℕ, [], length, get_or}
 use Rattle.hack_samples.specs.Sets.{rows_of}
-use Rattle.hack_features.specs.Tables.{cell}
+use Rattle.hack_routes.specs.Rows.{cell}
 use Rattle.hack_features.specs.InternalTables.{spares_test}
 use Rattle.hack_features.proofs.tables.spare_rows.Given as goal
 

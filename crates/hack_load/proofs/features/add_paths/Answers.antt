@@ -2,7 +2,7 @@ use Rattle.std.proofs.Common.{ap, ◌∙◌}
 use Rattle.std.specs.Map.Iter.{deref}
 use Rattle.std.proofs.lemmas.Map.Iter.{rest_more}
 use Rattle.hack_base.specs.Names.{names_of}
-use Rattle.hack_features.specs.FeatureMap.{feature_map}
+use Rattle.hack_routes.specs.FeatureMap.{feature_map}
 use Rattle.hack_load.proofs.FeatureLemmas.{keys-shown, grown-start, grown-turn, grown-end}
 use Rattle.hack_load.proofs.features.add_paths.Goals as goal
 

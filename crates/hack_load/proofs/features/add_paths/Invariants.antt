@@ -1,4 +1,4 @@
-use Rattle.hack_features.specs.FeatureMap.{feature_map}
+use Rattle.hack_routes.specs.FeatureMap.{feature_map}
 use Rattle.hack_load.proofs.FeatureLemmas.{Grown}
 use Rattle.hack_load.proofs.features.add_paths.Given as goal
 

@@ -1,5 +1,5 @@
 use Rattle.std.proofs.Common.{◌≡◌, ◌∙◌, ◌&&◌, not, Bool, true, false, ap, sym}
-use Rattle.hack_features.proofs.LinkLemmas.{key_at}
+use Rattle.hack_routes.proofs.LinkLemmas.{key_at}
 use Rattle.hack_load.proofs.features.is_implicit.Goals as goal
 
 no_key : (k n a b : Bool) → k ≡ false → k ≡ a → n ≡ b → not n ≡ (not a && not b)

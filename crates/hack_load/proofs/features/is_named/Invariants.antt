@@ -2,7 +2,7 @@ use Rattle.std.specs.Prelude.{◌++◌, codes}
 use Rattle.std.specs.Str.{bytes_eq}
 use Rattle.std.proofs.Common.{◌≡◌}
 use Rattle.std.specs.List.{list_any}
-use Rattle.hack_features.specs.FeatureMap.{feature_map}
+use Rattle.hack_routes.specs.FeatureMap.{feature_map}
 use Rattle.hack_base.specs.Names.{names_of}
 use Rattle.hack_load.specs.Candidates.{is_named}
 use Rattle.hack_load.proofs.features.is_named.Given as goal

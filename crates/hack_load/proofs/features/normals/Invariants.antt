@@ -2,7 +2,7 @@ use Rattle.std.specs.List.{AllZip}
 use Rattle.hack_features.specs.Feature.{IsNormal}
 use Rattle.std.proofs.Common.{◌≡◌, ◌++◌}
 use Rattle.std.specs.Map.{keys_of}
-use Rattle.hack_features.specs.FeatureMap.{feature_map}
+use Rattle.hack_routes.specs.FeatureMap.{feature_map}
 use Rattle.hack_base.specs.Names.{names_of}
 use Rattle.hack_load.specs.Features.{texts_of}
 use Rattle.hack_load.proofs.features.normals.Given as goal

@@ -1,5 +1,5 @@
 use Rattle.std.proofs.Common.{◌+◌, ◌∙◌, ap, sym, subst, map, drop, List, ◌∷◌}
-use Rattle.hack_features.specs.FeatureMap.{feature_map}
+use Rattle.hack_routes.specs.FeatureMap.{feature_map}
 use Rattle.hack_features.specs.declared.feature.Feature.{Feature}
 use Rattle.hack_metadata.specs.Records.{DependencyRecord}
 use Rattle.hack_metadata.specs.RecordViews.{dependency_view}

@@ -1,5 +1,5 @@
 use Rattle.std.proofs.Common.{drop, map}
-use Rattle.hack_features.specs.FeatureMap.{feature_map}
+use Rattle.hack_routes.specs.FeatureMap.{feature_map}
 use Rattle.hack_metadata.specs.RecordViews.{dependency_view}
 use Rattle.hack_load.proofs.FeatureLemmas.{Picked}
 use Rattle.hack_load.proofs.features.optionals.Given as goal

@@ -1,5 +1,5 @@
 use Rattle.toml.specs.View.{table_view}
-use Rattle.hack_features.specs.FeatureMap.{feature_map}
+use Rattle.hack_routes.specs.FeatureMap.{feature_map}
 use Rattle.hack_manifest.specs.Manifest.{feature_map_in}
 use Rattle.hack_manifest.proofs.FeatureLemmas.{IsSoFar}
 use Rattle.hack_manifest.proofs.features.map_of.Given as goal

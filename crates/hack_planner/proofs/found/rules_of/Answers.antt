@@ -5,7 +5,7 @@ use Rattle.hack_metadata.specs.RecordViews.{package_view}
 use Rattle.hack_planner.specs.PackageRules.{PackageRulesRecord, rules_in}
 use Rattle.hack_base.specs.Names.{Name}
 use Rattle.hack_features.specs.Feature.{groups_of}
-use Rattle.hack_features.specs.FeatureMap.{FeatureMap, feature_map}
+use Rattle.hack_routes.specs.FeatureMap.{FeatureMap, feature_map}
 use Rattle.hack_features.specs.Rules.{Choice, unlifted_groups}
 use Rattle.hack_features.specs.View.{choice_of}
 use Rattle.hack_features.specs.ChoiceView.{choice}

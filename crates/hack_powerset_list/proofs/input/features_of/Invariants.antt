@@ -1,7 +1,7 @@
 use Rattle.std.proofs.Common.{◌≡◌, ◌++◌, [], ◌∷◌, map}
 use Rattle.hack_base.specs.Names.{names_of}
 use Rattle.hack_features.specs.Feature.{groups_of, name_of}
-use Rattle.hack_features.specs.FeatureMap.{feature_map}
+use Rattle.hack_routes.specs.FeatureMap.{feature_map}
 use Rattle.hack_powerset_list.specs.Input.{keys_of}
 use Rattle.hack_powerset_list.proofs.input.features_of.Given as goal
 

@@ -5,7 +5,7 @@ use Rattle.hack_base.specs.Writes.{AppendsFront}
 use Rattle.hack_features.specs.declared.feature.Feature.{Feature}
 use Rattle.hack_base.specs.Names.{names_of}
 use Rattle.hack_features.specs.Feature.{name_of}
-use Rattle.hack_features.specs.FeatureMap.{FeatureMap, feature_map}
+use Rattle.hack_routes.specs.FeatureMap.{FeatureMap, feature_map}
 use Rattle.hack_features.specs.View.{choice_of, size_of}
 use Rattle.hack_plan.specs.Runs.{runs_from}
 use Rattle.hack_powerset_list.specs.Input.{IsMapText, IsNoMapText}

@@ -2,7 +2,7 @@ use Rattle.std.proofs.Common.{◌∙◌, List, [], length, sym, ap}
 use Rattle.std.proofs.lemmas.List.{length-map}
 use Rattle.hack_base.specs.Names.{Name}
 use Rattle.hack_features.specs.Feature.{group_of, groups_of}
-use Rattle.hack_features.specs.FeatureMap.{FeatureMap, feature_map}
+use Rattle.hack_routes.specs.FeatureMap.{FeatureMap, feature_map}
 use Rattle.hack_features.specs.Rules.{Choice, unlifted_groups}
 use Rattle.hack_features.specs.ChoiceView.{choice}
 use Rattle.hack_features.proofs.CandidateLemmas.{length-candidates_of}

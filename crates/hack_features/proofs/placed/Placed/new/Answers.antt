@@ -1,11 +1,11 @@
 use Rattle.std.proofs.Common.{sym, subst, Contains}
 use Rattle.std.proofs.lemmas.List.Elements.{Contains-append_left}
-use Rattle.hack_features.specs.InternalPlaces.{IsMore}
+use Rattle.hack_routes.specs.InternalPlaces.{IsMore}
 use Rattle.hack_samples.specs.Sets.{rows_of}
 use Rattle.hack_features.specs.Feature.{groups_of, candidates_of}
-use Rattle.hack_features.specs.InternalNamesView.{table}
-use Rattle.hack_features.specs.RoutesView.{routed_names}
-use Rattle.hack_features.proofs.PlaceLemmas.{all_at-front, more-then}
+use Rattle.hack_routes.specs.InternalNamesView.{table}
+use Rattle.hack_routes.specs.RoutesView.{routed_names}
+use Rattle.hack_routes.proofs.PlaceLemmas.{all_at-front, more-then}
 use Rattle.hack_features.proofs.placed.Placed.new.Goals as goal
 
 pub new-requires-clause-known : goal.new-requires-clause-known

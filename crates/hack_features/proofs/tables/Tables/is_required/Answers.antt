@@ -1,6 +1,6 @@
 use Rattle.std.proofs.Common.{rules, tests, List, Bool, ◌∙◌, sym}
 use Rattle.std.specs.List.{list_any}
-use Rattle.hack_features.specs.Tables.{bit}
+use Rattle.hack_routes.specs.Rows.{bit}
 use Rattle.std.proofs.lemmas.Iterator.{YieldsList-from_slice}
 use Rattle.std.proofs.lemmas.Iterator.Search.{all_from_yields_List}
 use Rattle.std.proofs.lemmas.List.Folds.{list_all-map}

@@ -2,7 +2,7 @@ use Rattle.std.proofs.Common.{[], ◌∙◌, sym, arith, get_or, List, ℕ}
 use Rattle.std.proofs.lemmas.List.{length-map}
 use Rattle.hack_samples.specs.Sets.{rows_of}
 use Rattle.hack_features.specs.ChoiceView.{choice_in}
-use Rattle.hack_features.specs.RoutesView.{routed_names}
+use Rattle.hack_routes.specs.RoutesView.{routed_names}
 use Rattle.hack_base.proofs.Steps.{row_items}
 use Rattle.hack_features.proofs.TableLemmas.{spares_iff, exclusive_iff, required_iff, groups_of_hits, reached_iff}
 use Rattle.hack_features.proofs.tables.Tables.new.Goals as goal

@@ -3,7 +3,7 @@ use Rattle.std.specs.Prelude.{not}
 use Rattle.std.proofs.lemmas.Bool.{ltb-false}
 use Rattle.std.proofs.lemmas.List.{length-map}
 use Rattle.hack_samples.specs.Sets.{rows_of}
-use Rattle.hack_features.specs.Tables.{cell}
+use Rattle.hack_routes.specs.Rows.{cell}
 use Rattle.hack_base.proofs.Steps.{all_always, row_items}
 use Rattle.hack_features.proofs.CandidateLemmas.{past_end}
 use Rattle.hack_features.proofs.tables.Tables.spares_none.Goals as goal

@@ -1,0 +1,11 @@
+pub mod FeatureMap
+pub mod Search
+pub mod NameSets
+pub mod Rows
+pub mod Places
+pub mod RoutesView
+pub mod InternalNamesView
+pub mod InternalLinksView
+pub mod InternalPlaces
+pub mod InternalRoutesView
+pub mod InternalSearch
