@@ -1,11 +1,10 @@
 //! Manifests: what they say, how their texts are cut and edited, and the edits of a call.
 
 pub use hack_edits::manifest::{
-    ManifestFault as EditFault, nothing_left, paths_in_order, remove_dev_deps,
-    remove_private_crates,
+    EditFault, nothing_left, paths_in_order, remove_dev_deps, remove_private_crates,
 };
 pub use hack_manifest::manifest::{
-    Manifest, ManifestFault, Package, Piece, Pieces, PiecesFault, cut_is_one, manifest_is_one,
-    pieces_join,
+    Manifest, ManifestFault, ManifestPackage, Piece, Pieces, PiecesFault, cut_is_one,
+    manifest_is_one, pieces_join,
 };
 pub use hack_prepare::manifest::{PrepareFault, finish, prepare};

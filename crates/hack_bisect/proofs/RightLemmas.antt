@@ -3,7 +3,7 @@ use Rattle.std.proofs.Common.{◌≡◌, ◌≤◌, ◌-◌, ℕ, List, [], arit
 use Rattle.std.proofs.lemmas.Bool.{false≢true, cases_Bool}
 use Rattle.std.proofs.lemmas.List.Elements.{All-contains, Contains-push}
 use Rattle.hack_bisect.specs.Searches.{Trial, HasFailed, HasPassed, IsSearch, IsMonotone, Answers, IsRight}
-use Rattle.hack_bisect.specs.declared.tries.Outcome.TheVariants.{Passed, Failed, Broken}
+use Rattle.hack_bisect.specs.declared.tries.TrialOutcome.TheVariants.{Passed, Failed, Broken}
 use Rattle.hack_bisect.specs.declared.find.Least.{Least}
 use Rattle.hack_bisect.specs.declared.find.Least.TheVariants.{At, Nowhere, Broken as BrokenOff}
 

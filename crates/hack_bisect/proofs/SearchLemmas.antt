@@ -8,8 +8,8 @@ use Rattle.std.proofs.lemmas.List.{length-append, take-append-le, get_or_append_
 use Rattle.std.proofs.lemmas.List.Quantifiers.{all_pairs_push}
 use Rattle.std.proofs.lemmas.List.Elements.{All-nil, All-cons, All-push, All-weaker, Contains-push, Contains-append_left}
 use Rattle.hack_bisect.specs.Searches.{Trial, HasFailed, HasPassed, IsBeside, AreLeft, IsMiddle, IsFirst, AreHalving, IsAnswer, IsSearch}
-use Rattle.hack_bisect.specs.declared.tries.Outcome.{Outcome}
-use Rattle.hack_bisect.specs.declared.tries.Outcome.TheVariants.{Passed, Failed, Broken}
+use Rattle.hack_bisect.specs.declared.tries.TrialOutcome.{TrialOutcome}
+use Rattle.hack_bisect.specs.declared.tries.TrialOutcome.TheVariants.{Passed, Failed, Broken}
 use Rattle.hack_bisect.specs.declared.find.Least.{Least}
 use Rattle.hack_bisect.specs.declared.find.Least.TheVariants.{Broken as BrokenOff}
 
@@ -52,7 +52,7 @@ bound_halved p q m n bound e le h = let k : p * (2 * n) ≤ p * m = mul-le-mul_l
 bound_one : (p m bound : ℕ) → 0 < m → p * m ≤ bound → p ≤ bound
 bound_one p m bound lt h = let k : p * 1 ≤ p * m = mul-le-mul_left p lt in omega arith
 
-module _ (greatest : ℕ) (trials : List Trial) (low high : ℕ) (going : IsGoing greatest trials low high) (lt : low < high) (place : ℕ) (middle : place ≡ low + (high - low) / 2) (o : Outcome) where
+module _ (greatest : ℕ) (trials : List Trial) (low high : ℕ) (going : IsGoing greatest trials low high) (lt : low < high) (place : ℕ) (middle : place ≡ low + (high - low) / 2) (o : TrialOutcome) where
   abbrev last : Trial
   last = record { place = place; outcome = o }
 
@@ -133,7 +133,7 @@ module _ (greatest : ℕ) (trials : List Trial) (low high : ℕ) (going : IsGoin
       record {
         beside = All-push (IsBeside low place) trials last (All-weaker (IsBeside low high) (IsBeside low place) (beside_less low high place (omega arith)) trials going.left.beside) (inr (e, omega arith));
         low_failed = low_failed_more;
-        high_passed = subst (λ (p : Outcome). HasPassed (trials ++ record { place = place; outcome = p } ∷ []) place) (sym e) (Contains-push trials (record { place = place; outcome = Passed }));
+        high_passed = subst (λ (p : TrialOutcome). HasPassed (trials ++ record { place = place; outcome = p } ∷ []) place) (sym e) (Contains-push trials (record { place = place; outcome = Passed }));
       }
       (omega arith)
       (omega arith)
@@ -146,7 +146,7 @@ module _ (greatest : ℕ) (trials : List Trial) (low high : ℕ) (going : IsGoin
       going_more (place + 1) high
       record {
         beside = All-push (IsBeside (place + 1) high) trials last (All-weaker (IsBeside low high) (IsBeside (place + 1) high) (beside_more low high (place + 1) (omega arith)) trials going.left.beside) (inl (e, omega arith));
-        low_failed = inr (subst (λ n. HasFailed more n) same (subst (λ (p : Outcome). HasFailed (trials ++ record { place = place; outcome = p } ∷ []) place) (sym e) (Contains-push trials (record { place = place; outcome = Failed }))));
+        low_failed = inr (subst (λ n. HasFailed more n) same (subst (λ (p : TrialOutcome). HasFailed (trials ++ record { place = place; outcome = p } ∷ []) place) (sym e) (Contains-push trials (record { place = place; outcome = Failed }))));
         high_passed = high_passed_more;
       }
       (omega arith)
@@ -161,12 +161,12 @@ module _ (greatest : ℕ) (trials : List Trial) (low high : ℕ) (going : IsGoin
     within = within_more;
     whole = whole_more;
     few = few_more;
-    answered = (trials, place, ap (λ (p : Outcome). trials ++ record { place = place; outcome = p } ∷ []) e);
+    answered = (trials, place, ap (λ (p : TrialOutcome). trials ++ record { place = place; outcome = p } ∷ []) e);
   }
 
 -- the greatest place alone was tried
 
-module _ (greatest : ℕ) (o : Outcome) where
+module _ (greatest : ℕ) (o : TrialOutcome) where
   abbrev alone : List Trial
   alone = record { place = greatest; outcome = o } ∷ []
 
@@ -205,7 +205,7 @@ module _ (greatest : ℕ) (o : Outcome) where
     left = record {
       beside = All-cons (IsBeside 0 greatest) (record { place = greatest; outcome = o }) [] (inr (e, omega arith)) (All-nil (IsBeside 0 greatest));
       low_failed = inl refl;
-      high_passed = subst (λ (p : Outcome). HasPassed (record { place = greatest; outcome = p } ∷ []) greatest) (sym e) (Contains-push [] (record { place = greatest; outcome = Passed }));
+      high_passed = subst (λ (p : TrialOutcome). HasPassed (record { place = greatest; outcome = p } ∷ []) greatest) (sym e) (Contains-push [] (record { place = greatest; outcome = Passed }));
     };
     ordered = omega arith;
     top = omega arith;

@@ -2,11 +2,11 @@
 use Rattle.std.specs.Prelude.{◌≡◌, ◌≢◌, ◌<◌, ◌≤◌, ℕ, List, All, Some}
 use Rattle.hack_bisect.specs.Searches.{Trial}
 use Rattle.hack_bisect.specs.declared.scripted.Scripted.{Scripted}
-use Rattle.hack_bisect.specs.declared.tries.Outcome.{Outcome}
-use Rattle.hack_bisect.specs.declared.tries.Outcome.TheVariants.{Passed, Failed, Broken}
+use Rattle.hack_bisect.specs.declared.tries.TrialOutcome.{TrialOutcome}
+use Rattle.hack_bisect.specs.declared.tries.TrialOutcome.TheVariants.{Passed, Failed, Broken}
 
 -- how a trial of the place ends
-abbrev pub IsAnswer : Scripted → ℕ → Outcome → Type 0
+abbrev pub IsAnswer : Scripted → ℕ → TrialOutcome → Type 0
 IsAnswer a place Broken = a.broken ≡ Some place
 IsAnswer a place Passed = (a.broken ≢ Some place) × (a.least ≤ place)
 IsAnswer a place Failed = (a.broken ≢ Some place) × (place < a.least)

@@ -1,14 +1,14 @@
 -- Trials of places, and the search among them by halving.
 use Rattle.std.specs.Prelude.{◌≡◌, ◌≢◌, ◌<◌, ◌≤◌, ◌+◌, ◌-◌, ◌*◌, ◌/◌, ◌^◌, ℕ, List, [], ◌∷◌, ◌++◌, length, take, slice_index_or, Bool, false, cond, IsTrue, All, AllPairs, Contains, ◌⊎◌}
-use Rattle.hack_bisect.specs.declared.tries.Outcome.{Outcome}
-use Rattle.hack_bisect.specs.declared.tries.Outcome.TheVariants.{Passed, Failed, Broken}
+use Rattle.hack_bisect.specs.declared.tries.TrialOutcome.{TrialOutcome}
+use Rattle.hack_bisect.specs.declared.tries.TrialOutcome.TheVariants.{Passed, Failed, Broken}
 use Rattle.hack_bisect.specs.declared.find.Least.{Least}
 use Rattle.hack_bisect.specs.declared.find.Least.TheVariants.{At, Nowhere, Broken as BrokenOff}
 
 -- a trial of a place, and how it ended
 pub record Trial : Type 0 where
   pub place : ℕ
-  pub outcome : Outcome
+  pub outcome : TrialOutcome
 
 -- the place was tried, and failed
 abbrev pub HasFailed : List Trial → ℕ → Type 0
@@ -35,7 +35,7 @@ IsMiddle trials place = (low : ℕ) × (high : ℕ) × AreLeft trials low high �
 
 -- the first trial is of the greatest place
 abbrev pub IsFirst : ℕ → List Trial → Type 0
-IsFirst greatest trials = (o : Outcome) × (later : List Trial) × (trials ≡ record { place = greatest; outcome = o } ∷ later)
+IsFirst greatest trials = (o : TrialOutcome) × (later : List Trial) × (trials ≡ record { place = greatest; outcome = o } ∷ later)
 
 -- each trial but the first is in the middle of the places that the trials before it leave
 abbrev pub AreHalving : List Trial → Type 0

@@ -3,7 +3,7 @@
 ghost use Rattle.std.specs.Prelude.{List};
 ghost use Rattle.hack_bisect.specs.Searches.{Trial, IsSearch, IsRight};
 
-use crate::tries::{Outcome, Tries};
+use crate::tries::{TrialOutcome, Tries};
 
 /// What a search has found.
 #[derive(Clone, Copy, Debug, PartialEq, Eq)]
@@ -27,18 +27,18 @@ pub fn find_least<T: Tries>(greatest: usize, tries: &mut T) -> Least
         × IsSearch greatest trials result × IsRight greatest trials result }
 {
     match tries.try_at(greatest) {
-        Outcome::Passed => {}
-        Outcome::Failed => return Least::Nowhere,
-        Outcome::Broken => return Least::Broken,
+        TrialOutcome::Passed => {}
+        TrialOutcome::Failed => return Least::Nowhere,
+        TrialOutcome::Broken => return Least::Broken,
     }
     let mut low = 0;
     let mut high = greatest;
     while low < high {
         let middle = low + (high - low) / 2;
         match tries.try_at(middle) {
-            Outcome::Passed => high = middle,
-            Outcome::Failed => low = middle + 1,
-            Outcome::Broken => return Least::Broken,
+            TrialOutcome::Passed => high = middle,
+            TrialOutcome::Failed => low = middle + 1,
+            TrialOutcome::Broken => return Least::Broken,
         }
     }
     Least::At(high)

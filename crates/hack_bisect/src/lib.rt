@@ -10,4 +10,4 @@ pub mod tries;
 
 pub use find::{Least, find_least};
 pub use scripted::Scripted;
-pub use tries::{Outcome, Tries};
+pub use tries::{TrialOutcome, Tries};

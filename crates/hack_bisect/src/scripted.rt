@@ -3,7 +3,7 @@
 ghost use Rattle.hack_bisect.specs.Scripts.{AreAnswers};
 ghost use Rattle.hack_bisect.specs.ScriptLaws.{answers_none, answers_more};
 
-use crate::tries::{Outcome, Tries};
+use crate::tries::{TrialOutcome, Tries};
 
 /// The places of its trials that end in each way.
 #[derive(Clone, Copy, Debug, PartialEq, Eq)]
@@ -17,14 +17,14 @@ pub struct Scripted {
 impl Tries for Scripted {
     ghost tried = { AreAnswers };
 
-    fn try_at(&mut self, place: usize) -> Outcome {
+    fn try_at(&mut self, place: usize) -> TrialOutcome {
         if self.broken == Some(place) {
-            return Outcome::Broken;
+            return TrialOutcome::Broken;
         }
         if place < self.least {
-            return Outcome::Failed;
+            return TrialOutcome::Failed;
         }
-        Outcome::Passed
+        TrialOutcome::Passed
     }
 
     ghost tried_none = { answers_none };

@@ -5,7 +5,7 @@ ghost use Rattle.hack_bisect.specs.Searches.{Trial};
 
 /// How a trial ended.
 #[derive(Clone, Copy, Debug, PartialEq, Eq)]
-pub enum Outcome {
+pub enum TrialOutcome {
     Passed,
     Failed,
     /// A fault came in between, so that it isn't known whether the place passes.
@@ -20,7 +20,7 @@ pub trait Tries {
     /// Tries the place. A tester that can't say whether it passes, for example since a program can't
     /// be started, keeps the fault to itself and answers `Broken`; the search then ends, and asks it
     /// no more.
-    fn try_at(&mut self, place: usize) -> Outcome
+    fn try_at(&mut self, place: usize) -> TrialOutcome
         ensures { tried (record { place = place; outcome = result } ∷ []) self.old self.new };
 
     /// Without a trial the relation holds of each tester and itself.

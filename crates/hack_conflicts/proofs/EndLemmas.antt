@@ -9,8 +9,8 @@ use Rattle.hack_conflicts.specs.Runs.{Run, runs_in, HasFailed, HasPassed, IsNew,
 use Rattle.hack_conflicts.specs.Internal.{IsSound, IsSettled, IsWidest, told, conflicts_of, passing_of}
 use Rattle.hack_conflicts.specs.declared.rules.Rules.{Rules}
 use Rattle.hack_conflicts.specs.declared.known.Known.{Known}
-use Rattle.hack_conflicts.specs.declared.tried.Outcome.{Outcome}
-use Rattle.hack_conflicts.specs.declared.tried.Outcome.TheVariants.{Passed, Failed}
+use Rattle.hack_conflicts.specs.declared.tried.BuildOutcome.{BuildOutcome}
+use Rattle.hack_conflicts.specs.declared.tried.BuildOutcome.TheVariants.{Passed, Failed}
 use Rattle.hack_conflicts.proofs.ShrinkLemmas.{passed-not-failed}
 
 none_within : (most : Option ℕ) → (n : ℕ) → n ≡ 0 → IfSome most (λ m. n ≤ m)
@@ -65,10 +65,10 @@ fails true e = absurd (passed-not-failed (sym e))
 fails false e = refl
 
 module _ (r : Rules) (builds : List Bool → Bool) (monotone : IsMonotone r builds) (runs : List Run) (answers : Answers builds runs) (chosen : All (λ (run : Run). IsChoice r run.set) runs) where
-  choice_of : (s : List Bool) (o : Outcome) → Contains runs (record { set = s; outcome = o }) → IsChoice r s
+  choice_of : (s : List Bool) (o : BuildOutcome) → Contains runs (record { set = s; outcome = o }) → IsChoice r s
   choice_of s o there = All-contains (λ (run : Run). IsChoice r run.set) runs (record { set = s; outcome = o }) chosen there
 
-  answer : (s : List Bool) (o : Outcome) → Contains runs (record { set = s; outcome = o }) → o ≡ cond (builds s) Passed Failed
+  answer : (s : List Bool) (o : BuildOutcome) → Contains runs (record { set = s; outcome = o }) → o ≡ cond (builds s) Passed Failed
   answer s o there = All-contains (λ (run : Run). run.outcome ≡ cond (builds run.set) Passed Failed) runs (record { set = s; outcome = o }) answers there
 
   fails_there : (conflicts passing : List (List Bool)) → All (HasPassed runs) passing → (s : List Bool) → IsChoice r s → IsDecided conflicts passing s → builds s ≡ false → HasInside conflicts s

@@ -10,7 +10,7 @@ use Rattle.hack_conflicts.specs.Runs.{Run, Finding, HasFailed, HasPassed, IsFind
 use Rattle.hack_conflicts.specs.Internal.{IsSound, IsSettled, IsUnsettled, IsCutOff, IsGoing, IsSteady, AreOthers, worth, told, conflicts_of, passing_of}
 use Rattle.hack_conflicts.specs.declared.rules.Rules.{Rules}
 use Rattle.hack_conflicts.specs.declared.known.Known.{Known}
-use Rattle.hack_conflicts.specs.declared.tried.Outcome.TheVariants.{Passed, Failed}
+use Rattle.hack_conflicts.specs.declared.tried.BuildOutcome.TheVariants.{Passed, Failed}
 use Rattle.hack_conflicts.proofs.KnownLemmas.{each_of, length-runs}
 use Rattle.hack_conflicts.proofs.GreatestLemmas.{all_passed, all_covered, all_apart, none_greater}
 use Rattle.hack_conflicts.proofs.EndLemmas.{decided_by, undecided_by, law}

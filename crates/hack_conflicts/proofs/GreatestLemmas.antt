@@ -11,7 +11,7 @@ use Rattle.hack_conflicts.specs.Rules.{IsChoice}
 use Rattle.hack_conflicts.specs.Runs.{Run, HasPassed, IsDecided, IsGreatest}
 use Rattle.hack_conflicts.specs.Internal.{KeepsOthers, AreOthers, IsWidest}
 use Rattle.hack_conflicts.specs.declared.rules.Rules.{Rules}
-use Rattle.hack_conflicts.specs.declared.tried.Outcome.TheVariants.{Passed}
+use Rattle.hack_conflicts.specs.declared.tried.BuildOutcome.TheVariants.{Passed}
 
 -- an element of a front stands at a place
 front_at : {X : Type 0} (xs : List X) (i : ℕ) (x d : X) → Contains (take i xs) x → (j : ℕ) × (j < i) × (get_or xs j d ≡ x) × (j < length xs)

@@ -13,8 +13,8 @@ use Rattle.hack_conflicts.specs.Internal.{IsSound, Grows, IsNext, IsWidest, IsCu
 use Rattle.hack_conflicts.specs.declared.rules.Rules.{Rules}
 use Rattle.hack_conflicts.specs.declared.known.Known.{Known}
 use Rattle.hack_conflicts.specs.declared.tried.Tried.{Tried}
-use Rattle.hack_conflicts.specs.declared.tried.Outcome.{Outcome}
-use Rattle.hack_conflicts.specs.declared.tried.Outcome.TheVariants.{Passed, Failed, Broken}
+use Rattle.hack_conflicts.specs.declared.tried.BuildOutcome.{BuildOutcome}
+use Rattle.hack_conflicts.specs.declared.tried.BuildOutcome.TheVariants.{Passed, Failed, Broken}
 
 pub each_of : {X : Type 0} (P : X → Type 0) (xs : List X) → ((x : X) → Contains xs x → P x) → All P xs
 each_of P xs h = All-weaker (Contains xs) P h xs (All-contains_itself xs)
@@ -23,7 +23,7 @@ pub length-runs : (xs : List Tried) → length (runs_in xs) ≡ length xs
 length-runs xs = length-map xs (λ (one : Tried). record { set = one.set.items; outcome = one.outcome })
 
 -- a run that ended so is one with its set and this outcome
-pub ended_so : (runs : List Run) (run : Run) (o : Outcome) → Contains runs run → run.outcome ≡ o → Contains runs (record { set = run.set; outcome = o })
+pub ended_so : (runs : List Run) (run : Run) (o : BuildOutcome) → Contains runs run → run.outcome ≡ o → Contains runs (record { set = run.set; outcome = o })
 ended_so runs run o h e = subst (λ p. Contains runs (record { set = run.set; outcome = p })) e h
 
 pub passed_later : (a b : List Run) → ((run : Run) → Contains a run → Contains b run) → (s : List Bool) → IsPassed a s → IsPassed b s
@@ -74,7 +74,7 @@ module _ (k m : Known) (same : told m ≡ told k) (same_conflicts : m.conflicts 
 
 -- one more run was recorded
 
-module _ (k m : Known) (s : List Bool) (o : Outcome) (ran : told m ≡ told k ++ record { set = s; outcome = o } ∷ []) (same_conflicts : m.conflicts ≡ k.conflicts) (same_passing : m.passing ≡ k.passing) where
+module _ (k m : Known) (s : List Bool) (o : BuildOutcome) (ran : told m ≡ told k ++ record { set = s; outcome = o } ∷ []) (same_conflicts : m.conflicts ≡ k.conflicts) (same_passing : m.passing ≡ k.passing) where
   new_run : Run
   new_run = record { set = s; outcome = o }
 
@@ -140,7 +140,7 @@ still_within None n m unless e = tt
 still_within (Some l) n m unless e = let more : ¬ (l ≤ n) = unless in omega arith
 
 -- the last run is recorded to have ended so
-pub finish_last : (xs : List Tried) (front : List Run) (s : List Bool) (o : Outcome) (t : Tried) → runs_in xs ≡ front ++ record { set = s; outcome = Broken } ∷ [] → 0 < length xs
+pub finish_last : (xs : List Tried) (front : List Run) (s : List Bool) (o : BuildOutcome) (t : Tried) → runs_in xs ≡ front ++ record { set = s; outcome = Broken } ∷ [] → 0 < length xs
     → (n : ℕ) → n ≡ length xs - 1 → ((d : Tried) → t ≡ get_or xs n d)
     → runs_in (set xs n (record { set = t.set; outcome = o })) ≡ front ++ record { set = s; outcome = o } ∷ []
 finish_last xs front s o t h lt n last at =

@@ -4,7 +4,7 @@ use Rattle.std.proofs.Common.{ap, sym, subst, refl, ◌∙◌, arith, get_or}
 use Rattle.std.proofs.lemmas.List.{get_or-map, length-map}
 use Rattle.std.proofs.lemmas.List.Elements.{All-contains, All-more}
 use Rattle.hack_conflicts.specs.Runs.{AreBlamed, IsClear, IsOpen, IsToldOf, Run, run_of, runs_in}
-use Rattle.hack_conflicts.specs.declared.tried.Outcome.TheVariants.{Failed, Broken}
+use Rattle.hack_conflicts.specs.declared.tried.BuildOutcome.TheVariants.{Failed, Broken}
 use Rattle.hack_conflicts.specs.declared.tried.Tried.{Tried}
 
 -- one run more

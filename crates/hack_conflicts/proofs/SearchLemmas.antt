@@ -9,7 +9,7 @@ use Rattle.hack_conflicts.specs.Runs.{Run, HasFailed, HasPassed, IsPassed, IsLea
 use Rattle.hack_conflicts.specs.Internal.{IsSound, Grows, IsNext, IsGoing, IsFailing, IsWidest, IsSteady, members, worth, told, conflicts_of, passing_of}
 use Rattle.hack_conflicts.specs.declared.rules.Rules.{Rules}
 use Rattle.hack_conflicts.specs.declared.known.Known.{Known}
-use Rattle.hack_conflicts.specs.declared.tried.Outcome.TheVariants.{Passed, Failed, Broken}
+use Rattle.hack_conflicts.specs.declared.tried.BuildOutcome.TheVariants.{Passed, Failed, Broken}
 use Rattle.hack_conflicts.proofs.KnownLemmas.{run_cases, run_there}
 use Rattle.hack_conflicts.proofs.SetLemmas.{within_or}
 use Rattle.hack_conflicts.proofs.RuleLemmas.{members_fewer}

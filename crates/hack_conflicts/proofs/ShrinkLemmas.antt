@@ -8,12 +8,12 @@ use Rattle.hack_conflicts.specs.Runs.{Run, HasFailed, HasPassed, IsPassed}
 use Rattle.hack_conflicts.specs.Internal.{IsNext, IsClear, IsGoing, IsFailing, IsPart, IsPartOfFailing, Clashes, IsWithout, IsLater, members, told, conflicts_of}
 use Rattle.hack_conflicts.specs.declared.rules.Rules.{Rules}
 use Rattle.hack_conflicts.specs.declared.known.Known.{Known}
-use Rattle.hack_conflicts.specs.declared.tried.Outcome.{Outcome}
-use Rattle.hack_conflicts.specs.declared.tried.Outcome.TheVariants.{Passed, Failed, Broken}
+use Rattle.hack_conflicts.specs.declared.tried.BuildOutcome.{BuildOutcome}
+use Rattle.hack_conflicts.specs.declared.tried.BuildOutcome.TheVariants.{Passed, Failed, Broken}
 use Rattle.hack_conflicts.proofs.KnownLemmas.{run_cases, run_there, runs_kept, each_of}
 use Rattle.hack_conflicts.proofs.RuleLemmas.{without_within, without_lacks, members_fewer}
 
-abbrev number_of : Outcome → ℕ
+abbrev number_of : BuildOutcome → ℕ
 number_of Passed = 0
 number_of Failed = 1
 number_of Broken = 2

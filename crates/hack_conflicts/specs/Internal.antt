@@ -7,7 +7,7 @@ use Rattle.hack_conflicts.specs.declared.rules.Rules.{Rules}
 use Rattle.hack_conflicts.specs.declared.known.Known.{Known}
 use Rattle.hack_conflicts.specs.declared.fault.End.{End}
 use Rattle.hack_conflicts.specs.declared.fault.End.TheVariants.{Memory, Broken as BrokenEnd, Spent}
-use Rattle.hack_conflicts.specs.declared.tried.Outcome.TheVariants.{Broken}
+use Rattle.hack_conflicts.specs.declared.tried.BuildOutcome.TheVariants.{Broken}
 
 -- the runs so far
 abbrev pub told : Known → List Run

@@ -4,8 +4,8 @@ use Rattle.std.specs.List.{slice_index_or}
 use Rattle.hack_conflicts.specs.Sets.{Has, IsWithin, IsInside, HasInside, AreApart, rows_of}
 use Rattle.hack_conflicts.specs.Rules.{IsChoice, IsPlain, size_of}
 use Rattle.hack_conflicts.specs.declared.rules.Rules.{Rules}
-use Rattle.hack_conflicts.specs.declared.tried.Outcome.{Outcome}
-use Rattle.hack_conflicts.specs.declared.tried.Outcome.TheVariants.{Passed, Failed, Broken}
+use Rattle.hack_conflicts.specs.declared.tried.BuildOutcome.{BuildOutcome}
+use Rattle.hack_conflicts.specs.declared.tried.BuildOutcome.TheVariants.{Passed, Failed, Broken}
 use Rattle.hack_conflicts.specs.declared.tried.Tried.{Tried}
 use Rattle.hack_conflicts.specs.declared.found.Found.{Found}
 use Rattle.hack_conflicts.specs.declared.fault.SearchFault.{SearchFault}
@@ -14,7 +14,7 @@ use Rattle.hack_conflicts.specs.declared.fault.SearchFault.TheVariants.{Memory, 
 -- a build with a set, and how it ended
 pub record Run : Type 0 where
   pub set : List Bool
-  pub outcome : Outcome
+  pub outcome : BuildOutcome
 
 -- the run that is recorded
 abbrev pub run_of : Tried → Run

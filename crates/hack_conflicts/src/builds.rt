@@ -3,7 +3,7 @@
 ghost use Rattle.std.specs.Prelude.{◌++◌, ◌∷◌, [], List};
 ghost use Rattle.hack_conflicts.specs.Runs.{Run};
 
-use crate::tried::Outcome;
+use crate::tried::BuildOutcome;
 
 /// Tries builds with sets of positions.
 pub trait Builds {
@@ -13,7 +13,7 @@ pub trait Builds {
     /// Tries a build with the set, which has a mark for each position. A builder that can't say
     /// whether it passes, for example since a program can't be started, keeps the fault to itself and
     /// answers `Broken`; the search then ends, and asks it no more.
-    fn build(&mut self, set: &[bool]) -> Outcome
+    fn build(&mut self, set: &[bool]) -> BuildOutcome
         ensures { ran (record { set = set.now; outcome = result } ∷ []) self.old self.new };
 
     /// Without a run the relation holds of each builder and itself.

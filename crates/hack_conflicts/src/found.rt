@@ -17,7 +17,7 @@ use crate::known::Known;
 use crate::rules::Rules;
 use crate::search::search_all;
 use crate::sets::has_inside;
-use crate::tried::{Outcome, Tried};
+use crate::tried::{BuildOutcome, Tried};
 use std::alloc::{AllocError, Global};
 
 /// What a search has found. A set has a mark for each position, and a position past its last mark
@@ -62,8 +62,8 @@ fn is_clear(conflicts: &[Vec<bool>], one: &Tried) -> bool
         (IsToldOf (rows_of conflicts.now) (run_of one.now)) }
 {
     match one.outcome {
-        Outcome::Failed => !has_inside(conflicts, one.set.as_slice()),
-        Outcome::Passed | Outcome::Broken => false,
+        BuildOutcome::Failed => !has_inside(conflicts, one.set.as_slice()),
+        BuildOutcome::Passed | BuildOutcome::Broken => false,
     }
 }
 

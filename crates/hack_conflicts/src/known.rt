@@ -4,15 +4,15 @@ ghost use Rattle.std.specs.Prelude.{◌≡◌, ◌<◌, ◌≤◌, ◌+◌, ◌+
 ghost use Rattle.std.specs.Prelude.{length, IsTrue, IfOk, IfErr, OnOk, OnErr};
 ghost use Rattle.std.specs.List.{slice_index_or};
 ghost use Rattle.hack_conflicts.specs.Runs.{Run, runs_in, IsPassed, IsSpent};
-ghost use Rattle.hack_conflicts.specs.declared.tried.Outcome.TheVariants.{Passed, Failed};
-ghost use Rattle.hack_conflicts.specs.declared.tried.Outcome.TheVariants.{Broken as BrokenRun};
+ghost use Rattle.hack_conflicts.specs.declared.tried.BuildOutcome.TheVariants.{Passed, Failed};
+ghost use Rattle.hack_conflicts.specs.declared.tried.BuildOutcome.TheVariants.{Broken as BrokenRun};
 ghost use Rattle.hack_conflicts.specs.Internal.{IsSound, IsNext, IsGoing, Grows, IsEnd, told};
 
 use crate::builds::Builds;
 use crate::fault::End;
 use crate::rules::Rules;
 use crate::sets::is_within;
-use crate::tried::{Outcome, Tried};
+use crate::tried::{BuildOutcome, Tried};
 use std::alloc::{AllocError, Global};
 
 /// What a search knows.
@@ -48,13 +48,13 @@ pub(crate) fn set_of(runs: &[Tried], place: usize) -> &[bool]
 }
 
 /// How the run at the place ended.
-pub(crate) fn outcome_of(runs: &[Tried], place: usize) -> Outcome
+pub(crate) fn outcome_of(runs: &[Tried], place: usize) -> BuildOutcome
     ensures { result ≡ (slice_index_or (runs_in runs.now) place
         (record { set = []; outcome = BrokenRun })).outcome }
 {
     match runs.get(place) {
         Some(run) => run.outcome,
-        None => Outcome::Broken,
+        None => BuildOutcome::Broken,
     }
 }
 
@@ -64,7 +64,7 @@ pub(crate) fn has_passed(runs: &[Tried], place: usize) -> bool
         (record { set = []; outcome = BrokenRun })).outcome ≡ Passed) }
 {
     match outcome_of(runs, place) {
-        Outcome::Passed => true,
+        BuildOutcome::Passed => true,
         _ => false,
     }
 }
@@ -106,13 +106,13 @@ impl Known {
         let set = Vec::from_slice(alloc, set)?;
         self.runs.push(Tried {
             set,
-            outcome: Outcome::Broken,
+            outcome: BuildOutcome::Broken,
         })?;
         Ok(())
     }
 
     /// Records how the last run ended.
-    fn finish(&mut self, outcome: Outcome)
+    fn finish(&mut self, outcome: BuildOutcome)
         ensures runs { (front : List Run) (set : List Bool)
             → told self.old ≡ front ++ record { set = set; outcome = BrokenRun } ∷ []
             → told self.new ≡ front ++ record { set = set; outcome = outcome } ∷ [] }
@@ -154,8 +154,8 @@ pub(crate) fn ask<B: Builds>(
     let outcome = builder.build(set);
     known.finish(outcome);
     match outcome {
-        Outcome::Passed => Ok(true),
-        Outcome::Failed => Ok(false),
-        Outcome::Broken => Err(End::Broken),
+        BuildOutcome::Passed => Ok(true),
+        BuildOutcome::Failed => Ok(false),
+        BuildOutcome::Broken => Err(End::Broken),
     }
 }

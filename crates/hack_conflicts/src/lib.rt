@@ -23,4 +23,4 @@ pub use fault::SearchFault;
 pub use found::{Found, find_conflicts};
 pub use rules::Rules;
 pub use scripted::Scripted;
-pub use tried::{Outcome, Tried};
+pub use tried::{BuildOutcome, Tried};

@@ -5,7 +5,7 @@ ghost use Rattle.hack_conflicts.specs.ScriptLaws.{answers_none, answers_more};
 
 use crate::builds::Builds;
 use crate::sets::has_inside;
-use crate::tried::Outcome;
+use crate::tried::BuildOutcome;
 
 /// The sets of its builds that end in each way, unless one of an earlier line lies inside the set.
 #[derive(Drop)]
@@ -21,17 +21,17 @@ pub struct Scripted {
 impl Builds for Scripted {
     ghost ran = { AreAnswers };
 
-    fn build(&mut self, set: &[bool]) -> Outcome {
+    fn build(&mut self, set: &[bool]) -> BuildOutcome {
         if has_inside(self.broken.as_slice(), set) {
-            return Outcome::Broken;
+            return BuildOutcome::Broken;
         }
         if has_inside(self.passing.as_slice(), set) {
-            return Outcome::Passed;
+            return BuildOutcome::Passed;
         }
         if has_inside(self.failing.as_slice(), set) {
-            return Outcome::Failed;
+            return BuildOutcome::Failed;
         }
-        Outcome::Passed
+        BuildOutcome::Passed
     }
 
     ghost ran_none = { answers_none };

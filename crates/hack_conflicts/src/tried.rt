@@ -2,7 +2,7 @@
 
 /// How a build ended.
 #[derive(Clone, Copy, Debug, PartialEq, Eq)]
-pub enum Outcome {
+pub enum BuildOutcome {
     Passed,
     Failed,
     /// A fault came in between, so that it isn't known whether the build passes.
@@ -14,5 +14,5 @@ pub enum Outcome {
 pub struct Tried {
     /// For each position whether the set has it.
     pub set: Vec<bool>,
-    pub outcome: Outcome,
+    pub outcome: BuildOutcome,
 }

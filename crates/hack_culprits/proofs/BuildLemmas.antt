@@ -7,8 +7,8 @@ use Rattle.std.proofs.lemmas.List.Elements.{All-cons, All-contains, All-nil, Con
 use Rattle.hack_base.proofs.Members.{Contains-head}
 use Rattle.hack_closures.specs.View.{search_of}
 use Rattle.hack_conflicts.specs.Runs.{AreWhole, Finding, IsCourse, IsFinding, Run as Asked}
-use Rattle.hack_conflicts.specs.declared.tried.Outcome.{Outcome}
-use Rattle.hack_conflicts.specs.declared.tried.Outcome.TheVariants.{Broken, Failed, Passed}
+use Rattle.hack_conflicts.specs.declared.tried.BuildOutcome.{BuildOutcome}
+use Rattle.hack_conflicts.specs.declared.tried.BuildOutcome.TheVariants.{Broken, Failed, Passed}
 use Rattle.hack_plan.proofs.GrowingPlans.{runs-grown}
 use Rattle.hack_plan.specs.Growth.{RefusesRun, with_changed, with_one_place, with_one_run, with_run}
 use Rattle.hack_plan.specs.Runs.{PackageRun}
@@ -62,7 +62,7 @@ nothing_built ran ended aim set why built plan a explained ready = record {
 }
 
 -- the same, by what came of it
-pub refused_build : {R : Type 0} (ran : PlanView → List Handed → R → R → Type 0) (ended : R → Bool) (aim : Aim) (set : List Bool) (came : Result Outcome CulpritsFault) (before after : List Made) (old new : PlanView) (a : R)
+pub refused_build : {R : Type 0} (ran : PlanView → List Handed → R → R → Type 0) (ended : R → Bool) (aim : Aim) (set : List Bool) (came : Result BuildOutcome CulpritsFault) (before after : List Made) (old new : PlanView) (a : R)
     → IsErrAnd came (λ why. why ≡ fault.Memory) → after ≡ before → new ≡ old → IsReady aim old → BuildsOne ran ended aim set came before after old new a a
 refused_build ran ended aim set (Ok o) before after old new a refused same stays ready = absurd refused
 refused_build ran ended aim set (Err why) before after old new a refused same stays ready =
@@ -77,7 +77,7 @@ explained-growth places.TooManyRuns made plan (inl full) unbroken = (unbroken, l
 explained-growth places.TooManyRuns made plan (inr other) unbroken = let e = other.1 in absurd cc
 
 -- a plan that can't grow
-pub refused_growth : {R : Type 0} (ran : PlanView → List Handed → R → R → Type 0) (ended : R → Bool) (aim : Aim) (set : List Bool) (came : Result Outcome CulpritsFault) (given : PlacesFault) (before after : List Made) (old new : PlanView) (a : R)
+pub refused_growth : {R : Type 0} (ran : PlanView → List Handed → R → R → Type 0) (ended : R → Bool) (aim : Aim) (set : List Bool) (came : Result BuildOutcome CulpritsFault) (given : PlacesFault) (before after : List Made) (old new : PlanView) (a : R)
     → IsErrAnd came (λ why. why ≡ fault_of given) → after ≡ before → new ≡ old → RefusesRun old.entries given → IsReady aim old → BuildsOne ran ended aim set came before after old new a a
 refused_growth ran ended aim set (Ok o) given before after old new a refused same stays cause ready = absurd refused
 refused_growth ran ended aim set (Err why) given before after old new a refused same stays cause ready =
@@ -89,18 +89,18 @@ refused_growth ran ended aim set (Err why) given before after old new a refused 
 pub made_push : (plain : Bool) (built items : List Built) (b : Built) → items ≡ built ++ b ∷ [] → made_in plain items ≡ made_in plain built ++ record { run = run_for plain b.build; outcome = b.outcome } ∷ []
 made_push plain built items b is = ap (made_in plain) is ∙ map-append (λ (b : Built). record { run = run_for plain b.build; outcome = b.outcome }) built (b ∷ [])
 
-told-outcome : (o : Outcome) → outcome_of (told_of o) ≡ o
+told-outcome : (o : BuildOutcome) → outcome_of (told_of o) ≡ o
 told-outcome Passed = refl
 told-outcome Failed = refl
 told-outcome Broken = refl
 
-told-kept : (o : Outcome) (built made : List Made) (plan : PlanView) → (o ≡ Broken → AreUnbroken built → AreBrokenLast made) → (first : Option CulpritsFault) → KeepsWhy (AreUnbroken built) (is_broken (outcome_of (told_of o))) made plan first (kept_of (told_of o) first)
+told-kept : (o : BuildOutcome) (built made : List Made) (plan : PlanView) → (o ≡ Broken → AreUnbroken built → AreBrokenLast made) → (first : Option CulpritsFault) → KeepsWhy (AreUnbroken built) (is_broken (outcome_of (told_of o))) made plan first (kept_of (told_of o) first)
 told-kept Passed built made plan last first = refl
 told-kept Failed built made plan last first = refl
 told-kept Broken built made plan last first = last refl
 
 -- what stands for the set was built before
-pub built_before : {R : Type 0} (ran : PlanView → List Handed → R → R → Type 0) (ended : R → Bool) (aim : Aim) (set : List Bool) (run : PackageRun) (o : Outcome) (built : List Made) (plan : PlanView) (a : R)
+pub built_before : {R : Type 0} (ran : PlanView → List Handed → R → R → Type 0) (ended : R → Bool) (aim : Aim) (set : List Bool) (run : PackageRun) (o : BuildOutcome) (built : List Made) (plan : PlanView) (a : R)
     → IsRunFor aim set run → Contains built (record { run = run; outcome = o }) → IsReady aim plan → BuildsOne ran ended aim set (told_of o) built built plan plan a a
 built_before ran ended aim set run o built plan a fits there ready =
     let m : Made = record { run = run; outcome = o } in
@@ -123,7 +123,7 @@ built_before ran ended aim set run o built plan a fits there ready =
     }
 
 -- the run was added to the plan, handed out, and ended so
-pub built_now : {R : Type 0} (ran : PlanView → List Handed → R → R → Type 0) (ended : R → Bool) (aim : Aim) (set : List Bool) (run : PackageRun) (o : Outcome) (built after : List Made) (old new : PlanView) (a b : R)
+pub built_now : {R : Type 0} (ran : PlanView → List Handed → R → R → Type 0) (ended : R → Bool) (aim : Aim) (set : List Bool) (run : PackageRun) (o : BuildOutcome) (built after : List Made) (old new : PlanView) (a b : R)
     → IsRunFor aim set run → All (λ m. m.run ≢ run) built → after ≡ built ++ record { run = run; outcome = o } ∷ [] → new ≡ with_run aim.slot aim.member run old
     → ran new (step_at (length old.entries) (record { run = run; outcome = o }) ∷ []) a b → Tells (ended b) o → IsReady aim old → BuildsOne ran ended aim set (told_of o) built after old new a b
 built_now ran ended aim set run o built after old new a b fits fresh is grown did tells ready =
@@ -164,7 +164,7 @@ kept-under P Q true made plan before now under kept = λ q. kept (under q)
 kept-under P Q false made plan before now under kept = kept
 
 -- one set was built, and why it was broken is kept
-pub built_alone : {R : Type 0} (ran : PlanView → List Handed → R → R → Type 0) (ended : R → Bool) (aim : Aim) (set : List Bool) (came : Result Outcome CulpritsFault) (before after : List Made) (why now : Option CulpritsFault) (old new : PlanView) (a b : R)
+pub built_alone : {R : Type 0} (ran : PlanView → List Handed → R → R → Type 0) (ended : R → Bool) (aim : Aim) (set : List Bool) (came : Result BuildOutcome CulpritsFault) (before after : List Made) (why now : Option CulpritsFault) (old new : PlanView) (a b : R)
     → BuildsOne ran ended aim set came before after old new a b → now ≡ kept_of came why → Builds ran ended aim (record { set = set; outcome = outcome_of came } ∷ []) before after why now old new a b
 built_alone ran ended aim set came before after why now old new a b one kept = record {
   ready = one.ready;

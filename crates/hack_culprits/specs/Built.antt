@@ -5,8 +5,8 @@ use Rattle.hack_closures.specs.View.{alone_in, choice_in, has_all, search_of}
 use Rattle.hack_closures.specs.declared.build.Build.{Build}
 use Rattle.hack_closures.specs.declared.build.Build.TheVariants as build
 use Rattle.hack_conflicts.specs.Runs.{Finding, IsCourse, IsFinding, Run as Asked}
-use Rattle.hack_conflicts.specs.declared.tried.Outcome.{Outcome}
-use Rattle.hack_conflicts.specs.declared.tried.Outcome.TheVariants.{Passed, Failed, Broken}
+use Rattle.hack_conflicts.specs.declared.tried.BuildOutcome.{BuildOutcome}
+use Rattle.hack_conflicts.specs.declared.tried.BuildOutcome.TheVariants.{Passed, Failed, Broken}
 use Rattle.hack_plan.specs.Growth.{with_run}
 use Rattle.hack_plan.specs.Runs.{PackageRun, Plain, AllFeatures, NoDefaultFeatures, Set}
 use Rattle.hack_plan.specs.View.{PlanView}
@@ -35,10 +35,10 @@ IsRunFor aim set run =
 -- a run that was built, and how it ended
 pub record Made : Type 0 where
   pub run : PackageRun
-  pub outcome : Outcome
+  pub outcome : BuildOutcome
 
 -- how the step of a run ended: what is broken has failed
-abbrev pub step_outcome : Outcome → Ended
+abbrev pub step_outcome : BuildOutcome → Ended
 step_outcome Passed = step.Passed
 step_outcome Failed = step.Failed
 step_outcome Broken = step.Failed
@@ -53,7 +53,7 @@ steps_from place [] = []
 steps_from place (m ∷ more) = step_at place m ∷ steps_from (place + 1) more
 
 -- what an outcome says of the call: after a run that failed it isn't at its end, after a broken one it is
-abbrev pub Tells : Bool → Outcome → Type 0
+abbrev pub Tells : Bool → BuildOutcome → Type 0
 Tells ended Passed = Unit {0}
 Tells ended Failed = ended ≡ false
 Tells ended Broken = ended ≡ true

@@ -4,8 +4,8 @@ use Rattle.std.specs.List.{list_any}
 use Rattle.hack_closures.specs.View.{search_of}
 use Rattle.hack_conflicts.specs.Rules.{IsChoice, IsPreorder}
 use Rattle.hack_conflicts.specs.Runs.{Run as Asked}
-use Rattle.hack_conflicts.specs.declared.tried.Outcome.{Outcome}
-use Rattle.hack_conflicts.specs.declared.tried.Outcome.TheVariants.{Broken, Failed, Passed}
+use Rattle.hack_conflicts.specs.declared.tried.BuildOutcome.{BuildOutcome}
+use Rattle.hack_conflicts.specs.declared.tried.BuildOutcome.TheVariants.{Broken, Failed, Passed}
 use Rattle.hack_plan.specs.Plans.{AreRunsOfPackages}
 use Rattle.hack_plan.specs.View.{PlanView}
 use Rattle.hack_session.specs.declared.step.Handed.{Handed}
@@ -25,7 +25,7 @@ pub record IsReady (aim : Aim) (plan : PlanView) : Type 0 where
   pub runs : AreRunsOfPackages plan.packages plan.entries
   pub order : IsPreorder (search_of aim.closures.now)
 
-abbrev pub is_broken : Outcome → Bool
+abbrev pub is_broken : BuildOutcome → Bool
 is_broken Passed = false
 is_broken Failed = false
 is_broken Broken = true
@@ -55,24 +55,24 @@ MayBuild ran ended aim asked before after why now old new a b =
     IsReady aim old → All (λ one. IsChoice (search_of aim.closures.now) one.set) asked → Builds ran ended aim asked before after why now old new a b
 
 -- why a build was broken, where it was
-abbrev pub kept_of : Result Outcome CulpritsFault → Option CulpritsFault → Option CulpritsFault
+abbrev pub kept_of : Result BuildOutcome CulpritsFault → Option CulpritsFault → Option CulpritsFault
 kept_of (Ok outcome) before = before
 kept_of (Err why) before = Some why
 
 -- what came of a set that was asked for
-abbrev pub outcome_of : Result Outcome CulpritsFault → Outcome
+abbrev pub outcome_of : Result BuildOutcome CulpritsFault → BuildOutcome
 outcome_of (Ok outcome) = outcome
 outcome_of (Err why) = Broken
 
 -- what a search is told of a run that ended so
-abbrev pub told_of : Outcome → Result Outcome CulpritsFault
+abbrev pub told_of : BuildOutcome → Result BuildOutcome CulpritsFault
 told_of Passed = Ok Passed
 told_of Failed = Ok Failed
 told_of Broken = Err Ended
 
 -- a set was built, or what stands for it before; or its build was broken, and why
 pub record BuildsOne {R : Type 0} (ran : PlanView → List Handed → R → R → Type 0) (ended : R → Bool) (aim : Aim)
-    (set : List Bool) (came : Result Outcome CulpritsFault) (before after : List Made) (old new : PlanView) (a b : R) : Type 0 where
+    (set : List Bool) (came : Result BuildOutcome CulpritsFault) (before after : List Made) (old new : PlanView) (a b : R) : Type 0 where
   pub ready : IsReady aim new
   pub built : AreBuilt ran ended aim (record { set = set; outcome = outcome_of came } ∷ []) before after old new a b
   pub kept : (first : Option CulpritsFault) → KeepsWhy (AreUnbroken before) (is_broken (outcome_of came)) after new first (kept_of came first)

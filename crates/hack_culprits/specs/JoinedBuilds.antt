@@ -8,8 +8,8 @@ use Rattle.std.proofs.lemmas.List.Elements.{All-append, All-cons, All-contains, 
 use Rattle.hack_closures.specs.View.{search_of}
 use Rattle.hack_conflicts.specs.Rules.{IsChoice}
 use Rattle.hack_conflicts.specs.Runs.{AreWhole, Run as Asked}
-use Rattle.hack_conflicts.specs.declared.tried.Outcome.{Outcome}
-use Rattle.hack_conflicts.specs.declared.tried.Outcome.TheVariants.{Broken, Failed, Passed}
+use Rattle.hack_conflicts.specs.declared.tried.BuildOutcome.{BuildOutcome}
+use Rattle.hack_conflicts.specs.declared.tried.BuildOutcome.TheVariants.{Broken, Failed, Passed}
 use Rattle.hack_plan.specs.Growth.{IsGrown, with_run}
 use Rattle.hack_plan.specs.GrowthLaws.{grown_by_run, grown_refl, grown_trans}
 use Rattle.hack_plan.specs.Plans.{AreRunsOfPackages}
@@ -91,7 +91,7 @@ unbroken_added aim asked added whole needed = λ k d lt is.
     let one = needed k d lt in
     All-contains (λ (run : Asked). run.outcome ≢ Broken) asked one.0 whole one.1 (sym one.2.told ∙ is)
 
-broken-is : (o : Outcome) → is_broken o ≡ true → o ≡ Broken
+broken-is : (o : BuildOutcome) → is_broken o ≡ true → o ≡ Broken
 broken-is Passed e = absurd (true≢false (sym e))
 broken-is Failed e = absurd (true≢false (sym e))
 broken-is Broken e = refl

@@ -13,7 +13,7 @@ use crate::aim::Aim;
 use crate::built::{Built, outcome_of, run_of};
 use crate::fault::CulpritsFault;
 use hack_closures::Build;
-use hack_conflicts::{Builds, Outcome};
+use hack_conflicts::{BuildOutcome, Builds};
 use hack_plan::plan::Plan;
 use hack_session::session::{Outcome as Ended, Step};
 use hack_side::judge::Judge;
@@ -34,7 +34,7 @@ pub(crate) struct Builder<'a, R: Judge> {
 
 impl<R: Judge> Builder<'_, R> {
     /// Builds a set, unless what stands for it was built before.
-    fn try_set(&mut self, set: &[bool]) -> Result<Outcome, CulpritsFault>
+    fn try_set(&mut self, set: &[bool]) -> Result<BuildOutcome, CulpritsFault>
         ensures same { IsSameBuilder self.old self.new }
         ensures built { IsReady self.old.aim self.old.plan.now
             → IsChoice (search_of self.old.aim.closures.now) set.now
@@ -51,7 +51,7 @@ impl<R: Judge> Builder<'_, R> {
     }
 
     /// Appends what is to be built to the plan, and runs it.
-    fn run(&mut self, build: Build) -> Result<Outcome, CulpritsFault>
+    fn run(&mut self, build: Build) -> Result<BuildOutcome, CulpritsFault>
         ensures same { IsSameBuilder self.old self.new }
         ensures built { (set : List Bool) → IsReady self.old.aim self.old.plan.now
             → IsRunFor self.old.aim set (run_for self.old.aim.plain build)
@@ -85,26 +85,26 @@ impl<R: Judge> Builder<'_, R> {
 }
 
 /// Performs the run at a place of the plan.
-fn step<R: Judge>(plan: &Plan, place: usize, runner: &mut R) -> Outcome
+fn step<R: Judge>(plan: &Plan, place: usize, runner: &mut R) -> BuildOutcome
     requires { place < length plan.now.entries }
     ensures ran { (run : PackageRun) → R.ran plan.now
         (step_at place (record { run = run; outcome = result }) ∷ []) runner.old runner.new }
     ensures tells { Tells (R.ended runner.new) result }
 {
     match runner.step(plan, Step::Run(place)) {
-        Ended::Passed => Outcome::Passed,
-        Ended::Failed if runner.has_ended() => Outcome::Broken,
-        Ended::Failed => Outcome::Failed,
+        Ended::Passed => BuildOutcome::Passed,
+        Ended::Failed if runner.has_ended() => BuildOutcome::Broken,
+        Ended::Failed => BuildOutcome::Failed,
     }
 }
 
 /// What a search is told of a run that ended so: nothing of a broken one.
-fn told(outcome: Outcome) -> Result<Outcome, CulpritsFault>
+fn told(outcome: BuildOutcome) -> Result<BuildOutcome, CulpritsFault>
     ensures { result ≡ told_of outcome }
 {
     match outcome {
-        Outcome::Passed | Outcome::Failed => Ok(outcome),
-        Outcome::Broken => Err(CulpritsFault::Ended),
+        BuildOutcome::Passed | BuildOutcome::Failed => Ok(outcome),
+        BuildOutcome::Broken => Err(CulpritsFault::Ended),
     }
 }
 
@@ -140,12 +140,12 @@ impl<R: Judge> Builds for Builder<'_, R> {
           c.runner.now) p.2 q.3),
     ) };
 
-    fn build(&mut self, set: &[bool]) -> Outcome {
+    fn build(&mut self, set: &[bool]) -> BuildOutcome {
         match self.try_set(set) {
             Ok(outcome) => outcome,
             Err(fault) => {
                 self.fault = Some(fault);
-                Outcome::Broken
+                BuildOutcome::Broken
             }
         }
     }

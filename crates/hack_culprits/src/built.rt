@@ -1,13 +1,13 @@
 //! What was built for a package and a slot.
 
 ghost use Rattle.std.specs.Prelude.{◌≡◌, ◌≢◌, All, Bool, Contains, IfOk, MatchBool, MatchOption};
-ghost use Rattle.hack_conflicts.specs.declared.tried.Outcome.{Outcome as Ended};
+ghost use Rattle.hack_conflicts.specs.declared.tried.BuildOutcome.{BuildOutcome as Ended};
 ghost use Rattle.hack_plan.specs.AddedRuns.{added_run};
 ghost use Rattle.hack_culprits.specs.Built.{Made, run_for};
 ghost use Rattle.hack_culprits.specs.Internal.{made_in};
 
 use hack_closures::Build;
-use hack_conflicts::Outcome;
+use hack_conflicts::BuildOutcome;
 use hack_plan::runs::Added;
 use std::alloc::{AllocError, Global};
 
@@ -15,11 +15,11 @@ use std::alloc::{AllocError, Global};
 #[derive(Drop)]
 pub(crate) struct Built {
     pub build: Build,
-    pub outcome: Outcome,
+    pub outcome: BuildOutcome,
 }
 
 /// How the run of this build ended, if it was built.
-pub(crate) fn outcome_of(built: &[Built], build: &Build) -> Option<Outcome>
+pub(crate) fn outcome_of(built: &[Built], build: &Build) -> Option<BuildOutcome>
     ensures { (plain : Bool) → MatchOption result
         (All (λ m. m.run ≢ run_for plain build.now) (made_in plain built.now))
         (λ outcome. Contains (made_in plain built.now)

@@ -20,7 +20,7 @@ ghost use Rattle.hack_edits.specs.Internal.{AreRecut, AppendsWhatIsLeft};
 
 use crate::arrays::without_elements;
 use crate::dev_tree::reads_as;
-use crate::fault::ManifestFault;
+use crate::fault::EditFault;
 use crate::key_paths::{is_dev_path, name};
 use crate::lookup::{
     FEATURES, TARGET, feature_loses, feature_value, holds_dev, target_has_dev, targets_hold_dev,
@@ -36,18 +36,18 @@ use toml::{Table, Value};
 
 /// Returns the manifest without its development dependencies: without their tables, and without the
 /// texts in features that name a dependency for development alone. All other bytes stay, in order.
-pub fn remove_dev_deps(alloc: Global, text: &str) -> Result<String, ManifestFault>
+pub fn remove_dev_deps(alloc: Global, text: &str) -> Result<String, EditFault>
     ensures ok { IfOk result (λ s. IsWithoutDev text.now (string_bytes s)) }
     ensures unchanged { HasNoDev text.now → MatchResult result
-        (λ s. string_bytes s ≡ text.now) (λ e. e ≡ ManifestFault.Memory) }
-    ensures toml { result ≡ Err ManifestFault.Toml → parse_document text.now ≡ None }
-    ensures inline { result ≡ Err ManifestFault.InlineTarget → HasInlineTarget text.now }
-    ensures read_back { result ≡ Err ManifestFault.ReadBack → IsMisread text.now }
-    ensures form { result ≢ Err ManifestFault.WorkspaceForm }
-    ensures path { result ≢ Err ManifestFault.PathText }
+        (λ s. string_bytes s ≡ text.now) (λ e. e ≡ EditFault.Memory) }
+    ensures toml { result ≡ Err EditFault.Toml → parse_document text.now ≡ None }
+    ensures inline { result ≡ Err EditFault.InlineTarget → HasInlineTarget text.now }
+    ensures read_back { result ≡ Err EditFault.ReadBack → IsMisread text.now }
+    ensures form { result ≢ Err EditFault.WorkspaceForm }
+    ensures path { result ≢ Err EditFault.PathText }
 {
     let Some(old) = tree_of(alloc, text)? else {
-        return Err(ManifestFault::Toml);
+        return Err(EditFault::Toml);
     };
     let cut = cut(alloc, text)?;
     if !has_work(&old, &cut.pieces) {
@@ -58,36 +58,36 @@ pub fn remove_dev_deps(alloc: Global, text: &str) -> Result<String, ManifestFaul
 }
 
 /// Edits a manifest that has something to take out.
-fn without_dev_pieces(alloc: Global, old: Table, cut: &Pieces<'_>) -> Result<String, ManifestFault>
+fn without_dev_pieces(alloc: Global, old: Table, cut: &Pieces<'_>) -> Result<String, EditFault>
     requires { (text : List ℕ) × AreCut text (pieces_view cut.now) cut.now.tail.now }
     ensures ok { IfOk result (λ s.
         IsEdit (table_view old) (pieces_view cut.now) cut.now.tail.now (string_bytes s)) }
-    ensures inline { result ≡ Err ManifestFault.InlineTarget
+    ensures inline { result ≡ Err EditFault.InlineTarget
         → some_inline (table_view old) (pieces_view cut.now) ≡ true }
-    ensures open_tables { result ≡ Err ManifestFault.ReadBack
+    ensures open_tables { result ≡ Err EditFault.ReadBack
         → some_inline (table_view old) (pieces_view cut.now) ≡ false }
-    ensures read_back { result ≡ Err ManifestFault.ReadBack
+    ensures read_back { result ≡ Err EditFault.ReadBack
         → (cuts_arrays (table_view old) (pieces_view cut.now) ≡ true)
         ⊎ (reads_as_left (table_view old)
         (parse_document (kept_text (pieces_view cut.now) cut.now.tail.now)) ≡ false) }
-    ensures toml { result ≢ Err ManifestFault.Toml }
-    ensures form { result ≢ Err ManifestFault.WorkspaceForm }
-    ensures path { result ≢ Err ManifestFault.PathText }
+    ensures toml { result ≢ Err EditFault.Toml }
+    ensures form { result ≢ Err EditFault.WorkspaceForm }
+    ensures path { result ≢ Err EditFault.PathText }
 {
     if any_inline(&old, &cut.pieces) {
-        return Err(ManifestFault::InlineTarget);
+        return Err(EditFault::InlineTarget);
     }
     let Some(Left { text, known }) = join_pieces(alloc, &old, &cut.pieces, cut.tail)? else {
-        return Err(ManifestFault::ReadBack);
+        return Err(EditFault::ReadBack);
     };
     if !reads_as(alloc, old, text.as_str())? {
-        return Err(ManifestFault::ReadBack);
+        return Err(EditFault::ReadBack);
     }
     if known {
         return Ok(text);
     }
     if has_dev_piece(alloc, text.as_str())? {
-        return Err(ManifestFault::ReadBack);
+        return Err(EditFault::ReadBack);
     }
     Ok(text)
 }

@@ -7,7 +7,7 @@ use thiserror::Error;
 
 /// Why a manifest couldn't be edited. The caller knows its path.
 #[derive(Debug, PartialEq, Eq, Drop, Error)]
-pub enum ManifestFault {
+pub enum EditFault {
     /// The text isn't a TOML document.
     #[error("failed to parse manifest as toml")]
     Toml,
@@ -27,12 +27,12 @@ pub enum ManifestFault {
     Memory,
 }
 
-impl From<AllocError> for ManifestFault {
-    ghost use Rattle.hack_edits.specs.declared.fault.ManifestFault.TheVariants.{Memory};
+impl From<AllocError> for EditFault {
+    ghost use Rattle.hack_edits.specs.declared.fault.EditFault.TheVariants.{Memory};
 
     ghost from_gives = { λ _ e. e ≡ Memory };
 
-    fn from(_e: AllocError) -> ManifestFault {
-        ManifestFault::Memory
+    fn from(_e: AllocError) -> EditFault {
+        EditFault::Memory
     }
 }

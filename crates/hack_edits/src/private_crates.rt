@@ -23,7 +23,7 @@ ghost use Rattle.hack_edits.specs.WorkspaceTree.{takes, has_work};
 
 use crate::arrays::without_elements;
 use crate::exclude::{added_inside, has_paths, with_exclude_line};
-use crate::fault::ManifestFault;
+use crate::fault::EditFault;
 use crate::key_paths::{is_header_of, is_pair};
 use crate::members::{Choice, MEMBERS, Private, chosen, in_order};
 use crate::tables::{copy_of, tree_of};
@@ -42,21 +42,21 @@ pub fn remove_private_crates(
     text: &str,
     root: &str,
     private: &[&str],
-) -> Result<String, ManifestFault>
+) -> Result<String, EditFault>
     ensures ok { IfOk result (λ s.
         IsWithoutPrivate root.now (in_order (names_behind private.now)) text.now (string_bytes s)) }
     ensures unchanged { HasNoWork root.now (in_order (names_behind private.now)) text.now
-        → MatchResult result (λ s. string_bytes s ≡ text.now) (λ e. e ≡ ManifestFault.Memory) }
-    ensures toml { result ≡ Err ManifestFault.Toml → parse_document text.now ≡ None }
-    ensures form { result ≡ Err ManifestFault.WorkspaceForm
+        → MatchResult result (λ s. string_bytes s ≡ text.now) (λ e. e ≡ EditFault.Memory) }
+    ensures toml { result ≡ Err EditFault.Toml → parse_document text.now ≡ None }
+    ensures form { result ≡ Err EditFault.WorkspaceForm
         → HasBadForm root.now (in_order (names_behind private.now)) text.now }
-    ensures path { result ≡ Err ManifestFault.PathText
+    ensures path { result ≡ Err EditFault.PathText
         → HasWork root.now (in_order (names_behind private.now)) text.now
         × (some_path_control (in_order (names_behind private.now)) ≡ true) }
-    ensures read_back { result ≡ Err ManifestFault.ReadBack
+    ensures read_back { result ≡ Err EditFault.ReadBack
         → HasFitForm root.now (in_order (names_behind private.now)) text.now
         × (some_path_control (in_order (names_behind private.now)) ≡ false) }
-    ensures inline { result ≢ Err ManifestFault.InlineTarget }
+    ensures inline { result ≢ Err EditFault.InlineTarget }
 {
     let ordered = in_order(alloc, private)?;
     let sorted = Private {
@@ -67,29 +67,25 @@ pub fn remove_private_crates(
 }
 
 /// Returns the manifest without private crates, whose paths are in order.
-fn without_ordered(
-    alloc: Global,
-    text: &str,
-    private: &Private<'_>,
-) -> Result<String, ManifestFault>
+fn without_ordered(alloc: Global, text: &str, private: &Private<'_>) -> Result<String, EditFault>
     ensures ok { IfOk result (λ s. IsWithoutPrivate private.now.root.now
         (names_behind private.now.paths.now) text.now
         (string_bytes s)) }
     ensures unchanged { HasNoWork private.now.root.now (names_behind private.now.paths.now) text.now
-        → MatchResult result (λ s. string_bytes s ≡ text.now) (λ e. e ≡ ManifestFault.Memory) }
-    ensures toml { result ≡ Err ManifestFault.Toml → parse_document text.now ≡ None }
-    ensures form { result ≡ Err ManifestFault.WorkspaceForm
+        → MatchResult result (λ s. string_bytes s ≡ text.now) (λ e. e ≡ EditFault.Memory) }
+    ensures toml { result ≡ Err EditFault.Toml → parse_document text.now ≡ None }
+    ensures form { result ≡ Err EditFault.WorkspaceForm
         → HasBadForm private.now.root.now (names_behind private.now.paths.now) text.now }
-    ensures path { result ≡ Err ManifestFault.PathText
+    ensures path { result ≡ Err EditFault.PathText
         → (HasWork private.now.root.now (names_behind private.now.paths.now) text.now)
         × (some_path_control (names_behind private.now.paths.now) ≡ true) }
-    ensures read_back { result ≡ Err ManifestFault.ReadBack
+    ensures read_back { result ≡ Err EditFault.ReadBack
         → HasFitForm private.now.root.now (names_behind private.now.paths.now) text.now
         × (some_path_control (names_behind private.now.paths.now) ≡ false) }
-    ensures inline { result ≢ Err ManifestFault.InlineTarget }
+    ensures inline { result ≢ Err EditFault.InlineTarget }
 {
     let Some(old) = tree_of(alloc, text)? else {
-        return Err(ManifestFault::Toml);
+        return Err(EditFault::Toml);
     };
     let Some(workspace) = find_table(&old, WORKSPACE) else {
         let same = String::from_str(alloc, text)?;
@@ -101,7 +97,7 @@ fn without_ordered(
         return Ok(same);
     }
     if any_control(private.paths) {
-        return Err(ManifestFault::PathText);
+        return Err(EditFault::PathText);
     }
     let copy = copy_of(&old)?;
     without_private(alloc, text, private, workspace, &choice, copy)
@@ -115,7 +111,7 @@ fn without_private(
     workspace: &Table,
     choice: &Choice<'_>,
     old: Table,
-) -> Result<String, ManifestFault>
+) -> Result<String, EditFault>
     requires read { parse_document text.now ≡ Some (table_view old) }
     requires workspace { table_at workspace_key (table_view old) ≡ Some (table_view workspace.now) }
     requires takes { choice.now.some
@@ -129,28 +125,28 @@ fn without_private(
     ensures ok { IfOk result (λ s. IsWorkspaceEdit private.now.root.now
         (names_behind private.now.paths.now) text.now
         (table_view old) (table_view workspace.now) (string_bytes s)) }
-    ensures form { result ≡ Err ManifestFault.WorkspaceForm
+    ensures form { result ≡ Err EditFault.WorkspaceForm
         → HasBadForm private.now.root.now (names_behind private.now.paths.now) text.now }
-    ensures read_back { result ≡ Err ManifestFault.ReadBack
+    ensures read_back { result ≡ Err EditFault.ReadBack
         → HasFitForm private.now.root.now (names_behind private.now.paths.now) text.now }
-    ensures toml { result ≢ Err ManifestFault.Toml }
-    ensures inline { result ≢ Err ManifestFault.InlineTarget }
-    ensures path { result ≢ Err ManifestFault.PathText }
+    ensures toml { result ≢ Err EditFault.Toml }
+    ensures inline { result ≢ Err EditFault.InlineTarget }
+    ensures path { result ≢ Err EditFault.PathText }
 {
     let cut = cut(alloc, text)?;
     if is_inline(&cut.pieces, WORKSPACE)
         || has_paths(choice.paths.as_slice()) && lacks_place(workspace, &cut.pieces)
     {
-        return Err(ManifestFault::WorkspaceForm);
+        return Err(EditFault::WorkspaceForm);
     }
     let Some(bytes) = joined_parts(alloc, workspace, choice, &cut.pieces, cut.tail)? else {
-        return Err(ManifestFault::ReadBack);
+        return Err(EditFault::ReadBack);
     };
     let Ok(new) = String::from_utf8(bytes) else {
-        return Err(ManifestFault::ReadBack);
+        return Err(EditFault::ReadBack);
     };
     if !reads_as_expected(alloc, private, old, new.as_str())? {
-        return Err(ManifestFault::ReadBack);
+        return Err(EditFault::ReadBack);
     }
     Ok(new)
 }

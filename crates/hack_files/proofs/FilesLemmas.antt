@@ -8,7 +8,7 @@ use Rattle.std.proofs.lemmas.List.{take_more, map-append}
 use Rattle.hack_files.specs.Files.{Change, Contents, KeepsOthers, Makes, Trace, after, after_change, in_order}
 use Rattle.hack_files.specs.TraceLaws.{after_append, none_next, nothing_next}
 use Rattle.hack_files.specs.Memory.{change_of, held_after, no_contents}
-use Rattle.hack_files.specs.declared.memory.Step.{Step}
+use Rattle.hack_files.specs.declared.memory.FileChange.{FileChange}
 
 -- what a path holds after a change at it
 pub changed_here : (c : Change) (m : Contents) → after_change c m c.path ≡ c.bytes
@@ -30,7 +30,7 @@ makes_here old new c m n h = ap (λ f. f c.path) h.holds ∙ changed_here c m
 pub makes_others : (old new : Trace) (c : Change) (m n : Contents) → Makes (c ∷ []) old new m n → KeepsOthers c.path m n
 makes_others old new c m n h q ne = ap (λ f. f q) h.holds ∙ changed_other c m q ne
 
-pub held_more : (steps : List Step) (i : ℕ) (step : Step) (q : List ℕ) → i < length steps → step ≡ get_or steps i step
+pub held_more : (steps : List FileChange) (i : ℕ) (step : FileChange) (q : List ℕ) → i < length steps → step ≡ get_or steps i step
     → held_after (take (i + 1) steps) q ≡ cond (bytes_eq (string_bytes step.path) q) (change_of step).bytes (held_after (take i steps) q)
 held_more steps i step q lt is =
     ap (λ l. held_after l q) (take_more steps i step lt ∙ ap (λ s. take i steps ++ s ∷ []) (sym is))

@@ -12,7 +12,7 @@ ghost use Rattle.hack_files.specs.Faults.{IsOfRead, IsOfText, IsOfWrite, IsUnsee
 
 pub use crate::disk::Disk;
 pub use crate::failing::{FailingFiles, FailingWriter};
-pub use crate::memory::{MemoryFiles, Step};
+pub use crate::memory::{FileChange, MemoryFiles};
 use std::alloc::{AllocError, Global};
 use std::error::Error;
 use std::{fmt, io};

@@ -13,7 +13,7 @@ use std::alloc::{AllocError, Global};
 
 /// A path and the bytes that it holds from now on, or `None` where it was removed.
 #[derive(Debug, Drop)]
-pub struct Step {
+pub struct FileChange {
     pub path: String,
     pub bytes: Option<Vec<u8>>,
 }
@@ -22,14 +22,14 @@ pub struct Step {
 #[derive(Debug, Drop)]
 pub struct MemoryFiles {
     alloc: Global,
-    steps: Vec<Step>,
+    steps: Vec<FileChange>,
     failures: u64,
     /// How many calls memory was refused for.
     starved: u64,
 }
 
 /// What the path holds after these steps.
-fn held_at<'a>(steps: &'a [Step], path: &str) -> Option<&'a [u8]>
+fn held_at<'a>(steps: &'a [FileChange], path: &str) -> Option<&'a [u8]>
     ensures { option_map (λ bytes. bytes.now) result ≡ held_after steps.now path.now }
 {
     let mut found = None;
@@ -58,7 +58,7 @@ impl MemoryFiles {
     }
 
     /// The changes that were made, the first one first.
-    pub fn steps(&self) -> &[Step]
+    pub fn steps(&self) -> &[FileChange]
         ensures { result.now ≡ self.now.steps.items }
     {
         &self.steps
@@ -98,7 +98,7 @@ impl MemoryFiles {
             Some(bytes) => Some(bytes.to_vec(self.alloc)?),
             None => None,
         };
-        self.steps.push(Step { path, bytes })?;
+        self.steps.push(FileChange { path, bytes })?;
         Ok(())
     }
 }

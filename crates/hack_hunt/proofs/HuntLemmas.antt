@@ -4,7 +4,7 @@ use Rattle.std.specs.List.{flat_map}
 use Rattle.std.proofs.Common.{refl, sym, ap, ◌∙◌, subst, inl, inr, arith}
 use Rattle.std.proofs.lemmas.List.{append_assoc, append-nil, length-append}
 use Rattle.std.proofs.lemmas.List.Elements.{All-append, All-nil}
-use Rattle.hack_conflicts.specs.declared.tried.Outcome.TheVariants.{Broken}
+use Rattle.hack_conflicts.specs.declared.tried.BuildOutcome.TheVariants.{Broken}
 use Rattle.hack_culprits.proofs.BuildLemmas.{handed_ran, length_changed}
 use Rattle.hack_culprits.specs.Built.{AreHanded, AreUnbroken, Explains, Made, with_made}
 use Rattle.hack_culprits.specs.JoinedBuilds.{handed_append, handed_grown, made_grows, made_places}

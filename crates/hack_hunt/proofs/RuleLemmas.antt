@@ -13,8 +13,8 @@ use Rattle.hack_conflicts.specs.Rules.{IsChoice}
 use Rattle.hack_conflicts.specs.Runs.{Finding, HasFailed, HasPassed, IsFinding, Run}
 use Rattle.hack_conflicts.specs.Sets.{Has}
 use Rattle.hack_conflicts.specs.declared.rules.Rules.{Rules as SearchRules}
-use Rattle.hack_conflicts.specs.declared.tried.Outcome.{Outcome}
-use Rattle.hack_conflicts.specs.declared.tried.Outcome.TheVariants.{Failed, Passed}
+use Rattle.hack_conflicts.specs.declared.tried.BuildOutcome.{BuildOutcome}
+use Rattle.hack_conflicts.specs.declared.tried.BuildOutcome.TheVariants.{Failed, Passed}
 use Rattle.hack_culprits.specs.declared.aim.Aim.{Aim}
 use Rattle.hack_features.specs.ChoiceView.{choice}
 use Rattle.hack_features.specs.Feature.{groups_of}
@@ -54,7 +54,7 @@ aim_at cx spot p f r plain aim known loaded rules is of = record {
       (subst (λ (r : PackageRulesRecord). AreRulesOf (searched plain (package_choice r p f)) (ends_of r f plain) aim) rules of.rules);
 }
 
-no-runs : (runs : List Run) (s : List Bool) (o : Outcome) → runs ≡ [] → Contains runs (record { set = s; outcome = o }) → ⊥
+no-runs : (runs : List Run) (s : List Bool) (o : BuildOutcome) → runs ≡ [] → Contains runs (record { set = s; outcome = o }) → ⊥
 no-runs runs s o is c = absurd (omega (arith, c.1, ap length is))
 
 -- where nothing was run though a run is allowed, no set may be chosen

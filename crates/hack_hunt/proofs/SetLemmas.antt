@@ -7,10 +7,10 @@ use Rattle.std.proofs.lemmas.List.Elements.{All-contains, Contains-get_or}
 use Rattle.hack_conflicts.specs.Rules.{IsChoice}
 use Rattle.hack_conflicts.specs.Runs.{HasFailed, IsClear, Run}
 use Rattle.hack_conflicts.specs.declared.rules.Rules.{Rules}
-use Rattle.hack_conflicts.specs.declared.tried.Outcome.{Outcome}
+use Rattle.hack_conflicts.specs.declared.tried.BuildOutcome.{BuildOutcome}
 
 -- sets that were tried may be chosen
-pub tried_chosen : (r : Rules) (runs : List Run) (o : Outcome) (sets : List (List Bool)) → All (λ (run : Run). IsChoice r run.set) runs → All (λ s. Contains runs (record { set = s; outcome = o })) sets → All (IsChoice r) sets
+pub tried_chosen : (r : Rules) (runs : List Run) (o : BuildOutcome) (sets : List (List Bool)) → All (λ (run : Run). IsChoice r run.set) runs → All (λ s. Contains runs (record { set = s; outcome = o })) sets → All (IsChoice r) sets
 tried_chosen r runs o sets chosen had = λ k d lt. All-contains (λ (run : Run). IsChoice r run.set) runs (record { set = _; outcome = o }) chosen (had k d lt)
 
 zip-push : {A B : Type 0} (R : A → B → Type 0) (xs : List A) (ys : List B) (x : A) (y : B) → AllZip R xs ys → R x y → AllZip R (xs ++ x ∷ []) (ys ++ y ∷ [])
@@ -25,7 +25,7 @@ zip_more R xs i d lt ys y is before = subst (λ zs. AllZip R zs (ys ++ y ∷ [])
 
 -- a run that failed is among the runs
 pub failed_at : (runs : List Run) (conflicts : List (List Bool)) (k : ℕ) (d : Run) → k < length runs → IsClear conflicts (get_or runs k d) → HasFailed runs (get_or runs k d).set
-failed_at runs conflicts k d lt clear = subst (λ (o : Outcome). Contains runs (record { set = (get_or runs k d).set; outcome = o })) clear.0 (Contains-get_or runs k d lt)
+failed_at runs conflicts k d lt clear = subst (λ (o : BuildOutcome). Contains runs (record { set = (get_or runs k d).set; outcome = o })) clear.0 (Contains-get_or runs k d lt)
 
 pub zip_length : {A B : Type 0} (R : A → B → Type 0) (xs : List A) (ys : List B) → AllZip R xs ys → length xs ≡ length ys
 zip_length R [] [] z = refl

@@ -6,7 +6,7 @@ use Rattle.std.specs.Str.{IsUtf8}
 use Rattle.hack_base.specs.PathTexts.{is_rooted, join_of, normal_of}
 use Rattle.hack_files.specs.Files.{Contents, Makes, Trace, removes}
 use Rattle.hack_journal.specs.Journal.{Edit, HaveTextPaths, journal_text}
-use Rattle.hack_journal.specs.declared.place.Place.{Place}
+use Rattle.hack_journal.specs.declared.place.JournalPlace.{JournalPlace}
 
 -- the folder that the paths in a journal's text are relative to, and the journal's path
 pub record Spot : Type 0 where
@@ -14,7 +14,7 @@ pub record Spot : Type 0 where
   pub journal : List ℕ
 
 -- a place as plain data
-abbrev pub spot_of : Place → Spot
+abbrev pub spot_of : JournalPlace → Spot
 spot_of place = record { folder = string_bytes place.folder; journal = string_bytes place.journal }
 
 -- what a call has noted: the journal's path, and the entries of its files, one each

@@ -23,7 +23,7 @@ ghost use Rattle.hack_journal.specs.Refusing.{IsCounted, IsRefusedOrUnkept};
 
 use crate::contents::{are_back, put_over};
 use crate::notes::Notes;
-use crate::place::Place;
+use crate::place::JournalPlace;
 use crate::unkept::{Refusal, Unkept};
 use hack_files::fs::{FileFault, Files, Overwrites, count_failure, counted};
 use std::alloc::Global;
@@ -49,7 +49,7 @@ impl<F: Files, U: Unkept> Journaled<F, U> {
     /// Files over these, of which nothing is kept yet, with no failed call counted. The journal is
     /// written to this place before the first change; one that is there already would be lost, so
     /// call `recover` first. `unkept` is told of each write and removal that can't be kept.
-    pub fn new(alloc: Global, files: F, place: Place, unkept: U) -> Self
+    pub fn new(alloc: Global, files: F, place: JournalPlace, unkept: U) -> Self
         ensures place { spot_in result ≡ spot_of place }
         ensures files { result.files ≡ files }
         ensures unkept { result.unkept ≡ unkept }

@@ -14,7 +14,7 @@ use std::alloc::{AllocError, Global};
 
 /// Where a journal lies, and the folder that the paths in its text are relative to.
 #[derive(Debug, Drop)]
-pub struct Place {
+pub struct JournalPlace {
     pub folder: String,
     pub journal: String,
 }

@@ -22,7 +22,7 @@ use crate::contents::{look, put};
 use crate::cuts::is_own;
 use crate::entries::same;
 use crate::journal::Entry;
-use crate::place::{Place, file_of};
+use crate::place::{JournalPlace, file_of};
 use crate::rows::{Row, read_fault, row_at};
 use hack_files::fs::{FileFault, Files, FsFault};
 use std::alloc::{AllocError, AllocFailed, Global};
@@ -289,7 +289,7 @@ fn remove_files<F: Files>(
 fn take_back<F: Files>(
     alloc: Global,
     files: &mut F,
-    place: &Place,
+    place: &JournalPlace,
     row: &Row,
 ) -> Result<Vec<String>, RecoverFault>
     ensures failures { IsFailureCounted (F.failed files.old) (F.failed files.new) result }
@@ -335,7 +335,7 @@ fn take_back<F: Files>(
 pub fn recover<F: Files>(
     alloc: Global,
     files: &mut F,
-    place: &Place,
+    place: &JournalPlace,
 ) -> Result<Vec<String>, RecoverFault>
     // It ends at the first failed call of the files, and returns an error for it.
     ensures failures { IsFailureCounted (F.failed files.old) (F.failed files.new) result }

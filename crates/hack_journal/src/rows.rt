@@ -15,7 +15,7 @@ ghost use Rattle.hack_journal.specs.Internal.{NamesNoJournal};
 use crate::contents::look;
 use crate::entries::are_of_call;
 use crate::journal::{Entry, JournalFault, read_back};
-use crate::place::{Place, absolute, file_of};
+use crate::place::{JournalPlace, absolute, file_of};
 use crate::recover::RecoverFault;
 use hack_files::fs::{FileFault, Files, FsFault};
 use std::alloc::{AllocError, Global};
@@ -77,7 +77,7 @@ fn place_all(
 fn read_file<F: Files>(
     alloc: Global,
     files: &mut F,
-    place: &Place,
+    place: &JournalPlace,
     number: u64,
     entries: &mut Vec<Entry>,
 ) -> Result<bool, RecoverFault>
@@ -116,7 +116,7 @@ fn read_file<F: Files>(
 fn read_files<F: Files>(
     alloc: Global,
     files: &mut F,
-    place: &Place,
+    place: &JournalPlace,
     entries: &mut Vec<Entry>,
 ) -> Result<u64, RecoverFault>
     requires { entries.old.items ≡ [] }
@@ -143,7 +143,7 @@ fn read_files<F: Files>(
 pub fn row_at<F: Files>(
     alloc: Global,
     files: &mut F,
-    place: &Place,
+    place: &JournalPlace,
 ) -> Result<Option<Row>, RecoverFault>
     ensures failures { IsFailureCounted (F.failed files.old) (F.failed files.new) result }
     ensures calls { FailsOnlySo F.Files files.old files.new result }

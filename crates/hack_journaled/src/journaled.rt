@@ -30,7 +30,7 @@ use hack_base::writes::Sink;
 use hack_files::fs::{Files, Overwrites};
 use hack_journal::apart::Apart;
 use hack_journal::journaled::Journaled;
-use hack_journal::place::Place;
+use hack_journal::place::JournalPlace;
 use hack_journal::unkept::Unkept;
 use hack_run::host::Host;
 use hack_run::reading::Reading;
@@ -47,7 +47,7 @@ pub fn run_journaled<F: Overwrites, L: Files, U: Unkept, C: Starts, O: Sink, E: 
     reading: Option<Reading>,
     files: F,
     lockfiles: L,
-    place: Place,
+    place: JournalPlace,
     unkept: U,
     host: &mut Host<'_, C, O, E>,
 ) -> (u8, F, L, u64, U)

@@ -2,9 +2,9 @@
 use Rattle.std.specs.Prelude.{◌≡◌, ℕ, List, drop, map, string_bytes, Option, Some, None, Result, Ok, Err}
 use Rattle.std.specs.Borrow.{MutBor, Fml}
 use Rattle.std.specs.Io.BufRead.{Rests}
-use Rattle.hack_lexopt.specs.declared.cuts.Place.{Place}
+use Rattle.hack_lexopt.specs.declared.cuts.Unread.{Unread}
 use Rattle.hack_lexopt.specs.declared.cuts.Spot.{Spot}
-use Rattle.hack_lexopt.specs.declared.cuts.Place.TheVariants.{Closed, Value as Behind, Letters}
+use Rattle.hack_lexopt.specs.declared.cuts.Unread.TheVariants.{Closed, Value as Behind, Letters}
 use Rattle.hack_lexopt.specs.declared.parser.Parser.{Parser}
 use Rattle.hack_lexopt.specs.declared.arg.Arg.{Arg}
 use Rattle.hack_lexopt.specs.declared.arg.Arg.TheVariants.{Long, Short, Value}
@@ -18,7 +18,7 @@ use Rattle.hack_lexopt.specs.contracts.parser.Parser.{the_row}
 use Rattle.hack_lexopt.specs.Cuts.{Untaken, Nothing, Pending, Chain, LeftArguments, Flag, LongFlag, ShortFlag, Cut, FlagCut, ValueCut, cut_of, option_in, next_cut, unexpected_of}
 
 -- what the rest of an argument leaves unread
-abbrev pub untaken_rest : Place → List ℕ → Untaken
+abbrev pub untaken_rest : Unread → List ℕ → Untaken
 untaken_rest Closed bytes = Nothing
 untaken_rest Behind bytes = Pending bytes
 untaken_rest Letters bytes = Chain bytes

@@ -16,7 +16,7 @@ use crate::arg::{Arg, Flag};
 
 /// What is left of an argument.
 #[derive(Clone, Copy)]
-pub(crate) enum Place {
+pub(crate) enum Unread {
     /// Nothing that a later call may read.
     Closed,
     /// The value after the `=` of a long option.
@@ -32,7 +32,7 @@ pub(crate) struct Spot {
     pub letter: Option<char>,
     /// Where the unread rest of the argument begins.
     pub at: usize,
-    pub place: Place,
+    pub place: Unread,
 }
 
 /// An item of an argument, and how far it reads the argument.
@@ -51,7 +51,7 @@ pub(crate) fn letter_cut(word: &str, at: usize) -> Head<'_>
     ensures letter { result.spot.letter ≡ letter_in (cut_in result.arg) }
     ensures untaken { untaken_at result.spot word.now ≡ after_letter (drop at word.now) }
     ensures boundary { IsCharBoundary word.now result.spot.at }
-    ensures letters { result.spot.place ≡ Place.Letters → result.spot.at < length word.now }
+    ensures letters { result.spot.place ≡ Unread.Letters → result.spot.at < length word.now }
 {
     let mut chars = word[at..].chars();
     let Some(letter) = chars.next() else {
@@ -59,9 +59,9 @@ pub(crate) fn letter_cut(word: &str, at: usize) -> Head<'_>
     };
     let rest = chars.as_str();
     let place = if rest.is_empty() {
-        Place::Closed
+        Unread::Closed
     } else {
-        Place::Letters
+        Unread::Letters
     };
     Head {
         arg: Arg::Short(letter),
@@ -74,7 +74,7 @@ pub(crate) fn letter_cut(word: &str, at: usize) -> Head<'_>
 }
 
 /// An item that isn't a letter.
-fn whole_cut(arg: Arg<'_>, at: usize, place: Place) -> Head<'_>
+fn whole_cut(arg: Arg<'_>, at: usize, place: Unread) -> Head<'_>
     ensures { result ≡
         record { arg = arg.entry; spot = record { letter = None; at = at; place = place } } }
 {
@@ -91,42 +91,42 @@ pub(crate) fn first_cut(word: &str) -> Head<'_>
     ensures letter { result.spot.letter ≡ letter_in (cut_of word.now) }
     ensures untaken { untaken_at result.spot word.now ≡ untaken_of word.now }
     ensures boundary { IsCharBoundary word.now result.spot.at }
-    ensures letters { result.spot.place ≡ Place.Letters → result.spot.at < length word.now }
-    ensures long { result.spot.place ≢ Place.Closed → result.spot.letter ≡ None
+    ensures letters { result.spot.place ≡ Unread.Letters → result.spot.at < length word.now }
+    ensures long { result.spot.place ≢ Unread.Closed → result.spot.letter ≡ None
         → is_long word.now ≡ true }
 {
     if let Some(body) = word.strip_prefix("--") {
         return match body.split_once('=') {
             Some((name, value)) => {
-                whole_cut(Arg::Long(name), word.len() - value.len(), Place::Value)
+                whole_cut(Arg::Long(name), word.len() - value.len(), Unread::Value)
             }
-            None => whole_cut(Arg::Long(body), 0, Place::Closed),
+            None => whole_cut(Arg::Long(body), 0, Unread::Closed),
         };
     }
     if word.starts_with("-") && word.len() > 1 {
         return letter_cut(word, 1);
     }
-    whole_cut(Arg::Value(word), 0, Place::Closed)
+    whole_cut(Arg::Value(word), 0, Unread::Closed)
 }
 
 /// Whether the rest of an argument is a value that nobody took.
-pub(crate) fn is_refused(place: Place, rest: &str) -> bool
+pub(crate) fn is_refused(place: Unread, rest: &str) -> bool
     ensures { IsTrue result ↔ IsSome (unexpected_of (untaken_rest place rest.now)) }
 {
     match place {
-        Place::Closed => false,
-        Place::Value => true,
-        Place::Letters => rest.starts_with("="),
+        Unread::Closed => false,
+        Unread::Value => true,
+        Unread::Letters => rest.starts_with("="),
     }
 }
 
 /// The part of the rest of an argument that serves as a value.
-pub(crate) fn value_of(place: Place, rest: &str) -> &str
-    ensures { place ≢ Place.Closed → attached_value (untaken_rest place rest.now)
+pub(crate) fn value_of(place: Unread, rest: &str) -> &str
+    ensures { place ≢ Unread.Closed → attached_value (untaken_rest place rest.now)
         ≡ Some result.now }
 {
     match place {
-        Place::Letters => rest.strip_prefix("=").unwrap_or(rest),
+        Unread::Letters => rest.strip_prefix("=").unwrap_or(rest),
         _ => rest,
     }
 }

@@ -7,10 +7,10 @@ ghost use Rattle.std.specs.Str.{IsCharBoundary};
 ghost use Rattle.hack_base.specs.Names.{optional_text};
 ghost use Rattle.hack_lexopt.specs.Cuts.{is_long, next_cut, after_cut, attached_value};
 ghost use Rattle.hack_lexopt.specs.Cuts.{after_attached, value_of, optional_of, after_value};
-ghost use Rattle.hack_lexopt.specs.declared.cuts.Place.TheVariants.{Closed, Letters};
+ghost use Rattle.hack_lexopt.specs.declared.cuts.Unread.TheVariants.{Closed, Letters};
 
 use crate::arg::{Arg, Flag};
-use crate::cuts::{Place, Spot, first_cut, flag_of, is_plain, is_refused, letter_cut, value_of};
+use crate::cuts::{Spot, Unread, first_cut, flag_of, is_plain, is_refused, letter_cut, value_of};
 use crate::fault::LexFault;
 use std::alloc::{AllocError, Global};
 use std::collections::VecDeque;
@@ -50,7 +50,7 @@ impl Parser {
             spot: Spot {
                 letter: None,
                 at: 0,
-                place: Place::Closed,
+                place: Unread::Closed,
             },
         }
     }
@@ -63,14 +63,14 @@ impl Parser {
     {
         let Spot { letter, at, place } = self.spot;
         if is_refused(place, &self.word.as_str()[at..]) {
-            self.spot.place = Place::Closed;
+            self.spot.place = Unread::Closed;
             let word = self.word.as_str();
             return Next::Refused {
                 option: flag_of(letter, word),
                 value: value_of(place, &word[at..]),
             };
         }
-        if let Place::Letters = place {
+        if let Unread::Letters = place {
             // Computed twice: for the spot, and for the letter that is returned.
             self.spot = letter_cut(self.word.as_str(), at).spot;
             return Next::Cut(letter_cut(self.word.as_str(), at).arg);
@@ -108,12 +108,12 @@ impl Parser {
         ensures err { OnErr result (left_in self.new ≡ left_in self.old) }
     {
         let Spot { at, place, .. } = self.spot;
-        if let Place::Closed = place {
+        if let Unread::Closed = place {
             return Ok(None);
         }
         let value = value_of(place, &self.word.as_str()[at..]);
         let value = String::from_str(alloc, value)?;
-        self.spot.place = Place::Closed;
+        self.spot.place = Unread::Closed;
         Ok(Some(value))
     }
 

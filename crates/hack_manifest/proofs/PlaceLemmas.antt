@@ -11,8 +11,8 @@ use Rattle.toml_parser.specs.Strings.{Key, key}
 use Rattle.toml.specs.Data.{Data, Members}
 use Rattle.toml.specs.Tables.{no_nodes, close, key_value, std_table, array_table, Document, Expression, define}
 use Rattle.toml.specs.Parse.{after_byte, val, keyval, header_key, expression, ends_line, line, lines, skip_bom, parse_document}
-use Rattle.hack_manifest.specs.declared.places.Place.{Place}
-use Rattle.hack_manifest.specs.declared.places.Place.TheVariants.{Start, Remark, Plain, Comment, Opened, Text, Escaped, Lost}
+use Rattle.hack_manifest.specs.declared.places.ScanState.{ScanState}
+use Rattle.hack_manifest.specs.declared.places.ScanState.TheVariants.{Start, Remark, Plain, Comment, Opened, Text, Escaped, Lost}
 use Rattle.hack_manifest.specs.LineRuns.{stands, IsRun}
 use Rattle.hack_manifest.specs.Internal.{has_keys}
 use Rattle.hack_manifest.specs.Places.{start_step, deeper, plain_step, text_step, step, may_stand}
@@ -151,15 +151,15 @@ ends-not text h =
 
 -- ---- blank lines and comments at the start
 
-abbrev is_idle : Place → Bool
+abbrev is_idle : ScanState → Bool
 is_idle Start = true
 is_idle Remark = true
 is_idle _ = false
 
-abbrev idle_place : Bool → Place
+abbrev idle_place : Bool → ScanState
 idle_place inside = cond inside Remark Start
 
-busy-cond : (b : Bool) (p q : Place) → is_idle p ≡ false → is_idle q ≡ false → is_idle (cond b p q) ≡ false
+busy-cond : (b : Bool) (p q : ScanState) → is_idle p ≡ false → is_idle q ≡ false → is_idle (cond b p q) ≡ false
 busy-cond true p q one two = one
 busy-cond false p q one two = two
 
@@ -173,7 +173,7 @@ busy-plain d c =
 busy-text : (q d c : ℕ) → is_idle (text_step q d c) ≡ false
 busy-text q d c = busy-cond (c == 92 && q == 34) (Escaped q d) (Text q d) refl refl
 
-busy-step : (p : Place) (c : ℕ) → is_idle p ≡ false → is_idle (step p c) ≡ false
+busy-step : (p : ScanState) (c : ℕ) → is_idle p ≡ false → is_idle (step p c) ≡ false
 busy-step Start c h = absurd (true≢false h)
 busy-step Remark c h = absurd (true≢false h)
 busy-step (Plain d) c h = busy-plain d c
@@ -183,7 +183,7 @@ busy-step (Text q d) c h = busy-cond (c == q) (Plain d) (text_step q d c) refl (
 busy-step (Escaped q d) c h = refl
 busy-step Lost c h = refl
 
-busy-stays : (p : Place) (text : List ℕ) → is_idle p ≡ false → is_idle (behind p text) ≡ false
+busy-stays : (p : ScanState) (text : List ℕ) → is_idle p ≡ false → is_idle (behind p text) ≡ false
 busy-stays p [] h = h
 busy-stays p (c ∷ cs) h = busy-stays (step p c) cs (busy-step p c h)
 
@@ -316,12 +316,12 @@ stands-not text h =
       | inr idle ↦ idle-not text idle
     ]
 
-behind-last : (p : Place) (text : List ℕ) (c : ℕ) → behind p (text ++ c ∷ []) ≡ step (behind p text) c
+behind-last : (p : ScanState) (text : List ℕ) (c : ℕ) → behind p (text ++ c ∷ []) ≡ step (behind p text) c
 behind-last p [] c = refl
 behind-last p (d ∷ text) c = behind-last (step p d) text c
 
 -- the state after one more byte of a text
-pub behind-take : (p : Place) (text : List ℕ) (i : ℕ) → i < length text → behind p (take (i + 1) text) ≡ step (behind p (take i text)) (get_or text i 0)
+pub behind-take : (p : ScanState) (text : List ℕ) (i : ℕ) → i < length text → behind p (take (i + 1) text) ≡ step (behind p (take i text)) (get_or text i 0)
 behind-take p text i within =
     let next : i + 1 ≡ suc i = omega arith in
     ap (λ n. behind p (take n text)) next ∙ ap (behind p) (take-suc text i 0 within) ∙ behind-last p (take i text) (get_or text i 0)

@@ -13,20 +13,20 @@ use Rattle.toml_parser.specs.Lexical.{Read, first, is_ws, is_word, is_bare, is_n
 use Rattle.toml_parser.specs.Strings.{Key, key, key_after, simple_key, starts_string, one_line, quoted, body, special, escape, escape_char, simple_escape, hex_escape, hex_len, is_scalar, is_plain, prepend, after_piece}
 use Rattle.toml_parser.specs.Numbers.{word_len, word_value, unquoted}
 use Rattle.toml_parser.specs.declared.scalar.Scalar.{Scalar}
-use Rattle.hack_manifest.specs.declared.places.Place.{Place}
-use Rattle.hack_manifest.specs.declared.places.Place.TheVariants.{Plain, Comment, Opened, Text, Escaped, Lost}
+use Rattle.hack_manifest.specs.declared.places.ScanState.{ScanState}
+use Rattle.hack_manifest.specs.declared.places.ScanState.TheVariants.{Plain, Comment, Opened, Text, Escaped, Lost}
 use Rattle.hack_manifest.specs.Internal.{rest_of_read, behind}
 use Rattle.hack_manifest.specs.Places.{plain_step, step}
 
 -- scanning the text from p ends in the same state as scanning the rest from q, or in the state Lost
-abbrev pub Leads : Place → List ℕ → Place → List ℕ → Type 0
+abbrev pub Leads : ScanState → List ℕ → ScanState → List ℕ → Type 0
 Leads p text q rest = (behind p text ≡ behind q rest) ⊎ (behind p text ≡ Lost)
 
 pub lost : (text : List ℕ) → behind Lost text ≡ Lost
 lost [] = refl
 lost (c ∷ cs) = lost cs
 
-pub leads-then : (p q r : Place) (a b c : List ℕ) → Leads p a q b → Leads q b r c → Leads p a r c
+pub leads-then : (p q r : ScanState) (a b c : List ℕ) → Leads p a q b → Leads q b r c → Leads p a r c
 leads-then p q r a b c (inl one) (inl two) = inl (one ∙ two)
 leads-then p q r a b c (inl one) (inr two) = inr (one ∙ two)
 leads-then p q r a b c (inr one) two = inr one
@@ -86,7 +86,7 @@ close-drop d (c ∷ cs) h =
 abbrev pub is_stuck : List ℕ → Bool
 is_stuck text = nat_lt (first text) 32 || first text == 127
 
-abbrev pub at_place : Bool → ℕ → Place
+abbrev pub at_place : Bool → ℕ → ScanState
 at_place inside d = cond inside (Comment d) (Plain d)
 
 -- after blank lines and comments comes the rest, or they end in a comment in which the rest is

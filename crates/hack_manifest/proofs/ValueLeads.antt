@@ -11,7 +11,7 @@ use Rattle.toml.specs.Data.{Data, string, array, table, Items, no_items, push_it
 use Rattle.toml.proofs.Turns.{val_atom}
 use Rattle.toml.specs.Tables.{Nodes, no_nodes, close, put}
 use Rattle.toml.specs.Parse.{read_map, after_byte, scalar_data, val, atom, items, members, after_element, key_equals, keyval}
-use Rattle.hack_manifest.specs.declared.places.Place.TheVariants.{Plain}
+use Rattle.hack_manifest.specs.declared.places.ScanState.TheVariants.{Plain}
 use Rattle.hack_manifest.specs.Internal.{rest_of_read, behind}
 use Rattle.hack_manifest.proofs.TextLeads.{Leads, lost, leads-then, is_calm, ws-stays, calm-drop, close-drop, is_stuck, blank-stays, rest-same, quoted-leads, unquoted-leads, key-leads}
 

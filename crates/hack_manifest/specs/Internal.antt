@@ -13,11 +13,11 @@ use Rattle.std.specs.declared.alloc.Global.{Global}
 use Rattle.hack_manifest.specs.Manifest.{IsReadAs}
 use Rattle.hack_manifest.specs.declared.fault.ReadFault.{ReadFault}
 use Rattle.hack_manifest.specs.declared.fault.ReadFault.TheVariants as parts
-use Rattle.hack_manifest.specs.declared.package.Package.{Package}
+use Rattle.hack_manifest.specs.declared.package.ManifestPackage.{ManifestPackage}
 use Rattle.hack_manifest.specs.declared.manifest.ManifestFault.{ManifestFault}
 use Rattle.hack_manifest.specs.declared.manifest.ManifestFault.TheVariants as faults
 use Rattle.hack_manifest.specs.ManifestResults.{facts_of}
-use Rattle.hack_manifest.specs.declared.places.Place.{Place}
+use Rattle.hack_manifest.specs.declared.places.ScanState.{ScanState}
 use Rattle.hack_manifest.specs.LineRuns.{has_some, chain}
 use Rattle.hack_manifest.specs.Places.{step}
 
@@ -43,7 +43,7 @@ abbrev pub by_bytes : Name → Name → Ordering
 by_bytes = slice_cmp nat_cmp
 
 -- the result of a function is what the text of a manifest is read as, unless memory ran out
-abbrev pub ReturnsFacts : List ℕ → ℕ → Result (Package × BTreeMap (String Global) (Vec (String Global) Global)) ReadFault → Type 0
+abbrev pub ReturnsFacts : List ℕ → ℕ → Result (ManifestPackage × BTreeMap (String Global) (Vec (String Global) Global)) ReadFault → Type 0
 ReturnsFacts text minor (Ok r) = IsReadAs text minor (Ok (facts_of r.0 r.1))
 ReturnsFacts text minor (Err (parts.Field name)) = IsReadAs text minor (Err name.now)
 ReturnsFacts text minor (Err parts.Memory) = Unit {0}
@@ -61,6 +61,6 @@ IsFieldFault path field (faults.Field name p) = (name.now ≡ field) × (string_
 IsFieldFault path field faults.Memory = Unit {0}
 
 -- the state after these bytes
-abbrev pub behind : Place → List ℕ → Place
+abbrev pub behind : ScanState → List ℕ → ScanState
 behind place [] = place
 behind place (c ∷ cs) = behind (step place c) cs

@@ -9,13 +9,13 @@ use Rattle.hack_manifest.specs.Manifest.{Facts, IsReadAs}
 use Rattle.hack_base.specs.FieldReadings.{FieldReading}
 use Rattle.hack_manifest.specs.declared.fault.ReadFault.{ReadFault}
 use Rattle.hack_manifest.specs.declared.fault.ReadFault.TheVariants as parts
-use Rattle.hack_manifest.specs.declared.package.Package.{Package}
+use Rattle.hack_manifest.specs.declared.package.ManifestPackage.{ManifestPackage}
 use Rattle.hack_manifest.specs.declared.manifest.Manifest.{Manifest}
 use Rattle.hack_manifest.specs.declared.manifest.ManifestFault.{ManifestFault}
 use Rattle.hack_manifest.specs.declared.manifest.ManifestFault.TheVariants as faults
 
 -- what the package and the features of a `Manifest` say
-abbrev pub facts_of : Package → BTreeMap (String Global) (Vec (String Global) Global) → Facts
+abbrev pub facts_of : ManifestPackage → BTreeMap (String Global) (Vec (String Global) Global) → Facts
 facts_of p features = record {
   publish = p.publish;
   rust_version = option_map optional_text p.rust_version;

@@ -15,7 +15,7 @@ ghost use Rattle.hack_manifest.specs.Internal.{IsTomlFault, IsFieldFault};
 use crate::fault::ReadFault;
 use crate::features::features_of;
 pub use crate::laws::{cut_is_one, manifest_is_one, pieces_join};
-pub use crate::package::Package;
+pub use crate::package::ManifestPackage;
 use crate::package::{package_table, publish, rust_version};
 pub use crate::pieces::{Piece, Pieces, PiecesFault};
 use crate::pieces::{cut, is_inline};
@@ -30,7 +30,7 @@ pub struct Manifest {
     /// The text that it was read from.
     pub text: String,
     /// What it says about its package.
-    pub package: Package,
+    pub package: ManifestPackage,
     /// The features with their values.
     pub features: BTreeMap<String, Vec<String>>,
 }
@@ -113,7 +113,7 @@ fn facts(
     tree: &Table,
     text: &str,
     cargo_version: u32,
-) -> Result<(Package, BTreeMap<String, Vec<String>>), ReadFault>
+) -> Result<(ManifestPackage, BTreeMap<String, Vec<String>>), ReadFault>
     requires { parse_document text.now ≡ Some (table_view tree.now) }
     ensures { ReturnsFacts text.now cargo_version result }
 {
@@ -128,7 +128,7 @@ fn read(
     tree: &Table,
     pieces: &[Piece<'_>],
     cargo_version: u32,
-) -> Result<(Package, BTreeMap<String, Vec<String>>), ReadFault>
+) -> Result<(ManifestPackage, BTreeMap<String, Vec<String>>), ReadFault>
     ensures { ReturnsReading (λ r. facts_of r.0 r.1) result
         (read_manifest cargo_version (slice_view pieces.now) (table_view tree.now)) }
 {
@@ -136,7 +136,7 @@ fn read(
     let publish = publish(table, cargo_version)?;
     let rust_version = rust_version(alloc, table, cargo_version)?;
     let features = features_of(alloc, tree, is_inline(pieces, "features"))?;
-    let package = Package {
+    let package = ManifestPackage {
         publish,
         rust_version,
     };

@@ -16,7 +16,7 @@ use toml::{Table, Value};
 /// What a manifest says about its package. A field is `None` for versions of cargo whose metadata
 /// contain it.
 #[derive(Drop)]
-pub struct Package {
+pub struct ManifestPackage {
     /// Whether it may be published, below cargo 1.39.
     pub publish: Option<bool>,
     /// Its own `rust-version`, if it has one, below cargo 1.58.

@@ -7,7 +7,7 @@ ghost use Rattle.hack_manifest.specs.Places.{comment_step, text_step, may_stand}
 
 /// A state of the scanner.
 #[derive(Clone, Copy, PartialEq, Eq)]
-pub enum Place {
+pub enum ScanState {
     /// After blank lines and comments only.
     Start,
     /// In a comment that only these precede.
@@ -27,115 +27,115 @@ pub enum Place {
 }
 
 /// The state after one more byte.
-pub fn step(place: Place, byte: u8) -> Place
+pub fn step(place: ScanState, byte: u8) -> ScanState
     ensures { result ≡ step place byte }
 {
     match place {
-        Place::Start => start_step(byte),
-        Place::Remark => remark_step(byte),
-        Place::Plain(depth) => plain_step(depth, byte),
-        Place::Comment(depth) => comment_step(depth, byte),
-        Place::Opened(quote, depth) => {
+        ScanState::Start => start_step(byte),
+        ScanState::Remark => remark_step(byte),
+        ScanState::Plain(depth) => plain_step(depth, byte),
+        ScanState::Comment(depth) => comment_step(depth, byte),
+        ScanState::Opened(quote, depth) => {
             if byte == quote {
-                Place::Lost
+                ScanState::Lost
             } else {
                 text_step(quote, depth, byte)
             }
         }
-        Place::Text(quote, depth) => {
+        ScanState::Text(quote, depth) => {
             if byte == quote {
-                Place::Plain(depth)
+                ScanState::Plain(depth)
             } else {
                 text_step(quote, depth, byte)
             }
         }
-        Place::Escaped(quote, depth) => Place::Text(quote, depth),
-        Place::Lost => Place::Lost,
+        ScanState::Escaped(quote, depth) => ScanState::Text(quote, depth),
+        ScanState::Lost => ScanState::Lost,
     }
 }
 
 /// The state after a byte that only blank lines and comments precede.
-fn start_step(byte: u8) -> Place
+fn start_step(byte: u8) -> ScanState
     ensures { result ≡ start_step byte }
 {
     if byte == b'#' {
-        Place::Remark
+        ScanState::Remark
     } else if (byte == b'\n' || byte == b'\r') || (byte == b' ' || byte == b'\t') {
-        Place::Start
+        ScanState::Start
     } else {
         plain_step(0, byte)
     }
 }
 
 /// The state after a byte of a comment that only these precede.
-fn remark_step(byte: u8) -> Place
+fn remark_step(byte: u8) -> ScanState
     ensures { result ≡ remark_step byte }
 {
     if byte == b'\n' || byte == b'\r' {
-        Place::Start
+        ScanState::Start
     } else {
-        Place::Remark
+        ScanState::Remark
     }
 }
 
 /// The state after a byte that is in no comment and no string.
-fn plain_step(depth: usize, byte: u8) -> Place
+fn plain_step(depth: usize, byte: u8) -> ScanState
     ensures { result ≡ plain_step depth byte }
 {
     if byte == b'"' || byte == b'\'' {
-        Place::Opened(byte, depth)
+        ScanState::Opened(byte, depth)
     } else if byte == b'#' {
-        Place::Comment(depth)
+        ScanState::Comment(depth)
     } else if byte == b'[' || byte == b'{' {
         deeper(depth)
     } else if byte == b']' || byte == b'}' {
-        Place::Plain(depth.saturating_sub(1))
+        ScanState::Plain(depth.saturating_sub(1))
     } else {
-        Place::Plain(depth)
+        ScanState::Plain(depth)
     }
 }
 
 /// The state after an opening bracket.
-fn deeper(depth: usize) -> Place
+fn deeper(depth: usize) -> ScanState
     ensures { result ≡ deeper depth }
 {
     if depth < 1000 {
-        Place::Plain(depth + 1)
+        ScanState::Plain(depth + 1)
     } else {
-        Place::Lost
+        ScanState::Lost
     }
 }
 
 /// The state after a byte of a comment.
-fn comment_step(depth: usize, byte: u8) -> Place
+fn comment_step(depth: usize, byte: u8) -> ScanState
     ensures { result ≡ comment_step depth byte }
 {
     if byte == b'\n' || byte == b'\r' {
-        Place::Plain(depth)
+        ScanState::Plain(depth)
     } else {
-        Place::Comment(depth)
+        ScanState::Comment(depth)
     }
 }
 
 /// The state after a byte of a string other than its closing quote.
-fn text_step(quote: u8, depth: usize, byte: u8) -> Place
+fn text_step(quote: u8, depth: usize, byte: u8) -> ScanState
     ensures { result ≡ text_step quote depth byte }
 {
     if byte == b'\\' && quote == b'"' {
-        Place::Escaped(quote, depth)
+        ScanState::Escaped(quote, depth)
     } else {
-        Place::Text(quote, depth)
+        ScanState::Text(quote, depth)
     }
 }
 
 /// Whether a document may end in this state.
-pub fn may_stand(place: Place) -> bool
+pub fn may_stand(place: ScanState) -> bool
     ensures { result ≡ may_stand place }
 {
     match place {
-        Place::Plain(depth) => depth == 0,
-        Place::Comment(depth) => depth == 0,
-        Place::Lost => true,
+        ScanState::Plain(depth) => depth == 0,
+        ScanState::Comment(depth) => depth == 0,
+        ScanState::Lost => true,
         _ => false,
     }
 }

@@ -4,9 +4,9 @@ ghost use Rattle.std.specs.Prelude.{◌≡◌, ◌↔◌, ◌≤◌, ℕ, false,
 ghost use Rattle.std.specs.Prelude.{take};
 ghost use Rattle.hack_manifest.specs.LineRuns.{stands, IsLines, IsRun, IsShortest};
 ghost use Rattle.hack_manifest.specs.Internal.{behind};
-ghost use Rattle.hack_manifest.specs.declared.places.Place.TheVariants.{Start};
+ghost use Rattle.hack_manifest.specs.declared.places.ScanState.TheVariants.{Start};
 
-use crate::places::{Place, may_stand, step};
+use crate::places::{ScanState, may_stand, step};
 use crate::plain::is_plain_pair;
 use std::alloc::{AllocError, Global};
 
@@ -35,7 +35,7 @@ fn ends_line(text: &str, n: usize) -> bool
 }
 
 /// Whether a text parses alone, given the scanner's state after it.
-fn stands_at(alloc: Global, place: Place, text: &str) -> Result<bool, AllocError>
+fn stands_at(alloc: Global, place: ScanState, text: &str) -> Result<bool, AllocError>
     requires { place ≡ behind Start text.now }
     ensures { IfOk result (λ b. b ≡ stands text.now) }
 {
@@ -50,7 +50,7 @@ fn stands_at(alloc: Global, place: Place, text: &str) -> Result<bool, AllocError
 
 /// Whether the first n bytes, after which the scanner has this state, are whole lines that parse
 /// alone.
-fn run_stands(alloc: Global, place: Place, text: &str, n: usize) -> Result<bool, AllocError>
+fn run_stands(alloc: Global, place: ScanState, text: &str, n: usize) -> Result<bool, AllocError>
     requires within { n ≤ length text.now }
     requires place { place ≡ behind Start (take n text.now) }
     ensures yes { IfOk result (λ b. IsTrue b → IsRun text.now n) }
@@ -69,7 +69,7 @@ pub fn first_run(alloc: Global, text: &str) -> Result<Option<usize>, AllocError>
     ensures none { IfOk result (λ o. IfNone o ((m : ℕ) → IsRun text.now m → ⊥)) }
 {
     let bytes = text.as_bytes();
-    let mut place = Place::Start;
+    let mut place = ScanState::Start;
     for i in 0..bytes.len() {
         place = step(place, bytes[i]);
         if run_stands(alloc, place, text, i + 1)? {

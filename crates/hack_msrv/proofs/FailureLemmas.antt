@@ -6,8 +6,8 @@ use Rattle.std.proofs.lemmas.List.{get_or-take, length-take-le}
 use Rattle.std.proofs.lemmas.List.Elements.{All-tail}
 use Rattle.hack_base.proofs.Members.{Contains-cons_cases, Contains-head, Contains-nil, Contains-tail}
 use Rattle.hack_bisect.specs.Searches.{AreHalving, HasFailed, IsBeside, Trial as Tried}
-use Rattle.hack_bisect.specs.declared.tries.Outcome.{Outcome}
-use Rattle.hack_bisect.specs.declared.tries.Outcome.TheVariants as outcome
+use Rattle.hack_bisect.specs.declared.tries.TrialOutcome.{TrialOutcome}
+use Rattle.hack_bisect.specs.declared.tries.TrialOutcome.TheVariants as outcome
 use Rattle.hack_msrv.specs.Internal.{failed_after, kept}
 use Rattle.hack_msrv.specs.Searches.{HasFailedAt, IsTrialAt, outcome_of}
 use Rattle.hack_msrv.specs.Trials.{Trial}

@@ -9,7 +9,7 @@ use Rattle.hack_base.proofs.Members.{Contains-cons_cases, Contains-head, Contain
 use Rattle.hack_bisect.specs.Searches.{AreLeft, HasFailed, IsBeside, IsSearch, IsRight, Trial as Tried}
 use Rattle.hack_bisect.specs.declared.find.Least.{Least as LeastPlace}
 use Rattle.hack_bisect.specs.declared.find.Least.TheVariants.{At, Nowhere as NoPlace, Broken as BrokenOff}
-use Rattle.hack_bisect.specs.declared.tries.Outcome.TheVariants as outcome
+use Rattle.hack_bisect.specs.declared.tries.TrialOutcome.TheVariants as outcome
 use Rattle.hack_plan.specs.View.{PlanView}
 use Rattle.hack_session.specs.Histories.{passed_step}
 use Rattle.hack_session.specs.declared.step.Handed.{Handed}

@@ -5,8 +5,8 @@ use Rattle.std.specs.Option.{option_map_or}
 use Rattle.hack_bisect.specs.Searches.{IsSearch, IsRight, Trial as Tried}
 use Rattle.hack_bisect.specs.declared.find.Least.{Least as LeastPlace}
 use Rattle.hack_bisect.specs.declared.find.Least.TheVariants.{At, Nowhere as NoPlace, Broken as BrokenOff}
-use Rattle.hack_bisect.specs.declared.tries.Outcome.{Outcome}
-use Rattle.hack_bisect.specs.declared.tries.Outcome.TheVariants as outcome
+use Rattle.hack_bisect.specs.declared.tries.TrialOutcome.{TrialOutcome}
+use Rattle.hack_bisect.specs.declared.tries.TrialOutcome.TheVariants as outcome
 use Rattle.hack_plan.specs.View.{PlanView}
 use Rattle.hack_session.specs.declared.step.Handed.{Handed}
 use Rattle.hack_msrv.specs.Trials.{AreTrials, IsTrial, Trial, handed_in, is_of}
@@ -25,7 +25,7 @@ abbrev pub uses_of : PlanView → ℕ → List ℕ
 uses_of plan p = filter (is_used plan p) (range_with_len 0 (length plan.versions))
 
 -- what a search by halving is told of a trial
-abbrev pub outcome_of : Came → Outcome
+abbrev pub outcome_of : Came → TrialOutcome
 outcome_of came.Passed = outcome.Passed
 outcome_of (came.Failed place) = outcome.Failed
 outcome_of came.Broken = outcome.Broken

@@ -7,7 +7,7 @@ ghost use Rattle.hack_msrv.specs.Trials.{AreTrials, Trial};
 
 use crate::found::Found;
 use crate::trial::{Came, try_version};
-use hack_bisect::{Least, Outcome, Tries, find_least};
+use hack_bisect::{Least, TrialOutcome, Tries, find_least};
 use hack_plan::parts::PlanVersion;
 use hack_plan::plan::Plan;
 use hack_side::judge::Judge;
@@ -127,10 +127,10 @@ impl<R: Judge> Tries for Trier<'_, R> {
           b.runner.now c.runner.now) p.1 q.2),
     ) };
 
-    fn try_at(&mut self, place: usize) -> Outcome {
+    fn try_at(&mut self, place: usize) -> TrialOutcome {
         // An index without a version is never asked for.
         let Some(version) = self.used.version(place) else {
-            return Outcome::Broken;
+            return TrialOutcome::Broken;
         };
         let came = try_version(self.used.plan, self.used.member, version, self.runner);
         self.failed = last_failed(came, self.failed);
@@ -149,12 +149,12 @@ fn last_failed(came: Came, before: Option<usize>) -> Option<usize>
 }
 
 /// What the search is told of a trial.
-fn outcome(came: Came) -> Outcome
+fn outcome(came: Came) -> TrialOutcome
     ensures { result ≡ outcome_of came }
 {
     match came {
-        Came::Passed => Outcome::Passed,
-        Came::Failed(_) => Outcome::Failed,
-        Came::Broken => Outcome::Broken,
+        Came::Passed => TrialOutcome::Passed,
+        Came::Failed(_) => TrialOutcome::Failed,
+        Came::Broken => TrialOutcome::Broken,
     }
 }

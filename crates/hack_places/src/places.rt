@@ -12,16 +12,16 @@ use crate::journal::{journal_beside, journal_of, lockfile_copy};
 use crate::look::{LookFault, is_there};
 use hack_base::paths::join;
 use hack_files::fs::Files;
-use hack_journal::place::Place;
+use hack_journal::place::JournalPlace;
 use std::alloc::{AllocError, Global};
 
 /// Where a call's workspace is, its journal, and what else is kept while manifests are edited.
 #[derive(Drop)]
 pub struct Places {
     /// The folder of the workspace, and its journal.
-    pub place: Place,
+    pub place: JournalPlace,
     /// The same folder, and where an older version had the journal.
-    pub older: Place,
+    pub older: JournalPlace,
     pub lockfile: String,
     /// The path of the lockfile's copy.
     pub copy: String,
@@ -78,11 +78,11 @@ fn any_of(one: bool, other: bool, third: bool) -> bool
 }
 
 /// A journal at this path, and the folder that its paths are relative to.
-pub fn place_at(alloc: Global, folder: &str, journal: String) -> Result<Place, AllocError>
+pub fn place_at(alloc: Global, folder: &str, journal: String) -> Result<JournalPlace, AllocError>
     ensures { IfOk result (λ place. (string_bytes place.folder ≡ folder.now)
         × (string_bytes place.journal ≡ string_bytes journal)) }
 {
-    Ok(Place {
+    Ok(JournalPlace {
         folder: String::from_str(alloc, folder)?,
         journal,
     })

@@ -12,8 +12,8 @@ use Rattle.hack_manifest.specs.LineRuns.{has_some}
 use Rattle.hack_prepare.specs.EditSteps.{KeepsHeld, KeepsOnly, kept_paths}
 use Rattle.hack_files.specs.declared.fs.FsFault.{FsFault}
 use Rattle.hack_files.specs.declared.fs.FsFault.TheVariants as fs
-use Rattle.hack_edits.specs.declared.fault.ManifestFault.{ManifestFault}
-use Rattle.hack_edits.specs.declared.fault.ManifestFault.TheVariants as edit
+use Rattle.hack_edits.specs.declared.fault.EditFault.{EditFault}
+use Rattle.hack_edits.specs.declared.fault.EditFault.TheVariants as edit
 use Rattle.hack_prepare.specs.declared.fault.PrepareFault.{PrepareFault}
 use Rattle.hack_prepare.specs.declared.fault.PrepareFault.TheVariants.{Memory, PrivateRoot, Files, Toml, InlineTarget, WorkspaceForm, PathText, ReadBack}
 use Rattle.hack_prepare.specs.Faults.{IsRootTextFault}
@@ -94,7 +94,7 @@ abbrev pub KeepsBut : Wanted → Bool → Contents → Contents → Type 0
 KeepsBut w edited old new = (q : Name) → (edited && bytes_eq q w.root) ≡ false → new q ≡ old q
 
 -- an error of the manifest at this path; or memory ran out
-abbrev pub IsEditFault : Name → ManifestFault → PrepareFault → Type 0
+abbrev pub IsEditFault : Name → EditFault → PrepareFault → Type 0
 IsEditFault path fault Memory = Unit {0}
 IsEditFault path fault PrivateRoot = ⊥
 IsEditFault path fault (Files e) = ⊥

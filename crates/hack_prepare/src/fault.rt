@@ -3,7 +3,7 @@
 ghost use Rattle.std.specs.Prelude.{◌≡◌};
 ghost use Rattle.hack_prepare.specs.Internal.{IsEditFault, IsOfFile};
 
-use hack_edits::manifest::ManifestFault;
+use hack_edits::manifest::EditFault;
 use hack_files::fs::FsFault;
 use std::alloc::{AllocError, AllocFailed, Global};
 use thiserror::Error;
@@ -59,7 +59,7 @@ impl<T: Drop> From<AllocFailed<T>> for PrepareFault {
 }
 
 /// Returns the error of an edit of the manifest at this path.
-pub(crate) fn of_edit(alloc: Global, fault: ManifestFault, path: &str) -> PrepareFault
+pub(crate) fn of_edit(alloc: Global, fault: EditFault, path: &str) -> PrepareFault
     ensures { IsEditFault path.now fault result }
 {
     let path = match String::from_str(alloc, path) {
@@ -67,12 +67,12 @@ pub(crate) fn of_edit(alloc: Global, fault: ManifestFault, path: &str) -> Prepar
         Err(_) => return PrepareFault::Memory,
     };
     match fault {
-        ManifestFault::Toml => PrepareFault::Toml(path),
-        ManifestFault::InlineTarget => PrepareFault::InlineTarget(path),
-        ManifestFault::WorkspaceForm => PrepareFault::WorkspaceForm(path),
-        ManifestFault::PathText => PrepareFault::PathText(path),
-        ManifestFault::ReadBack => PrepareFault::ReadBack(path),
-        ManifestFault::Memory => PrepareFault::Memory,
+        EditFault::Toml => PrepareFault::Toml(path),
+        EditFault::InlineTarget => PrepareFault::InlineTarget(path),
+        EditFault::WorkspaceForm => PrepareFault::WorkspaceForm(path),
+        EditFault::PathText => PrepareFault::PathText(path),
+        EditFault::ReadBack => PrepareFault::ReadBack(path),
+        EditFault::Memory => PrepareFault::Memory,
     }
 }
 

@@ -18,7 +18,7 @@ use crate::asked::Asked;
 use crate::locks::Locks;
 use hack_base::copies::text_in;
 use hack_files::fs::Files;
-use hack_journal::place::Place;
+use hack_journal::place::JournalPlace;
 use hack_places::look::LookFault;
 use hack_places::places::{Places, place_at};
 use hack_places::workspace::workspace;
@@ -33,7 +33,7 @@ pub(crate) struct Begun {
     pub verbose: bool,
     pub places: Places,
     /// The place of the journal once more, for the call itself.
-    pub place: Place,
+    pub place: JournalPlace,
     /// Whether an interrupted call left anything there.
     pub is_left: bool,
     /// What the command line is read into, unless an argument needs rustup's version.

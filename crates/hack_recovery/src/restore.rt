@@ -20,7 +20,7 @@ use hack_base::writes::Sink;
 use hack_files::fs::Files;
 use hack_files::reason::{is_of_device, tell_reason};
 use hack_journal::journal::Entry;
-use hack_journal::place::Place;
+use hack_journal::place::JournalPlace;
 use hack_journal::recover::{RecoverFault, recover};
 use hack_journal::rows::{Row, row_at};
 use hack_journal::strangers::first_stranger;
@@ -37,7 +37,7 @@ const ROW: &str =
 pub(crate) fn restore<F: Files, E: Sink>(
     alloc: Global,
     dir: &str,
-    place: &Place,
+    place: &JournalPlace,
     files: &mut F,
     term: &mut Term,
     err: &mut E,
@@ -97,7 +97,7 @@ fn tell_stranger<E: Sink>(
 fn bring_back<F: Files, E: Sink>(
     alloc: Global,
     dir: &str,
-    place: &Place,
+    place: &JournalPlace,
     files: &mut F,
     term: &mut Term,
     err: &mut E,

@@ -8,8 +8,8 @@ use Rattle.hack_rules.specs.LateRules.{number_within}
 use Rattle.std.specs.BTreeSet.{insert_key}
 use Rattle.std.specs.String.{string_cmp}
 use Rattle.hack_lexopt.specs.Cuts.{LeftArguments}
-use Rattle.hack_rules.specs.declared.uses.cut.Step.{Step}
-use Rattle.hack_rules.specs.declared.uses.cut.Step.TheVariants as code
+use Rattle.hack_rules.specs.declared.uses.cut.NextUse.{NextUse}
+use Rattle.hack_rules.specs.declared.uses.cut.NextUse.TheVariants as code
 use Rattle.hack_rules.specs.declared.uses.fault.CutFault.{CutFault}
 use Rattle.hack_rules.specs.Faults.{argument_fault_of}
 use Rattle.hack_rules.specs.Uses.{view}
@@ -34,7 +34,7 @@ put_all keys [] = keys
 put_all keys (text ∷ texts) = put_all (insert_key string_cmp keys text) texts
 
 -- one step reads r and leaves the parser as new; or memory ran out
-abbrev pub ReturnsStep : Result Step CutFault → LeftArguments → Reading → Type 0
+abbrev pub ReturnsStep : Result NextUse CutFault → LeftArguments → Reading → Type 0
 ReturnsStep (Ok (code.Met u)) new r = r ≡ Met (view u) new
 ReturnsStep (Ok code.End) new r = r ≡ End
 ReturnsStep (Ok (code.Asks print)) new r = r ≡ Prints print

@@ -2,8 +2,8 @@
 use Rattle.std.proofs.Common.{◌≡◌, ◌∙◌, ◌+◌, ◌++◌, ◌∷◌, ◌⊎◌, [], ℕ, Bool, Err, List, Ok, Option, Result, ap, append-nil, append_assoc, false, if◌then◌else◌, inl, inr, length, map, refl, subst, sym, true}
 use Rattle.std.specs.List.{AllZip, list_any}
 use Rattle.hack_bisect.specs.Searches.{Trial as Tried}
-use Rattle.hack_bisect.specs.declared.tries.Outcome.{Outcome}
-use Rattle.hack_bisect.specs.declared.tries.Outcome.TheVariants as outcome
+use Rattle.hack_bisect.specs.declared.tries.TrialOutcome.{TrialOutcome}
+use Rattle.hack_bisect.specs.declared.tries.TrialOutcome.TheVariants as outcome
 use Rattle.hack_load.specs.Contexts.{ContextRecord}
 use Rattle.hack_msrv.specs.Searches.{AreSearches, AreTried, IsSearchOf, IsSearched, IsTrialAt, handed_in_all, outcome_of, uses_of}
 use Rattle.hack_msrv.specs.Trials.{AreTrials, ComesTo, Trial, failed_step, handed_in, trial_steps}
@@ -15,8 +15,8 @@ use Rattle.hack_plan.specs.View.{PlanView}
 use Rattle.hack_session.specs.Histories.{passed_step}
 use Rattle.hack_session.specs.Schedules.{is_place}
 use Rattle.hack_session.specs.declared.step.Handed.{Handed}
-use Rattle.hack_conflicts.specs.declared.tried.Outcome.{Outcome as Built}
-use Rattle.hack_conflicts.specs.declared.tried.Outcome.TheVariants as built
+use Rattle.hack_conflicts.specs.declared.tried.BuildOutcome.{BuildOutcome as Built}
+use Rattle.hack_conflicts.specs.declared.tried.BuildOutcome.TheVariants as built
 use Rattle.hack_culprits.specs.Built.{AreBrokenLast, AreHanded, Made, Tells, step_at, step_outcome, steps_from}
 use Rattle.hack_culprits.specs.declared.fault.CulpritsFault.{CulpritsFault}
 use Rattle.hack_culprits.specs.declared.fault.CulpritsFault.TheVariants as cause
@@ -62,7 +62,7 @@ module _ {R : Type 0} (ran : PlanView → List Handed → R → R → Type 0) (e
   last-trial plan p uses [] place (x ∷ tried) (t ∷ trials) a b is zip tries =
       one-trial plan p t trials tried uses a b (sym (ap first-outcome is) ∙ zip.0.outcome) (ap rest is) zip.1 tries
     where
-      first-outcome : List Tried → Outcome
+      first-outcome : List Tried → TrialOutcome
       first-outcome [] = outcome.Broken
       first-outcome (y ∷ ys) = y.outcome
   last-trial plan p uses (z ∷ before) place (x ∷ tried) (t ∷ trials) a b is zip tries =

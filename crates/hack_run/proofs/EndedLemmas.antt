@@ -6,9 +6,9 @@ use Rattle.std.proofs.lemmas.List.Elements.{All-head, All-tail, Contains-push}
 use Rattle.hack_base.specs.declared.writes.Sink.{Ghosts as Taking}
 use Rattle.hack_bisect.specs.Searches.{Trial as Tried}
 use Rattle.hack_bisect.specs.declared.find.Least.{Least as LeastPlace}
-use Rattle.hack_bisect.specs.declared.tries.Outcome.TheVariants as outcome
-use Rattle.hack_conflicts.specs.declared.tried.Outcome.{Outcome as Built}
-use Rattle.hack_conflicts.specs.declared.tried.Outcome.TheVariants as built
+use Rattle.hack_bisect.specs.declared.tries.TrialOutcome.TheVariants as outcome
+use Rattle.hack_conflicts.specs.declared.tried.BuildOutcome.{BuildOutcome as Built}
+use Rattle.hack_conflicts.specs.declared.tried.BuildOutcome.TheVariants as built
 use Rattle.hack_culprits.specs.Built.{AreBrokenLast, AreHanded, Made, Tells, step_at, step_outcome, steps_from}
 use Rattle.hack_culprits.specs.Built.{AreUnbroken as AreUnbrokenRuns}
 use Rattle.hack_culprits.specs.declared.fault.CulpritsFault.{CulpritsFault}

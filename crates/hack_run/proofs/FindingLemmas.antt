@@ -5,8 +5,8 @@ use Rattle.std.specs.Prelude.{◌||◌}
 use Rattle.std.proofs.lemmas.List.{get_or-take, length-take, take_more}
 use Rattle.std.proofs.lemmas.List.Elements.{All-append, All-cons, All-contains, All-head, All-nil, All-tail, Contains-push}
 use Rattle.hack_base.proofs.Members.{Contains-cons_cases, Contains-nil}
-use Rattle.hack_conflicts.specs.declared.tried.Outcome.{Outcome}
-use Rattle.hack_conflicts.specs.declared.tried.Outcome.TheVariants.{Passed as RunPassed, Failed as RunFailed, Broken as RunBroken}
+use Rattle.hack_conflicts.specs.declared.tried.BuildOutcome.{BuildOutcome}
+use Rattle.hack_conflicts.specs.declared.tried.BuildOutcome.TheVariants.{Passed as RunPassed, Failed as RunFailed, Broken as RunBroken}
 use Rattle.hack_culprits.specs.Built.{Explains, Made, step_at, step_outcome, steps_from}
 use Rattle.hack_culprits.specs.declared.fault.CulpritsFault.{CulpritsFault}
 use Rattle.hack_culprits.specs.declared.fault.CulpritsFault.TheVariants.{Ended}
@@ -46,7 +46,7 @@ warned_later false warned last warns now is then = then ∙ ap (λ b. b || warns
 -- ---- searches for conflicts
 
 -- a step that passed is of no broken run
-unbroken : (outcome : Outcome) → outcome ≡ RunBroken → step_outcome outcome ≡ step.Passed → ⊥
+unbroken : (outcome : BuildOutcome) → outcome ≡ RunBroken → step_outcome outcome ≡ step.Passed → ⊥
 unbroken RunPassed broken passed = cc
 unbroken RunFailed broken passed = cc
 unbroken RunBroken broken passed = cc

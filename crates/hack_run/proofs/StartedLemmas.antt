@@ -16,10 +16,10 @@ use Rattle.hack_plan.specs.View.{PlanView}
 use Rattle.hack_plan.specs.declared.parts.Preparation.TheVariants.{Toolchain, Lockfile, Clean}
 use Rattle.hack_plan.specs.declared.places.PlanEntry.{PlanEntry}
 use Rattle.hack_bisect.specs.Searches.{IsBeside, Trial as Tried}
-use Rattle.hack_bisect.specs.declared.tries.Outcome.TheVariants as outcome
+use Rattle.hack_bisect.specs.declared.tries.TrialOutcome.TheVariants as outcome
 use Rattle.hack_conflicts.specs.Runs.{Run as Asked}
-use Rattle.hack_conflicts.specs.declared.tried.Outcome.{Outcome as BuildOutcome}
-use Rattle.hack_conflicts.specs.declared.tried.Outcome.TheVariants as build
+use Rattle.hack_conflicts.specs.declared.tried.BuildOutcome.{BuildOutcome as BuildOutcome}
+use Rattle.hack_conflicts.specs.declared.tried.BuildOutcome.TheVariants as build
 use Rattle.hack_culprits.specs.Built.{AreHanded, Made, Tells, step_at, step_outcome}
 use Rattle.hack_msrv.specs.Searches.{AreSearches, AreTried, AreUnbroken, IsSearchOf, IsSearched, IsTrialAt, outcome_of, uses_of}
 use Rattle.hack_msrv.specs.Trials.{AreTrials, ComesTo, Trial, failed_step, trial_steps}

@@ -12,7 +12,7 @@ use Rattle.std.proofs.Common.{Result, Ok, Err, IfOk}
 use Rattle.std.specs.Prelude.{slice_get}
 use Rattle.std.specs.List.{slice_index_or}
 use Rattle.std.proofs.lemmas.List.{map-append}
-use Rattle.hack_suspects.specs.declared.suspect.Outcome.{Outcome as Ran}
+use Rattle.hack_suspects.specs.declared.suspect.RunOutcome.{RunOutcome as Ran}
 use Rattle.hack_suspects.specs.Suspects.{outcomes_of}
 use Rattle.hack_suspects.specs.Suspects.{RunOutcome as Run_outcome}
 use Rattle.hack_session.specs.Histories.{Course}

@@ -21,9 +21,7 @@ use crate::step::{Handed, Outcome, Step};
 use hack_plan::places::PlanEntry;
 use hack_plan::plan::Plan;
 use hack_samples::Setting;
-use hack_suspects::{
-    Outcome as RunOutcome, SuspectFault, count_failed, count_showing, sort_by_use,
-};
+use hack_suspects::{RunOutcome, SuspectFault, count_failed, count_showing, sort_by_use};
 use hack_versions::version::Version;
 use std::alloc::{AllocError, Global};
 

@@ -5,7 +5,7 @@ use Rattle.std.proofs.lemmas.List.{append-nil}
 use Rattle.hack_samples.proofs.SetLemmas.{not_both}
 use Rattle.hack_suspects.specs.Suspects.{RunOutcome, outcomes_of}
 use Rattle.hack_suspects.specs.Counts.{Fails, IsNumberOf, counted, left_out}
-use Rattle.hack_suspects.specs.declared.suspect.Outcome.{Outcome as Run}
+use Rattle.hack_suspects.specs.declared.suspect.RunOutcome.{RunOutcome as Run}
 use Rattle.hack_suspects.proofs.SuspectLemmas.{runs-more}
 
 -- a run as plain data

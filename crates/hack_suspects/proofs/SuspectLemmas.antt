@@ -8,7 +8,7 @@ use Rattle.std.proofs.lemmas.Option.{same_Some}
 use Rattle.hack_suspects.specs.Suspects.{RunOutcome, outcomes_of, IsShown, IsSuspicious, Rises, IsPart, IsSuspect, IsPatternBefore, AreSuspects}
 use Rattle.hack_samples.specs.Samples.{RowShows}
 use Rattle.hack_suspects.specs.InternalWalks.{IsFailedRow, AreSomeSuspects, FindsFrom, PatternsAreKept}
-use Rattle.hack_suspects.specs.declared.suspect.Outcome.{Outcome as Run}
+use Rattle.hack_suspects.specs.declared.suspect.RunOutcome.{RunOutcome as Run}
 use Rattle.hack_samples.specs.declared.sets.Setting.{Setting}
 use Rattle.hack_samples.proofs.OrderLemmas.{three}
 use Rattle.hack_suspects.proofs.PatternLemmas.{part-shows, part-front, part-without, part-shorter}

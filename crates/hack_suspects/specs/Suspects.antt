@@ -2,7 +2,7 @@
 use Rattle.std.specs.Prelude.{◌≡◌, ◌<◌, ◌≤◌, ◌+◌, ◌⊎◌, ◌↔◌, ℕ, zero, suc, List, [], ◌∷◌, Bool, true, false, AllPairs, Contains, length, map}
 use Rattle.hack_samples.specs.Samples.{RowShows}
 use Rattle.hack_samples.specs.declared.sets.Setting.{Setting}
-use Rattle.hack_suspects.specs.declared.suspect.Outcome.{Outcome as Run}
+use Rattle.hack_suspects.specs.declared.suspect.RunOutcome.{RunOutcome as Run}
 use Rattle.hack_suspects.specs.declared.suspect.SuspectFault.{SuspectFault}
 use Rattle.hack_suspects.specs.declared.suspect.SuspectFault.TheVariants.{Memory, TooManyPatterns}
 

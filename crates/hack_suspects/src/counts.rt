@@ -7,18 +7,18 @@ ghost use Rattle.hack_suspects.specs.Faults.{ShowsOneOf};
 ghost use Rattle.hack_suspects.specs.Counts.{Fails, FailsWith, IsNumberOf};
 
 use crate::patterns::row_shows;
-use crate::suspect::Outcome;
+use crate::suspect::RunOutcome;
 use hack_samples::Setting;
 
 /// Returns how many of the runs failed.
-pub fn count_failed(outcomes: &[Outcome]) -> usize
+pub fn count_failed(outcomes: &[RunOutcome]) -> usize
     ensures { IsNumberOf Fails (outcomes_of outcomes.now) result }
 {
     outcomes.iter().filter(|run| run.failed).count()
 }
 
 /// Returns how many of the runs failed and show one of the patterns.
-pub fn count_showing(outcomes: &[Outcome], patterns: &[Vec<Setting>]) -> usize
+pub fn count_showing(outcomes: &[RunOutcome], patterns: &[Vec<Setting>]) -> usize
     ensures { IsNumberOf (FailsWith (rows_of patterns.now)) (outcomes_of outcomes.now) result }
 {
     let mut count: usize = 0;
@@ -31,7 +31,7 @@ pub fn count_showing(outcomes: &[Outcome], patterns: &[Vec<Setting>]) -> usize
 }
 
 /// Whether the run failed and shows one of the patterns.
-fn fails_with(run: &Outcome, patterns: &[Vec<Setting>]) -> bool
+fn fails_with(run: &RunOutcome, patterns: &[Vec<Setting>]) -> bool
     ensures { MatchBool result
         ((run.now.failed ≡ true) × ShowsOneOf (rows_of patterns.now) run.now.on.items)
         ((run.now.failed ≡ true) × ShowsOneOf (rows_of patterns.now) run.now.on.items → ⊥) }

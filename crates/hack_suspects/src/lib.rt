@@ -15,5 +15,5 @@ mod uses;
 
 pub use counts::{count_failed, count_showing};
 pub use laws::{finds_faults, suspects_tell_the_failed};
-pub use suspect::{Outcome, SuspectFault, suspects};
+pub use suspect::{RunOutcome, SuspectFault, suspects};
 pub use uses::sort_by_use;

@@ -19,7 +19,7 @@ use thiserror::Error;
 
 /// A run of a package: for each of its candidates whether it is on, and whether the run failed.
 #[derive(Drop)]
-pub struct Outcome {
+pub struct RunOutcome {
     pub on: Vec<bool>,
     pub failed: bool,
 }
@@ -65,7 +65,7 @@ impl<T: Drop> From<AllocFailed<T>> for SuspectFault {
 /// `TooManyPatterns`.
 pub fn suspects(
     alloc: Global,
-    outcomes: &[Outcome],
+    outcomes: &[RunOutcome],
     candidates: usize,
     strength: usize,
     most: u64,
@@ -107,7 +107,7 @@ fn too_many(outcomes: usize, patterns: u128, most: u64) -> bool
 /// What a search for suspects looks at.
 #[derive(Clone, Copy)]
 struct Search<'a> {
-    outcomes: &'a [Outcome],
+    outcomes: &'a [RunOutcome],
     /// For each candidate whether it was on in the failed run that is looked at.
     row: &'a [bool],
     candidates: usize,
@@ -169,7 +169,7 @@ fn with(alloc: Global, pattern: &[Setting], setting: Setting) -> Result<Vec<Sett
 }
 
 /// Whether for each of its settings some passed run shows the pattern without that setting.
-fn is_minimal(outcomes: &[Outcome], pattern: &[Setting]) -> bool
+fn is_minimal(outcomes: &[RunOutcome], pattern: &[Setting]) -> bool
     ensures { MatchBool result ((place : ℕ) → place < length pattern.now
         → IsShown false (outcomes_of outcomes.now) (remove pattern.now place))
         ((place : ℕ) × (place < length pattern.now)
@@ -184,7 +184,7 @@ fn is_minimal(outcomes: &[Outcome], pattern: &[Setting]) -> bool
 }
 
 /// Whether some passed run shows the pattern that these two parts make.
-fn passed_shows(outcomes: &[Outcome], front: &[Setting], rest: &[Setting]) -> bool
+fn passed_shows(outcomes: &[RunOutcome], front: &[Setting], rest: &[Setting]) -> bool
     ensures { MatchBool result (IsShown false (outcomes_of outcomes.now) (front.now ++ rest.now))
         (IsShown false (outcomes_of outcomes.now) (front.now ++ rest.now) → ⊥) }
 {

@@ -6,7 +6,7 @@ ghost use Rattle.hack_suspects.specs.Suspects.{outcomes_of};
 ghost use Rattle.hack_suspects.specs.Uses.{AreInOrderOfUse, is_use, uses};
 
 use crate::patterns::row_shows;
-use crate::suspect::Outcome;
+use crate::suspect::RunOutcome;
 use hack_samples::Setting;
 use std::alloc::{AllocError, Global};
 use std::cmp::Reverse;
@@ -15,7 +15,7 @@ use std::cmp::Reverse;
 /// as many show stay in the order that they have. After an error they are as before.
 pub fn sort_by_use(
     alloc: Global,
-    outcomes: &[Outcome],
+    outcomes: &[RunOutcome],
     patterns: &mut [Vec<Setting>],
 ) -> Result<(), AllocError>
     ensures ok { OnOk result (AreInOrderOfUse (outcomes_of outcomes.now) (rows_of patterns.old)
@@ -26,14 +26,14 @@ pub fn sort_by_use(
 }
 
 /// How many of the runs failed and show the pattern.
-fn count_uses(outcomes: &[Outcome], pattern: &Vec<Setting>) -> usize
+fn count_uses(outcomes: &[RunOutcome], pattern: &Vec<Setting>) -> usize
     ensures { result ≡ uses (outcomes_of outcomes.now) pattern.now.items }
 {
     outcomes.iter().filter(|run| is_use(run, pattern)).count()
 }
 
 /// Whether the run failed and shows the pattern.
-fn is_use(run: &Outcome, pattern: &[Setting]) -> bool
+fn is_use(run: &RunOutcome, pattern: &[Setting]) -> bool
     ensures { result ≡ is_use pattern.now
         (record { on = run.now.on.items; failed = run.now.failed }) }
 {

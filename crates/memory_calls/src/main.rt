@@ -4,7 +4,7 @@
 //! growth in turn.
 #![tactic(auto)]
 
-use hack_edits::manifest::{ManifestFault, remove_dev_deps};
+use hack_edits::manifest::{EditFault, remove_dev_deps};
 use hack_features::{Feature, Rules, pruned};
 use hack_files::fs::{Files, MemoryFiles};
 use hack_files::restore::Manager;
@@ -200,7 +200,7 @@ fn sets_of(alloc: Global, cx: &Context) -> Result<usize, Fault> {
 fn edited_text(alloc: Global) -> Result<String, Fault> {
     match remove_dev_deps(alloc, MANIFEST) {
         Ok(text) => Ok(text),
-        Err(ManifestFault::Memory) => Err(Fault::Memory("remove_dev_deps")),
+        Err(EditFault::Memory) => Err(Fault::Memory("remove_dev_deps")),
         Err(_) => Err(Fault::Other("remove_dev_deps")),
     }
 }

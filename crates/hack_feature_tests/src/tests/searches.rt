@@ -13,7 +13,7 @@
 
 use crate::tests::given::{numbers, value, word_at};
 use crate::tests::shown::{push_between, push_numbers};
-use hack_conflicts::{Found, Outcome, Rules, Scripted, SearchFault, Tried, find_conflicts};
+use hack_conflicts::{BuildOutcome, Found, Rules, Scripted, SearchFault, Tried, find_conflicts};
 use hack_holds::{Ask, Wrong, hold};
 use std::alloc::{AllocError, Global};
 
@@ -98,9 +98,9 @@ fn runs_text(alloc: Global, runs: &[Tried]) -> Result<String, AllocError> {
         push_between(&mut text, place, " ")?;
         push_set(&mut text, alloc, run.set.as_slice())?;
         text.push_str(match run.outcome {
-            Outcome::Passed => "+",
-            Outcome::Failed => "-",
-            Outcome::Broken => "!",
+            BuildOutcome::Passed => "+",
+            BuildOutcome::Failed => "-",
+            BuildOutcome::Broken => "!",
         })?;
     }
     Ok(text)

@@ -14,12 +14,12 @@ mod private_crates;
 use crate::tests::edits::features::thinned;
 use crate::tests::edits::private_crates::{fault, without};
 use crate::tests::text::{plain, shown};
-use hack_edits::manifest::{ManifestFault, remove_dev_deps};
+use hack_edits::manifest::{EditFault, remove_dev_deps};
 use hack_holds::{Ask, Wrong, hold};
 use std::alloc::{AllocError, Global};
 
 /// The result of an edit, or the error.
-fn given(alloc: Global, outcome: Result<String, ManifestFault>) -> Result<String, AllocError> {
+fn given(alloc: Global, outcome: Result<String, EditFault>) -> Result<String, AllocError> {
     match outcome {
         Ok(text) => shown(alloc, text.as_str()),
         Err(fault) => format!(in alloc; "refused: {fault:?}"),

@@ -26,19 +26,19 @@ use crate::tests::files::{answer, held, truth};
 use crate::tests::journal::failing::left;
 use crate::tests::journal::spelled::{entries, spelled, torn};
 use hack_base::paths::join;
-use hack_files::fs::{FileFault, Files, MemoryFiles, Overwrites, Step};
+use hack_files::fs::{FileChange, FileFault, Files, MemoryFiles, Overwrites};
 use hack_holds::{Ask, Wrong, hold};
 use hack_journal::apart::Apart;
 use hack_journal::journaled::Journaled;
-use hack_journal::place::Place;
+use hack_journal::place::JournalPlace;
 use hack_journal::recover::recover;
 use hack_journal::rows::row_at;
 use std::alloc::{AllocError, Global};
 use std::mem;
 
 /// The journal `j` in a folder.
-fn place(alloc: Global, folder: &str) -> Result<Place, AllocError> {
-    Ok(Place {
+fn place(alloc: Global, folder: &str) -> Result<JournalPlace, AllocError> {
+    Ok(JournalPlace {
         folder: String::from_str(alloc, folder)?,
         journal: join(alloc, folder, "j")?,
     })
@@ -54,7 +54,7 @@ fn journaled<F: Overwrites + Drop>(
 }
 
 /// The files that these steps make.
-fn replayed(alloc: Global, steps: &[Step]) -> Result<MemoryFiles, FileFault> {
+fn replayed(alloc: Global, steps: &[FileChange]) -> Result<MemoryFiles, FileFault> {
     let mut files = MemoryFiles::new(alloc);
     for step in steps {
         match &step.bytes {

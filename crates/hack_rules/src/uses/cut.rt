@@ -78,14 +78,14 @@ impl Use {
 
 /// What is read next.
 #[derive(Drop)]
-pub(crate) enum Step {
+pub(crate) enum NextUse {
     Met(Use),
     End,
     Asks(Print),
 }
 
 /// What is read next, or the parse error that comes instead.
-pub(crate) type Found = Result<Step, CutFault>;
+pub(crate) type Found = Result<NextUse, CutFault>;
 
 /// The next use after the uses so far, or what comes instead of one.
 fn read(alloc: Global, parser: &mut Parser, uses: &[Use]) -> Found
@@ -106,13 +106,13 @@ fn read(alloc: Global, parser: &mut Parser, uses: &[Use]) -> Found
         },
         Next::Cut(Arg::Value(word)) => {
             let word = String::from_str(alloc, word)?;
-            Ok(Step::Met(Use::Word(word)))
+            Ok(NextUse::Met(Use::Word(word)))
         }
         Next::Refused { option, value } => Err(CutFault::Unexpected {
             flag: OwnedFlag::of(alloc, option)?,
             value: String::from_str(alloc, value)?,
         }),
-        Next::End => Ok(Step::End),
+        Next::End => Ok(NextUse::End),
     }
 }
 
@@ -133,9 +133,9 @@ fn cut_all(alloc: Global, words: Vec<String>) -> Result<Cuts, CutFault>
     let mut uses = Vec::new(alloc);
     loop {
         match read(alloc, &mut parser, &uses)? {
-            Step::Met(one) => uses.push(one)?,
-            Step::End => return Ok(Cuts::Uses(uses)),
-            Step::Asks(print) => return Ok(Cuts::Asks(print)),
+            NextUse::Met(one) => uses.push(one)?,
+            NextUse::End => return Ok(Cuts::Uses(uses)),
+            NextUse::Asks(print) => return Ok(Cuts::Asks(print)),
         }
     }
 }

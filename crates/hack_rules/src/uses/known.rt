@@ -17,7 +17,7 @@ ghost use Rattle.hack_rules.specs.UseReading.{help_of, removed_of, similar_of};
 ghost use Rattle.hack_options.specs.Table.{entry_of, meaning_of};
 ghost use Rattle.hack_rules.specs.Uses.{views, is_given, subcommand_of};
 
-use crate::uses::cut::{Found, Step};
+use crate::uses::cut::{Found, NextUse};
 use crate::uses::fault::{CutFault, OwnedFlag};
 use crate::uses::seen::{given, subcommand};
 use crate::uses::{Print, Use};
@@ -43,10 +43,10 @@ fn subcommand_text(uses: &[Use]) -> Result<Option<String>, AllocError>
 }
 
 /// The use of an option of the table.
-fn meet(option: Opt, flag: OwnedFlag, value: Option<String>) -> Step
-    ensures { result ≡ Step.Met (Use.Known option flag value) }
+fn meet(option: Opt, flag: OwnedFlag, value: Option<String>) -> NextUse
+    ensures { result ≡ NextUse.Met (Use.Known option flag value) }
 {
-    Step::Met(Use::Known {
+    NextUse::Met(Use::Known {
         option,
         flag,
         value,
@@ -60,10 +60,10 @@ pub(crate) fn cut_unknown(alloc: Global, parser: &mut Parser, flag: OwnedFlag) -
         (unknown_reading (flag_seen flag) (left_in parser.old)) }
 {
     if let OwnedFlag::Short('n' | 'q' | 'r') = flag {
-        return Ok(Step::Met(Use::Unknown { flag, value: None }));
+        return Ok(NextUse::Met(Use::Unknown { flag, value: None }));
     }
     let value = parser.optional_value(alloc)?;
-    Ok(Step::Met(Use::Unknown { flag, value }))
+    Ok(NextUse::Met(Use::Unknown { flag, value }))
 }
 
 /// A request to print a text, if no subcommand came before it; else the request is passed on to the
@@ -75,7 +75,7 @@ fn request(alloc: Global, parser: &mut Parser, uses: &[Use], flag: OwnedFlag, pr
 {
     match subcommand(uses) {
         Some(_) => cut_unknown(alloc, parser, flag),
-        None => Ok(Step::Asks(print)),
+        None => Ok(NextUse::Asks(print)),
     }
 }
 

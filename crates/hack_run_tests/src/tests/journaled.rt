@@ -6,14 +6,14 @@ use crate::tests::asked::on;
 use crate::tests::scene::scene_of;
 use crate::tests::world::files_of;
 use crate::tests::worlds::{ROOT, VIRTUAL};
-use hack_files::fs::{MemoryFiles, Step};
+use hack_files::fs::{FileChange, MemoryFiles};
 use hack_holds::Wrong;
-use hack_journal::place::Place;
+use hack_journal::place::JournalPlace;
 use hack_journaled::journaled::run_journaled;
 use std::alloc::{AllocError, Global};
 
 /// The paths that were changed from an index on.
-fn push_paths(text: &mut String, steps: &[Step], first: usize) -> Result<(), AllocError> {
+fn push_paths(text: &mut String, steps: &[FileChange], first: usize) -> Result<(), AllocError> {
     for (place, step) in steps.iter().enumerate() {
         if first <= place {
             text.push_str(if step.bytes.is_none() { " -" } else { " " })?;
@@ -27,7 +27,7 @@ pub fn journaled(alloc: Global, world: &str, words: &str) -> Result<String, Allo
     let mut scene = scene_of(alloc, world, words)?;
     let files = files_of(alloc, world)?;
     let lockfiles = files_of(alloc, world)?;
-    let place = Place {
+    let place = JournalPlace {
         folder: String::from_str(alloc, "/w")?,
         journal: String::from_str(alloc, "/w/journal")?,
     };

@@ -2,7 +2,7 @@
 
 use crate::tests::scene::Scene;
 use crate::tests::world::{ASKED, push_all};
-use hack_files::fs::Step;
+use hack_files::fs::FileChange;
 use hack_process::process::FakeCaller;
 use std::alloc::{AllocError, Global};
 
@@ -32,7 +32,7 @@ pub fn push_bytes(
     push_all(text, &[name, written.as_str()])
 }
 
-fn push_change(text: &mut String, alloc: Global, step: &Step) -> Result<(), AllocError> {
+fn push_change(text: &mut String, alloc: Global, step: &FileChange) -> Result<(), AllocError> {
     push_all(text, &[step.path.as_str(), ":\n"])?;
     match &step.bytes {
         Some(bytes) => push_bytes(text, alloc, "", bytes.as_slice()),
@@ -44,7 +44,7 @@ fn push_change(text: &mut String, alloc: Global, step: &Step) -> Result<(), Allo
 pub fn push_changes(
     text: &mut String,
     alloc: Global,
-    steps: &[Step],
+    steps: &[FileChange],
     first: usize,
     end: usize,
 ) -> Result<(), AllocError> {
@@ -85,7 +85,7 @@ fn push_report(text: &mut String, alloc: Global, bytes: &[u8]) -> Result<(), All
 }
 
 /// Whether the last change of a path left it as this step did.
-fn is_back(steps: &[Step], first: &Step) -> bool {
+fn is_back(steps: &[FileChange], first: &FileChange) -> bool {
     let mut is_back = false;
     for step in steps {
         if step.path.as_str() == first.path.as_str() {
@@ -96,7 +96,7 @@ fn is_back(steps: &[Step], first: &Step) -> bool {
 }
 
 /// The paths whose contents differ from those at first, one line for each.
-fn push_left(text: &mut String, steps: &[Step], first: usize) -> Result<(), AllocError> {
+fn push_left(text: &mut String, steps: &[FileChange], first: usize) -> Result<(), AllocError> {
     for (place, step) in steps.iter().enumerate() {
         if place < first && !is_back(steps, step) {
             push_all(text, &["left ", step.path.as_str(), "\n"])?;

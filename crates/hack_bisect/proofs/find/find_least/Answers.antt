@@ -1,6 +1,6 @@
 use Rattle.std.proofs.Common.{◌<◌, ◌+◌, ◌-◌, ◌/◌, ℕ, [], ◌∷◌, ◌++◌, List, arith, refl}
 use Rattle.hack_bisect.specs.Searches.{Trial, IsSearch}
-use Rattle.hack_bisect.specs.declared.tries.Outcome.TheVariants.{Passed, Failed, Broken}
+use Rattle.hack_bisect.specs.declared.tries.TrialOutcome.TheVariants.{Passed, Failed, Broken}
 use Rattle.hack_bisect.specs.declared.find.Least.TheVariants.{Nowhere, Broken as BrokenOff}
 use Rattle.hack_bisect.proofs.SearchLemmas.{more, alone_search, passed_more, failed_more, broken_more}
 use Rattle.hack_bisect.proofs.RightLemmas.{right_of_search}

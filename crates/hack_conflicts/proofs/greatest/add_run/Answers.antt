@@ -5,7 +5,7 @@ use Rattle.std.proofs.lemmas.List.{take_more}
 use Rattle.hack_conflicts.specs.Sets.{rows_of, IsInside, AreApart}
 use Rattle.hack_conflicts.specs.Runs.{Run, runs_in}
 use Rattle.hack_conflicts.specs.Internal.{AreOthers, KeepsOthers}
-use Rattle.hack_conflicts.specs.declared.tried.Outcome.TheVariants.{Broken}
+use Rattle.hack_conflicts.specs.declared.tried.BuildOutcome.TheVariants.{Broken}
 use Rattle.hack_conflicts.proofs.KnownLemmas.{length-runs}
 use Rattle.hack_conflicts.proofs.QueueLemmas.{rows-push}
 use Rattle.hack_conflicts.proofs.GreatestLemmas.{others_same, others_more}

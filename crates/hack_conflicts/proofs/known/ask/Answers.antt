@@ -3,8 +3,8 @@ use Rattle.std.proofs.lemmas.List.{length-append}
 use Rattle.std.proofs.lemmas.Bool.{false≢true}
 use Rattle.hack_conflicts.specs.Runs.{IsSpent}
 use Rattle.hack_conflicts.specs.Internal.{told}
-use Rattle.hack_conflicts.specs.declared.tried.Outcome.{Outcome}
-use Rattle.hack_conflicts.specs.declared.tried.Outcome.TheVariants.{Broken}
+use Rattle.hack_conflicts.specs.declared.tried.BuildOutcome.{BuildOutcome}
+use Rattle.hack_conflicts.specs.declared.tried.BuildOutcome.TheVariants.{Broken}
 use Rattle.hack_conflicts.proofs.KnownLemmas.{sound_same, grows_same, sound_ran, grows_ran, run_there, still_within, length-runs}
 use Rattle.hack_conflicts.proofs.known.ask.Goals as goal
 
@@ -22,7 +22,7 @@ pub returns-in-Passed-clause-sound : goal.returns-in-Passed-clause-sound
 returns-in-Passed-clause-sound g c = λ r sound next.
     let k = c.args.known.now in
     let m = c.finish.new.self in
-    let o : Outcome = c.build-outcome.result in
+    let o : BuildOutcome = c.build-outcome.result in
     let ran : told m ≡ told k ++ record { set = c.args.set.now; outcome = o } ∷ [] = c.finish.ensures.runs (told k) c.args.set.now c.in_ok-begin.ensures.runs in
     let same : c.len.result ≡ length k.runs.items = omega (arith, c.len.ensures, k.runs.ok.0) in
     let more : length (told m) ≡ length k.runs.items + 1 = ap length ran ∙ length-append (told k) (record { set = c.args.set.now; outcome = o } ∷ []) ∙ ap (λ n. n + 1) (length-runs k.runs.items) in
@@ -39,7 +39,7 @@ pub returns-in-Failed-clause-sound : goal.returns-in-Failed-clause-sound
 returns-in-Failed-clause-sound g c = λ r sound next.
     let k = c.args.known.now in
     let m = c.finish.new.self in
-    let o : Outcome = c.build-outcome.result in
+    let o : BuildOutcome = c.build-outcome.result in
     let ran : told m ≡ told k ++ record { set = c.args.set.now; outcome = o } ∷ [] = c.finish.ensures.runs (told k) c.args.set.now c.in_ok-begin.ensures.runs in
     let same : c.len.result ≡ length k.runs.items = omega (arith, c.len.ensures, k.runs.ok.0) in
     let more : length (told m) ≡ length k.runs.items + 1 = ap length ran ∙ length-append (told k) (record { set = c.args.set.now; outcome = o } ∷ []) ∙ ap (λ n. n + 1) (length-runs k.runs.items) in
@@ -56,7 +56,7 @@ pub returns-in-Broken-clause-sound : goal.returns-in-Broken-clause-sound
 returns-in-Broken-clause-sound g c = λ r sound next.
     let k = c.args.known.now in
     let m = c.finish.new.self in
-    let o : Outcome = c.build-outcome.result in
+    let o : BuildOutcome = c.build-outcome.result in
     let ran : told m ≡ told k ++ record { set = c.args.set.now; outcome = o } ∷ [] = c.finish.ensures.runs (told k) c.args.set.now c.in_ok-begin.ensures.runs in
     let same : c.len.result ≡ length k.runs.items = omega (arith, c.len.ensures, k.runs.ok.0) in
     let more : length (told m) ≡ length k.runs.items + 1 = ap length ran ∙ length-append (told k) (record { set = c.args.set.now; outcome = o } ∷ []) ∙ ap (λ n. n + 1) (length-runs k.runs.items) in

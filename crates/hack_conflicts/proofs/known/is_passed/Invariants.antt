@@ -1,7 +1,7 @@
 use Rattle.std.proofs.Common.{◌≡◌, ℕ, ◌<◌, [], get_or}
 use Rattle.hack_conflicts.specs.Sets.{IsWithin}
 use Rattle.hack_conflicts.specs.Runs.{runs_in}
-use Rattle.hack_conflicts.specs.declared.tried.Outcome.TheVariants.{Passed, Broken}
+use Rattle.hack_conflicts.specs.declared.tried.BuildOutcome.TheVariants.{Passed, Broken}
 use Rattle.hack_conflicts.proofs.known.is_passed.Given as goal
 
 abbrev pub invariant-loop-place : goal.invariant-loop-place

@@ -4,7 +4,7 @@ use Rattle.hack_conflicts.specs.Sets.{Has, rows_of}
 use Rattle.hack_conflicts.specs.Rules.{size_of}
 use Rattle.hack_conflicts.specs.Internal.{IsSound, members, told, conflicts_of, passing_of}
 use Rattle.hack_conflicts.specs.declared.known.Known.{Known}
-use Rattle.hack_conflicts.specs.declared.tried.Outcome.TheVariants.{Passed, Failed}
+use Rattle.hack_conflicts.specs.declared.tried.BuildOutcome.TheVariants.{Passed, Failed}
 use Rattle.hack_conflicts.proofs.KnownLemmas.{sound_as, grows_as}
 use Rattle.hack_conflicts.proofs.ShrinkLemmas.{failing_failed, going_passed}
 use Rattle.hack_conflicts.proofs.QueueLemmas.{rows-push, leaves_passed, leaves_conflict}

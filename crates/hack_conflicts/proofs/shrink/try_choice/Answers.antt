@@ -1,6 +1,6 @@
 use Rattle.std.proofs.Common.{◌≡◌, ◌++◌, ◌∷◌, [], List, Bool, cond, sym, subst}
 use Rattle.hack_conflicts.specs.Internal.{IsFailing, told}
-use Rattle.hack_conflicts.specs.declared.tried.Outcome.TheVariants.{Passed, Failed}
+use Rattle.hack_conflicts.specs.declared.tried.BuildOutcome.TheVariants.{Passed, Failed}
 use Rattle.hack_conflicts.proofs.ShrinkLemmas.{failing_passed, failing_failed, blamed_part}
 use Rattle.hack_conflicts.proofs.shrink.try_choice.Goals as goal
 

@@ -2,7 +2,7 @@
 
 use crate::tests::edits::{given, on};
 use crate::tests::text::plain;
-use hack_edits::manifest::{ManifestFault, paths_in_order, remove_private_crates};
+use hack_edits::manifest::{EditFault, paths_in_order, remove_private_crates};
 use hack_holds::Wrong;
 use std::alloc::{AllocError, Global};
 
@@ -24,12 +24,12 @@ pub fn without(alloc: Global, question: &str) -> Result<String, AllocError> {
 /// The text of an error.
 pub fn fault(alloc: Global, name: &str) -> Result<String, AllocError> {
     let fault = match name {
-        "Toml" => ManifestFault::Toml,
-        "InlineTarget" => ManifestFault::InlineTarget,
-        "WorkspaceForm" => ManifestFault::WorkspaceForm,
-        "PathText" => ManifestFault::PathText,
-        "ReadBack" => ManifestFault::ReadBack,
-        _ => ManifestFault::Memory,
+        "Toml" => EditFault::Toml,
+        "InlineTarget" => EditFault::InlineTarget,
+        "WorkspaceForm" => EditFault::WorkspaceForm,
+        "PathText" => EditFault::PathText,
+        "ReadBack" => EditFault::ReadBack,
+        _ => EditFault::Memory,
     };
     format!(in alloc; "{fault}")
 }

@@ -3,7 +3,7 @@ use Rattle.std.proofs.lemmas.List.{get_or-map, length-map}
 use Rattle.hack_closures.specs.View.{search_of}
 use Rattle.hack_conflicts.specs.Rules.{IsChoice}
 use Rattle.hack_conflicts.specs.Runs.{Run, run_of, runs_in}
-use Rattle.hack_conflicts.specs.declared.tried.Outcome.TheVariants.{Broken}
+use Rattle.hack_conflicts.specs.declared.tried.BuildOutcome.TheVariants.{Broken}
 use Rattle.hack_hunt.proofs.listed.first_build.Goals as goal
 
 pub returns : goal.returns

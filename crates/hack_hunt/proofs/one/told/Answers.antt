@@ -1,7 +1,7 @@
 use Rattle.std.proofs.Common.{refl}
 use Rattle.hack_closures.specs.View.{search_of}
 use Rattle.hack_conflicts.specs.Runs.{finding_of}
-use Rattle.hack_conflicts.specs.declared.tried.Outcome.TheVariants.{Failed, Passed}
+use Rattle.hack_conflicts.specs.declared.tried.BuildOutcome.TheVariants.{Failed, Passed}
 use Rattle.hack_hunt.proofs.SetLemmas.{tried_chosen}
 use Rattle.hack_hunt.proofs.one.told.Goals as goal
 

@@ -7,7 +7,7 @@ use Rattle.hack_closures.specs.View.{alone_in, choice_in, has_all, search_of}
 use Rattle.hack_conflicts.specs.Rules.{IsChoice}
 use Rattle.hack_conflicts.specs.Runs.{Run, run_of, runs_in}
 use Rattle.hack_conflicts.specs.Sets.{rows_of}
-use Rattle.hack_conflicts.specs.declared.tried.Outcome.TheVariants.{Broken, Failed}
+use Rattle.hack_conflicts.specs.declared.tried.BuildOutcome.TheVariants.{Broken, Failed}
 use Rattle.hack_hunt.proofs.SetLemmas.{failed_at}
 use Rattle.hack_hunt.proofs.one.unfinished_in.Goals as goal
 

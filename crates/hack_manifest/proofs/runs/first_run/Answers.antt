@@ -1,5 +1,5 @@
 use Rattle.std.proofs.Common.{◌<◌, ◌+◌, length, sym, ◌∙◌}
-use Rattle.hack_manifest.specs.declared.places.Place.TheVariants.{Start}
+use Rattle.hack_manifest.specs.declared.places.ScanState.TheVariants.{Start}
 use Rattle.hack_manifest.specs.LineRuns.{IsRun}
 use Rattle.hack_manifest.proofs.PlaceLemmas.{behind-take, no_run-next}
 use Rattle.hack_manifest.proofs.runs.first_run.Goals as goal

@@ -1,5 +1,5 @@
 use Rattle.std.proofs.Common.{◌≡◌, ℕ, ◌+◌, ◌<◌, take}
-use Rattle.hack_manifest.specs.declared.places.Place.TheVariants.{Start}
+use Rattle.hack_manifest.specs.declared.places.ScanState.TheVariants.{Start}
 use Rattle.hack_manifest.specs.Internal.{behind}
 use Rattle.hack_manifest.specs.LineRuns.{IsRun}
 use Rattle.hack_manifest.proofs.runs.first_run.Given as goal

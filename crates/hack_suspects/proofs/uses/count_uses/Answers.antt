@@ -3,7 +3,7 @@ use Rattle.std.proofs.lemmas.Iterator.{YieldsList-from_slice}
 use Rattle.std.proofs.lemmas.Iterator.Consumers.{YieldsList-from_filter, count_from_yields_List}
 use Rattle.std.proofs.lemmas.List.Folds.{fold-map}
 use Rattle.std.proofs.lemmas.List.Sums.{length-filter}
-use Rattle.hack_suspects.specs.declared.suspect.Outcome.{Outcome as Run}
+use Rattle.hack_suspects.specs.declared.suspect.RunOutcome.{RunOutcome as Run}
 use Rattle.hack_suspects.specs.Uses.{is_use}
 use Rattle.hack_suspects.proofs.uses.count_uses.Goals as goal
 

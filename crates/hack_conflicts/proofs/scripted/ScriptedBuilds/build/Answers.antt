@@ -4,7 +4,7 @@ use Rattle.std.proofs.lemmas.List.Elements.{All-nil, All-cons}
 use Rattle.hack_conflicts.specs.Sets.{rows_of, HasInside}
 use Rattle.hack_conflicts.specs.Runs.{Run}
 use Rattle.hack_conflicts.specs.Scripts.{IsAnswer}
-use Rattle.hack_conflicts.specs.declared.tried.Outcome.TheVariants.{Passed, Failed}
+use Rattle.hack_conflicts.specs.declared.tried.BuildOutcome.TheVariants.{Passed, Failed}
 use Rattle.hack_conflicts.proofs.scripted.ScriptedBuilds.build.Goals as goal
 
 pub returns-then-has_inside-2 : goal.returns-then-has_inside-2

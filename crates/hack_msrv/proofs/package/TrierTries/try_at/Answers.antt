@@ -1,5 +1,5 @@
 use Rattle.std.proofs.Common.{[], ◌∷◌, arith, refl}
-use Rattle.hack_bisect.specs.declared.tries.Outcome.TheVariants.{Broken}
+use Rattle.hack_bisect.specs.declared.tries.TrialOutcome.TheVariants.{Broken}
 use Rattle.hack_msrv.proofs.package.TrierTries.try_at.Goals as goal
 
 pub returns-in_default : goal.returns-in_default
