@@ -130,7 +130,7 @@ impl<'a> Rules<'a> {
     fn is_free(&self) -> bool
         ensures { IsTrue result → IsFree (may_of self.now) (whole_of self.now) }
     {
-        self.given.depth.is_none() && self.tables.are_bare()
+        self.given.depth.is_none() && self.tables.are_free()
     }
 
     /// What the rules say of all sets, so that no question has to be asked for it.

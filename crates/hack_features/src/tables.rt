@@ -386,7 +386,7 @@ impl Tables {
     }
 
     /// Whether the tables refuse no set: no candidate spares another, and no group has a row.
-    pub(crate) fn are_bare(&self) -> bool
+    pub(crate) fn are_free(&self) -> bool
         ensures { IsTrue result → (s : List ℕ) → IsTrue (is_lean (rows_of self.now.spares.items) s)
             × IsTrue (is_exclusive (rows_of self.now.hits.items) s)
             × IsTrue (is_required (rows_of self.now.serves.items) s) }

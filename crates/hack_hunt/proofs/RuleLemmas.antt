@@ -109,8 +109,8 @@ own_plain r p f c own b plain says same =
     subst (IsPlainAs r p f) same (subst (λ (c : Choice). (sets : List (List ℕ)) → IsListing (length c.candidates) (IsListed c) sets → b ≡ is_plain (options_of r f) sets) own says)
 
 -- the choice of a plain run
-pub bare_choice : (asked : PackageRules) (p : Package) (f : Features) (exclusive : List Feature) → exclusive ≡ asked.exclusive.items → (rules_in asked).depth ≡ None
+pub plain_choice : (asked : PackageRules) (p : Package) (f : Features) (exclusive : List Feature) → exclusive ≡ asked.exclusive.items → (rules_in asked).depth ≡ None
     → (rules : Rules) → choice_of rules ≡ choice [] None [] exclusive p.features [] → choice_of rules ≡ searched true (package_choice (rules_in asked) (package_view p) f)
-bare_choice asked p f exclusive same depth rules is =
+plain_choice asked p f exclusive same depth rules is =
     let made : Option ℕ → List (List Name) → Choice = λ depth groups. record { map = feature_map p.features; candidates = []; depth = depth; at_least_one_of = []; exclusive = groups } in
     is ∙ ap (λ l. made None (unlifted_groups (groups_of l) [])) same ∙ ap (made None) (none-lifted (rules_in asked).exclusive) ∙ ap (λ d. made d (rules_in asked).exclusive) (sym depth)

@@ -57,7 +57,7 @@ HasTableFault cx fault = (ids : List ℕ) × AreChosen cx ids × (table_fault cx
 
 -- the path of a package's manifest as a command is given it; none where commands get none
 abbrev pub given_path : Bool → Name → Option PackageRecord → Option Name
-given_path bare dir p = if bare then None else option_map (λ k. under_of k.manifest_path dir) p
+given_path hidden dir p = if hidden then None else option_map (λ k. under_of k.manifest_path dir) p
 
 -- what all commands of the call have in common
 abbrev pub call_of : ContextRecord → Name → CallView

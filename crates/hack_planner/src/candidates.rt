@@ -231,7 +231,7 @@ fn applied_groups(
 }
 
 /// Whether there is no feature.
-pub(crate) fn is_bare(features: &[Feature]) -> bool
+pub(crate) fn has_no_feature(features: &[Feature]) -> bool
     ensures { result ≡ (length (groups_of features.now) == 0) }
 {
     features.is_empty()
@@ -246,7 +246,7 @@ pub fn candidates(
     ensures { IfOk result (λ found. groups_of found.items
         ≡ candidates_of (rules_in asked.now) features.now) }
 {
-    if !is_bare(&asked.include_features) {
+    if !has_no_feature(&asked.include_features) {
         return staying_features(alloc, asked, &asked.include_features, true);
     }
     let mut found = staying_features(alloc, asked, features.normal(), true)?;
@@ -369,7 +369,7 @@ pub(crate) fn notes_on(
     if !args.each_feature && !args.feature_powerset {
         return Ok(Vec::new(alloc));
     }
-    if !is_bare(&args.include_features) {
+    if !has_no_feature(&args.include_features) {
         return Ok(Vec::new(alloc));
     }
     let about = About {

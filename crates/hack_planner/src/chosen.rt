@@ -124,10 +124,10 @@ fn chosen_package(
     let (candidates, runs) = parts_of(alloc, kind)?;
     let (given, _) = features_for(alloc, cx, one.id)?;
     let features = copies(alloc, given.as_slice())?;
-    let bare = args.no_manifest_path;
+    let hidden = args.no_manifest_path;
     let planned = PlanPackage {
         name: String::from_str(alloc, pkg.name.as_str())?,
-        manifest_path: given_path(alloc, bare, cx.current_dir(), Some(pkg))?,
+        manifest_path: given_path(alloc, hidden, cx.current_dir(), Some(pkg))?,
         features,
         candidates,
         runs,

@@ -25,7 +25,7 @@ ghost use Rattle.hack_planner.specs.Kinds.{package_choice};
 ghost use Rattle.hack_planner.specs.KindsView.{IsRunsFault};
 ghost use Rattle.hack_planner.specs.PackageRules.{rules_in};
 
-use crate::candidates::is_bare;
+use crate::candidates::has_no_feature;
 use crate::fault::RunsFault;
 use crate::least_places::{Limit, too_many};
 use crate::package_rules::PackageRules;
@@ -184,7 +184,7 @@ pub fn options(asked: &PackageRules, features: &Features) -> RunOptions
         normal: features.normal().len(),
         optional: features.optional_deps().len(),
         all_optional_deps: takes_all(asked),
-        included: !is_bare(&asked.include_features),
+        included: !has_no_feature(&asked.include_features),
         exclude_all_features: asked.exclude_all_features,
         exclude_no_default_features: asked.exclude_no_default_features,
     }

@@ -18,7 +18,7 @@ ghost use Rattle.hack_planner.specs.PackageRules.{call_rules, is_lifted as lifte
 ghost use Rattle.hack_planner.specs.RulesFor.{and_own, and_workspace, asked_by_either, has_some};
 ghost use Rattle.hack_planner.specs.RulesFor.{strength_of, with_groups, with_names, with_table};
 
-use crate::candidates::{add_if, are_found, copy_feature, is_bare};
+use crate::candidates::{add_if, are_found, copy_feature, has_no_feature};
 use hack_base::copies::{copies, push_copies};
 use hack_features::Feature;
 use hack_load::context::Context;
@@ -187,8 +187,8 @@ impl PackageRules {
             &table.mutually_exclusive_features,
         )?;
         push_features(alloc, &mut self.at_least_one_of, &table.at_least_one_of)?;
-        self.exclude_no_default_features |= !is_bare(&table.at_least_one_of);
-        self.exclude_all_features |= !is_bare(&table.mutually_exclusive_features);
+        self.exclude_no_default_features |= !has_no_feature(&table.at_least_one_of);
+        self.exclude_all_features |= !has_no_feature(&table.mutually_exclusive_features);
         self.depth = self.depth.or(table.depth);
         self.strength = self.strength.or(table.strength);
         Ok(())

@@ -30,18 +30,11 @@ pub struct PackageList {
     pub is_single: bool,
 }
 
-/// Whether no specification is given.
-fn is_bare(specs: &[String]) -> bool
-    ensures { result ≡ (length specs.now == 0) }
-{
-    specs.is_empty()
-}
-
 /// Whether the call names packages, and not the whole workspace.
 fn names_some(args: &Args) -> bool
     ensures { result ≡ some_named args.now }
 {
-    !args.workspace && !is_bare(&args.package)
+    !args.workspace && !args.package.is_empty()
 }
 
 /// The members that a call without names of packages is about.

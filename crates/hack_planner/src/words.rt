@@ -19,14 +19,14 @@ use std::alloc::{AllocError, Global};
 /// it; none where commands get none.
 pub fn given_path(
     alloc: Global,
-    bare: bool,
+    hidden: bool,
     dir: &str,
     member: Option<&Package>,
 ) -> Result<Option<String>, AllocError>
     ensures { IfOk result (λ path. optional_text path
-        ≡ given_path bare dir.now (option_map (λ p. package_record p.now) member.entry)) }
+        ≡ given_path hidden dir.now (option_map (λ p. package_record p.now) member.entry)) }
 {
-    if bare {
+    if hidden {
         return Ok(None);
     }
     match member {

@@ -31,9 +31,9 @@ text-at names before texts p d same lt =
     count = sym (length-map texts string_bytes) ∙ ap length same ∙ length-map names (λ (name : Name). before ++ name)
 
 -- the line of a set, from its command, its first name and the others
-pub line-of : (names : List Name) (p : ℕ) (s : List ℕ) (bare first others : List ℕ) → p < length names → bare ≡ codes "cargo check --no-default-features" → first ≡ codes " --features " ++ get_or names p []
-    → others ≡ others_text (items_at names s) → bare ++ first ++ others ++ codes "\n" ≡ run_line names (Set (p ∷ s))
-line-of names p s bare first others lt is_bare is_first is_others =
+pub line-of : (names : List Name) (p : ℕ) (s : List ℕ) (no_default first others : List ℕ) → p < length names → no_default ≡ codes "cargo check --no-default-features" → first ≡ codes " --features " ++ get_or names p []
+    → others ≡ others_text (items_at names s) → no_default ++ first ++ others ++ codes "\n" ≡ run_line names (Set (p ∷ s))
+line-of names p s no_default first others lt is_bare is_first is_others =
     let name : Name = get_or names p [] in
     let rest : List Name = items_at names s in
     let shown : shown_features (with_names None (items_at names (p ∷ s))) ≡ first ++ others =
@@ -43,7 +43,7 @@ line-of names p s bare first others lt is_bare is_first is_others =
     ∙ ap (λ l. l ++ others_text rest) (sym is_first)
     ∙ ap (λ l. first ++ l) (sym is_others) in
     ap (λ l. l ++ codes "\n")
-    (append_assoc bare first others ∙ ap (λ l. bare ++ l) (sym shown) ∙ ap (λ l. l ++ shown_features (with_names None (items_at names (p ∷ s)))) is_bare)
+    (append_assoc no_default first others ∙ ap (λ l. no_default ++ l) (sym shown) ∙ ap (λ l. l ++ shown_features (with_names None (items_at names (p ∷ s)))) is_bare)
 
 -- the names of a set with one position in front, as they follow another name
 pub others-front : (names : List Name) (p : ℕ) (s : List ℕ) (next others : List ℕ) → p < length names → next ≡ codes "," ++ get_or names p []

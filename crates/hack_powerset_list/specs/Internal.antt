@@ -12,8 +12,8 @@ use Rattle.hack_plan.specs.Runs.{PackageRun, runs_from}
 use Rattle.hack_powerset_list.specs.ListRuns.{options_from}
 
 -- a command of cargo with arguments that are passed on and arguments of its own
-abbrev pub bare_command : List (List ℕ) → List (List ℕ) → Command
-bare_command passed own = record { program = codes "cargo"; strip_program_path = false; leading = []; passed = passed; own = own; features = None; trailing = [] }
+abbrev pub own_command : List (List ℕ) → List (List ℕ) → Command
+own_command passed own = record { program = codes "cargo"; strip_program_path = false; leading = []; passed = passed; own = own; features = None; trailing = [] }
 
 -- a front of the page was written, and the rest of it is left
 pub record TurnsPage (old new : Option (List ℕ)) (page left : List ℕ) : Type 0 where

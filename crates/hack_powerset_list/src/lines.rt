@@ -9,7 +9,7 @@ ghost use Rattle.hack_process.specs.CommandTexts.{listed_of};
 ghost use Rattle.hack_process.specs.Commands.{command_of};
 ghost use Rattle.hack_base.specs.Writes.{AppendsFront};
 ghost use Rattle.hack_powerset_list.specs.LineWords.{PrintsText};
-ghost use Rattle.hack_powerset_list.specs.Internal.{bare_command, TurnsPage};
+ghost use Rattle.hack_powerset_list.specs.Internal.{own_command, TurnsPage};
 ghost use Rattle.hack_powerset_list.specs.Streams.{CountsUnlessMemory};
 
 use hack_base::writes::{Sink, write_front};
@@ -24,7 +24,7 @@ pub struct Texts {
     /// The command without arguments of its own.
     pub plain: String,
     /// The command with `--no-default-features`.
-    pub bare: String,
+    pub no_default: String,
     /// Each name as it is printed where it is the first of a set: after ` --features `.
     pub first: Vec<String>,
     /// Each name as it is printed where it isn't the first of a set: after `,`.
@@ -34,7 +34,7 @@ pub struct Texts {
 /// The text of a command: `cargo`, then the arguments that are passed on, then its own arguments.
 fn beginning(alloc: Global, passed: &[String], own: &[&str]) -> Result<String, AllocError>
     ensures { IfOk result (λ text. string_bytes text
-        ≡ listed_of [] (bare_command (map string_bytes passed.now) (names_behind own.now))) }
+        ≡ listed_of [] (own_command (map string_bytes passed.now) (names_behind own.now))) }
 {
     let mut command = ProcessBuilder::new(alloc, "cargo")?;
     command.pass_words(passed, &[]);
@@ -72,7 +72,7 @@ impl Texts {
         passed.push(String::from_str(alloc, "check")?)?;
         Ok(Texts {
             plain: beginning(alloc, passed.as_slice(), &[])?,
-            bare: beginning(alloc, passed.as_slice(), &["--no-default-features"])?,
+            no_default: beginning(alloc, passed.as_slice(), &["--no-default-features"])?,
             first: names_behind(alloc, " --features ", features)?,
             next: names_behind(alloc, ",", features)?,
         })

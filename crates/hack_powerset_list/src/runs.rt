@@ -27,28 +27,28 @@ use std::alloc::Global;
 use std::io;
 
 /// Prints the line of the run that comes before those of sets: the plain run if `plain` is true,
-/// else the run with no features if `bare` is true, else none.
+/// else the run with no features if `no_default` is true, else none.
 fn print_front<W: Sink>(
     features: &[Feature],
     texts: &Texts,
     plain: bool,
-    bare: bool,
+    no_default: bool,
     page: &mut String,
     out: &mut W,
 ) -> io::Result<()>
     requires texts { AreTexts (map name_of features.now) texts.now }
     ensures ok { OnOk result (PrintsText (W.contents out.old) (W.contents out.new)
         (string_bytes page.old) (string_bytes page.new) (run_lines (map name_of features.now)
-        (if plain then Plain ∷ [] else run_if bare NoDefaultFeatures))) }
+        (if plain then Plain ∷ [] else run_if no_default NoDefaultFeatures))) }
     ensures err { OnErr result (AppendsFront (W.contents out.old) (W.contents out.new)
         (string_bytes page.old ++ run_lines (map name_of features.now)
-        (if plain then Plain ∷ [] else run_if bare NoDefaultFeatures))) }
+        (if plain then Plain ∷ [] else run_if no_default NoDefaultFeatures))) }
     ensures counted { CountsUnlessMemory (W.failed out.old) (W.failed out.new) result }
 {
     if plain {
         print_line(texts.plain.as_str(), "", "", page, out)
-    } else if bare {
-        print_line(texts.bare.as_str(), "", "", page, out)
+    } else if no_default {
+        print_line(texts.no_default.as_str(), "", "", page, out)
     } else {
         Ok(())
     }
@@ -113,11 +113,11 @@ fn print_runs<W: Sink>(
     let texts = Texts::of_check(alloc, features)?;
     let mut room = SetRoom::new(alloc, features.len())?;
     let last = last_below(alloc, rules, &mut room, features.len())?;
-    let bare = wishes.at_least_one_of.is_empty();
+    let no_default = wishes.at_least_one_of.is_empty();
     let Some(last) = last else {
-        return print_front(features, &texts, features.is_empty(), bare, page, out);
+        return print_front(features, &texts, features.is_empty(), no_default, page, out);
     };
-    print_front(features, &texts, false, bare, page, out)?;
+    print_front(features, &texts, false, no_default, page, out)?;
     let lines = SetLines {
         alloc,
         features,

@@ -109,7 +109,7 @@ fn print_set<W: Sink>(
     ensures counted { CountsUnlessMemory (W.failed out.old) (W.failed out.new) result }
 {
     print_line(
-        texts.bare.as_str(),
+        texts.no_default.as_str(),
         texts.first[least].as_str(),
         others,
         page,

@@ -12,7 +12,7 @@ use Rattle.hack_term.specs.declared.term.Term.{Term}
 use Rattle.hack_plan.specs.View.{PlanView}
 use Rattle.hack_session.specs.Histories.{Course, HasPassed}
 use Rattle.hack_session.specs.ListLines.{ListsStep, ListsAll, Page, has_failed, is_sent, is_sent_step, lines_written, step_lines}
-use Rattle.hack_session.specs.Internal.{IsListedStep}
+use Rattle.hack_session.specs.Internal.{IsWrittenStep}
 use Rattle.hack_session.proofs.RunLemmas.{HasPerformed}
 use Rattle.hack_session.proofs.StepLemmas.{HasTold}
 use Rattle.hack_session.specs.StepCalls.{MakesCalls, PerformsAll}
@@ -92,14 +92,14 @@ sent_lines plan (Prepare (Clean v)) e = absurd (cc)
 sent_lines plan (Skip place) e = absurd (cc)
 sent_lines plan (Run place) e = absurd (cc)
 
-one_listed : (whole : Type 0) (b : Bool) (plan : PlanView) (h : Handed) (old new : Page) → is_sent_step h.step ≡ b → old.failed ≡ 0 → old.refused ≡ 0 → new.failed ≡ 0 → new.refused ≡ 0 → ListsStep whole b plan h old new → IsListedStep h
+one_listed : (whole : Type 0) (b : Bool) (plan : PlanView) (h : Handed) (old new : Page) → is_sent_step h.step ≡ b → old.failed ≡ 0 → old.refused ≡ 0 → new.failed ≡ 0 → new.refused ≡ 0 → ListsStep whole b plan h old new → IsWrittenStep h
 one_listed whole true plan h old new is f r g s same = rw is refl
 one_listed whole false plan h old new is f r g s (inl w) = rw is (ap has_failed w.passes)
 one_listed whole false plan h old new is f r g s (inr (inl m)) = let e = m.counted (omega (arith, f)) in absurd (omega (arith, e, f, g))
 one_listed whole false plan h old new is f r g s (inr (inr m)) = let e = m.counted (omega (arith, r)) in absurd (omega (arith, e, r, s))
 
 -- where no line failed and no memory was refused, all steps of a list are listed
-pub all_listed : (whole : Type 0) (plan : PlanView) (steps : List Handed) (old new : Page) → old.failed ≡ 0 → old.refused ≡ 0 → new.failed ≡ 0 → new.refused ≡ 0 → ListsAll whole plan steps old new → All IsListedStep steps
+pub all_listed : (whole : Type 0) (plan : PlanView) (steps : List Handed) (old new : Page) → old.failed ≡ 0 → old.refused ≡ 0 → new.failed ≡ 0 → new.refused ≡ 0 → ListsAll whole plan steps old new → All IsWrittenStep steps
 all_listed whole plan [] old new f r g s same = λ k d lt. absurd (omega arith)
 all_listed whole plan (h ∷ steps) old new f r g s l =
     let low : Small old = (omega (arith, f), omega (arith, r)) in
@@ -107,7 +107,7 @@ all_listed whole plan (h ∷ steps) old new f r g s l =
     let more = rises whole plan steps l.0 new one.small l.2 in
     let mf : l.0.failed ≡ 0 = omega (arith, more.failed, g) in
     let mr : l.0.refused ≡ 0 = omega (arith, more.refused, s) in
-    All-cons IsListedStep h steps (one_listed whole (is_sent h) plan h old l.0 refl f r mf mr l.1) (all_listed whole plan steps l.0 new mf mr g s l.2)
+    All-cons IsWrittenStep h steps (one_listed whole (is_sent h) plan h old l.0 refl f r mf mr l.1) (all_listed whole plan steps l.0 new mf mr g s l.2)
 
 -- what is kept grows by nothing
 kept_nothing : (a b : Option (List ℕ)) → Keeps a b → Appends a b []
@@ -136,7 +136,7 @@ passed_written whole plan (h ∷ steps) old new w l =
     Appends-trans old.contents l.0.contents new.contents (lines_written plan h) (flat_map (lines_written plan) steps) (one_passed whole (is_sent h) plan h old l.0 refl w l.1) (passed_written whole plan steps l.0 new w l.2)
 
 -- a listed step passed, unless it is one that isn't listed
-passed_by : (h : Handed) → is_sent_step h.step ≡ false → IsListedStep h → HasPassed h
+passed_by : (h : Handed) → is_sent_step h.step ≡ false → IsWrittenStep h → HasPassed h
 passed_by h off listed = go h.outcome (rw off at listed)
   where
     go : (o : Outcome) → has_failed o ≡ false → o ≡ Passed
@@ -144,13 +144,13 @@ passed_by h off listed = go h.outcome (rw off at listed)
     go Failed e = absurd (cc)
 
 -- where those that aren't listed passed, and the others are listed, all passed
-pub all_handed : (steps : List Handed) → All HasPassed (filter is_sent steps) → All IsListedStep steps → All HasPassed steps
+pub all_handed : (steps : List Handed) → All HasPassed (filter is_sent steps) → All IsWrittenStep steps → All HasPassed steps
 all_handed [] sent listed = λ k d lt. absurd (omega arith)
-all_handed (h ∷ steps) sent listed = go (is_sent h) refl sent (λ l. all_handed steps l (All-tail IsListedStep h steps listed))
+all_handed (h ∷ steps) sent listed = go (is_sent h) refl sent (λ l. all_handed steps l (All-tail IsWrittenStep h steps listed))
   where
     go : (b : Bool) → is_sent h ≡ b → All HasPassed (filter is_sent (h ∷ steps)) → (All HasPassed (filter is_sent steps) → All HasPassed steps) → All HasPassed (h ∷ steps)
     go true is all rest = let l = rw is at all in All-cons HasPassed h steps (All-head HasPassed h (filter is_sent steps) l) (rest (All-tail HasPassed h (filter is_sent steps) l))
-    go false is all rest = let l = rw is at all in All-cons HasPassed h steps (passed_by h is (All-head IsListedStep h steps listed)) (rest l)
+    go false is all rest = let l = rw is at all in All-cons HasPassed h steps (passed_by h is (All-head IsWrittenStep h steps listed)) (rest l)
 
 -- what a list wrote to its end, where what is gathered is written after it
 wrote_end : (had has out : Option (List ℕ)) (text : List ℕ) → WritesText true true had has text → Keeps has out → WritesText true true had out text

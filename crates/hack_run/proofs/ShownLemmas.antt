@@ -16,7 +16,7 @@ use Rattle.hack_process.specs.declared.fault.ProcessFault.{ProcessFault}
 use Rattle.hack_report.specs.Reported.{SaysCutReport, SaysReport, are_reported}
 use Rattle.hack_plan.specs.View.{PlanView}
 use Rattle.hack_session.specs.Histories.{Course}
-use Rattle.hack_session.specs.Internal.{IsListedStep}
+use Rattle.hack_session.specs.Internal.{IsWrittenStep}
 use Rattle.hack_session.specs.ListLines.{lines_written}
 use Rattle.hack_session.specs.declared.step.Handed.{Handed}
 use Rattle.hack_session.specs.StepEffects.{DoesAll, Scene, State, state}
@@ -142,7 +142,7 @@ pub steps_listed : {C O E : Type 0} (NoneMissed : Type 0) (tells : Type 0) (call
     → start.keep_going ≡ goes_on true cx.args → start.log_group ≡ group_for true cx.args
     → TellsNotes e notes start mid → begun.err ≡ stream_of e mid.err.now → (true ≡ false → begun.out ≡ old.streams.out)
     → DoesAll tells mid.keep_going (manner_of mid.log_group mid.term.now) course.plan (performed_of true course.handed) (state (calls mid.caller.now) begun mid.fault.now mid.term.now.error mid.refused) last
-    → new.calls ≡ last.scene.calls → (true ≡ false → new.streams.out ≡ last.scene.streams.out) → new.streams.err ≡ last.scene.streams.err → now ≡ last.kept → reported ≡ last.told → Appends had has (flat_map (lines_written course.plan) course.handed) → (NoneMissed → All IsListedStep course.handed)
+    → new.calls ≡ last.scene.calls → (true ≡ false → new.streams.out ≡ last.scene.streams.out) → new.streams.err ≡ last.scene.streams.err → now ≡ last.kept → reported ≡ last.told → Appends had has (flat_map (lines_written course.plan) course.handed) → (NoneMissed → All IsWrittenStep course.handed)
     → ListsSteps NoneMissed tells cx stable rustup now reported (looks_of term) had has old new
 unfolding steps_said
 steps_listed NoneMissed tells calls e cx stable rustup now reported had has course notes fails warns start mid begun last term old new made caller_is term_is err_is fault_is refused_is keep_is group_is told begun_is first did calls_end out_end err_end kept_end told_end wrote listed = (

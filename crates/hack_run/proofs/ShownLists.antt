@@ -19,7 +19,7 @@ use Rattle.hack_planner.specs.declared.fault.PlanFault.TheVariants as plan
 use Rattle.hack_process.specs.Calls.{Call}
 use Rattle.hack_process.specs.declared.fault.ProcessFault.{ProcessFault}
 use Rattle.hack_plan.specs.View.{PlanView}
-use Rattle.hack_session.specs.Internal.{IsListedStep}
+use Rattle.hack_session.specs.Internal.{IsWrittenStep}
 use Rattle.hack_session.specs.ListLines.{has_failed, is_sent, lines_written}
 use Rattle.hack_session.specs.declared.step.Handed.{Handed}
 use Rattle.hack_session.specs.StepEffects.{Scene, State}
@@ -39,7 +39,7 @@ abbrev pub IsUnwritten : Bool → Bool → ℕ → Type 0
 IsUnwritten short flushed missed = (short ≡ false) × ((0 < missed) ⊎ (flushed ≡ false))
 
 -- a step that isn't listed, or that passed
-listed_one : (h : Handed) → IsListedStep h → IsListed h
+listed_one : (h : Handed) → IsWrittenStep h → IsListed h
 listed_one h is = elim (cases_Bool (is_sent h)) [
   | inl sent ↦ inl sent
   | inr off ↦ inr (subst (λ (b : Bool). (if b then false else has_failed h.outcome) ≡ false) off is)
@@ -50,13 +50,13 @@ abbrev ComesOfKept : Result (Unit {0}) RunFault → Looks → List Handed → St
 ComesOfKept came now handed last old new kept = MatchOption kept (((came ≡ Err fault.Unlisted) × HasFailed old.failed new.failed) ⊎ ((came ≡ Ok tt) × All IsListed handed × (now.reported ≡ last.told))) (λ failed. came ≡ Err (fault.Process failed))
 
 list_comes : (refused short flushed : Bool) (missed : ℕ) (kept : Option ProcessFault) (came : Result (Unit {0}) RunFault) (now : Looks) (handed : List Handed) (last : State) (old new : Stream) → kept ≡ last.kept → now.reported ≡ last.told
-    → (IsUnwritten short flushed missed → HasFailed old.failed new.failed) → ((◌≡◌ {A = Result Bool PlanFault} (Ok refused) (Ok false)) × (missed ≡ 0) → All IsListedStep handed)
+    → (IsUnwritten short flushed missed → HasFailed old.failed new.failed) → ((◌≡◌ {A = Result Bool PlanFault} (Ok refused) (Ok false)) × (missed ≡ 0) → All IsWrittenStep handed)
     → EndsList short (IsUnwritten short flushed missed) (Ok refused) kept came → ComesOfList came now handed last old new
 list_comes true short flushed missed kept came now handed last old new is noted counted listed ends = inl ends
 list_comes false true flushed missed kept came now handed last old new is noted counted listed ends = inl ends
 list_comes false false flushed missed kept came now handed last old new is noted counted listed ends = inr (cause missed listed counted, subst (λ (o : Option ProcessFault). ComesOfKept came now handed last old new o) is (go kept ends))
   where
-    whole : (n : ℕ) → ((◌≡◌ {A = Result Bool PlanFault} (Ok false) (Ok false)) × (n ≡ 0) → All IsListedStep handed) → ¬ IsUnwritten false flushed n → All IsListed handed
+    whole : (n : ℕ) → ((◌≡◌ {A = Result Bool PlanFault} (Ok false) (Ok false)) × (n ≡ 0) → All IsWrittenStep handed) → ¬ IsUnwritten false flushed n → All IsListed handed
     whole zero listed none = λ k d lt. listed_one (get_or handed k d) (listed (refl, refl) k d lt)
     whole (suc n) listed none = absurd (none (refl, inl (omega arith)))
 
@@ -65,7 +65,7 @@ list_comes false false flushed missed kept came now handed last old new is noted
     go None (inr fine) = inr (fine.0, whole missed listed fine.1, noted)
     go (Some failed) is = is
 
-    cause : (n : ℕ) → ((◌≡◌ {A = Result Bool PlanFault} (Ok false) (Ok false)) × (n ≡ 0) → All IsListedStep handed) → (IsUnwritten false flushed n → HasFailed old.failed new.failed) → All IsListed handed ⊎ HasFailed old.failed new.failed
+    cause : (n : ℕ) → ((◌≡◌ {A = Result Bool PlanFault} (Ok false) (Ok false)) × (n ≡ 0) → All IsWrittenStep handed) → (IsUnwritten false flushed n → HasFailed old.failed new.failed) → All IsListed handed ⊎ HasFailed old.failed new.failed
     cause zero listed counted = inl (λ k d lt. listed_one (get_or handed k d) (listed (refl, refl) k d lt))
     cause (suc n) listed counted = inr (counted (refl, inl (omega arith)))
 

@@ -57,7 +57,7 @@ use Rattle.hack_run.specs.Shown.{Looks, SaysSteps, is_at_end}
 use Rattle.hack_session.specs.Histories.{Course}
 use Rattle.hack_session.specs.StepEffects.{Scene}
 use Rattle.hack_session.specs.ListLines.{is_sent, lines_written}
-use Rattle.hack_session.specs.Internal.{IsListedStep}
+use Rattle.hack_session.specs.Internal.{IsWrittenStep}
 use Rattle.hack_session.specs.Handouts.{IsDriven}
 
 -- what searches found is reported: whether a set fails is kept, and a warning noted where not all sets
@@ -127,7 +127,7 @@ pub record ReadsAfterRustup (IsRead : Around → List Name → Reading → Type 
 -- a list was handed out to its end, and no listed step failed
 pub record ListsOver {R : Type 0} (whole : Type 0) (before now : Option (List ℕ)) (Told : List Note → R → R → Type 0) (Ran : PlanView → List Handed → R → R → Type 0) (cx : ContextRecord) (stable : Stable) (rustup : Name) (old new : R) : Type 0 where
   pub over : HandsOver whole before now Told Ran cx stable rustup old new
-  pub listed : All IsListedStep over.course.handed
+  pub listed : All IsWrittenStep over.course.handed
 
 -- a host that has yet to write these bytes
 abbrev pub host_writing : List ℕ → HostView → HostView
@@ -216,7 +216,7 @@ abbrev pub ListsSteps : Type 0 → Type 0 → ContextRecord → Stable → Name 
 ListsSteps NoneMissed tells cx stable rustup now reported looks had has old new =
     (steps : SaysSteps tells true cx stable rustup looks old new) × (now ≡ steps.last.kept) × (reported ≡ steps.last.told)
     × Appends had has (flat_map (lines_written steps.course.plan) steps.course.handed)
-    × (NoneMissed → All IsListedStep steps.course.handed)
+    × (NoneMissed → All IsWrittenStep steps.course.handed)
 
 -- how a list ends: as there is no plan; or for want of memory, where a step or a line lacked it; else with the error
 -- that stopped its steps, or since a line is unwritten, or, where none is, without an error

@@ -10,7 +10,7 @@ ghost use Rattle.hack_plan.specs.View.{PlanView};
 ghost use Rattle.hack_planner.specs.CallPlan.{IsCauseOf, IsPlanOf};
 ghost use Rattle.hack_run.specs.Internal.{EndsList, HandsOver, HandsOverAtMostOne, ListsOver};
 ghost use Rattle.hack_run.specs.Internal.{ListsSteps};
-ghost use Rattle.hack_session.specs.Internal.{IsListedStep};
+ghost use Rattle.hack_session.specs.Internal.{IsWrittenStep};
 ghost use Rattle.hack_run.specs.Internal.{MayPerformItsPlan, PerformsAtMostOne, PerformsItsPlan};
 ghost use Rattle.hack_run.specs.Internal.{host_writing};
 ghost use Rattle.hack_run.specs.InternalExtensions.{Extends, MissesForACause};
@@ -158,7 +158,7 @@ fn list_over<'a, W: Lines, R: Teller>(
     ensures over { OnOk result ((over : HandsOver W.whole (W.contents out.old)
         (W.contents out.new) R.told R.ran (context_view cx.now) stable rustup.now
         runner.old runner.new) × (result ≡ Ok false → W.failed out.old ≡ 0 → W.failed out.new ≡ 0
-        → All IsListedStep over.course.handed)) }
+        → All IsWrittenStep over.course.handed)) }
     ensures idle { OnErr result (out.new ≡ out.old) }
     ensures refused { IfErr result (λ e. (runner.new ≡ runner.old)
         ⊎ ((e ≡ PlanFault.Memory) × (plan : PlanView) × (notes : List Note)

@@ -14,8 +14,8 @@ abbrev pub is_unlisted : Handed → Bool
 is_unlisted h = if is_sent_step h.step then false else has_failed h.outcome
 
 -- a step of the list that didn't fail
-abbrev pub IsListedStep : Handed → Type 0
-IsListedStep h = is_unlisted h ≡ false
+abbrev pub IsWrittenStep : Handed → Type 0
+IsWrittenStep h = is_unlisted h ≡ false
 
 -- only a line that can't be written counts as a failure, and not that memory is refused
 abbrev pub CountsLines : {T : Type 0} → ℕ → ℕ → Result T LineFault → Type 0

@@ -17,7 +17,7 @@ returns c =
     let groups = c.in_ok-groups.groups.items in
     let g : List (List Name) = groups_of groups in
     let bare : (length w.include_features == 0) ≡ true =
-    ap (λ l. length (groups_of l) == 0) (sym c.deref.ensures.value) ∙ sym c.is_bare.ensures ∙ c.if-not-is_bare.false in
+    ap (λ l. length (groups_of l) == 0) (sym c.deref.ensures.value) ∙ sym c.has_no_feature.ensures ∙ c.if-not-has_no_feature.false in
     four-lists w c.args.features.now (groups_of found) (groups_of optional) (groups_of of_deps) g _ bare
     (c.in_ok-found.ensures ∙ ap (λ l. filter (stays w) (groups_of l)) c.normal.ensures)
     (c.in_ok-optional.ensures ∙ ap (λ l. filter (λ names. is_asked w names && stays w names) (groups_of l)) c.optional_deps.ensures)

@@ -17,14 +17,14 @@ returns-then-plain-clause-err g c =
     let names : List Name = map name_of c.args.features.now in
     on_err-same c.print_line.result (λ l. AppendsFront (g.W.Sink.contents c.args.out.now) (g.W.Sink.contents c.print_line.new.out) (string_bytes c.args.page.now ++ l)) _ _
     (alone names Plain c.as_str.result.now (codes "cargo check") (c.as_str.ensures.value ∙ c.requires.texts.plain) refl
-    ∙ ap (λ b. run_lines names (if b then Plain ∷ [] else run_if c.args.bare NoDefaultFeatures)) (sym c.if-plain.true))
+    ∙ ap (λ b. run_lines names (if b then Plain ∷ [] else run_if c.args.no_default NoDefaultFeatures)) (sym c.if-plain.true))
     c.print_line.ensures.err
 
-pub returns-then-bare-clause-err : goal.returns-then-bare-clause-err
-returns-then-bare-clause-err g c =
+pub returns-then-no_default-clause-err : goal.returns-then-no_default-clause-err
+returns-then-no_default-clause-err g c =
     let names : List Name = map name_of c.args.features.now in
-    on_err-same c.print_line-then-bare.result (λ l. AppendsFront (g.W.Sink.contents c.args.out.now) (g.W.Sink.contents c.print_line-then-bare.new.out) (string_bytes c.args.page.now ++ l)) _ _
-    (alone names NoDefaultFeatures c.as_str-then-bare.result.now (codes "cargo check --no-default-features") (c.as_str-then-bare.ensures.value ∙ c.requires.texts.bare) refl
-    ∙ ap (λ b. run_lines names (run_if b NoDefaultFeatures)) (sym c.if-bare.true)
-    ∙ ap (λ b. run_lines names (if b then Plain ∷ [] else run_if c.args.bare NoDefaultFeatures)) (sym c.if-plain.false))
-    c.print_line-then-bare.ensures.err
+    on_err-same c.print_line-then-no_default.result (λ l. AppendsFront (g.W.Sink.contents c.args.out.now) (g.W.Sink.contents c.print_line-then-no_default.new.out) (string_bytes c.args.page.now ++ l)) _ _
+    (alone names NoDefaultFeatures c.as_str-then-no_default.result.now (codes "cargo check --no-default-features") (c.as_str-then-no_default.ensures.value ∙ c.requires.texts.no_default) refl
+    ∙ ap (λ b. run_lines names (run_if b NoDefaultFeatures)) (sym c.if-no_default.true)
+    ∙ ap (λ b. run_lines names (if b then Plain ∷ [] else run_if c.args.no_default NoDefaultFeatures)) (sym c.if-plain.false))
+    c.print_line-then-no_default.ensures.err

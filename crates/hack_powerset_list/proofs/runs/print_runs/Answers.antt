@@ -52,13 +52,13 @@ returns-in_default-clause-ok g c =
     let all : List ℕ = run_lines names (runs_from (options_from w fs) sets) in
     let wanted = w.at_least_one_of in
     let len : vec_len wanted ≡ length wanted.items = omega (arith, wanted.ok.0) in
-    let bare : c.is_empty-bare.result ≡ (length wanted.items == 0) = c.is_empty-bare.ensures ∙ ap (λ n. n == 0) len in
+    let no_default : c.is_empty-no_default.result ≡ (length wanted.items == 0) = c.is_empty-no_default.ensures ∙ ap (λ n. n == 0) len in
     let same : listed_below r (length fs) (set_in c.in_ok-room.room) ≡ sets =
     ap (listed_below r (length fs)) c.in_ok-room.ensures.set ∙ ap (λ n. listed_below r n []) (sym c.requires) in
     let none : sets ≡ [] = sym same ∙ subst (Ends (listed_below r (length fs) (set_in c.in_ok-room.room))) c.in_default.is c.in_ok-last.ensures.last in
-    let is : run_lines names (if c.is_empty.result then Plain ∷ [] else run_if c.is_empty-bare.result NoDefaultFeatures) ≡ all =
-    ap (λ b. run_lines names (if b then Plain ∷ [] else run_if c.is_empty-bare.result NoDefaultFeatures)) c.is_empty.ensures
-    ∙ ap (λ b. run_lines names (if length fs == 0 then Plain ∷ [] else run_if b NoDefaultFeatures)) bare
+    let is : run_lines names (if c.is_empty.result then Plain ∷ [] else run_if c.is_empty-no_default.result NoDefaultFeatures) ≡ all =
+    ap (λ b. run_lines names (if b then Plain ∷ [] else run_if c.is_empty-no_default.result NoDefaultFeatures)) c.is_empty.ensures
+    ∙ ap (λ b. run_lines names (if length fs == 0 then Plain ∷ [] else run_if b NoDefaultFeatures)) no_default
     ∙ ap (run_lines names) (sym (runs-none w fs))
     ∙ ap (λ l. run_lines names (runs_from (options_from w fs) l)) (sym none) in
     on_ok-same c.print_front.result (λ l. PrintsText (g.W.Sink.contents c.args.out.now) (g.W.Sink.contents c.print_front.new.out) page (string_bytes c.print_front.new.page) l) _ _ is c.print_front.ensures.ok
@@ -74,13 +74,13 @@ returns-in_default-clause-err g c =
     let all : List ℕ = run_lines names (runs_from (options_from w fs) sets) in
     let wanted = w.at_least_one_of in
     let len : vec_len wanted ≡ length wanted.items = omega (arith, wanted.ok.0) in
-    let bare : c.is_empty-bare.result ≡ (length wanted.items == 0) = c.is_empty-bare.ensures ∙ ap (λ n. n == 0) len in
+    let no_default : c.is_empty-no_default.result ≡ (length wanted.items == 0) = c.is_empty-no_default.ensures ∙ ap (λ n. n == 0) len in
     let same : listed_below r (length fs) (set_in c.in_ok-room.room) ≡ sets =
     ap (listed_below r (length fs)) c.in_ok-room.ensures.set ∙ ap (λ n. listed_below r n []) (sym c.requires) in
     let none : sets ≡ [] = sym same ∙ subst (Ends (listed_below r (length fs) (set_in c.in_ok-room.room))) c.in_default.is c.in_ok-last.ensures.last in
-    let is : run_lines names (if c.is_empty.result then Plain ∷ [] else run_if c.is_empty-bare.result NoDefaultFeatures) ≡ all =
-    ap (λ b. run_lines names (if b then Plain ∷ [] else run_if c.is_empty-bare.result NoDefaultFeatures)) c.is_empty.ensures
-    ∙ ap (λ b. run_lines names (if length fs == 0 then Plain ∷ [] else run_if b NoDefaultFeatures)) bare
+    let is : run_lines names (if c.is_empty.result then Plain ∷ [] else run_if c.is_empty-no_default.result NoDefaultFeatures) ≡ all =
+    ap (λ b. run_lines names (if b then Plain ∷ [] else run_if c.is_empty-no_default.result NoDefaultFeatures)) c.is_empty.ensures
+    ∙ ap (λ b. run_lines names (if length fs == 0 then Plain ∷ [] else run_if b NoDefaultFeatures)) no_default
     ∙ ap (run_lines names) (sym (runs-none w fs))
     ∙ ap (λ l. run_lines names (runs_from (options_from w fs) l)) (sym none) in
     on_err-same c.print_front.result (λ l. AppendsFront (g.W.Sink.contents c.args.out.now) (g.W.Sink.contents c.print_front.new.out) (page ++ l)) _ _ is c.print_front.ensures.err
@@ -96,16 +96,16 @@ returns-in_err-print_front-clause-err g c =
     let all : List ℕ = run_lines names (runs_from (options_from w fs) sets) in
     let wanted = w.at_least_one_of in
     let len : vec_len wanted ≡ length wanted.items = omega (arith, wanted.ok.0) in
-    let bare : c.is_empty-bare.result ≡ (length wanted.items == 0) = c.is_empty-bare.ensures ∙ ap (λ n. n == 0) len in
+    let no_default : c.is_empty-no_default.result ≡ (length wanted.items == 0) = c.is_empty-no_default.ensures ∙ ap (λ n. n == 0) len in
     let same : listed_below r (length fs) (set_in c.in_ok-room.room) ≡ sets =
     ap (listed_below r (length fs)) c.in_ok-room.ensures.set ∙ ap (λ n. listed_below r n []) (sym c.requires) in
     let last : List ℕ = c.in-Some.last.items in
     let ends : EndsIn sets last = subst (λ l. EndsIn l last) same (subst (Ends (listed_below r (length fs) (set_in c.in_ok-room.room))) c.in-Some.is c.in_ok-last.ensures.last) in
-    let front : List ℕ = run_lines names (run_if c.is_empty-bare.result NoDefaultFeatures) in
+    let front : List ℕ = run_lines names (run_if c.is_empty-no_default.result NoDefaultFeatures) in
     let lines : List ℕ = set_lines names (with_last_first (option_map_or (nat_lt 1) w.depth true) sets) in
     let is : all ≡ front ++ lines =
     runs-some w fs sets ends.front last ends.same names
-    ∙ ap (λ b. run_lines names (run_if b NoDefaultFeatures) ++ lines) (sym bare) in
+    ∙ ap (λ b. run_lines names (run_if b NoDefaultFeatures) ++ lines) (sym no_default) in
     on_err-any c.from_residual-in_err-print_front.result _
     (prints-stopped _ _ (g.W.Sink.contents c.print_front-2.new.out) page page [] front lines all (prints-none (g.W.Sink.contents c.args.out.now) page) c.in_err-print_front.ensures.err is)
 
@@ -120,16 +120,16 @@ returns-clause-ok g c =
     let all : List ℕ = run_lines names (runs_from (options_from w fs) sets) in
     let wanted = w.at_least_one_of in
     let len : vec_len wanted ≡ length wanted.items = omega (arith, wanted.ok.0) in
-    let bare : c.is_empty-bare.result ≡ (length wanted.items == 0) = c.is_empty-bare.ensures ∙ ap (λ n. n == 0) len in
+    let no_default : c.is_empty-no_default.result ≡ (length wanted.items == 0) = c.is_empty-no_default.ensures ∙ ap (λ n. n == 0) len in
     let same : listed_below r (length fs) (set_in c.in_ok-room.room) ≡ sets =
     ap (listed_below r (length fs)) c.in_ok-room.ensures.set ∙ ap (λ n. listed_below r n []) (sym c.requires) in
     let last : List ℕ = c.in-Some.last.items in
     let ends : EndsIn sets last = subst (λ l. EndsIn l last) same (subst (Ends (listed_below r (length fs) (set_in c.in_ok-room.room))) c.in-Some.is c.in_ok-last.ensures.last) in
-    let front : List ℕ = run_lines names (run_if c.is_empty-bare.result NoDefaultFeatures) in
+    let front : List ℕ = run_lines names (run_if c.is_empty-no_default.result NoDefaultFeatures) in
     let lines : List ℕ = set_lines names (with_last_first (option_map_or (nat_lt 1) w.depth true) sets) in
     let is : all ≡ front ++ lines =
     runs-some w fs sets ends.front last ends.same names
-    ∙ ap (λ b. run_lines names (run_if b NoDefaultFeatures) ++ lines) (sym bare) in
+    ∙ ap (λ b. run_lines names (run_if b NoDefaultFeatures) ++ lines) (sym no_default) in
     let asked = c.last_below.new.rules in
     let shown : set_lines (map name_of c.args.features.now) (with_last_first c.fits_two-last_first.result (listed_in asked)) ≡ lines =
     ap (λ l. set_lines names (with_last_first c.fits_two-last_first.result l)) (listed-in-same r asked c.in_ok-last.ensures.same_size c.in_ok-last.ensures.same_may c.in_ok-last.ensures.same_whole)
@@ -151,16 +151,16 @@ returns-clause-err g c =
     let all : List ℕ = run_lines names (runs_from (options_from w fs) sets) in
     let wanted = w.at_least_one_of in
     let len : vec_len wanted ≡ length wanted.items = omega (arith, wanted.ok.0) in
-    let bare : c.is_empty-bare.result ≡ (length wanted.items == 0) = c.is_empty-bare.ensures ∙ ap (λ n. n == 0) len in
+    let no_default : c.is_empty-no_default.result ≡ (length wanted.items == 0) = c.is_empty-no_default.ensures ∙ ap (λ n. n == 0) len in
     let same : listed_below r (length fs) (set_in c.in_ok-room.room) ≡ sets =
     ap (listed_below r (length fs)) c.in_ok-room.ensures.set ∙ ap (λ n. listed_below r n []) (sym c.requires) in
     let last : List ℕ = c.in-Some.last.items in
     let ends : EndsIn sets last = subst (λ l. EndsIn l last) same (subst (Ends (listed_below r (length fs) (set_in c.in_ok-room.room))) c.in-Some.is c.in_ok-last.ensures.last) in
-    let front : List ℕ = run_lines names (run_if c.is_empty-bare.result NoDefaultFeatures) in
+    let front : List ℕ = run_lines names (run_if c.is_empty-no_default.result NoDefaultFeatures) in
     let lines : List ℕ = set_lines names (with_last_first (option_map_or (nat_lt 1) w.depth true) sets) in
     let is : all ≡ front ++ lines =
     runs-some w fs sets ends.front last ends.same names
-    ∙ ap (λ b. run_lines names (run_if b NoDefaultFeatures) ++ lines) (sym bare) in
+    ∙ ap (λ b. run_lines names (run_if b NoDefaultFeatures) ++ lines) (sym no_default) in
     let asked = c.last_below.new.rules in
     let shown : set_lines (map name_of c.args.features.now) (with_last_first c.fits_two-last_first.result (listed_in asked)) ≡ lines =
     ap (λ l. set_lines names (with_last_first c.fits_two-last_first.result l)) (listed-in-same r asked c.in_ok-last.ensures.same_size c.in_ok-last.ensures.same_may c.in_ok-last.ensures.same_whole)

@@ -3,8 +3,8 @@ use Rattle.std.proofs.lemmas.Bool.Decides.{Decides-eqb}
 use Rattle.hack_samples.specs.Sets.{rows_of}
 use Rattle.hack_features.specs.Tables.{is_lean, is_exclusive, is_required}
 use Rattle.hack_routes.proofs.MarkLemmas.{nil_from}
-use Rattle.hack_features.proofs.tables.Tables.are_bare.Goals.{then-is_empty, else-is_empty}
-use Rattle.hack_features.proofs.tables.Tables.are_bare.Goals as goal
+use Rattle.hack_features.proofs.tables.Tables.are_free.Goals.{then-is_empty, else-is_empty}
+use Rattle.hack_features.proofs.tables.Tables.are_free.Goals as goal
 
 pub returns-then-is_empty-2 : goal.returns-then-is_empty-2
 returns-then-is_empty-2 c = λ yes s.
