@@ -28,12 +28,10 @@ fn the_words_stand_in_their_order(rt: HostRuntime) -> Result<(), Wrong> {
             | /bin/cargo
             > words
             | +1.60|check|--tests|--no-default-features|--manifest-path|a/Cargo.toml|--features|a,b|--|-D|two words
-            > no features
-            | `cargo +1.60 check --tests --no-default-features -- -D two words`
             > nothing passed
-            | `cargo +1.60 --no-default-features`
+            | `cargo +1.60 --no-default-features --features a,b`
             > words
-            | +1.60|--no-default-features|--manifest-path|a/Cargo.toml
+            | +1.60|--no-default-features|--manifest-path|a/Cargo.toml|--features|a,b
         ",
     )
 }
@@ -203,7 +201,7 @@ fn features_are_one_word(rt: HostRuntime) -> Result<(), Wrong> {
 }
 
 #[test]
-fn features_are_taken_away(rt: HostRuntime) -> Result<(), Wrong> {
+fn no_names_are_no_features(rt: HostRuntime) -> Result<(), Wrong> {
     on_own(
         rt.alloc(),
         "
@@ -211,12 +209,8 @@ fn features_are_taken_away(rt: HostRuntime) -> Result<(), Wrong> {
             | `c`
             > names: a|b
             | `c --features a,b`
-            > no features
-            | `c`
-            > names: d
-            | `c --features d`
             > listed
-            | c --features d
+            | c --features a,b
         ",
     )
 }

@@ -1,7 +1,7 @@
 //! Commands as questions to one builder, with a caller in memory. Arguments are separated by bars.
 //!
 //! `command: PROGRAM` begins a command; `own word: WORD`, `own words: WORDS`, `leading: WORD`,
-//! `names: NAMES`, `empty name`, `no features`, `passed` (the passed arguments of the rows),
+//! `names: NAMES`, `empty name`, `passed` (the passed arguments of the rows),
 //! `nothing passed` and `stripped` change it. The answer is the short text. `texts` asks, in the
 //! folder `/w`, for the text that is neither long nor verbose, the long one and the verbose one,
 //! `listed` for the line of a list in the folder `m`, `words` for the arguments, and `program`.
@@ -73,7 +73,6 @@ impl Commands<'_> {
             "leading" => self.builder.leading_arg(text)?,
             "names" => self.builder.append_features(&list(alloc, text)?)?,
             "empty name" => self.builder.append_features(&[""])?,
-            "no features" => self.builder.clear_features(),
             "passed" => self.builder.pass_words(self.passed, self.trailing),
             "nothing passed" => self.builder.pass_words(&[], &[]),
             "stripped" => self.builder.strip_program_path = true,

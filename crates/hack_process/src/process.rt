@@ -125,13 +125,6 @@ impl<'a> ProcessBuilder<'a> {
         Ok(())
     }
 
-    /// Removes all features, so that the builder can be used for another run.
-    pub fn clear_features(&mut self)
-        ensures { command_of self.new ≡ record (command_of self.old) { features = None } }
-    {
-        self.features = None;
-    }
-
     /// The program, as it was given.
     pub fn program(&self) -> &str
         ensures { result.now ≡ (command_of self.now).program }

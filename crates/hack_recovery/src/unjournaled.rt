@@ -1,6 +1,6 @@
 //! A call without a journal.
 
-ghost use Rattle.std.specs.Prelude.{◌≡◌, ℕ, IfSome, false, not};
+ghost use Rattle.std.specs.Prelude.{ℕ, IfSome, not};
 ghost use Rattle.hack_base.specs.Names.{names_of};
 ghost use Rattle.hack_recovery.specs.CallCourses.{PerformsUnjournaled};
 ghost use Rattle.hack_recovery.specs.GuardEvents.{GuardsView};

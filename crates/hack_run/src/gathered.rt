@@ -7,7 +7,7 @@ ghost use Rattle.std.specs.Io.KnownBytes.{Appends, Keeps, append_known};
 ghost use Rattle.hack_base.specs.Writes.{CountsErrors, HasFailed, NoFewer};
 ghost use Rattle.hack_run.specs.InternalExtensions.{CountsLine, Extends, MissesForACause};
 
-use hack_base::writes::Sink;
+use hack_base::writes::{Sink, put_again};
 use hack_session::session::{LineFault, Lines};
 use std::alloc::{AllocError, Global};
 use std::io::ErrorKind;
@@ -169,7 +169,7 @@ fn write_gathered<O: Sink>(out: &mut O, gathered: &mut Vec<u8>) -> io::Result<()
     Ok(())
 }
 
-/// Writes as much of what is gathered as the writer takes at once, again where that was interrupted.
+/// Writes as much of what is gathered as the writer takes at once.
 fn write_some<O: Sink>(out: &mut O, gathered: &mut Vec<u8>) -> io::Result<()>
     requires { 0 < length gathered.old.items }
     ensures less { OnOk result (length gathered.new.items < length gathered.old.items) }
@@ -178,21 +178,14 @@ fn write_some<O: Sink>(out: &mut O, gathered: &mut Vec<u8>) -> io::Result<()>
     ensures grown { Extends (O.contents out.old) (O.contents out.new) }
     ensures counted { CountsErrors (O.failed out.old) (O.failed out.new) result }
 {
-    for _ in 0..u64::MAX {
-        match out.put_some(gathered.as_slice()) {
-            Ok(0) => return Err(io::Error::from(ErrorKind::WriteZero)),
-            Ok(n) => {
-                drop_front(gathered, n);
-                return Ok(());
-            }
-            Err(fault) => {
-                if fault.kind() != ErrorKind::Interrupted {
-                    return Err(fault);
-                }
-            }
+    match put_again(gathered.as_slice(), out) {
+        Ok(0) => Err(io::Error::from(ErrorKind::WriteZero)),
+        Ok(n) => {
+            drop_front(gathered, n);
+            Ok(())
         }
+        Err(fault) => Err(fault),
     }
-    Err(io::Error::from(ErrorKind::Interrupted))
 }
 
 /// Drops the first `n` bytes.
