@@ -14,5 +14,6 @@ pub mod Standing
 pub mod LastingEdits
 pub mod Lanes
 pub mod Readings
+pub mod WholeCalls
 pub mod InternalExtensions
 pub mod Internal

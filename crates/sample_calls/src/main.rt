@@ -8,7 +8,7 @@
 use cargo_hack::cli::Env;
 use cargo_hack::fs::{Files, MemoryFiles};
 use cargo_hack::process::{End, FakeCaller};
-use cargo_hack::run::{Host, run};
+use cargo_hack::run;
 use cargo_hack::term::{Coloring, Term};
 use std::alloc::{AllocError, Global};
 use std::{env, io};
@@ -78,8 +78,16 @@ fn call(alloc: Global, words: &[String], input: &str) -> Result<String, AllocErr
     let mut caller = caller(alloc, told.as_str())?;
     let mut out = Vec::new(alloc);
     let mut err = Vec::new(alloc);
-    let mut host = Host::new(alloc, &env, &mut term, &mut caller, &mut out, &mut err);
-    let status = run(words, None, &mut files, &mut host);
+    let status = run(
+        alloc,
+        words,
+        &env,
+        &mut term,
+        &mut files,
+        &mut caller,
+        &mut out,
+        &mut err,
+    );
     let listed = String::from_utf8_lossy(alloc, &out)?;
     let notes = String::from_utf8_lossy(alloc, &err)?;
     let line = words.join(alloc, " ")?;
