@@ -35,16 +35,6 @@ pub record IsWorkspaceEdit (root : Name) (ps : List Name) (text : List ℕ) (old
   pub made : AreParts (IsMade (takes root ps ws) (excluded_folders root ps ws) ws) pieces tail new
   pub tree : is_read_as (tree_left root ps old) new ≡ true
 
--- What removing private crates gives: the text where there is no workspace, or nothing to take out
--- or add, else an edit of it.
-pub record IsWithoutPrivate (root : Name) (ps : List Name) (text new : List ℕ) : Type 0 where
-  pub old : Members
-  pub read : parse_document text ≡ Some old
-  pub edit : MatchOption (table_at workspace_key old) (new ≡ text)
-      (λ ws. MatchBool (has_work root ps ws) (IsWorkspaceEdit root ps text old ws new) (new ≡ text))
-
--- ---- the refusals
-
 -- a byte of a control character
 abbrev pub is_control : ℕ → Bool
 is_control b = nat_lt b 32 || b == 127
@@ -56,6 +46,16 @@ some_control text = list_any is_control text
 -- some path has one
 abbrev pub some_path_control : List Name → Bool
 some_path_control ps = list_any some_control ps
+
+-- What removing private crates gives: the text where there is no workspace, or nothing to take out
+-- or add, else an edit of it, where no path has a control character.
+pub record IsWithoutPrivate (root : Name) (ps : List Name) (text new : List ℕ) : Type 0 where
+  pub old : Members
+  pub read : parse_document text ≡ Some old
+  pub edit : MatchOption (table_at workspace_key old) (new ≡ text)
+      (λ ws. MatchBool (has_work root ps ws) ((some_path_control ps ≡ false) × IsWorkspaceEdit root ps text old ws new) (new ≡ text))
+
+-- ---- the refusals
 
 -- there is a header `[workspace]`
 abbrev pub some_header : List View → Bool
