@@ -31,7 +31,7 @@ pub record IsSearchedPackage (cx : ContextRecord) (id : ℕ) (k : PackageView) :
   pub settings : k.settings ≡ []
 
 -- a plan without a place, with a single version, which is none
-pub record IsEmptyPlan (parts : CallView) (plan : PlanView) : Type 0 where
+pub record HasNoPlaces (parts : CallView) (plan : PlanView) : Type 0 where
   pub call : plan.call ≡ parts
   pub entries : plan.entries ≡ []
   pub spans : map span_of plan.versions ≡ record { version = None; first = 0; end = 0 } ∷ []
@@ -52,7 +52,7 @@ pub record IsSearchPlan (cx : ContextRecord) (call : CallView) (plan : PlanView)
   pub on_packages : List Note
   pub noted : AreChoiceNotes cx single on_packages
   pub packages : AllZip (IsSearchedPackage cx) ids plan.packages
-  pub empty : IsEmptyPlan call plan
+  pub placeless : HasNoPlaces call plan
   pub told : notes ≡ (on_packages ++ flat_map (candidate_notes_at cx single) ids) ++ left_out_notes cx (spots_of ids (slots_in call None))
   pub tables : table_fault cx ids ≡ None
   pub known : (e : PackagesFault) → ¬ IsChoiceFault cx e
@@ -60,7 +60,7 @@ pub record IsSearchPlan (cx : ContextRecord) (call : CallView) (plan : PlanView)
 -- the plan with which a search begins; without a subcommand it has no package
 abbrev pub IsSearchPlanOf : Option (String Global) → ContextRecord → Name → PlanView → List ℕ → List Note → Type 0
 IsSearchPlanOf None cx rustup plan ids notes =
-    (ids ≡ []) × (notes ≡ []) × (plan.packages ≡ []) × IsEmptyPlan (search_call cx rustup) plan
+    (ids ≡ []) × (notes ≡ []) × (plan.packages ≡ []) × HasNoPlaces (search_call cx rustup) plan
 IsSearchPlanOf (Some subcommand) cx rustup plan ids notes = IsSearchPlan cx (search_call cx rustup) plan ids notes
 
 -- runs of so many packages can be added to the plan

@@ -59,7 +59,7 @@ pub fn search_plan_of(alloc: Global, cx: &Context, rustup: &str) -> Result<Searc
     words.grows = true;
     if cx.args().subcommand.is_none() {
         return Ok(SearchPlan {
-            plan: Plan::empty(alloc, words, Vec::new(alloc))?,
+            plan: Plan::without_places(alloc, words, Vec::new(alloc))?,
             ids: Vec::new(alloc),
             notices: Vec::new(alloc),
         });
@@ -83,7 +83,7 @@ fn search_plan_by(alloc: Global, cx: &Context, words: CommandParts) -> Result<Se
     let ids = list.ids;
     let (packages, mut on_features) = searched_packages(alloc, cx, ids.as_slice(), list.is_single)?;
     notices.append(&mut on_features)?;
-    let plan = Plan::empty(alloc, words, packages)?;
+    let plan = Plan::without_places(alloc, words, packages)?;
     let mut on_runs = left_out(alloc, cx, ids.as_slice(), plan.slots())?;
     notices.append(&mut on_runs)?;
     Ok(SearchPlan { plan, ids, notices })

@@ -301,7 +301,7 @@ impl Plan {
 
     /// The plan of these packages without a place, to which a search adds runs. Its single version is
     /// none, and has no preparation.
-    pub fn empty(
+    pub fn without_places(
         alloc: Global,
         words: CommandParts,
         packages: Vec<PlanPackage>,
