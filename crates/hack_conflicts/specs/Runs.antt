@@ -1,5 +1,5 @@
 -- Builds that were tried, and what is found by them.
-use Rattle.std.specs.Prelude.{◌≡◌, ◌≢◌, ◌<◌, ◌≤◌, ◌+◌, ◌*◌, ◌↔◌, ℕ, List, [], map, length, Bool, false, cond, IsTrue, All, AllPairs, Contains, ◌⊎◌, Option, IfSome, MatchOption}
+use Rattle.std.specs.Prelude.{◌≡◌, ◌≢◌, ◌<◌, ◌≤◌, ◌+◌, ◌*◌, ◌↔◌, ℕ, List, [], map, length, drop, Bool, false, cond, IsTrue, All, AllPairs, Contains, ◌⊎◌, Option, IfSome, MatchOption}
 use Rattle.std.specs.List.{slice_index_or}
 use Rattle.hack_conflicts.specs.Sets.{Has, IsWithin, IsInside, HasInside, AreApart, rows_of}
 use Rattle.hack_conflicts.specs.Rules.{IsChoice, IsPlain, size_of}
@@ -70,9 +70,12 @@ IsClear conflicts run = (run.outcome ≡ Failed) × ¬ HasInside conflicts run.s
 abbrev pub IsToldOf : List (List Bool) → Run → Type 0
 IsToldOf conflicts run = run.outcome ≡ Failed → HasInside conflicts run.set
 
--- the run at this place failed, and no conflict lies inside its set
+-- the run at this place failed, and no conflict lies inside its set, as one does for each later run that
+-- failed
 abbrev pub IsOpen : List Run → List (List Bool) → ℕ → Type 0
-IsOpen runs conflicts place = (place < length runs) × IsClear conflicts (slice_index_or runs place (record { set = []; outcome = Broken }))
+IsOpen runs conflicts place =
+    (place < length runs) × IsClear conflicts (slice_index_or runs place (record { set = []; outcome = Broken }))
+    × All (IsToldOf conflicts) (drop (place + 1) runs)
 
 -- a set that failed has no conflict inside it and isn't known to be least, and each set that failed
 -- has a conflict inside it or this set

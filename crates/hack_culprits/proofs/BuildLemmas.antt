@@ -16,7 +16,7 @@ use Rattle.hack_plan.specs.View.{PlanView}
 use Rattle.hack_plan.specs.declared.places.PlacesFault.{PlacesFault}
 use Rattle.hack_plan.specs.declared.places.PlacesFault.TheVariants as places
 use Rattle.hack_session.specs.declared.step.Handed.{Handed}
-use Rattle.hack_culprits.specs.Built.{Answers, AreBrokenLast, AreDistinct, AreHanded, AreMade, AreUnbroken, Explains, IsAsked, IsBuilt, IsCutShort, IsRunFor, Made, RanHunt, Tells, run_for, fault_of, step_at, steps_from}
+use Rattle.hack_culprits.specs.Built.{Answers, AreBrokenLast, AreDistinct, AreHanded, AreMade, AreUnbroken, BuildsInTurn, Explains, IsAsked, IsBuilt, IsCutShort, IsRunFor, Made, RanHunt, Tells, run_for, fault_of, step_at, steps_from}
 use Rattle.hack_culprits.specs.Internal.{Builds, BuildsOne, IsReady, KeepsWhy, MayBreakLast, has_broken, is_broken, kept_of, made_in, outcome_of, told_of}
 use Rattle.hack_culprits.specs.JoinedBuilds.{none_broken, unbroken_added}
 use Rattle.hack_culprits.specs.declared.aim.Aim.{Aim}
@@ -52,6 +52,7 @@ nothing_built ran ended aim set why built plan a explained ready = record {
       built = sym (append-nil built);
       plan = refl;
       distinct = λ apart. apart;
+      turns = (built, inl (refl, inr refl), refl);
       each = All-cons (IsBuilt aim built) (record { set = set; outcome = Broken }) [] (inr refl) (All-nil (IsBuilt aim built));
       needed = All-nil (IsAsked aim (record { set = set; outcome = Broken } ∷ []));
       few = omega arith;
@@ -113,6 +114,7 @@ built_before ran ended aim set run o built plan a fits there ready =
           built = sym (append-nil built);
           plan = refl;
           distinct = λ apart. apart;
+          turns = (built, inl (refl, inl (m, there, record { fits = fits; told = sym (told-outcome o) })), refl);
           each = All-cons (IsBuilt aim built) one [] (inl (m, there, record { fits = fits; told = sym (told-outcome o) })) (All-nil (IsBuilt aim built));
           needed = All-nil (IsAsked aim (one ∷ []));
           few = omega arith;
@@ -139,6 +141,7 @@ built_now ran ended aim set run o built after old new a b fits fresh is grown di
           built = is;
           plan = grown;
           distinct = λ apart. subst AreDistinct (sym is) (all_pairs_push (λ (earlier later : Made). later.run ≢ earlier.run) built m apart (λ k d lt e. fresh k d lt (sym e)));
+          turns = (after, inr (m, is, answers), refl);
           each = All-cons (IsBuilt aim after) one [] (inl (m, there, answers)) (All-nil (IsBuilt aim after));
           needed = All-cons (IsAsked aim (one ∷ [])) m [] (one, Contains-head one [], answers) (All-nil (IsAsked aim (one ∷ [])));
           few = omega arith;
@@ -184,6 +187,7 @@ from_nothing aim asked before after added old new none made =
       built = refl;
       plan = made.plan;
       distinct = λ apart. subst AreDistinct is (made.distinct (subst AreDistinct (sym none) apart));
+      turns = subst (λ (l : List Made). BuildsInTurn aim asked l added) none (subst (BuildsInTurn aim asked before) is made.turns);
       each = subst (λ (l : List Made). All (IsBuilt aim l) asked) is made.each;
       needed = made.needed;
       few = made.few;

@@ -86,13 +86,25 @@ IsAsked aim asked m = (one : Asked) × Contains asked one × Answers aim one m
 abbrev pub AreDistinct : List Made → Type 0
 AreDistinct built = AllPairs (λ earlier later. later.run ≢ earlier.run) built
 
--- Of the sets that a search asked for, those that weren't built before were added to the plan, each as
--- its last place and none twice; each set has its run among those that were built, and each of these was
--- added for one of the sets.
+-- what was built when a set was asked for: its run; or nothing, where that was built before or no more could
+-- be built
+abbrev pub BuildsFor : Aim → Asked → List Made → List Made → Type 0
+BuildsFor aim asked before after =
+    ((after ≡ before) × IsBuilt aim before asked) ⊎ ((m : Made) × (after ≡ before ++ m ∷ []) × Answers aim asked m)
+
+-- the sets were built in the order in which they were asked for
+abbrev pub BuildsInTurn : Aim → List Asked → List Made → List Made → Type 0
+BuildsInTurn aim [] before after = after ≡ before
+BuildsInTurn aim (one ∷ more) before after = (mid : List Made) × BuildsFor aim one before mid × BuildsInTurn aim more mid after
+
+-- Of the sets that a search asked for, those that weren't built before were added to the plan, in this
+-- order, each as its last place and none twice; each set has its run among those that were built, and each
+-- of these was added for one of the sets.
 pub record AreMade (aim : Aim) (asked : List Asked) (before after added : List Made) (old new : PlanView) : Type 0 where
   pub built : after ≡ before ++ added
   pub plan : new ≡ with_made aim.slot aim.member added old
   pub distinct : AreDistinct before → AreDistinct after
+  pub turns : BuildsInTurn aim asked before after
   pub each : All (IsBuilt aim after) asked
   pub needed : All (IsAsked aim asked) added
   pub few : length added ≤ length asked

@@ -17,7 +17,7 @@ use Rattle.hack_plan.specs.View.{PlanView}
 use Rattle.hack_session.specs.GrownSteps.{AreRuns}
 use Rattle.hack_session.specs.StepEffects.{is_run}
 use Rattle.hack_session.specs.declared.step.Handed.{Handed}
-use Rattle.hack_culprits.specs.Built.{AreHanded, AreUnbroken, Explains, IsAsked, IsBuilt, Made, step_at, with_made}
+use Rattle.hack_culprits.specs.Built.{AreHanded, AreUnbroken, BuildsInTurn, Explains, IsAsked, IsBuilt, Made, step_at, with_made}
 use Rattle.hack_culprits.specs.Internal.{KeepsWhy, MayBreakLast, MayBuild, has_broken, is_broken}
 use Rattle.hack_culprits.specs.declared.aim.Aim.{Aim}
 use Rattle.hack_culprits.specs.declared.fault.CulpritsFault.{CulpritsFault}
@@ -78,6 +78,11 @@ module _ {R : Type 0} (ran : PlanView → List Handed → R → R → Type 0) (e
 built-more : (aim : Aim) (before added : List Made) (one : Asked) → IsBuilt aim before one → IsBuilt aim (before ++ added) one
 built-more aim before added one (inl h) = inl (h.0, Contains-append_left before added h.0 h.1, h.2)
 built-more aim before added one (inr h) = inr h
+
+-- sets that were built in turn, and then more
+turns-more : (aim : Aim) (asked more : List Asked) (first mid last : List Made) → BuildsInTurn aim asked first mid → BuildsInTurn aim more mid last → BuildsInTurn aim (asked ++ more) first last
+turns-more aim [] more first mid last front back = subst (λ (l : List Made). BuildsInTurn aim more l last) front back
+turns-more aim (one ∷ asked) more first mid last front back = (front.0, front.1, turns-more aim asked more front.0 mid last front.2 back)
 
 asked-left : (aim : Aim) (asked more : List Asked) (m : Made) → IsAsked aim asked m → IsAsked aim (asked ++ more) m
 asked-left aim asked more m h = (h.0, Contains-append_left asked more h.0 h.1, h.2)
@@ -147,6 +152,7 @@ builds_none ran ended aim built why plan a ready choices = record {
       built = sym (append-nil built);
       plan = refl;
       distinct = λ apart. apart;
+      turns = refl;
       each = All-nil (IsBuilt aim built);
       needed = All-nil (IsAsked aim []);
       few = omega arith;
@@ -185,6 +191,7 @@ builds_more {R} ran ended law aim asked more first mid last why then now old bet
           built = last_is ∙ ap (λ (l : List Made). l ++ ys) one.built ∙ append_assoc first xs ys;
           plan = two.plan ∙ ap (with_made aim.slot aim.member ys) one.plan ∙ sym (made-append aim.slot aim.member xs ys old);
           distinct = λ apart. two.distinct (one.distinct apart);
+          turns = turns-more aim asked more first mid last one.turns two.turns;
           each = All-append (IsBuilt aim last) asked more (all-weaker (IsBuilt aim mid) (IsBuilt aim last) asked (λ a h. subst (λ (l : List Made). IsBuilt aim l a) (sym last_is) (built-more aim mid ys a h)) one.each) two.each;
           needed = All-append (IsAsked aim (asked ++ more)) xs ys (all-weaker (IsAsked aim asked) (IsAsked aim (asked ++ more)) xs (asked-left aim asked more) one.needed)
               (all-weaker (IsAsked aim more) (IsAsked aim (asked ++ more)) ys (asked-right aim asked more) two.needed);

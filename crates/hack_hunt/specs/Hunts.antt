@@ -11,7 +11,7 @@ use Rattle.hack_closures.specs.declared.build.Build.TheVariants as build
 use Rattle.hack_closures.specs.declared.closures.Closures.{Closures}
 use Rattle.hack_conflicts.specs.Rules.{IsChoice, row_of}
 use Rattle.hack_conflicts.specs.Runs.{AreBlamed, Finding, HasFailed, IsCourse, Run as Asked}
-use Rattle.hack_conflicts.specs.Sets.{Has, HasInside}
+use Rattle.hack_conflicts.specs.Sets.{Has, HasInside, IsWithin}
 use Rattle.hack_culprits.specs.Built.{AreHanded, AreMade, AreUnbroken, Explains, IsCutShort, IsHunt, Made, steps_from}
 use Rattle.hack_culprits.specs.declared.aim.Aim.{Aim}
 use Rattle.hack_culprits.specs.declared.fault.CulpritsFault.{CulpritsFault}
@@ -85,11 +85,13 @@ abbrev pub AreBuiltFor : Closures → List (List Bool) → List Build → Type 0
 AreBuiltFor c sets builds =
     (each : List Build) × AllZip (IsBuildFor (choice_in c) (alone_in c) (has_all c) (search_of c)) sets each × IsPermutation each builds × AreInOrder builds
 
--- no set that failed was left without a conflict inside it; or this was built for such a set
+-- no set that failed was left without a conflict inside it; or this was built for such a set, which lies
+-- inside each other one
 abbrev pub IsUnfinishedAs : Closures → Finding → Option Build → Type 0
 IsUnfinishedAs c f None = AreBlamed f.runs f.conflicts
 IsUnfinishedAs c f (Some build) =
     (set : List Bool) × HasFailed f.runs set × (¬ HasInside f.conflicts set)
+    × ((s : List Bool) → HasFailed f.runs s → HasInside f.conflicts s ⊎ IsWithin set s)
     × IsBuildFor (choice_in c) (alone_in c) (has_all c) (search_of c) set build
 
 -- what is told of a finding: what was built for its conflicts and its passing sets

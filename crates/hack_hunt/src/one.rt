@@ -197,15 +197,15 @@ fn told(alloc: Global, aim: Aim<'_>, found: &Found) -> Result<Hunted, AllocError
     })
 }
 
-/// What was built for the set that a search left unfinished, if all that it tried may be chosen.
+/// What was built for the set that a search left unfinished.
 fn unfinished_in(
     alloc: Global,
     closures: &Closures<'_>,
     found: &Found,
 ) -> Result<Option<Build>, AllocError>
-    ensures { IfOk result (λ built.
-        All (λ run. IsChoice (search_of closures.now) run.set) (finding_of found.now).runs
-        → IsUnfinishedAs closures.now (finding_of found.now) built) }
+    requires { (most : Option ℕ)
+        × IsFinding (search_of closures.now) most (finding_of found.now) }
+    ensures { IfOk result (IsUnfinishedAs closures.now (finding_of found.now)) }
 {
     match found.unfinished() {
         Some(place) => {

@@ -1,10 +1,9 @@
 use Rattle.std.proofs.Common.{subst, arith, All, true, false}
-use Rattle.std.specs.Prelude.{List, MatchOption}
 use Rattle.std.proofs.lemmas.List.{length-map, take_all}
 use Rattle.std.proofs.lemmas.List.Elements.{All-nil}
 use Rattle.hack_conflicts.specs.Sets.{rows_of}
-use Rattle.hack_conflicts.specs.Runs.{IsOpen, IsToldOf, Run, run_of, runs_in}
-use Rattle.hack_conflicts.proofs.OpenLemmas.{open_step, open_whole}
+use Rattle.hack_conflicts.specs.Runs.{IsToldOf, run_of, runs_in}
+use Rattle.hack_conflicts.proofs.OpenLemmas.{IsLastOpen, open_step, open_whole}
 use Rattle.hack_conflicts.proofs.found.Found.unfinished.Goals as goal
 use Rattle.hack_conflicts.proofs.found.Found.unfinished.Goals.{then-is_clear, else-is_clear}
 
@@ -21,6 +20,6 @@ loop-place-preserved c =
 pub returns : goal.returns
 returns c =
     let runs = runs_in c.args.self.now.runs.items in
-    open_whole runs (rows_of c.args.self.now.conflicts.items) c.loop-place.last
-    (subst (λ (l : List Run). MatchOption c.loop-place.last (All (IsToldOf (rows_of c.args.self.now.conflicts.items)) l) (IsOpen runs (rows_of c.args.self.now.conflicts.items)))
-    (take_all c.loop-place.place runs (omega (arith, c.loop-place-test.false, c.len-place-end.ensures, length-map c.args.self.now.runs.items run_of))) c.loop-place.invariant)
+    let conflicts = rows_of c.args.self.now.conflicts.items in
+    open_whole runs conflicts c.loop-place.last
+    (subst (IsLastOpen conflicts c.loop-place.last) (take_all c.loop-place.place runs (omega (arith, c.loop-place-test.false, c.len-place-end.ensures, length-map c.args.self.now.runs.items run_of))) c.loop-place.invariant)
