@@ -25,6 +25,7 @@ use crate::contents::{are_back, put_over};
 use crate::notes::Notes;
 use crate::place::JournalPlace;
 use crate::unkept::{Refusal, Unkept};
+use hack_base::paths::under;
 use hack_files::fs::{FileFault, Files, Overwrites, count_failure, counted};
 use std::alloc::Global;
 use std::io;
@@ -75,6 +76,12 @@ impl<F: Files, U: Unkept> Journaled<F, U> {
     {
         (self.files, self.unkept)
     }
+}
+
+/// Whether the path is that of the folder's own manifest. It is never left cut: by what it says a
+/// later call finds the folder, and so the journal.
+fn is_root(path: &str, folder: &str) -> bool {
+    under(path, folder) == "Cargo.toml"
 }
 
 impl<F: Overwrites, U: Unkept> Journaled<F, U> {
@@ -129,7 +136,10 @@ impl<F: Overwrites, U: Unkept> Journaled<F, U> {
             return Err(FileFault::Device);
         }
         match self.keep(path, bytes) {
-            Ok(()) => put_over(&mut self.files, path, bytes),
+            Ok(()) => {
+                let whole = is_root(path, self.folder.as_str());
+                put_over(&mut self.files, path, bytes, whole)
+            }
             Err(fault) => {
                 self.unkept.note(Refusal::of(path));
                 Err(fault)
