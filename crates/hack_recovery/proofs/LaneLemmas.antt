@@ -19,7 +19,7 @@ use Rattle.hack_recovery.specs.CallCourses.IsCopyTold.{absent, there, unsure}
 use Rattle.hack_recovery.specs.CallCourses.IsJournalClosed.{copy_kept, copy_stays, gone, stays, unseen}
 use Rattle.hack_recovery.specs.LaneCalls.{AsksToRestore, CallsInLanes, over_journal, plain, unperformed}
 use Rattle.hack_recovery.specs.Ready.{Both, GetReady}
-use Rattle.hack_recovery.specs.Ready.GetReady.{further, looked_at}
+use Rattle.hack_recovery.specs.Ready.GetReady.{copied, further, looked_at, taken_back}
 use Rattle.hack_recovery.specs.Telling.{IsStarved, Warns}
 use Rattle.hack_words.specs.declared.cli.edits.Edits.{Edits}
 use Rattle.hack_words.specs.declared.cli.edits.Edits.TheVariants as edits
@@ -30,8 +30,8 @@ restore_is edits.Temporary on = cc
 restore_is edits.Permanent on = cc
 restore_is edits.Restore on = refl
 
-pub ready_now : {F L : Type 0} (f : Filing F) (l : Filing L) (env : Env) (both : Both) → GetReady f l env both both
-ready_now f l env both = looked_at (record { same = λ t q. refl; untraced = λ w. makes_none _ _ }) refl
+pub ready_now : {F L : Type 0} (f : Filing F) (l : Filing L) (env : Env) (Own : PlacesAt → Type 0) (both : Both) → GetReady f l env Own both both
+ready_now f l env Own both = looked_at (record { same = λ t q. refl; untraced = λ w. makes_none _ _ }) refl
 
 starved_quiet : (was now : Term) (err now_err : Stream) → IsStarved was now err now_err → now.error ≡ false → was.error ≡ false
 starved_quiet was now err now_err cut quiet = let e : true ≡ false = ap (λ (t : Term). t.error) (sym cut.0) ∙ quiet in cc
@@ -62,31 +62,37 @@ module _ {S : Type 0} (did : List Event → S → S → Type 0) (course : S → 
 
   module _ {F L : Type 0} (f : Filing F) (l : Filing L) where
     -- a call that is performed once files are ready, or isn't
-    pub in_lanes_or_not : (restores : Type 0) (done : Bool) (words : List Name) (env : Env) (files at : Both) (old new : S) (test off : Bool) → test ≡ off → (test ≡ true → (done ≡ false) ⊎ restores)
-        → (test ≡ true → new ≡ old) → GetReady f l env files at → (test ≡ false → IsLaneCall did course talks calls done f.tells words env at.0.held old new)
-        → CallsInLanes f l did course talks calls restores done words env files old new
-    in_lanes_or_not restores done words env files at old new test true is why same ready ran = unperformed (why is) (same is)
-    in_lanes_or_not restores done words env files at old new test false is why same ready ran = plain at ready (ran is)
+    pub in_lanes_or_not : (restores : Type 0) (Own : PlacesAt → Type 0) (done : Bool) (words : List Name) (env : Env) (files at : Both) (old new : S) (test off : Bool) → test ≡ off
+        → (test ≡ true → (done ≡ false) ⊎ restores) → (test ≡ true → new ≡ old) → GetReady f l env Own files at
+        → (test ≡ false → IsLaneCall did course talks calls done f.tells words env at.0.held old new) → CallsInLanes f l did course talks calls restores Own done words env files old new
+    in_lanes_or_not restores Own done words env files at old new test true is why same ready ran = unperformed (why is) (same is)
+    in_lanes_or_not restores Own done words env files at old new test false is why same ready ran = plain at ready (ran is)
 
     -- a call whose files get ready first
-    pub behind : (restores : Type 0) (done : Bool) (words : List Name) (env : Env) (files mid : Both) (old new : S) → GetReady f l env files mid
-        → CallsInLanes f l did course talks calls restores done words env mid old new → CallsInLanes f l did course talks calls restores done words env files old new
-    behind restores done words env files mid old new ready (unperformed why same) = unperformed why same
-    behind restores done words env files mid old new ready (plain at more ran) = plain at (further mid ready more) ran
-    behind restores done words env files mid old new ready (over_journal at journal more ran) = over_journal at journal (further mid ready more) ran
+    pub behind : (restores : Type 0) (Own : PlacesAt → Type 0) (done : Bool) (words : List Name) (env : Env) (files mid : Both) (old new : S) → GetReady f l env Own files mid
+        → CallsInLanes f l did course talks calls restores Own done words env mid old new → CallsInLanes f l did course talks calls restores Own done words env files old new
+    behind restores Own done words env files mid old new ready (unperformed why same) = unperformed why same
+    behind restores Own done words env files mid old new ready (plain at more ran) = plain at (further mid ready more) ran
+    behind restores Own done words env files mid old new ready (over_journal at places own more ran) = over_journal at places own (further mid ready more) ran
 
-    -- what a call that is to restore asks for
-    pub asked_to : (one other : Type 0) (done : Bool) (words : List Name) (env : Env) (files : Both) (old new : S) → (one → other)
-        → CallsInLanes f l did course talks calls one done words env files old new → CallsInLanes f l did course talks calls other done words env files old new
-    asked_to one other done words env files old new turn (unperformed (inl cut) same) = unperformed (inl cut) same
-    asked_to one other done words env files old new turn (unperformed (inr is) same) = unperformed (inr (turn is)) same
-    asked_to one other done words env files old new turn (plain at ready ran) = plain at ready ran
-    asked_to one other done words env files old new turn (over_journal at journal ready ran) = over_journal at journal ready ran
+    ready_by : (Mine Own : PlacesAt → Type 0) (env : Env) → ((places : PlacesAt) → Mine places → Own places) → (old new : Both) → GetReady f l env Mine old new → GetReady f l env Own old new
+    ready_by Mine Own env turn old new (looked_at same locked) = looked_at same locked
+    ready_by Mine Own env turn old new (taken_back places mine first last back was is) = taken_back places (turn places mine) first last back was is
+    ready_by Mine Own env turn old new (copied places mine first last kept was is) = copied places (turn places mine) first last kept was is
+    ready_by Mine Own env turn old new (further mid ready more) = further mid (ready_by Mine Own env turn old mid ready) (ready_by Mine Own env turn mid new more)
+
+    -- what a call that is to restore asks for, and whose the places are
+    pub asked_to : (one other : Type 0) (Mine Own : PlacesAt → Type 0) (done : Bool) (words : List Name) (env : Env) (files : Both) (old new : S) → (one → other) → ((places : PlacesAt) → Mine places → Own places)
+        → CallsInLanes f l did course talks calls one Mine done words env files old new → CallsInLanes f l did course talks calls other Own done words env files old new
+    asked_to one other Mine Own done words env files old new turn own (unperformed (inl cut) same) = unperformed (inl cut) same
+    asked_to one other Mine Own done words env files old new turn own (unperformed (inr is) same) = unperformed (inr (turn is)) same
+    asked_to one other Mine Own done words env files old new turn own (plain at ready ran) = plain at (ready_by Mine Own env own files at ready) ran
+    asked_to one other Mine Own done words env files old new turn own (over_journal at places mine ready ran) = over_journal at places (own places mine) (ready_by Mine Own env own files at ready) ran
 
     -- a call whose arguments, environment and caller are known by other names
-    pub lanes_known : (ws vs : List Name) (d e : Env) (done : Bool) (files : Both) (old first new : S) → ws ≡ vs → d ≡ e → old ≡ first
-        → CallsInLanes f l did course talks calls (AsksToRestore d ws) done ws d files old new → CallsInLanes f l did course talks calls (AsksToRestore e vs) done vs e files first new
-    lanes_known ws vs d e done files old first new words env caller h =
-        subst (λ (x : S). CallsInLanes f l did course talks calls (AsksToRestore e vs) done vs e files x new) caller
-        (subst (λ (x : Env). CallsInLanes f l did course talks calls (AsksToRestore x vs) done vs x files old new) env
-        (subst (λ (x : List Name). CallsInLanes f l did course talks calls (AsksToRestore d x) done x d files old new) words h))
+    pub lanes_known : (Own : List Name → Env → PlacesAt → Type 0) (ws vs : List Name) (d e : Env) (done : Bool) (files : Both) (old first new : S) → ws ≡ vs → d ≡ e → old ≡ first
+        → CallsInLanes f l did course talks calls (AsksToRestore d ws) (Own ws d) done ws d files old new → CallsInLanes f l did course talks calls (AsksToRestore e vs) (Own vs e) done vs e files first new
+    lanes_known Own ws vs d e done files old first new words env caller h =
+        subst (λ (x : S). CallsInLanes f l did course talks calls (AsksToRestore e vs) (Own vs e) done vs e files x new) caller
+        (subst (λ (x : Env). CallsInLanes f l did course talks calls (AsksToRestore x vs) (Own vs x) done vs x files old new) env
+        (subst (λ (x : List Name). CallsInLanes f l did course talks calls (AsksToRestore d x) (Own x d) done x d files old new) words h))

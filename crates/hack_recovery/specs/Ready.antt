@@ -15,10 +15,10 @@ Both = FilesView × FilesView
 abbrev pub both_in : Scene → Both
 both_in scene = (scene.files, scene.lockfiles)
 
--- how files come to be what a call is performed over: they are only looked at, what an interrupted call
--- left is taken back, the lockfile is copied, or one of these follows the other
-pub data GetReady {F L : Type 0} (f : Filing F) (l : Filing L) (env : Env) : Both → Both → Type 0 where
-  looked_at : {old new : Both} → Unchanged f.tells f.whole old.0 new.0 → new.1 ≡ old.1 → GetReady f l env old new
-  taken_back : {old new : Both} → (places : PlacesAt) (first last : Scene) → TakesBack f l env places first last (Ok true) → both_in first ≡ old → both_in last ≡ new → GetReady f l env old new
-  copied : {old new : Both} → (places : PlacesAt) (first last : Scene) → KeepsCopy f l places (Ok tt) first last → both_in first ≡ old → both_in last ≡ new → GetReady f l env old new
-  further : {old new : Both} → (mid : Both) → GetReady f l env old mid → GetReady f l env mid new → GetReady f l env old new
+-- how files come to be what a call with such places is performed over: they are only looked at, what an
+-- interrupted call left is taken back, the lockfile is copied, or one of these follows the other
+pub data GetReady {F L : Type 0} (f : Filing F) (l : Filing L) (env : Env) (Own : PlacesAt → Type 0) : Both → Both → Type 0 where
+  looked_at : {old new : Both} → Unchanged f.tells f.whole old.0 new.0 → new.1 ≡ old.1 → GetReady f l env Own old new
+  taken_back : {old new : Both} → (places : PlacesAt) → Own places → (first last : Scene) → TakesBack f l env places first last (Ok true) → both_in first ≡ old → both_in last ≡ new → GetReady f l env Own old new
+  copied : {old new : Both} → (places : PlacesAt) → Own places → (first last : Scene) → KeepsCopy f l places (Ok tt) first last → both_in first ≡ old → both_in last ≡ new → GetReady f l env Own old new
+  further : {old new : Both} → (mid : Both) → GetReady f l env Own old mid → GetReady f l env Own mid new → GetReady f l env Own old new

@@ -77,7 +77,7 @@ pub fn call<
 
     // Commands were started by the rules of lanes alone, and none that was started is left.
     ensures in_lanes { ProgramCallsInLanes F.Files L.Files C.did C.course C.tells C.calls S.tells
-        (S.shown system.now) (not outside.new.term.now.error)
+        K.tells (K.real keepers.old.locks) (S.shown system.now) (not outside.new.term.now.error)
         (files_view F.Files files, files_view L.Files lockfiles)
         outside.old.caller.now outside.new.caller.now }
 {

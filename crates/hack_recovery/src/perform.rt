@@ -13,7 +13,7 @@ ghost use Rattle.hack_recovery.specs.CallCourses.{Continues, IsCallCourse, RunsO
 ghost use Rattle.hack_recovery.specs.CallCourses.{CopiesAndRuns, IsJournaledCall, IsLockedCourse};
 ghost use Rattle.hack_recovery.specs.CallCourses.{PerformsUnjournaled};
 ghost use Rattle.hack_recovery.specs.GuardEvents.{GuardsView};
-ghost use Rattle.hack_recovery.specs.LaneCalls.{AsksToRestore, HostInLanes};
+ghost use Rattle.hack_recovery.specs.LaneCalls.{AreItsPlaces, AsksToRestore, HostInLanes};
 ghost use Rattle.hack_recovery.specs.LockEvents.{LocksView};
 ghost use Rattle.hack_places.specs.PlacesView.{places_view};
 ghost use Rattle.hack_recovery.specs.Restoring.{TakesBack};
@@ -87,7 +87,9 @@ pub fn perform<
     // Commands were started by the rules of lanes alone, and none that was started is left; or the
     // call isn't performed, and nothing was started.
     ensures in_lanes { HostInLanes F.Files L.Files C.did C.Caller
-        (AsksToRestore host.old.env.now (names_of words.now)) (names_of words.now)
+        (AsksToRestore host.old.env.now (names_of words.now))
+        (AreItsPlaces F.tells K.tells (K.real keepers.old.locks) (names_of words.now)
+        host.old.env.now (files_view F.Files files)) (names_of words.now)
         files lockfiles host.old host.new }
 {
     let mut files = files;
@@ -225,8 +227,8 @@ fn guarded<F: Overwrites, L: Files, U: Unkept, K: Locks, G: Guards, C: Starts, O
         (scene_of F.Files L.Files U.Unkept C.Caller O.Sink E.Sink result.1 result.2 result.3
         (K.shown keepers.new.locks) (G.shown keepers.new.guards) host.new) }
     ensures in_lanes { HostInLanes F.Files L.Files C.did C.Caller
-        (begun.edits ≡ Edits.Restore) (names_of words.now)
-        files lockfiles host.old host.new }
+        (begun.edits ≡ Edits.Restore) (λ places. places ≡ places_view begun.places)
+        (names_of words.now) files lockfiles host.old host.new }
 {
     let mut files = files;
     let mut lockfiles = lockfiles;
@@ -306,8 +308,8 @@ fn go_on<F: Overwrites, L: Files, U: Unkept, K: Locks, G: Guards, C: Starts, O: 
         (scene_of F.Files L.Files U.Unkept C.Caller O.Sink E.Sink result.1 result.2 result.3
         (K.shown keepers.new.locks) (G.shown keepers.new.guards) host.new) }
     ensures in_lanes { HostInLanes F.Files L.Files C.did C.Caller
-        (begun.edits ≡ Edits.Restore) (names_of words.now)
-        files lockfiles host.old host.new }
+        (begun.edits ≡ Edits.Restore) (λ places. places ≡ places_view begun.places)
+        (names_of words.now) files lockfiles host.old host.new }
 {
     let mut files = files;
     match begun.edits {
@@ -356,8 +358,8 @@ fn journaled<F: Overwrites, L: Files, U: Unkept, G: Guards, C: Starts, O: Sink, 
         (scene_of F.Files L.Files U.Unkept C.Caller O.Sink E.Sink result.1 result.2 result.3 locks
         (G.shown guards.new) host.new) }
     ensures in_lanes { HostInLanes F.Files L.Files C.did C.Caller
-        (begun.edits ≡ Edits.Restore) (names_of words.now)
-        files lockfiles host.old host.new }
+        (begun.edits ≡ Edits.Restore) (λ places. places ≡ places_view begun.places)
+        (names_of words.now) files lockfiles host.old host.new }
 {
     match guards.start(host.alloc, begun.places.place.folder.as_str()) {
         Ok(watches) => {
@@ -398,8 +400,8 @@ fn copied<F: Overwrites, L: Files, U: Unkept, C: Starts, O: Sink, E: Sink>(
         (scene_of F.Files L.Files U.Unkept C.Caller O.Sink E.Sink result.1 result.2 result.3
         locks guards host.new) }
     ensures in_lanes { HostInLanes F.Files L.Files C.did C.Caller
-        (begun.edits ≡ Edits.Restore) (names_of words.now)
-        files lockfiles host.old host.new }
+        (begun.edits ≡ Edits.Restore) (λ places. places ≡ places_view begun.places)
+        (names_of words.now) files lockfiles host.old host.new }
 {
     let mut files = files;
     let mut lockfiles = lockfiles;

@@ -17,7 +17,7 @@ use Rattle.hack_session.specs.StepOutput.{streams}
 use Rattle.hack_recovery.specs.Scenes.{scene_with}
 use Rattle.hack_recovery.proofs.CallLemmas.{course-known, same_streams}
 use Rattle.hack_recovery.proofs.LaneLemmas.{lanes_known}
-use Rattle.hack_recovery.specs.LaneCalls.{read, unread as not_read}
+use Rattle.hack_recovery.specs.LaneCalls.{AreItsPlaces, read, unread as not_read}
 use Rattle.hack_recovery.proofs.call.call.Goals as goal
 
 pub returns-in-Err-clause-goes : goal.returns-in-Err-clause-goes
@@ -64,5 +64,6 @@ returns-in-Err-coloring_asked-clause-in_lanes g c = not_read (ap (λ (t : Term).
 pub returns-clause-in_lanes : goal.returns-clause-in_lanes
 returns-clause-in_lanes g c =
     read c.in-Ok.started c.in-Ok.ensures.started
-    (lanes_known g.C.Starts.did g.C.Caller.course g.C.Caller.tells g.C.Caller.calls g.F.Files g.L.Files (names_of c.deref-2.result.now) (names_of c.in-Ok.started.words.items) c.new-host.result.env.now c.in-Ok.started.env _ _ c.new-host.result.caller.now c.args.outside.now.caller.now _
+    (lanes_known g.C.Starts.did g.C.Caller.course g.C.Caller.tells g.C.Caller.calls g.F.Files g.L.Files
+    (λ (words : List Name) (env : Env). AreItsPlaces g.F.Files.tells g.K.Locks.tells (g.K.Locks.real c.args.keepers.now.locks) words env (files_view g.F.Files c.args.files)) (names_of c.deref-2.result.now) (names_of c.in-Ok.started.words.items) c.new-host.result.env.now c.in-Ok.started.env _ _ c.new-host.result.caller.now c.args.outside.now.caller.now _
     (ap names_of c.deref-2.ensures.value) c.new-host.ensures.env c.new-host.ensures.caller.1 c.perform-ended.ensures.in_lanes)

@@ -1,6 +1,7 @@
 use Rattle.std.proofs.Common.{[], None, ap, false, inl, refl, string_bytes}
 use Rattle.std.specs.Prelude.{not}
 use Rattle.hack_base.specs.Streams.{stream_of}
+use Rattle.hack_journal.specs.Rows.{Spot}
 use Rattle.hack_places.specs.PlacesView.{places_view}
 use Rattle.hack_term.specs.declared.term.Term.{Term}
 use Rattle.hack_recovery.specs.CallCourses.CopiesAndRuns.{copied, uncopied}
@@ -34,11 +35,11 @@ returns-in-Ok-clause-in_lanes g c =
     let first : Scene = scene_of g.F.Files g.L.Files g.U.Unkept g.C.Caller g.O.Sink g.E.Sink c.args.files c.args.lockfiles c.args.unkept locks guards c.args.host.now in
     let old : Scene = scene_of g.F.Files g.L.Files g.U.Unkept g.C.Caller g.O.Sink g.E.Sink c.keep_copy.new.files c.keep_copy.new.lockfiles c.args.unkept locks guards c.args.host.now in
     let last : Scene = scene_with old.files c.args.host.now.term.now (stream_of g.E.Sink c.keep_copy.new.err) old in
-    over_journal (last.files, last.lockfiles) (string_bytes c.args.begun.place.journal)
-    (ready (places_view c.args.begun.places) first last
+    over_journal (last.files, last.lockfiles) (places_view c.args.begun.places) refl
+    (ready (places_view c.args.begun.places) refl first last
     (record { copied = c.in-Ok.ensures.copied; why = tt; counted = (c.in-Ok.ensures.counted, c.in-Ok.ensures.lockfiles_counted); failed = (c.in-Ok.ensures.failed, c.in-Ok.ensures.lockfiles_failed); others = c.in-Ok.ensures.others; made = c.in-Ok.ensures.made; same = record { same = c.in-Ok.ensures.same; untraced = c.in-Ok.ensures.untraced }; host = refl; said = c.in-Ok.ensures.said; quiet = record { calls = refl; out = refl; stdout = refl; fails = refl; unkept = refl; locks = refl; guards = refl } })
     refl refl)
-    c.over_journal.ensures.in_lanes
+    (rw (ap (λ (s : Spot). s.journal) c.requires.place) at c.over_journal.ensures.in_lanes)
 
 pub returns-in-Err-clause-in_lanes : goal.returns-in-Err-clause-in_lanes
 returns-in-Err-clause-in_lanes g c = unperformed (inl (ap (λ (t : Term). not t.error) c.report.ensures.noted)) c.report.ensures.still.0

@@ -20,11 +20,11 @@ returns-in-Temporary-clause-goes g c = journaled c.in-Temporary.is (c.journaled.
 
 pub returns-in-None-clause-in_lanes : goal.returns-in-None-clause-in_lanes
 returns-in-None-clause-in_lanes g c =
-    plain (files_view g.F.Files c.args.files, files_view g.L.Files c.args.lockfiles) (ready_now g.F.Files g.L.Files _ _) c.unjournaled-status.ensures.in_lanes
+    plain (files_view g.F.Files c.args.files, files_view g.L.Files c.args.lockfiles) (ready_now g.F.Files g.L.Files _ _ _) c.unjournaled-status.ensures.in_lanes
 
 pub returns-in-Permanent-clause-in_lanes : goal.returns-in-Permanent-clause-in_lanes
 returns-in-Permanent-clause-in_lanes g c =
-    plain (files_view g.F.Files c.args.files, files_view g.L.Files c.args.lockfiles) (ready_now g.F.Files g.L.Files _ _) c.unjournaled-status-in-Permanent.ensures.in_lanes
+    plain (files_view g.F.Files c.args.files, files_view g.L.Files c.args.lockfiles) (ready_now g.F.Files g.L.Files _ _ _) c.unjournaled-status-in-Permanent.ensures.in_lanes
 
 pub returns-in-Temporary-clause-in_lanes : goal.returns-in-Temporary-clause-in_lanes
 returns-in-Temporary-clause-in_lanes g c = c.journaled.ensures.in_lanes

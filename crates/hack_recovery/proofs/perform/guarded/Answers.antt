@@ -42,8 +42,8 @@ returns-else-not-is_back-clause-in_lanes g c =
     let guards = g.G.Guards.shown c.args.keepers.now.guards in
     let first : Scene = scene_of g.F.Files g.L.Files g.U.Unkept g.C.Caller g.O.Sink g.E.Sink c.args.files c.args.lockfiles c.args.unkept locks guards c.args.host.now in
     let at : Scene = scene_of g.F.Files g.L.Files g.U.Unkept g.C.Caller g.O.Sink g.E.Sink c.take_back.new.files c.take_back.new.lockfiles c.args.unkept locks guards c.take_back.new.host in
-    behind g.C.Starts.did g.C.Caller.course g.C.Caller.tells g.C.Caller.calls g.F.Files g.L.Files _ _ _ _ _ (at.files, at.lockfiles) _ _
-    (taken_back (places_view c.args.begun.places) first at (rw c.if-not-is_back.false at (c.in-Ok.ensures.goes unkept locks guards)) refl refl)
+    behind g.C.Starts.did g.C.Caller.course g.C.Caller.tells g.C.Caller.calls g.F.Files g.L.Files _ _ _ _ _ _ (at.files, at.lockfiles) _ _
+    (taken_back (places_view c.args.begun.places) refl first at (rw c.if-not-is_back.false at (c.in-Ok.ensures.goes unkept locks guards)) refl refl)
     (rw (c.in-Ok.ensures.host.env, c.in-Ok.ensures.still.0) at c.go_on.ensures.in_lanes)
 
 pub returns-in-Err-clause-in_lanes : goal.returns-in-Err-clause-in_lanes

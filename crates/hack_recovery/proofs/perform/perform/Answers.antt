@@ -9,7 +9,8 @@ use Rattle.hack_session.specs.StepOutput.{streams}
 use Rattle.hack_places.specs.PlacesView.{places_view}
 use Rattle.hack_recovery.specs.AskedEdits.{AsksForEdits}
 use Rattle.hack_words.specs.Edits.{is_change, is_restore}
-use Rattle.hack_recovery.specs.CallCourses.{CannotSee}
+use Rattle.hack_places.specs.CallPlaces.{PlacesAt}
+use Rattle.hack_recovery.specs.CallCourses.{Begins, CannotSee}
 use Rattle.hack_recovery.specs.CallCourses.IsCallCourse.{printed, starved, turned_away, under_its_lock}
 use Rattle.hack_recovery.specs.LaneCalls.{plain, unperformed}
 use Rattle.hack_recovery.specs.Ready.{Both}
@@ -177,7 +178,7 @@ returns-in-Ok-Plain-clause-in_lanes g c =
     let words = names_of c.args.words.now in
     let env = c.args.host.now.env.now in
     let at : Both = (files_view g.F.Files c.begin.new.files, files_view g.L.Files c.args.lockfiles) in
-    in_lanes_or_not g.C.Starts.did g.C.Caller.course g.C.Caller.tells g.C.Caller.calls g.F.Files g.L.Files _ _ words env _ at _ _ (is_restore begun.edits) (is_restore begun.edits) refl
+    in_lanes_or_not g.C.Starts.did g.C.Caller.course g.C.Caller.tells g.C.Caller.calls g.F.Files g.L.Files _ _ _ words env _ at _ _ (is_restore begun.edits) (is_restore begun.edits) refl
     (λ on. inr (c.in-Ok.ensures.begun.path, subst (λ (does : Edits). AsksForEdits env words does c.in-Ok.ensures.begun.path) (restore_is begun.edits on) c.in-Ok.ensures.begun.asked))
     (λ on. (c.plainly-status.ensures.still on).0)
     (looked_at (record { same = c.in-Ok.ensures.same; untraced = c.in-Ok.ensures.untraced }) refl) c.plainly-status.ensures.in_lanes
@@ -187,10 +188,11 @@ returns-in-Ok-Guarded-clause-in_lanes g c =
     let words = names_of c.args.words.now in
     let env = c.args.host.now.env.now in
     let at : Both = (files_view g.F.Files c.begin.new.files, files_view g.L.Files c.args.lockfiles) in
-    behind g.C.Starts.did g.C.Caller.course g.C.Caller.tells g.C.Caller.calls g.F.Files g.L.Files _ _ words env _ at _ _
+    behind g.C.Starts.did g.C.Caller.course g.C.Caller.tells g.C.Caller.calls g.F.Files g.L.Files _ _ _ words env _ at _ _
     (looked_at (record { same = c.in-Ok.ensures.same; untraced = c.in-Ok.ensures.untraced }) refl)
-    (asked_to g.C.Starts.did g.C.Caller.course g.C.Caller.tells g.C.Caller.calls g.F.Files g.L.Files _ _ _ words env at _ _
-    (λ is. (c.in-Ok.ensures.begun.path, subst (λ (does : Edits). AsksForEdits env words does c.in-Ok.ensures.begun.path) is c.in-Ok.ensures.begun.asked)) c.guarded.ensures.in_lanes)
+    (asked_to g.C.Starts.did g.C.Caller.course g.C.Caller.tells g.C.Caller.calls g.F.Files g.L.Files _ _ _ _ _ words env at _ _
+    (λ is. (c.in-Ok.ensures.begun.path, subst (λ (does : Edits). AsksForEdits env words does c.in-Ok.ensures.begun.path) is c.in-Ok.ensures.begun.asked))
+    (λ places own. (c.in-Ok.begun.edits, c.in-Ok.begun.is_left, subst (λ (p : PlacesAt). Begins g.F.Files.tells g.K.Locks.tells (g.K.Locks.real c.args.keepers.now.locks) words env c.in-Ok.begun.edits p c.in-Ok.begun.is_left (files_view g.F.Files c.args.files)) (sym own) c.in-Ok.ensures.begun)) c.guarded.ensures.in_lanes)
 
 pub returns-in-Err-clause-in_lanes : goal.returns-in-Err-clause-in_lanes
 returns-in-Err-clause-in_lanes g c = unperformed (inl (ap (λ (t : Term). not t.error) c.report.ensures.noted)) c.report.ensures.still.0
@@ -201,13 +203,13 @@ returns-in-Err-Memory-clause-in_lanes g c = unperformed (inl (ap (λ (t : Term).
 pub returns-in-Err-Prints-clause-in_lanes : goal.returns-in-Err-Prints-clause-in_lanes
 returns-in-Err-Prints-clause-in_lanes g c =
     let halted = rw c.in-Err-Prints.field-0-is at c.in-Err-Prints.ensures.halted in
-    plain (files_view g.F.Files c.args.files, files_view g.L.Files c.args.lockfiles) (ready_now g.F.Files g.L.Files _ _) (rw halted.0 at c.unjournaled-status.ensures.in_lanes)
+    plain (files_view g.F.Files c.args.files, files_view g.L.Files c.args.lockfiles) (ready_now g.F.Files g.L.Files _ _ _) (rw halted.0 at c.unjournaled-status.ensures.in_lanes)
 
 pub returns-in-Err-Unseen-clause-in_lanes : goal.returns-in-Err-Unseen-clause-in_lanes
 returns-in-Err-Unseen-clause-in_lanes g c =
     let edits = c.in-Err-Unseen.asked.edits in
     let at : Both = (files_view g.F.Files c.begin.new.files, files_view g.L.Files c.args.lockfiles) in
-    in_lanes_or_not g.C.Starts.did g.C.Caller.course g.C.Caller.tells g.C.Caller.calls g.F.Files g.L.Files _ _ _ c.args.host.now.env.now _ at _ _ (is_change edits) (is_change edits) refl
+    in_lanes_or_not g.C.Starts.did g.C.Caller.course g.C.Caller.tells g.C.Caller.calls g.F.Files g.L.Files _ _ _ _ c.args.host.now.env.now _ at _ _ (is_change edits) (is_change edits) refl
     (λ on. inl (ap (λ (h : HostView). not h.term.error) (c.blindly-status.ensures.refused on).1))
     (λ on. (c.blindly-status.ensures.still on).0)
     (looked_at (record { same = c.in-Err-Unseen.ensures.same; untraced = c.in-Err-Unseen.ensures.untraced }) refl) c.blindly-status.ensures.in_lanes
