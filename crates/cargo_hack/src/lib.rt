@@ -18,7 +18,6 @@ pub use hack_base::{notice, paths};
 pub use hack_children::{children, commands, processors};
 pub use hack_load::{cargo, context, metadata, process};
 pub use hack_partition::partition;
-pub use hack_run::parts::run;
 pub use hack_session::session;
 pub use hack_starts::starts;
 pub use hack_words::{cli, fs, lexopt, lists, restore, term, version};

@@ -8,7 +8,7 @@
 use cargo_hack::cli::Env;
 use cargo_hack::fs::{Files, MemoryFiles};
 use cargo_hack::process::{End, FakeCaller};
-use cargo_hack::run;
+use cargo_hack::run::run;
 use cargo_hack::term::{Coloring, Term};
 use std::alloc::{AllocError, Global};
 use std::{env, io};
