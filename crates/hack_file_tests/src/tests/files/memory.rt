@@ -52,7 +52,7 @@ fn each_change_is_kept(rt: HostRuntime) -> Result<(), Wrong> {
             > remove a
             | ok
             > list of changes
-            | [Step { path: "a", bytes: Some([49]) }, Step { path: "a", bytes: None }]
+            | [FileChange { path: "a", bytes: Some([49]) }, FileChange { path: "a", bytes: None }]
         "#,
     )
 }
