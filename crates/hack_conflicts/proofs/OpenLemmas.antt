@@ -83,15 +83,15 @@ open_least r most f found place left s failed = go f.complete refl
         let inside : IsWithin u.set one.set = elim (u.blamed one.set one_failed) [ inl told ↦ absurd (left.1.1 told) | inr within ↦ within ] in
         elim (cases_order i place) [
           | inl same ↦
-            let this : one.set ≡ u.set = ap (λ (x : Run). x.set) (ap (λ k. get_or f.runs k none) (sym same) ∙ is) in
-            elim (u.blamed s failed) [ inl told ↦ inl told | inr within ↦ inr (subst (λ t. IsWithin t s) (sym this) within) ]
+              let this : one.set ≡ u.set = ap (λ (x : Run). x.set) (ap (λ k. get_or f.runs k none) (sym same) ∙ is) in
+              elim (u.blamed s failed) [ inl told ↦ inl told | inr within ↦ inr (subst (λ t. IsWithin t s) (sym this) within) ]
           | inr (inl before) ↦
-            absurd ((found.course.fresh i place none before left.0).failed (ap (λ (x : Run). x.outcome) is) (subst (λ t. IsWithin t one.set) (sym (ap (λ (x : Run). x.set) is)) inside))
+              absurd ((found.course.fresh i place none before left.0).failed (ap (λ (x : Run). x.outcome) is) (subst (λ t. IsWithin t one.set) (sym (ap (λ (x : Run). x.set) is)) inside))
           | inr (inr behind) ↦
-            let rest : length (drop (place + 1) f.runs) ≡ length f.runs - (place + 1) = length-drop (place + 1) f.runs in
-            let low = u.failed.1 in
-            let at : get_or (drop (place + 1) f.runs) (i - (place + 1)) none ≡ run = get_or-drop (place + 1) f.runs (i - (place + 1)) none ∙ ap (λ k. get_or f.runs k none) (omega (arith, behind)) ∙ is in
-            absurd (u.clear (subst (IsToldOf f.conflicts) at (left.2 (i - (place + 1)) none (omega (arith, rest, behind, low))) refl))
+              let rest : length (drop (place + 1) f.runs) ≡ length f.runs - (place + 1) = length-drop (place + 1) f.runs in
+              let low = u.failed.1 in
+              let at : get_or (drop (place + 1) f.runs) (i - (place + 1)) none ≡ run = get_or-drop (place + 1) f.runs (i - (place + 1)) none ∙ ap (λ k. get_or f.runs k none) (omega (arith, behind)) ∙ is in
+              absurd (u.clear (subst (IsToldOf f.conflicts) at (left.2 (i - (place + 1)) none (omega (arith, rest, behind, low))) refl))
         ]
 
     go : (complete : Bool) → f.complete ≡ complete → HasInside f.conflicts s ⊎ IsWithin one.set s

@@ -45,7 +45,7 @@ module _ {F L S : Type 0} (f : Filing F) (l : Filing L) (did : List Event → S 
   pub data ProgramCallsInLanes (informs records : Type 0) (real : Name → Name) (system : SystemView) (done : Bool) (files : Both) (old new : S) : Type 0 where
     read : (started : Started) → GivesStart informs system (Ok started)
         → CallsInLanes (AsksToRestore started.env (names_of started.words.items)) (AreItsPlaces f.tells records real (names_of started.words.items) started.env files.0)
-            done (names_of started.words.items) started.env files old new
+        done (names_of started.words.items) started.env files old new
         → ProgramCallsInLanes informs records real system done files old new
     unread : done ≡ false → new ≡ old → ProgramCallsInLanes informs records real system done files old new
 
