@@ -14,7 +14,7 @@ use Rattle.hack_features.specs.Rules.{Choice, IsListed, IsRedundant, NotBothReac
 use Rattle.hack_routes.specs.FeatureMap.{EnablesOneOf}
 use Rattle.hack_base.proofs.Members.{Contains-cons_cases}
 use Rattle.hack_sets.proofs.Listing.{selection_none, selection_push, selection_up}
-use Rattle.hack_features.proofs.CoverLemmas.{before_trans}
+use Rattle.hack_sets.proofs.OrderLemmas.{before_trans}
 use Rattle.std.specs.Option.{is_none, option_map_or}
 use Rattle.hack_plan.specs.Runs.{PackageRun, Plain, AllFeatures, NoDefaultFeatures, Set, is_plain, keeps_all, run_if, in_turn}
 use Rattle.hack_plan.specs.RunsView.{with_last_first}

@@ -12,7 +12,7 @@ use Rattle.hack_words.specs.declared.cli.args.Args.{Args}
 use Rattle.hack_base.specs.Names.{Name, names_of}
 use Rattle.hack_features.specs.Rules.{IsListed}
 use Rattle.hack_sets.specs.Sets.{IsBefore, IsListing, Pairwise}
-use Rattle.hack_features.proofs.CoverLemmas.{before_trans}
+use Rattle.hack_sets.proofs.OrderLemmas.{before_trans}
 use Rattle.hack_base.proofs.Members.{Contains-cons_cases, Contains-head, Contains-tail, Contains-nil}
 use Rattle.hack_load.specs.Contexts.{ContextRecord, rust_version_at}
 use Rattle.hack_metadata.specs.Records.{PackageRecord}
