@@ -14,6 +14,5 @@ pub mod Standing
 pub mod LastingEdits
 pub mod Lanes
 pub mod Readings
-pub mod WholeCalls
 pub mod InternalExtensions
 pub mod Internal

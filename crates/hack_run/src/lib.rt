@@ -7,7 +7,6 @@ mod execute;
 mod fault;
 mod gathered;
 pub mod host;
-pub mod parts;
 mod print_list;
 pub mod reading;
 pub mod run;

@@ -1,4 +1,4 @@
-use Rattle.hack_run.proofs.parts.run.Goals as goal
+use Rattle.cargo_hack.proofs.run.run.Goals as goal
 
 pub returns-clause-call : goal.returns-clause-call
 returns-clause-call g c =
