@@ -5,13 +5,12 @@ ghost use Rattle.hack_base.specs.Names.{names_of};
 ghost use Rattle.hack_run.specs.Lanes.{IsLaneCall};
 ghost use Rattle.cargo_hack.specs.WholeCalls.{IsWholeCall};
 
+use hack_base::writes::Sink;
 pub use hack_drive::drive::{Hunt, Teller, drive_context, hunt_context, search_context};
+use hack_files::fs::Files;
 pub use hack_journaled::journaled::run_journaled;
 pub use hack_run::host::Host;
 pub use hack_run::run::run as run_on_host;
-
-use hack_base::writes::Sink;
-use hack_files::fs::Files;
 use hack_starts::starts::Starts;
 use hack_term::term::Term;
 use hack_words::cli::Env;
