@@ -203,8 +203,8 @@ def unguarded(killer, words, every):
 
 
 def cut(killer, words, is_root=False):
-    """Kills a call in each of its writes of a manifest: the guard restores all, and where there is none the next call. Texts
-    are seen there that are neither the first nor the edited ones, but never of the workspace's own manifest."""
+    """Kills a call in each of its writes over a manifest: the guard restores all, and where there is none the next call. Texts
+    are seen there that are neither the first nor the edited ones. The workspace's own manifest isn't written over."""
     place, seen = killer.place, set()
     place.lay_out()
     before = texts(place)
@@ -217,7 +217,7 @@ def cut(killer, words, is_root=False):
         if not was_killed:
             must(bool(seen) != is_root, f"{len(seen)} texts were cut")
             must(all(name != "Cargo.toml" for name, _ in seen), "the workspace's own manifest was cut")
-            return f"{counted(at - 1)}; {len(seen)} texts were cut"
+            return "no write of it may be cut" if is_root else f"{counted(at - 1)}; {len(seen)} texts were cut"
         was_killed, _ = killer.call(words, at, shell=False, KILL_CUTS="1")
         must(was_killed, f"without a guard, write {at} isn't made")
         seen |= texts(place) - whole
