@@ -25,7 +25,6 @@ use crate::contents::{are_back, put_over};
 use crate::notes::Notes;
 use crate::place::JournalPlace;
 use crate::unkept::{Refusal, Unkept};
-use hack_base::paths::under;
 use hack_files::fs::{FileFault, Files, Overwrites, count_failure, counted};
 use std::alloc::Global;
 use std::io;
@@ -76,12 +75,6 @@ impl<F: Files, U: Unkept> Journaled<F, U> {
     {
         (self.files, self.unkept)
     }
-}
-
-/// Whether the path is that of the folder's own manifest. It is never left cut: by what it says a
-/// later call finds the folder, and so the journal.
-fn is_root(path: &str, folder: &str) -> bool {
-    under(path, folder) == "Cargo.toml"
 }
 
 impl<F: Overwrites, U: Unkept> Journaled<F, U> {
@@ -136,10 +129,7 @@ impl<F: Overwrites, U: Unkept> Journaled<F, U> {
             return Err(FileFault::Device);
         }
         match self.keep(path, bytes) {
-            Ok(()) => {
-                let whole = is_root(path, self.folder.as_str());
-                put_over(&mut self.files, path, bytes, whole)
-            }
+            Ok(()) => put_over(&mut self.files, path, bytes),
             Err(fault) => {
                 self.unkept.note(Refusal::of(path));
                 Err(fault)
