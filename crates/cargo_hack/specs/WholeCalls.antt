@@ -31,7 +31,7 @@ module _ {F C O E : Type 0} (f : Filing F) (c : Calling C) (o : Taking O) (e : T
   abbrev pub world_reached : Reached F C O E → World
   world_reached r = record { files = files_view f r.files; host = host_of c o r.caller r.out r.term r.fails }
 
-  -- each clause of `run`, over what the call reaches, but for those on lanes
+  -- each clause of the `run` of `hack_run`, over what the call reaches, but for those on lanes and on the host itself
   pub record IsWholeCall (words : List Name) (env : Env) (old new : Reached F C O E) (status : ℕ) : Type 0 where
     pub ends : IsStatus env.deny_warnings (world_reached new).host status
     pub stays : f.stays old.files new.files
