@@ -51,14 +51,6 @@ pub fn run<'a, F: Files, C: Starts, O: Sink, E: Sink>(
     ensures in_lanes { IsLaneCall C.did C.course C.tells C.calls false F.tells
         (names_of words.now) env.now (F.bytes_at files.old) runner.old runner.new }
 {
-    let mut host = Host {
-        alloc,
-        env,
-        term,
-        caller: runner,
-        out,
-        err,
-        fails: false,
-    };
+    let mut host = Host::new(alloc, env, term, runner, out, err);
     run_on_host(words, None, files, &mut host)
 }
