@@ -1,11 +1,11 @@
 -- A prefix of a text that a writer took, and what is written after it.
 use Rattle.std.proofs.Common.{◌≡◌, inl, inr, ℕ, ◌-◌, List, ◌++◌, ◌<◌, Bool, true, false, ◌&&◌, lt-ltb, length, take, drop, Option, Some, None, Result, Ok, Err, IsErrAnd, ap, sym, subst, ◌∙◌, append_assoc, take-append-drop, arith}
 use Rattle.std.specs.Prelude.{if◌then◌else◌}
-use Rattle.std.proofs.Math.Nat.{eq-or-lt_of_le}
 use Rattle.std.proofs.lemmas.List.{take_rest}
 use Rattle.std.specs.Io.KnownBytes.{Appends, Keeps}
 use Rattle.std.proofs.KnownBytes.{Appends-trans}
 use Rattle.hack_base.specs.Writes.{AppendsFront, CountsErrors, CountsWrite, HasFailed, NoFewer, one_more, takes_none}
+use Rattle.hack_base.specs.WriteLaws.{NoFewer-refl, NoFewer-trans, failed-later}
 
 -- all of one text, and a prefix of the next
 pub AppendsFront-then : (a b c : Option (List ℕ)) (bs cs : List ℕ) → Appends a b bs → AppendsFront b c cs → AppendsFront a c (bs ++ cs)
@@ -28,16 +28,6 @@ Appends-kept (Some x) (Some y) (Some z) bs p q = q ∙ p
 
 -- ---- counts of failures
 
-pub NoFewer-refl : (a : Option ℕ) → NoFewer a a
-NoFewer-refl None = tt
-NoFewer-refl (Some n) = omega arith
-
-pub NoFewer-trans : (a b c : Option ℕ) → NoFewer a b → NoFewer b c → NoFewer a c
-NoFewer-trans None b c p q = tt
-NoFewer-trans (Some n) None c p q = absurd p
-NoFewer-trans (Some n) (Some m) None p q = absurd q
-NoFewer-trans (Some n) (Some m) (Some k) p q = omega (arith, p, q)
-
 -- a count that stayed is no fewer
 pub stayed : (a b : Option ℕ) → b ≡ a → NoFewer a b
 stayed a b is = subst (NoFewer a) (sym is) (NoFewer-refl a)
@@ -54,18 +44,6 @@ one-failed a b is = subst (HasFailed a) (sym is) (rose a)
     rose : (a : Option ℕ) → HasFailed a (one_more a)
     rose None = tt
     rose (Some n) = (omega arith, λ room. omega (arith, room))
-
-pub failed-later : (a b c : Option ℕ) → NoFewer a b → HasFailed b c → HasFailed a c
-failed-later None b c p q = tt
-failed-later (Some n) None c p q = absurd p
-failed-later (Some n) (Some m) None p q = absurd q
-failed-later (Some n) (Some m) (Some k) p q = (omega (arith, p, q.0), λ room. elim (eq-or-lt_of_le p) [ inl is ↦ omega (arith, is, q.1 (omega (arith, is, room))) | inr lt ↦ omega (arith, lt, q.0) ])
-
-pub failed-first : (a b c : Option ℕ) → HasFailed a b → NoFewer b c → HasFailed a c
-failed-first None b c p q = tt
-failed-first (Some n) None c p q = absurd p
-failed-first (Some n) (Some m) None p q = absurd q
-failed-first (Some n) (Some m) (Some k) p q = (omega (arith, p.0, q), λ room. omega (arith, p.1 room, q))
 
 -- what one write counts
 pub write-grows : (failed : Bool) (a b : Option ℕ) → b ≡ (if failed then one_more a else a) → NoFewer a b

@@ -7,4 +7,5 @@ pub mod Lists
 pub mod PathTexts
 pub mod Notes
 pub mod Writes
+pub mod WriteLaws
 pub mod Streams

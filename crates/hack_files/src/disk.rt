@@ -161,7 +161,15 @@ fn replace<R: rt::Files>(rt: &R, successor: Successor<R::File>, bytes: &[u8]) ->
 fn write_file<R: rt::Files + AllocGlobal>(rt: &R, path: &str, bytes: &[u8]) -> io::Result<()> {
     match successor_at(rt, path) {
         Some(successor) => replace(rt, successor, bytes),
-        None => fs::create(rt, path)?.write_all(bytes),
+        None => write_in_place(rt, path, bytes),
+    }
+}
+
+/// Writes the bytes over those that are there, and makes a file only where there is none.
+fn write_in_place<R: rt::Files>(rt: &R, path: &str, bytes: &[u8]) -> io::Result<()> {
+    match write_over(rt, path, bytes) {
+        Err(e) if e.kind() == ErrorKind::NotFound => fs::create(rt, path)?.write_all(bytes),
+        outcome => outcome,
     }
 }
 
@@ -174,11 +182,15 @@ fn overwrite_file<R: rt::Files + AllocGlobal>(rt: &R, path: &str, bytes: &[u8]) 
     }
 }
 
+/// Writes the bytes over those of a file, and cuts off what is left of these. A device has no end.
 fn write_over<R: rt::Files>(rt: &R, path: &str, bytes: &[u8]) -> io::Result<()> {
     let mut options = OpenOptions::new();
     let mut file = options.write(true).open(rt, path)?;
     file.write_all(bytes)?;
-    file.set_len(bytes.len() as u64)
+    if file.metadata()?.is_file() {
+        file.set_len(bytes.len() as u64)?;
+    }
+    Ok(())
 }
 
 fn read_file<R: rt::Files>(rt: &R, alloc: Global, path: &str) -> io::Result<Vec<u8>> {

@@ -5,7 +5,7 @@ use Rattle.std.specs.declared.io.Error.{Error}
 use Rattle.std.specs.declared.io.ErrorKind.{ErrorKind}
 use Rattle.std.specs.IoError.{error_kind}
 use Rattle.hack_base.specs.Writes.{HasFailed, NoFewer}
-use Rattle.hack_base.proofs.WriteLemmas.{NoFewer-trans, failed-later}
+use Rattle.hack_base.specs.WriteLaws.{NoFewer-trans, failed-later}
 use Rattle.hack_powerset_list.specs.declared.fault.ListFault.TheVariants.{NotText, Read, Write, Memory}
 use Rattle.hack_powerset_list.specs.declared.wishes.WordsFault.{WordsFault}
 use Rattle.hack_powerset_list.specs.declared.wishes.WordsFault.TheVariants as said

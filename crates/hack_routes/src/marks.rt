@@ -63,7 +63,7 @@ pub fn row_at<T>(rows: &[Vec<T>], place: usize) -> &[T]
 
 /// Returns marks: true at `start` and at each place that a chain of edges leads to from it. `rows`
 /// has for each place the places that one edge leads to from it.
-pub fn mark_reached(
+pub(crate) fn mark_reached(
     alloc: Global,
     rows: &[Vec<usize>],
     start: usize,

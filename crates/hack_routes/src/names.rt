@@ -77,7 +77,7 @@ impl<'a> Names<'a> {
 
     /// The places of the names that the values lead to. Those that the table doesn't have are
     /// added.
-    pub fn targets(
+    pub(crate) fn targets(
         &mut self,
         alloc: Global,
         values: &'a [String],
@@ -101,7 +101,7 @@ impl<'a> Names<'a> {
 
     /// The places of the names that the map's values of `name` lead to. Those that the table
     /// doesn't have are added.
-    pub fn row_of(
+    pub(crate) fn row_of(
         &mut self,
         alloc: Global,
         map: &'a BTreeMap<String, Vec<String>>,

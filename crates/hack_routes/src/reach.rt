@@ -23,7 +23,7 @@ impl Edges {
     ghost use Rattle.hack_routes.specs.InternalSearch.{target_of};
 
     /// The name that a value leads to.
-    pub fn target(self, value: &str) -> Option<&str>
+    pub(crate) fn target(self, value: &str) -> Option<&str>
         ensures { option_map (λ name. name.now) result ≡ target_of self value.now }
     {
         match self {

@@ -97,7 +97,7 @@ impl<'a> Routes<'a> {
 
     /// Whether a chain of edges leads from a place to a different one. For a place and itself the
     /// result says nothing.
-    pub fn has_mark(&self, from: usize, to: usize) -> bool
+    pub(crate) fn has_mark(&self, from: usize, to: usize) -> bool
         ensures { result ≡ cell (rows_of self.now.marks.items) from to }
     {
         bit(row_at(self.marks.as_slice(), from), to)

@@ -3,7 +3,8 @@ use Rattle.std.proofs.Common.{◌≡◌, ◌∙◌, ◌++◌, ◌∷◌, ℕ, Bo
 use Rattle.std.specs.Prelude.{MatchBool}
 use Rattle.std.specs.Io.KnownBytes.{Appends, Keeps, append_known}
 use Rattle.std.proofs.lemmas.List.{append_cancel_left}
-use Rattle.hack_base.proofs.WriteLemmas.{Appends-kept, NoFewer-trans, failed-later}
+use Rattle.hack_base.proofs.WriteLemmas.{Appends-kept}
+use Rattle.hack_base.specs.WriteLaws.{NoFewer-trans, failed-later}
 use Rattle.hack_base.specs.Streams.{Stream, WritesText}
 use Rattle.hack_base.specs.Writes.{AppendsFront, HasFailed, NoFewer}
 use Rattle.hack_run.specs.InternalExtensions.{Extends}

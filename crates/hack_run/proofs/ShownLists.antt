@@ -4,7 +4,7 @@ use Rattle.std.specs.Prelude.{◌<◌, All, IfErr, MatchBool, MatchOption}
 use Rattle.std.specs.List.{flat_map}
 use Rattle.std.specs.Io.KnownBytes.{Appends, Keeps}
 use Rattle.std.proofs.lemmas.Bool.{cases_Bool}
-use Rattle.hack_base.proofs.WriteLemmas.{failed-first, failed-later}
+use Rattle.hack_base.specs.WriteLaws.{failed-first, failed-later}
 use Rattle.hack_base.specs.Names.{Name}
 use Rattle.hack_base.specs.Notes.{Note}
 use Rattle.hack_base.specs.Streams.{Stream, WritesAll, WritesText, stream_of}

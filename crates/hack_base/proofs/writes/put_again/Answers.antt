@@ -1,7 +1,8 @@
 use Rattle.std.proofs.Common.{Ok, Err, arith, refl}
 use Rattle.std.specs.declared.io.Error.{Error}
 use Rattle.std.proofs.KnownBytes.{Keeps-refl, Keeps-trans}
-use Rattle.hack_base.proofs.WriteLemmas.{NoFewer-refl, NoFewer-trans, failed-later, write-grows, took-none, Appends-after}
+use Rattle.hack_base.proofs.WriteLemmas.{write-grows, took-none, Appends-after}
+use Rattle.hack_base.specs.WriteLaws.{NoFewer-refl, NoFewer-trans, failed-later}
 use Rattle.hack_base.proofs.writes.put_again.Goals as goal
 
 pub loop-init : goal.loop-init

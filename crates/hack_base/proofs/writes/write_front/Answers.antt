@@ -1,6 +1,7 @@
 use Rattle.std.proofs.Common.{◌++◌, take}
 use Rattle.std.proofs.KnownBytes.{Appends-trans}
-use Rattle.hack_base.proofs.WriteLemmas.{front-more, NoFewer-trans}
+use Rattle.hack_base.proofs.WriteLemmas.{front-more}
+use Rattle.hack_base.specs.WriteLaws.{NoFewer-trans}
 use Rattle.hack_base.proofs.writes.write_front.Goals as goal
 
 pub loop-rest-preserved : goal.loop-rest-preserved

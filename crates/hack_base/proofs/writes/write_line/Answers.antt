@@ -1,7 +1,8 @@
 use Rattle.std.proofs.Common.{◌++◌, codes}
 use Rattle.std.specs.declared.io.Error.{Error}
 use Rattle.std.proofs.KnownBytes.{Appends-trans}
-use Rattle.hack_base.proofs.WriteLemmas.{AppendsFront-then, AppendsFront-append, counts-refused, errors-later, failed-later}
+use Rattle.hack_base.proofs.WriteLemmas.{AppendsFront-then, AppendsFront-append, counts-refused, errors-later}
+use Rattle.hack_base.specs.WriteLaws.{failed-later}
 use Rattle.hack_base.proofs.writes.write_line.Goals as goal
 
 pub returns-in_err-write_front-clause-front : goal.returns-in_err-write_front-clause-front

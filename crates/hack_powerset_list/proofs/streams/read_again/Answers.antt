@@ -1,6 +1,7 @@
 use Rattle.std.proofs.Common.{arith}
 use Rattle.std.proofs.KnownBytes.{Keeps-refl, Keeps-trans}
-use Rattle.hack_base.proofs.WriteLemmas.{NoFewer-refl, NoFewer-trans, stayed, one-failed, failed-later}
+use Rattle.hack_base.proofs.WriteLemmas.{stayed, one-failed}
+use Rattle.hack_base.specs.WriteLaws.{NoFewer-refl, NoFewer-trans, failed-later}
 use Rattle.hack_powerset_list.proofs.StreamLemmas.{Consumes-after}
 use Rattle.hack_powerset_list.proofs.streams.read_again.Goals as goal
 

@@ -1,6 +1,7 @@
 use Rattle.std.proofs.Common.{◌≡◌, ◌∙◌, ◌<◌, ◌≤◌, ◌+◌, ◌++◌, ◌∷◌, [], ℕ, zero, List, Bool, length, filter, map, true, false, ap, sym, subst, arith, drop, append_assoc, string_bytes, All}
 use Rattle.hack_base.specs.Writes.{AppendsFront, NoFewer}
-use Rattle.hack_base.proofs.WriteLemmas.{NoFewer-trans, stayed}
+use Rattle.hack_base.proofs.WriteLemmas.{stayed}
+use Rattle.hack_base.specs.WriteLaws.{NoFewer-trans}
 use Rattle.hack_base.specs.Names.{Name}
 use Rattle.hack_features.specs.Feature.{name_of}
 use Rattle.hack_sets.specs.Sets.{IsSelection, items_at}

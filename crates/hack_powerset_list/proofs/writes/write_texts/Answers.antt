@@ -2,7 +2,8 @@ use Rattle.std.proofs.Common.{◌+◌, subst}
 use Rattle.std.specs.Io.KnownBytes.{Appends}
 use Rattle.std.specs.declared.io.Error.{Error}
 use Rattle.std.proofs.KnownBytes.{Appends-nil, Appends-trans}
-use Rattle.hack_base.proofs.WriteLemmas.{NoFewer-refl, NoFewer-trans, counts-refused, failed-later}
+use Rattle.hack_base.proofs.WriteLemmas.{counts-refused}
+use Rattle.hack_base.specs.WriteLaws.{NoFewer-refl, NoFewer-trans, failed-later}
 use Rattle.hack_powerset_list.proofs.PageLemmas.{texts-more, front-with-page}
 use Rattle.hack_powerset_list.proofs.writes.write_texts.Goals as goal
 

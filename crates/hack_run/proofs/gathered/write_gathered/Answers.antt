@@ -1,6 +1,6 @@
 use Rattle.std.proofs.KnownBytes.{Keeps-trans}
 use Rattle.std.specs.Io.KnownBytes.{append_known}
-use Rattle.hack_base.proofs.WriteLemmas.{NoFewer-trans}
+use Rattle.hack_base.specs.WriteLaws.{NoFewer-trans}
 use Rattle.hack_run.specs.InternalExtensions.{extends_then}
 use Rattle.hack_run.proofs.gathered.write_gathered.Goals as goal
 
