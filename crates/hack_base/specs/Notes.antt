@@ -2,11 +2,20 @@
 use Rattle.std.specs.Prelude.{◌≡◌, ℕ, List, [], ◌∷◌, ◌++◌, Bool, Vec, map, string_bytes, if◌then◌else◌}
 use Rattle.hack_base.specs.declared.notice.Notice.{Notice}
 use Rattle.hack_base.specs.declared.notice.NoticeKind.{NoticeKind}
+use Rattle.hack_base.specs.declared.notice.NoticeKind.TheVariants.{Info, Warn}
 
 -- a kind and a line of text
 pub record Note : Type 0 where
   pub kind : NoticeKind
   pub text : List ℕ
+
+-- a notice that warns
+abbrev pub warning_note : List ℕ → Note
+warning_note text = record { kind = Warn; text = text }
+
+-- a notice that informs
+abbrev pub info_note : List ℕ → Note
+info_note text = record { kind = Info; text = text }
 
 -- the kind and the text of a notice
 abbrev pub note_of : Notice → Note

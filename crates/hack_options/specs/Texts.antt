@@ -27,7 +27,8 @@ shown_with_alias o = shown_option o
 abbrev pub help_value_of : Opt → List ℕ
 help_value_of o = (entry_of o).value
 
--- whether the help has a row for the option: two of Cargo, and eight of ours, have none
+-- whether the help has a row for the option: two of Cargo, one of cargo-hack, and seven of
+-- ours have none
 abbrev pub is_told : Opt → Bool
 is_told opt.NoDefaultFeatures = false
 is_told opt.AllFeatures = false

@@ -1,19 +1,10 @@
 -- The notices about the packages that a call runs on.
 use Rattle.std.specs.Prelude.{◌≡◌, ◌==◌, ◌++◌, ℕ, List, Bool, Option, not, map, filter, length, string_bytes}
 use Rattle.hack_base.specs.Names.{Name, names_of}
-use Rattle.hack_base.specs.Notes.{Note}
-use Rattle.hack_base.specs.declared.notice.NoticeKind.TheVariants.{Info, Warn}
+use Rattle.hack_base.specs.Notes.{Note, info_note, warning_note}
 use Rattle.hack_words.specs.declared.cli.args.Args.{Args}
 use Rattle.hack_planner.specs.Members.{Member, AreRemaining, Collects, MatchesSome, is_called, is_skipped}
 use Rattle.hack_planner.specs.Texts.{exclusion_text, lift_text, private_text}
-
--- a notice that warns
-abbrev pub warning_note : List ℕ → Note
-warning_note text = record { kind = Warn; text = text }
-
--- a notice that informs
-abbrev pub info_note : List ℕ → Note
-info_note text = record { kind = Info; text = text }
 
 -- whether exactly one package is left after exclusions, where private ones that are skipped count
 -- too; and the notices: about exclusions that match no member, package names of

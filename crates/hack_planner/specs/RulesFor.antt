@@ -11,7 +11,7 @@ use Rattle.hack_load.specs.declared.features.Features.{Features}
 use Rattle.hack_metadata.specs.Records.{PackageRecord, RulesRecord}
 use Rattle.hack_words.specs.declared.cli.args.Args.{Args}
 use Rattle.hack_planner.specs.Candidates.{contains_name, is_found}
-use Rattle.hack_planner.specs.MemberNotes.{warning_note}
+use Rattle.hack_base.specs.Notes.{warning_note}
 use Rattle.hack_planner.specs.PackageRules.{PackageRulesRecord, call_rules}
 use Rattle.hack_planner.specs.Texts.{table_text}
 

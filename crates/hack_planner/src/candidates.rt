@@ -10,7 +10,7 @@ ghost use Rattle.hack_base.specs.Notes.{note_of};
 ghost use Rattle.hack_planner.specs.Texts.{feature_text as missing_feature};
 ghost use Rattle.hack_planner.specs.Texts.{dependency_text as missing_dependency};
 ghost use Rattle.hack_planner.specs.Texts.{group_text as skipped_group};
-ghost use Rattle.hack_planner.specs.MemberNotes.{warning_note, info_note};
+ghost use Rattle.hack_base.specs.Notes.{warning_note, info_note};
 ghost use Rattle.hack_planner.specs.Candidates.{contains_name as name_in, one_has as one_names};
 ghost use Rattle.hack_planner.specs.Candidates.{is_taken as taken_by, stays as stays_for};
 ghost use Rattle.hack_planner.specs.Candidates.{is_asked as asked_by};

@@ -7,7 +7,7 @@ ghost use Rattle.hack_base.specs.Notes.{note_of};
 ghost use Rattle.hack_planner.specs.Texts.{exclusion_text, lift_text as lift_words, private_text};
 ghost use Rattle.hack_planner.specs.Members.{MatchesSome, AllMatch, SelectsMembers, Collects};
 ghost use Rattle.hack_planner.specs.Members.{is_called as has_called};
-ghost use Rattle.hack_planner.specs.MemberNotes.{warning_note, info_note};
+ghost use Rattle.hack_base.specs.Notes.{warning_note, info_note};
 ghost use Rattle.std.specs.List.{find};
 ghost use Rattle.std.specs.Option.{option_to_list};
 ghost use Rattle.std.specs.Str.{bytes_eq};

@@ -17,7 +17,7 @@ pub enum End {
     Status(i32),
     /// It was ended by this signal.
     Signal(i32),
-    /// It could not be started.
+    /// It could not be started, or it isn't known how it ended.
     NeverStarted,
 }
 

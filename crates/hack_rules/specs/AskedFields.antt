@@ -19,7 +19,8 @@ use Rattle.hack_term.specs.declared.term.Coloring.TheVariants.{Auto}
 use Rattle.hack_term.specs.declared.log_group.LogGroup.{LogGroup}
 use Rattle.hack_term.specs.declared.log_group.LogGroup.TheVariants as group
 
--- the colouring: that of the command line, else that of the environment, else auto
+-- the colouring: that of the command line, or without one that of the environment; auto where this
+-- names none
 abbrev pub coloring_asked : Option (List ℕ) → List Use → Coloring
 coloring_asked term_color us =
     unwrap_or (option_and_then coloring_of (option_or (value_given opt.Color us) term_color)) Auto

@@ -28,7 +28,8 @@ abbrev pub number_within : ℕ → List ℕ → Option ℕ
 number_within most text =
     option_and_then (λ n. if nat_lt most n then None else Some n) (number_of 64 text)
 
--- the rules on ranges; where rustup's minor version is known, it must be new enough
+-- the rules on ranges and on what needs one; where rustup's minor version is known, it must be new
+-- enough
 abbrev pub range_rules : Option ℕ → List Use → List (Option Fault)
 range_rules rustup us =
     clash opt.VersionRange opt.RustVersion us

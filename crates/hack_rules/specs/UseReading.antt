@@ -146,7 +146,8 @@ IsLast End = Unit
 IsLast (Prints print) = Unit
 IsLast (Fails fault) = Unit
 
--- the answer says that these uses were read, and then r; or memory ran out
+-- the answer says that these uses were read, and then the end; or that something else was, r; or memory
+-- ran out
 abbrev pub ReturnsUses : Result Cuts CutFault → List Use → Reading → Type 0
 ReturnsUses (Ok (cuts.Uses us)) vs r = (views us.items ≡ vs) × (r ≡ End)
 ReturnsUses (Ok (cuts.Asks print)) vs r = r ≡ Prints print

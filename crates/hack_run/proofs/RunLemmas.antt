@@ -11,7 +11,7 @@ use Rattle.hack_process.specs.declared.fault.ProcessFault.{ProcessFault}
 use Rattle.hack_term.specs.declared.term.Term.{Term}
 use Rattle.hack_plan.specs.View.{PlanView}
 use Rattle.hack_session.specs.Histories.{Course, HasPassed}
-use Rattle.hack_session.specs.ListLines.{ListsStep, ListsAll, Page, has_failed, is_sent, is_sent_step, lines_written, step_lines}
+use Rattle.hack_session.specs.ListLines.{ListsStep, ListsAll, Page, is_failed, is_sent, is_sent_step, lines_written, step_lines}
 use Rattle.hack_session.specs.Internal.{IsWrittenStep}
 use Rattle.hack_session.proofs.RunLemmas.{HasPerformed}
 use Rattle.hack_session.proofs.StepLemmas.{HasTold}
@@ -94,7 +94,7 @@ sent_lines plan (Run place) e = absurd (cc)
 
 one_listed : (whole : Type 0) (b : Bool) (plan : PlanView) (h : Handed) (old new : Page) → is_sent_step h.step ≡ b → old.failed ≡ 0 → old.refused ≡ 0 → new.failed ≡ 0 → new.refused ≡ 0 → ListsStep whole b plan h old new → IsWrittenStep h
 one_listed whole true plan h old new is f r g s same = rw is refl
-one_listed whole false plan h old new is f r g s (inl w) = rw is (ap has_failed w.passes)
+one_listed whole false plan h old new is f r g s (inl w) = rw is (ap is_failed w.passes)
 one_listed whole false plan h old new is f r g s (inr (inl m)) = let e = m.counted (omega (arith, f)) in absurd (omega (arith, e, f, g))
 one_listed whole false plan h old new is f r g s (inr (inr m)) = let e = m.counted (omega (arith, r)) in absurd (omega (arith, e, r, s))
 
@@ -116,18 +116,18 @@ kept_nothing (Some x) None k = absurd k
 kept_nothing (Some x) (Some y) k = k ∙ sym (append-nil x)
 
 -- the lines of a step by its outcome
-lines_by : (plan : PlanView) (h : Handed) (b : Bool) → has_failed h.outcome ≡ b → (if b then [] else step_lines plan h.step) ≡ lines_written plan h
+lines_by : (plan : PlanView) (h : Handed) (b : Bool) → is_failed h.outcome ≡ b → (if b then [] else step_lines plan h.step) ≡ lines_written plan h
 lines_by plan h b is = rw is refl
 
 one_passed : (whole : Type 0) (b : Bool) (plan : PlanView) (h : Handed) (old new : Page) → is_sent_step h.step ≡ b → whole → ListsStep whole b plan h old new → Appends old.contents new.contents (lines_written plan h)
-one_passed whole true plan h old new is w same = subst (λ (p : Page). Appends old.contents p.contents (lines_written plan h)) (sym same) (subst (Appends old.contents old.contents) (none (has_failed h.outcome)) (Appends-nil old.contents))
+one_passed whole true plan h old new is w same = subst (λ (p : Page). Appends old.contents p.contents (lines_written plan h)) (sym same) (subst (Appends old.contents old.contents) (none (is_failed h.outcome)) (Appends-nil old.contents))
   where
     none : (b : Bool) → [] ≡ (if b then [] else step_lines plan h.step)
     none true = refl
     none false = sym (sent_lines plan h.step is)
-one_passed whole false plan h old new is w (inl p) = subst (Appends old.contents new.contents) (lines_by plan h false (ap has_failed p.passes)) p.written
-one_passed whole false plan h old new is w (inr (inl m)) = subst (Appends old.contents new.contents) (lines_by plan h true (ap has_failed m.fails)) (kept_nothing old.contents new.contents (m.left w))
-one_passed whole false plan h old new is w (inr (inr r)) = subst (Appends old.contents new.contents) (lines_by plan h true (ap has_failed r.fails)) (subst (λ (o : Option (List ℕ)). Appends old.contents o []) (sym r.kept.0) (Appends-nil old.contents))
+one_passed whole false plan h old new is w (inl p) = subst (Appends old.contents new.contents) (lines_by plan h false (ap is_failed p.passes)) p.written
+one_passed whole false plan h old new is w (inr (inl m)) = subst (Appends old.contents new.contents) (lines_by plan h true (ap is_failed m.fails)) (kept_nothing old.contents new.contents (m.left w))
+one_passed whole false plan h old new is w (inr (inr r)) = subst (Appends old.contents new.contents) (lines_by plan h true (ap is_failed r.fails)) (subst (λ (o : Option (List ℕ)). Appends old.contents o []) (sym r.kept.0) (Appends-nil old.contents))
 
 -- where lines are written whole or not at all, a list writes just those of the steps that passed
 pub passed_written : (whole : Type 0) (plan : PlanView) (steps : List Handed) (old new : Page) → whole → ListsAll whole plan steps old new → Appends old.contents new.contents (flat_map (lines_written plan) steps)
@@ -139,7 +139,7 @@ passed_written whole plan (h ∷ steps) old new w l =
 passed_by : (h : Handed) → is_sent_step h.step ≡ false → IsWrittenStep h → HasPassed h
 passed_by h off listed = go h.outcome (rw off at listed)
   where
-    go : (o : Outcome) → has_failed o ≡ false → o ≡ Passed
+    go : (o : Outcome) → is_failed o ≡ false → o ≡ Passed
     go Passed e = refl
     go Failed e = absurd (cc)
 

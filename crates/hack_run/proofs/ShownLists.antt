@@ -20,7 +20,7 @@ use Rattle.hack_process.specs.Calls.{Call}
 use Rattle.hack_process.specs.declared.fault.ProcessFault.{ProcessFault}
 use Rattle.hack_plan.specs.View.{PlanView}
 use Rattle.hack_session.specs.Internal.{IsWrittenStep}
-use Rattle.hack_session.specs.ListLines.{has_failed, is_sent, lines_written}
+use Rattle.hack_session.specs.ListLines.{is_failed, is_sent, lines_written}
 use Rattle.hack_session.specs.declared.step.Handed.{Handed}
 use Rattle.hack_session.specs.StepEffects.{Scene, State}
 use Rattle.hack_session.specs.declared.starter.Starter.{Starter}
@@ -42,7 +42,7 @@ IsUnwritten short flushed missed = (short ≡ false) × ((0 < missed) ⊎ (flush
 listed_one : (h : Handed) → IsWrittenStep h → IsListed h
 listed_one h is = elim (cases_Bool (is_sent h)) [
   | inl sent ↦ inl sent
-  | inr off ↦ inr (subst (λ (b : Bool). (if b then false else has_failed h.outcome) ≡ false) off is)
+  | inr off ↦ inr (subst (λ (b : Bool). (if b then false else is_failed h.outcome) ≡ false) off is)
 ]
 
 -- how a list ends where memory wasn't refused, by what is kept of its steps

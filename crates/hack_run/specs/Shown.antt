@@ -44,7 +44,7 @@ use Rattle.hack_process.specs.declared.caller.Caller.{Ghosts as Calling}
 use Rattle.hack_report.specs.Reported.{SaysCutReport, SaysReport, are_reported}
 use Rattle.hack_rules.specs.declared.fault.CliFault.{CliFault}
 use Rattle.hack_session.specs.Histories.{Course}
-use Rattle.hack_session.specs.ListLines.{has_failed, is_sent, lines_written}
+use Rattle.hack_session.specs.ListLines.{is_failed, is_sent, lines_written}
 use Rattle.hack_session.specs.StepEffects.{DoesAll, Scene, State, state}
 use Rattle.hack_session.specs.StepOutput.{Manner, Streams, streams}
 use Rattle.hack_session.specs.declared.step.Handed.{Handed}
@@ -215,7 +215,7 @@ pub record SaysRuns (came : Result (Unit {0}) RunFault) (tells : Type 0) (cx : C
 
 -- a step of a list passed, or is one that isn't listed
 abbrev pub IsListed : Handed → Type 0
-IsListed h = (is_sent h ≡ true) ⊎ (has_failed h.outcome ≡ false)
+IsListed h = (is_sent h ≡ true) ⊎ (is_failed h.outcome ≡ false)
 
 -- How a list ends: for want of memory. Or each listed step passed, unless the list's stream counted a failure; and it
 -- ends with the error that stopped its steps; else with that of a line that is missing for this, or, where each passed,

@@ -17,7 +17,8 @@ use Rattle.hack_suspects.specs.Suspects.{outcomes_of}
 use Rattle.hack_suspects.specs.Suspects.{RunOutcome as Run_outcome}
 use Rattle.hack_session.specs.Histories.{Course}
 use Rattle.hack_session.specs.Suspects.{AreExplained, ExplainedView, IsExplained, run_outcome_of, part_explained, settings_in}
-use Rattle.hack_session.specs.Suspects.{AreDistinctParts, FailsBefore, HasFailedRun, is_failed, part_at, part_where, part_of, plan_entry_of}
+use Rattle.hack_session.specs.Suspects.{AreDistinctParts, FailsBefore, HasFailedRun, part_at, part_where, part_of, plan_entry_of}
+use Rattle.hack_session.specs.ListLines.{is_failed}
 use Rattle.hack_session.specs.Internal.{AddsOnce}
 
 bools-differ : {b : Bool} → b ≡ true → b ≡ false → ⊥

@@ -4,14 +4,14 @@ use Rattle.hack_session.specs.declared.step.Handed.{Handed}
 use Rattle.hack_session.specs.declared.lines.LineFault.{LineFault}
 use Rattle.hack_session.specs.declared.lines.LineFault.TheVariants.{Unwritten, Memory}
 use Rattle.hack_base.specs.Counters.{GrowsBy}
-use Rattle.hack_session.specs.ListLines.{has_failed, is_sent_step}
+use Rattle.hack_session.specs.ListLines.{is_failed, is_sent_step}
 use Rattle.hack_session.specs.declared.report.Failure.{Failure}
 use Rattle.hack_session.specs.Reports.{FailedRun}
 use Rattle.hack_session.specs.declared.suspects.Part.{Part}
 
 -- a step of the list that failed
 abbrev pub is_unlisted : Handed → Bool
-is_unlisted h = if is_sent_step h.step then false else has_failed h.outcome
+is_unlisted h = if is_sent_step h.step then false else is_failed h.outcome
 
 -- a step of the list that didn't fail
 abbrev pub IsWrittenStep : Handed → Type 0

@@ -45,9 +45,9 @@ abbrev pub is_sent : Handed → Bool
 is_sent h = is_sent_step h.step
 
 -- an outcome is a failure
-abbrev pub has_failed : Outcome → Bool
-has_failed Passed = false
-has_failed Failed = true
+abbrev pub is_failed : Outcome → Bool
+is_failed Passed = false
+is_failed Failed = true
 
 -- a line that can't be written counts as one failure
 abbrev pub CountsFailedLine : {T E : Type 0} → ℕ → ℕ → Result T E → Type 0
@@ -94,7 +94,7 @@ ListsAll whole plan (h ∷ steps) old new = (mid : Page) × ListsStep whole (is_
 
 -- the lines of a step that passed, and nothing of one that failed
 abbrev pub lines_written : PlanView → Handed → List ℕ
-lines_written plan h = if has_failed h.outcome then [] else step_lines plan h.step
+lines_written plan h = if is_failed h.outcome then [] else step_lines plan h.step
 
 -- the page of a writer that holds this, and of these counts
 abbrev pub page_of : Option (List ℕ) → ℕ → ℕ → Page

@@ -2,8 +2,7 @@
 use Rattle.std.specs.Prelude.{ℕ, ◌+◌, ◌-◌, ◌++◌, List, [], ◌∷◌, Bool, true, false, Option, Some, None, codes, length, map, nat_eq, nat_lt, take, slice_get, unwrap_or, if◌then◌else◌}
 use Rattle.std.specs.List.{join_by, list_any, slice_index_or}
 use Rattle.std.specs.Fmt.{decimal}
-use Rattle.hack_base.specs.Notes.{Note}
-use Rattle.hack_base.specs.declared.notice.NoticeKind.TheVariants.{Info}
+use Rattle.hack_base.specs.Notes.{Note, info_note}
 use Rattle.hack_versions.specs.declared.version.Version.{Version}
 use Rattle.hack_versions.specs.VersionTexts.{version_text}
 use Rattle.hack_plan.specs.View.{PackageView, PlanView}
@@ -85,10 +84,6 @@ suspect_text candidates pattern = codes "    " ++ join_by (λ text. text) (codes
 abbrev pub more_text : ℕ → List ℕ
 more_text n = codes "    and " ++ (decimal n ++ codes " more")
 
--- a text is printed as information
-abbrev pub info : List ℕ → Note
-info text = record { kind = Info; text = text }
-
 -- how many suspects are shown, at most
 abbrev pub most_lines : ℕ
 most_lines = 20
@@ -100,20 +95,20 @@ has_setting pattern = nat_lt 0 (length pattern)
 -- the lines of suspects: of the first ones, and how many more there are
 abbrev pub suspect_lines : List (List (List ℕ)) → List (List Setting) → List Note
 suspect_lines candidates found =
-    map (λ pattern. info (suspect_text candidates pattern)) (take most_lines found) ++ (if nat_lt most_lines (length found) then info (more_text (length found - most_lines)) ∷ [] else [])
+    map (λ pattern. info_note (suspect_text candidates pattern)) (take most_lines found) ++ (if nat_lt most_lines (length found) then info_note (more_text (length found - most_lines)) ∷ [] else [])
 
 -- the lines under a heading: none where no suspect has a setting, since then all of the part's runs
 -- failed or there is no suspect
 abbrev pub headed_lines : PlanView → Option Partition → ExplainedView → List (List Setting) → List Note
-headed_lines plan piece e found = if list_any has_setting found then info (heading_text plan piece e) ∷ suspect_lines (package_candidates (slice_get plan.packages e.part.package)) found else []
+headed_lines plan piece e found = if list_any has_setting found then info_note (heading_text plan piece e) ∷ suspect_lines (package_candidates (slice_get plan.packages e.part.package)) found else []
 
 -- the line on the failed runs that show no suspect, where there are some
 abbrev pub missed_lines : ExplainedView → List Note
-missed_lines e = if nat_lt e.showing e.failed then info (missed_text (e.failed - e.showing) ++ lacking_text e.strength) ∷ [] else []
+missed_lines e = if nat_lt e.showing e.failed then info_note (missed_text (e.failed - e.showing) ++ lacking_text e.strength) ∷ [] else []
 
 -- the notices on a part's suspects
 abbrev pub notes_of : PlanView → Option Partition → ExplainedView → Option (List (List Setting)) → List Note
-notes_of plan piece e None = info (too_many_text plan e.part) ∷ []
+notes_of plan piece e None = info_note (too_many_text plan e.part) ∷ []
 notes_of plan piece e (Some found) = headed_lines plan piece e found ++ missed_lines e
 
 -- the notices on a part that is explained, where just these runs of the plan are told

@@ -16,6 +16,7 @@ use Rattle.hack_session.specs.declared.step.Handed.{Handed}
 use Rattle.hack_session.specs.declared.suspects.Part.{Part}
 use Rattle.hack_session.specs.declared.suspects.Explained.{Explained}
 use Rattle.hack_session.specs.Histories.{Course}
+use Rattle.hack_session.specs.ListLines.{is_failed}
 
 -- the runs of a version, a slot and a package
 abbrev pub part_in : PlanEntry → Option ℕ → Option Part
@@ -50,11 +51,6 @@ settings_in (Some k) = k.settings
 abbrev pub candidate_count : Option PackageView → ℕ
 candidate_count None = 0
 candidate_count (Some k) = length k.candidates
-
--- an outcome is that the run failed
-abbrev pub is_failed : Outcome → Bool
-is_failed Passed = false
-is_failed Failed = true
 
 -- what came of a part's run: which candidates were on in it, and whether it failed
 abbrev pub run_outcome_of : PlanView → Part → PlanEntry → Outcome → Run_outcome

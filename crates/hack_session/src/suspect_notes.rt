@@ -12,7 +12,8 @@ ghost use Rattle.hack_plan.specs.Commands.{name_in};
 ghost use Rattle.hack_samples.specs.Sets.{rows_of};
 ghost use Rattle.hack_session.specs.Suspects.{explained_view};
 ghost use Rattle.hack_session.specs.SuspectNotes.{ending, for_target_text, has_setting, have_text};
-ghost use Rattle.hack_session.specs.SuspectNotes.{headed_lines, heading_text, info, lacking_text};
+ghost use Rattle.hack_session.specs.SuspectNotes.{headed_lines, heading_text, lacking_text};
+ghost use Rattle.hack_base.specs.Notes.{info_note};
 ghost use Rattle.hack_session.specs.SuspectNotes.{missed_lines, missed_text, more_text, most_lines};
 ghost use Rattle.hack_session.specs.SuspectNotes.{package_candidates, piece_text, place_text};
 ghost use Rattle.hack_session.specs.SuspectNotes.{setting_text};
@@ -128,7 +129,7 @@ fn add_suspects(
     notices: &mut Vec<Notice>,
 ) -> Result<(), AllocError>
     ensures { OnOk result (AddsNotes notices.old notices.new
-        (map (λ pattern. info (suspect_text (groups_of candidates.now) pattern))
+        (map (λ pattern. info_note (suspect_text (groups_of candidates.now) pattern))
         (rows_of found.now))) }
 {
     for pattern in found {
@@ -143,7 +144,7 @@ fn add_suspects(
 /// Adds the line that says how many suspects aren't shown, where there are some.
 fn add_more(alloc: Global, total: usize, notices: &mut Vec<Notice>) -> Result<(), AllocError>
     ensures { OnOk result (AddsNotes notices.old notices.new
-        (if nat_lt most_lines total then info (more_text (total - most_lines)) ∷ [] else [])) }
+        (if nat_lt most_lines total then info_note (more_text (total - most_lines)) ∷ [] else [])) }
 {
     if total <= MOST_LINES {
         return Ok(());
@@ -153,7 +154,7 @@ fn add_more(alloc: Global, total: usize, notices: &mut Vec<Notice>) -> Result<()
 
 /// Adds a notice.
 fn add_info(notices: &mut Vec<Notice>, text: String) -> Result<(), AllocError>
-    ensures { OnOk result (AddsNotes notices.old notices.new (info (string_bytes text) ∷ [])) }
+    ensures { OnOk result (AddsNotes notices.old notices.new (info_note (string_bytes text) ∷ [])) }
 {
     notices.push(Notice {
         kind: NoticeKind::Info,

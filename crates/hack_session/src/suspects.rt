@@ -13,7 +13,8 @@ ghost use Rattle.hack_session.specs.Suspects.{AreExplained, AreFound, AreOutcome
 ghost use Rattle.hack_session.specs.Internal.{AddsOnce};
 ghost use Rattle.hack_session.specs.Suspects.{FailsBefore, HasFailedRun, IsExplained};
 ghost use Rattle.hack_session.specs.Suspects.{candidate_count};
-ghost use Rattle.hack_session.specs.Suspects.{explained_view, is_failed, part_at, part_explained};
+ghost use Rattle.hack_session.specs.Suspects.{explained_view, part_at, part_explained};
+ghost use Rattle.hack_session.specs.ListLines.{is_failed};
 ghost use Rattle.hack_session.specs.Suspects.{part_of, plan_entry_of, settings_in};
 
 use crate::session::Session;

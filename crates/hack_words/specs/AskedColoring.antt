@@ -19,7 +19,7 @@ abbrev pub ColorsFrom : Option (List ℕ) → Start → Coloring → Type 0
 ColorsFrom term_color (Refuses fault) coloring = coloring ≡ Auto
 ColorsFrom term_color (Cuts behavior cut trailing) coloring = (us : List Use) × (end : Reading) × ReadsUsesThen cut us end × IsColoringAt term_color us end coloring
 
--- the colouring that a command line asks for: that of `--color`, else that of the environment; and
--- auto where neither names one, or where the command line can't be parsed, or asks for a text
+-- the colouring that a command line asks for: that of `--color`, or without it that of the
+-- environment; and auto where this names none, or where the command line can't be parsed, or asks for a text
 abbrev pub AsksColoring : Option (List ℕ) → List (List ℕ) → Coloring → Type 0
 AsksColoring term_color words coloring = ColorsFrom term_color (start_of words) coloring

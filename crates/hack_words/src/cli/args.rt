@@ -210,7 +210,7 @@ fn ignores_private(uses: &[Use]) -> bool
     given(Opt::IgnorePrivate, uses) || given(Opt::NoPrivate, uses)
 }
 
-/// A parsed call, with what its uses of options give.
+/// What a parsed call is besides its uses of options.
 #[derive(Drop)]
 pub struct Call {
     pub behavior: WorkspaceBehavior,

@@ -3,7 +3,7 @@ use Rattle.hack_base.specs.Names.{names_of}
 use Rattle.hack_base.specs.Notes.{note_of}
 use Rattle.hack_planner.specs.Texts.{exclusion_text}
 use Rattle.hack_planner.specs.Members.{Collects, MatchesSome}
-use Rattle.hack_planner.specs.MemberNotes.{warning_note}
+use Rattle.hack_base.specs.Notes.{warning_note}
 use Rattle.hack_planner.specs.MembersView.{member_view}
 use Rattle.hack_planner.proofs.listing.exclusion_notes.Given as goal
 

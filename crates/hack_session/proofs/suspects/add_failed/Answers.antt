@@ -1,6 +1,6 @@
 use Rattle.std.proofs.Common.{◌∙◌, sym, ◌≡◌, true}
 use Rattle.std.proofs.lemmas.Result.{on_ok_weaker}
-use Rattle.hack_session.specs.Suspects.{is_failed}
+use Rattle.hack_session.specs.ListLines.{is_failed}
 use Rattle.hack_session.proofs.SuspectLemmas.{parts-added}
 use Rattle.hack_session.proofs.suspects.add_failed.Goals as goal
 
