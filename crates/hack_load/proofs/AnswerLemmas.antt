@@ -4,8 +4,10 @@ use Rattle.std.specs.Prelude.{IfOk}
 use Rattle.std.proofs.lemmas.List.{length-map}
 use Rattle.std.proofs.lemmas.Slice.Zip.{AllZip-long}
 use Rattle.hack_files.specs.Files.{Change, Contents, Makes, Trace}
+use Rattle.hack_files.specs.declared.fs.Files.{Ghosts as Filing}
 use Rattle.hack_process.specs.Calls.{Call}
-use Rattle.hack_metadata.specs.QuestionCalls.{EndsSo, Stage, Wrote, WroteWhereKnown, begun, first, locked, newer, taken, to_cargo, versioned}
+use Rattle.hack_metadata.specs.FailedQuestions.{EndsQuestion, WroteTo}
+use Rattle.hack_metadata.specs.QuestionCalls.{EndsSo, Stage, Wrote, WroteWhereKnown, begun, first, locked, missing, newer, taken, to_cargo, versioned}
 use Rattle.hack_metadata.specs.FilesAfterAsking.{Whole}
 use Rattle.hack_metadata.specs.Requests.{Question}
 use Rattle.hack_metadata.specs.RecordViews.{place_at}
@@ -33,6 +35,7 @@ wrote-by tells held P Q f (versioned minor) made h = f made h
 wrote-by tells held P Q f to_cargo made h = f made h
 wrote-by tells held P Q f (newer minor) made h = f made h
 wrote-by tells held P Q f (first minor text) made h = f made h
+wrote-by tells held P Q f (missing minor text) made h = f made h
 wrote-by tells held P Q f (locked minor text) made (inl h) = inl (f made h)
 wrote-by tells held P Q f (locked minor text) made (inr h) = inr (h.0, h.1, f (made ++ h.0 ∷ []) h.2)
 wrote-by tells held P Q f (taken by text minor) made h = f made h
@@ -48,6 +51,11 @@ pub ends-map : (tells : Type 0) (q : Question) (held : Contents) (old new : List
     → (r : Result Metadata AskFault) → EndsSo tells q held old new V r → EndsSo tells q held old new W r
 ends-map tells q held old new V W f (Ok m) h = (h.0, h.1, h.2, h.3, h.4, f (taken h.0 h.1 h.2) h.3 h.5, h.6)
 ends-map tells q held old new V W f (Err e) h = (h.0, h.1, h.2, h.3, h.4, f h.0 h.2 h.5)
+
+-- a question was answered, and calls followed that changed nothing
+pub ended-later : {F : Type 0} (f : Filing F) (q : Question) (a b c : F) (old new : List Call) (m : Metadata) → EndsQuestion f a b q old new (Ok m) → (f.whole → Makes [] (f.trace b) (f.trace c) (f.bytes_at b) (f.bytes_at c)) → EndsSo f.tells q (f.bytes_at a) old new (WroteTo f a c) (Ok m)
+ended-later f q a b c old new m h still =
+    ends-map f.tells q (f.bytes_at a) old new (WroteTo f a b) (WroteTo f a c) (wrote-still f.whole f.tells (f.trace a) (f.trace b) (f.trace c) (f.bytes_at a) (f.bytes_at b) (f.bytes_at c) still) (Ok m) h.0
 
 -- what was loaded still agrees with the files after calls that changed nothing
 pub loaded-later : (tells : Type 0) (b c : Contents) (y z : ℕ) (env : Env) (r : Result Loaded ContextFault) → ReadsOnly tells b c y z r → IfOk r (IsLoaded tells b env) → IfOk r (IsLoaded tells c env)

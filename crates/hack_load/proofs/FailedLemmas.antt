@@ -13,7 +13,6 @@ use Rattle.hack_manifest.specs.declared.manifest.ManifestFault.TheVariants as ma
 use Rattle.hack_process.specs.Calls.{Call}
 use Rattle.hack_process.specs.CommandTexts.{Command}
 use Rattle.hack_metadata.specs.FailedQuestions.{IsOfCallAt}
-use Rattle.hack_metadata.specs.QuestionCalls.{EndsSo, QuestionEndsWith, Stage}
 use Rattle.hack_metadata.specs.Requests.{Question}
 use Rattle.hack_metadata.specs.declared.ask.fault.AskFault.{AskFault}
 use Rattle.hack_metadata.specs.declared.ask.fault.AskFault.TheVariants as ask
@@ -110,7 +109,3 @@ module _ {F : Type 0} (f : Filing F) where
   asked-loads path a b (ask.Files q) e is h = subst (IsOfLoading f a b) (sym is) (path, h)
   asked-loads path a b (ask.Output q) e is h = subst (IsOfLoading f a b) (sym is) (path, h)
   asked-loads path a b (ask.Field q) e is h = subst (IsOfLoading f a b) (sym is) (path, h)
-
--- how a question ended, whatever it wrote
-pub ends-with : (tells : Type 0) (q : Question) (held : Contents) (old new : List Call) (W : Stage → List Change → Type 0) (m : Metadata) → EndsSo tells q held old new W (Ok m) → QuestionEndsWith tells q held old new (Ok m)
-ends-with tells q held old new W m h = (h.0, h.1, h.2, h.3, h.4, tt, h.6)

@@ -1,14 +1,16 @@
 -- Which calls of files failed while what a call needs was loaded.
-use Rattle.std.specs.Prelude.{◌≡◌, ◌⊎◌, ℕ, List, Option, Some, Result, Ok, Err, Contains, slice_get, string_bytes}
+use Rattle.std.specs.Prelude.{◌≡◌, ◌⊎◌, [], ℕ, true, List, Option, Some, Result, Ok, Err, Contains, slice_get, string_bytes}
 use Rattle.std.specs.Result.{result_unwrap_or}
 use Rattle.hack_base.specs.Names.{Name}
+use Rattle.hack_files.specs.Files.{Makes}
 use Rattle.hack_files.specs.FailedCalls.{LookFailed, NoneFailed, ReadFailed, WriteFailed}
 use Rattle.hack_files.specs.declared.fs.Files.{Ghosts as Filing}
 use Rattle.hack_files.specs.declared.fs.FsFault.TheVariants as fs
-use Rattle.hack_process.specs.Calls.{Call}
-use Rattle.hack_metadata.specs.FailedQuestions.{FailsSo, IsOfCallAt}
+use Rattle.hack_process.specs.Calls.{Call, MayAdd}
+use Rattle.hack_process.specs.Commands.{asked_of}
+use Rattle.hack_metadata.specs.FailedQuestions.{EndsQuestion, IsOfCallAt, WroteTo}
 use Rattle.hack_metadata.specs.MetadataView.{metadata_view}
-use Rattle.hack_metadata.specs.QuestionCalls.{QuestionEndsWith}
+use Rattle.hack_metadata.specs.QuestionCalls.{EndsSo}
 use Rattle.hack_metadata.specs.Records.{PackageRecord, MetadataRecord}
 use Rattle.hack_metadata.specs.Requests.{Question, question}
 use Rattle.hack_metadata.specs.declared.ask.fault.AskFault.{AskFault}
@@ -16,7 +18,7 @@ use Rattle.hack_metadata.specs.declared.metadata.Metadata.{Metadata}
 use Rattle.hack_words.specs.declared.cli.args.Args.{Args}
 use Rattle.hack_words.specs.declared.cli.env.Env.{Env}
 use Rattle.hack_load.specs.Answers.{IsAskFault}
-use Rattle.hack_load.specs.CargoQuestions.{IsSelf, told_version}
+use Rattle.hack_load.specs.CargoQuestions.{IsSelf, self_command, told_version}
 use Rattle.hack_load.specs.declared.answers.Answers.{Answers}
 use Rattle.hack_load.specs.declared.fault.ContextFault.{ContextFault}
 use Rattle.hack_load.specs.declared.fault.ContextFault.TheVariants as faults
@@ -62,18 +64,18 @@ module _ {F : Type 0} (f : Filing F) where
   FailsToLoad old new (Err e) = IsOfLoading old new e
 
   -- these metadata were told, and at most the read of a member's manifest failed, before anything else
-  -- was called
+  -- was called; the writes of that question were all
   pub record FailsBehind (old new : F) (q : Question) (first last : List Call) (r : Result Loaded ContextFault) : Type 0 where
     pub metadata : Metadata
     pub mid : List Call
-    pub told : QuestionEndsWith f.tells q (f.bytes_at old) first mid (Ok metadata)
+    pub told : EndsSo f.tells q (f.bytes_at old) first mid (WroteTo f old new) (Ok metadata)
     pub reads : FailsOnlyReading (λ path. (last ≡ mid) × IsMemberPath (metadata_view metadata) path) old new r
 
   -- the question for metadata ended in this error, with at most one failed call, of the lockfile
   pub record FailsAsking (old new : F) (q : Question) (first last : List Call) (r : Result Loaded ContextFault) : Type 0 where
     pub why : AskFault
     pub fault : ContextFault
-    pub stops : FailsSo f old new q first last (Err why)
+    pub stops : EndsQuestion f old new q first last (Err why)
     pub told : IsAskFault why fault
     pub is : r ≡ Err fault
 
@@ -88,6 +90,9 @@ module _ {F : Type 0} (f : Filing F) where
     pub own : IsSelf args env (told_version a.cargo_version) host first mid
     pub loads : LoadFails old new (question args env (result_unwrap_or a.cargo_version 0) host) mid last a.loaded
 
-  -- the same; or memory was refused at the first question, and no call of files failed
+  -- the same; or memory was refused at the first question, that for the version, and no call of files
+  -- failed
   abbrev pub AnswersFailSo : F → F → Args → Env → List Call → List Call → Answers → Type 0
-  AnswersFailSo old new args env first last a = AnswersFail old new args env first last a ⊎ ((a.loaded ≡ Err faults.Memory) × NoneFailed f old new)
+  AnswersFailSo old new args env first last a = AnswersFail old new args env first last a
+      ⊎ ((a.loaded ≡ Err faults.Memory) × NoneFailed f old new × (f.whole → Makes [] (f.trace old) (f.trace new) (f.bytes_at old) (f.bytes_at new))
+      × MayAdd (asked_of true (self_command (string_bytes env.cargo))) first last)

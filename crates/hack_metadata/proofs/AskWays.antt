@@ -216,30 +216,3 @@ module _ (tells whole : Type 0) (path : Name) (a b c : Contents) (s t u : Trace)
     | inl left ↦ inl (makes_more [] [] s t u a b c (none w) left)
     | inr made ↦ inr (keeps.0, keeps.2, makes_more [] (puts path keeps.0 ∷ []) s t u a b c (none w) made)
   ]
-
--- ---- where a question ends
-
-module _ (tells whole : Type 0) (q : Question) (held later : Contents) (before now : Trace) (start new : List Call) where
-  -- an answer is used
-  pub counts-ends : (c : Command) (text : Name) (minor : ℕ) (made : List Change) (r : Result Metadata AskFault) → LeadsToStage tells q held start (taken c text minor) new made → (whole → Makes made before now held later)
-      → UsesAnswer q c text minor new r → EndsSo tells q held start new (WroteWhereKnown whole tells before now held later) r
-  counts-ends c text minor made (Ok m) way wrote h = (c, text, minor, made, way, wrote, h)
-  counts-ends c text minor made (Err e) way wrote h = (taken c text minor, new, made, way, h, wrote)
-
-  -- the first request to cargo failed
-  pub first-ends : (mid : List Call) (minor : ℕ) (e : AskFault) → LeadsToStage tells q held start (newer minor) mid [] → (whole → Makes [] before now held later) → FailsFirst q minor mid new e → EndsSo tells q held start new (WroteWhereKnown whole tells before now held later) (Err e)
-  first-ends mid minor e way wrote (inl h) = (newer minor, mid, [], way, h, wrote)
-  first-ends mid minor e way wrote (inr h) = (first minor h.0, new, [], answers h.0 way h.1, h.2, wrote)
-
-  -- the full request was made to cargo
-  pub cargo-ends : (mid : List Call) (made : List Change) (r : Result Metadata AskFault) → LeadsToStage tells q held start to_cargo mid made → (whole → Makes made before now held later)
-      → AsksCargo q mid new r → EndsSo tells q held start new (WroteWhereKnown whole tells before now held later) r
-  cargo-ends mid made r way wrote (inl h) = subst (EndsSo tells q held start new (WroteWhereKnown whole tells before now held later)) (sym h.1) (to_cargo, mid, made, way, h.2, wrote)
-  cargo-ends mid made r way wrote (inr h) = counts-ends (plain_command q.cargo [] h.0) h.1 q.cargo_version made r (tells_older h.0 h.1 h.2 way h.3) wrote h.4
-
-  -- stable's cargo failed
-  pub fallen-ends : (mid old : List Call) (minor : ℕ) (text : Name) (words : List Name) (r : Result Metadata AskFault) → q.full ≡ Some words → LeadsToStage tells q held start (locked minor text) mid [] → FailsToRead (by_stable q words) mid old
-      → (put : Change) × PutsBack tells held text put × (whole → Makes (put ∷ []) before now held later) → FallsBack q text old new r → EndsSo tells q held start new (WroteWhereKnown whole tells before now held later) r
-  fallen-ends mid old minor text words r full way fails put (inl h) =
-      counts-ends (first_command q) text q.cargo_version (put.0 ∷ []) r (subst (λ n. LeadsToStage tells q held start (taken (first_command q) text q.cargo_version) n (put.0 ∷ [])) (sym h.1) (first_counts words full way fails put.1 h.0)) put.2 h.2
-  fallen-ends mid old minor text words r full way fails put (inr h) = cargo-ends old (put.0 ∷ []) r (asks_again words full way fails put.1 h.0) put.2 h.1

@@ -12,11 +12,11 @@ use Rattle.hack_process.specs.Calls.{Call}
 use Rattle.hack_process.specs.CommandTexts.{Command}
 use Rattle.hack_process.specs.Commands.{plain_command}
 use Rattle.hack_process.specs.declared.fault.ProcessFault.{ProcessFault}
-use Rattle.hack_metadata.specs.FailedQuestions.{FailsFirstLook, FailsOnlyAt, FailsSo, IsOfLook, IsOfCallAt, IsPutBack}
+use Rattle.hack_metadata.specs.FailedQuestions.{EndsQuestion, FailsFirstLook, FailsOnlyAt, IsOfLook, IsOfCallAt, IsPutBack, WroteTo}
 use Rattle.hack_metadata.specs.FileFaults.{IsUnread, IsUnwritten}
 use Rattle.hack_metadata.specs.Internal.{IsFileFault, IsNoFileFault}
 use Rattle.hack_metadata.specs.InternalQuestionCalls.{AsksCargo, FailsAs, FailsFirst, FallsBack, UsesAnswer}
-use Rattle.hack_metadata.specs.QuestionCalls.{FailsToRead, IsLockfile, LeadsToStage, PutsBack, answers, asks_again, first, first_counts, locked, newer, taken, tells_older, to_cargo}
+use Rattle.hack_metadata.specs.QuestionCalls.{EndsSo, FailsToRead, IsLockfile, LeadsToStage, PutsBack, answers, asks_again, first, first_counts, locked, newer, taken, tells_older, to_cargo}
 use Rattle.hack_metadata.specs.Requests.{Question, by_stable, first_command}
 use Rattle.hack_metadata.specs.declared.metadata.Metadata.{Metadata}
 use Rattle.hack_metadata.specs.declared.ask.fault.AskFault.{AskFault}
@@ -129,25 +129,30 @@ module _ {F : Type 0} (f : Filing F) where
   none-first text a b (fault.Output shown) spares h = h
   none-first text a b (fault.Field name) spares h = h
 
+  -- the calls and writes of a question that ended
+  pub ends-so : (q : Question) (a b : F) (start new : List Call) (r : Result Metadata AskFault) → EndsQuestion f a b q start new r → EndsSo f.tells q (f.bytes_at a) start new (WroteTo f a b) r
+  ends-so q a b start new (Ok m) h = h.0
+  ends-so q a b start new (Err e) h = (h.0, h.1, h.2, h.3, h.4, h.5)
+
   module _ (q : Question) (a b : F) (start new : List Call) (none : NoneFailed f a b) where
     -- the first request to cargo failed
-    pub first-fails : (mid : List Call) (minor : ℕ) (e : AskFault) → LeadsToStage f.tells q (f.bytes_at a) start (newer minor) mid [] → FailsFirst q minor mid new e → IsNoFileFault e → FailsSo f a b q start new (Err e)
-    first-fails mid minor e way (inl h) spares = (newer minor, mid, [], way, h, none)
-    first-fails mid minor e way (inr h) spares = (first minor h.0, new, [], answers h.0 way h.1, h.2, none-first h.0 a b e spares none)
+    pub first-ends : (mid : List Call) (minor : ℕ) (e : AskFault) → LeadsToStage f.tells q (f.bytes_at a) start (newer minor) mid [] → (f.whole → Makes [] (f.trace a) (f.trace b) (f.bytes_at a) (f.bytes_at b)) → FailsFirst q minor mid new e → IsNoFileFault e → EndsQuestion f a b q start new (Err e)
+    first-ends mid minor e way wrote (inl h) spares = (newer minor, mid, [], way, h, wrote, none)
+    first-ends mid minor e way wrote (inr h) spares = (first minor h.0, new, [], answers h.0 way h.1, h.2, wrote, none-first h.0 a b e spares none)
 
     -- an answer is used
-    pub counts-fails : (c : Command) (text : Name) (minor : ℕ) (made : List Change) (r : Result Metadata AskFault) → LeadsToStage f.tells q (f.bytes_at a) start (taken c text minor) new made → UsesAnswer q c text minor new r → FailsSo f a b q start new r
-    counts-fails c text minor made (Ok m) way h = none
-    counts-fails c text minor made (Err e) way h = (taken c text minor, new, made, way, h, none)
+    pub counts-ends : (c : Command) (text : Name) (minor : ℕ) (made : List Change) (r : Result Metadata AskFault) → LeadsToStage f.tells q (f.bytes_at a) start (taken c text minor) new made → (f.whole → Makes made (f.trace a) (f.trace b) (f.bytes_at a) (f.bytes_at b)) → UsesAnswer q c text minor new r → EndsQuestion f a b q start new r
+    counts-ends c text minor made (Ok m) way wrote h = ((c, text, minor, made, way, wrote, h), none)
+    counts-ends c text minor made (Err e) way wrote h = (taken c text minor, new, made, way, h, wrote, none)
 
     -- the full request was made to cargo
-    pub cargo-fails : (mid : List Call) (made : List Change) (r : Result Metadata AskFault) → LeadsToStage f.tells q (f.bytes_at a) start to_cargo mid made → AsksCargo q mid new r → FailsSo f a b q start new r
-    cargo-fails mid made r way (inl h) = subst (FailsSo f a b q start new) (sym h.1) (to_cargo, mid, made, way, h.2, none)
-    cargo-fails mid made r way (inr h) = counts-fails (plain_command q.cargo [] h.0) h.1 q.cargo_version made r (tells_older h.0 h.1 h.2 way h.3) h.4
+    pub cargo-ends : (mid : List Call) (made : List Change) (r : Result Metadata AskFault) → LeadsToStage f.tells q (f.bytes_at a) start to_cargo mid made → (f.whole → Makes made (f.trace a) (f.trace b) (f.bytes_at a) (f.bytes_at b)) → AsksCargo q mid new r → EndsQuestion f a b q start new r
+    cargo-ends mid made r way wrote (inl h) = subst (EndsQuestion f a b q start new) (sym h.1) (to_cargo, mid, made, way, h.2, wrote, none)
+    cargo-ends mid made r way wrote (inr h) = counts-ends (plain_command q.cargo [] h.0) h.1 q.cargo_version made r (tells_older h.0 h.1 h.2 way h.3) wrote h.4
 
     -- stable's cargo failed
-    pub fallen-fails : (mid old : List Call) (minor : ℕ) (text : Name) (words : List Name) (put : Change) (r : Result Metadata AskFault) → q.full ≡ Some words → LeadsToStage f.tells q (f.bytes_at a) start (locked minor text) mid [] → FailsToRead (by_stable q words) mid old
-        → PutsBack f.tells (f.bytes_at a) text put → FallsBack q text old new r → FailsSo f a b q start new r
-    fallen-fails mid old minor text words put r full way fails back (inl h) =
-        counts-fails (first_command q) text q.cargo_version (put ∷ []) r (subst (λ n. LeadsToStage f.tells q (f.bytes_at a) start (taken (first_command q) text q.cargo_version) n (put ∷ [])) (sym h.1) (first_counts words full way fails back h.0)) h.2
-    fallen-fails mid old minor text words put r full way fails back (inr h) = cargo-fails old (put ∷ []) r (asks_again words full way fails back h.0) h.1
+    pub fallen-ends : (mid old : List Call) (minor : ℕ) (text : Name) (words : List Name) (r : Result Metadata AskFault) → q.full ≡ Some words → LeadsToStage f.tells q (f.bytes_at a) start (locked minor text) mid [] → FailsToRead (by_stable q words) mid old
+        → (put : Change) × PutsBack f.tells (f.bytes_at a) text put × (f.whole → Makes (put ∷ []) (f.trace a) (f.trace b) (f.bytes_at a) (f.bytes_at b)) → FallsBack q text old new r → EndsQuestion f a b q start new r
+    fallen-ends mid old minor text words r full way fails put (inl h) =
+        counts-ends (first_command q) text q.cargo_version (put.0 ∷ []) r (subst (λ n. LeadsToStage f.tells q (f.bytes_at a) start (taken (first_command q) text q.cargo_version) n (put.0 ∷ [])) (sym h.1) (first_counts words full way fails put.1 h.0)) put.2 h.2
+    fallen-ends mid old minor text words r full way fails put (inr h) = cargo-ends old (put.0 ∷ []) r (asks_again words full way fails put.1 h.0) put.2 h.1

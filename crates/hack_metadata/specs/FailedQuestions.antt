@@ -6,7 +6,7 @@ use Rattle.hack_files.specs.FailedCalls.{LookFailed, NoneFailed, ReadFailed, Wri
 use Rattle.hack_files.specs.declared.fs.Files.{Ghosts as Filing}
 use Rattle.hack_files.specs.declared.fs.FsFault.TheVariants as fs
 use Rattle.hack_process.specs.Calls.{Call}
-use Rattle.hack_metadata.specs.QuestionCalls.{IsLockfile, LeadsToStage, Stage, StopsQuestion, first, locked}
+use Rattle.hack_metadata.specs.QuestionCalls.{EndsSo, IsLockfile, LeadsToStage, Stage, StopsQuestion, WroteWhereKnown, first, locked}
 use Rattle.hack_metadata.specs.Requests.{Question}
 use Rattle.hack_metadata.specs.declared.metadata.Metadata.{Metadata}
 use Rattle.hack_metadata.specs.declared.ask.fault.AskFault.{AskFault}
@@ -50,16 +50,21 @@ module _ {F : Type 0} (f : Filing F) where
   FailsFirstLook text old new _ = NoneFailed f old new
 
   -- which call failed, by the stage where an error ended the question. After cargo's first answer the
-  -- lockfile is looked at; then it is read, and once stable's cargo may have been called it is put back,
-  -- also where memory is refused. `mid` are the calls up to that stage, `last` are all of them
+  -- lockfile is looked at; where it is there it is read, and once stable's cargo may have been called it is
+  -- put back, also where memory is refused. `mid` are the calls up to that stage, `last` are all of them
   abbrev pub FailsAtStage : F → F → Stage → List Call → List Call → AskFault → Type 0
   FailsAtStage old new (first minor text) mid last e = FailsFirstLook text old new e
   FailsAtStage old new (locked minor text) mid last e = (path : Name) × IsLockfile text path × IsOfCallAt path old new e × IsPutBack path (last ≡ mid) old new
   FailsAtStage old new _ mid last e = NoneFailed f old new
 
-  -- without an error no call failed; calls and writes led to a stage where an error ended the question,
-  -- and at most the call failed that it is of
-  abbrev pub FailsSo : F → F → Question → List Call → List Call → Result Metadata AskFault → Type 0
-  FailsSo before now q old new (Ok m) = NoneFailed f before now
-  FailsSo before now q old new (Err e) = (stage : Stage) × (mid : List Call) × (made : List Change)
-      × LeadsToStage f.tells q (f.bytes_at before) old stage mid made × StopsQuestion q stage mid new e × FailsAtStage before now stage mid new e
+  -- just the writes that led to a stage were made
+  abbrev pub WroteTo : F → F → Stage → List Change → Type 0
+  WroteTo old new = WroteWhereKnown f.whole f.tells (f.trace old) (f.trace new) (f.bytes_at old) (f.bytes_at new)
+
+  -- the metadata are those of the answer that is used, and no call failed; or calls and writes led to a
+  -- stage where an error ended the question, and at most the call failed that it is of. No other write
+  -- was made
+  abbrev pub EndsQuestion : F → F → Question → List Call → List Call → Result Metadata AskFault → Type 0
+  EndsQuestion before now q old new (Ok m) = EndsSo f.tells q (f.bytes_at before) old new (WroteTo before now) (Ok m) × NoneFailed f before now
+  EndsQuestion before now q old new (Err e) = (stage : Stage) × (mid : List Call) × (made : List Change)
+      × LeadsToStage f.tells q (f.bytes_at before) old stage mid made × StopsQuestion q stage mid new e × WroteTo before now stage made × FailsAtStage before now stage mid new e

@@ -67,6 +67,8 @@ pub data Stage : Type 0 where
   newer : ℕ → Stage
   -- the same, and cargo's first answer is this text
   first : ℕ → Name → Stage
+  -- the same, and the lockfile is missing
+  missing : ℕ → Name → Stage
   -- the same, and the lockfile is there
   locked : ℕ → Name → Stage
   -- the answer of this command is used, as that of a cargo of this minor version
@@ -90,7 +92,8 @@ module _ (tells : Type 0) (q : Question) (held : Contents) (old : List Call) whe
     is_newer : {new : List Call} {minor : ℕ} → LeadsToStage (versioned minor) new [] → q.cargo_version < minor → LeadsToStage (newer minor) new []
     answers : {mid new : List Call} {minor : ℕ} (text : Name) → LeadsToStage (newer minor) mid [] → ReadsOutput (first_command q) text mid new → LeadsToStage (first minor text) new []
     is_there : {mid : List Call} {minor : ℕ} {text : Name} (path : Name) → LeadsToStage (first minor text) mid [] → IsLockfile text path → (tells → IsSome (held path)) → LeadsToStage (locked minor text) mid []
-    is_made : {mid new : List Call} {minor : ℕ} {text : Name} (path : Name) → LeadsToStage (first minor text) mid [] → IsLockfile text path → (tells → ¬ IsSome (held path)) → Runs (lock_command q) mid new → LeadsToStage (locked minor text) new []
+    is_missing : {mid : List Call} {minor : ℕ} {text : Name} (path : Name) → LeadsToStage (first minor text) mid [] → IsLockfile text path → (tells → ¬ IsSome (held path)) → LeadsToStage (missing minor text) mid []
+    is_made : {mid new : List Call} {minor : ℕ} {text : Name} → LeadsToStage (missing minor text) mid [] → Runs (lock_command q) mid new → LeadsToStage (locked minor text) new []
     tells_newer : {mid new : List Call} {minor : ℕ} {text : Name} {put : Change} (words : List Name) (told : Name) → q.full ≡ Some words → LeadsToStage (locked minor text) mid [] → ReadsOutput (by_stable q words) told mid new → PutsBack tells held text put
         → LeadsToStage (taken (by_stable q words) told minor) new (put ∷ [])
     first_counts : {mid new : List Call} {minor : ℕ} {text : Name} {put : Change} (words : List Name) → q.full ≡ Some words → LeadsToStage (locked minor text) mid [] → FailsToRead (by_stable q words) mid new → PutsBack tells held text put → q.deps ≡ false
@@ -105,7 +108,7 @@ abbrev pub IsNextCommand : Question → Stage → Command → Type 0
 IsNextCommand q begun c = c ≡ version_command q.rustup
 IsNextCommand q to_cargo c = (words : List Name) × (q.full ≡ Some words) × (c ≡ plain_command q.cargo [] words)
 IsNextCommand q (newer minor) c = c ≡ first_command q
-IsNextCommand q (first minor text) c = c ≡ lock_command q
+IsNextCommand q (missing minor text) c = c ≡ lock_command q
 IsNextCommand q (locked minor text) c = (words : List Name) × (q.full ≡ Some words) × (c ≡ by_stable q words)
 IsNextCommand q _ c = ⊥
 
@@ -129,7 +132,7 @@ Lacks _ name = ⊥
 abbrev pub IsNeeded : Stage → Type 0
 IsNeeded to_cargo = Unit {0}
 IsNeeded (newer minor) = Unit {0}
-IsNeeded (first minor text) = Unit {0}
+IsNeeded (missing minor text) = Unit {0}
 IsNeeded _ = ⊥
 
 -- why a question ends after a stage; at most one more call was made. The lockfile can't be looked
@@ -151,10 +154,6 @@ module _ (tells : Type 0) (q : Question) (held : Contents) (old new : List Call)
   EndsSo W (Ok m) = (c : Command) × (text : Name) × (minor : ℕ) × (made : List Change) × LeadsToStage tells q held old (taken c text minor) new made × W (taken c text minor) made × TellsAs (read_metadata minor) text (metadata_view m)
   EndsSo W (Err e) = (stage : Stage) × (mid : List Call) × (made : List Change)
       × LeadsToStage tells q held old stage mid made × StopsQuestion q stage mid new e × W stage made
-
-  -- how a question ended, whatever was written
-  abbrev pub QuestionEndsWith : Result Metadata AskFault → Type 0
-  QuestionEndsWith r = EndsSo (λ stage made. Unit {0}) r
 
 -- just the writes that led to a stage were made; at `locked` the lockfile may be put back too
 abbrev pub Wrote : Type 0 → Contents → (List Change → Type 0) → Stage → List Change → Type 0

@@ -1,7 +1,7 @@
 //! Asks cargo for the metadata of a workspace. A cargo doesn't report what only a newer one knows,
 //! so stable's cargo is asked where it is newer, and what it does to the lockfile is undone.
 
-ghost use Rattle.std.specs.Prelude.{◌≡◌, ◌⊎◌, ◌∷◌, [], ℕ, List, Some, None, IfOk, IfErr};
+ghost use Rattle.std.specs.Prelude.{◌≡◌, ◌⊎◌, ◌∷◌, [], ℕ, List, Err, Some, None, IfOk, IfErr};
 ghost use Rattle.std.specs.Prelude.{OnOk, OnErr, MatchOption, option_copied, string_bytes, true};
 ghost use Rattle.hack_files.specs.Files.{KeepsAll, KeepsAllBut, Makes};
 ghost use Rattle.hack_files.specs.FailedCalls.{NoneFailed};
@@ -9,13 +9,12 @@ ghost use Rattle.hack_files.specs.Restore.{registered_files};
 ghost use Rattle.hack_process.specs.Calls.{Call, MayAdd};
 ghost use Rattle.hack_process.specs.Commands.{asked_of, command_of};
 ghost use Rattle.hack_metadata.specs.InternalAskView.{question_of};
-ghost use Rattle.hack_metadata.specs.QuestionCalls.{EndsSo, FailsToRead};
+ghost use Rattle.hack_metadata.specs.QuestionCalls.{FailsToRead};
 ghost use Rattle.hack_metadata.specs.InternalQuestionCalls.{AsksCargo, FailsFirst};
 ghost use Rattle.hack_metadata.specs.InternalQuestionCalls.{FallsBack};
-ghost use Rattle.hack_metadata.specs.QuestionCalls.{IsLockfile, ReadsOutput, StopsQuestion};
-ghost use Rattle.hack_metadata.specs.QuestionCalls.{LeadsToStage, WroteWhereKnown};
+ghost use Rattle.hack_metadata.specs.QuestionCalls.{IsLockfile, LeadsToStage, ReadsOutput};
 ghost use Rattle.hack_metadata.specs.QuestionCalls.{first, locked, newer};
-ghost use Rattle.hack_metadata.specs.FailedQuestions.{FailsOnlyAt, FailsSo, IsOfLook, IsPutBack};
+ghost use Rattle.hack_metadata.specs.FailedQuestions.{EndsQuestion, FailsOnlyAt, IsOfLook, IsPutBack};
 ghost use Rattle.hack_metadata.specs.FilesAfterAsking.{LeavesFiles};
 ghost use Rattle.hack_metadata.specs.Internal.{FailsOver, IsNoFileFault};
 ghost use Rattle.hack_metadata.specs.Internal.{PutsHeld};
@@ -61,16 +60,11 @@ impl Metadata {
         ensures spoilt { KeepsAllBut (F.refuses files.old files.new) F.tells
             (F.bytes_at files.old) (F.bytes_at files.new) }
         ensures calls { (path : List ℕ) × FailsOnlyAt F.Files path files.old files.new result }
-        ensures undone { C.tells → FailsSo F.Files files.old files.new
+        ensures ends { C.tells → EndsQuestion F.Files files.old files.new
             (question args.now env.now cargo_version (option_copied host.entry))
             (C.calls caller.old) (C.calls caller.new) result }
         ensures kept { registered_files manager.new ≡ registered_files manager.old }
         ensures needs { manager.new.needs_restore ≡ manager.old.needs_restore }
-        ensures ends { C.tells → EndsSo F.tells
-            (question args.now env.now cargo_version (option_copied host.entry))
-            (F.bytes_at files.old) (C.calls caller.old) (C.calls caller.new)
-            (WroteWhereKnown F.whole F.tells (F.trace files.old) (F.trace files.new)
-            (F.bytes_at files.old) (F.bytes_at files.new)) result }
         ensures course { C.course caller.old caller.new }
     {
         let stable = stable_minor(alloc, env, caller)?;
@@ -165,19 +159,13 @@ impl<'a> Question<'a> {
         ensures spoilt { KeepsAllBut (F.refuses files.old files.new) F.tells
             (F.bytes_at files.old) (F.bytes_at files.new) }
         ensures calls { (path : List ℕ) × FailsOnlyAt F.Files path files.old files.new result }
-        ensures undone { C.tells → (start : List Call)
+        ensures ends { C.tells → (start : List Call)
             → LeadsToStage F.tells (question_of self.now) (F.bytes_at files.old) start
             (newer minor) (C.calls caller.old) []
-            → FailsSo F.Files files.old files.new (question_of self.now) start
+            → EndsQuestion F.Files files.old files.new (question_of self.now) start
             (C.calls caller.new) result }
         ensures kept { registered_files manager.new ≡ registered_files manager.old }
         ensures needs { manager.new.needs_restore ≡ manager.old.needs_restore }
-        ensures ends { C.tells → (start : List Call) → LeadsToStage F.tells (question_of self.now)
-            (F.bytes_at files.old) start (newer minor) (C.calls caller.old) []
-            → EndsSo F.tells (question_of self.now) (F.bytes_at files.old) start
-            (C.calls caller.new)
-            (WroteWhereKnown F.whole F.tells (F.trace files.old) (F.trace files.new)
-            (F.bytes_at files.old) (F.bytes_at files.new)) result }
         ensures course { C.course caller.old caller.new }
     {
         let first = self.first(alloc, caller)?;
@@ -246,9 +234,11 @@ impl<'a> Question<'a> {
             start (first minor text) (C.calls caller.old) []
             → LeadsToStage F.tells (question_of self.now)
             (F.bytes_at files.old) start (locked minor text) (C.calls caller.new) []) }
-        ensures err { IfErr result (λ e. C.tells → (minor : ℕ) (text : List ℕ)
-            → IsLockfile text lockfile.now → StopsQuestion (question_of self.now) (first minor text)
-            (C.calls caller.old) (C.calls caller.new) e) }
+        ensures err { IfErr result (λ e. C.tells → (start : List Call) (minor : ℕ) (text : List ℕ)
+            → IsLockfile text lockfile.now → LeadsToStage F.tells (question_of self.now)
+            (F.bytes_at files.old) start (first minor text) (C.calls caller.old) []
+            → EndsQuestion F.Files files.old files.new (question_of self.now) start
+            (C.calls caller.new) (Err e)) }
         ensures course { C.course caller.old caller.new }
     {
         if is_there(alloc, lockfile, files)? {

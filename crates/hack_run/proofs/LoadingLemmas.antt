@@ -7,7 +7,7 @@ use Rattle.hack_files.specs.Files.{Change, Contents}
 use Rattle.hack_process.specs.Calls.{Call, MayAdd}
 use Rattle.hack_process.specs.CommandTexts.{Command}
 use Rattle.hack_process.specs.Commands.{asked_of}
-use Rattle.hack_metadata.specs.QuestionCalls.{MayAsk, QuestionEndsWith, Stage, StopsQuestion}
+use Rattle.hack_metadata.specs.QuestionCalls.{EndsSo, MayAsk, Stage, StopsQuestion}
 use Rattle.hack_metadata.specs.Requests.{Question, question}
 use Rattle.hack_metadata.specs.declared.ask.fault.AskFault.{AskFault}
 use Rattle.hack_metadata.specs.declared.ask.fault.AskFault.TheVariants as ask
@@ -45,6 +45,10 @@ located : (c : Command) (dir : Name) (old new : List Call) (e : ContextFault) �
 located c dir old new faults.Memory h = h tt
 located c dir old new (faults.Process e) h = fault_may (Unit {0}) _ _ old new e h.0 tt
 located c dir old new _ h = absurd h
+
+-- how a question ended, whatever was written
+abbrev QuestionEndsWith : Type 0 → Question → Contents → List Call → List Call → Result Metadata AskFault → Type 0
+QuestionEndsWith tells q held old new r = EndsSo tells q held old new (λ stage made. Unit {0}) r
 
 -- the metadata are those of an answer
 answered : (tells : Type 0) (args : Args) (env : Env) (held : Contents) (q : Question) (m : Metadata) (old new : List Call) → QuestionEndsWith tells q held old new (Ok m) → AnswersMetadata tells args env held q old new m

@@ -1,13 +1,13 @@
 use Rattle.std.proofs.Common.{◌≡◌, inl, inr, refl, Ok, Err}
 use Rattle.std.specs.Prelude.{option_copied}
-use Rattle.hack_metadata.specs.QuestionCalls.{WroteWhereKnown}
 use Rattle.hack_metadata.specs.Requests.{question}
-use Rattle.hack_load.proofs.AnswerLemmas.{ends-map, follows-earlier, loaded-later, wrote-still}
+use Rattle.hack_load.proofs.AnswerLemmas.{ended-later, follows-earlier, loaded-later}
+use Rattle.hack_metadata.proofs.FailedLemmas.{ends-so}
 use Rattle.hack_files.proofs.RefusalLemmas.{but_same, but_then}
 use Rattle.hack_load.proofs.LeaveLemmas.{few-left, few-reads, reads-grow}
 use Rattle.hack_metadata.specs.MetadataView.{metadata_view}
 use Rattle.hack_load.specs.FailedLoads.{IsMemberPath}
-use Rattle.hack_load.proofs.FailedLemmas.{asked-loads, ends-with, only-then, reads-load}
+use Rattle.hack_load.proofs.FailedLemmas.{asked-loads, only-then, reads-load}
 use Rattle.hack_load.proofs.answers.Asker.load.Goals as goal
 
 pub returns-in-Ok-clause-left : goal.returns-in-Ok-clause-left
@@ -25,15 +25,11 @@ returns-in-Ok-clause-asked g c =
     let q = question c.args.self.now.args.now c.args.self.now.env.now c.args.self.now.minor (option_copied c.args.self.now.host) in
     let held = g.F.Files.bytes_at c.args.files.now in
     let later = g.F.Files.bytes_at c.new.new.files in
-    let last = g.F.Files.bytes_at c.load_behind.new.files in
-    let trace = g.F.Files.trace in
     let mid = g.C.Caller.calls c.new.new.caller in
     λ called. record {
       asked = Ok c.in-Ok.metadata;
       mid = mid;
-      ends = ends-map g.F.Files.tells q held (g.C.Caller.calls c.args.caller.now) mid
-          (WroteWhereKnown g.F.Files.whole g.F.Files.tells (trace c.args.files.now) (trace c.new.new.files) held later) (WroteWhereKnown g.F.Files.whole g.F.Files.tells (trace c.args.files.now) (trace c.load_behind.new.files) held last)
-          (wrote-still g.F.Files.whole g.F.Files.tells (trace c.args.files.now) (trace c.new.new.files) (trace c.load_behind.new.files) held later last c.load_behind.ensures.untraced) (Ok c.in-Ok.metadata) (c.in-Ok.ensures.ends called);
+      ends = ended-later g.F.Files q c.args.files.now c.new.new.files c.load_behind.new.files (g.C.Caller.calls c.args.caller.now) mid c.in-Ok.metadata (c.in-Ok.ensures.ends called) c.load_behind.ensures.untraced;
       follows = follows-earlier g.F.Files.tells c.args.self.now.args.now c.args.self.now.env.now held later (g.F.Files.failed c.args.files.now) (g.F.Files.failed c.new.new.files) (g.F.Files.failed c.load_behind.new.files) c.in-Ok.metadata mid (g.C.Caller.calls c.load_behind.new.caller) c.load_behind.result
           c.in-Ok.ensures.left.1 (c.load_behind.ensures.asked called);
     }
@@ -47,7 +43,7 @@ returns-in-Err-clause-asked g c =
     λ called. record {
       asked = Err c.in-Err.fault;
       mid = g.C.Caller.calls c.new.new.caller;
-      ends = c.in-Err.ensures.ends called;
+      ends = ends-so g.F.Files (question c.args.self.now.args.now c.args.self.now.env.now c.args.self.now.minor (option_copied c.args.self.now.host)) c.args.files.now c.new.new.files (g.C.Caller.calls c.args.caller.now) (g.C.Caller.calls c.new.new.caller) (Err c.in-Err.fault) (c.in-Err.ensures.ends called);
       follows = (refl, c.of_question.result, c.of_question.ensures, refl);
     }
 
@@ -74,7 +70,7 @@ returns-in-Ok-clause-undone g c =
     λ called. inl (record {
       metadata = c.in-Ok.metadata;
       mid = mid;
-      told = ends-with g.F.Files.tells q (g.F.Files.bytes_at c.args.files.now) (g.C.Caller.calls c.args.caller.now) mid (WroteWhereKnown g.F.Files.whole g.F.Files.tells (g.F.Files.trace c.args.files.now) (g.F.Files.trace c.new.new.files) (g.F.Files.bytes_at c.args.files.now) (g.F.Files.bytes_at c.new.new.files)) c.in-Ok.metadata (c.in-Ok.ensures.ends called);
+      told = ended-later g.F.Files q c.args.files.now c.new.new.files c.load_behind.new.files (g.C.Caller.calls c.args.caller.now) mid c.in-Ok.metadata (c.in-Ok.ensures.ends called) c.load_behind.ensures.untraced;
       reads = only-then g.F.Files _ (λ path. (last ≡ mid) × IsMemberPath (metadata_view c.in-Ok.metadata) path) c.args.files.now c.new.new.files c.load_behind.new.files c.load_behind.result (λ path here. (here.0 called, here.1)) c.in-Ok.ensures.calls.1 c.in-Ok.ensures.left.1.1 c.load_behind.ensures.calls;
     })
 
@@ -85,7 +81,7 @@ pub returns-in-Err-clause-undone : goal.returns-in-Err-clause-undone
 returns-in-Err-clause-undone g c = λ called. inr (record {
   why = c.in-Err.fault;
   fault = c.of_question.result;
-  stops = c.in-Err.ensures.undone called;
+  stops = c.in-Err.ensures.ends called;
   told = c.of_question.ensures;
   is = refl;
 })

@@ -5,14 +5,14 @@ use Rattle.hack_files.proofs.RefusalLemmas.{but_none, but_same, but_then}
 use Rattle.hack_process.specs.CommandTexts.{text_of}
 use Rattle.hack_process.specs.Commands.{command_of}
 use Rattle.hack_metadata.specs.InternalAskView.{question_of}
-use Rattle.hack_metadata.specs.QuestionCalls.{ReadsOutput, FailsToRead, IsLockfile, first, locked, answers, tells_newer}
+use Rattle.hack_metadata.specs.QuestionCalls.{ReadsOutput, FailsToRead, IsLockfile, locked, answers, tells_newer}
 use Rattle.hack_metadata.specs.MetadataReading.{read_metadata}
 use Rattle.hack_metadata.specs.Requests.{by_stable}
 use Rattle.hack_files.specs.TraceLaws.{makes_none}
-use Rattle.hack_metadata.proofs.AskWays.{asked-counts, back-wrote, counts-ends, fallen-ends, first-ends, left-more, over-stops, over-wrote, text-spares, unchanged, whole-left, whole-leaves, whole-more}
+use Rattle.hack_metadata.proofs.AskWays.{asked-counts, back-wrote, left-more, over-stops, over-wrote, text-spares, unchanged, whole-left, whole-leaves, whole-more}
 use Rattle.hack_metadata.proofs.SpoiltLemmas.{left-grows}
 use Rattle.hack_files.proofs.FailedLemmas.{none_failed, none_then}
-use Rattle.hack_metadata.proofs.FailedLemmas.{counts-fails, fallen-fails, first-fails, look-first, look-path, none-only, path-then, put-then}
+use Rattle.hack_metadata.proofs.FailedLemmas.{counts-ends, fallen-ends, first-ends, look-path, none-only, path-then, put-then}
 use Rattle.hack_metadata.proofs.ask.Question.ask_stable.Goals as goal
 
 pub returns-in_err-first-clause-left : goal.returns-in_err-first-clause-left
@@ -25,10 +25,9 @@ returns-in_err-first-clause-left g c =
 pub returns-in_err-first-clause-ends : goal.returns-in_err-first-clause-ends
 returns-in_err-first-clause-ends g c =
     let p = err_from_is_err_and c.from_residual.result c.from_residual.ensures.1 in
-    let held = g.F.Files.bytes_at c.args.files.now in
-    let trace = g.F.Files.trace c.args.files.now in
-    rw (p.1, p.2) (λ called start way. first-ends g.F.Files.tells g.F.Files.whole (question_of c.args.self.now) held held trace trace start (g.C.Caller.calls c.first.new.caller) (g.C.Caller.calls c.args.caller.now) c.args.minor c.in_err-first.field-0.0 way
-    (λ w. makes_none trace held) (c.in_err-first.ensures.err called c.args.minor))
+    let files = c.args.files.now in
+    rw (p.1, p.2) (λ called start way. first-ends g.F.Files (question_of c.args.self.now) files files start (g.C.Caller.calls c.first.new.caller) (none_failed g.F.Files files) (g.C.Caller.calls c.args.caller.now) c.args.minor c.in_err-first.field-0.0 way
+    (λ w. makes_none (g.F.Files.trace files) (g.F.Files.bytes_at files)) (c.in_err-first.ensures.err called c.args.minor) c.in_err-first.ensures.spares)
 
 pub returns-in_err-make_lockfile-clause-left : goal.returns-in_err-make_lockfile-clause-left
 returns-in_err-make_lockfile-clause-left g c =
@@ -40,14 +39,22 @@ returns-in_err-make_lockfile-clause-ends g c =
     let p = err_from_is_err_and c.from_residual-in_err-make_lockfile.result c.from_residual-in_err-make_lockfile.ensures.1 in
     let text = string_bytes c.in_ok-first.first.text in
     let lock = subst (λ p. IsLockfile (string_bytes c.in_ok-first.first.text) p) (sym c.as_str.ensures.value) c.in_ok-first.ensures.lockfile in
-    rw (p.1, p.2) (λ called start way. (first c.args.minor text, g.C.Caller.calls c.first.new.caller, [], answers text way (c.in_ok-first.ensures.ok called), c.in_err-make_lockfile.ensures.err called c.args.minor text lock, c.in_err-make_lockfile.ensures.untraced))
+    rw (p.1, p.2) (λ called start way. c.in_err-make_lockfile.ensures.err called start c.args.minor text lock (answers text way (c.in_ok-first.ensures.ok called)))
 
 pub returns-in_err-asked-clause-ends : goal.returns-in_err-asked-clause-ends
 returns-in_err-asked-clause-ends g c =
     let p = err_from_is_err_and c.from_residual-in_err-asked.result c.from_residual-in_err-asked.ensures.1 in
     let text = string_bytes c.in_ok-first.first.text in
     let lock = subst (λ p. IsLockfile (string_bytes c.in_ok-first.first.text) p) (sym c.as_str.ensures.value) c.in_ok-first.ensures.lockfile in
-    rw (p.1, p.2) (λ called start way. (locked c.args.minor text, g.C.Caller.calls c.make_lockfile.new.caller, [], c.in_ok-make_lockfile.ensures.ok called start c.args.minor text lock (answers text way (c.in_ok-first.ensures.ok called)), inl refl, λ w. inl (c.in_ok-make_lockfile.ensures.untraced w)))
+    rw (p.1, p.2) (λ called start way. (
+      locked c.args.minor text,
+      g.C.Caller.calls c.make_lockfile.new.caller,
+      [],
+      c.in_ok-make_lockfile.ensures.ok called start c.args.minor text lock (answers text way (c.in_ok-first.ensures.ok called)),
+      inl refl,
+      λ w. inl (c.in_ok-make_lockfile.ensures.untraced w),
+      (c.as_str.result.now, lock, inl c.in_ok-make_lockfile.ensures.none, inl (refl, c.in_ok-make_lockfile.ensures.untraced)),
+    ))
 
 pub returns-in_err-told-clause-left : goal.returns-in_err-told-clause-left
 returns-in_err-told-clause-left g c =
@@ -79,6 +86,12 @@ returns-in_err-told-clause-ends g c =
       over-stops g.C.Caller.tells q mid new c.args.minor text path (command_of c.in_ok-asked.asked) c.in_err-told.field-0.0 called again (words, refl, is) c.in_err-told.ensures.err,
       over-wrote g.F.Files.tells g.F.Files.whole (g.F.Files.bytes_at c.args.files.now) (g.F.Files.bytes_at c.make_lockfile.new.files) (g.F.Files.bytes_at c.read_over.new.files) (g.F.Files.trace c.args.files.now) (g.F.Files.trace c.make_lockfile.new.files) (g.F.Files.trace c.read_over.new.files)
           (g.F.Files.failed c.args.files.now) (g.F.Files.failed c.make_lockfile.new.files) path text c.in_ok-make_lockfile.ensures.left again c.in_ok-make_lockfile.ensures.untraced c.args.minor c.in_err-told.ensures.refused,
+      (
+        path,
+        again,
+        path-then g.F.Files path c.args.files.now c.make_lockfile.new.files c.read_over.new.files c.in_err-told.field-0.0 c.in_ok-make_lockfile.ensures.none c.in_ok-make_lockfile.ensures.same c.in_err-told.ensures.calls,
+        put-then g.F.Files path _ (new ≡ mid) c.args.files.now c.make_lockfile.new.files c.read_over.new.files (λ same. same called) c.in_ok-make_lockfile.ensures.none c.in_ok-make_lockfile.ensures.same c.in_ok-make_lockfile.ensures.untraced c.in_err-told.ensures.undone,
+      ),
     ))
 
 pub returns-in-Some-clause-stays : goal.returns-in-Some-clause-stays
@@ -106,7 +119,7 @@ returns-in-Some-clause-ends g c =
     let told = string_bytes c.in-Some.text in
     let put = back-wrote g.F.Files.tells g.F.Files.whole (g.F.Files.bytes_at c.args.files.now) (g.F.Files.bytes_at c.make_lockfile.new.files) (g.F.Files.bytes_at c.read_over.new.files) (g.F.Files.trace c.args.files.now) (g.F.Files.trace c.make_lockfile.new.files) (g.F.Files.trace c.read_over.new.files)
     (g.F.Files.failed c.args.files.now) (g.F.Files.failed c.make_lockfile.new.files) path text c.in_ok-make_lockfile.ensures.left again c.in_ok-make_lockfile.ensures.untraced c.in_ok-told.ensures.back in
-    λ called start way. counts-ends g.F.Files.tells g.F.Files.whole q (g.F.Files.bytes_at c.args.files.now) (g.F.Files.bytes_at c.read_over.new.files) (g.F.Files.trace c.args.files.now) (g.F.Files.trace c.read_over.new.files) start new (by_stable q words) told c.args.minor (put.0 ∷ []) c.metadata_in.result
+    λ called start way. counts-ends g.F.Files q c.args.files.now c.read_over.new.files start new (none_then g.F.Files _ _ _ c.in_ok-make_lockfile.ensures.none c.in_ok-told.ensures.calls) (by_stable q words) told c.args.minor (put.0 ∷ []) c.metadata_in.result
     (tells_newer words told refl (c.in_ok-make_lockfile.ensures.ok called start c.args.minor text lock (answers text way (c.in_ok-first.ensures.ok called)))
     (subst (λ k. ReadsOutput k told mid new) is (subst (λ o. MatchOption o (FailsToRead (command_of c.in_ok-asked.asked) mid new) (λ t. ReadsOutput (command_of c.in_ok-asked.asked) (string_bytes t) mid new)) c.in-Some.is (c.in_ok-told.ensures.ok called))) put.1)
     put.2 (asked-counts q new (by_stable q words) (command_of c.in_ok-asked.asked) told c.as_str-in-Some.result.now c.args.minor c.metadata_in.result is c.as_str-in-Some.ensures.value c.metadata_in.ensures.ok c.metadata_in.ensures.err)
@@ -134,7 +147,7 @@ returns-clause-ends g c =
     let old = g.C.Caller.calls c.read_over.new.caller in
     let put = back-wrote g.F.Files.tells g.F.Files.whole (g.F.Files.bytes_at c.args.files.now) (g.F.Files.bytes_at c.make_lockfile.new.files) (g.F.Files.bytes_at c.read_over.new.files) (g.F.Files.trace c.args.files.now) (g.F.Files.trace c.make_lockfile.new.files) (g.F.Files.trace c.read_over.new.files)
     (g.F.Files.failed c.args.files.now) (g.F.Files.failed c.make_lockfile.new.files) path text c.in_ok-make_lockfile.ensures.left again c.in_ok-make_lockfile.ensures.untraced c.in_ok-told.ensures.back in
-    λ called start way. fallen-ends g.F.Files.tells g.F.Files.whole q (g.F.Files.bytes_at c.args.files.now) (g.F.Files.bytes_at c.read_over.new.files) (g.F.Files.trace c.args.files.now) (g.F.Files.trace c.read_over.new.files) start (g.C.Caller.calls c.fall_back.new.caller) mid old c.args.minor text words c.fall_back.result refl
+    λ called start way. fallen-ends g.F.Files q c.args.files.now c.read_over.new.files start (g.C.Caller.calls c.fall_back.new.caller) (none_then g.F.Files _ _ _ c.in_ok-make_lockfile.ensures.none c.in_ok-told.ensures.calls) mid old c.args.minor text words c.fall_back.result refl
     (c.in_ok-make_lockfile.ensures.ok called start c.args.minor text lock (answers text way (c.in_ok-first.ensures.ok called)))
     (subst (λ k. FailsToRead k mid old) is (subst (λ o. MatchOption o (FailsToRead (command_of c.in_ok-asked.asked) mid old) (λ t. ReadsOutput (command_of c.in_ok-asked.asked) (string_bytes t) mid old)) c.in-None.is (c.in_ok-told.ensures.ok called)))
     put (c.fall_back.ensures.fell called c.in_ok-first.ensures.command)
@@ -194,82 +207,21 @@ returns-in_err-first-clause-calls g c =
     let p = err_from_is_err_and c.from_residual.result c.from_residual.ensures.1 in
     rw (p.1, p.2) ([], none-only g.F.Files {X = Unit {0}} [] c.args.files.now c.args.files.now (Err c.in_err-first.field-0.0) c.in_err-first.ensures.spares (none_failed g.F.Files c.args.files.now))
 
-pub returns-in_err-first-clause-undone : goal.returns-in_err-first-clause-undone
-returns-in_err-first-clause-undone g c =
-    let p = err_from_is_err_and c.from_residual.result c.from_residual.ensures.1 in
-    rw (p.1, p.2) (λ called start way. first-fails g.F.Files (question_of c.args.self.now) c.args.files.now c.args.files.now start (g.C.Caller.calls c.first.new.caller) (none_failed g.F.Files c.args.files.now)
-    (g.C.Caller.calls c.args.caller.now) c.args.minor c.in_err-first.field-0.0 way (c.in_err-first.ensures.err called c.args.minor) c.in_err-first.ensures.spares)
-
 pub returns-in_err-make_lockfile-clause-calls : goal.returns-in_err-make_lockfile-clause-calls
 returns-in_err-make_lockfile-clause-calls g c =
     let p = err_from_is_err_and c.from_residual-in_err-make_lockfile.result c.from_residual-in_err-make_lockfile.ensures.1 in
     rw (p.1, p.2) (c.as_str.result.now, look-path g.F.Files c.as_str.result.now c.args.files.now c.make_lockfile.new.files c.in_err-make_lockfile.field-0.0 c.in_err-make_lockfile.ensures.looked)
-
-pub returns-in_err-make_lockfile-clause-undone : goal.returns-in_err-make_lockfile-clause-undone
-returns-in_err-make_lockfile-clause-undone g c =
-    let p = err_from_is_err_and c.from_residual-in_err-make_lockfile.result c.from_residual-in_err-make_lockfile.ensures.1 in
-    let text = string_bytes c.in_ok-first.first.text in
-    let lock = subst (λ p. IsLockfile (string_bytes c.in_ok-first.first.text) p) (sym c.as_str.ensures.value) c.in_ok-first.ensures.lockfile in
-    rw (p.1, p.2) (λ called start way. (
-      first c.args.minor text,
-      g.C.Caller.calls c.first.new.caller,
-      [],
-      answers text way (c.in_ok-first.ensures.ok called),
-      c.in_err-make_lockfile.ensures.err called c.args.minor text lock,
-      look-first g.F.Files text c.as_str.result.now c.args.files.now c.make_lockfile.new.files c.in_err-make_lockfile.field-0.0 lock c.in_err-make_lockfile.ensures.looked,
-    ))
 
 pub returns-in_err-asked-clause-calls : goal.returns-in_err-asked-clause-calls
 returns-in_err-asked-clause-calls g c =
     let p = err_from_is_err_and c.from_residual-in_err-asked.result c.from_residual-in_err-asked.ensures.1 in
     rw (p.1, p.2) (c.as_str.result.now, inl c.in_ok-make_lockfile.ensures.none)
 
-pub returns-in_err-asked-clause-undone : goal.returns-in_err-asked-clause-undone
-returns-in_err-asked-clause-undone g c =
-    let p = err_from_is_err_and c.from_residual-in_err-asked.result c.from_residual-in_err-asked.ensures.1 in
-    let text = string_bytes c.in_ok-first.first.text in
-    let path = c.as_str.result.now in
-    let lock = subst (λ p. IsLockfile (string_bytes c.in_ok-first.first.text) p) (sym c.as_str.ensures.value) c.in_ok-first.ensures.lockfile in
-    rw (p.1, p.2) (λ called start way. (
-      locked c.args.minor text,
-      g.C.Caller.calls c.make_lockfile.new.caller,
-      [],
-      c.in_ok-make_lockfile.ensures.ok called start c.args.minor text lock (answers text way (c.in_ok-first.ensures.ok called)),
-      inl refl,
-      (path, lock, inl c.in_ok-make_lockfile.ensures.none, inl (refl, c.in_ok-make_lockfile.ensures.untraced)),
-    ))
-
 pub returns-in_err-told-clause-calls : goal.returns-in_err-told-clause-calls
 returns-in_err-told-clause-calls g c =
     let p = err_from_is_err_and c.from_residual-in_err-told.result c.from_residual-in_err-told.ensures.1 in
     let path = c.as_str-lockfile.result.now in
     rw (p.1, p.2) (path, path-then g.F.Files path c.args.files.now c.make_lockfile.new.files c.read_over.new.files c.in_err-told.field-0.0 c.in_ok-make_lockfile.ensures.none c.in_ok-make_lockfile.ensures.same c.in_err-told.ensures.calls)
-
-pub returns-in_err-told-clause-undone : goal.returns-in_err-told-clause-undone
-returns-in_err-told-clause-undone g c =
-    let p = err_from_is_err_and c.from_residual-in_err-told.result c.from_residual-in_err-told.ensures.1 in
-    let q = question_of c.args.self.now in
-    let words = map string_bytes c.args.self.now.full.items in
-    let is : command_of c.in_ok-asked.asked ≡ by_stable (question_of c.args.self.now) (map string_bytes c.args.self.now.full.items) = search rules in
-    let text = string_bytes c.in_ok-first.first.text in
-    let path = c.as_str-lockfile.result.now in
-    let lock = subst (λ p. IsLockfile (string_bytes c.in_ok-first.first.text) p) (sym c.as_str.ensures.value) c.in_ok-first.ensures.lockfile in
-    let again = subst (λ p. IsLockfile (string_bytes c.in_ok-first.first.text) p) (sym c.as_str-lockfile.ensures.value) c.in_ok-first.ensures.lockfile in
-    let mid = g.C.Caller.calls c.make_lockfile.new.caller in
-    let new = g.C.Caller.calls c.read_over.new.caller in
-    rw (p.1, p.2) (λ called start way. (
-      locked c.args.minor text,
-      mid,
-      [],
-      c.in_ok-make_lockfile.ensures.ok called start c.args.minor text lock (answers text way (c.in_ok-first.ensures.ok called)),
-      over-stops g.C.Caller.tells q mid new c.args.minor text path (command_of c.in_ok-asked.asked) c.in_err-told.field-0.0 called again (words, refl, is) c.in_err-told.ensures.err,
-      (
-        path,
-        again,
-        path-then g.F.Files path c.args.files.now c.make_lockfile.new.files c.read_over.new.files c.in_err-told.field-0.0 c.in_ok-make_lockfile.ensures.none c.in_ok-make_lockfile.ensures.same c.in_err-told.ensures.calls,
-        put-then g.F.Files path _ (new ≡ mid) c.args.files.now c.make_lockfile.new.files c.read_over.new.files (λ same. same called) c.in_ok-make_lockfile.ensures.none c.in_ok-make_lockfile.ensures.same c.in_ok-make_lockfile.ensures.untraced c.in_err-told.ensures.undone,
-      ),
-    ))
 
 pub returns-in-Some-clause-calls : goal.returns-in-Some-clause-calls
 returns-in-Some-clause-calls g c = (
@@ -279,45 +231,8 @@ returns-in-Some-clause-calls g c = (
       (none_then g.F.Files _ _ _ c.in_ok-make_lockfile.ensures.none c.in_ok-told.ensures.calls),
 )
 
-pub returns-in-Some-clause-undone : goal.returns-in-Some-clause-undone
-returns-in-Some-clause-undone g c =
-    let q = question_of c.args.self.now in
-    let words = map string_bytes c.args.self.now.full.items in
-    let is : command_of c.in_ok-asked.asked ≡ by_stable (question_of c.args.self.now) (map string_bytes c.args.self.now.full.items) = search rules in
-    let text = string_bytes c.in_ok-first.first.text in
-    let path = c.as_str-lockfile.result.now in
-    let lock = subst (λ p. IsLockfile (string_bytes c.in_ok-first.first.text) p) (sym c.as_str.ensures.value) c.in_ok-first.ensures.lockfile in
-    let again = subst (λ p. IsLockfile (string_bytes c.in_ok-first.first.text) p) (sym c.as_str-lockfile.ensures.value) c.in_ok-first.ensures.lockfile in
-    let mid = g.C.Caller.calls c.make_lockfile.new.caller in
-    let new = g.C.Caller.calls c.read_over.new.caller in
-    let told = string_bytes c.in-Some.text in
-    let put = back-wrote g.F.Files.tells g.F.Files.whole (g.F.Files.bytes_at c.args.files.now) (g.F.Files.bytes_at c.make_lockfile.new.files) (g.F.Files.bytes_at c.read_over.new.files) (g.F.Files.trace c.args.files.now) (g.F.Files.trace c.make_lockfile.new.files) (g.F.Files.trace c.read_over.new.files)
-    (g.F.Files.failed c.args.files.now) (g.F.Files.failed c.make_lockfile.new.files) path text c.in_ok-make_lockfile.ensures.left again c.in_ok-make_lockfile.ensures.untraced c.in_ok-told.ensures.back in
-    λ called start way. counts-fails g.F.Files q c.args.files.now c.read_over.new.files start new (none_then g.F.Files _ _ _ c.in_ok-make_lockfile.ensures.none c.in_ok-told.ensures.calls) (by_stable q words) told c.args.minor (put.0 ∷ []) c.metadata_in.result
-    (tells_newer words told refl (c.in_ok-make_lockfile.ensures.ok called start c.args.minor text lock (answers text way (c.in_ok-first.ensures.ok called)))
-    (subst (λ k. ReadsOutput k told mid new) is (subst (λ o. MatchOption o (FailsToRead (command_of c.in_ok-asked.asked) mid new) (λ t. ReadsOutput (command_of c.in_ok-asked.asked) (string_bytes t) mid new)) c.in-Some.is (c.in_ok-told.ensures.ok called))) put.1)
-    (asked-counts q new (by_stable q words) (command_of c.in_ok-asked.asked) told c.as_str-in-Some.result.now c.args.minor c.metadata_in.result is c.as_str-in-Some.ensures.value c.metadata_in.ensures.ok c.metadata_in.ensures.err)
-
 pub returns-clause-calls : goal.returns-clause-calls
 returns-clause-calls g c = (
   [],
   none-only g.F.Files [] c.args.files.now c.read_over.new.files c.fall_back.result c.fall_back.ensures.spares (none_then g.F.Files _ _ _ c.in_ok-make_lockfile.ensures.none c.in_ok-told.ensures.calls),
 )
-
-pub returns-clause-undone : goal.returns-clause-undone
-returns-clause-undone g c =
-    let q = question_of c.args.self.now in
-    let words = map string_bytes c.args.self.now.full.items in
-    let is : command_of c.in_ok-asked.asked ≡ by_stable (question_of c.args.self.now) (map string_bytes c.args.self.now.full.items) = search rules in
-    let text = string_bytes c.in_ok-first.first.text in
-    let path = c.as_str-lockfile.result.now in
-    let lock = subst (λ p. IsLockfile (string_bytes c.in_ok-first.first.text) p) (sym c.as_str.ensures.value) c.in_ok-first.ensures.lockfile in
-    let again = subst (λ p. IsLockfile (string_bytes c.in_ok-first.first.text) p) (sym c.as_str-lockfile.ensures.value) c.in_ok-first.ensures.lockfile in
-    let mid = g.C.Caller.calls c.make_lockfile.new.caller in
-    let old = g.C.Caller.calls c.read_over.new.caller in
-    let put = back-wrote g.F.Files.tells g.F.Files.whole (g.F.Files.bytes_at c.args.files.now) (g.F.Files.bytes_at c.make_lockfile.new.files) (g.F.Files.bytes_at c.read_over.new.files) (g.F.Files.trace c.args.files.now) (g.F.Files.trace c.make_lockfile.new.files) (g.F.Files.trace c.read_over.new.files)
-    (g.F.Files.failed c.args.files.now) (g.F.Files.failed c.make_lockfile.new.files) path text c.in_ok-make_lockfile.ensures.left again c.in_ok-make_lockfile.ensures.untraced c.in_ok-told.ensures.back in
-    λ called start way. fallen-fails g.F.Files q c.args.files.now c.read_over.new.files start (g.C.Caller.calls c.fall_back.new.caller) (none_then g.F.Files _ _ _ c.in_ok-make_lockfile.ensures.none c.in_ok-told.ensures.calls) mid old c.args.minor text words put.0 c.fall_back.result refl
-    (c.in_ok-make_lockfile.ensures.ok called start c.args.minor text lock (answers text way (c.in_ok-first.ensures.ok called)))
-    (subst (λ k. FailsToRead k mid old) is (subst (λ o. MatchOption o (FailsToRead (command_of c.in_ok-asked.asked) mid old) (λ t. ReadsOutput (command_of c.in_ok-asked.asked) (string_bytes t) mid old)) c.in-None.is (c.in_ok-told.ensures.ok called)))
-    put.1 (c.fall_back.ensures.fell called c.in_ok-first.ensures.command)
