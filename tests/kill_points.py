@@ -202,9 +202,9 @@ def unguarded(killer, words, every):
         in_front_of(at, lambda: place.as_before(own=True))
 
 
-def cut(killer, words, is_root=False):
+def cut(killer, words):
     """Kills a call in each of its writes of a manifest: the guard restores all, and where there is none the next call. Texts
-    are seen there that are neither the first nor the edited ones, but never of the workspace's own manifest."""
+    are seen there that are neither the first nor the edited ones."""
     place, seen = killer.place, set()
     place.lay_out()
     before = texts(place)
@@ -215,8 +215,7 @@ def cut(killer, words, is_root=False):
         was_killed, _ = killer.call(words, at, KILL_CUTS="1")
         in_front_of(at, place.as_before)
         if not was_killed:
-            must(bool(seen) != is_root, f"{len(seen)} texts were cut")
-            must(all(name != "Cargo.toml" for name, _ in seen), "the workspace's own manifest was cut")
+            must(seen, "no text was cut")
             return f"{counted(at - 1)}; {len(seen)} texts were cut"
         was_killed, _ = killer.call(words, at, shell=False, KILL_CUTS="1")
         must(was_killed, f"without a guard, write {at} isn't made")
@@ -479,7 +478,7 @@ def kills(places, preload, every):
         "killed without a guard, development dependencies": lambda: unguarded(within, EDITS, every),
         "killed without a guard, private members": lambda: unguarded(beside, LEAVES_OUT, every),
         "killed in each write of a manifest, development dependencies": lambda: cut(within, EDITS),
-        "killed in each write of a manifest, private members": lambda: cut(beside, LEAVES_OUT, is_root=True),
+        "killed in each write of a manifest, private members": lambda: cut(beside, LEAVES_OUT),
         "killed with its guard": lambda: killed_guard(within, every),
         "while its guard is at work": lambda: guard_at_work(within),
     }

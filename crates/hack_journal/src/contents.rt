@@ -48,19 +48,16 @@ pub fn put<F: Files>(files: &mut F, path: &str, bytes: Option<&[u8]>) -> Result<
     }
 }
 
-/// Puts these bytes over those at a path, which are kept, or in their place as a whole; or removes
-/// what is there.
+/// Puts these bytes over those at a path, which are kept, or removes what is there.
 pub fn put_over<F: Overwrites>(
     files: &mut F,
     path: &str,
     bytes: Option<&[u8]>,
-    whole: bool,
 ) -> Result<(), FileFault>
     ensures { Puts F.Files path.now (option_map (λ bytes. bytes.now) bytes.entry)
         files.old files.new result }
 {
     match bytes {
-        Some(bytes) if whole => files.write(path, bytes),
         Some(bytes) => files.overwrite(path, bytes),
         None => files.remove(path),
     }

@@ -25,7 +25,6 @@ use crate::contents::{are_back, put_over};
 use crate::notes::Notes;
 use crate::place::JournalPlace;
 use crate::unkept::{Refusal, Unkept};
-use hack_base::paths::under;
 use hack_files::fs::{FileFault, Files, Overwrites, count_failure, counted};
 use std::alloc::Global;
 use std::io;
@@ -78,20 +77,12 @@ impl<F: Files, U: Unkept> Journaled<F, U> {
     }
 }
 
-/// Whether the path may be that of the folder's own manifest, by what is in which a later call finds
-/// the folder, and so the journal. A path that isn't below the folder may lead there by a link.
-fn may_be_root(path: &str, folder: &str) -> bool {
-    let inner = under(path, folder);
-    inner == "Cargo.toml" || inner.starts_with('/')
-}
-
 impl<F: Overwrites, U: Unkept> Journaled<F, U> {
     ghost use Rattle.hack_journal.specs.FileCalls.{StaysJournaled};
 
     /// Keeps what the path holds, and then gives it these bytes, or removes what is there. What an
     /// entry has already needs no keeping. The bytes may be written over those that are there: where
-    /// that is cut, `recover` knows what it left by the entries of the path. The folder's own
-    /// manifest is written as a whole, so that it is never seen cut.
+    /// that is cut, `recover` knows what it left by the entries of the path.
     fn change(&mut self, path: &str, bytes: Option<&[u8]>) -> Result<(), FileFault>
         ensures handed { F.stays self.old.files self.new.files }
         ensures journal { self.new.notes.journal ≡ self.old.notes.journal }
@@ -138,10 +129,7 @@ impl<F: Overwrites, U: Unkept> Journaled<F, U> {
             return Err(FileFault::Device);
         }
         match self.keep(path, bytes) {
-            Ok(()) => {
-                let whole = may_be_root(path, self.folder.as_str());
-                put_over(&mut self.files, path, bytes, whole)
-            }
+            Ok(()) => put_over(&mut self.files, path, bytes),
             Err(fault) => {
                 self.unkept.note(Refusal::of(path));
                 Err(fault)
