@@ -1,5 +1,6 @@
 -- Where the workspace of a call is.
-use Rattle.std.specs.Prelude.{ℕ, zero, suc, List, [], ◌∷◌, Option, Some, None, codes, is_some, length, option_map, unwrap_or, if◌then◌else◌}
+use Rattle.std.specs.Prelude.{ℕ, zero, suc, Bool, false, ◌||◌, List, [], ◌∷◌, Option, Some, None, codes, is_some, length, nat_eq, option_map, unwrap_or, if◌then◌else◌}
+use Rattle.std.specs.List.{starts_with}
 use Rattle.std.specs.Option.{option_or}
 use Rattle.std.specs.Str.{is_utf8}
 use Rattle.toml.specs.Data.{Data, string, Members, get_member}
@@ -33,14 +34,25 @@ package_says (Some fields) = field_says (get_member (codes "workspace") fields)
 abbrev pub tree_says : Members → Saying
 tree_says tree = if is_some (table_at (codes "workspace") tree) then Here else package_says (table_at (codes "package") tree)
 
--- a text that is no TOML says nothing
-abbrev pub document_says : Option Members → Saying
-document_says None = Nothing
-document_says (Some tree) = tree_says tree
+-- these bytes stand somewhere in a text
+abbrev pub has_part : List ℕ → List ℕ → Bool
+has_part part [] = false
+has_part part (b ∷ bs) = starts_with nat_eq (b ∷ bs) part || has_part part bs
+
+-- a text that is no TOML is the workspace's own where it has the beginning of a table `workspace`
+-- somewhere: a call that was killed while it wrote this manifest may have left a part of one text
+-- before a part of another
+abbrev pub torn_says : List ℕ → Saying
+torn_says text = if has_part (codes "[workspace") text then Here else Nothing
+
+-- what the text of a manifest says, by its tree, if it is TOML
+abbrev pub document_says : List ℕ → Option Members → Saying
+document_says text None = torn_says text
+document_says text (Some tree) = tree_says tree
 
 -- what the text of a manifest says
 abbrev pub text_says : List ℕ → Saying
-text_says text = document_says (parse_document text)
+text_says text = document_says text (parse_document text)
 
 -- ---- the folders at or above one
 

@@ -7,7 +7,7 @@ ghost use Rattle.hack_base.specs.PathTexts.{join_of, normal_of};
 ghost use Rattle.hack_files.specs.Files.{KeepsAll, Makes};
 ghost use Rattle.toml.specs.Data.{get_member};
 ghost use Rattle.toml.specs.View.{table_view};
-ghost use Rattle.hack_places.specs.Folders.{field_says, manifest_in, start_at};
+ghost use Rattle.hack_places.specs.Folders.{field_says, has_part, manifest_in, start_at};
 ghost use Rattle.hack_places.specs.Internal.{saying_in};
 ghost use Rattle.hack_places.specs.Folders.{text_in_bytes, text_says, tree_says, workspace_from};
 ghost use Rattle.hack_places.specs.FileLooks.{AreLooksCounted, AreLooksSeen, IsOfLooked, IsOfPath};
@@ -134,8 +134,24 @@ fn said_by(alloc: Global, text: &str) -> Result<Said, AllocError>
     match toml::table_from_str(alloc, text) {
         Ok(tree) => said_by_tree(alloc, &tree),
         Err(e) if e.is_memory() => Err(AllocError),
+        Err(_) if has_table(text) => Ok(Said::Here),
         Err(_) => Ok(Said::Unsaid),
     }
+}
+
+/// Whether the beginning of a table `workspace` stands somewhere in a text that is no TOML: a call
+/// that was killed may have cut the manifest.
+fn has_table(text: &str) -> bool
+    ensures { result ≡ has_part (codes "[workspace") text.now }
+{
+    let mut rest = text.as_bytes();
+    while !rest.is_empty() {
+        if rest.starts_with(b"[workspace") {
+            return true;
+        }
+        rest = &rest[1..];
+    }
+    false
 }
 
 /// What the manifest with this tree says.
