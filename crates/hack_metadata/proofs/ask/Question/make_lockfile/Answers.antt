@@ -40,7 +40,6 @@ returns-clause-ok g c =
 pub returns-in_err-rest-clause-err : goal.returns-in_err-rest-clause-err
 returns-in_err-rest-clause-err g c =
     let p = err_from_is_err_and c.from_residual-in_err-rest.result c.from_residual-in_err-rest.ensures.1 in
-    let none = record { unseen = c.in_ok-is_there.ensures.unseen; refused = c.in_ok-is_there.ensures.refused_none } in
     rw (p.1, p.2) (λ called start minor text lock way. (
       missing minor text,
       g.C.Caller.calls c.args.caller.now,
@@ -48,13 +47,12 @@ returns-in_err-rest-clause-err g c =
       is_missing c.args.lockfile.now way lock (λ told. iff_false (c.in_ok-is_there.ensures.there told) c.if-branch.false),
       inl refl,
       c.in_ok-is_there.ensures.untraced,
-      none,
+      record { unseen = c.in_ok-is_there.ensures.unseen; refused = c.in_ok-is_there.ensures.refused_none },
     ))
 
 pub returns-in_err-asked-clause-err : goal.returns-in_err-asked-clause-err
 returns-in_err-asked-clause-err g c =
     let p = err_from_is_err_and c.from_residual-in_err-asked.result c.from_residual-in_err-asked.ensures.1 in
-    let none = record { unseen = c.in_ok-is_there.ensures.unseen; refused = c.in_ok-is_there.ensures.refused_none } in
     rw (p.1, p.2) (λ called start minor text lock way. (
       missing minor text,
       g.C.Caller.calls c.args.caller.now,
@@ -62,7 +60,7 @@ returns-in_err-asked-clause-err g c =
       is_missing c.args.lockfile.now way lock (λ told. iff_false (c.in_ok-is_there.ensures.there told) c.if-branch.false),
       inl refl,
       c.in_ok-is_there.ensures.untraced,
-      none,
+      record { unseen = c.in_ok-is_there.ensures.unseen; refused = c.in_ok-is_there.ensures.refused_none },
     ))
 
 pub returns-clause-err : goal.returns-clause-err
@@ -72,7 +70,6 @@ returns-clause-err g c =
     let new = g.C.Caller.calls c.run.new.caller in
     let q = question_of c.args.self.now in
     let asked = command_of c.in_ok-asked.asked in
-    let none = record { unseen = c.in_ok-is_there.ensures.unseen; refused = c.in_ok-is_there.ensures.refused_none } in
     IfErr-weaker c.run.result _ _ (λ e h called start minor text lock way. (
       missing minor text,
       old,
@@ -80,7 +77,7 @@ returns-clause-err g c =
       is_missing c.args.lockfile.now way lock (λ told. iff_false (c.in_ok-is_there.ensures.there told) c.if-branch.false),
       command-stops g.C.Caller.tells q old new (missing minor text) asked e called tt is (run-fails _ g.C.Caller.tells (asked_of true asked) (text_of true q.dir asked) old new e h),
       c.in_ok-is_there.ensures.untraced,
-      none,
+      record { unseen = c.in_ok-is_there.ensures.unseen; refused = c.in_ok-is_there.ensures.refused_none },
     ))
     c.run.ensures.err
 
