@@ -206,7 +206,6 @@ def cut(killer, words):
     """Kills a call in each of its writes of a manifest: the guard restores all, and where there is none the next call, from a
     member's folder. Texts are seen there that are neither the first nor the edited ones."""
     place, seen = killer.place, set()
-    member = f"{place.workspace}/p"
     place.lay_out()
     before = texts(place)
     place.interrupt(words=words)
@@ -221,8 +220,13 @@ def cut(killer, words):
         was_killed, _ = killer.call(words, at, shell=False, KILL_CUTS="1")
         must(was_killed, f"without a guard, write {at} isn't made")
         seen |= texts(place) - whole
-        in_front_of(at, lambda: place.restores(PLAIN, place.edited(), folder=member))
+        in_front_of(at, lambda: place.restores(PLAIN, seen_from_member(place), folder=f"{place.workspace}/p"))
         in_front_of(at, place.as_before)
+
+
+def seen_from_member(place):
+    """The edited manifests, as a call in the folder of `p` names them."""
+    return [name[2:] if name.startswith("p/") else f"{place.workspace}/{name}" for name in place.edited()]
 
 
 def texts(place):
