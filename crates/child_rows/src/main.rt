@@ -17,7 +17,7 @@ enum Ask {
 
 const MEGABYTES: &str = "yes x | head -c 1048576 & yes y | head -c 1048576 >&2; wait";
 
-const ROWS: [(&str, &str, &[&str], Ask); 20] = [
+const ROWS: [(&str, &str, &[&str], Ask); 21] = [
     ("true", "true", &[], Ask::Run),
     ("false", "false", &[], Ask::Run),
     ("false captured", "false", &[], Ask::Read),
@@ -68,6 +68,12 @@ const ROWS: [(&str, &str, &[&str], Ask); 20] = [
         Ask::Run,
     ),
     ("line ends", "printf", &["\\n a\\r\\n \\r\\n\\n"], Ask::Read),
+    (
+        "the name that it is started by",
+        "sh",
+        &["-c", "printf %s \"$0\""],
+        Ask::Read,
+    ),
 ];
 
 /// The text of an error, on one line.
