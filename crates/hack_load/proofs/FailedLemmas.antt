@@ -2,7 +2,7 @@
 use Rattle.std.proofs.Common.{inl, inr, ℕ, List, [], Result, Ok, Err, sym, subst, string_bytes}
 use Rattle.hack_base.specs.Names.{Name}
 use Rattle.hack_files.specs.Faults.{IsOfText, IsUnseenUnlessNoText}
-use Rattle.hack_files.specs.Files.{Change, Contents, KeepsAll}
+use Rattle.hack_files.specs.Files.{KeepsAll}
 use Rattle.hack_files.specs.FailedCalls.{NoneFailed, ReadFailed}
 use Rattle.hack_files.specs.declared.fs.Files.{Ghosts as Filing}
 use Rattle.hack_files.specs.declared.fs.FsFault.{FsFault}
@@ -13,7 +13,6 @@ use Rattle.hack_manifest.specs.declared.manifest.ManifestFault.TheVariants as ma
 use Rattle.hack_process.specs.Calls.{Call}
 use Rattle.hack_process.specs.CommandTexts.{Command}
 use Rattle.hack_metadata.specs.FailedQuestions.{IsOfCallAt}
-use Rattle.hack_metadata.specs.Requests.{Question}
 use Rattle.hack_metadata.specs.declared.ask.fault.AskFault.{AskFault}
 use Rattle.hack_metadata.specs.declared.ask.fault.AskFault.TheVariants as ask
 use Rattle.hack_metadata.specs.declared.metadata.Metadata.{Metadata}

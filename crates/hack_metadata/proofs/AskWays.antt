@@ -13,17 +13,17 @@ use Rattle.hack_files.specs.Restore.{Kept, write_of}
 use Rattle.hack_files.specs.TraceLaws.{makes_more}
 use Rattle.hack_process.specs.Calls.{Asked, Call, MayAdd}
 use Rattle.hack_process.specs.CommandTexts.{Command, text_of}
-use Rattle.hack_process.specs.Commands.{asked_of, plain_command}
+use Rattle.hack_process.specs.Commands.{asked_of}
 use Rattle.hack_process.specs.Faults.{IsFault, IsReadFault}
 use Rattle.hack_process.specs.declared.fault.ProcessFault.{ProcessFault}
 use Rattle.hack_process.specs.declared.fault.ProcessFault.TheVariants as p
-use Rattle.hack_metadata.specs.QuestionCalls.{Stage, first, locked, newer, taken, to_cargo, versioned, LeadsToStage, answers, tells_older, first_counts, asks_again, EndsSo, FailsToRead, IsAnswer, IsLockfile, IsNeeded, IsNextCommand, Lacks, PutsBack, StopsQuestion, TellsAs, WroteWhereKnown}
-use Rattle.hack_metadata.specs.InternalQuestionCalls.{AsksCargo, UsesAnswer, FailsFirst, FallsBack, IsTextFault, FailsAs}
+use Rattle.hack_metadata.specs.QuestionCalls.{Stage, first, locked, taken, versioned, IsAnswer, IsLockfile, IsNeeded, IsNextCommand, Lacks, PutsBack, StopsQuestion, TellsAs, WroteWhereKnown}
+use Rattle.hack_metadata.specs.InternalQuestionCalls.{UsesAnswer, IsTextFault, FailsAs}
 use Rattle.hack_metadata.specs.Fields.{object_in_text}
 use Rattle.hack_base.specs.FieldReadings.{FieldReading}
 use Rattle.hack_metadata.specs.FileFaults.{IsUnread}
 use Rattle.hack_metadata.specs.MetadataReading.{read_metadata}
-use Rattle.hack_metadata.specs.Requests.{Question, by_stable, first_command}
+use Rattle.hack_metadata.specs.Requests.{Question}
 use Rattle.hack_metadata.specs.FilesAfterAsking.{LeftBy, LeavesFiles, Spoilt, Whole}
 use Rattle.hack_metadata.specs.Internal.{FailsOver, IsFileFault, IsNoFileFault, KeepsOneMore, PutsHeld}
 use Rattle.hack_metadata.specs.MetadataView.{metadata_view}

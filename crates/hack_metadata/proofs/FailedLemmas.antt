@@ -16,7 +16,7 @@ use Rattle.hack_metadata.specs.FailedQuestions.{EndsQuestion, FailsFirstLook, Fa
 use Rattle.hack_metadata.specs.FileFaults.{IsUnread, IsUnwritten}
 use Rattle.hack_metadata.specs.Internal.{IsFileFault, IsNoFileFault}
 use Rattle.hack_metadata.specs.InternalQuestionCalls.{AsksCargo, FailsAs, FailsFirst, FallsBack, UsesAnswer}
-use Rattle.hack_metadata.specs.QuestionCalls.{EndsSo, FailsToRead, IsLockfile, LeadsToStage, PutsBack, answers, asks_again, first, first_counts, locked, newer, taken, tells_older, to_cargo}
+use Rattle.hack_metadata.specs.QuestionCalls.{EndsSo, FailsToRead, IsLockfile, LeadsToStage, PutsBack, StopsQuestion, answers, asks_again, first, first_counts, locked, missing, newer, taken, tells_older, to_cargo}
 use Rattle.hack_metadata.specs.Requests.{Question, by_stable, first_command}
 use Rattle.hack_metadata.specs.declared.metadata.Metadata.{Metadata}
 use Rattle.hack_metadata.specs.declared.ask.fault.AskFault.{AskFault}
@@ -139,6 +139,10 @@ module _ {F : Type 0} (f : Filing F) where
     pub first-ends : (mid : List Call) (minor : ℕ) (e : AskFault) → LeadsToStage f.tells q (f.bytes_at a) start (newer minor) mid [] → (f.whole → Makes [] (f.trace a) (f.trace b) (f.bytes_at a) (f.bytes_at b)) → FailsFirst q minor mid new e → IsNoFileFault e → EndsQuestion f a b q start new (Err e)
     first-ends mid minor e way wrote (inl h) spares = (newer minor, mid, [], way, h, wrote, none)
     first-ends mid minor e way wrote (inr h) spares = (first minor h.0, new, [], answers h.0 way h.1, h.2, wrote, none-first h.0 a b e spares none)
+
+    -- the lockfile is missing, and can't be made
+    pub missing-ends : (mid : List Call) (minor : ℕ) (text : Name) (e : AskFault) → LeadsToStage f.tells q (f.bytes_at a) start (missing minor text) mid [] → (f.whole → Makes [] (f.trace a) (f.trace b) (f.bytes_at a) (f.bytes_at b)) → StopsQuestion q (missing minor text) mid new e → EndsQuestion f a b q start new (Err e)
+    missing-ends mid minor text e way wrote h = (missing minor text, mid, [], way, h, wrote, none)
 
     -- an answer is used
     pub counts-ends : (c : Command) (text : Name) (minor : ℕ) (made : List Change) (r : Result Metadata AskFault) → LeadsToStage f.tells q (f.bytes_at a) start (taken c text minor) new made → (f.whole → Makes made (f.trace a) (f.trace b) (f.bytes_at a) (f.bytes_at b)) → UsesAnswer q c text minor new r → EndsQuestion f a b q start new r

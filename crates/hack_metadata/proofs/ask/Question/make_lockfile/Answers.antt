@@ -7,15 +7,16 @@ use Rattle.std.specs.Prelude.{true}
 use Rattle.hack_metadata.specs.InternalAskView.{question_of}
 use Rattle.hack_metadata.specs.QuestionCalls.{Runs, first, is_there, is_made, is_missing, missing}
 use Rattle.hack_metadata.specs.Requests.{lock_command}
+use Rattle.hack_metadata.specs.declared.ask.fault.AskFault.TheVariants.{Memory}
 use Rattle.hack_metadata.proofs.AskWays.{command-stops, run-fails, there-stops}
-use Rattle.hack_metadata.proofs.FailedLemmas.{look-first, look-of, run-looks}
+use Rattle.hack_metadata.proofs.FailedLemmas.{look-first, look-of, missing-ends, run-looks}
 use Rattle.hack_metadata.proofs.ask.Question.make_lockfile.Goals as goal
 
 pub returns-in_err-is_there-clause-err : goal.returns-in_err-is_there-clause-err
 returns-in_err-is_there-clause-err g c =
     let p = err_from_is_err_and c.from_residual.result c.from_residual.ensures.1 in
     let e = c.in_err-is_there.field-0.0 in
-    let looked = look-of g.F.Files c.args.lockfile.now _ _ e c.in_err-is_there.ensures.fault (record { unseen = c.in_err-is_there.ensures.unseen; refused = c.in_err-is_there.ensures.refused_none }) in
+    let looked = look-of g.F.Files c.args.lockfile.now c.args.files.now c.is_there.new.files e c.in_err-is_there.ensures.fault (record { unseen = c.in_err-is_there.ensures.unseen; refused = c.in_err-is_there.ensures.refused_none }) in
     rw (p.1, p.2) (λ called start minor text lock way. (
       first minor text,
       g.C.Caller.calls c.args.caller.now,
@@ -23,7 +24,7 @@ returns-in_err-is_there-clause-err g c =
       way,
       there-stops (question_of c.args.self.now) (g.C.Caller.calls c.args.caller.now) minor text c.args.lockfile.now e lock c.in_err-is_there.ensures.fault,
       c.in_err-is_there.ensures.untraced,
-      look-first g.F.Files text c.args.lockfile.now _ _ e lock looked,
+      look-first g.F.Files text c.args.lockfile.now c.args.files.now c.is_there.new.files e lock looked,
     ))
 
 pub returns-then-branch-clause-ok : goal.returns-then-branch-clause-ok
@@ -40,28 +41,20 @@ returns-clause-ok g c =
 pub returns-in_err-rest-clause-err : goal.returns-in_err-rest-clause-err
 returns-in_err-rest-clause-err g c =
     let p = err_from_is_err_and c.from_residual-in_err-rest.result c.from_residual-in_err-rest.ensures.1 in
-    rw (p.1, p.2) (λ called start minor text lock way. (
-      missing minor text,
-      g.C.Caller.calls c.args.caller.now,
-      [],
-      is_missing c.args.lockfile.now way lock (λ told. iff_false (c.in_ok-is_there.ensures.there told) c.if-branch.false),
-      inl refl,
-      c.in_ok-is_there.ensures.untraced,
-      record { unseen = c.in_ok-is_there.ensures.unseen; refused = c.in_ok-is_there.ensures.refused_none },
-    ))
+    let files = c.is_there.new.files in
+    let calls = g.C.Caller.calls c.args.caller.now in
+    rw (p.1, p.2) (λ called start minor text lock way. missing-ends g.F.Files (question_of c.args.self.now) c.args.files.now files start calls
+    (record { unseen = c.in_ok-is_there.ensures.unseen; refused = c.in_ok-is_there.ensures.refused_none }) calls minor text Memory
+    (is_missing c.args.lockfile.now way lock (λ told. iff_false (c.in_ok-is_there.ensures.there told) c.if-branch.false)) c.in_ok-is_there.ensures.untraced (inl refl))
 
 pub returns-in_err-asked-clause-err : goal.returns-in_err-asked-clause-err
 returns-in_err-asked-clause-err g c =
     let p = err_from_is_err_and c.from_residual-in_err-asked.result c.from_residual-in_err-asked.ensures.1 in
-    rw (p.1, p.2) (λ called start minor text lock way. (
-      missing minor text,
-      g.C.Caller.calls c.args.caller.now,
-      [],
-      is_missing c.args.lockfile.now way lock (λ told. iff_false (c.in_ok-is_there.ensures.there told) c.if-branch.false),
-      inl refl,
-      c.in_ok-is_there.ensures.untraced,
-      record { unseen = c.in_ok-is_there.ensures.unseen; refused = c.in_ok-is_there.ensures.refused_none },
-    ))
+    let files = c.is_there.new.files in
+    let calls = g.C.Caller.calls c.args.caller.now in
+    rw (p.1, p.2) (λ called start minor text lock way. missing-ends g.F.Files (question_of c.args.self.now) c.args.files.now files start calls
+    (record { unseen = c.in_ok-is_there.ensures.unseen; refused = c.in_ok-is_there.ensures.refused_none }) calls minor text Memory
+    (is_missing c.args.lockfile.now way lock (λ told. iff_false (c.in_ok-is_there.ensures.there told) c.if-branch.false)) c.in_ok-is_there.ensures.untraced (inl refl))
 
 pub returns-clause-err : goal.returns-clause-err
 returns-clause-err g c =
@@ -70,15 +63,10 @@ returns-clause-err g c =
     let new = g.C.Caller.calls c.run.new.caller in
     let q = question_of c.args.self.now in
     let asked = command_of c.in_ok-asked.asked in
-    IfErr-weaker c.run.result _ _ (λ e h called start minor text lock way. (
-      missing minor text,
-      old,
-      [],
-      is_missing c.args.lockfile.now way lock (λ told. iff_false (c.in_ok-is_there.ensures.there told) c.if-branch.false),
-      command-stops g.C.Caller.tells q old new (missing minor text) asked e called tt is (run-fails _ g.C.Caller.tells (asked_of true asked) (text_of true q.dir asked) old new e h),
-      c.in_ok-is_there.ensures.untraced,
-      record { unseen = c.in_ok-is_there.ensures.unseen; refused = c.in_ok-is_there.ensures.refused_none },
-    ))
+    IfErr-weaker c.run.result _ _ (λ e h called start minor text lock way. missing-ends g.F.Files q c.args.files.now c.is_there.new.files start new
+    (record { unseen = c.in_ok-is_there.ensures.unseen; refused = c.in_ok-is_there.ensures.refused_none }) old minor text e
+    (is_missing c.args.lockfile.now way lock (λ told. iff_false (c.in_ok-is_there.ensures.there told) c.if-branch.false)) c.in_ok-is_there.ensures.untraced
+    (command-stops g.C.Caller.tells q old new (missing minor text) asked e called tt is (run-fails _ g.C.Caller.tells (asked_of true asked) (text_of true q.dir asked) old new e h)))
     c.run.ensures.err
 
 pub returns-in_err-is_there-clause-looked : goal.returns-in_err-is_there-clause-looked
