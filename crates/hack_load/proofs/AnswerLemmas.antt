@@ -52,6 +52,11 @@ pub ends-map : (tells : Type 0) (q : Question) (held : Contents) (old new : List
 ends-map tells q held old new V W f (Ok m) h = (h.0, h.1, h.2, h.3, h.4, f (taken h.0 h.1 h.2) h.3 h.5, h.6)
 ends-map tells q held old new V W f (Err e) h = (h.0, h.1, h.2, h.3, h.4, f h.0 h.2 h.5)
 
+-- the calls and writes of a question that ended
+pub ends-so : {F : Type 0} (f : Filing F) (q : Question) (a b : F) (old new : List Call) (r : Result Metadata AskFault) → EndsQuestion f a b q old new r → EndsSo f.tells q (f.bytes_at a) old new (WroteTo f a b) r
+ends-so f q a b old new (Ok m) h = h.0
+ends-so f q a b old new (Err e) h = (h.0, h.1, h.2, h.3, h.4, h.5)
+
 -- a question was answered, and calls followed that changed nothing
 pub ended-later : {F : Type 0} (f : Filing F) (q : Question) (a b c : F) (old new : List Call) (m : Metadata) → EndsQuestion f a b q old new (Ok m) → (f.whole → Makes [] (f.trace b) (f.trace c) (f.bytes_at b) (f.bytes_at c)) → EndsSo f.tells q (f.bytes_at a) old new (WroteTo f a c) (Ok m)
 ended-later f q a b c old new m h still =

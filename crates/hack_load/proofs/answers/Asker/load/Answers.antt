@@ -1,8 +1,7 @@
 use Rattle.std.proofs.Common.{◌≡◌, inl, inr, refl, Ok, Err}
 use Rattle.std.specs.Prelude.{option_copied}
 use Rattle.hack_metadata.specs.Requests.{question}
-use Rattle.hack_load.proofs.AnswerLemmas.{ended-later, follows-earlier, loaded-later}
-use Rattle.hack_metadata.proofs.FailedLemmas.{ends-so}
+use Rattle.hack_load.proofs.AnswerLemmas.{ended-later, ends-so, follows-earlier, loaded-later}
 use Rattle.hack_files.proofs.RefusalLemmas.{but_same, but_then}
 use Rattle.hack_load.proofs.LeaveLemmas.{few-left, few-reads, reads-grow}
 use Rattle.hack_metadata.specs.MetadataView.{metadata_view}
