@@ -10,7 +10,8 @@ lockfile, byte for byte; then no process of it is left, and no file but one that
 tells what it told before. The same holds where it is killed in a write of a manifest, before the last byte is written.
 
 Where no guard can act, since the PATH has no shell, a call without edits follows, which is itself killed at each of its
-changes and followed by a third; and where the guard is killed at each of its changes, one call follows.
+changes and followed by a third; after a cut manifest one from a member's folder; and one where the guard is killed at each of
+its changes.
 
 Other calls find a manifest that somebody has changed, journals that are torn, name what no call edits, or are of an older
 version, a workspace that was copied or moved with its journal, and a lockfile that cargo changes.
