@@ -7,12 +7,14 @@ use Rattle.hack_files.specs.Files.{Contents}
 use Rattle.hack_files.specs.declared.fs.Files.{Ghosts as Filing}
 use Rattle.hack_files.specs.declared.fs.FsFault.{FsFault}
 use Rattle.hack_files.specs.declared.fs.FsFault.TheVariants as fs
+use Rattle.hack_load.specs.Contexts.{ContextRecord}
+use Rattle.hack_prepare.specs.PreparedView.{IsEditedIn, IsLookedAtIn, IsReadRootIn}
 use Rattle.hack_prepare.specs.declared.fault.PrepareFault.{PrepareFault}
 use Rattle.hack_prepare.specs.declared.fault.PrepareFault.TheVariants.{Memory, PrivateRoot, Files, Toml, InlineTarget, WorkspaceForm, PathText, ReadBack}
 
--- one call failed, at some path
-abbrev pub OneFailed : {F : Type 0} → Filing F → F → F → Type 0
-OneFailed f old new = (path : Name) × (LookFailed f path old new ⊎ WriteFailed f path old new)
+-- one call failed: a look at one of the paths that are looked at, or a write of one that is written
+abbrev pub OneFailed : {F : Type 0} → Filing F → (Name → Type 0) → (Name → Type 0) → F → F → Type 0
+OneFailed f looks writes old new = (path : Name) × ((looks path × LookFailed f path old new) ⊎ (writes path × WriteFailed f path old new))
 
 -- one of these paths, which are read without a look before, and the files tell that nothing is there
 abbrev pub IsAbsent : Type 0 → Contents → (Name → Type 0) → Name → Type 0
@@ -26,18 +28,29 @@ IsOfFileCall f absent old new (fs.Write p) = WriteFailed f (string_bytes p) old 
 IsOfFileCall f absent old new (fs.NotText p) = NoneFailed f old new
 IsOfFileCall f absent old new fs.Memory = ⊥
 
--- refused memory may be the files'; each other error is no call's
-abbrev pub IsOfFailedCall : {F : Type 0} → Filing F → (Name → Type 0) → F → F → PrepareFault → Type 0
-IsOfFailedCall f absent old new Memory = NoneFailed f old new ⊎ OneFailed f old new
-IsOfFailedCall f absent old new (Files fault) = IsOfFileCall f absent old new fault
-IsOfFailedCall f absent old new PrivateRoot = NoneFailed f old new
-IsOfFailedCall f absent old new (Toml p) = NoneFailed f old new
-IsOfFailedCall f absent old new (InlineTarget p) = NoneFailed f old new
-IsOfFailedCall f absent old new (WorkspaceForm p) = NoneFailed f old new
-IsOfFailedCall f absent old new (PathText p) = NoneFailed f old new
-IsOfFailedCall f absent old new (ReadBack p) = NoneFailed f old new
+-- refused memory may be the files', in a call at such a path; each other error is no call's
+abbrev pub IsOfFailedCall : {F : Type 0} → Filing F → (Name → Type 0) → (Name → Type 0) → (Name → Type 0) → F → F → PrepareFault → Type 0
+IsOfFailedCall f absent looks writes old new Memory = NoneFailed f old new ⊎ OneFailed f looks writes old new
+IsOfFailedCall f absent looks writes old new (Files fault) = IsOfFileCall f absent old new fault
+IsOfFailedCall f absent looks writes old new PrivateRoot = NoneFailed f old new
+IsOfFailedCall f absent looks writes old new (Toml p) = NoneFailed f old new
+IsOfFailedCall f absent looks writes old new (InlineTarget p) = NoneFailed f old new
+IsOfFailedCall f absent looks writes old new (WorkspaceForm p) = NoneFailed f old new
+IsOfFailedCall f absent looks writes old new (PathText p) = NoneFailed f old new
+IsOfFailedCall f absent looks writes old new (ReadBack p) = NoneFailed f old new
 
 -- no call failed, or the error is that of the one that did
-abbrev pub FailsOnlySo : {F T : Type 0} → Filing F → (Name → Type 0) → F → F → Result T PrepareFault → Type 0
-FailsOnlySo f absent old new (Ok _) = NoneFailed f old new
-FailsOnlySo f absent old new (Err e) = IsOfFailedCall f absent old new e
+abbrev pub FailsOnlySo : {F T : Type 0} → Filing F → (Name → Type 0) → (Name → Type 0) → (Name → Type 0) → F → F → Result T PrepareFault → Type 0
+FailsOnlySo f absent looks writes old new (Ok _) = NoneFailed f old new
+FailsOnlySo f absent looks writes old new (Err e) = IsOfFailedCall f absent looks writes old new e
+
+-- ---- for a context
+
+-- the same for the paths of a context's edits, of which only the workspace's own manifest may be absent
+abbrev pub IsOfFailedCallIn : {F : Type 0} → Filing F → ContextRecord → F → F → PrepareFault → Type 0
+IsOfFailedCallIn f cx old new = IsOfFailedCall f (IsAbsent f.tells (f.bytes_at old) (IsReadRootIn cx)) (IsLookedAtIn cx) (IsEditedIn cx) old new
+
+-- no call failed, or the error is that of the one that did, at such a path
+abbrev pub FailsOnlySoIn : {F T : Type 0} → Filing F → ContextRecord → F → F → Result T PrepareFault → Type 0
+FailsOnlySoIn f cx old new (Ok _) = NoneFailed f old new
+FailsOnlySoIn f cx old new (Err e) = IsOfFailedCallIn f cx old new e

@@ -7,7 +7,7 @@ use Rattle.hack_base.specs.Names.{Name}
 use Rattle.hack_files.specs.Files.{Change, Contents}
 use Rattle.hack_base.specs.Notes.{Note}
 use Rattle.hack_prepare.specs.Faults.{IsEditsFault}
-use Rattle.hack_prepare.specs.Paths.{IsReadRoot, IsTouched}
+use Rattle.hack_prepare.specs.Paths.{IsEdited, IsLookedAt, IsReadRoot, IsTouched}
 use Rattle.hack_prepare.specs.Prepared.{HasPrivateRoot, HoldTexts, IsPartlyPrepared, IsPrepared, KeepsUnedited, MemberManifest, Wanted, edits}
 use Rattle.hack_prepare.specs.EditNotes.{notes}
 use Rattle.hack_prepare.specs.Writes.{AreWrites, BeginWrites}
@@ -84,6 +84,14 @@ IsTouchedIn cx p = (edits_in cx ≡ true) × IsTouched (wanted_in cx) (member_ma
 -- the manifest in the folder of the workspace, which is edited, and which no member has read
 abbrev pub IsReadRootIn : ContextRecord → Name → Type 0
 IsReadRootIn cx = IsReadRoot (wanted_in cx) (member_manifests_in cx)
+
+-- a path that is looked at, where manifests are edited at all
+abbrev pub IsLookedAtIn : ContextRecord → Name → Type 0
+IsLookedAtIn cx p = (edits_in cx ≡ true) × IsLookedAt (wanted_in cx) (member_manifests_in cx) p
+
+-- a path that is edited
+abbrev pub IsEditedIn : ContextRecord → Name → Type 0
+IsEditedIn cx = IsEdited (wanted_in cx) (member_manifests_in cx)
 
 -- the notices on the edits
 abbrev pub notes_in : ContextRecord → List Note

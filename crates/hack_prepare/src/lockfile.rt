@@ -25,7 +25,8 @@ pub(crate) fn keep_lockfile<F: Files>(
 ) -> Result<(), PrepareFault>
     ensures stays { F.stays files.old files.new }
     ensures counted { CountsCalls (F.failed files.old) (F.failed files.new) result }
-    ensures calls { FailsOnlySo F.Files Nowhere files.old files.new result }
+    ensures calls { FailsOnlySo F.Files Nowhere (Only path.now) Nowhere
+        files.old files.new result }
     ensures step { IsStep F.tells AnyStart (Only path.now) manager.old manager.new
         (F.bytes_at files.old) (F.bytes_at files.new) }
     ensures kept { OnOk result (F.tells → manager.old.needs_restore ≡ true

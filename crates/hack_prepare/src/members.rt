@@ -43,7 +43,9 @@ pub(crate) fn edit_members<'a, F: Files>(
 ) -> Result<Vec<&'a str>, PrepareFault>
     ensures stays { F.stays files.old files.new }
     ensures counted { CountsCalls (F.failed files.old) (F.failed files.new) result }
-    ensures calls { FailsOnlySo F.Files Nowhere files.old files.new result }
+    ensures calls { FailsOnlySo F.Files Nowhere Nowhere
+        (IsAlonePath (wanted_view wanted.now) (members_view members.now))
+        files.old files.new result }
     ensures step { IsStep F.tells (λ start. HoldTexts start (members_view members.now))
         (IsAlonePath (wanted_view wanted.now) (members_view members.now)) manager.old manager.new
         (F.bytes_at files.old) (F.bytes_at files.new) }
@@ -107,7 +109,8 @@ fn edit_member<F: Files>(
 ) -> Result<(), PrepareFault>
     ensures stays { F.stays files.old files.new }
     ensures counted { CountsCalls (F.failed files.old) (F.failed files.new) result }
-    ensures calls { FailsOnlySo F.Files Nowhere files.old files.new result }
+    ensures calls { FailsOnlySo F.Files Nowhere Nowhere
+        (Only (member_manifest_view member.now).path) files.old files.new result }
     ensures step { IsStep F.tells (HoldsText (member_manifest_view member.now))
         (Only (member_manifest_view member.now).path) manager.old manager.new
         (F.bytes_at files.old) (F.bytes_at files.new) }

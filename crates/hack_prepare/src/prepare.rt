@@ -12,16 +12,15 @@ ghost use Rattle.hack_base.specs.Names.{Name};
 ghost use Rattle.hack_base.specs.Notes.{note_of};
 ghost use Rattle.hack_base.specs.Streams.{stream_of};
 ghost use Rattle.hack_files.specs.WriteBacks.{SaysBack};
-ghost use Rattle.hack_prepare.specs.FailedCalls.{FailsOnlySo, IsAbsent};
+ghost use Rattle.hack_prepare.specs.FailedCalls.{FailsOnlySo, FailsOnlySoIn, IsAbsent};
 ghost use Rattle.hack_prepare.specs.FailureCounts.{CountsCalls, WriteFails};
 ghost use Rattle.hack_prepare.specs.Faults.{AtWrite, IsEditsFault};
-ghost use Rattle.hack_prepare.specs.Paths.{IsReadRoot, IsTouched};
+ghost use Rattle.hack_prepare.specs.Paths.{IsEdited, IsLookedAt, IsReadRoot, IsTouched};
 ghost use Rattle.hack_prepare.specs.Prepared.{HasPrivateRoot, HoldTexts, IsPartlyPrepared};
 ghost use Rattle.hack_prepare.specs.Prepared.{IsPrepared, KeepsUnedited};
 ghost use Rattle.hack_prepare.specs.PreparedView.{HasPrivateRootIn, HoldTextsIn};
 ghost use Rattle.hack_prepare.specs.PreparedView.{IsPartlyPreparedIn, IsPrepareFault};
-ghost use Rattle.hack_prepare.specs.PreparedView.{IsPreparedIn, IsReadRootIn};
-ghost use Rattle.hack_prepare.specs.PreparedView.{IsTouchedIn, KeepsUneditedIn};
+ghost use Rattle.hack_prepare.specs.PreparedView.{IsPreparedIn, IsTouchedIn, KeepsUneditedIn};
 ghost use Rattle.hack_prepare.specs.PreparedView.{AreWritesIn, BeginWritesIn};
 ghost use Rattle.hack_prepare.specs.PreparedView.{edits_in, notes_in};
 ghost use Rattle.hack_prepare.specs.Internal.{members_view};
@@ -131,9 +130,9 @@ pub fn prepare<F: Files>(
         (IsPrepareFault (context_view cx.now) F.tells (F.bytes_at files.old)) }
 
     // No call fails but that of the path which the error names: a path that isn't seen, or a write
-    // that is refused. Only the manifest in the folder of the workspace may be absent.
-    ensures calls { FailsOnlySo F.Files (IsAbsent F.tells (F.bytes_at files.old)
-        (IsReadRootIn (context_view cx.now))) files.old files.new result }
+    // that is refused. Only the manifest in the folder of the workspace may be absent. Where the
+    // error is that memory was refused, it is a path that is looked at, or one that is edited.
+    ensures calls { FailsOnlySoIn F.Files (context_view cx.now) files.old files.new result }
 {
     let args = cx.args();
     let drops_dev = drops_dev(args);
@@ -181,6 +180,8 @@ fn edit<F: Files>(
     ensures counted { CountsCalls (F.failed files.old) (F.failed files.new) result }
     ensures calls { FailsOnlySo F.Files (IsAbsent F.tells (F.bytes_at files.old)
         (IsReadRoot (wanted_view wanted.now) (members_view members.now)))
+        (IsLookedAt (wanted_view wanted.now) (members_view members.now))
+        (IsEdited (wanted_view wanted.now) (members_view members.now))
         files.old files.new result }
     ensures step { IsStep F.tells (λ start. HoldTexts start (members_view members.now))
         (IsTouched (wanted_view wanted.now) (members_view members.now))

@@ -26,7 +26,8 @@ pub(crate) fn replace<F: Files>(
 ) -> Result<(), PrepareFault>
     ensures stays { F.stays files.old files.new }
     ensures counted { CountsCalls (F.failed files.old) (F.failed files.new) result }
-    ensures calls { FailsOnlySo F.Files Nowhere files.old files.new result }
+    ensures calls { FailsOnlySo F.Files Nowhere Nowhere (Only path.now)
+        files.old files.new result }
     ensures step { IsStep F.tells (HeldUnkept manager.old path.now held.now) (Only path.now)
         manager.old manager.new (F.bytes_at files.old) (F.bytes_at files.new) }
     ensures order { OnOk result (KeepsNext (path.now ∷ []) manager.old manager.new) }

@@ -73,7 +73,9 @@ pub(crate) fn edit_root<F: Files>(
     ensures counted { CountsCalls (F.failed files.old) (F.failed files.new) result }
     ensures calls { FailsOnlySo F.Files (IsAbsent F.tells (F.bytes_at files.old)
         (IsReadRoot (wanted_view wanted.now) (members_view members.now.all.now)))
-        files.old files.new result }
+        (IsReadRoot (wanted_view wanted.now) (members_view members.now.all.now))
+        (OnlyIf (edits_root (wanted_view wanted.now) (members_view members.now.all.now))
+        wanted.now.root.now) files.old files.new result }
     ensures step { IsStep F.tells (λ start. HoldTexts start (members_view members.now.all.now))
         (OnlyIf (edits_root (wanted_view wanted.now) (members_view members.now.all.now))
         wanted.now.root.now)
@@ -161,6 +163,8 @@ fn edit_virtual<F: Files>(
     ensures counted { CountsCalls (F.failed files.old) (F.failed files.new) result }
     ensures calls { FailsOnlySo F.Files (IsAbsent F.tells (F.bytes_at files.old)
         (OnlyIf (has_some (names_behind private.now)) wanted.now.root.now))
+        (OnlyIf (has_some (names_behind private.now)) wanted.now.root.now)
+        (OnlyIf (has_some (names_behind private.now)) wanted.now.root.now)
         files.old files.new result }
     ensures step { IsStep F.tells AnyStart
         (OnlyIf (has_some (names_behind private.now)) wanted.now.root.now)
@@ -229,7 +233,9 @@ fn edit_held<F: Files>(
 ) -> Result<(), PrepareFault>
     ensures stays { F.stays files.old files.new }
     ensures counted { CountsCalls (F.failed files.old) (F.failed files.new) result }
-    ensures calls { FailsOnlySo F.Files Nowhere files.old files.new result }
+    ensures calls { FailsOnlySo F.Files Nowhere Nowhere
+        (OnlyIf (held.now.drops_dev || has_some (names_behind held.now.gone.now))
+        wanted.now.root.now) files.old files.new result }
     ensures step { IsStep F.tells (HeldUnkept manager.old wanted.now.root.now held.now.text.now)
         (OnlyIf (held.now.drops_dev || has_some (names_behind held.now.gone.now))
         wanted.now.root.now)

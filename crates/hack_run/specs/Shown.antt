@@ -31,8 +31,8 @@ use Rattle.hack_planner.specs.Looks.{AreLongLooks}
 use Rattle.hack_planner.specs.declared.fault.PlanFault.{PlanFault}
 use Rattle.hack_planner.specs.declared.fault.PlanFault.TheVariants as plan
 use Rattle.hack_metadata.specs.QuestionCalls.{WroteWhereKnown}
-use Rattle.hack_prepare.specs.FailedCalls.{IsAbsent, IsOfFailedCall}
-use Rattle.hack_prepare.specs.PreparedView.{BeginWritesIn, IsPrepareFault, IsReadRootIn, notes_in}
+use Rattle.hack_prepare.specs.FailedCalls.{IsOfFailedCallIn}
+use Rattle.hack_prepare.specs.PreparedView.{BeginWritesIn, IsPrepareFault, notes_in}
 use Rattle.hack_prepare.specs.Writes.{MakesSome}
 use Rattle.hack_prepare.specs.declared.fault.PrepareFault.{PrepareFault}
 use Rattle.hack_prepare.specs.declared.fault.PrepareFault.TheVariants as prepare
@@ -259,7 +259,7 @@ pub data SaysAfterLoading {F : Type 0} (f : Filing F) (loaded edited : F) (came 
   unloaded : (e : ContextFault) → (e ≡ context.Memory) ⊎ IsContextCause args answers e → came ≡ Err (fault.Context e) → edited ≡ loaded → now ≡ looks → new ≡ old
       → SaysAfterLoading f loaded edited came tells args answers rustup looks now old new
   unedited : (cx : ContextRecord) (warned : Stream) → IsContextFrom args answers cx → SaysNotes looks.coloring (warnings_of (told_version answers.cargo_version)) old.streams.err warned
-      → (e : PrepareFault) → IsPrepareFault cx f.tells (f.bytes_at loaded) e → IsOfFailedCall f (IsAbsent f.tells (f.bytes_at loaded) (IsReadRootIn cx)) loaded edited e → BeginsEdits f cx loaded edited
+      → (e : PrepareFault) → IsPrepareFault cx f.tells (f.bytes_at loaded) e → IsOfFailedCallIn f cx loaded edited e → BeginsEdits f cx loaded edited
       → came ≡ Err (fault.Manifests e) → now ≡ looks → new ≡ scene_with old.calls warned old → SaysAfterLoading f loaded edited came tells args answers rustup looks now old new
   unasked : (cx : ContextRecord) (warned told : Stream) → IsContextFrom args answers cx → SaysNotes looks.coloring (warnings_of (told_version answers.cargo_version)) old.streams.err warned
       → SaysNotes looks.coloring (notes_in cx) warned told → NoneFailed f loaded edited → MayAskStable rustup old.calls new.calls → (¬ NeedsAnswer args → new.calls ≡ old.calls)

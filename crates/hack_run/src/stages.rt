@@ -14,8 +14,8 @@ ghost use Rattle.hack_load.specs.CargoQuestions.{told_version};
 ghost use Rattle.hack_prepare.specs.EditSteps.{KeepsOnly};
 ghost use Rattle.hack_prepare.specs.FailureCounts.{WriteFails};
 ghost use Rattle.hack_prepare.specs.PreparedView.{AreWritesIn, HoldTextsIn, IsPartlyPreparedIn};
-ghost use Rattle.hack_prepare.specs.FailedCalls.{IsAbsent, IsOfFailedCall};
-ghost use Rattle.hack_prepare.specs.PreparedView.{IsPrepareFault, IsPreparedIn, IsReadRootIn};
+ghost use Rattle.hack_prepare.specs.FailedCalls.{IsOfFailedCallIn};
+ghost use Rattle.hack_prepare.specs.PreparedView.{IsPrepareFault, IsPreparedIn};
 ghost use Rattle.hack_prepare.specs.PreparedView.{IsTouchedIn};
 ghost use Rattle.hack_prepare.specs.PreparedView.{KeepsUneditedIn};
 ghost use Rattle.hack_prepare.specs.PreparedView.{edits_in, notes_in, wanted_in};
@@ -246,8 +246,7 @@ fn edit<F: Files, E: Sink>(
     ensures grows { Grows (F.failed files.old) (F.failed files.new) }
     ensures error { IfErr result (λ e. (fault : PrepareFault) × (e ≡ RunFault.Manifests fault)
         × IsPrepareFault (context_view cx.now) F.tells (F.bytes_at files.old) fault
-        × IsOfFailedCall F.Files (IsAbsent F.tells (F.bytes_at files.old)
-        (IsReadRootIn (context_view cx.now))) files.old files.new fault) }
+        × IsOfFailedCallIn F.Files (context_view cx.now) files.old files.new fault) }
     ensures none { OnOk result (NoneFailed F.Files files.old files.new) }
     ensures told { OnOk result (term.new
         ≡ after_notes term.old (notes_in (context_view cx.now))) }

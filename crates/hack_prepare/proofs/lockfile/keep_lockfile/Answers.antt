@@ -1,8 +1,8 @@
-use Rattle.std.proofs.Common.{◌≡◌, ◌∙◌, inr, Some, IfSome, true, ap, subst, sym}
+use Rattle.std.proofs.Common.{◌≡◌, ◌∙◌, inr, refl, Some, IfSome, true, ap, subst, sym}
 use Rattle.hack_files.specs.Restore.{is_kept, registered_files}
 use Rattle.std.specs.Prelude.{IsSome}
 use Rattle.hack_prepare.proofs.FailedLemmas.{calls-on, look-fails, unseen-there}
-use Rattle.hack_prepare.specs.Internal.{Nowhere}
+use Rattle.hack_prepare.specs.Internal.{Nowhere, Only}
 use Rattle.hack_prepare.proofs.OrderLemmas.{next-one}
 use Rattle.hack_prepare.proofs.StepLemmas.{locked, locked_now}
 use Rattle.hack_prepare.proofs.lockfile.keep_lockfile.Goals as goal
@@ -27,7 +27,7 @@ returns-clause-order g c =
 
 pub returns-in-Err-read-clause-calls : goal.returns-in-Err-read-clause-calls
 returns-in-Err-read-clause-calls g c =
-    look-fails g.F.Files Nowhere c.args.path.now c.in-Err-read.fault c.of_file-in-Err-read.result c.args.files.now c.read.new.files c.in-Err-read.ensures.fault c.of_file-in-Err-read.ensures
+    look-fails g.F.Files Nowhere (Only c.args.path.now) Nowhere c.args.path.now c.in-Err-read.fault c.of_file-in-Err-read.result c.args.files.now c.read.new.files refl c.in-Err-read.ensures.fault c.of_file-in-Err-read.ensures
     (unseen-there g.F.Files c.args.path.now c.args.files.now c.exists.new.files c.read.new.files
     (λ t. subst IsSome (sym (c.exists.ensures.same t c.args.path.now)) ((c.in-Ok-true.ensures.there t).0 c.in-Ok-true.field-0-test))
     (record { unseen = c.in-Ok-true.ensures.unseen_path; refused = c.exists.ensures.refused_none }) c.read.ensures.refused_none c.in-Err-read.ensures.unseen)
@@ -37,3 +37,8 @@ returns-clause-calls g c =
     calls-on g.F.Files c.args.files.now c.exists.new.files c.read.new.files
     (record { unseen = c.in-Ok-true.ensures.unseen_path; refused = c.exists.ensures.refused_none })
     (record { unseen = c.in-Ok.ensures.unseen; refused = c.read.ensures.refused_none })
+
+pub returns-in-Err-clause-calls : goal.returns-in-Err-clause-calls
+returns-in-Err-clause-calls g c =
+    look-fails g.F.Files Nowhere (Only c.args.path.now) Nowhere c.args.path.now c.in-Err.fault c.of_file.result c.args.files.now c.exists.new.files refl c.in-Err.ensures.fault c.of_file.ensures
+    (record { unseen = c.in-Err.ensures.unseen_path; refused = c.exists.ensures.refused_none })

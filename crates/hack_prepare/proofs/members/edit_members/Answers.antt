@@ -10,9 +10,9 @@ use Rattle.hack_prepare.specs.Internal.{members_view}
 use Rattle.hack_prepare.specs.declared.wanted.Member.{Member}
 use Rattle.hack_prepare.specs.FailureCounts.{WriteFails}
 use Rattle.hack_prepare.proofs.CountLemmas.{fault_then, write_then}
-use Rattle.hack_prepare.proofs.FailedLemmas.{calls-on, failed-on, no-call}
-use Rattle.hack_prepare.specs.Internal.{Nowhere}
-use Rattle.hack_prepare.proofs.MemberLemmas.{alone-goes, others-fail, partly-fails, turned-fails, visited-alone, visited-fails, visited-goes, visited-left, visited-none}
+use Rattle.hack_prepare.proofs.FailedLemmas.{calls-on, failed-on, fault-wider, no-call}
+use Rattle.hack_prepare.specs.Internal.{IsAlonePath, Nowhere, Only}
+use Rattle.hack_prepare.proofs.MemberLemmas.{alone-goes, alone-path, others-fail, partly-fails, turned-fails, visited-alone, visited-fails, visited-goes, visited-left, visited-none}
 use Rattle.hack_prepare.proofs.members.edit_members.Goals.{then-goes+else-is_root+in_ok-push, else-goes+then-is_alone+in_ok-edit_member, else-goes+else-is_alone}
 use Rattle.hack_prepare.proofs.OrderLemmas.{next-all, next-alone, next-left}
 use Rattle.hack_prepare.proofs.WriteLemmas.{alone-begun, alone-made, dev_none, left-made, so-far-begun}
@@ -83,8 +83,16 @@ returns-in_err-edit_member-clause-counted g c =
 
 pub returns-in_err-edit_member-clause-calls : goal.returns-in_err-edit_member-clause-calls
 returns-in_err-edit_member-clause-calls g c =
+    let xs : List Member = c.args.members.now in
+    let k = c.loop-member.member-index in
+    let d : Member = record { path = record { ref_ptr = (0, 0); now = [] }; text = record { ref_ptr = (0, 0); now = [] }; is_private = false } in
+    let x : Member = get_or xs k d in
+    let w = wanted_view c.args.wanted.now in
+    let among = seen_here member_manifest_view xs k x c.loop-member-test.true (get_or_default xs k d x c.loop-member-test.true) in
     let p = err_from_is_err_and c.from_residual-in_err-edit_member.result c.from_residual-in_err-edit_member.ensures.1 in
-    rw (p.1, p.2) (failed-on g.F.Files Nowhere _ c.args.files.now c.loop-member.files c.edit_member.new.files c.loop-member.invariant.0.2 c.in_err-edit_member.ensures.calls)
+    rw (p.1, p.2) (failed-on g.F.Files Nowhere Nowhere (IsAlonePath w (members_view xs)) _ c.args.files.now c.loop-member.files c.edit_member.new.files c.loop-member.invariant.0.2
+    (fault-wider g.F.Files Nowhere Nowhere Nowhere Nowhere (Only x.path.now) (IsAlonePath w (members_view xs)) _ c.loop-member.files c.edit_member.new.files (λ q h. h) (λ q h. h)
+    (λ q is. alone-path w (members_view xs) (member_manifest_view x) q among (sym c.if-is_alone.ensures) is) c.in_err-edit_member.ensures.calls))
 
 pub returns-in_err-edit_member-clause-stays : goal.returns-in_err-edit_member-clause-stays
 returns-in_err-edit_member-clause-stays g c = g.F.Files.stays_more _ _ _ c.loop-member.invariant.0.0 c.edit_member.ensures.stays

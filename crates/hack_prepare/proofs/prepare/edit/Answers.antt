@@ -6,11 +6,11 @@ use Rattle.hack_base.specs.Names.{names_behind}
 use Rattle.hack_prepare.specs.PreparedView.{wanted_view}
 use Rattle.hack_prepare.specs.Internal.{members_view, ArePartlyTurned}
 use Rattle.hack_prepare.proofs.CountLemmas.{fault_then, none_then, write_then}
-use Rattle.hack_prepare.proofs.FailedLemmas.{absent-wider, calls-on, failed-on, root-calls}
+use Rattle.hack_prepare.proofs.FailedLemmas.{calls-on, failed-on, fault-wider, root-calls}
 use Rattle.hack_prepare.specs.FailedCalls.{IsAbsent}
-use Rattle.hack_prepare.specs.Internal.{Nowhere}
-use Rattle.hack_prepare.specs.Paths.{IsReadRoot}
-use Rattle.hack_prepare.proofs.FaultLemmas.{at-any, at-wider, root-spared, lock-among, members-among, root-among}
+use Rattle.hack_prepare.specs.Internal.{IsAlonePath, Nowhere, Only}
+use Rattle.hack_prepare.specs.Paths.{IsEdited, IsLookedAt, IsReadRoot}
+use Rattle.hack_prepare.proofs.FaultLemmas.{alone-edited, at-any, at-wider, root-spared, lock-among, members-among, root-among}
 use Rattle.hack_prepare.proofs.EditLemmas.{members-step, root-step, lock-step}
 use Rattle.hack_prepare.proofs.RootLemmas.{partly-all, partly-members, partly-root, prepared, unedited, unedited-apart}
 use Rattle.std.proofs.Common.{inl, inr}
@@ -48,8 +48,10 @@ returns-in_err-edit_root-clause-counted g c =
 pub returns-in_err-gone-clause-calls : goal.returns-in_err-gone-clause-calls
 returns-in_err-gone-clause-calls g c =
     let p = err_from_is_err_and c.from_residual.result c.from_residual.ensures.1 in
-    let absent = IsAbsent g.F.Files.tells (g.F.Files.bytes_at c.args.files.now) (IsReadRoot (wanted_view c.args.wanted.now) (members_view c.args.members.now)) in
-    rw (p.1, p.2) (absent-wider g.F.Files Nowhere absent _ c.args.files.now c.edit_members.new.files (λ q h. absurd h) c.in_err-gone.ensures.calls)
+    let w = wanted_view c.args.wanted.now in
+    let ms = members_view c.args.members.now in
+    rw (p.1, p.2) (fault-wider g.F.Files Nowhere (IsAbsent g.F.Files.tells (g.F.Files.bytes_at c.args.files.now) (IsReadRoot w ms)) Nowhere (IsLookedAt w ms) (IsAlonePath w ms) (IsEdited w ms) _ c.args.files.now c.edit_members.new.files
+    (λ q h. absurd h) (λ q h. absurd h) (alone-edited w ms) c.in_err-gone.ensures.calls)
 
 pub returns-in_err-edit_root-clause-calls : goal.returns-in_err-edit_root-clause-calls
 returns-in_err-edit_root-clause-calls g c =
@@ -60,10 +62,12 @@ returns-in_err-edit_root-clause-calls g c =
 pub returns-in_err-keep_lockfile-clause-calls : goal.returns-in_err-keep_lockfile-clause-calls
 returns-in_err-keep_lockfile-clause-calls g c =
     let p = err_from_is_err_and c.from_residual-in_err-keep_lockfile.result c.from_residual-in_err-keep_lockfile.ensures.1 in
-    let absent = IsAbsent g.F.Files.tells (g.F.Files.bytes_at c.args.files.now) (IsReadRoot (wanted_view c.args.wanted.now) (members_view c.args.members.now)) in
-    rw (p.1, p.2) (failed-on g.F.Files absent _ c.args.files.now c.edit_root.new.files c.keep_lockfile.new.files
+    let w = wanted_view c.args.wanted.now in
+    let ms = members_view c.args.members.now in
+    let absent = IsAbsent g.F.Files.tells (g.F.Files.bytes_at c.args.files.now) (IsReadRoot w ms) in
+    rw (p.1, p.2) (failed-on g.F.Files absent (IsLookedAt w ms) (IsEdited w ms) _ c.args.files.now c.edit_root.new.files c.keep_lockfile.new.files
     (calls-on g.F.Files c.args.files.now c.edit_members.new.files c.edit_root.new.files c.in_ok-gone.ensures.calls c.in_ok-edit_root.ensures.calls)
-    (absent-wider g.F.Files Nowhere absent _ c.edit_root.new.files c.keep_lockfile.new.files (λ q h. absurd h) c.in_err-keep_lockfile.ensures.calls))
+    (fault-wider g.F.Files Nowhere absent (Only w.lockfile) (IsLookedAt w ms) Nowhere (IsEdited w ms) _ c.edit_root.new.files c.keep_lockfile.new.files (λ q h. absurd h) (λ q h. inr h) (λ q h. absurd h) c.in_err-keep_lockfile.ensures.calls))
 
 pub returns-clause-calls : goal.returns-clause-calls
 returns-clause-calls g c =

@@ -6,7 +6,8 @@ use Rattle.hack_load.specs.ContextView.{context_view}
 use Rattle.hack_base.specs.Notes.{note_of}
 use Rattle.hack_prepare.specs.Faults.{AtWrite, IsEditsFault}
 use Rattle.hack_prepare.specs.FailedCalls.{FailsOnlySo, IsAbsent}
-use Rattle.hack_prepare.specs.Paths.{IsReadRoot, IsTouched}
+use Rattle.hack_prepare.specs.Paths.{IsEdited, IsLookedAt, IsReadRoot, IsTouched}
+use Rattle.hack_prepare.proofs.FailedLemmas.{asked-calls}
 use Rattle.hack_prepare.specs.Prepared.{HoldTexts, IsPartlyPrepared, KeepsUnedited, MemberManifest, Wanted, edits}
 use Rattle.hack_prepare.specs.PreparedView.{member_manifest_view, member_manifests_in, wanted_in}
 use Rattle.hack_prepare.specs.Internal.{members_view, IsStep}
@@ -113,8 +114,10 @@ returns-clause-calls g c =
     let is = wanted-is cx c.args-args.result.now c.drops_dev-drops_dev.result c.workspace_root-folder.result.now c.as_str.result.now c.as_str-2.result.now c.args-args.ensures c.drops_dev-drops_dev.ensures
     c.workspace_root-folder.ensures (c.as_str.ensures.value ∙ c.in_ok-root.ensures) (c.as_str-2.ensures.value ∙ c.in_ok-lockfile.ensures) in
     let old = g.F.Files.bytes_at c.args.files.now in
-    subst (λ (l : List MemberManifest). FailsOnlySo g.F.Files (IsAbsent g.F.Files.tells old (IsReadRoot (wanted_in cx) l)) c.args.files.now c.edit.new.files c.edit.result) are
-    (subst (λ (w : Wanted). FailsOnlySo g.F.Files (IsAbsent g.F.Files.tells old (IsReadRoot w (members_view c.as_slice.result.now))) c.args.files.now c.edit.new.files c.edit.result) is c.edit.ensures.calls)
+    let asked : edits (wanted_in cx) ≡ true = ap (λ (w : Wanted). w.drops_dev || w.no_private) (sym is) ∙ sym c.if-not-is_asked.ensures in
+    let calls : Wanted → List MemberManifest → Type 0 = λ w l. FailsOnlySo g.F.Files (IsAbsent g.F.Files.tells old (IsReadRoot w l)) (IsLookedAt w l) (IsEdited w l) c.args.files.now c.edit.new.files c.edit.result in
+    asked-calls g.F.Files cx c.edit.result c.args.files.now c.edit.new.files asked
+    (subst (λ (l : List MemberManifest). calls (wanted_in cx) l) are (subst (λ (w : Wanted). calls w (members_view c.as_slice.result.now)) is c.edit.ensures.calls))
 
 pub returns-clause-traced : goal.returns-clause-traced
 returns-clause-traced g c =

@@ -4,7 +4,8 @@ use Rattle.hack_base.specs.Names.{names_behind}
 use Rattle.hack_manifest.specs.LineRuns.{has_some}
 use Rattle.hack_prepare.specs.PreparedView.{wanted_view}
 use Rattle.hack_prepare.proofs.RootLemmas.{keeps-but}
-use Rattle.hack_prepare.specs.Internal.{KeepsNext, one_if}
+use Rattle.hack_prepare.specs.Internal.{KeepsNext, Nowhere, Only, OnlyIf, one_if}
+use Rattle.hack_prepare.proofs.FailedLemmas.{result-wider}
 use Rattle.hack_prepare.proofs.OrderLemmas.{next-unasked}
 use Rattle.hack_prepare.proofs.WriteLemmas.{root-made, root-or-none}
 use Rattle.hack_prepare.proofs.root.edit_held.Goals as goal
@@ -31,3 +32,9 @@ returns-clause-order g c =
 pub returns-then-not-is_asked-clause-order : goal.returns-then-not-is_asked-clause-order
 returns-then-not-is_asked-clause-order g c =
     next-unasked (c.args.held.now.drops_dev || has_some (names_behind c.args.held.now.gone.now)) c.args.wanted.now.root.now c.args.manager.now (sym c.if-not-is_asked.ensures)
+
+pub returns-clause-calls : goal.returns-clause-calls
+returns-clause-calls g c =
+    let root = c.args.wanted.now.root.now in
+    result-wider g.F.Files Nowhere Nowhere Nowhere Nowhere (Only root) (OnlyIf (c.args.held.now.drops_dev || has_some (names_behind c.args.held.now.gone.now)) root) c.replace.result c.args.files.now c.replace.new.files
+    (λ p h. h) (λ p h. h) (λ p h. (sym c.if-not-is_asked.ensures, h)) c.replace.ensures.calls

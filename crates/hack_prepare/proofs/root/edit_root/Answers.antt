@@ -12,10 +12,7 @@ use Rattle.hack_prepare.proofs.OrderLemmas.{next-unasked}
 use Rattle.hack_prepare.proofs.RootLemmas.{drops-found, drops-missed, edited-found, edited-missed, edits-is, notes-are, partly-found, partly-missed, root-found, root-held, root-missed}
 use Rattle.hack_prepare.proofs.StepLemmas.{step_given}
 use Rattle.hack_prepare.proofs.WriteLemmas.{found-refused, found-traced, missed-refused, missed-traced, unwanted}
-use Rattle.hack_prepare.proofs.FailedLemmas.{missed-calls, result-wider}
-use Rattle.hack_prepare.specs.FailedCalls.{IsAbsent}
-use Rattle.hack_prepare.specs.Internal.{Nowhere}
-use Rattle.hack_prepare.specs.Paths.{IsReadRoot}
+use Rattle.hack_prepare.proofs.FailedLemmas.{found-calls, missed-calls}
 use Rattle.hack_prepare.proofs.root.edit_root.Goals as goal
 
 pub returns-in-Some-clause-step : goal.returns-in-Some-clause-step
@@ -89,8 +86,8 @@ returns-in-None-clause-err g c =
 
 pub returns-in-Some-clause-calls : goal.returns-in-Some-clause-calls
 returns-in-Some-clause-calls g c =
-    result-wider g.F.Files Nowhere (IsAbsent g.F.Files.tells (g.F.Files.bytes_at c.args.files.now) (IsReadRoot (wanted_view c.args.wanted.now) (members_view c.args.members.now.all.now)))
-    c.edit_held.result c.args.files.now c.edit_held.new.files (λ p h. absurd h) c.edit_held.ensures.calls
+    found-calls g.F.Files (wanted_view c.args.wanted.now) (members_view c.args.members.now.all.now) (names_behind c.args.members.now.gone.now) c.in-Some.text.now (g.F.Files.bytes_at c.args.files.now)
+    c.edit_held.result c.args.files.now c.edit_held.new.files c.in-Some.ensures c.if-not-wanted.false c.requires c.edit_held.ensures.calls
 
 pub returns-in-None-clause-calls : goal.returns-in-None-clause-calls
 returns-in-None-clause-calls g c =

@@ -3,12 +3,13 @@ use Rattle.std.proofs.lemmas.Result.{on_ok_weaker}
 use Rattle.hack_base.specs.Names.{names_behind}
 use Rattle.hack_files.specs.TraceLaws.{makes_none}
 use Rattle.hack_prepare.specs.FailureCounts.{WriteFails}
-use Rattle.hack_prepare.specs.Internal.{IsHeldFault, OnlyIf}
+use Rattle.hack_prepare.specs.FailedCalls.{IsAbsent}
+use Rattle.hack_prepare.specs.Internal.{IsHeldFault, Nowhere, OnlyIf}
 use Rattle.hack_manifest.specs.LineRuns.{has_some}
 use Rattle.hack_prepare.specs.PreparedView.{wanted_view}
 use Rattle.hack_prepare.proofs.CountLemmas.{calls_then, write_then}
 use Rattle.hack_prepare.proofs.FaultLemmas.{text-fault, virtual-fault}
-use Rattle.hack_prepare.proofs.FailedLemmas.{text-fails}
+use Rattle.hack_prepare.proofs.FailedLemmas.{result-on, result-wider, text-fails}
 use Rattle.hack_prepare.proofs.RootLemmas.{edited-read, none-left, partly-read, some-left}
 use Rattle.hack_prepare.proofs.StepLemmas.{step_read}
 use Rattle.hack_prepare.proofs.WriteLemmas.{if-unasked, virtual-begun, virtual-made}
@@ -75,8 +76,16 @@ returns-in-Ok-clause-stays g c = g.F.Files.stays_more _ _ _ c.read_to_string.ens
 pub returns-in-Err-clause-calls : goal.returns-in-Err-clause-calls
 returns-in-Err-clause-calls g c =
     let root = c.args.wanted.now.root.now in
-    text-fails g.F.Files (OnlyIf (has_some (names_behind c.args.private.now)) root) root c.in-Err.fault c.of_file.result (g.F.Files.failed c.args.files.now) (g.F.Files.failed c.read_to_string.new.files) c.args.files.now c.read_to_string.new.files
+    text-fails g.F.Files (OnlyIf (has_some (names_behind c.args.private.now)) root) (OnlyIf (has_some (names_behind c.args.private.now)) root) root c.in-Err.fault c.of_file.result (g.F.Files.failed c.args.files.now) (g.F.Files.failed c.read_to_string.new.files) c.args.files.now c.read_to_string.new.files
     (some-left c.args.private.now c.if-is_empty.ensures, refl) c.in-Err.ensures.fault c.of_file.ensures c.read_to_string.ensures.refused_none c.in-Err.ensures.unseen
 
 pub returns-then-is_empty-clause-traced : goal.returns-then-is_empty-clause-traced
 returns-then-is_empty-clause-traced g c = λ whole. ([], if-unasked (has_some (names_behind c.args.private.now)) _ (none-left c.args.private.now c.if-is_empty.ensures), makes_none _ _)
+
+pub returns-in-Ok-clause-calls : goal.returns-in-Ok-clause-calls
+returns-in-Ok-clause-calls g c =
+    let at = OnlyIf (has_some (names_behind c.args.private.now)) c.args.wanted.now.root.now in
+    let absent = IsAbsent g.F.Files.tells (g.F.Files.bytes_at c.args.files.now) at in
+    result-on g.F.Files absent at at c.edit_held.result c.args.files.now c.read_to_string.new.files c.edit_held.new.files
+    (record { unseen = c.in-Ok.ensures.unseen; refused = c.read_to_string.ensures.refused_none })
+    (result-wider g.F.Files Nowhere absent Nowhere at at at c.edit_held.result c.read_to_string.new.files c.edit_held.new.files (λ p h. absurd h) (λ p h. absurd h) (λ p h. h) c.edit_held.ensures.calls)
