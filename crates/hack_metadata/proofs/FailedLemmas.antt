@@ -12,11 +12,11 @@ use Rattle.hack_process.specs.Calls.{Call}
 use Rattle.hack_process.specs.CommandTexts.{Command}
 use Rattle.hack_process.specs.Commands.{plain_command}
 use Rattle.hack_process.specs.declared.fault.ProcessFault.{ProcessFault}
-use Rattle.hack_metadata.specs.FailedQuestions.{EndsQuestion, FailsFirstLook, FailsOnlyAt, IsOfLook, IsOfCallAt, IsPutBack, WroteTo}
+use Rattle.hack_metadata.specs.FailedQuestions.{EndsQuestion, FailsFirstLook, FailsOnlyAt, IsOfLook, IsOfCallAt, IsPutBack}
 use Rattle.hack_metadata.specs.FileFaults.{IsUnread, IsUnwritten}
 use Rattle.hack_metadata.specs.Internal.{IsFileFault, IsNoFileFault}
 use Rattle.hack_metadata.specs.InternalQuestionCalls.{AsksCargo, FailsAs, FailsFirst, FallsBack, UsesAnswer}
-use Rattle.hack_metadata.specs.QuestionCalls.{EndsSo, FailsToRead, IsLockfile, LeadsToStage, PutsBack, StopsQuestion, answers, asks_again, first, first_counts, locked, missing, newer, taken, tells_older, to_cargo}
+use Rattle.hack_metadata.specs.QuestionCalls.{FailsToRead, IsLockfile, LeadsToStage, PutsBack, StopsQuestion, answers, asks_again, first, first_counts, locked, missing, newer, taken, tells_older, to_cargo}
 use Rattle.hack_metadata.specs.Requests.{Question, by_stable, first_command}
 use Rattle.hack_metadata.specs.declared.metadata.Metadata.{Metadata}
 use Rattle.hack_metadata.specs.declared.ask.fault.AskFault.{AskFault}
@@ -128,11 +128,6 @@ module _ {F : Type 0} (f : Filing F) where
   none-first text a b (fault.Files e) spares h = absurd spares
   none-first text a b (fault.Output shown) spares h = h
   none-first text a b (fault.Field name) spares h = h
-
-  -- the calls and writes of a question that ended
-  pub ends-so : (q : Question) (a b : F) (start new : List Call) (r : Result Metadata AskFault) → EndsQuestion f a b q start new r → EndsSo f.tells q (f.bytes_at a) start new (WroteTo f a b) r
-  ends-so q a b start new (Ok m) h = h.0
-  ends-so q a b start new (Err e) h = (h.0, h.1, h.2, h.3, h.4, h.5)
 
   module _ (q : Question) (a b : F) (start new : List Call) (none : NoneFailed f a b) where
     -- the first request to cargo failed
