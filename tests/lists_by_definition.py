@@ -799,8 +799,9 @@ def told_of_suspects(plan, ranks, failing, scope):
             told += [f"info:     and {len(lines) - 20} more"] if len(lines) > 20 else []
         if missed:
             runs, features = f"failed run{ending(missed)} {have(missed)}", f"feature{ending(strength)}"
-            lacking = f"no pattern of at most {strength} {features} that no passed run has"
-            told.append(f"info: {missed} {runs} {lacking}; try --strength {strength + 1}")
+            lacking = f"no pattern of at most {strength} {features} that no passed run has; try --strength {strength + 1}"
+            is_most = strength >= len(plan.choices[own].candidates)
+            told.append(f"info: {missed} {runs} {'the same features on as a passed run' if is_most else lacking}")
     return told
 
 

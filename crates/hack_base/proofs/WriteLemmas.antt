@@ -1,5 +1,5 @@
 -- A prefix of a text that a writer took, and what is written after it.
-use Rattle.std.proofs.Common.{◌≡◌, inl, inr, ℕ, ◌-◌, List, ◌++◌, ◌<◌, Bool, true, false, ◌&&◌, lt-ltb, length, take, drop, Option, Some, None, Result, Ok, Err, IsErrAnd, ap, sym, subst, ◌∙◌, append_assoc, take-append-drop, arith}
+use Rattle.std.proofs.Common.{◌≡◌, ℕ, ◌-◌, List, ◌++◌, ◌<◌, Bool, true, false, ◌&&◌, lt-ltb, length, take, drop, Option, Some, None, Result, Ok, Err, IsErrAnd, ap, sym, subst, ◌∙◌, append_assoc, take-append-drop, arith}
 use Rattle.std.specs.Prelude.{if◌then◌else◌}
 use Rattle.std.proofs.lemmas.List.{take_rest}
 use Rattle.std.specs.Io.KnownBytes.{Appends, Keeps}

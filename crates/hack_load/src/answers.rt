@@ -13,7 +13,7 @@ ghost use Rattle.hack_load.specs.Internal.{ReadsOnly};
 ghost use Rattle.hack_metadata.specs.FilesAfterAsking.{Whole};
 ghost use Rattle.hack_metadata.specs.MetadataView.{metadata_view};
 ghost use Rattle.hack_metadata.specs.Requests.{question};
-ghost use Rattle.hack_metadata.specs.QuestionCalls.{WroteWhereKnown};
+ghost use Rattle.hack_metadata.specs.FailedQuestions.{WroteTo};
 
 use crate::cargo_version::{CargoVersion, minor_of};
 use crate::fault::ContextFault;
@@ -62,8 +62,7 @@ impl Answers {
         ensures kept { registered_files manager.new ≡ registered_files manager.old }
         ensures needs { manager.new.needs_restore ≡ manager.old.needs_restore }
         ensures read { IfOk result.loaded (IsLoaded F.tells (F.bytes_at files.new) env.now) }
-        ensures asked { C.tells → AreAnswers F.tells (WroteWhereKnown F.whole F.tells
-            (F.trace files.old) (F.trace files.new) (F.bytes_at files.old) (F.bytes_at files.new))
+        ensures asked { C.tells → AreAnswers F.tells (WroteTo F.Files files.old files.new)
             args.now env.now (F.bytes_at files.old) (F.failed files.old) (F.failed files.new)
             (C.calls caller.old) (C.calls caller.new) result }
         ensures course { C.course caller.old caller.new }
@@ -132,8 +131,7 @@ impl<'a, 'h> Asker<'a, 'h> {
         ensures read { IfOk result (IsLoaded F.tells (F.bytes_at files.new) self.now.env.now) }
         ensures asked { C.tells → LoadsTo F.tells self.now.args.now self.now.env.now
             (F.bytes_at files.old) (F.failed files.old) (F.failed files.new)
-            (WroteWhereKnown F.whole F.tells
-            (F.trace files.old) (F.trace files.new) (F.bytes_at files.old) (F.bytes_at files.new))
+            (WroteTo F.Files files.old files.new)
             self.now.minor (option_copied self.now.host) (C.calls caller.old) (C.calls caller.new)
             result }
         ensures course { C.course caller.old caller.new }

@@ -52,5 +52,4 @@ IsOfFailedCallIn f cx old new = IsOfFailedCall f (IsAbsent f.tells (f.bytes_at o
 
 -- no call failed, or the error is that of the one that did, at such a path
 abbrev pub FailsOnlySoIn : {F T : Type 0} → Filing F → ContextRecord → F → F → Result T PrepareFault → Type 0
-FailsOnlySoIn f cx old new (Ok _) = NoneFailed f old new
-FailsOnlySoIn f cx old new (Err e) = IsOfFailedCallIn f cx old new e
+FailsOnlySoIn f cx old new = FailsOnlySo f (IsAbsent f.tells (f.bytes_at old) (IsReadRootIn cx)) (IsLookedAtIn cx) (IsEditedIn cx) old new

@@ -7,14 +7,14 @@ use Rattle.std.proofs.lemmas.List.Folds.{flat_map-map}
 use Rattle.hack_base.specs.Notes.{Note}
 use Rattle.hack_plan.specs.View.{PlanView}
 use Rattle.hack_session.specs.declared.suspects.Explained.{Explained}
-use Rattle.hack_session.specs.Suspects.{explained_view}
+use Rattle.hack_session.specs.Suspects.{ExplainedView, candidate_count, explained_view}
 use Rattle.std.proofs.Common.{false, ◌||◌, Vec}
 use Rattle.hack_samples.specs.Sets.{rows_of}
-use Rattle.std.specs.Prelude.{nat_eq, nat_lt, Option}
+use Rattle.std.specs.Prelude.{Err, Ok, OnOk, Option, Result, Some, nat_eq, nat_lt, slice_get}
 use Rattle.hack_partition.specs.declared.partition.Partition.{Partition}
 use Rattle.std.specs.Fmt.{decimal}
 use Rattle.hack_samples.specs.declared.sets.Setting.{Setting}
-use Rattle.hack_session.specs.SuspectNotes.{has_setting, suspect_notes_on, who_text}
+use Rattle.hack_session.specs.SuspectNotes.{has_setting, headed_lines, missed_lines, notes_of, suspect_notes_on, who_text}
 
 pub join-texts : (sep : List ℕ) (xs : List (String Global)) → join_by string_bytes sep xs ≡ join_by (λ text. text) sep (map string_bytes xs)
 join-texts sep [] = refl
@@ -23,6 +23,14 @@ join-texts sep (x ∷ xs) = ap (λ l. string_bytes x ++ l) (sym (flat_map-map (�
 -- notes that are added in two steps
 pub adds-then : {X : Type 0} (old mid new xs ys : List X) → mid ≡ old ++ xs → new ≡ mid ++ ys → new ≡ old ++ (xs ++ ys)
 adds-then old mid new xs ys p q = q ∙ ap (λ l. l ++ ys) p ∙ append_assoc old xs ys
+
+-- the notes on found suspects, and then on the runs that show none
+pub notes-some : {E : Type 0} (plan : PlanView) (piece : Option Partition) (e : ExplainedView) (found : List (List Setting)) (n : ℕ) (old mid new : List Note) (r : Result (Unit {0}) E) → e.suspects ≡ Some found → n ≡ candidate_count (slice_get plan.packages e.part.package)
+    → mid ≡ old ++ headed_lines plan piece e found → OnOk r (new ≡ mid ++ missed_lines n e) → OnOk r (new ≡ old ++ suspect_notes_on plan piece e)
+notes-some plan piece e found n old mid new (Err x) is count first then = tt
+notes-some plan piece e found n old mid new (Ok v) is count first then =
+    adds-then old mid new (headed_lines plan piece e found) (missed_lines n e) first then
+    ∙ ap (λ k. old ++ (headed_lines plan piece e found ++ missed_lines k e)) count ∙ ap (λ s. old ++ notes_of plan piece e s) (sym is)
 
 -- the notes on one more part
 pub notes-more : (plan : PlanView) (piece : Option Partition) (xs : List Explained) (i : ℕ) (x : Explained) (old new : List Note) → i < length xs → x ≡ get_or xs i x → new ≡ old ++ suspect_notes_on plan piece (explained_view x) → old ≡ flat_map (suspect_notes_on plan piece) (map explained_view (take i xs))

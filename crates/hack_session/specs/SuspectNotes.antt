@@ -10,7 +10,7 @@ use Rattle.hack_plan.specs.Commands.{name_in, slot_target}
 use Rattle.hack_partition.specs.declared.partition.Partition.{Partition}
 use Rattle.hack_samples.specs.declared.sets.Setting.{Setting}
 use Rattle.hack_session.specs.declared.suspects.Part.{Part}
-use Rattle.hack_session.specs.Suspects.{ExplainedView}
+use Rattle.hack_session.specs.Suspects.{ExplainedView, candidate_count}
 
 -- the names of each candidate of a package
 abbrev pub package_candidates : Option PackageView → List (List (List ℕ))
@@ -59,9 +59,11 @@ heading_text plan piece e = place_text plan e.part ++ (codes " " ++ (who_text e.
 abbrev pub missed_text : ℕ → List ℕ
 missed_text n = decimal n ++ (codes " failed run" ++ (ending n ++ (codes " " ++ have_text n)))
 
--- what these lack, and with which strength to look for it
-abbrev pub lacking_text : ℕ → List ℕ
-lacking_text strength = codes " no pattern of at most " ++ (decimal strength ++ (codes " feature" ++ (ending strength ++ (codes " that no passed run has; try --strength " ++ decimal (strength + 1)))))
+-- what these have: no such pattern, and with which strength to look for one; or, where a pattern may
+-- have each of so many candidates, what a passed run has
+abbrev pub lacking_text : ℕ → ℕ → List ℕ
+lacking_text candidates strength =
+    if nat_lt strength candidates then codes " no pattern of at most " ++ (decimal strength ++ (codes " feature" ++ (ending strength ++ (codes " that no passed run has; try --strength " ++ decimal (strength + 1))))) else codes " the same features on as a passed run"
 
 -- the line on a part with too many patterns to look at
 abbrev pub too_many_text : PlanView → Part → List ℕ
@@ -103,13 +105,13 @@ abbrev pub headed_lines : PlanView → Option Partition → ExplainedView → Li
 headed_lines plan piece e found = if list_any has_setting found then info_note (heading_text plan piece e) ∷ suspect_lines (package_candidates (slice_get plan.packages e.part.package)) found else []
 
 -- the line on the failed runs that show no suspect, where there are some
-abbrev pub missed_lines : ExplainedView → List Note
-missed_lines e = if nat_lt e.showing e.failed then info_note (missed_text (e.failed - e.showing) ++ lacking_text e.strength) ∷ [] else []
+abbrev pub missed_lines : ℕ → ExplainedView → List Note
+missed_lines candidates e = if nat_lt e.showing e.failed then info_note (missed_text (e.failed - e.showing) ++ lacking_text candidates e.strength) ∷ [] else []
 
 -- the notices on a part's suspects
 abbrev pub notes_of : PlanView → Option Partition → ExplainedView → Option (List (List Setting)) → List Note
 notes_of plan piece e None = info_note (too_many_text plan e.part) ∷ []
-notes_of plan piece e (Some found) = headed_lines plan piece e found ++ missed_lines e
+notes_of plan piece e (Some found) = headed_lines plan piece e found ++ missed_lines (candidate_count (slice_get plan.packages e.part.package)) e
 
 -- the notices on a part that is explained, where just these runs of the plan are told
 abbrev pub suspect_notes_on : PlanView → Option Partition → ExplainedView → List Note

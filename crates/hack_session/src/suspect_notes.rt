@@ -20,7 +20,7 @@ ghost use Rattle.hack_session.specs.SuspectNotes.{setting_text};
 ghost use Rattle.hack_session.specs.SuspectNotes.{state_text, suspect_notes_on, suspect_text};
 ghost use Rattle.hack_session.specs.SuspectNotes.{too_many_text, version_words, who_text};
 
-use crate::suspects::{Explained, Part};
+use crate::suspects::{Explained, Part, count_candidates};
 use hack_base::notice::{Notice, NoticeKind};
 use hack_features::Feature;
 use hack_partition::partition::Partition;
@@ -66,7 +66,8 @@ fn add_notes(
     match &one.suspects {
         Some(found) => {
             add_found(alloc, plan, piece, one, found.as_slice(), notices)?;
-            add_missed(alloc, one, notices)
+            let candidates = count_candidates(plan, one.part.package);
+            add_missed(alloc, candidates, one, notices)
         }
         None => add_info(notices, too_many_text(alloc, plan, one.part)?),
     }
@@ -93,17 +94,24 @@ fn add_found(
     add_more(alloc, found.len(), notices)
 }
 
-/// Adds the line on the failed runs that show no suspect, where there are some.
-fn add_missed(alloc: Global, one: &Explained, notices: &mut Vec<Notice>) -> Result<(), AllocError>
+/// Adds the line on the failed runs that show no suspect, where there are some. Their package has so
+/// many candidates.
+fn add_missed(
+    alloc: Global,
+    candidates: usize,
+    one: &Explained,
+    notices: &mut Vec<Notice>,
+) -> Result<(), AllocError>
     ensures { OnOk result (AddsNotes notices.old notices.new
-        (missed_lines (explained_view one.now))) }
+        (missed_lines candidates (explained_view one.now))) }
 {
     if one.showing >= one.failed {
         return Ok(());
     }
+    let missed = one.failed - one.showing;
     add_info(
         notices,
-        missed_line(alloc, one.failed - one.showing, one.strength)?,
+        missed_line(alloc, missed, candidates, one.strength)?,
     )
 }
 
@@ -226,12 +234,17 @@ fn ending(count: usize) -> &'static str
 }
 
 /// The line on the failed runs that show no suspect.
-fn missed_line(alloc: Global, missed: usize, strength: usize) -> Result<String, AllocError>
+fn missed_line(
+    alloc: Global,
+    missed: usize,
+    candidates: usize,
+    strength: usize,
+) -> Result<String, AllocError>
     ensures { IfOk result (λ text. string_bytes text
-        ≡ missed_text missed ++ lacking_text strength) }
+        ≡ missed_text missed ++ lacking_text candidates strength) }
 {
     let runs = missed_text(alloc, missed)?;
-    let lacking = lacking_text(alloc, strength)?;
+    let lacking = lacking_text(alloc, candidates, strength)?;
     format!(in alloc; "{runs}{lacking}")
 }
 
@@ -244,10 +257,15 @@ fn missed_text(alloc: Global, missed: usize) -> Result<String, AllocError>
     format!(in alloc; "{missed} failed run{runs} {have}")
 }
 
-/// What these lack, and with which strength to look for it.
-fn lacking_text(alloc: Global, strength: usize) -> Result<String, AllocError>
-    ensures { IfOk result (λ text. string_bytes text ≡ lacking_text strength) }
+/// What these have: no such pattern, and with which strength to look for one. A pattern that may have
+/// each candidate tells any two runs apart: then a passed run has the same candidates on, and no
+/// strength helps.
+fn lacking_text(alloc: Global, candidates: usize, strength: usize) -> Result<String, AllocError>
+    ensures { IfOk result (λ text. string_bytes text ≡ lacking_text candidates strength) }
 {
+    if strength >= candidates {
+        return String::from_str(alloc, " the same features on as a passed run");
+    }
     let features = ending(strength);
     let next = strength as u128 + 1;
     let words = "that no passed run has; try --strength";

@@ -141,7 +141,7 @@ fn explain(
         (explained_view e)) }
 {
     let outcomes = outcomes(alloc, session, part)?;
-    let candidates = candidates_in(session.plan(), part.package);
+    let candidates = count_candidates(session.plan(), part.package);
     let suspects = look(alloc, outcomes.as_slice(), candidates, strength)?;
     Ok(counted(part, strength, outcomes.as_slice(), suspects))
 }
@@ -316,7 +316,7 @@ fn row_at(rows: &[Vec<bool>], place: usize) -> &[bool]
 }
 
 /// How many candidates a package has.
-fn candidates_in(plan: &Plan, place: usize) -> usize
+pub(crate) fn count_candidates(plan: &Plan, place: usize) -> usize
     ensures { result ≡ candidate_count (slice_get plan.now.packages place) }
 {
     plan.packages()

@@ -166,6 +166,25 @@ fn what_failed_runs_have_in_common(rt: HostRuntime) -> Result<(), Wrong> {
             | info: 1 failed run has no pattern of at most 1 feature that no passed run has; try --strength 2
             | status 1
 
+            # No strength tells runs apart that have the same features of their sets on.
+            > err: hack check --feature-powerset --strength 1 --keep-going; features a; optional d; fails 101 cargo check --manifest-path Cargo.toml --all-features
+            | err
+            | info: running `cargo check --all-features` on p (1/3)
+            | error: process didn't exit successfully: `cargo check --manifest-path Cargo.toml --all-features` (exit status: 101)
+            |
+            | info: running `cargo check --no-default-features` on p (2/3)
+            |
+            | info: running `cargo check --no-default-features --features a` on p (3/3)
+            |
+            | error: failed to run 1 commands
+            |
+            | failed commands:
+            |     p:
+            |         `cargo check --manifest-path Cargo.toml --all-features`
+            |
+            | info: 1 failed run has the same features on as a passed run
+            | status 1
+
             > hack check --feature-powerset --strength 2 --keep-going --exclude-no-default-features; features a; fails 101 cargo check --manifest-path Cargo.toml --no-default-features --features a
             | asked
             | cargo check --manifest-path Cargo.toml --no-default-features --features a
