@@ -4,6 +4,7 @@ use Rattle.std.specs.Bool.{MatchBool}
 use Rattle.std.specs.List.{AllZip}
 use Rattle.std.specs.Option.{option_map_or}
 use Rattle.hack_sets.specs.Sets.{IsListing, IsSelection, singles}
+use Rattle.hack_base.specs.Names.{Name}
 use Rattle.hack_features.specs.Rules.{Choice, IsListed, IsWanted, Covers}
 use Rattle.hack_features.specs.Samples.{IsSample, CoversPatterns, IsLean}
 use Rattle.hack_features.specs.Settings.{AreSettings, AreSettingsOfAll}
@@ -17,15 +18,19 @@ use Rattle.hack_plan.specs.Runs.{PackageRun, Plain, AllFeatures, Set, is_plain, 
 use Rattle.hack_planner.specs.Candidates.{candidates}
 use Rattle.hack_planner.specs.PackageRules.{PackageRulesRecord}
 
--- what the sets of a package are chosen from
-abbrev pub package_choice : PackageRulesRecord → PackageRecord → Features → Choice
-package_choice r p f = record {
+-- sets of these candidates of a package are chosen so
+abbrev pub choice_among : PackageRulesRecord → PackageRecord → List (List Name) → Choice
+choice_among r p names = record {
   map = p.features;
-  candidates = candidates r f;
+  candidates = names;
   depth = r.depth;
   at_least_one_of = r.at_least_one_of;
   exclusive = r.exclusive;
 }
+
+-- what the sets of a package are chosen from
+abbrev pub package_choice : PackageRulesRecord → PackageRecord → Features → Choice
+package_choice r p f = choice_among r p (candidates r f)
 
 -- the options that decide, together with its sets, which runs a package has
 abbrev pub options_of : PackageRulesRecord → Features → RunOptions

@@ -10,7 +10,6 @@ ghost use Rattle.hack_sets.specs.Forest.{sets_in};
 ghost use Rattle.hack_features.specs.Rules.{Choice, AreCovers};
 ghost use Rattle.hack_features.specs.Samples.{IsSample, CoversPatterns, IsLean};
 ghost use Rattle.hack_features.specs.View.{choice_of as rules_choice, size_of, questions_asked};
-ghost use Rattle.hack_load.specs.declared.features.Features.{Features as Loaded};
 ghost use Rattle.hack_metadata.specs.RecordViews.{package_view};
 ghost use Rattle.hack_plan.specs.Inputs.{AreVersionsOf};
 ghost use Rattle.hack_plan.specs.Runs.{run_of};
@@ -21,7 +20,7 @@ ghost use Rattle.hack_planner.specs.Internal.{IsGivenUp, IsRefused};
 ghost use Rattle.hack_planner.specs.InternalKinds.{AreMade, IsMadeOf};
 ghost use Rattle.hack_planner.specs.InternalLeastPlaces.{HasRunsAtLeast, IsOver};
 ghost use Rattle.hack_planner.specs.Kinds.{AreRunSettings, AreSetsBy, IsRowOf, options_of};
-ghost use Rattle.hack_planner.specs.Kinds.{package_choice};
+ghost use Rattle.hack_planner.specs.Kinds.{choice_among, package_choice};
 ghost use Rattle.hack_planner.specs.KindsView.{IsRunsFault};
 ghost use Rattle.hack_planner.specs.PackageRules.{rules_in};
 
@@ -90,17 +89,15 @@ pub fn all_of<'a>(alloc: Global, features: &'a [Feature]) -> Result<Vec<&'a Feat
     Ok(all)
 }
 
-/// The rules of the package; `all` has references to all its candidates.
+/// The rules by which sets of these candidates of the package are chosen.
 pub fn rules_of<'a>(
     alloc: Global,
     asked: &'a PackageRules,
     pkg: &'a Package,
     all: &'a [&'a Feature],
 ) -> Result<Rules<'a>, AllocError>
-    ensures choice { (features : Loaded)
-        → candidates_of all.now ≡ are_candidates (rules_in asked.now) features
-        → IfOk result (λ rules. rules_choice rules
-        ≡ package_choice (rules_in asked.now) (package_view pkg.now) features) }
+    ensures choice { IfOk result (λ rules. rules_choice rules
+        ≡ choice_among (rules_in asked.now) (package_view pkg.now) (candidates_of all.now)) }
     ensures size { IfOk result (λ rules. size_of rules ≡ length all.now) }
     ensures fresh { IfOk result (λ rules. questions_asked rules ≡ 0) }
 {

@@ -25,7 +25,7 @@ returns-clause-made c =
     let f = c.args.features.now in
     let made = c.in_ok-by_rules-in-None.field-0 in
     let found = ap candidates_of c.as_slice.ensures.value ∙ c.in_ok-all.ensures ∙ c.requires.candidates in
-    let same : choice_of r ≡ kinds.package_choice w p f = c.in_ok-least.ensures.same.choice ∙ c.in_ok-rules.ensures.choice f found in
+    let same : choice_of r ≡ kinds.package_choice w p f = c.in_ok-least.ensures.same.choice ∙ c.in_ok-rules.ensures.choice ∙ ap (kinds.choice_among w p) found in
     let size : size_of r ≡ length (candidates w f) = c.in_ok-least.ensures.same.size ∙ c.in_ok-rules.ensures.size ∙ sym (length-candidates_of c.as_slice.result.now) ∙ ap length found in
     made-for w f (choice_of r) (kinds.package_choice w p f) (size_of r) (length (candidates w f)) (runs_in made.runs) made.is_plain (rows_of made.settings.items) same size c.in_ok-by_rules-in-None.ensures.made
 
@@ -37,7 +37,7 @@ returns-in-Some-clause-over c =
     let f = c.args.features.now in
     let least = c.in-Some.least in
     let found = ap candidates_of c.as_slice.ensures.value ∙ c.in_ok-all.ensures ∙ c.requires.candidates in
-    let same : choice_of r ≡ kinds.package_choice w p f = c.in_ok-rules.ensures.choice f found in
+    let same : choice_of r ≡ kinds.package_choice w p f = c.in_ok-rules.ensures.choice ∙ ap (kinds.choice_among w p) found in
     let size : size_of r ≡ length (candidates w f) = c.in_ok-rules.ensures.size ∙ sym (length-candidates_of c.as_slice.result.now) ∙ ap length found in
     let h = rw c.in-Some.is at c.in_ok-least.ensures.over in
     let powerset : w.feature_powerset ≡ true =
@@ -54,6 +54,6 @@ returns-in_err-by_rules-in-None-clause-err c =
     let p = package_view c.args.pkg.now in
     let f = c.args.features.now in
     let found = ap candidates_of c.as_slice.ensures.value ∙ c.in_ok-all.ensures ∙ c.requires.candidates in
-    let same = c.in_ok-least.ensures.same.choice ∙ c.in_ok-rules.ensures.choice f found in
+    let same = c.in_ok-least.ensures.same.choice ∙ c.in_ok-rules.ensures.choice ∙ ap (kinds.choice_among w p) found in
     let e = err_from_is_err_and c.from_residual-in_err-by_rules-in-None.result c.from_residual-in_err-by_rules-in-None.ensures.1 in
     rw (e.1, e.2) (tired w p f c.by_rules.new.rules _ (c.by_rules.ensures.same_choice ∙ same) c.in_err-by_rules-in-None.ensures.err)
