@@ -35,7 +35,7 @@ FIND, MOST = "--find-conflicts", "--most-runs"
 # ---- The sets that may be chosen, by the definitions.
 
 # The position of all features, behind those of the candidates.
-ALL = "all features"
+ALL, NONE, DEFAULTS = "all features", "no feature at all", "its default features"
 
 # A set that may be chosen: how a report names it, its place in the order of a powerset, the names that are on in its run, the
 # candidates that one of its own turns on, and all that are on. The last two are the same, but where several candidates
@@ -74,7 +74,7 @@ class Sets:
             return Chosen(",".join(run.texts), sum(2**it for it in run.places), self.enabled(names), rows, on)
         if run == "all":
             return Chosen(ALL, 2 ** len(self.texts), self.enabled(self.choice.features), on | {ALL}, on | {ALL})
-        return Chosen("no feature at all", 0, frozenset(), on, on)
+        return Chosen(DEFAULTS if run == "plain" else NONE, 0, frozenset(), on, on)
 
     def enabled(self, names):
         return frozenset().union(*(self.choice.enabled[name] for name in names))
@@ -431,20 +431,20 @@ def so_far(head, count, *sets):
 ROWS = {
     "nothing fails": Row("p:a,b,c", "", "", 1, 0, each("p")),
     "nothing fails, and which set passed": Row("p:a,b,c", "--verbose", "", 1, 0, each("p", 1, "a,b,c")),
-    "no feature": Row("p", "--verbose", "", 1, 0, each("p", 1, "no feature at all")),
+    "no feature": Row("p", "--verbose", "", 1, 0, each("p", 1, DEFAULTS)),
     "no set that is allowed, and so a plain run": Row(
-        "p:a,x,y", "--verbose --include-features a --at-least-one-of x,y", "", 1, 0, each("p", 1, "no feature at all")),
+        "p:a,x,y", "--verbose --include-features a --at-least-one-of x,y", "", 1, 0, each("p", 1, DEFAULTS)),
     "no set of the included features, and the plain run fails": Row(
         "p:a,b", "--include-features a,b --group-features a,b --mutually-exclusive-features a,b", "p:", 1, 1,
-        fail("p", "no feature at all")),
+        fail("p", DEFAULTS)),
     "a group that excludes itself, and so a plain run": Row(
         "p", "--verbose --group-features a,b --mutually-exclusive-features a,b", "", 1, 0,
-        each("p", 1, "no feature at all")),
-    "no feature, and it fails": Row("p", "", "p:", 1, 1, fail("p", "no feature at all")),
-    "all fail": Row("p:a,b", "", "p:", 2, 1, fail("p", "no feature at all")),
+        each("p", 1, DEFAULTS)),
+    "no feature, and it fails": Row("p", "", "p:", 1, 1, fail("p", DEFAULTS)),
+    "all fail": Row("p:a,b", "", "p:", 2, 1, fail("p", NONE)),
     "one of three": Row("p:a,b,c", "--verbose", "p:b", 8, 1, fail("p", "b") + others("p", 1, "a,c")),
     "each of three": Row("p:a,b,c", "--verbose", "p:a p:b p:c", 22, 1,
-                         fail("p", "a", "b", "c") + others("p", 1, "no feature at all")),
+                         fail("p", "a", "b", "c") + others("p", 1, NONE)),
     "two of three": Row("p:a,b,c", "--verbose", "p:a+c", 9, 1, fail("p", "a,c") + others("p", 2, "a,b", "b,c")),
     "all three": Row("p:a,b,c", "--verbose", "p:a+b+c", 10, 1, fail("p", "a,b,c") + others("p", 3, "a,b", "a,c", "b,c")),
     "one, and two others": Row("p:a,b,c", "--verbose", "p:b p:a+c", 16, 1, fail("p", "b", "a,c") + others("p", 2, "a", "c")),
@@ -484,7 +484,7 @@ ROWS = {
                                        fail("p", "a,c") + others("p", 2, "a", "c")),
     "nothing passed so far": Row("p:a,b", f"{MOST} 1", "p:a+b", 1, 1, left("p", "a,b") + [CUT.format("p")]),
     "some passed so far": Row("p:a,b", f"{MOST} 2 --verbose", "p:a+b", 2, 1,
-                              left("p", "a,b") + so_far("p", 1, "no feature at all") + [CUT.format("p")]),
+                              left("p", "a,b") + so_far("p", 1, NONE) + [CUT.format("p")]),
     "a conflict, and a set that isn't made smaller": Row(
         "p:a,b,c", f"{MOST} 6", "p:a p:b", 6, 1, fail("p", "b") + left("p", "a,c") + so_far("p", 1) + [CUT.format("p")]),
     "a conflict so far": Row("p:a,b q:a", f"{MOST} 4", "p:a+b", 4, 1, fail("p", "a,b") + others("p", 2) + [CUT.format("q")]),
@@ -497,7 +497,7 @@ ROWS = {
                                 fail("p", "a,b") + others("p", 2, "a", "b")),
     "manifests without dev-dependencies": Row("p:a,b", "--no-dev-deps", "p:a+b", 4, 1, fail("p", "a,b") + others("p", 2)),
     "a run that is killed": Row("p:a,b", "", "0=killed", 4, 1, fail("p", "a,b") + others("p", 2)),
-    "greater sets that pass": Row("p:a,b,c", "--verbose", "0=fails 1=fails", 2, 1, fail("p", "no feature at all")),
+    "greater sets that pass": Row("p:a,b,c", "--verbose", "0=fails 1=fails", 2, 1, fail("p", NONE)),
 }
 
 # Runs fail with these of twenty features on. There are at most so many runs, and so many greatest sets pass.

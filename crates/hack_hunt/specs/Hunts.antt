@@ -98,6 +98,7 @@ IsUnfinishedAs c f (Some build) =
 pub record IsToldAs (aim : Aim) (f : Finding) (h : Hunted) : Type 0 where
   pub slot : h.slot ≡ aim.slot
   pub member : h.member ≡ aim.member
+  pub plain : h.plain ≡ aim.plain
   pub conflicts : AreBuiltFor aim.closures.now f.conflicts h.conflicts.items
   pub passing : AreBuiltFor aim.closures.now f.passing h.passing.items
   pub unfinished : IsUnfinishedAs aim.closures.now f h.unfinished

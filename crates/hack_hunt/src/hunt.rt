@@ -24,6 +24,8 @@ pub struct Hunted {
     pub slot: usize,
     /// The package, as an index into the plan's.
     pub member: usize,
+    /// Whether all that may be built is a plain run, which has the package's own default features.
+    pub plain: bool,
     /// What was built for the least sets that fail.
     pub conflicts: Vec<Build>,
     /// What was built for the greatest sets that pass.

@@ -190,6 +190,7 @@ fn told(alloc: Global, aim: Aim<'_>, found: &Found) -> Result<Hunted, AllocError
     Ok(Hunted {
         slot: aim.slot,
         member: aim.member,
+        plain: aim.plain,
         conflicts: builds_of(alloc, closures, found.conflicts.as_slice())?,
         passing: builds_of(alloc, closures, found.passing.as_slice())?,
         unfinished: unfinished_in(alloc, closures, found)?,

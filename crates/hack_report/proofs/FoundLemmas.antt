@@ -74,29 +74,29 @@ found_end cx plan found k old all le before = sym (append-nil old) ∙ ap (λ (l
 
 -- ---- searches for conflicts
 
-conflict-error : (spot : List ℕ) (candidates : List (List Name)) (sets : List Build) → list_any is_error_remark (conflict_remarks spot candidates sets) ≡ not (length sets == 0)
-conflict-error spot candidates [] = refl
-conflict-error spot candidates (set ∷ sets) = sym (ap not (ne_eqb (length (set ∷ sets)) 0 (λ none. absurd (omega (arith, none)))))
+conflict-error : (spot : List ℕ) (plain : Bool) (candidates : List (List Name)) (sets : List Build) → list_any is_error_remark (conflict_remarks spot plain candidates sets) ≡ not (length sets == 0)
+conflict-error spot plain candidates [] = refl
+conflict-error spot plain candidates (set ∷ sets) = sym (ap not (ne_eqb (length (set ∷ sets)) 0 (λ none. absurd (omega (arith, none)))))
 
-conflict-warning : (spot : List ℕ) (candidates : List (List Name)) (sets : List Build) → list_any is_warning_remark (conflict_remarks spot candidates sets) ≡ false
-conflict-warning spot candidates [] = refl
-conflict-warning spot candidates (set ∷ sets) = refl
+conflict-warning : (spot : List ℕ) (plain : Bool) (candidates : List (List Name)) (sets : List Build) → list_any is_warning_remark (conflict_remarks spot plain candidates sets) ≡ false
+conflict-warning spot plain candidates [] = refl
+conflict-warning spot plain candidates (set ∷ sets) = refl
 
-unfinished-error : (spot : List ℕ) (candidates : List (List Name)) (set : Option Build) → list_any is_error_remark (unfinished_remarks spot candidates set) ≡ is_some set
-unfinished-error spot candidates None = refl
-unfinished-error spot candidates (Some set) = refl
+unfinished-error : (spot : List ℕ) (plain : Bool) (candidates : List (List Name)) (set : Option Build) → list_any is_error_remark (unfinished_remarks spot plain candidates set) ≡ is_some set
+unfinished-error spot plain candidates None = refl
+unfinished-error spot plain candidates (Some set) = refl
 
-unfinished-warning : (spot : List ℕ) (candidates : List (List Name)) (set : Option Build) → list_any is_warning_remark (unfinished_remarks spot candidates set) ≡ false
-unfinished-warning spot candidates None = refl
-unfinished-warning spot candidates (Some set) = refl
+unfinished-warning : (spot : List ℕ) (plain : Bool) (candidates : List (List Name)) (set : Option Build) → list_any is_warning_remark (unfinished_remarks spot plain candidates set) ≡ false
+unfinished-warning spot plain candidates None = refl
+unfinished-warning spot plain candidates (Some set) = refl
 
-passing-error : (verbose : Bool) (spot : List ℕ) (candidates : List (List Name)) (h : Hunted) (sets : List Build) → list_any is_error_remark (passing_remarks verbose spot candidates h sets) ≡ false
-passing-error verbose spot candidates h [] = refl
-passing-error verbose spot candidates h (set ∷ sets) = refl
+passing-error : (verbose : Bool) (spot : List ℕ) (plain : Bool) (candidates : List (List Name)) (h : Hunted) (sets : List Build) → list_any is_error_remark (passing_remarks verbose spot plain candidates h sets) ≡ false
+passing-error verbose spot plain candidates h [] = refl
+passing-error verbose spot plain candidates h (set ∷ sets) = refl
 
-passing-warning : (verbose : Bool) (spot : List ℕ) (candidates : List (List Name)) (h : Hunted) (sets : List Build) → list_any is_warning_remark (passing_remarks verbose spot candidates h sets) ≡ false
-passing-warning verbose spot candidates h [] = refl
-passing-warning verbose spot candidates h (set ∷ sets) = refl
+passing-warning : (verbose : Bool) (spot : List ℕ) (plain : Bool) (candidates : List (List Name)) (h : Hunted) (sets : List Build) → list_any is_warning_remark (passing_remarks verbose spot plain candidates h sets) ≡ false
+passing-warning verbose spot plain candidates h [] = refl
+passing-warning verbose spot plain candidates h (set ∷ sets) = refl
 
 open-error : (spot : List ℕ) (complete : Bool) → list_any is_error_remark (open_remarks spot complete) ≡ false
 open-error spot true = refl
@@ -125,17 +125,19 @@ last-of a b c d x p q r s = rw (p, q, r) s
 pub hunt_error : (verbose : Bool) (plan : PlanView) (h : Hunted) → list_any is_error_remark (hunt_remarks verbose plan h) ≡ has_conflict h
 hunt_error verbose plan h =
     let spot = spot_text plan h in
+    let plain = h.plain in
     let candidates = candidates_of plan h in
-    any-of is_error_remark (conflict_remarks spot candidates h.conflicts.items) (unfinished_remarks spot candidates h.unfinished) (passing_remarks verbose spot candidates h h.passing.items) (open_remarks spot h.complete)
-    ∙ either _ _ _ _ _ _ (conflict-error spot candidates h.conflicts.items) (unfinished-error spot candidates h.unfinished) (passing-error verbose spot candidates h h.passing.items) (open-error spot h.complete)
+    any-of is_error_remark (conflict_remarks spot plain candidates h.conflicts.items) (unfinished_remarks spot plain candidates h.unfinished) (passing_remarks verbose spot plain candidates h h.passing.items) (open_remarks spot h.complete)
+    ∙ either _ _ _ _ _ _ (conflict-error spot plain candidates h.conflicts.items) (unfinished-error spot plain candidates h.unfinished) (passing-error verbose spot plain candidates h h.passing.items) (open-error spot h.complete)
 
 -- and a warning where not all sets are decided
 pub hunt_warning : (verbose : Bool) (plan : PlanView) (h : Hunted) → list_any is_warning_remark (hunt_remarks verbose plan h) ≡ is_open h
 hunt_warning verbose plan h =
     let spot = spot_text plan h in
+    let plain = h.plain in
     let candidates = candidates_of plan h in
-    any-of is_warning_remark (conflict_remarks spot candidates h.conflicts.items) (unfinished_remarks spot candidates h.unfinished) (passing_remarks verbose spot candidates h h.passing.items) (open_remarks spot h.complete)
-    ∙ last-of _ _ _ _ _ (conflict-warning spot candidates h.conflicts.items) (unfinished-warning spot candidates h.unfinished) (passing-warning verbose spot candidates h h.passing.items) (open-warning spot h.complete)
+    any-of is_warning_remark (conflict_remarks spot plain candidates h.conflicts.items) (unfinished_remarks spot plain candidates h.unfinished) (passing_remarks verbose spot plain candidates h h.passing.items) (open_remarks spot h.complete)
+    ∙ last-of _ _ _ _ _ (conflict-warning spot plain candidates h.conflicts.items) (unfinished-warning spot plain candidates h.unfinished) (passing-warning verbose spot plain candidates h h.passing.items) (open-warning spot h.complete)
 
 any-each : {X : Type 0} (p : RemarkView → Bool) (q : X → Bool) (f : X → List RemarkView) → ((x : X) → list_any p (f x) ≡ q x) → (xs : List X) → list_any p (flat_map f xs) ≡ list_any q xs
 any-each p q f each [] = refl

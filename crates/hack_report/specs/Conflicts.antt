@@ -40,25 +40,25 @@ abbrev pub names_at : List (List Name) → List ℕ → List Name
 names_at candidates positions = flat_map (λ position. slice_index_or candidates position []) positions
 
 -- the names of a set, with commas between them, or in words what was built for it
-abbrev pub build_text : List (List Name) → Build → List ℕ
-build_text candidates NoFeatures = codes "no feature at all"
-build_text candidates AllFeatures = codes "all features"
-build_text candidates (Set positions) = join_by (λ name. name) (codes ",") (names_at candidates positions.items)
+abbrev pub build_text : Bool → List (List Name) → Build → List ℕ
+build_text plain candidates NoFeatures = if plain then codes "its default features" else codes "no feature at all"
+build_text plain candidates AllFeatures = codes "all features"
+build_text plain candidates (Set positions) = join_by (λ name. name) (codes ",") (names_at candidates positions.items)
 
 -- a line for each of these sets
-abbrev pub build_lines : List (List Name) → List Build → List ℕ
-build_lines candidates sets = flat_map (λ set. codes "\n    " ++ build_text candidates set) sets
+abbrev pub build_lines : Bool → List (List Name) → List Build → List ℕ
+build_lines plain candidates sets = flat_map (λ set. codes "\n    " ++ build_text plain candidates set) sets
 
 -- the least sets that fail, if there are some
-abbrev pub conflict_remarks : List ℕ → List (List Name) → List Build → List RemarkView
-conflict_remarks spot candidates [] = []
-conflict_remarks spot candidates (set ∷ sets) =
-    one_remark Error (spot ++ (codes " these features fail together, and no part of them that may be chosen fails:" ++ build_lines candidates (set ∷ sets)))
+abbrev pub conflict_remarks : List ℕ → Bool → List (List Name) → List Build → List RemarkView
+conflict_remarks spot plain candidates [] = []
+conflict_remarks spot plain candidates (set ∷ sets) =
+    one_remark Error (spot ++ (codes " these features fail together, and no part of them that may be chosen fails:" ++ build_lines plain candidates (set ∷ sets)))
 
 -- the set that failed and wasn't made smaller, if there is one
-abbrev pub unfinished_remarks : List ℕ → List (List Name) → Option Build → List RemarkView
-unfinished_remarks spot candidates None = []
-unfinished_remarks spot candidates (Some set) = one_remark Error (spot ++ (codes " these features fail together, and not all parts of them were tried:\n    " ++ build_text candidates set))
+abbrev pub unfinished_remarks : List ℕ → Bool → List (List Name) → Option Build → List RemarkView
+unfinished_remarks spot plain candidates None = []
+unfinished_remarks spot plain candidates (Some set) = one_remark Error (spot ++ (codes " these features fail together, and not all parts of them were tried:\n    " ++ build_text plain candidates set))
 
 -- how many greatest sets passed, by whether the search is complete, and whether it found no conflict
 abbrev pub passing_text : List ℕ → ℕ → List ℕ → Bool → Bool → List ℕ
@@ -67,14 +67,14 @@ passing_text spot count sets true true = spot ++ (codes " each allowed set lies 
 passing_text spot count sets true false = spot ++ (codes " each other allowed set lies inside one of " ++ (decimal count ++ (codes " sets that passed" ++ sets)))
 
 -- in a verbose call also which
-abbrev pub passing_lines : Bool → List (List Name) → List Build → List ℕ
-passing_lines verbose candidates sets = if verbose then codes ":" ++ build_lines candidates sets else []
+abbrev pub passing_lines : Bool → Bool → List (List Name) → List Build → List ℕ
+passing_lines verbose plain candidates sets = if verbose then codes ":" ++ build_lines plain candidates sets else []
 
 -- ... if there are some
-abbrev pub passing_remarks : Bool → List ℕ → List (List Name) → Hunted → List Build → List RemarkView
-passing_remarks verbose spot candidates h [] = []
-passing_remarks verbose spot candidates h (set ∷ sets) =
-    one_remark Info (passing_text spot (length h.passing.items) (passing_lines verbose candidates (set ∷ sets)) h.complete (length h.conflicts.items == 0))
+abbrev pub passing_remarks : Bool → List ℕ → Bool → List (List Name) → Hunted → List Build → List RemarkView
+passing_remarks verbose spot plain candidates h [] = []
+passing_remarks verbose spot plain candidates h (set ∷ sets) =
+    one_remark Info (passing_text spot (length h.passing.items) (passing_lines verbose plain candidates (set ∷ sets)) h.complete (length h.conflicts.items == 0))
 
 -- the warning where not all sets are decided
 abbrev pub open_remarks : List ℕ → Bool → List RemarkView
@@ -86,8 +86,8 @@ abbrev pub hunt_remarks : Bool → PlanView → Hunted → List RemarkView
 hunt_remarks verbose plan h =
     let spot = spot_text plan h in
     let candidates = candidates_of plan h in
-    conflict_remarks spot candidates h.conflicts.items ++ (unfinished_remarks spot candidates h.unfinished
-    ++ (passing_remarks verbose spot candidates h h.passing.items ++ open_remarks spot h.complete))
+    conflict_remarks spot h.plain candidates h.conflicts.items ++ (unfinished_remarks spot h.plain candidates h.unfinished
+    ++ (passing_remarks verbose spot h.plain candidates h h.passing.items ++ open_remarks spot h.complete))
 
 -- the same of all that was searched, in order
 abbrev pub hunted_remarks : Bool → PlanView → List Hunted → List RemarkView

@@ -1,13 +1,13 @@
 //! What a search for conflicts found, as lines for the user.
 
-ghost use Rattle.std.specs.Prelude.{◌≡◌, ◌==◌, ◌++◌, [], IfOk, OnErr, OnOk, None, codes, length};
+ghost use Rattle.std.specs.Prelude.{◌≡◌, ◌==◌, ◌++◌, [], IfOk, OnErr, OnOk, None, codes};
 ghost use Rattle.std.specs.Prelude.{option_copied, slice_get, string_bytes};
 ghost use Rattle.std.specs.List.{list_any, slice_index_or};
 ghost use Rattle.hack_base.specs.Names.{names_of};
 ghost use Rattle.hack_base.specs.Streams.{WritesAll, stream_of};
 ghost use Rattle.hack_features.specs.Feature.{groups_of};
 ghost use Rattle.hack_plan.specs.Commands.{slot_target, slots_in};
-ghost use Rattle.hack_report.specs.Conflicts.{build_lines, build_text, candidates_of};
+ghost use Rattle.hack_report.specs.Conflicts.{build_lines, build_text};
 ghost use Rattle.hack_report.specs.Conflicts.{conflict_remarks, has_conflict, hunt_remarks};
 ghost use Rattle.hack_report.specs.Conflicts.{hunted_remarks, is_open, names_at, open_remarks};
 ghost use Rattle.hack_report.specs.Conflicts.{own_target, passing_lines, passing_remarks};
@@ -67,6 +67,7 @@ fn add_hunted(
     let about = About {
         alloc,
         spot: spot.as_str(),
+        plain: found.plain,
         candidates: candidates_in(plan, found.member),
     };
     about.add_conflicts(found.conflicts.as_slice(), remarks)?;
@@ -114,6 +115,8 @@ struct About<'a> {
     alloc: Global,
     /// Where its runs are.
     spot: &'a str,
+    /// Whether they are one plain run.
+    plain: bool,
     candidates: &'a [Feature],
 }
 
@@ -121,7 +124,8 @@ impl<'a> About<'a> {
     /// Adds the line on the conflicts, where there are some.
     fn add_conflicts(self, conflicts: &[Build], remarks: &mut Vec<Remark>) -> Result<(), AllocError>
         ensures { OnOk result (AddsRemarks remarks.old remarks.new (conflict_remarks
-            self.entry.spot.now (groups_of self.entry.candidates.now) conflicts.now)) }
+            self.entry.spot.now self.entry.plain (groups_of self.entry.candidates.now)
+            conflicts.now)) }
     {
         if conflicts.is_empty() {
             return Ok(());
@@ -133,7 +137,8 @@ impl<'a> About<'a> {
     fn conflict_text(self, conflicts: &[Build]) -> Result<String, AllocError>
         ensures { IfOk result (λ text. string_bytes text ≡ self.entry.spot.now
             ++ (codes " these features fail together, and no part of them that may be chosen fails:"
-            ++ build_lines (groups_of self.entry.candidates.now) conflicts.now)) }
+            ++ build_lines self.entry.plain (groups_of self.entry.candidates.now)
+            conflicts.now)) }
     {
         let spot = self.spot;
         let sets = self.lines(conflicts)?;
@@ -150,7 +155,7 @@ impl<'a> About<'a> {
         remarks: &mut Vec<Remark>,
     ) -> Result<(), AllocError>
         ensures { OnOk result (AddsRemarks remarks.old remarks.new (unfinished_remarks
-            self.entry.spot.now (groups_of self.entry.candidates.now)
+            self.entry.spot.now self.entry.plain (groups_of self.entry.candidates.now)
             (option_copied unfinished.entry))) }
     {
         let Some(set) = unfinished else {
@@ -163,7 +168,7 @@ impl<'a> About<'a> {
     fn unfinished_text(self, set: &Build) -> Result<String, AllocError>
         ensures { IfOk result (λ text. string_bytes text ≡ self.entry.spot.now
             ++ (codes " these features fail together, and not all parts of them were tried:\n    "
-            ++ build_text (groups_of self.entry.candidates.now) set.now)) }
+            ++ build_text self.entry.plain (groups_of self.entry.candidates.now) set.now)) }
     {
         let spot = self.spot;
         let set = self.build_text(set)?;
@@ -180,8 +185,8 @@ impl<'a> About<'a> {
         remarks: &mut Vec<Remark>,
     ) -> Result<(), AllocError>
         ensures { OnOk result (AddsRemarks remarks.old remarks.new (passing_remarks verbose
-            self.entry.spot.now (groups_of self.entry.candidates.now) found.now
-            found.now.passing.items)) }
+            self.entry.spot.now self.entry.plain (groups_of self.entry.candidates.now)
+            found.now found.now.passing.items)) }
     {
         let passing = found.passing.as_slice();
         if passing.is_empty() {
@@ -222,7 +227,8 @@ impl<'a> About<'a> {
     /// In a verbose call the sets that passed, a line for each.
     fn passing_lines(self, verbose: bool, passing: &[Build]) -> Result<String, AllocError>
         ensures { IfOk result (λ text. string_bytes text
-            ≡ passing_lines verbose (groups_of self.entry.candidates.now) passing.now) }
+            ≡ passing_lines verbose self.entry.plain (groups_of self.entry.candidates.now)
+            passing.now) }
     {
         if !verbose {
             return Ok(String::new(self.alloc));
@@ -249,7 +255,7 @@ impl<'a> About<'a> {
     /// A line for each of these sets.
     fn lines(self, sets: &[Build]) -> Result<String, AllocError>
         ensures { IfOk result (λ text. string_bytes text
-            ≡ build_lines (groups_of self.entry.candidates.now) sets.now) }
+            ≡ build_lines self.entry.plain (groups_of self.entry.candidates.now) sets.now) }
     {
         let mut text = String::new(self.alloc);
         for set in sets {
@@ -262,9 +268,10 @@ impl<'a> About<'a> {
     /// The features of a set, or in words what was built.
     fn build_text(self, set: &Build) -> Result<String, AllocError>
         ensures { IfOk result (λ text. string_bytes text
-            ≡ build_text (groups_of self.entry.candidates.now) set.now) }
+            ≡ build_text self.entry.plain (groups_of self.entry.candidates.now) set.now) }
     {
         match set {
+            Build::NoFeatures if self.plain => String::from_str(self.alloc, "its default features"),
             Build::NoFeatures => String::from_str(self.alloc, "no feature at all"),
             Build::AllFeatures => String::from_str(self.alloc, "all features"),
             Build::Set(positions) => {

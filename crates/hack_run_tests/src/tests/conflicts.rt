@@ -134,12 +134,12 @@ fn a_package_without_features(rt: HostRuntime) -> Result<(), Wrong> {
 
             > report: hack check --feature-powerset --find-conflicts -v
             | info: in p each allowed set lies inside one of 1 sets that passed:
-            |     no feature at all
+            |     its default features
             | status 0
 
             > report: hack check --feature-powerset --find-conflicts --most-runs 1; fails 101 cargo check --manifest-path Cargo.toml
             | error: in p these features fail together, and no part of them that may be chosen fails:
-            |     no feature at all
+            |     its default features
             | status 1
         "#,
     )

@@ -13,6 +13,7 @@ returns c =
     record {
       slot = refl;
       member = refl;
+      plain = refl;
       conflicts = rw c.as_slice.ensures.value at c.in_ok-builds_of.ensures (tried_chosen rules f.runs Failed f.conflicts finding.course.chosen finding.failed);
       passing = rw c.as_slice-2.ensures.value at c.in_ok-builds_of-2.ensures (tried_chosen rules f.runs Passed f.passing finding.course.chosen finding.passed);
       unfinished = c.in_ok-unfinished_in.ensures;

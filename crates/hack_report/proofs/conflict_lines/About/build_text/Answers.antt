@@ -11,4 +11,4 @@ returns-in_ok-names-in-Set c =
     let candidates = groups_of c.args.self.candidates.now in
     let join : List (List ℕ) → List ℕ = join_by (λ name. name) (codes ",") in
     IfOk-weaker c.join.result _ _ (λ text e. e ∙ join-texts (codes ",") c.deref.result.now ∙ ap (λ (xs : List (String Global)). join (map string_bytes xs)) c.deref.ensures.value
-    ∙ ap join (c.in_ok-names-in-Set.ensures ∙ ap (names_at candidates) c.as_slice.ensures.value) ∙ sym (ap (build_text candidates) c.in-Set.is)) c.join.ensures.ok
+    ∙ ap join (c.in_ok-names-in-Set.ensures ∙ ap (names_at candidates) c.as_slice.ensures.value) ∙ sym (ap (build_text c.args.self.plain candidates) c.in-Set.is)) c.join.ensures.ok
