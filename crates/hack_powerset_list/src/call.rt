@@ -2,6 +2,7 @@
 
 ghost use Rattle.std.specs.Prelude.{◌≡◌, ◌⊎◌, drop, OnOk, IfOk, IfErr};
 ghost use Rattle.std.specs.Vec.Iter.{into_iter_items};
+ghost use Rattle.hack_base.specs.Streams.{stream_of};
 ghost use Rattle.hack_base.specs.Writes.{NoFewer};
 ghost use Rattle.hack_powerset_list.specs.Endings.{EndsWithList, EndsWithError, RefusesCall};
 ghost use Rattle.hack_powerset_list.specs.Endings.{WritesForCall};
@@ -14,7 +15,6 @@ use hack_base::writes::Sink;
 use std::alloc::{AllocError, Global};
 use std::env::Args;
 use std::io;
-use std::io::Write;
 
 /// How a call ends.
 #[derive(Clone, Copy, Debug)]
@@ -61,7 +61,7 @@ fn list_for<R: Source, W: Sink>(
 /// Does what the program `powerset-list` does: calls `powerset_list` with the arguments after the
 /// first, which is the program's name. `arguments` is what `env::args` returns. An error is
 /// reported by a line on `err`.
-pub fn call_powerset_list<R: Source, W: Sink, E: Write>(
+pub fn call_powerset_list<R: Source, W: Sink, E: Sink>(
     alloc: Global,
     arguments: io::Result<Args>,
     input: &mut R,
@@ -70,10 +70,10 @@ pub fn call_powerset_list<R: Source, W: Sink, E: Write>(
 ) -> Ending
     ensures ended { EndsWithList arguments
         (R.remaining input.old) (W.contents out.old) (W.contents out.new)
-        (E.contents err.old) (E.contents err.new) result
+        (stream_of E.Sink err.old) (stream_of E.Sink err.new) result
         ⊎ EndsWithError arguments (R.remaining input.old) (W.contents out.old) (W.contents out.new)
         (IsCounted (R.failed input.old) (R.failed input.new) (W.failed out.old) (W.failed out.new))
-        (E.contents err.old) (E.contents err.new) result }
+        (stream_of E.Sink err.old) (stream_of E.Sink err.new) result }
     ensures kept { NoFewer (R.failed input.old) (R.failed input.new)
         × NoFewer (W.failed out.old) (W.failed out.new) }
 {

@@ -3,13 +3,13 @@
 ghost use Rattle.std.specs.Prelude.{◌≡◌, ◌++◌, OnOk, Some};
 ghost use Rattle.std.specs.IoError.{error_kind};
 ghost use Rattle.std.specs.Io.KnownBytes.{Appends};
-ghost use Rattle.hack_base.specs.Writes.{AppendsFront};
+ghost use Rattle.hack_base.specs.Writes.{AppendsFront, CountsErrors};
 ghost use Rattle.hack_powerset_list.specs.Faults.{list_fault_text, fault_line, told_as};
 
 use crate::writes::write_texts;
+use hack_base::writes::Sink;
 use std::alloc::{AllocError, AllocFailed};
 use std::error::Error;
-use std::io::Write;
 use std::{fmt, io};
 
 /// Why no list is written, or only a part of it.
@@ -68,11 +68,12 @@ impl ListFault {
     }
 
     /// Writes the line that reports the error: `error: `, the error's text and a line feed.
-    pub fn tell<E: Write>(&self, err: &mut E) -> io::Result<()>
+    pub fn tell<E: Sink>(&self, err: &mut E) -> io::Result<()>
         ensures all { OnOk result
             (Appends (E.contents err.old) (E.contents err.new) (fault_line self.now)) }
         ensures front { AppendsFront (E.contents err.old) (E.contents err.new)
             (fault_line self.now) }
+        ensures counted { CountsErrors (E.failed err.old) (E.failed err.new) result }
     {
         let parts = self.parts();
         write_texts(
