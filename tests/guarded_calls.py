@@ -179,6 +179,20 @@ def from_a_member(place):
     place.as_before()
 
 
+def left_out(place):
+    """A package that its workspace leaves out has a lockfile of its own: the guard restores the manifests, and no call keeps or
+    restores the workspace's lockfile."""
+    place.lay_out()
+    write(f"{place.workspace}/Cargo.toml", '[workspace]\nmembers = ["q"]\nexclude = ["./p/"]\n')
+    place.remember()
+    place.interrupt(MORE + ENDS_IT, folder=f"{place.workspace}/p")
+    place.was_edited()
+    must("~lock" not in read(f"{place.cargo}.journal"), "the workspace's lockfile is copied")
+    lock = os.path.relpath(f"{place.workspace}/Cargo.lock", place.top)
+    must(read(f"{place.top}/{lock}") == FILES["Cargo.lock"] + "more\n", "the workspace's lockfile is restored")
+    place.as_before(but=lock)
+
+
 # ---- `--restore`.
 
 
@@ -486,6 +500,7 @@ def all_tries(place, places, count):
         "the next calls": next_calls,
         "from elsewhere": from_elsewhere,
         "from a member": from_a_member,
+        "from a package left out": left_out,
         "--restore": restore,
         "--restore and the lockfile": restore_of_lockfile,
         "--restore beside others": restore_beside,

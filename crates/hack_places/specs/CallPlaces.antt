@@ -6,13 +6,14 @@ use Rattle.hack_files.specs.Files.{Contents}
 use Rattle.hack_places.specs.JournalPlaces.{journal_beside, journal_of, lockfile_copy}
 
 -- the workspace's folder; the journal, and where an older version had it, with its folder; the
--- lockfile and its copy
+-- lockfile, whether it is that of the call's package, which the workspace may leave out, and its copy
 pub record PlacesAt : Type 0 where
   pub folder : Name
   pub journal : Name
   pub older_folder : Name
   pub older : Name
   pub lockfile : Name
+  pub shared : Bool
   pub copy : Name
 
 -- the places of a workspace's folder; the journal's was looked for

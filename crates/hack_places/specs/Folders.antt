@@ -1,14 +1,14 @@
 -- Where the workspace of a call is.
-use Rattle.std.specs.Prelude.{ℕ, zero, suc, Bool, false, ◌||◌, List, [], ◌∷◌, Option, Some, None, codes, is_some, length, nat_eq, option_map, unwrap_or, if◌then◌else◌}
-use Rattle.std.specs.List.{starts_with}
-use Rattle.std.specs.Option.{option_or}
+use Rattle.std.specs.Prelude.{ℕ, zero, suc, Bool, false, not, ◌||◌, ◌&&◌, ◌==◌, List, [], ◌∷◌, Option, Some, None, codes, drop, is_some, length, nat_eq, option_and_then, option_map, unwrap_or, if◌then◌else◌}
+use Rattle.std.specs.List.{list_any, starts_with}
+use Rattle.std.specs.Option.{option_map_or, option_or}
 use Rattle.std.specs.Str.{is_utf8}
-use Rattle.toml.specs.Data.{Data, string, Members, get_member}
+use Rattle.toml.specs.Data.{Data, string, Members, as_array, get_member}
 use Rattle.toml.specs.Parse.{parse_document}
 use Rattle.hack_base.specs.Names.{Name}
-use Rattle.hack_base.specs.PathTexts.{join_of, normal_of, parent_of}
+use Rattle.hack_base.specs.PathTexts.{is_rooted, join_of, normal_of, parent_of}
 use Rattle.hack_files.specs.Files.{Contents}
-use Rattle.hack_manifest.specs.Manifest.{table_at}
+use Rattle.hack_manifest.specs.Manifest.{table_at, texts_in}
 
 -- ---- what a manifest says
 
@@ -104,3 +104,31 @@ workspace_from held start = unwrap_or (first_some (said_in held) (folders start)
 abbrev pub start_at : Option Name → Name → Name
 start_at None dir = dir
 start_at (Some path) dir = parent_of (normal_of (join_of dir path))
+
+-- ---- packages that a workspace leaves out
+
+-- a path is that of a folder, or inside it
+abbrev pub is_inside : Name → Name → Bool
+is_inside folder path = starts_with nat_eq path folder && (length (drop (length folder) path) == 0 || is_rooted (drop (length folder) path))
+
+-- a text of a workspace's manifest, as a path from its folder, leads to a folder that the path is inside of
+abbrev pub leads_to : Name → Name → Name → Bool
+leads_to folder path text = is_inside (normal_of (join_of folder text)) path
+
+-- the texts of the array at a key, if an array is there
+abbrev pub texts_at : Name → Members → List Name
+texts_at key fields = option_map_or texts_in (option_and_then as_array (get_member key fields)) []
+
+-- the table `workspace` excludes the path, and doesn't name it as a member's
+abbrev pub fields_leave_out : Name → Name → Members → Bool
+fields_leave_out folder path fields =
+    list_any (leads_to folder path) (texts_at (codes "exclude") fields) && not (list_any (leads_to folder path) (texts_at (codes "members") fields))
+
+-- the same of the text of a manifest
+abbrev pub text_leaves_out : Name → Name → List ℕ → Bool
+text_leaves_out folder path text =
+    option_map_or (fields_leave_out folder path) (option_and_then (table_at (codes "workspace")) (parse_document text)) false
+
+-- the workspace in a folder leaves out the package that is around a path: that has a lockfile of its own
+abbrev pub leaves_out : Contents → Name → Name → Bool
+leaves_out held folder path = option_map_or (text_leaves_out folder path) (manifest_in held folder) false

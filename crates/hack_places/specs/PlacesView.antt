@@ -10,5 +10,6 @@ places_view places = record {
   older_folder = string_bytes places.older.folder;
   older = string_bytes places.older.journal;
   lockfile = string_bytes places.lockfile;
+  shared = places.is_shared;
   copy = string_bytes places.copy;
 }

@@ -23,13 +23,22 @@ pub struct Places {
     /// The same folder, and where an older version had the journal.
     pub older: JournalPlace,
     pub lockfile: String,
+    /// Whether it is that of the call's package, which the workspace may leave out.
+    pub is_shared: bool,
     /// The path of the lockfile's copy.
     pub copy: String,
 }
 
 impl Places {
-    /// The places of a workspace's folder.
-    pub fn of<F: Files>(alloc: Global, folder: &str, files: &mut F) -> Result<Places, LookFault>
+    /// The places of a workspace's folder. `is_shared` says whether its lockfile is that of the call's
+    /// package.
+    pub fn of<F: Files>(
+        alloc: Global,
+        folder: &str,
+        is_shared: bool,
+        files: &mut F,
+    ) -> Result<Places, LookFault>
+        ensures shared { IfOk result (λ places. places.is_shared ≡ is_shared) }
         ensures found { IfOk result (λ places. ArePlacesOf F.tells (F.bytes_at files.old)
             folder.now (places_view places)) }
         ensures counted { AreLooksCounted (F.failed files.old) (F.failed files.new) result }
@@ -48,6 +57,7 @@ impl Places {
             place: place_at(alloc, folder, journal)?,
             older: place_at(alloc, folder, older)?,
             lockfile,
+            is_shared,
             copy,
         })
     }

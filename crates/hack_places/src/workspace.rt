@@ -6,8 +6,12 @@ ghost use Rattle.hack_base.specs.Names.{optional_text};
 ghost use Rattle.hack_base.specs.PathTexts.{join_of, normal_of};
 ghost use Rattle.hack_files.specs.Files.{KeepsAll, Makes};
 ghost use Rattle.toml.specs.Data.{get_member};
-ghost use Rattle.toml.specs.View.{table_view};
-ghost use Rattle.hack_places.specs.Folders.{field_says, has_part, manifest_in, start_at};
+ghost use Rattle.std.specs.List.{list_any};
+ghost use Rattle.toml.specs.View.{array_view, table_view};
+ghost use Rattle.hack_manifest.specs.Manifest.{texts_in};
+ghost use Rattle.hack_places.specs.Folders.{field_says, fields_leave_out, has_part, is_inside};
+ghost use Rattle.hack_places.specs.Folders.{leads_to, leaves_out, manifest_in, start_at};
+ghost use Rattle.hack_places.specs.Folders.{text_leaves_out, texts_at};
 ghost use Rattle.hack_places.specs.Internal.{saying_in};
 ghost use Rattle.hack_places.specs.Folders.{text_in_bytes, text_says, tree_says, workspace_from};
 ghost use Rattle.hack_places.specs.FileLooks.{AreLooksCounted, AreLooksSeen, IsOfLooked, IsOfPath};
@@ -18,6 +22,7 @@ use hack_base::paths::{join, normal, parent};
 use hack_files::fs::Files;
 use hack_manifest::lookup::{find_table, value_at};
 use std::alloc::{AllocError, Global};
+use toml::value::Array;
 use toml::{Table, Value};
 
 /// The folder of the workspace: at or above the folder of `--manifest-path`, or else the current
@@ -45,6 +50,112 @@ pub fn workspace<F: Files>(
 {
     let start = start(alloc, manifest_path, dir)?;
     nearest(alloc, start.as_str(), files)
+}
+
+/// Whether the workspace in this folder leaves out the package that the call is about, as cargo has it:
+/// one of the paths in `workspace.exclude` leads to the folder where cargo starts, or around it, and none
+/// in `workspace.members` does. Such a package has a lockfile of its own.
+#[tactic(auto, using(hack_files::proofs::FilesLemmas::trace_steps))]
+pub fn leaves_out<F: Files>(
+    alloc: Global,
+    folder: &str,
+    manifest_path: Option<&str>,
+    dir: &str,
+    files: &mut F,
+) -> Result<bool, LookFault>
+    ensures found { IfOk result (λ out. F.tells → out ≡ leaves_out (F.bytes_at files.old) folder.now
+        (start_at (option_map (λ path. path.now) manifest_path.entry) dir.now)) }
+    ensures counted { AreLooksCounted (F.failed files.old) (F.failed files.new) result }
+    ensures seen { AreLooksSeen F.Files files.old files.new result }
+    ensures named { IfErr result (IsOfPath (join_of folder.now (codes "Cargo.toml"))) }
+    ensures same { F.tells → KeepsAll (F.bytes_at files.old) (F.bytes_at files.new) }
+    ensures untraced { F.whole → Makes [] (F.trace files.old) (F.trace files.new)
+        (F.bytes_at files.old) (F.bytes_at files.new) }
+{
+    let start = start(alloc, manifest_path, dir)?;
+    match manifest(alloc, folder, files)? {
+        Some(text) => Ok(text_leaves_out(alloc, folder, start.as_str(), text.as_str())?),
+        None => Ok(false),
+    }
+}
+
+/// The same of a manifest's text.
+fn text_leaves_out(alloc: Global, folder: &str, path: &str, text: &str) -> Result<bool, AllocError>
+    ensures { IfOk result (λ out. out ≡ text_leaves_out folder.now path.now text.now) }
+{
+    match toml::table_from_str(alloc, text) {
+        Ok(tree) => match find_table(&tree, "workspace") {
+            Some(fields) => fields_leave_out(alloc, folder, path, fields),
+            None => Ok(false),
+        },
+        Err(e) if e.is_memory() => Err(AllocError),
+        Err(_) => Ok(false),
+    }
+}
+
+/// The same of a table `workspace`.
+fn fields_leave_out(
+    alloc: Global,
+    folder: &str,
+    path: &str,
+    fields: &Table,
+) -> Result<bool, AllocError>
+    ensures { IfOk result (λ out. out
+        ≡ fields_leave_out folder.now path.now (table_view fields.now)) }
+{
+    let is_excluded = one_leads(alloc, folder, path, fields, "exclude")?;
+    let is_member = one_leads(alloc, folder, path, fields, "members")?;
+    Ok(is_excluded && !is_member)
+}
+
+/// Whether a text of the array at this key leads to a folder that the path is inside of.
+fn one_leads(
+    alloc: Global,
+    folder: &str,
+    path: &str,
+    fields: &Table,
+    key: &str,
+) -> Result<bool, AllocError>
+    ensures { IfOk result (λ leads. leads ≡ list_any (leads_to folder.now path.now)
+        (texts_at key.now (table_view fields.now))) }
+{
+    match value_at(fields, key) {
+        Some(Value::Array(items)) => one_of_leads(alloc, folder, path, items),
+        _ => Ok(false),
+    }
+}
+
+/// Whether a text of an array does.
+fn one_of_leads(alloc: Global, folder: &str, path: &str, items: &Array) -> Result<bool, AllocError>
+    ensures { IfOk result (λ leads. leads
+        ≡ list_any (leads_to folder.now path.now) (texts_in (array_view items.now))) }
+{
+    for item in items {
+        if let Value::String(text) = item {
+            if leads_to(alloc, folder, path, text.as_str())? {
+                return Ok(true);
+            }
+        }
+    }
+    Ok(false)
+}
+
+/// Whether a text leads, from a folder, to one that the path is inside of.
+fn leads_to(alloc: Global, folder: &str, path: &str, text: &str) -> Result<bool, AllocError>
+    ensures { IfOk result (λ leads. leads ≡ leads_to folder.now path.now text.now) }
+{
+    let led = within(alloc, folder, text)?;
+    Ok(is_inside(led.as_str(), path))
+}
+
+/// Whether a path is that of a folder, or inside it.
+fn is_inside(folder: &str, path: &str) -> bool
+    ensures { result ≡ is_inside folder.now path.now }
+{
+    match path.strip_prefix(folder) {
+        Some(rest) => rest.is_empty() || rest.starts_with('/'),
+        None => false,
+    }
 }
 
 /// The folder in which cargo starts to look.

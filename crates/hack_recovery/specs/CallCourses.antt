@@ -1,5 +1,5 @@
 -- The ways that a call can go.
-use Rattle.std.specs.Prelude.{◌≡◌, ◌⊎◌, ℕ, Bool, true, false, not, nat_eq, IsSome, List, None, Ok, Err, Option, Result, string_bytes}
+use Rattle.std.specs.Prelude.{◌≡◌, ◌⊎◌, ℕ, Bool, true, false, codes, not, nat_eq, IsSome, List, None, Ok, Err, Option, Result, string_bytes}
 use Rattle.std.specs.Bool.{then_some}
 use Rattle.hack_base.specs.Counters.{GrowsBy}
 use Rattle.hack_base.specs.Names.{Name}
@@ -34,7 +34,8 @@ use Rattle.hack_words.specs.Edits.{is_change, is_restore}
 use Rattle.hack_recovery.specs.Admission.{IsAdmitted}
 use Rattle.hack_places.specs.CallPlaces.{ArePlacesOf, PlacesAt, is_left}
 use Rattle.hack_places.specs.FileLooks.{Unchanged}
-use Rattle.hack_places.specs.Folders.{folders, start_at, workspace_from}
+use Rattle.hack_base.specs.PathTexts.{join_of}
+use Rattle.hack_places.specs.Folders.{folders, leaves_out, start_at, workspace_from}
 use Rattle.hack_places.specs.LookedPaths.{IsPlaceLook, IsRepositoryLook, IsWorkspaceLook}
 use Rattle.hack_recovery.specs.FailedFiles.{RefusesThese}
 use Rattle.hack_recovery.specs.GuardEvents.{GuardsView, after_leave, after_start}
@@ -53,6 +54,7 @@ pub record ArePlacesFound (tells records : Type 0) (real : Name → Name) (held 
   pub found : tells → folder ≡ workspace_from held (start_at path dir)
   pub is_real : records → places.folder ≡ real folder
   pub are : ArePlacesOf tells held places.folder places
+  pub shared : tells → places.shared ≡ not (leaves_out held folder (start_at path dir))
   pub seen : tells → left ≡ is_left held places
 
 -- The call asks for no text and no list of cargo's. What it does to manifests, its places, and whether an interrupted call left
@@ -73,10 +75,11 @@ pub record DecidesHowToGoOn (tells whole records : Type 0) (real : Name → Name
   pub counted : GrowsBy 0 old.files.failed new.files.failed
 
 -- a path that is looked at to find the places of a call that names this manifest, or none, in this
--- folder: on the way up to the workspace's folder, on the way from there to its repository, or where an
--- interrupted call may have left something
+-- folder: on the way up to the workspace's folder, its manifest, on the way from there to its repository,
+-- or where an interrupted call may have left something
 pub data IsLookedAt (tells records : Type 0) (real : Name → Name) (held : Contents) (path : Option Name) (dir looked : Name) : Type 0 where
   for_workspace : IsWorkspaceLook tells held (start_at path dir) looked → IsLookedAt tells records real held path dir looked
+  for_members : (folder : Name) → (tells → folder ≡ workspace_from held (start_at path dir)) → looked ≡ join_of folder (codes "Cargo.toml") → IsLookedAt tells records real held path dir looked
   for_repository : (folder top : Name) → (tells → folder ≡ workspace_from held (start_at path dir)) → (records → top ≡ real folder) → IsRepositoryLook tells held (folders top) looked
       → IsLookedAt tells records real held path dir looked
   for_places : (folder : Name) (places : PlacesAt) → (tells → folder ≡ workspace_from held (start_at path dir)) → (records → places.folder ≡ real folder)

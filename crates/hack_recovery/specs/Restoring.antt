@@ -1,5 +1,5 @@
 -- What becomes of what an interrupted call left.
-use Rattle.std.specs.Prelude.{◌≡◌, ◌≢◌, ◌⊎◌, [], ℕ, Bool, true, false, IfErr, List, OnOk, Some, None, Ok, Err, Result, string_bytes}
+use Rattle.std.specs.Prelude.{◌≡◌, ◌≢◌, ◌⊎◌, [], ℕ, Bool, true, false, IfErr, List, OnOk, Some, None, Ok, Err, Result, string_bytes, if◌then◌else◌}
 use Rattle.std.specs.Option.{option_or}
 use Rattle.hack_base.specs.Counters.{GrowsBy}
 use Rattle.hack_base.specs.Names.{Name}
@@ -85,16 +85,17 @@ module _ {F L : Type 0} (f : Filing F) (l : Filing L) (places : PlacesAt) where
   IsWhyUncopied before now first last Unlocked = ⊥
   IsWhyUncopied before now first last fault = (GrowsBy 1 first last × IsUnseen l places.lockfile) ⊎ (GrowsBy 1 before now × IsRefused f places.copy)
 
-  -- the lockfile was copied, if there is one, no other file is changed, and no call failed; where it isn't
-  -- done, there is a cause, and at most the copy is changed, and then it has what the lockfile holds
+  -- the lockfile was copied, if there is one and it is that of the call's package, no other file is changed,
+  -- and no call failed; where it isn't done, there is a cause, and at most the copy is changed, and then it
+  -- has what that lockfile holds
   pub record KeepsCopy (came : Result (Unit {0}) CallFault) (old new : Scene) : Type 0 where
-    pub copied : OnOk came (f.tells → l.tells → new.files.held places.copy ≡ option_or (old.lockfiles.held places.lockfile) (old.files.held places.copy))
+    pub copied : OnOk came (f.tells → l.tells → new.files.held places.copy ≡ (if places.shared then option_or (old.lockfiles.held places.lockfile) (old.files.held places.copy) else old.files.held places.copy))
     pub why : IfErr came (IsWhyUncopied old.files.failed new.files.failed old.lockfiles.failed new.lockfiles.failed)
     pub others : f.tells → KeepsOthers places.copy old.files.held new.files.held
     pub counted : OnOk came (GrowsBy 0 old.files.failed new.files.failed × GrowsBy 0 old.lockfiles.failed new.lockfiles.failed)
     pub failed : OneMayFail old.files.failed new.files.failed × OneMayFail old.lockfiles.failed new.lockfiles.failed
     pub made : f.whole → Makes [] old.files.trace new.files.trace old.files.held new.files.held
-        ⊎ ((bytes : Name) × (l.tells → old.lockfiles.held places.lockfile ≡ Some bytes) × MakesOrNot (puts places.copy bytes) old.files.trace new.files.trace old.files.held new.files.held)
+        ⊎ ((bytes : Name) × (places.shared ≡ true) × (l.tells → old.lockfiles.held places.lockfile ≡ Some bytes) × MakesOrNot (puts places.copy bytes) old.files.trace new.files.trace old.files.held new.files.held)
     pub same : Unchanged l.tells l.whole old.lockfiles new.lockfiles
     pub host : new.host ≡ old.host
     pub said : SaysUncopied old.host.term.coloring came old.streams.err new.streams.err

@@ -21,7 +21,7 @@ use hack_files::fs::Files;
 use hack_journal::place::JournalPlace;
 use hack_places::look::LookFault;
 use hack_places::places::{Places, place_at};
-use hack_places::workspace::workspace;
+use hack_places::workspace::{leaves_out, workspace};
 use hack_run::reading::Reading;
 use hack_words::cli::{Edits, Env};
 use std::alloc::{AllocError, Global};
@@ -137,9 +137,11 @@ fn find<F: Files, K: Locks>(
         (F.bytes_at files.old) (F.bytes_at files.new) }
 {
     let named = text_in(&asked.manifest_path);
-    let found = workspace(alloc, named, env.current_dir.as_str(), files)?;
+    let dir = env.current_dir.as_str();
+    let found = workspace(alloc, named, dir, files)?;
+    let is_out = leaves_out(alloc, found.as_str(), named, dir, files)?;
     let folder = locks.real(alloc, found.as_str())?;
-    let places = Places::of(alloc, folder.as_str(), files)?;
+    let places = Places::of(alloc, folder.as_str(), !is_out, files)?;
     let is_left = places.is_left(alloc, files)?;
     Ok(Found { places, is_left })
 }

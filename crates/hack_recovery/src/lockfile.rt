@@ -5,7 +5,7 @@
 //! cargo's change from a person's, so it leaves the lockfile as it is.
 
 ghost use Rattle.std.specs.Prelude.{◌≡◌, ◌≢◌, ◌⊎◌, [], Err, IfErr, None, Ok, OnOk, Some, false};
-ghost use Rattle.std.specs.Prelude.{string_bytes, true};
+ghost use Rattle.std.specs.Prelude.{if◌then◌else◌, string_bytes, true};
 ghost use Rattle.std.specs.Option.{option_or};
 ghost use Rattle.hack_base.specs.Streams.{stream_of};
 ghost use Rattle.hack_base.specs.Counters.{GrowsBy};
@@ -39,7 +39,8 @@ use hack_run::host::Host;
 use hack_term::term::Term;
 use std::alloc::Global;
 
-/// Copies the lockfile, if there is one. Where that can't be done, the system's reason is reported.
+/// Copies the lockfile, if there is one and it is that of the call's package. Where that can't be done,
+/// the system's reason is reported.
 #[tactic(auto, using(crate::proofs::CountLemmas::counts))]
 pub(crate) fn keep_copy<F: Files, L: Files, E: Sink>(
     alloc: Global,
@@ -51,8 +52,10 @@ pub(crate) fn keep_copy<F: Files, L: Files, E: Sink>(
 ) -> Result<(), CallFault>
     ensures copied { OnOk result (F.tells → L.tells
         → F.bytes_at files.new (string_bytes places.now.copy)
-        ≡ option_or (L.bytes_at lockfiles.old (string_bytes places.now.lockfile))
-        (F.bytes_at files.old (string_bytes places.now.copy))) }
+        ≡ (if places.now.is_shared
+        then option_or (L.bytes_at lockfiles.old (string_bytes places.now.lockfile))
+        (F.bytes_at files.old (string_bytes places.now.copy))
+        else F.bytes_at files.old (string_bytes places.now.copy))) }
     ensures why { IfErr result (IsWhyUncopied F.Files L.Files (places_view places.now)
         (F.failed files.old) (F.failed files.new)
         (L.failed lockfiles.old) (L.failed lockfiles.new)) }
@@ -65,7 +68,7 @@ pub(crate) fn keep_copy<F: Files, L: Files, E: Sink>(
         (F.bytes_at files.old) (F.bytes_at files.new) }
     ensures made { F.whole → Makes [] (F.trace files.old) (F.trace files.new)
         (F.bytes_at files.old) (F.bytes_at files.new)
-        ⊎ ((bytes : Name) × (L.tells → L.bytes_at lockfiles.old
+        ⊎ ((bytes : Name) × (places.now.is_shared ≡ true) × (L.tells → L.bytes_at lockfiles.old
         (string_bytes places.now.lockfile) ≡ Some bytes)
         × MakesOrNot (puts (string_bytes places.now.copy) bytes)
         (F.trace files.old) (F.trace files.new) (F.bytes_at files.old) (F.bytes_at files.new)) }
@@ -75,6 +78,9 @@ pub(crate) fn keep_copy<F: Files, L: Files, E: Sink>(
     ensures said { SaysUncopied term.now.coloring result
         (stream_of E.Sink err.old) (stream_of E.Sink err.new) }
 {
+    if !places.is_shared {
+        return Ok(());
+    }
     match look(alloc, lockfiles, places.lockfile.as_str()) {
         Ok(None) => Ok(()),
         Ok(Some(bytes)) => match files.write(places.copy.as_str(), &bytes) {
