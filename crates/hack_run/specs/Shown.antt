@@ -30,7 +30,7 @@ use Rattle.hack_planner.specs.CallPlan.{IsCauseOf, IsPackagesCause, IsPlanOf}
 use Rattle.hack_planner.specs.Looks.{AreLongLooks}
 use Rattle.hack_planner.specs.declared.fault.PlanFault.{PlanFault}
 use Rattle.hack_planner.specs.declared.fault.PlanFault.TheVariants as plan
-use Rattle.hack_metadata.specs.QuestionCalls.{WroteWhereKnown}
+use Rattle.hack_metadata.specs.FailedQuestions.{WroteTo}
 use Rattle.hack_prepare.specs.FailedCalls.{IsOfFailedCallIn}
 use Rattle.hack_prepare.specs.PreparedView.{BeginWritesIn, IsPrepareFault, notes_in}
 use Rattle.hack_prepare.specs.Writes.{MakesSome}
@@ -278,8 +278,7 @@ has_edited came = true
 -- the questions of a call were answered over these files: no call of theirs failed but the one that an error is of
 pub record AsksOver {F : Type 0} (f : Filing F) (before loaded : F) (args : Args) (env : Env) (old new : List Call) (answers : Answers) : Type 0 where
   pub kept : f.stays before loaded
-  pub asked : AreAnswers f.tells (WroteWhereKnown f.whole f.tells (f.trace before) (f.trace loaded) (f.bytes_at before) (f.bytes_at loaded))
-      args env (f.bytes_at before) (f.failed before) (f.failed loaded) old new answers
+  pub asked : AreAnswers f.tells (WroteTo f before loaded) args env (f.bytes_at before) (f.failed before) (f.failed loaded) old new answers
   pub failed : AnswersFailSo f before loaded args env old new answers
   pub same : OnOk answers.loaded (f.tells → KeepsAll (f.bytes_at before) (f.bytes_at loaded))
 

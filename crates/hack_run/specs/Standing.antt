@@ -1,4 +1,4 @@
--- Manifests hold their edits while a plan is performed, also those that come back afterwards.
+-- Manifests once held their edits, also those that come back afterwards.
 use Rattle.std.specs.Prelude.{◌≡◌, List, string_bytes}
 use Rattle.hack_base.specs.Names.{Name}
 use Rattle.hack_base.specs.Notes.{Note}
