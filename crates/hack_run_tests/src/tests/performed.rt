@@ -173,7 +173,12 @@ fn files_that_fail(rt: HostRuntime) -> Result<(), Wrong> {
             | no copy
             | status 1
 
-            > performed: hack check --no-dev-deps; broken look 17
+            > performed: hack check --no-dev-deps; broken look 4
+            | error: failed to read from file `/w/Cargo.toml`
+            | no copy
+            | status 1
+
+            > performed: hack check --no-dev-deps; broken look 19
             | error: failed to read or write file `/w/.cargo-hack-journal~lock`
             | no copy
             | status 1
@@ -183,14 +188,14 @@ fn files_that_fail(rt: HostRuntime) -> Result<(), Wrong> {
             | no copy
             | status 1
 
-            > performed: hack check --no-dev-deps; broken look 23
+            > performed: hack check --no-dev-deps; broken look 25
             | info: --no-dev-deps modifies real `Cargo.toml` while cargo-hack is running and restores it when finished
             | error: failed to write to file `/w/Cargo.toml`
             | info: an edit was refused, since what it replaces can't be kept in `/w/.cargo-hack-journal`
             | no copy
             | status 1
 
-            > performed: hack check --no-dev-deps; broken look 25; broken call 5
+            > performed: hack check --no-dev-deps; broken look 27; broken call 5
             | info: --no-dev-deps modifies real `Cargo.toml` while cargo-hack is running and restores it when finished
             | info: running `cargo check` on p (1/1)
             | error: failed to write to file `/w/Cargo.toml`
@@ -199,21 +204,21 @@ fn files_that_fail(rt: HostRuntime) -> Result<(), Wrong> {
             | copy: # lock
             | status 1
 
-            > performed: hack check --no-dev-deps; broken look 31
+            > performed: hack check --no-dev-deps; broken look 33
             | info: --no-dev-deps modifies real `Cargo.toml` while cargo-hack is running and restores it when finished
             | info: running `cargo check` on p (1/1)
             | warning: `/w/.cargo-hack-journal` may stay: then the next call brings back what it tells
             | copy: # lock
             | status 0
 
-            > performed: hack check --no-dev-deps; broken look 32
+            > performed: hack check --no-dev-deps; broken look 34
             | info: --no-dev-deps modifies real `Cargo.toml` while cargo-hack is running and restores it when finished
             | info: running `cargo check` on p (1/1)
             | warning: `/w/.cargo-hack-journal~lock` stays: the next call removes it
             | copy: # lock
             | status 0
 
-            > performed: hack check --no-dev-deps; broken look 32; broken call 5
+            > performed: hack check --no-dev-deps; broken look 34; broken call 5
             | info: --no-dev-deps modifies real `Cargo.toml` while cargo-hack is running and restores it when finished
             | info: running `cargo check` on p (1/1)
             | error: failed to write to file `/w/Cargo.lock`
