@@ -34,7 +34,8 @@ FIND, MOST = "--find-conflicts", "--most-runs"
 
 # ---- The sets that may be chosen, by the definitions.
 
-# The position of all features, behind those of the candidates.
+# How a report names a run with all features, which is their position too, behind those of the candidates; one without features;
+# and a plain one.
 ALL, NONE, DEFAULTS = "all features", "no feature at all", "its default features"
 
 # A set that may be chosen: how a report names it, its place in the order of a powerset, the names that are on in its run, the

@@ -1,21 +1,15 @@
 -- What is left of the way up from a folder.
-use Rattle.std.proofs.Common.{◌≡◌, ◌∙◌, ◌++◌, ◌==◌, ◌||◌, ℕ, suc, Bool, true, false, List, ap, drop, eqb, inl, inr, length, refl, subst, sym}
-use Rattle.std.specs.Prelude.{◌≢◌}
-use Rattle.std.specs.List.{starts_with}
-use Rattle.std.proofs.lemmas.Bool.{cases_Bool}
-use Rattle.std.proofs.lemmas.Bool.Decides.{Decides-eqb}
-use Rattle.std.proofs.lemmas.List.{drop_at}
-use Rattle.std.proofs.lemmas.Slice.Eq.{starts_is}
+use Rattle.std.proofs.Common.{◌≡◌, ◌∙◌, ℕ, suc, Bool, true, false, List, ap, refl, subst, sym}
 use Rattle.std.specs.Borrow.{Bor}
 use Rattle.std.proofs.lemmas.Str.{IsUtf8-from_is_utf8, is_utf8-from_IsUtf8}
 use Rattle.std.specs.Str.{IsUtf8, is_utf8}
 use Rattle.std.specs.Prelude.{Option, Some, None, option_map, unwrap_or}
 use Rattle.std.specs.Option.{option_or}
 use Rattle.hack_base.specs.Names.{Name}
-use Rattle.hack_base.specs.PathTexts.{is_rooted, join_of, normal_of, parent_of}
+use Rattle.hack_base.specs.PathTexts.{join_of, normal_of, parent_of}
 use Rattle.hack_files.specs.Files.{Contents, KeepsAll}
 use Rattle.hack_places.proofs.LookLemmas.{all_same}
-use Rattle.hack_places.specs.Folders.{Saying, Here, At, Nothing, above, first_some, folder_said, is_inside, manifest_in, said_in, text_in_bytes, text_says, with_manifest}
+use Rattle.hack_places.specs.Folders.{Saying, Here, At, Nothing, above, first_some, folder_said, manifest_in, said_in, text_in_bytes, text_says, with_manifest}
 
 -- the workspace's folder, given the nearest folder with a manifest so far, and how many folders are
 -- left, from this one up
@@ -124,20 +118,3 @@ or_now (Some near) folder = refl
 pub unwrap_now : (near : Option (Bor Name)) (start : Bor Name) → (unwrap_or near start).now ≡ unwrap_or (option_map (λ k. k.now) near) start.now
 unwrap_now None start = refl
 unwrap_now (Some near) start = refl
-
--- ---- paths inside a folder
-
--- what comes after the folder ends there, or goes on with a slash
-pub inside_here : (folder path rest : Name) (b : Bool) → path ≡ folder ++ rest → b ≡ (length rest == 0 || is_rooted rest) → b ≡ is_inside folder path
-inside_here folder path rest b e h =
-    let t : starts_with eqb path folder ≡ true = (starts_is Decides-eqb path folder _ refl).1 rest e in
-    let d : drop (length folder) path ≡ rest = ap (drop (length folder)) e ∙ drop_at folder rest (length folder) refl in
-    rw (t, d) h
-
--- a path that doesn't begin with the folder
-pub inside_not : (folder path : Name) → ((rest : Name) → path ≢ folder ++ rest) → false ≡ is_inside folder path
-inside_not folder path h =
-    elim (cases_Bool (starts_with eqb path folder)) as (λ _. false ≡ is_inside folder path) [
-      | inl t ↦ absurd (h (drop (length folder) path) ((starts_is Decides-eqb path folder _ refl).0 t))
-      | inr f ↦ rw f refl
-    ]

@@ -1,12 +1,12 @@
 -- Where the workspace of a call is.
-use Rattle.std.specs.Prelude.{ℕ, zero, suc, Bool, false, not, ◌||◌, ◌&&◌, ◌==◌, List, [], ◌∷◌, Option, Some, None, codes, drop, is_some, length, nat_eq, option_and_then, option_map, unwrap_or, if◌then◌else◌}
+use Rattle.std.specs.Prelude.{ℕ, zero, suc, Bool, false, not, ◌||◌, ◌&&◌, List, [], ◌∷◌, Option, Some, None, bytes_eq, codes, is_some, length, nat_eq, option_and_then, option_map, unwrap_or, if◌then◌else◌}
 use Rattle.std.specs.List.{list_any, starts_with}
 use Rattle.std.specs.Option.{option_map_or, option_or}
 use Rattle.std.specs.Str.{is_utf8}
 use Rattle.toml.specs.Data.{Data, string, Members, as_array, get_member}
 use Rattle.toml.specs.Parse.{parse_document}
 use Rattle.hack_base.specs.Names.{Name}
-use Rattle.hack_base.specs.PathTexts.{is_rooted, join_of, normal_of, parent_of}
+use Rattle.hack_base.specs.PathTexts.{join_of, normal_of, parent_of, under_of}
 use Rattle.hack_files.specs.Files.{Contents}
 use Rattle.hack_manifest.specs.Manifest.{table_at, texts_in}
 
@@ -109,7 +109,7 @@ start_at (Some path) dir = parent_of (normal_of (join_of dir path))
 
 -- a path is that of a folder, or inside it
 abbrev pub is_inside : Name → Name → Bool
-is_inside folder path = starts_with nat_eq path folder && (length (drop (length folder) path) == 0 || is_rooted (drop (length folder) path))
+is_inside folder path = bytes_eq path folder || not (bytes_eq (under_of path folder) path)
 
 -- a text of a workspace's manifest, as a path from its folder, leads to a folder that the path is inside of
 abbrev pub leads_to : Name → Name → Name → Bool

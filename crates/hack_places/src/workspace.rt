@@ -18,7 +18,7 @@ ghost use Rattle.hack_places.specs.FileLooks.{AreLooksCounted, AreLooksSeen, IsO
 ghost use Rattle.hack_places.specs.LookedPaths.{IsWorkspaceLook};
 
 use crate::look::{LookFault, held};
-use hack_base::paths::{join, normal, parent};
+use hack_base::paths::{join, normal, parent, under};
 use hack_files::fs::Files;
 use hack_manifest::lookup::{find_table, value_at};
 use std::alloc::{AllocError, Global};
@@ -152,10 +152,7 @@ fn leads_to(alloc: Global, folder: &str, path: &str, text: &str) -> Result<bool,
 fn is_inside(folder: &str, path: &str) -> bool
     ensures { result ≡ is_inside folder.now path.now }
 {
-    match path.strip_prefix(folder) {
-        Some(rest) => rest.is_empty() || rest.starts_with('/'),
-        None => false,
-    }
+    path == folder || under(path, folder) != path
 }
 
 /// The folder in which cargo starts to look.
