@@ -407,6 +407,18 @@ def next_linked(place, link):
         place.as_before()
 
 
+def linked_members(place, folder):
+    """A call reaches members by links from a folder outside, where no manifest tells of their workspace. Its guard restores."""
+    place.lay_out()
+    write(f"{folder}/Cargo.lock", FILES["Cargo.lock"])
+    for name in ("p", "q"):
+        os.symlink(f"{place.workspace}/{name}", f"{folder}/{name}")
+    place.answers(folder)
+    place.interrupt(ENDS_IT, [*EDITS, "-m", f"{folder}/p/Cargo.toml"])
+    place.was_edited()
+    place.as_before()
+
+
 def two_workspaces(program, top):
     """Two workspaces of one repository, with names that are alike, are killed at the same time."""
     places = [Place(program, top, inner, f".git/cargo-hack-journal-{inner}") for inner in ("crates%foo", "crates/foo")]
@@ -533,6 +545,7 @@ def main():
             tries |= {
                 "a member outside, in a repository": lambda: outside(within),
                 "two workspaces of a repository": lambda: two_workspaces(program, f"{folder}/two"),
+                "links to members": lambda: linked_members(at_top, f"{folder}/links/members"),
             }
             links = {
                 "a link to a repository": (at_top, f"{folder}/links/a/b/one"),
@@ -545,7 +558,7 @@ def main():
         else:
             print("no git: tries in a repository skipped")
             tries |= all_tries(beside, {}, count)
-            skipped = 12
+            skipped = 13
         return run_all(tries, skipped)
 
 

@@ -14,7 +14,7 @@ changes and followed by a third; after a cut manifest one from a member's folder
 its changes.
 
 Other calls find a manifest that somebody has changed, journals that are torn, name what no call edits, or are of an older
-version, a workspace that was copied or moved with its journal, and a lockfile that cargo changes.
+version, a workspace that was copied or moved with its journal, a lockfile that cargo changes, and files that are mount points.
 
 Prints a line for each. The last line is `N passed, M failed, K skipped`; the status is 1 where one failed.
 """
@@ -35,7 +35,8 @@ from killed_calls import (  # noqa: E402
 from small_workspace import FILES, library, write  # noqa: E402
 
 # Kills programs of this name before the call of that number, or stops them, and says so by a file: the program itself, or the
-# one that its guard calls. With KILL_CUTS only writes of manifests are counted, and that one is made but for its last byte.
+# one that its guard calls. With KILL_CUTS only writes of manifests are counted, and that one is made but for its last byte. With
+# KILL_MOUNTS manifests and lockfiles are mount points, which no file can be renamed to.
 LIBRARY = r"""
 #define _GNU_SOURCE
 #include <dlfcn.h>
@@ -50,13 +51,14 @@ LIBRARY = r"""
 #include <unistd.h>
 
 static long calls, at;
-static int cuts;
+static int cuts, mounts;
 static int (*open_below)(const char *, int, ...);
 
 __attribute__((constructor)) static void start(void) {
     const char *name = getenv("KILL_IN"), *number = getenv("KILL_AT");
     open_below = dlsym(RTLD_NEXT, "open");
     cuts = getenv("KILL_CUTS") != NULL;
+    mounts = getenv("KILL_MOUNTS") != NULL;
     if (!getenv("KILL_GUARD") != !getenv("CARGO_HACK_GUARD")) return;
     if (name && number && !strcmp(program_invocation_short_name, name)) at = atol(number);
 }
@@ -74,12 +76,15 @@ static void count(void) {
     if (!cuts && is_now()) end();
 }
 
+static int ends(const char *path, ssize_t length, const char *name) {
+    ssize_t own = strlen(name);
+    return length >= own && !memcmp(path + length - own, name, own);
+}
+
 static int is_manifest(int fd) {
-    static const char name[] = "/Cargo.toml";
     char link[40], path[4096];
     snprintf(link, sizeof link, "/proc/self/fd/%d", fd);
-    ssize_t most = readlink(link, path, sizeof path), length = sizeof name - 1;
-    return most >= length && !memcmp(path + most - length, name, length);
+    return ends(path, readlink(link, path, sizeof path), "/Cargo.toml");
 }
 
 ssize_t write(int fd, const void *bytes, size_t length) {
@@ -127,6 +132,10 @@ int fsync(int fd) {
 int rename(const char *old, const char *new) {
     static int (*below)(const char *, const char *);
     if (!below) below = dlsym(RTLD_NEXT, "rename");
+    if (mounts && (ends(new, strlen(new), "/Cargo.toml") || ends(new, strlen(new), "/Cargo.lock"))) {
+        errno = EBUSY;
+        return -1;
+    }
     count();
     return below(old, new);
 }
@@ -204,8 +213,9 @@ def unguarded(killer, words, every):
 
 
 def cut(killer, words):
-    """Kills a call in each of its writes of a manifest: the guard restores all, and where there is none the next call, from a
-    member's folder. Texts are seen there that are neither the first nor the edited ones."""
+    """Kills a call in each of its writes of a manifest, that of the workspace inside its last letter: the guard restores all, and
+    where there is none the next call, from a member's folder. Texts are seen there that are neither the first nor the edited
+    ones."""
     place, seen = killer.place, set()
     place.lay_out()
     before = texts(place)
@@ -457,6 +467,23 @@ def full_disk(place):
     place.as_before()
 
 
+def mounted(killer):
+    """Manifests and the lockfile are mount points: the call restores them, its guard, and where there is none the next call."""
+    place, there = killer.place, {**killer.environment(0), "KILL_MOUNTS": "1"}
+    place.lay_out()
+    place.does(MORE)
+    status, told = place.call(EDITS, **there)
+    must(status == 0, f"status {status}: {told}")
+    place.was_edited()
+    place.as_before()
+    place.interrupt(MORE + ENDS_IT, **there)
+    place.was_edited()
+    place.as_before()
+    place.interrupt(**there)
+    place.restores(PLAIN, place.edited(), **there)
+    place.as_before()
+
+
 # ---- All of them.
 
 LOOKS = {
@@ -487,6 +514,7 @@ def kills(places, preload, every):
         "killed in each write of a manifest, private members": lambda: cut(beside, LEAVES_OUT),
         "killed with its guard": lambda: killed_guard(within, every),
         "while its guard is at work": lambda: guard_at_work(within),
+        "files that are mount points": lambda: mounted(within),
     }
 
 

@@ -55,7 +55,8 @@ def must(holds, found):
 
 
 def read(path):
-    with open(path, encoding="utf-8") as it:
+    """What a file holds; bytes that are no text are kept."""
+    with open(path, encoding="utf-8", errors="surrogateescape") as it:
         return it.read()
 
 

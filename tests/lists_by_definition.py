@@ -3,7 +3,10 @@
 that is computed here from the definitions alone, slowly: chains by closure, filters over all lists of positions, a set
 of entries that is sorted.
 
-usage: tests/lists_by_definition.py PROGRAM [--cases N] [--seed S] [--counts K]      PROGRAM: cargo-hack
+usage: tests/lists_by_definition.py PROGRAM [--cases N] [--seed S] [--counts K] [--maps LIST]
+
+PROGRAM is cargo-hack, and LIST powerset-list, which is asked first where it is given: for each feature map on three names,
+without a rule and under some.
 
 For each of N workspaces (300) and arguments it also asks for the pieces 1/n to n/n, by block and by turn, for K of the
 numbers n from 1 to 7 (all): each is compared with the piece of the definitions, and joined they have to be the list.
@@ -18,7 +21,7 @@ commands are in the whole list; they have to show each pattern that a listed set
 and all else is compared as above.
 Then the plan or a piece of it is run, over a cargo that fails on some of its commands. What is told of suspects has to be
 what follows from the definition for these outcomes, by looking at all patterns.
-The last line is `N passed, M failed`, of cases, and the status is 1 where one failed.
+The last line is `N passed, M failed`, of cases and maps under a rule, and the status is 1 where one failed.
 """
 import argparse
 import functools
@@ -27,6 +30,7 @@ import json
 import os
 import random
 import re
+import subprocess
 import sys
 import tempfile
 from collections import namedtuple
@@ -883,14 +887,67 @@ def try_case(program, workspace, uses, trailing, counts, rng):
     return fault, (wanted.count("\n"), pieces, 0, int(has_suspects))
 
 
+# ---- Feature maps by themselves.
+
+NAMES = "abc"
+# The options of powerset-list that each map is tried under: a depth, or a group of each two names.
+MAP_RULES = [[], *(["--depth", str(depth)] for depth in range(3))] + [
+    [option, ",".join(group)]
+    for option in ("--at-least-one-of", "--mutually-exclusive-features")
+    for group in itertools.combinations(NAMES, 2)
+]
+
+
+def maps():
+    """Each feature map on three names: each of them is no key, or enables some of the three."""
+    some = [names for size in range(len(NAMES) + 1) for names in itertools.combinations(NAMES, size)]
+    for held in itertools.product([None, *some], repeat=len(NAMES)):
+        yield {name: names for name, names in zip(NAMES, held) if names is not None}
+
+
+def list_of(features, depth=None, required=(), exclusive=()):
+    """The command list of a feature map's powerset."""
+    if not features:
+        return ["cargo check"]
+    keys = sorted(features)
+    sets = Choice(features, [[key] for key in keys], depth, required, exclusive).listed()
+    if len(sets) > 1 and not (depth is not None and depth < 2):
+        sets = sets[-1:] + sets[:-1]
+    none = "cargo check --no-default-features"
+    return [none] * (not required) + [f"{none} --features {','.join(keys[it] for it in chosen)}" for chosen in sets]
+
+
+def try_maps(program):
+    """Asks for the list of each map under each rule, and returns how many lists were right, and how many weren't."""
+    passed = failed = 0
+    for features, words in itertools.product(maps(), MAP_RULES):
+        option, value = words or (None, None)
+        wanted = list_of(
+            features,
+            int(value) if option == "--depth" else None,
+            [value.split(",")] if option == "--at-least-one-of" else [],
+            [value.split(",")] if option == "--mutually-exclusive-features" else [],
+        )
+        ran = subprocess.run([program, *words], input=json.dumps(features), capture_output=True, text=True, check=False)
+        fault = difference("".join(f"{line}\n" for line in wanted), ran, [])
+        passed += not fault
+        if fault:
+            failed += 1
+            print(f"{json.dumps(features)} {words}\n{fault}")
+    print(f"{passed + failed} lists of feature maps")
+    return passed, failed
+
+
 def main():
     reader = argparse.ArgumentParser(usage=__doc__)
     reader.add_argument("program")
+    reader.add_argument("--maps", default=None)
     for option, default in (("--cases", 300), ("--seed", 1), ("--counts", 7)):
         reader.add_argument(option, type=int, default=default)
     asked = reader.parse_args()
     program = os.path.realpath(asked.program)
-    failed, compared = 0, (0, 0, 0, 0)
+    passed, failed = try_maps(os.path.realpath(asked.maps)) if asked.maps else (0, 0)
+    compared = (0, 0, 0, 0)
     for case in range(asked.cases):
         rng = random.Random(f"{asked.seed}/{case}")
         with tempfile.TemporaryDirectory(prefix="slow-plan-") as folder:
@@ -901,13 +958,14 @@ def main():
             counts = sorted((case + it) % 7 + 1 for it in range(asked.counts))
             fault, more = try_case(program, workspace, uses, trailing, counts, rng)
         compared = tuple(a + b for a, b in zip(compared, more))
+        passed += not fault
         if fault:
             failed += 1
             words = [word for it in uses for word in it.words]
             print(f"case {case} of seed {asked.seed}: {words} -- {trailing}\n{json.dumps(workspace)}\n{fault}")
     lines, pieces, refused, reports = compared
     print(f"{asked.cases} workspaces: {lines} lines, {pieces} pieces, {refused} refused, {reports} with failing runs")
-    print(f"{asked.cases - failed} passed, {failed} failed")
+    print(f"{passed} passed, {failed} failed")
     return 1 if failed else 0
 
 

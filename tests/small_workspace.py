@@ -4,9 +4,10 @@ the scripts refused_memory.py, kill_points.py, broken_streams.py and whole_calls
 import os
 import subprocess
 
-# Its files. `q` is private, and the lockfile is one that cargo wouldn't write.
+# Its files. `q` is private, the lockfile is one that cargo wouldn't write, and the workspace's manifest ends with a letter of
+# two bytes.
 FILES = {
-    "Cargo.toml": '[workspace]\nmembers = ["p", "q"]\n',
+    "Cargo.toml": '[workspace]\nmembers = ["p", "q"]\n# \u00e9',
     "Cargo.lock": "# kept\n",
     "p/Cargo.toml": '[package]\nname = "p"\n\n[features]\na = ["d/x"]\nb = []\n\n[dev-dependencies]\nd = "1"\n',
     "q/Cargo.toml": '[package]\nname = "q"\npublish = false\n\n[dev-dependencies]\nd = "1"\n',

@@ -3,7 +3,6 @@
 mod calls;
 mod closures;
 mod command_lists;
-mod comparison;
 mod given;
 mod growing;
 mod inputs;
@@ -11,7 +10,6 @@ mod list_faults;
 mod lists;
 mod names;
 mod places;
-mod plain;
 mod rules;
 mod samples;
 mod searches;

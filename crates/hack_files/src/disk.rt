@@ -20,9 +20,9 @@ use std::{fs, io, rt};
 /// a full disk nor the end of the program during a write loses what the file held, or leaves a file
 /// that is written in part. A write doesn't wait for the disk: what was written shortly before a
 /// power cut may be lost. A symbolic link is followed. What can't be replaced is written in place:
-/// the target of a broken link, a file with several hard links, a device, and a file in a folder
-/// where no new file can be made. The new file beside `a` is named `a.cargo-hack-0`; one that is
-/// there already is removed, since a program left it that was killed.
+/// the target of a broken link, a file with several hard links, a device, a mount point, and a file
+/// in a folder where no new file can be made. The new file beside `a` is named `a.cargo-hack-0`; one
+/// that is there already is removed, since a program left it that was killed.
 ///
 /// `overwrite` writes over the bytes that are there: on many file systems a rename over a file, or
 /// its truncation, has all its data written to the disk at once, which over a thousand files takes
@@ -140,22 +140,21 @@ fn successor_at<R: rt::Files + AllocGlobal>(rt: &R, path: &str) -> Option<Succes
     }
 }
 
-/// Writes the bytes to the new file, and renames it to its target. Where that fails, the new file is
-/// removed.
+/// Writes the bytes to the new file, and renames it to its target; over a mount point, which no file can
+/// be renamed to, they are written in place. Where the new file isn't renamed, it is removed.
 fn replace<R: rt::Files>(rt: &R, successor: Successor<R::File>, bytes: &[u8]) -> io::Result<()> {
     let Successor {
         mut file,
         name,
         target,
     } = successor;
-    let placed = match file.write_all(bytes) {
-        Ok(()) => fs::rename(rt, name.as_str(), target.as_path()),
-        Err(e) => Err(e),
-    };
-    if placed.is_err() {
-        let _ = fs::remove_file(rt, name.as_str());
+    let written = file.write_all(bytes);
+    if written.is_ok() && fs::rename(rt, name.as_str(), target.as_path()).is_ok() {
+        return Ok(());
     }
-    placed
+    let _ = fs::remove_file(rt, name.as_str());
+    written?;
+    write_in_place(rt, target.as_str(), bytes)
 }
 
 fn write_file<R: rt::Files + AllocGlobal>(rt: &R, path: &str, bytes: &[u8]) -> io::Result<()> {

@@ -7,7 +7,7 @@ use Rattle.hack_base.specs.PathTexts.{join_of, normal_of, parent_of}
 use Rattle.hack_files.specs.Files.{Contents, KeepsAll}
 use Rattle.hack_places.proofs.LookLemmas.{all_same, seen_first}
 use Rattle.hack_places.specs.FileLooks.{IsOfLooked, IsOfPath}
-use Rattle.hack_places.specs.Folders.{Saying, above, first_some, folder_said, folders, manifest_in, said_in, text_says}
+use Rattle.hack_places.specs.Folders.{Saying, above, bytes_say, first_some, folder_said, folders, manifest_in, said_in}
 use Rattle.hack_places.specs.LookedPaths.{AreLeft, IsOwnFolderLook, IsRepositoryLook, IsWorkspaceLook}
 use Rattle.hack_places.specs.LookedPaths.IsOwnFolderLook.{file, head, itself, linked}
 use Rattle.hack_places.specs.Repositories.{has_head, is_folder, link_in, repository_in}
@@ -56,9 +56,9 @@ module _ {A : Type 0} (tells : Type 0) (found : Name → Option A) where
 -- ---- the way to the workspace's folder
 
 -- what a folder's manifest says, which was looked at after others
-pub said_first : (held mid : Contents) (folder : Name) (said : Option Saying) → KeepsAll held mid → said ≡ option_map text_says (manifest_in mid folder) → said_in held folder ≡ folder_said folder said
+pub said_first : (held mid : Contents) (folder : Name) (said : Option Saying) → KeepsAll held mid → said ≡ option_map bytes_say (manifest_in mid folder) → said_in held folder ≡ folder_said folder said
 said_first held mid folder said same looked =
-    ap (folder_said folder) (sym (subst (λ (m : Contents). said ≡ option_map text_says (manifest_in m folder)) (all_same held mid same) looked))
+    ap (folder_said folder) (sym (subst (λ (m : Contents). said ≡ option_map bytes_say (manifest_in m folder)) (all_same held mid same) looked))
 
 pub way_start : (T : Type 0) (held : Contents) (start : Name) (n m : ℕ) → folders start ≡ above n start → m ≡ n → AreLeft T (said_in held) (folders start) (above m start)
 way_start T held start n m all is = subst (λ (k : ℕ). AreLeft T (said_in held) (folders start) (above k start)) (sym is)

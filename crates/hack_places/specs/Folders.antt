@@ -39,11 +39,11 @@ abbrev pub has_part : List ℕ → List ℕ → Bool
 has_part part [] = false
 has_part part (b ∷ bs) = starts_with nat_eq (b ∷ bs) part || has_part part bs
 
--- a text that is no TOML is the workspace's own where it has the beginning of a table `workspace`
--- somewhere: a call that was killed while it wrote this manifest may have left a part of one text
--- before a part of another
+-- bytes that are no text, or no TOML, are the workspace's own where they have the beginning of a table
+-- `workspace` somewhere: a call that was killed while it wrote this manifest may have left a part of one
+-- text before a part of another
 abbrev pub torn_says : List ℕ → Saying
-torn_says text = if has_part (codes "[workspace") text then Here else Nothing
+torn_says bytes = if has_part (codes "[workspace") bytes then Here else Nothing
 
 -- what the text of a manifest says, by its tree, if it is TOML
 abbrev pub document_says : List ℕ → Option Members → Saying
@@ -54,16 +54,15 @@ document_says text (Some tree) = tree_says tree
 abbrev pub text_says : List ℕ → Saying
 text_says text = document_says text (parse_document text)
 
+-- what the bytes of a manifest say
+abbrev pub bytes_say : List ℕ → Saying
+bytes_say bytes = if is_utf8 bytes then text_says bytes else torn_says bytes
+
 -- ---- the folders at or above one
 
--- bytes that are text
-abbrev pub text_in_bytes : Option (List ℕ) → Option (List ℕ)
-text_in_bytes None = None
-text_in_bytes (Some bytes) = if is_utf8 bytes then Some bytes else None
-
--- the text of a folder's manifest, if it has one
+-- the bytes of a folder's manifest, if it has one
 abbrev pub manifest_in : Contents → Name → Option (List ℕ)
-manifest_in held folder = text_in_bytes (held (join_of folder (codes "Cargo.toml")))
+manifest_in held folder = held (join_of folder (codes "Cargo.toml"))
 
 -- the workspace's folder, where this is said in a folder
 abbrev pub folder_said : Name → Option Saying → Option Name
@@ -74,11 +73,11 @@ folder_said folder (Some Nothing) = None
 
 -- the workspace's folder, where the manifest in a folder says it
 abbrev pub said_in : Contents → Name → Option Name
-said_in held folder = folder_said folder (option_map text_says (manifest_in held folder))
+said_in held folder = folder_said folder (option_map bytes_say (manifest_in held folder))
 
 -- the folder itself, where it has a manifest
 abbrev pub with_manifest : Contents → Name → Option Name
-with_manifest held folder = option_map (λ text. folder) (manifest_in held folder)
+with_manifest held folder = option_map (λ bytes. folder) (manifest_in held folder)
 
 -- a folder, the one around it, and so on: n folders
 abbrev pub above : ℕ → Name → List Name
@@ -107,6 +106,11 @@ start_at (Some path) dir = parent_of (normal_of (join_of dir path))
 
 -- ---- packages that a workspace leaves out
 
+-- bytes that are text
+abbrev pub text_in_bytes : Option (List ℕ) → Option (List ℕ)
+text_in_bytes None = None
+text_in_bytes (Some bytes) = if is_utf8 bytes then Some bytes else None
+
 -- a path is that of a folder, or inside it
 abbrev pub is_inside : Name → Name → Bool
 is_inside folder path = bytes_eq path folder || not (bytes_eq (under_of path folder) path)
@@ -131,4 +135,4 @@ text_leaves_out folder path text =
 
 -- the workspace in a folder leaves out the package that is around a path: that has a lockfile of its own
 abbrev pub leaves_out : Contents → Name → Name → Bool
-leaves_out held folder path = option_map_or (text_leaves_out folder path) (manifest_in held folder) false
+leaves_out held folder path = option_map_or (text_leaves_out folder path) (text_in_bytes (manifest_in held folder)) false

@@ -9,7 +9,8 @@ ghost use Rattle.toml.specs.Data.{get_member};
 ghost use Rattle.std.specs.List.{list_any};
 ghost use Rattle.toml.specs.View.{array_view, table_view};
 ghost use Rattle.hack_manifest.specs.Manifest.{texts_in};
-ghost use Rattle.hack_places.specs.Folders.{field_says, fields_leave_out, has_part, is_inside};
+ghost use Rattle.hack_places.specs.Folders.{bytes_say, field_says, fields_leave_out, has_part};
+ghost use Rattle.hack_places.specs.Folders.{is_inside, torn_says};
 ghost use Rattle.hack_places.specs.Folders.{leads_to, leaves_out, manifest_in, start_at};
 ghost use Rattle.hack_places.specs.Folders.{text_leaves_out, texts_at};
 ghost use Rattle.hack_places.specs.Internal.{saying_in};
@@ -73,7 +74,7 @@ pub fn leaves_out<F: Files>(
         (F.bytes_at files.old) (F.bytes_at files.new) }
 {
     let start = start(alloc, manifest_path, dir)?;
-    match manifest(alloc, folder, files)? {
+    match text_of(manifest(alloc, folder, files)?) {
         Some(text) => Ok(text_leaves_out(alloc, folder, start.as_str(), text.as_str())?),
         None => Ok(false),
     }
@@ -214,14 +215,14 @@ pub enum Said {
     Here,
     /// That of the workspace is in another folder, by `package.workspace`.
     At(String),
-    /// It doesn't say, or can't be read.
+    /// It doesn't say, or is no manifest.
     Unsaid,
 }
 
 /// What is said in a folder.
 fn said_at<F: Files>(alloc: Global, folder: &str, files: &mut F) -> Result<Said, LookFault>
     ensures found { IfOk result (λ said. F.tells
-        → saying_in said ≡ option_map text_says (manifest_in (F.bytes_at files.old) folder.now)) }
+        → saying_in said ≡ option_map bytes_say (manifest_in (F.bytes_at files.old) folder.now)) }
     ensures counted { AreLooksCounted (F.failed files.old) (F.failed files.new) result }
     ensures seen { AreLooksSeen F.Files files.old files.new result }
     ensures named { IfErr result (IsOfPath (join_of folder.now (codes "Cargo.toml"))) }
@@ -230,29 +231,49 @@ fn said_at<F: Files>(alloc: Global, folder: &str, files: &mut F) -> Result<Said,
         (F.bytes_at files.old) (F.bytes_at files.new) }
 {
     match manifest(alloc, folder, files)? {
-        Some(text) => Ok(said_by(alloc, text.as_str())?),
+        Some(bytes) => Ok(said_by(alloc, bytes.as_slice())?),
         None => Ok(Said::Absent),
     }
 }
 
-/// What the manifest of this text says.
-fn said_by(alloc: Global, text: &str) -> Result<Said, AllocError>
+/// What a manifest of these bytes says.
+fn said_by(alloc: Global, bytes: &[u8]) -> Result<Said, AllocError>
+    ensures { IfOk result (λ said. saying_in said ≡ Some (bytes_say bytes.now)) }
+{
+    match str::from_utf8(bytes) {
+        Ok(text) => said_by_text(alloc, text),
+        Err(_) => Ok(said_by_torn(bytes)),
+    }
+}
+
+/// What a manifest of this text says.
+fn said_by_text(alloc: Global, text: &str) -> Result<Said, AllocError>
     ensures { IfOk result (λ said. saying_in said ≡ Some (text_says text.now)) }
 {
     match toml::table_from_str(alloc, text) {
         Ok(tree) => said_by_tree(alloc, &tree),
         Err(e) if e.is_memory() => Err(AllocError),
-        Err(_) if has_table(text) => Ok(Said::Here),
-        Err(_) => Ok(Said::Unsaid),
+        Err(_) => Ok(said_by_torn(text.as_bytes())),
     }
 }
 
-/// Whether the beginning of a table `workspace` stands somewhere in a text that is no TOML: a call
-/// that was killed may have cut the manifest.
-fn has_table(text: &str) -> bool
-    ensures { result ≡ has_part (codes "[workspace") text.now }
+/// What is said by a manifest that is no text or no TOML: it is the workspace's own where the beginning
+/// of a table `workspace` stands somewhere in it. A call that was killed may have cut it.
+fn said_by_torn(bytes: &[u8]) -> Said
+    ensures { saying_in result ≡ Some (torn_says bytes.now) }
 {
-    let mut rest = text.as_bytes();
+    if has_table(bytes) {
+        Said::Here
+    } else {
+        Said::Unsaid
+    }
+}
+
+/// Whether the beginning of a table `workspace` stands somewhere.
+fn has_table(bytes: &[u8]) -> bool
+    ensures { result ≡ has_part (codes "[workspace") bytes.now }
+{
+    let mut rest = bytes;
     while !rest.is_empty() {
         if rest.starts_with(b"[workspace") {
             return true;
@@ -287,15 +308,15 @@ fn said_by_package(alloc: Global, table: &Table) -> Result<Said, AllocError>
     }
 }
 
-/// The manifest in a folder, if there is one that is text.
+/// The bytes of the manifest in a folder, if there is one.
 #[tactic(auto, using(hack_files::proofs::FilesLemmas::trace_steps))]
 fn manifest<F: Files>(
     alloc: Global,
     folder: &str,
     files: &mut F,
-) -> Result<Option<String>, LookFault>
+) -> Result<Option<Vec<u8>>, LookFault>
     ensures found { IfOk result (λ found. F.tells
-        → optional_text found ≡ manifest_in (F.bytes_at files.old) folder.now) }
+        → option_map (λ bytes. bytes.items) found ≡ manifest_in (F.bytes_at files.old) folder.now) }
     ensures counted { AreLooksCounted (F.failed files.old) (F.failed files.new) result }
     ensures seen { AreLooksSeen F.Files files.old files.new result }
     ensures named { IfErr result (IsOfPath (join_of folder.now (codes "Cargo.toml"))) }
@@ -304,7 +325,7 @@ fn manifest<F: Files>(
         (F.bytes_at files.old) (F.bytes_at files.new) }
 {
     let path = join(alloc, folder, "Cargo.toml")?;
-    Ok(text_of(held(alloc, path.as_str(), files)?))
+    held(alloc, path.as_str(), files)
 }
 
 /// The bytes of a file as text, where they are text.

@@ -1,5 +1,5 @@
 -- The ways that a call can go.
-use Rattle.std.specs.Prelude.{◌≡◌, ◌⊎◌, ℕ, Bool, true, false, codes, not, nat_eq, IsSome, List, None, Ok, Err, Option, Result, string_bytes}
+use Rattle.std.specs.Prelude.{◌≡◌, ◌⊎◌, ℕ, Bool, true, false, if◌then◌else◌, codes, not, nat_eq, IsSome, List, None, Ok, Err, Option, Result, string_bytes}
 use Rattle.std.specs.Bool.{then_some}
 use Rattle.hack_base.specs.Counters.{GrowsBy}
 use Rattle.hack_base.specs.Names.{Name}
@@ -47,14 +47,22 @@ use Rattle.hack_recovery.specs.Texts.{copy_keeps, copy_left, copy_may_keep, jour
 
 -- ---- the beginning
 
--- the places of a call that names this manifest, or none, in this folder, and whether an interrupted
--- call left anything there; the workspace's folder is known by its path without symbolic links
-pub record ArePlacesFound (tells records : Type 0) (real : Name → Name) (held : Contents) (path : Option Name) (dir : Name) (places : PlacesAt) (left : Bool) : Type 0 where
+-- where a call that names this manifest, or none, begins to look for its workspace
+abbrev pub start_of : Env → Option Name → Name
+start_of env path = start_at path (string_bytes env.current_dir)
+
+-- the folder of its workspace: what a guard calls is called there, and needs no manifest that says so
+abbrev pub workspace_of : Contents → Env → Option Name → Name
+workspace_of held env path = if env.by_guard then string_bytes env.current_dir else workspace_from held (start_of env path)
+
+-- the places of a call that names this manifest, or none, and whether an interrupted call left anything
+-- there; the workspace's folder is known by its path without symbolic links
+pub record ArePlacesFound (tells records : Type 0) (real : Name → Name) (held : Contents) (path : Option Name) (env : Env) (places : PlacesAt) (left : Bool) : Type 0 where
   pub folder : Name
-  pub found : tells → folder ≡ workspace_from held (start_at path dir)
+  pub found : tells → folder ≡ workspace_of held env path
   pub is_real : records → places.folder ≡ real folder
   pub are : ArePlacesOf tells held places.folder places
-  pub shared : tells → places.shared ≡ not (leaves_out held folder (start_at path dir))
+  pub shared : tells → places.shared ≡ not (leaves_out held folder (start_of env path))
   pub seen : tells → left ≡ is_left held places
 
 -- The call asks for no text and no list of cargo's. What it does to manifests, its places, and whether an interrupted call left
@@ -64,7 +72,7 @@ pub record Begins (tells records : Type 0) (real : Name → Name) (words : List 
   pub path : Option Name
   pub asked : AsksForEdits env words does path
   pub back : does ≡ edits.Temporary → RestoresEdits env words
-  pub found : ArePlacesFound tells records real old.held path (string_bytes env.current_dir) places left
+  pub found : ArePlacesFound tells records real old.held path env places left
 
 -- with only looks at files, the call came to this answer on how it may go on
 pub record DecidesHowToGoOn (tells whole records : Type 0) (real : Name → Name) (words : List Name) (env : Env) (does : Edits) (places : PlacesAt) (old new : Scene) (came : Result Way CallFault) : Type 0 where
@@ -74,16 +82,16 @@ pub record DecidesHowToGoOn (tells whole records : Type 0) (real : Name → Name
   pub untouched : Untouched tells whole old new
   pub counted : GrowsBy 0 old.files.failed new.files.failed
 
--- a path that is looked at to find the places of a call that names this manifest, or none, in this
--- folder: on the way up to the workspace's folder, its manifest, on the way from there to its repository,
--- or where an interrupted call may have left something
-pub data IsLookedAt (tells records : Type 0) (real : Name → Name) (held : Contents) (path : Option Name) (dir looked : Name) : Type 0 where
-  for_workspace : IsWorkspaceLook tells held (start_at path dir) looked → IsLookedAt tells records real held path dir looked
-  for_members : (folder : Name) → (tells → folder ≡ workspace_from held (start_at path dir)) → looked ≡ join_of folder (codes "Cargo.toml") → IsLookedAt tells records real held path dir looked
-  for_repository : (folder top : Name) → (tells → folder ≡ workspace_from held (start_at path dir)) → (records → top ≡ real folder) → IsRepositoryLook tells held (folders top) looked
-      → IsLookedAt tells records real held path dir looked
-  for_places : (folder : Name) (places : PlacesAt) → (tells → folder ≡ workspace_from held (start_at path dir)) → (records → places.folder ≡ real folder)
-      → ArePlacesOf tells held places.folder places → IsPlaceLook places looked → IsLookedAt tells records real held path dir looked
+-- a path that is looked at to find the places of a call that names this manifest, or none: on the way up
+-- to the workspace's folder, its manifest, on the way from there to its repository, or where an
+-- interrupted call may have left something
+pub data IsLookedAt (tells records : Type 0) (real : Name → Name) (held : Contents) (path : Option Name) (env : Env) (looked : Name) : Type 0 where
+  for_workspace : env.by_guard ≡ false → IsWorkspaceLook tells held (start_of env path) looked → IsLookedAt tells records real held path env looked
+  for_members : (folder : Name) → (tells → folder ≡ workspace_of held env path) → looked ≡ join_of folder (codes "Cargo.toml") → IsLookedAt tells records real held path env looked
+  for_repository : (folder top : Name) → (tells → folder ≡ workspace_of held env path) → (records → top ≡ real folder) → IsRepositoryLook tells held (folders top) looked
+      → IsLookedAt tells records real held path env looked
+  for_places : (folder : Name) (places : PlacesAt) → (tells → folder ≡ workspace_of held env path) → (records → places.folder ≡ real folder)
+      → ArePlacesOf tells held places.folder places → IsPlaceLook places looked → IsLookedAt tells records real held path env looked
 
 -- the call asks for no text and no list of cargo's; it is known what it does to manifests, but not where its journal is, or
 -- whether an interrupted call left one: one call of files failed, which left a path unseen that is looked
@@ -94,7 +102,7 @@ pub record CannotSee {F : Type 0} (f : Filing F) (records : Type 0) (real : Name
   pub asked : AsksForEdits env words does path
   pub failed : GrowsBy 1 old.files.failed new.files.failed
   pub looked : Name
-  pub at : IsLookedAt f.tells records real old.files.held path (string_bytes env.current_dir) looked
+  pub at : IsLookedAt f.tells records real old.files.held path env looked
   pub unseen : IsUnseen f looked
   pub untouched : Untouched f.tells f.whole old new
   pub locks : new.locks ≡ old.locks

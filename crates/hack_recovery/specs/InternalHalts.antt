@@ -20,4 +20,4 @@ IsHalt f records real env words old new Memory = OneMayFail (f.failed old) (f.fa
 IsHalt f records real env words old new (Prints reading) = (new ≡ old) × AsksToPrint env words true × IfSome reading (IsEarlyReading env words)
 IsHalt f records real env words old new (Unseen asked path) =
     GrowsBy 1 (f.failed old) (f.failed new) × IsUnseen f (string_bytes path) × AsksForEdits env words asked.edits (optional_text asked.manifest_path) × IfSome asked.reading (IsEarlyReading env words)
-    × IsLookedAt f.tells records real (f.bytes_at old) (optional_text asked.manifest_path) (string_bytes env.current_dir) (string_bytes path) × AsksToPrint env words false
+    × IsLookedAt f.tells records real (f.bytes_at old) (optional_text asked.manifest_path) env (string_bytes path) × AsksToPrint env words false

@@ -1,15 +1,18 @@
 //! The beginning of a call: what it asks for, where its journal lies, and whether an interrupted call
 //! left anything.
 
-ghost use Rattle.std.specs.Prelude.{◌≡◌, [], IfErr, IfOk, IfSome, OnOk, string_bytes};
+ghost use Rattle.std.specs.Prelude.{◌≡◌, [], IfErr, IfOk, IfSome, OnOk, false, option_map};
+ghost use Rattle.std.specs.Prelude.{string_bytes};
 ghost use Rattle.hack_base.specs.Counters.{GrowsBy};
 ghost use Rattle.hack_base.specs.Names.{names_of, optional_text};
 ghost use Rattle.hack_files.specs.Files.{KeepsAll, Makes};
 ghost use Rattle.hack_journal.specs.Rows.{spot_of};
 ghost use Rattle.hack_recovery.specs.AskedEdits.{AsksVerbose};
-ghost use Rattle.hack_recovery.specs.CallCourses.{ArePlacesFound, Begins, IsLookedAt};
+ghost use Rattle.hack_recovery.specs.CallCourses.{ArePlacesFound, Begins, IsLookedAt, start_of};
+ghost use Rattle.hack_recovery.specs.CallCourses.{workspace_of};
 ghost use Rattle.hack_places.specs.FileLooks.{AreLooksCounted, AreLooksSeen, IsOfLooked};
 ghost use Rattle.hack_recovery.specs.InternalHalts.{IsHalt};
+ghost use Rattle.hack_places.specs.LookedPaths.{IsWorkspaceLook};
 ghost use Rattle.hack_places.specs.PlacesView.{places_view};
 ghost use Rattle.hack_run.specs.Readings.{IsEarlyReading};
 ghost use Rattle.hack_files.specs.View.{files_view};
@@ -125,23 +128,49 @@ fn find<F: Files, K: Locks>(
     locks: &K,
 ) -> Result<Found, LookFault>
     ensures found { IfOk result (λ found. ArePlacesFound F.tells K.tells (K.real locks.now)
-        (F.bytes_at files.old) (optional_text asked.now.manifest_path)
-        (string_bytes env.now.current_dir) (places_view found.places) found.is_left) }
+        (F.bytes_at files.old) (optional_text asked.now.manifest_path) env.now
+        (places_view found.places) found.is_left) }
     ensures counted { AreLooksCounted (F.failed files.old) (F.failed files.new) result }
     ensures seen { AreLooksSeen F.Files files.old files.new result }
     ensures looked { IfErr result (IsOfLooked (IsLookedAt F.tells K.tells (K.real locks.now)
-        (F.bytes_at files.old) (optional_text asked.now.manifest_path)
-        (string_bytes env.now.current_dir))) }
+        (F.bytes_at files.old) (optional_text asked.now.manifest_path) env.now)) }
     ensures same { F.tells → KeepsAll (F.bytes_at files.old) (F.bytes_at files.new) }
     ensures untraced { F.whole → Makes [] (F.trace files.old) (F.trace files.new)
         (F.bytes_at files.old) (F.bytes_at files.new) }
 {
     let named = text_in(&asked.manifest_path);
     let dir = env.current_dir.as_str();
-    let found = workspace(alloc, named, dir, files)?;
+    let found = folder_of(alloc, named, env, files)?;
     let is_out = leaves_out(alloc, found.as_str(), named, dir, files)?;
     let folder = locks.real(alloc, found.as_str())?;
     let places = Places::of(alloc, folder.as_str(), !is_out, files)?;
     let is_left = places.is_left(alloc, files)?;
     Ok(Found { places, is_left })
+}
+
+/// The folder of the workspace. What a guard calls is called there, so that it also finds the journal
+/// where the workspace's manifest was cut or is reached by a link.
+#[tactic(auto, using(hack_files::proofs::FilesLemmas::trace_steps))]
+fn folder_of<F: Files>(
+    alloc: Global,
+    named: Option<&str>,
+    env: &Env,
+    files: &mut F,
+) -> Result<String, LookFault>
+    ensures found { IfOk result (λ folder. F.tells → string_bytes folder ≡ workspace_of
+        (F.bytes_at files.old) env.now (option_map (λ path. path.now) named.entry)) }
+    ensures counted { AreLooksCounted (F.failed files.old) (F.failed files.new) result }
+    ensures seen { AreLooksSeen F.Files files.old files.new result }
+    ensures looked { IfErr result (IsOfLooked (λ looked. (env.now.by_guard ≡ false)
+        × IsWorkspaceLook F.tells (F.bytes_at files.old)
+        (start_of env.now (option_map (λ path. path.now) named.entry)) looked)) }
+    ensures same { F.tells → KeepsAll (F.bytes_at files.old) (F.bytes_at files.new) }
+    ensures untraced { F.whole → Makes [] (F.trace files.old) (F.trace files.new)
+        (F.bytes_at files.old) (F.bytes_at files.new) }
+{
+    let dir = env.current_dir.as_str();
+    if env.by_guard {
+        return Ok(String::from_str(alloc, dir)?);
+    }
+    workspace(alloc, named, dir, files)
 }

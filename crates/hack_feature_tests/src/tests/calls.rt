@@ -1,8 +1,7 @@
 //! Questions on the sets of an input. The rules follow each question, and `-` is the empty set.
 //!
 //! - `list`: the listed sets by their names; `sets`: by the places of their candidates.
-//! - `cover 0,2`: the set that covers this one, or `none`; `covers`: the same for each set.
-//! - `all`: the answers of `list`, `sets` and `covers`.
+//! - `cover 0,2`: the set that covers this one, or `none`.
 //! - `ask 0,1 2`: whether position 2 may extend this set, how many questions were counted, and
 //!   whether the set is complete.
 //! - `count 24`: how many sets each of the three enumerations finds, and whether `pruned` asks few
@@ -166,35 +165,6 @@ fn cover(
     Ok(text)
 }
 
-/// The numbers below `n`.
-fn places(alloc: Global, n: usize) -> Result<Vec<usize>, AllocError> {
-    (0..n).collect(alloc)
-}
-
-fn push_covers(
-    text: &mut String,
-    alloc: Global,
-    case: &Case,
-    refs: &[&Feature],
-) -> Result<(), AllocError> {
-    let rules = rules_of(alloc, case, refs)?;
-    let places = places(alloc, refs.len())?;
-    for set in powerset(alloc, places.as_slice(), None)? {
-        text.push_str(" ")?;
-        push_cover(text, alloc, &rules, refs.len(), set.as_slice())?;
-    }
-    Ok(())
-}
-
-fn all(alloc: Global, case: &Case, refs: &[&Feature]) -> Result<String, AllocError> {
-    let mut text = list(alloc, case, refs)?;
-    text.push_str("\n")?;
-    text.push_str(sets(alloc, case, refs)?.as_str())?;
-    text.push_str("\n")?;
-    push_covers(&mut text, alloc, case, refs)?;
-    Ok(text)
-}
-
 fn may_follow(
     alloc: Global,
     case: &Case,
@@ -289,7 +259,6 @@ fn answer(alloc: Global, input: &str, question: &str) -> Result<String, AllocErr
         "list" => list(alloc, &case, refs),
         "sets" => sets(alloc, &case, refs),
         "cover" => cover(alloc, &case, refs, set.as_slice()),
-        "all" => all(alloc, &case, refs),
         "ask" => may_follow(alloc, &case, refs, set.as_slice(), next),
         "sample" => sample(alloc, &case, refs, word.parse::<usize>().unwrap_or(0)),
         "settings" => settings(alloc, &rules_of(alloc, &case, refs)?, set.as_slice()),
@@ -297,13 +266,6 @@ fn answer(alloc: Global, input: &str, question: &str) -> Result<String, AllocErr
         "count" => count(alloc, &case, refs, word.parse::<u128>().unwrap_or(0)),
         _ => of_sets(alloc, kind, rest),
     }
-}
-
-/// The answer to the question `all` on an input with these rules.
-pub fn all_of(alloc: Global, input: &str, rules: &str) -> Result<String, AllocError> {
-    let case = case_of(alloc, input, rules)?;
-    let refs = refs(alloc, case.candidates.as_slice())?;
-    all(alloc, &case, refs.as_slice())
 }
 
 /// An input of which questions are asked.

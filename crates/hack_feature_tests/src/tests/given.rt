@@ -147,19 +147,6 @@ pub fn refs(alloc: Global, features: &[Feature]) -> Result<Vec<&Feature>, AllocE
     features.iter().collect(alloc)
 }
 
-/// The indexes of the bits that are set.
-pub fn positions_of(alloc: Global, bits: u64) -> Result<Vec<usize>, AllocError> {
-    let mut positions = Vec::new(alloc);
-    let mut rest = bits;
-    for place in 0..64 {
-        if rest % 2 == 1 {
-            positions.push(place)?;
-        }
-        rest /= 2;
-    }
-    Ok(positions)
-}
-
 /// A map of the names `f1` to `f{n}`, each of which but the first enables the one before it.
 fn chain(alloc: Global, n: usize) -> Result<String, AllocError> {
     let mut text = String::from_str(alloc, "f1:")?;
