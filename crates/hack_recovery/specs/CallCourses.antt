@@ -222,10 +222,9 @@ pub data CopiesAndRuns {F L U J : Type 0} (f : Filing F) (l : Filing L) (u : Not
   uncopied : (at : Scene) (fault : CallFault) → KeepsCopy f l places (Err fault) old at → Refuses fault at new
       → CopiesAndRuns f l u j talks words env places old new
 
--- how a call with a journal goes: a guard of the workspace's folder is started, and whatever came of
--- the call, it is left with the exit status, which is known once all is restored and what stays was
--- reported; nothing hangs on whether it came, which is told where more is asked for. Or memory was refused
--- for its start
+-- how a call with a journal goes: a guard of the workspace's folder is asked for, and whatever came of
+-- the call, it is left with the exit status (that it is left last of all is tested alone); nothing hangs
+-- on whether it came, which is told where more is asked for. Or memory was refused for its start
 pub data IsJournaledCall {F L U J : Type 0} (f : Filing F) (l : Filing L) (u : Noting U) (j : Filing J) (talks watched : Type 0) (words : List Name) (env : Env) (places : PlacesAt) (old new : Scene) : Type 0 where
   performed : (came verbose : Bool) (status : ℕ) (guards last : GuardsView) (err : Stream) (ran : Scene) → (watched → guards ≡ after_start places.folder came old.guards)
       → AsksVerbose env words verbose → SaysWatched old.host.term.coloring came verbose old.streams.err err
