@@ -6,3 +6,4 @@ pub mod RowLemmas
 pub mod ChosenLemmas
 pub mod BuildLemmas
 pub mod StepLemmas
+pub mod TopLemmas

@@ -1,7 +1,7 @@
 -- What loops that make rows have made after one more turn.
 use Rattle.std.proofs.Common.{◌≡◌, ◌≢◌, ℕ, zero, suc, ◌<◌, ◌≤◌, ◌+◌, List, [], ◌∷◌, ◌++◌, take, length, get_or, set, refl, sym, ap, ◌∙◌, subst, arith, Bool, true, false, cond, inl, inr, ◌↔◌, All, Contains, IsTrue, add-one, length-append}
 use Rattle.std.specs.Prelude.{Vec}
-use Rattle.std.proofs.lemmas.Bool.{false≢true, cases_eq}
+use Rattle.std.proofs.lemmas.Bool.{false≢true, cases_eq, cases_lt}
 use Rattle.std.proofs.lemmas.List.{map-append, get_or-set_same, get_or-set_other, get_or_push}
 use Rattle.std.proofs.Math.ListN.{get_or-append}
 use Rattle.std.proofs.lemmas.List.Elements.{All-push, Contains-push, Contains-append_left}
@@ -11,8 +11,9 @@ use Rattle.hack_conflicts.specs.Sets.{Has, mark, rows_of, IsWithin}
 use Rattle.hack_conflicts.specs.Rules.{IsPreorder, IsClosed, enables}
 use Rattle.hack_conflicts.specs.declared.rules.Rules.{Rules as SearchRules}
 use Rattle.hack_features.specs.Rules.{Choice}
-use Rattle.hack_closures.specs.Closures.{candidate_at}
-use Rattle.hack_closures.specs.Internal.{candidates_of, IsPair, AreTurnedOn, AreAllTurnedOn, AreOnWithAll, AreEnabledRows}
+use Rattle.hack_closures.specs.Closures.{IsTop, candidate_at}
+use Rattle.hack_closures.specs.Internal.{candidates_of, IsPair, AreGreatest, AreTurnedOn, AreAllTurnedOn, AreOnWithAll, AreEnabledRows}
+use Rattle.hack_closures.proofs.MemberLemmas.{has_below}
 
 -- one more mark, and one more row
 
@@ -64,15 +65,35 @@ unset_from s p q lt h = elim (cases_eq q p) [
 pub unset_to : (s : List Bool) (p q : ℕ) → q ≢ p → Has s q → Has (set s p false) q
 unset_to s p q ne h = get_or-set_other s p q false false ne ∙ h
 
--- what is left of a set after one more turn of the pass
+-- what is left of a set after the turns of the pass over the positions from a place on: the top positions
+-- among these, and all below
 pub record Left (r : SearchRules) (s left : List Bool) (place : ℕ) : Type 0 where
   pub within : IsWithin left s
+  pub below : (x : ℕ) → x < place → Has s x → Has left x
   pub above : IsClosed r s → (x : ℕ) → Has s x → (z : ℕ) × Has left z × IsTrue (enables r z x)
   pub apart : (x y : ℕ) → place ≤ x → Has left x → Has left y → IsTrue (enables r y x) → y ≡ x
+  pub kept : (x : ℕ) → IsTop r s x → Has left x
+  pub tops : IsClosed r s → (x : ℕ) → place ≤ x → Has left x → IsTop r s x
 
+past_end : (s : List Bool) (place x : ℕ) → length s ≤ place → place ≤ x → ¬ Has s x
+past_end s place x all le has = let lt = has_below s x has in omega arith
+
+-- before the first turn
+pub left_first : (r : SearchRules) (s : List Bool) (place : ℕ) → IsPreorder r → length s ≤ place → Left r s s place
+left_first r s place up all = record {
+  within = λ p has. has;
+  below = λ x lt has. has;
+  above = λ whole x has. (x, has, up.reflexive x (whole.below x has));
+  apart = λ x y le hx hy e. absurd (past_end s place x all le hx);
+  kept = λ x top. top.member;
+  tops = λ whole x le has. absurd (past_end s place x all le has);
+}
+
+-- another position that is left enables the one at the place, which is taken out
 pub left_out : (r : SearchRules) (s left : List Bool) (place : ℕ) → IsPreorder r → place < length left → Left r s left (place + 1) → (y : ℕ) × (y ≢ place) × Has left y × IsTrue (enables r y place) → Left r s (set left place false) place
 left_out r s left place up lt h w = record {
   within = λ p has. h.within p (unset_from left place p lt has).1;
+  below = λ x l has. unset_to left place x (λ e. let same : x ≡ place = e in omega arith) (h.below x (omega arith) has);
   above = λ whole x has.
       let z = h.above whole x has in
       elim (cases_eq z.0 place) [
@@ -84,6 +105,58 @@ left_out r s left place up lt h w = record {
       let b = unset_from left place y lt hy in
       let other : x ≢ place = a.0 in
       h.apart x y (omega arith) a.1 b.1 e;
+  kept = λ x top. unset_to left place x (λ e. no_top (subst (IsTop r s) e top)) (h.kept x top);
+  tops = λ whole x le hx.
+      let a = unset_from left place x lt hx in
+      let other : x ≢ place = a.0 in
+      h.tops whole x (omega arith) a.1;
+}
+  where
+    -- what enables a top position is greater, and was left since nothing else enables it
+    no_top : ¬ IsTop r s place
+    no_top top =
+        let both = top.others w.0 (h.within w.0 w.2) w.1 w.3 in
+        let more : place < w.0 = both.0 in
+        w.1 (sym (h.apart w.0 place (omega arith) w.2 (h.kept place top) both.1))
+
+-- no other position that is left enables the one at the place, which stays
+pub left_kept : (r : SearchRules) (s left : List Bool) (place : ℕ) → IsPreorder r → Left r s left (place + 1) → ((y : ℕ) → Has left y → IsTrue (enables r y place) → y ≡ place) → Left r s left place
+left_kept r s left place up h alone = record {
+  within = h.within;
+  below = λ x lt has. h.below x (omega arith) has;
+  above = h.above;
+  apart = λ x y le hx hy e. elim (cases_eq x place) [
+    | inl same ↦ alone y hy (subst (λ v. IsTrue (enables r y v)) same e) ∙ sym same
+    | inr ne ↦ let other : x ≢ place = ne in h.apart x y (omega arith) hx hy e
+  ];
+  kept = h.kept;
+  tops = λ whole x le hx. elim (cases_eq x place) [
+    | inl same ↦ subst (IsTop r s) (sym same) (top whole (subst (Has left) same hx))
+    | inr ne ↦ let other : x ≢ place = ne in h.tops whole x (omega arith) hx
+  ];
+}
+  where
+    -- what enables it is greater, and enabled by one that is left, which enables both and so is this one
+    top : IsClosed r s → Has left place → IsTop r s place
+    top whole has = record {
+      member = h.within place has;
+      others = λ y hy ne e. elim (cases_lt y place) [
+        | inl lt ↦ absurd (ne (alone y (h.below y (omega arith) hy) e))
+        | inr le ↦
+            let other : y ≢ place = ne in
+            let z = h.above whole y hy in
+            let same : z.0 ≡ place = alone z.0 z.1 (up.transitive z.0 y place z.2 e) in
+            (omega arith, subst (λ v. IsTrue (enables r v y)) same z.2)
+      ];
+    }
+
+-- after the last turn
+pub left_last : (r : SearchRules) (s left : List Bool) (place : ℕ) → place ≡ 0 → Left r s left place → IsClosed r s → AreGreatest r s left
+left_last r s left place end h whole = record {
+  within = h.within;
+  above = h.above whole;
+  apart = λ x y. h.apart x y (omega arith);
+  tops = λ x. (h.tops whole x (omega arith), h.kept x);
 }
 
 -- pairs

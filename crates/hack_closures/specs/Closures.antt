@@ -1,12 +1,12 @@
 -- Positions of candidates: which there are, what they enable, and what is built for sets of them.
-use Rattle.std.specs.Prelude.{◌≡◌, ◌<◌, ◌+◌, ℕ, List, [], ◌∷◌, length, Bool, cond, IsTrue, All, Contains, ◌↔◌}
+use Rattle.std.specs.Prelude.{◌≡◌, ◌≢◌, ◌<◌, ◌+◌, ℕ, List, [], ◌∷◌, length, Bool, cond, IsTrue, All, Contains, ◌↔◌}
 use Rattle.std.specs.List.{slice_index_or}
 use Rattle.hack_base.specs.Names.{Name}
 use Rattle.hack_conflicts.specs.Sets.{Has, mark}
 use Rattle.hack_conflicts.specs.Rules.{IsPreorder, IsChoice, size_of, enables}
 use Rattle.hack_conflicts.specs.declared.rules.Rules.{Rules as SearchRules}
 use Rattle.hack_sets.specs.Sets.{IsSelection}
-use Rattle.hack_features.specs.Rules.{Choice, CandidateReaches, IsExclusive, IsWanted, IsListed, IsEnabledBy}
+use Rattle.hack_features.specs.Rules.{Choice, CandidateReaches, IsExclusive, IsWanted, IsListed, IsEnabledBy, IsFirstCover}
 use Rattle.hack_features.specs.Samples.{IsOn}
 use Rattle.hack_features.specs.Settings.{IsOnWithAll}
 use Rattle.hack_closures.specs.declared.build.Build.{Build}
@@ -58,9 +58,23 @@ pub record StandsFor (c : Choice) (alone : List ℕ) (s : List Bool) (t : List �
   pub among : All (HasCandidate alone s) t
   pub same : (y : Name) → IsEnabledBy c t y ↔ ((p : ℕ) × HasCandidate alone s p × IsEnabledBy c (p ∷ []) y)
 
--- what is built for a set: all features if it is what their position enables, no features if it is
--- empty, else a listed set that stands for it
+-- x is a top position of the set: each other position of the set that enables it is a greater one, which it
+-- enables too
+pub record IsTop (r : SearchRules) (s : List Bool) (x : ℕ) : Type 0 where
+  pub member : Has s x
+  pub others : (y : ℕ) → Has s y → y ≢ x → IsTrue (enables r y x) → (x < y) × IsTrue (enables r x y)
+
+-- tops are the candidates of the set's top positions
+abbrev pub AreTops : List ℕ → SearchRules → List Bool → List ℕ → Type 0
+AreTops alone r s tops = (p : ℕ) → Contains tops p ↔ ((x : ℕ) × (x < length alone) × IsTop r s x × (candidate_at alone x ≡ p))
+
+-- t is the first set that covers the candidates of the set's top positions: there is at most one such t
+abbrev pub IsFirstFor : Choice → List ℕ → SearchRules → List Bool → List ℕ → Type 0
+IsFirstFor c alone r s t = (tops : List ℕ) × AreTops alone r s tops × IsFirstCover c tops t
+
+-- what is built for a set: all features if it has their position, and then it is what that enables; no
+-- features if it is empty; else the first listed set for its top positions, which stands for it
 abbrev pub IsBuildFor : Choice → List ℕ → Bool → SearchRules → List Bool → Build → Type 0
 IsBuildFor c alone all r s NoFeatures = (x : ℕ) → ¬ Has s x
-IsBuildFor c alone all r s AllFeatures = IsTrue all × ((x : ℕ) → mark s x ≡ enables r (length alone) x)
-IsBuildFor c alone all r s (Set t) = (¬ Has s (length alone)) × StandsFor c alone s t.items
+IsBuildFor c alone all r s AllFeatures = IsTrue all × Has s (length alone) × ((x : ℕ) → mark s x ≡ enables r (length alone) x)
+IsBuildFor c alone all r s (Set t) = (¬ Has s (length alone)) × StandsFor c alone s t.items × IsFirstFor c alone r s t.items

@@ -9,7 +9,7 @@ use Rattle.hack_sets.specs.Sets.{IsSelection}
 use Rattle.hack_features.specs.Rules.{Choice, CandidateReaches, IsRequired}
 use Rattle.hack_features.specs.Settings.{IsOnWithAll}
 use Rattle.hack_features.specs.Tables.{is_required}
-use Rattle.hack_closures.specs.Closures.{AreAlone, TurnsOn, candidate_at}
+use Rattle.hack_closures.specs.Closures.{AreAlone, IsTop, TurnsOn, candidate_at}
 
 -- the candidates of the set's positions
 abbrev pub candidates_of : List ℕ → List Bool → List ℕ
@@ -17,11 +17,12 @@ candidates_of [] s = []
 candidates_of (p ∷ alone) [] = []
 candidates_of (p ∷ alone) (b ∷ s) = cond b (p ∷ candidates_of alone s) (candidates_of alone s)
 
--- members of the set of which none enables another, and of which one enables each member
+-- the top positions of the set, of which none enables another, and of which one enables each member
 pub record AreGreatest (r : SearchRules) (s left : List Bool) : Type 0 where
   pub within : IsWithin left s
   pub above : (x : ℕ) → Has s x → (z : ℕ) × Has left z × IsTrue (enables r z x)
   pub apart : (x y : ℕ) → Has left x → Has left y → IsTrue (enables r y x) → y ≡ x
+  pub tops : (x : ℕ) → Has left x ↔ IsTop r s x
 
 -- a mark for each of the candidates, which says whether P holds of it
 pub record AreMarks (P : ℕ → Type 0) (alone : List ℕ) (row : List Bool) : Type 0 where

@@ -114,8 +114,8 @@ impl<'a> Closures<'a> {
     }
 
     /// What is built for a set that the search may choose: all features if it has their position,
-    /// no features if it is empty, else a listed set that enables what the set's candidates enable.
-    /// Of other sets nothing is promised.
+    /// no features if it is empty, else a listed set that enables what the set's candidates enable,
+    /// the first for its top positions. Of other sets nothing is promised.
     pub fn build_of(&self, alloc: Global, set: &[bool]) -> Result<Build, AllocError>
         ensures { IfOk result (λ build. IsChoice (search_of self.now) set.now
             → IsBuildFor (choice_in self.now) (alone_in self.now) (has_all self.now)

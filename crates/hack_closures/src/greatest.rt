@@ -1,5 +1,5 @@
 //! The greatest members of a set: none of them enables another, and each member is enabled by one
-//! of them.
+//! of them. Of members that enable each other the least one stays.
 
 ghost use Rattle.std.specs.Prelude.{◌≡◌, ◌≢◌, ℕ, IfOk, IsTrue, MatchBool};
 ghost use Rattle.hack_conflicts.specs.Sets.{Has};

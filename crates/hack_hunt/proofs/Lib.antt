@@ -1,5 +1,6 @@
 mod OrderLemmas
 mod RuleLemmas
 mod SetLemmas
+mod ToldLemmas
 pub mod HuntLemmas
 pub mod SpotLemmas

@@ -1,5 +1,5 @@
 -- The searches of a call: by which rules, in which order, and what they build and say.
-use Rattle.std.specs.Prelude.{ℕ, ◌≡◌, ◌+◌, ◌-◌, ◌⊎◌, ◌&&◌, ◌||◌, ◌↔◌, Bool, true, false, not, IsTrue, List, [], ◌∷◌, ◌++◌, AllPairs, Option, None, Some, Result, Ok, Err, length, option_map}
+use Rattle.std.specs.Prelude.{ℕ, ◌≡◌, ◌+◌, ◌-◌, ◌⊎◌, ◌&&◌, ◌||◌, ◌↔◌, Bool, true, false, not, IsTrue, List, [], ◌∷◌, ◌++◌, All, AllPairs, Contains, IfSome, Option, None, Some, Result, Ok, Err, length, option_map}
 use Rattle.std.specs.List.{AllZip, flat_map, range_with_len}
 use Rattle.std.specs.List.Sorted.{IsPermutation}
 use Rattle.std.specs.Result.{result_map_both}
@@ -12,7 +12,9 @@ use Rattle.hack_closures.specs.declared.closures.Closures.{Closures}
 use Rattle.hack_conflicts.specs.Rules.{IsChoice, row_of}
 use Rattle.hack_conflicts.specs.Runs.{AreBlamed, Finding, HasFailed, IsCourse, Run as Asked}
 use Rattle.hack_conflicts.specs.Sets.{Has, HasInside, IsWithin}
-use Rattle.hack_culprits.specs.Built.{AreHanded, AreMade, AreUnbroken, Explains, IsCutShort, IsHunt, Made, steps_from}
+use Rattle.hack_conflicts.specs.declared.tried.BuildOutcome.{BuildOutcome}
+use Rattle.hack_conflicts.specs.declared.tried.BuildOutcome.TheVariants.{Failed, Passed}
+use Rattle.hack_culprits.specs.Built.{AreHanded, AreMade, AreUnbroken, Explains, IsCutShort, IsHunt, Made, run_for, steps_from}
 use Rattle.hack_culprits.specs.declared.aim.Aim.{Aim}
 use Rattle.hack_culprits.specs.declared.fault.CulpritsFault.{CulpritsFault}
 use Rattle.hack_culprits.specs.declared.fault.CulpritsFault.TheVariants as fault
@@ -104,6 +106,17 @@ pub record IsToldAs (aim : Aim) (f : Finding) (h : Hunted) : Type 0 where
   pub unfinished : IsUnfinishedAs aim.closures.now f h.unfinished
   pub complete : h.complete ≡ f.complete
 
+-- the run of this build was built, and ended so
+abbrev pub HasRun : Aim → List Made → BuildOutcome → Build → Type 0
+HasRun aim made outcome b = Contains made (record { run = run_for aim.plain b; outcome = outcome })
+
+-- what is told was run: the builds for conflicts failed, those for passing sets passed, and the one that
+-- was left unfinished failed
+pub record WereRun (aim : Aim) (made : List Made) (h : Hunted) : Type 0 where
+  pub conflicts : All (HasRun aim made Failed) h.conflicts.items
+  pub passing : All (HasRun aim made Passed) h.passing.items
+  pub unfinished : IfSome h.unfinished (HasRun aim made Failed)
+
 -- a package, a slot, and the package's index in the plan
 pub record Spot : Type 0 where
   pub id : ℕ
@@ -129,6 +142,7 @@ pub record IsHuntAt (cx : ContextRecord) (spot : Spot) (most : Option ℕ) (h : 
   pub finding : Finding
   pub hunt : IsHunt aim most finding made old new
   pub told : IsToldAs aim finding h
+  pub ran : WereRun aim made h
 
 -- its runs were handed out
 pub record RanHuntAt {R : Type 0} (ran : PlanView → List Handed → R → R → Type 0) (ended : R → Bool) (cx : ContextRecord) (spot : Spot)

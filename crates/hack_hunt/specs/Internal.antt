@@ -22,7 +22,7 @@ use Rattle.hack_plan.specs.View.{PlanView}
 use Rattle.hack_planner.specs.Kinds.{package_choice}
 use Rattle.hack_planner.specs.PackageRules.{PackageRulesRecord}
 use Rattle.hack_session.specs.declared.step.Handed.{Handed}
-use Rattle.hack_hunt.specs.Hunts.{AreRulesOf, IsPlainAs, IsToldAs, Spot, ends_of, searched}
+use Rattle.hack_hunt.specs.Hunts.{AreRulesOf, IsPlainAs, IsToldAs, Spot, WereRun, ends_of, searched}
 use Rattle.hack_hunt.specs.declared.hunt.Hunted.{Hunted}
 use Rattle.hack_hunt.specs.declared.rules.Ends.{Ends}
 
@@ -35,7 +35,8 @@ pub record IsAimOf (c : Choice) (ends : Ends) (spot : Spot) (aim : Aim) : Type 0
 -- they were searched, and this is told of it
 abbrev pub RanAmong : {R : Type 0} → (PlanView → List Handed → R → R → Type 0) → (R → Bool) → Choice → Ends → Spot → Option ℕ → Hunted → PlanView → PlanView → R → R → Type 0
 RanAmong ran ended c ends spot most h old new a b =
-    (aim : Aim) × (finding : Finding) × IsAimOf c ends spot aim × RanHunt ran ended aim most finding old new a b × IsToldAs aim finding h
+    (aim : Aim) × (finding : Finding) × IsAimOf c ends spot aim × (hunt : RanHunt ran ended aim most finding old new a b)
+    × IsToldAs aim finding h × WereRun aim hunt.made h
 
 -- the search was cut short, or memory was refused before it began
 abbrev pub EndsAmong : {R : Type 0} → (PlanView → List Handed → R → R → Type 0) → (R → Bool) → Choice → Ends → Spot → Option ℕ → CulpritsFault → PlanView → PlanView → R → R → Type 0

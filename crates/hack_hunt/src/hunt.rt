@@ -58,7 +58,7 @@ pub fn hunt_all<R: Judge>(
     // Each package is searched in each slot, one after another, by its rules; the plan grows by just
     // the runs that the searches build, and these are handed out, in order. After an error the search
     // that was cut short is the last one. It is `Ended` just where a run was broken, after which none
-    // was built. What is told of a search is in the order of a powerset.
+    // was built. What is told of a search was run and ended so, and is in the order of a powerset.
     ensures { RanHunts R.ran R.ended (context_view cx.now) most_runs
         (spots_of (map place_at ids.now) (slots_in plan.old.call None)) (came_of result)
         plan.old plan.new runner.old runner.new }

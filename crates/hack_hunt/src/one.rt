@@ -16,7 +16,7 @@ ghost use Rattle.hack_planner.specs.Kinds.{package_choice};
 ghost use Rattle.hack_planner.specs.PackageRules.{rules_in};
 ghost use Rattle.hack_hunt.specs.Internal.{EndsAmong, EndsSearched, RanAmong, RanSearched};
 ghost use Rattle.hack_hunt.specs.Hunts.{AreBuiltFor, EndsAt, IsToldAs, IsUnfinishedAs, RanHuntAt};
-ghost use Rattle.hack_hunt.specs.Hunts.{searched};
+ghost use Rattle.hack_hunt.specs.Hunts.{WereRun, searched};
 ghost use Rattle.hack_hunt.specs.SpotView.{spot_view};
 
 use crate::hunt::Hunted;
@@ -168,8 +168,9 @@ fn hunt_aim<R: Judge>(
     requires room { HasRoom aim.member plan.old }
     requires order { IsPreorder (search_of aim.closures.now) }
     ensures hunted { IfOk result (λ hunted. (finding : Finding)
-        × RanHunt R.ran R.ended aim.entry most_runs finding plan.old plan.new
-        runner.old runner.new × IsToldAs aim.entry finding hunted) }
+        × (hunt : RanHunt R.ran R.ended aim.entry most_runs finding plan.old plan.new
+        runner.old runner.new) × IsToldAs aim.entry finding hunted
+        × WereRun aim.entry hunt.made hunted) }
     ensures fault { IfErr result (λ why. IsCutShort R.ran R.ended aim.entry most_runs why
         plan.old plan.new runner.old runner.new) }
 {

@@ -11,6 +11,7 @@ returns-clause-hunted g c =
       record { slot = refl; member = refl; rules = record { choice = made.choice; alone = made.alone; all = made.all; enabling = made.enabling; listed = made.listed; empty = made.empty; with_all = made.with_all; plain = refl } },
       h.1,
       h.2,
+      h.3,
     )) c.hunt_aim.ensures.hunted
 
 pub returns-clause-fault : goal.returns-clause-fault

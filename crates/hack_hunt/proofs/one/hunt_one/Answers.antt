@@ -28,6 +28,7 @@ returns-clause-hunted g c =
         finding = h.2.1;
         hunt = h.2.3.hunt;
         told = h.2.4;
+        ran = h.2.5;
       };
       handed = h.2.3.handed;
       whole = h.2.3.whole;

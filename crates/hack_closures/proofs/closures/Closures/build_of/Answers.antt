@@ -9,6 +9,7 @@ use Rattle.hack_closures.specs.View.{choice_in, alone_in, has_all, search_of}
 use Rattle.hack_closures.specs.Internal.{AreGreatest, candidates_of}
 use Rattle.hack_closures.proofs.MemberLemmas.{candidates_selection}
 use Rattle.hack_closures.proofs.BuildLemmas.{told_order, told_selection, told_all, told_last, told_stands, told_empty}
+use Rattle.hack_closures.proofs.TopLemmas.{tops_of}
 use Rattle.hack_closures.proofs.closures.Closures.build_of.Goals as goal
 use Rattle.hack_closures.proofs.closures.Closures.build_of.Goals.{else-self-via-then-self+else-has, else-self-via-else-self}
 
@@ -21,7 +22,7 @@ returns-then-has c = λ may.
     let k = c.args.self.now in
     let s : List Bool = c.args.set.now in
     let has : Has s (length (alone_in k)) = sym (last_mark k s c.len.result c.has.result c.len.ensures c.has.ensures) ∙ c.if-has.true in
-    (c.if-self.true, told_all (choice_in k) (alone_in k) (has_all k) (search_of k) k.told s may c.if-self.true has)
+    (c.if-self.true, has, told_all (choice_in k) (alone_in k) (has_all k) (search_of k) k.told s may c.if-self.true has)
 
 pub greatest-requires : goal.greatest-requires
 greatest-requires c = let k = c.args.self.now in told_order (choice_in k) (alone_in k) (has_all k) (search_of k) k.told
@@ -47,9 +48,11 @@ returns-in-Some c = λ may.
     let g : AreGreatest (search_of k) s left = c.in_ok-kept.ensures may.closed in
     let is : c.as_slice-3.result.now ≡ candidates_of (alone_in k) left =
     c.as_slice-3.ensures.value ∙ c.in_ok-candidates.ensures ∙ ap (λ l. candidates_of l c.as_slice-2.result.now) c.as_slice.ensures.value ∙ ap (candidates_of (alone_in k)) c.as_slice-2.ensures.value in
-    let cover = rw c.in-Some.is at c.in_ok-listed.ensures in (
+    let cover = rw c.in-Some.is at c.in_ok-listed.ensures in
+    let first = subst (λ l. IsFirstCover (choice_in k) l c.in-Some.listed.items) is cover.1 in (
       told_last (choice_in k) (alone_in k) (has_all k) (search_of k) k.told s may plain,
-      told_stands (choice_in k) (alone_in k) (has_all k) (search_of k) k.told s may plain left g c.in-Some.listed.items (subst (λ l. IsFirstCover (choice_in k) l c.in-Some.listed.items) is cover.1),
+      told_stands (choice_in k) (alone_in k) (has_all k) (search_of k) k.told s may plain left g c.in-Some.listed.items first,
+      (candidates_of (alone_in k) left, tops_of (choice_in k) (alone_in k) (search_of k) s left g.tops, first),
     )
 
 pub returns : goal.returns
