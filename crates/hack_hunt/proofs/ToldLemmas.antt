@@ -1,5 +1,5 @@
 -- What is told of a search was run.
-use Rattle.std.specs.Prelude.{ℕ, ◌≡◌, ◌≢◌, ◌⊎◌, Bool, List, [], ◌∷◌, All, Contains, IfSome, Option, None, Some, length}
+use Rattle.std.specs.Prelude.{ℕ, ◌≡◌, ◌≢◌, Bool, List, [], ◌∷◌, All, Contains, IfSome, Option, None, Some, length}
 use Rattle.std.specs.List.{AllZip}
 use Rattle.std.proofs.Common.{ap, inl, inr, refl, subst, ◌∙◌}
 use Rattle.std.proofs.lemmas.List.Elements.{All-cons, All-contains, All-head, All-nil, All-tail}
@@ -9,7 +9,7 @@ use Rattle.hack_closures.specs.Closures.{IsBuildFor}
 use Rattle.hack_closures.specs.View.{alone_in, choice_in, has_all, search_of}
 use Rattle.hack_closures.specs.declared.build.Build.{Build}
 use Rattle.hack_closures.specs.declared.build.Build.TheVariants as build
-use Rattle.hack_conflicts.specs.Runs.{Finding, Run as Asked}
+use Rattle.hack_conflicts.specs.Runs.{Finding}
 use Rattle.hack_conflicts.specs.declared.tried.BuildOutcome.{BuildOutcome}
 use Rattle.hack_conflicts.specs.declared.tried.BuildOutcome.TheVariants.{Broken, Failed, Passed}
 use Rattle.hack_culprits.specs.Built.{IsBuilt, IsHunt, Made, run_for}
