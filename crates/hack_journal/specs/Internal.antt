@@ -1,5 +1,5 @@
 -- What only private functions of the crate promise each other.
-use Rattle.std.specs.Prelude.{◌≡◌, ◌≢◌, ◌⊎◌, ◌++◌, [], ◌∷◌, ℕ, false, true, List, Option, Some, None, IsSome, string_bytes}
+use Rattle.std.specs.Prelude.{◌≡◌, ◌≢◌, ◌⊎◌, ◌<◌, ◌++◌, [], ◌∷◌, ℕ, false, true, List, Option, Some, None, IsSome, string_bytes}
 use Rattle.hack_base.specs.Counters.{GrowsBy}
 use Rattle.hack_files.specs.Files.{Change, Contents, Makes, Trace}
 use Rattle.hack_files.specs.declared.fs.FsFault.TheVariants as fs
@@ -38,6 +38,14 @@ unfoldable pub IsOver : List Edit → List ℕ → List ℕ → Option (List ℕ
 IsOver es path now new = SomeEntryHas (λ old. IsCutOf new old now) es path
 
 -- ---- errors
+
+-- the path is that of one of the row's first k files
+abbrev pub IsFileOfRow : List ℕ → ℕ → List ℕ → Type 0
+IsFileOfRow journal k path = (i : ℕ) × (i < k) × (path ≡ file_at journal i)
+
+-- or of one of these entries
+abbrev pub IsFileOrEntry : List ℕ → ℕ → List Edit → List ℕ → Type 0
+IsFileOrEntry journal k es path = IsFileOfRow journal k path ⊎ HasEntry es path
 
 -- a file at a path of which P holds can't be read or written, or memory was refused
 abbrev pub FailsAt : (List ℕ → Type 0) → RecoverFault → Type 0
