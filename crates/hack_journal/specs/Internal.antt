@@ -3,8 +3,10 @@ use Rattle.std.specs.Prelude.{◌≡◌, ◌≢◌, ◌⊎◌, ◌<◌, ◌++◌
 use Rattle.hack_base.specs.Counters.{GrowsBy}
 use Rattle.hack_files.specs.Files.{Change, Contents, Makes, Trace}
 use Rattle.hack_files.specs.declared.fs.FsFault.TheVariants as fs
+use Rattle.hack_base.specs.PathTexts.{is_rooted}
 use Rattle.hack_journal.specs.Journal.{Edit}
-use Rattle.hack_journal.specs.Rows.{Spot, AreFirst, IsFresh, IsTextOf, file_at, is_of_journal}
+use Rattle.hack_journal.specs.Keeping.{climbing_way}
+use Rattle.hack_journal.specs.Rows.{Spot, AreFirst, IsFresh, IsTextOf, file_at, is_of_journal, leads_to}
 use Rattle.hack_journal.specs.SafeFiles.{AfterEachFront, KeepFirst, IsSafe, StaysSafe, gives, changes_besides, IsJournaled, first_entry_of}
 use Rattle.hack_journal.specs.Strangers.{first_stranger, is_edit_of_manifest}
 use Rattle.hack_journal.specs.declared.recover.RecoverFault.{RecoverFault}
@@ -200,3 +202,9 @@ abbrev pub ShortensRow : Spot → List Edit → List Edit → Trace → Trace �
 ShortensRow spot es fs old_trace new_trace old new =
     (first : Contents) → IsJournaled spot first es old → IsAllBack spot.journal first old
     → StaysSafe spot first old_trace new_trace old new × IsJournaled spot first fs new
+
+-- ---- ways
+
+-- no way that climbs fewer steps than these from a folder leads to the path
+abbrev pub NoneClimbs : List ℕ → List ℕ → ℕ → Type 0
+NoneClimbs folder path n = (k : ℕ) → k < n → is_rooted (climbing_way k folder path) ≡ false → leads_to folder (climbing_way k folder path) ≢ path
