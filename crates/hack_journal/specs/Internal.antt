@@ -49,13 +49,6 @@ IsFileOfRow journal k path = (i : ℕ) × (i < k) × (path ≡ file_at journal i
 abbrev pub IsFileOrEntry : List ℕ → ℕ → List Edit → List ℕ → Type 0
 IsFileOrEntry journal k es path = IsFileOfRow journal k path ⊎ HasEntry es path
 
--- a file at a path of which P holds can't be read or written, or memory was refused
-abbrev pub FailsAt : (List ℕ → Type 0) → RecoverFault → Type 0
-FailsAt P Memory = Unit {0}
-FailsAt P (NotJournal j) = ⊥
-FailsAt P (Changed p j) = ⊥
-FailsAt P (Files f) = NamesPath P f
-
 -- this path couldn't be read, or memory was refused
 abbrev pub IsReadFault : List ℕ → RecoverFault → Type 0
 IsReadFault path Memory = Unit {0}
@@ -83,11 +76,10 @@ IsMemoryRefused (NotJournal j) = ⊥
 IsMemoryRefused (Changed p j) = ⊥
 IsMemoryRefused (Files f) = ⊥
 
--- the error of a failed call of files at this path, or of refused memory: no refusal of the journal
-pub record FaultsAtPath (path : List ℕ) (fault : RecoverFault) : Type 0 where
+-- the error of a failed call of files, or of refused memory: no refusal of the journal
+pub record IsFilesFault (fault : RecoverFault) : Type 0 where
   pub failures : (old new : ℕ) → GrowsBy 1 old new → CountsRecoverFault old new fault
   pub kind : ¬ IsJournalRefusal fault
-  pub named : FailsAt (λ p. p ≡ path) fault
 
 -- the error says that this path holds no journal; or memory was refused
 abbrev pub NamesNoJournal : List ℕ → RecoverFault → Type 0

@@ -13,7 +13,7 @@ ghost use Rattle.hack_journal.specs.Recovery.{AreTold, AreChanged, IsRestored, I
 ghost use Rattle.hack_journal.specs.Recovery.{IsJournalRefusal, IsFailureCounted, IsOwn};
 ghost use Rattle.hack_journal.specs.FailedCalls.{FailsOnlySo};
 ghost use Rattle.hack_journal.specs.Internal.{AddsChanged, AddsIfOther, backs};
-ghost use Rattle.hack_journal.specs.Internal.{FaultsAtPath, IsBackBut, IsMemoryRefused};
+ghost use Rattle.hack_journal.specs.Internal.{IsBackBut, IsFilesFault, IsMemoryRefused};
 ghost use Rattle.hack_journal.specs.Internal.{IsFileOfRow, IsFileOrEntry};
 ghost use Rattle.hack_journal.specs.Internal.{PutsBack, PutsBackOrSafe};
 ghost use Rattle.hack_journal.specs.Internal.{IsWhyNotTold, IsWriteFault};
@@ -91,7 +91,7 @@ impl From<AllocError> for RecoverFault {
 
 /// The error of a write or a removal.
 fn write_fault(alloc: Global, path: &str, fault: FileFault) -> RecoverFault
-    ensures at { FaultsAtPath path.now result }
+    ensures kind { IsFilesFault result }
     ensures write { IsWriteFault path.now result }
 {
     match fault {

@@ -9,7 +9,7 @@ ghost use Rattle.hack_journal.specs.Rows.{AreFirst, IsRowRead, file_at, placed, 
 ghost use Rattle.hack_journal.specs.Recovery.{AreOfCall, CountsRecoverFault, IsFailureCounted};
 ghost use Rattle.hack_journal.specs.Recovery.{IsReached, IsWhyUnread};
 ghost use Rattle.hack_journal.specs.FailedCalls.{FailsOnlySo};
-ghost use Rattle.hack_journal.specs.Internal.{FaultsAtPath, IsReadFault, IsReadMore, IsWhyTorn};
+ghost use Rattle.hack_journal.specs.Internal.{IsFilesFault, IsReadFault, IsReadMore, IsWhyTorn};
 ghost use Rattle.hack_journal.specs.Internal.{NamesNoJournal};
 
 use crate::contents::look;
@@ -30,7 +30,7 @@ pub struct Row {
 
 /// The error of reading a path.
 pub(crate) fn read_fault(alloc: Global, path: &str, fault: FileFault) -> RecoverFault
-    ensures at { FaultsAtPath path.now result }
+    ensures kind { IsFilesFault result }
     ensures read { IsReadFault path.now result }
 {
     match fault {
