@@ -1,6 +1,6 @@
 -- From an absolute folder the way by the root leads wherever any way does. Ways that climb are tried in order.
 use Rattle.std.proofs.Common.{Bor, ◌≡◌, ◌≢◌, ◌∙◌, ◌+◌, ◌-◌, ◌≤◌, ◌++◌, ◌==◌, ℕ, zero, suc, List, [], ◌∷◌, true, false, length, take, get_or, replicate, add-one, append-nil, append_assoc, ap, arith, codes, eqb, ne_eqb, inl, inr, refl, subst, sym, unwrap_or}
-use Rattle.std.specs.Prelude.{◌||◌, ◌⊎◌, All, MatchOption, Option, Some, None, if◌then◌else◌}
+use Rattle.std.specs.Prelude.{◌||◌, All, MatchOption, Option, Some, None, if◌then◌else◌}
 use Rattle.std.specs.Str.Pattern.{FindsCharPrefix, StripsPrefix}
 use Rattle.std.specs.List.{flat_map, fold, join_by, onto_first, repeat, slice_split, ends_with}
 use Rattle.std.proofs.lemmas.Bool.{cases_Bool, cases_lt}

@@ -1,4 +1,4 @@
-use Rattle.std.proofs.Common.{◌≡◌, ◌∙◌, ◌+◌, ◌++◌, IsTrue, List, ℕ, add-one, ap, codes, false, string_bytes, sym, subst}
+use Rattle.std.proofs.Common.{◌≡◌, ◌∙◌, ◌++◌, IsTrue, List, ℕ, add-one, ap, codes, false, sym, subst}
 use Rattle.std.specs.List.{repeat}
 use Rattle.hack_base.specs.PathTexts.{is_rooted, normal_of, parent_of, under_of, without_front}
 use Rattle.hack_journal.specs.Keeping.{climbing_way, folder_above}
