@@ -38,7 +38,8 @@ abbrev pub folder_above : ℕ → List ℕ → List ℕ
 folder_above zero folder = folder
 folder_above (suc k) folder = parent_of (folder_above k folder)
 
--- the way that climbs so many steps from a folder, and goes on by what of the path is behind the folder there
+-- the way that climbs so many steps from a folder, and goes on by what of the path is behind the
+-- folder there: all of it where the path isn't inside
 abbrev pub climbing_way : ℕ → List ℕ → List ℕ → List ℕ
 climbing_way k folder path = repeat k (codes "../") ++ without_front (codes "/") (under_of path (folder_above k (normal_of folder)))
 
