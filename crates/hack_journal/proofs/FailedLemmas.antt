@@ -39,28 +39,55 @@ puts_of f path bytes r a b changes put traced refused = record {
   refused = refused;
 }
 
-pub fault_then : {F : Type 0} (f : Filing F) (fault : RecoverFault) (a b c : F) → NoneFailed f a b → IsOfFailedCall f b c fault → IsOfFailedCall f a c fault
-fault_then f Memory a b c p (inl none) = inl (none_then f a b c p none)
-fault_then f Memory a b c p (inr (path, inl look)) = inr (path, inl (look_then f path a b c p look))
-fault_then f Memory a b c p (inr (path, inr write)) = inr (path, inr (write_then f path a b c p write))
-fault_then f (NotJournal j) a b c p q = none_then f a b c p q
-fault_then f (Changed path j) a b c p q = none_then f a b c p q
-fault_then f (Files (fs.Read path)) a b c p q = look_then f (string_bytes path) a b c p q
-fault_then f (Files (fs.Write path)) a b c p q = write_then f (string_bytes path) a b c p q
-fault_then f (Files (fs.NotText path)) a b c p q = absurd q
-fault_then f (Files fs.Memory) a b c p q = absurd q
+pub fault_then : {F : Type 0} (f : Filing F) (P : List ℕ → Type 0) (fault : RecoverFault) (a b c : F) → NoneFailed f a b → IsOfFailedCall f P b c fault → IsOfFailedCall f P a c fault
+fault_then f P Memory a b c p (inl none) = inl (none_then f a b c p none)
+fault_then f P Memory a b c p (inr (path, at, inl look)) = inr (path, at, inl (look_then f path a b c p look))
+fault_then f P Memory a b c p (inr (path, at, inr write)) = inr (path, at, inr (write_then f path a b c p write))
+fault_then f P (NotJournal j) a b c p q = none_then f a b c p q
+fault_then f P (Changed path j) a b c p q = none_then f a b c p q
+fault_then f P (Files (fs.Read path)) a b c p q = (q.0, look_then f (string_bytes path) a b c p q.1)
+fault_then f P (Files (fs.Write path)) a b c p q = (q.0, write_then f (string_bytes path) a b c p q.1)
+fault_then f P (Files (fs.NotText path)) a b c p q = absurd q
+fault_then f P (Files fs.Memory) a b c p q = absurd q
 
-pub ends_then : {F T : Type 0} (f : Filing F) (r : Result T RecoverFault) (a b c : F) → NoneFailed f a b → FailsOnlySo f b c r → FailsOnlySo f a c r
-ends_then f (Ok v) a b c p q = none_then f a b c p q
-ends_then f (Err fault) a b c p q = fault_then f fault a b c p q
+pub ends_then : {F T : Type 0} (f : Filing F) (P : List ℕ → Type 0) (r : Result T RecoverFault) (a b c : F) → NoneFailed f a b → FailsOnlySo f P b c r → FailsOnlySo f P a c r
+ends_then f P (Ok v) a b c p q = none_then f a b c p q
+ends_then f P (Err fault) a b c p q = fault_then f P fault a b c p q
+
+-- a call that failed at a path of which P holds failed at one of which the wider Q holds
+pub fault_wider : {F : Type 0} (f : Filing F) (P Q : List ℕ → Type 0) → ((p : List ℕ) → P p → Q p) → (fault : RecoverFault) (a b : F) → IsOfFailedCall f P a b fault → IsOfFailedCall f Q a b fault
+fault_wider f P Q to Memory a b (inl none) = inl none
+fault_wider f P Q to Memory a b (inr (path, at, one)) = inr (path, to path at, one)
+fault_wider f P Q to (NotJournal j) a b h = h
+fault_wider f P Q to (Changed path j) a b h = h
+fault_wider f P Q to (Files (fs.Read path)) a b h = (to (string_bytes path) h.0, h.1)
+fault_wider f P Q to (Files (fs.Write path)) a b h = (to (string_bytes path) h.0, h.1)
+fault_wider f P Q to (Files (fs.NotText path)) a b h = absurd h
+fault_wider f P Q to (Files fs.Memory) a b h = absurd h
+
+pub ends_wider : {F T : Type 0} (f : Filing F) (P Q : List ℕ → Type 0) → ((p : List ℕ) → P p → Q p) → (r : Result T RecoverFault) (a b : F) → FailsOnlySo f P a b r → FailsOnlySo f Q a b r
+ends_wider f P Q to (Ok v) a b h = h
+ends_wider f P Q to (Err fault) a b h = fault_wider f P Q to fault a b h
 
 -- a result that says at most that memory was refused
-pub memory_only : {F T : Type 0} (f : Filing F) (r : Result T RecoverFault) (a b : F) → IfErr r IsMemoryRefused → NoneFailed f a b → FailsOnlySo f a b r
-memory_only f (Ok v) a b only p = p
-memory_only f (Err Memory) a b only p = inl p
-memory_only f (Err (NotJournal j)) a b only p = absurd only
-memory_only f (Err (Changed path j)) a b only p = absurd only
-memory_only f (Err (Files fault)) a b only p = absurd only
+pub memory_only : {F T : Type 0} (f : Filing F) (P : List ℕ → Type 0) (r : Result T RecoverFault) (a b : F) → IfErr r IsMemoryRefused → NoneFailed f a b → FailsOnlySo f P a b r
+memory_only f P (Ok v) a b only p = p
+memory_only f P (Err Memory) a b only p = inl p
+memory_only f P (Err (NotJournal j)) a b only p = absurd only
+memory_only f P (Err (Changed path j)) a b only p = absurd only
+memory_only f P (Err (Files fault)) a b only p = absurd only
+
+-- the path of the first of some entries
+pub of_first : (e : Edit) (es : List Edit) (p : List ℕ) → HasEntry (e ∷ []) p → HasEntry (e ∷ es) p
+of_first e es p (inl is) = inl is
+of_first e es p (inr none) = absurd none
+
+pub first_failed : {F : Type 0} (f : Filing F) (e : Edit) (es : List Edit) (fault : RecoverFault) (a b : F) → IsOfFailedCall f (HasEntry (e ∷ [])) a b fault → IsOfFailedCall f (HasEntry (e ∷ es)) a b fault
+first_failed f e es = fault_wider f (HasEntry (e ∷ [])) (HasEntry (e ∷ es)) (of_first e es)
+
+-- the first of some entries was seen to, and then the rest
+pub rest_ends : {F T : Type 0} (f : Filing F) (e : Edit) (es : List Edit) (r : Result T RecoverFault) (a b c : F) → NoneFailed f a b → FailsOnlySo f (HasEntry es) b c r → FailsOnlySo f (HasEntry (e ∷ es)) a c r
+rest_ends f e es r a b c p h = ends_then f (HasEntry (e ∷ es)) r a b c p (ends_wider f (HasEntry es) (HasEntry (e ∷ es)) (λ q has. inr has) r b c h)
 
 -- the first of a list, and the rest
 pub rest_is : {X : Type 0} (xs : List X) (x : X) → 1 ≤ length xs → x ≡ slice_index_or xs 0 x → xs ≡ x ∷ take (length xs - 1) (drop 1 xs)
@@ -73,7 +100,7 @@ unseen_rest f e es (Ok v) a b c p h = none_then f a b c p h
 unseen_rest f e es (Err fault) a b c p (path, has, h) = (path, inr has, look_then f path a b c p h)
 
 -- what calls of which at most the last failed are put together by
-pub ruleset call_steps = (grows_then, none_failed, none_then, fault_then, ends_then, unseen_rest, trace_steps)
+pub ruleset call_steps = (grows_then, none_failed, none_then, fault_then, ends_then, first_failed, rest_ends, unseen_rest, trace_steps)
 
 -- ---- why a journal can't be ended
 
@@ -85,14 +112,14 @@ cannot_remove f noted a b c p (i, le, h) = inr (i, le, write_then f (file_at not
 
 -- ---- errors
 
-pub write_failed : {F : Type 0} (f : Filing F) (path : List ℕ) (fault : RecoverFault) (a b : F) → IsWriteFault path fault → WriteFailed f path a b → IsOfFailedCall f a b fault
-write_failed f path Memory a b is h = inr (path, inr h)
-write_failed f path (NotJournal j) a b is h = absurd is
-write_failed f path (Changed p j) a b is h = absurd is
-write_failed f path (Files (fs.Read p)) a b is h = absurd is
-write_failed f path (Files (fs.Write p)) a b is h = subst (λ (q : List ℕ). WriteFailed f q a b) (sym is) h
-write_failed f path (Files (fs.NotText p)) a b is h = absurd is
-write_failed f path (Files fs.Memory) a b is h = absurd is
+pub write_failed : {F : Type 0} (f : Filing F) (P : List ℕ → Type 0) (path : List ℕ) (fault : RecoverFault) (a b : F) → P path → IsWriteFault path fault → WriteFailed f path a b → IsOfFailedCall f P a b fault
+write_failed f P path Memory a b at is h = inr (path, at, inr h)
+write_failed f P path (NotJournal j) a b at is h = absurd is
+write_failed f P path (Changed p j) a b at is h = absurd is
+write_failed f P path (Files (fs.Read p)) a b at is h = absurd is
+write_failed f P path (Files (fs.Write p)) a b at is h = subst (λ (q : List ℕ). P q × WriteFailed f q a b) (sym is) (at, h)
+write_failed f P path (Files (fs.NotText p)) a b at is h = absurd is
+write_failed f P path (Files fs.Memory) a b at is h = absurd is
 
 -- after a look that found something, a read that fails leaves the path unseen
 pub unseen_there : {F : Type 0} (f : Filing F) (path : List ℕ) (a b c : F) → (f.tells → IsSome (f.bytes_at b path)) → NoneFailed f a b → f.refuses b c []

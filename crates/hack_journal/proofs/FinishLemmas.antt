@@ -2,10 +2,8 @@
 use Rattle.std.proofs.Common.{◌≡◌, ◌<◌, ◌+◌, ◌^◌, inl, inr, ℕ, suc, List, [], ◌∷◌, ◌++◌, Option, Some, None, length, refl, sym, ◌∙◌, subst, ap, append-nil, arith, true, false, Bool, cond}
 use Rattle.std.specs.Prelude.{All, IsTrue, IsSome, map, not, ◌↔◌}
 use Rattle.std.proofs.Math.Path.{fun_ext}
-use Rattle.std.proofs.lemmas.Bool.{cases_Bool}
 use Rattle.std.proofs.lemmas.List.{length-append, map-append}
 use Rattle.std.proofs.lemmas.List.Elements.{All-append, All-cons, All-head, All-nil, All-tail}
-use Rattle.std.specs.Str.{bytes_eq}
 use Rattle.hack_files.specs.Files.{Change, Contents, KeepsAll, KeepsOthers, Makes, MakesOrNot, Trace, removes}
 use Rattle.hack_journal.specs.Journal.{Edit, journal_text}
 use Rattle.hack_journal.specs.Rows.{Spot, AreEach, IsFresh, IsNoteOf, KeepsBeside, RemovesOwn, file_at, is_of_journal}

@@ -1,5 +1,5 @@
 -- What a journal keeps is put back.
-use Rattle.std.proofs.Common.{◌≡◌, ◌≢◌, ◌⊎◌, ◌<◌, ◌+◌, ◌-◌, inl, inr, ℕ, suc, List, [], ◌∷◌, ◌++◌, Option, Some, None, refl, sym, ◌∙◌, subst, ap, append-nil, append_assoc, add-one, length, true, Result, Ok, Err, OnOk, IfOk, IfErr, false, cond, arith}
+use Rattle.std.proofs.Common.{◌≡◌, ◌≢◌, ◌⊎◌, ◌<◌, ◌+◌, inl, inr, ℕ, suc, List, [], ◌∷◌, ◌++◌, Option, Some, None, refl, sym, ◌∙◌, subst, ap, append-nil, append_assoc, add-one, length, true, Result, Ok, Err, OnOk, IfOk, IfErr, false, cond, arith}
 use Rattle.std.specs.Prelude.{IsSome, string_bytes}
 use Rattle.std.specs.Str.{bytes_eq}
 use Rattle.std.proofs.Math.Path.{fun_ext}
@@ -8,14 +8,16 @@ use Rattle.std.proofs.lemmas.Slice.Eq.{bytes_eq-Decides}
 use Rattle.std.proofs.lemmas.Bool.{cases_Bool, cases_lt, false≢true}
 use Rattle.std.proofs.lemmas.Bool.Decides.{eqb_tells}
 use Rattle.hack_files.specs.Files.{Change, Contents, KeepsAll, KeepsOthers, Makes, MakesOrNot, Trace, after, after_change}
+use Rattle.hack_files.specs.declared.fs.Files.{Ghosts as Filing}
 use Rattle.hack_files.specs.declared.fs.FsFault.{FsFault}
 use Rattle.hack_files.specs.declared.fs.FsFault.TheVariants as fs
 use Rattle.hack_journal.specs.Journal.{Edit, journal_text, HaveTextPaths}
 use Rattle.hack_journal.specs.Rows.{Spot, AreFirst, AreRead, IsFresh, IsRowOf, IsRowRead, KeepsBeside, file_at, is_of_journal, placed}
 use Rattle.hack_journal.specs.SafeFiles.{gives, SomeEntryHasBytes, KeepFirst, AfterEachFront, IsKept, IsKeptBy, IsSafe, StaysSafe, AreBack, first_entry_of}
 use Rattle.hack_journal.specs.CutFiles.{IsSafeOrCut}
+use Rattle.hack_journal.specs.FailedCalls.{FailsOnlySo}
 use Rattle.hack_journal.specs.Recovery.{HasEntry, AgreesOnHeld, AreOfCall, AreTold, AreChanged, Restored, IsNoJournal, IsReached, IsWhy, IsWhyUnread, IsJournalRefusal, IsOwn, NamesPath, IsJournalOrItsEntry}
-use Rattle.hack_journal.specs.Internal.{AddsChanged, AddsIfOther, HoldsNoText, IsRead, IsReadMore, IsWhyNotTold, IsWhyTorn, NamesNoJournal, Nears, PutsBack, PutsBackOrSafe, FailsAt, backs}
+use Rattle.hack_journal.specs.Internal.{AddsChanged, AddsIfOther, HoldsNoText, IsRead, IsReadMore, IsWhyNotTold, IsWhyTorn, NamesNoJournal, Nears, PutsBack, PutsBackOrSafe, IsFileOrEntry, backs}
 use Rattle.hack_journal.specs.declared.recover.RecoverFault.{RecoverFault}
 use Rattle.hack_journal.specs.declared.recover.RecoverFault.TheVariants.{Memory, NotJournal, Changed, Files}
 use Rattle.hack_files.specs.TraceLaws.{makes_more, makes_none}
@@ -299,25 +301,37 @@ names_wider P Q to (fs.Write p) h = to (string_bytes p) h
 names_wider P Q to (fs.NotText p) h = absurd h
 names_wider P Q to fs.Memory h = absurd h
 
+-- a file of the row, where those before it were read
+pub reached_at : (s : Spot) (tells : Type 0) (k : ℕ) (es : List Edit) (m : Contents) → (tells → AreRead s m k es) → (p : List ℕ) → p ≡ file_at s.journal k → IsReached s tells m p
+reached_at s tells k es m read p is = (k, is, λ t i lt. reached s m k es (read t).files i lt)
+
+-- where a row was found, the journal's path holds something
+pub row_there : (s : Spot) (m : Contents) (c : ℕ) (es : List Edit) → c ≢ 0 → IsRowRead s m c es → IsSome (m s.journal)
+row_there s m c es some row = subst IsSome (ap m (file_zero s.journal)) (reached s m c es row.files.files 0 (omega (arith, some)))
+
 -- a file that can't be read, behind others that were read
 pub why_torn : (s : Spot) (tells : Type 0) (k : ℕ) (es : List Edit) (m n : Contents) (fault : RecoverFault) → (tells → KeepsAll m n) → (tells → AreRead s m k es) → IsWhyTorn s k tells n fault → IsWhyUnread s tells m fault
 why_torn s tells k es m n Memory same read why = tt
 why_torn s tells k es m n (NotJournal p) same read why = (why.0, λ t. no_row s m k es (read t).files (subst (λ (x : Contents). HoldsNoText s k x) (all_same m n (same t)) (why.1 t)))
 why_torn s tells k es m n (Changed p q) same read why = absurd why
 why_torn s tells k es m n (Files f) same read why =
-    names_wider (λ p. p ≡ file_at s.journal k) (IsReached s tells m) (λ p is. (k, is, λ t i lt. reached s m k es (read t).files i lt)) f why
+    names_wider (λ p. p ≡ file_at s.journal k) (IsReached s tells m) (reached_at s tells k es m read) f why
+
+-- a file of the row, or the path of an entry
+pub file_or_entry : (s : Spot) (tells : Type 0) (c : ℕ) (es : List Edit) (m : Contents) → (tells → IsRowRead s m c es) → (p : List ℕ) → IsFileOrEntry s.journal c es p → IsJournalOrItsEntry s tells m p
+file_or_entry s tells c es m row p (inl file) = inl (file.0, file.2, λ t i lt. reached s m c es (row t).files.files i (omega (arith, lt, file.1)))
+file_or_entry s tells c es m row p (inr has) = inr (λ t. (es, row_of s m c es (row t), has))
 
 -- a file couldn't be put back, or a file of the journal couldn't be removed
-pub why_failed : (s : Spot) (tells : Type 0) (c : ℕ) (es : List Edit) (m : Contents) (fault : RecoverFault) → (tells → IsRowRead s m c es) → FailsAt (λ p. ((i : ℕ) × (i < c) × (p ≡ file_at s.journal i)) ⊎ HasEntry es p) fault → IsWhy s tells m fault
-why_failed s tells c es m Memory row h = tt
-why_failed s tells c es m (NotJournal p) row h = absurd h
-why_failed s tells c es m (Changed p q) row h = absurd h
-why_failed s tells c es m (Files f) row h =
-    names_wider (λ p. ((i : ℕ) × (i < c) × (p ≡ file_at s.journal i)) ⊎ HasEntry es p) (IsJournalOrItsEntry s tells m)
-    (λ p is. elim is [
-      | inl file ↦ inl (file.0, file.2, λ t i lt. reached s m c es (row t).files.files i (omega (arith, lt, file.1)))
-      | inr has ↦ inr (λ t. (es, row_of s m c es (row t), has))
-    ]) f h
+pub why_failed : {F T : Type 0} (f : Filing F) (s : Spot) (m : Contents) (r : Result T RecoverFault) (a b : F) → IfErr r (λ fault. ¬ IsJournalRefusal fault) → FailsOnlySo f (IsJournalOrItsEntry s f.tells m) a b r → IfErr r (IsWhy s f.tells m)
+why_failed f s m (Ok v) a b kind h = tt
+why_failed f s m (Err Memory) a b kind h = tt
+why_failed f s m (Err (NotJournal p)) a b kind h = absurd (kind tt)
+why_failed f s m (Err (Changed p q)) a b kind h = absurd (kind tt)
+why_failed f s m (Err (Files (fs.Read p))) a b kind h = h.0
+why_failed f s m (Err (Files (fs.Write p))) a b kind h = h.0
+why_failed f s m (Err (Files (fs.NotText p))) a b kind h = absurd h
+why_failed f s m (Err (Files fs.Memory)) a b kind h = absurd h
 
 pub why_unread : (s : Spot) (tells : Type 0) (m : Contents) (fault : RecoverFault) → IsWhyUnread s tells m fault → IsWhy s tells m fault
 why_unread s tells m Memory why = tt

@@ -1,8 +1,9 @@
--- From an absolute folder the way by the root leads wherever any way does.
-use Rattle.std.proofs.Common.{◌≡◌, ◌≢◌, ◌∙◌, ◌+◌, ◌-◌, ◌≤◌, ◌++◌, ◌==◌, ℕ, zero, suc, List, [], ◌∷◌, true, false, length, take, get_or, replicate, add-one, append-nil, append_assoc, ap, arith, codes, eqb, ne_eqb, inl, inr, refl, subst, sym, unwrap_or}
-use Rattle.std.specs.Prelude.{◌||◌, All, Some, None, if◌then◌else◌}
+-- From an absolute folder the way by the root leads wherever any way does. Ways that climb are tried in order.
+use Rattle.std.proofs.Common.{Bor, ◌≡◌, ◌≢◌, ◌∙◌, ◌+◌, ◌-◌, ◌≤◌, ◌++◌, ◌==◌, ℕ, zero, suc, List, [], ◌∷◌, true, false, length, take, get_or, replicate, add-one, append-nil, append_assoc, ap, arith, codes, eqb, ne_eqb, inl, inr, refl, subst, sym, unwrap_or}
+use Rattle.std.specs.Prelude.{◌||◌, All, MatchOption, Option, Some, None, if◌then◌else◌}
+use Rattle.std.specs.Str.Pattern.{FindsCharPrefix, StripsPrefix}
 use Rattle.std.specs.List.{flat_map, fold, join_by, onto_first, repeat, slice_split, ends_with}
-use Rattle.std.proofs.lemmas.Bool.{cases_Bool}
+use Rattle.std.proofs.lemmas.Bool.{cases_Bool, cases_lt}
 use Rattle.std.proofs.lemmas.Bool.Decides.{Decides-eqb}
 use Rattle.std.proofs.lemmas.List.Elements.{All-cons, All-head, All-nil, All-push, All-tail, All-take}
 use Rattle.std.proofs.lemmas.List.Splits.{length-slice_split, slice_split-cons_no, slice_split-cons_yes, slice_split_at, slice_split_none}
@@ -10,7 +11,11 @@ use Rattle.std.proofs.lemmas.List.Sums.{count_by-le-length, fold-append}
 use Rattle.std.proofs.lemmas.List.{length-append, length-take-le}
 use Rattle.std.proofs.lemmas.Option.{slice_get-get_or}
 use Rattle.std.proofs.lemmas.Slice.Eq.{starts_is, ends_is}
-use Rattle.hack_base.specs.PathTexts.{is_dropped, is_rooted, is_slash, is_up, join_of, kept_of, one_up, with_part, with_slash, without_last}
+use Rattle.std.proofs.lemmas.Str.Pattern.{strip_prefix_char}
+use Rattle.hack_base.specs.PathTexts.{is_dropped, is_rooted, is_slash, is_up, join_of, kept_of, one_up, with_part, with_slash, without_front, without_last}
+use Rattle.hack_base.proofs.PathLemmas.{front-here, front-none}
+use Rattle.hack_journal.specs.Internal.{NoneClimbs}
+use Rattle.hack_journal.specs.Keeping.{IsWayless, climbing_way}
 use Rattle.hack_journal.specs.Rows.{leads_to}
 
 abbrev NoSlash : ℕ → Type 0
@@ -218,3 +223,30 @@ no_way folder path root fails way off leads =
     let at : rooted_at kept ≡ path = sym (leads_at folder way c off) ∙ leads in
     let all : All IsKept kept = all_kept (kept_front c.front) (slice_split is_slash way) (all_kept [] (slice_split is_slash c.front) (All-nil IsKept) (parts_of c.front)) (parts_of way) in
     fails (subst (λ (p : List ℕ). (is_rooted (by_root folder p) ≡ false) × (leads_to folder (by_root folder p) ≡ p)) at (leads_back folder kept c all))
+
+-- ---- ways that climb
+
+-- one step up more
+pub one_more : (n : ℕ) (xs : List ℕ) → repeat n xs ++ xs ≡ repeat (suc n) xs
+one_more zero xs = sym (append-nil xs)
+one_more (suc n) xs = append_assoc xs (repeat n xs) xs ∙ ap (λ l. xs ++ l) (one_more n xs)
+
+-- one way more was tried
+pub climbs_more : (folder path : List ℕ) (n : ℕ) → NoneClimbs folder path n → (is_rooted (climbing_way n folder path) ≡ false → leads_to folder (climbing_way n folder path) ≢ path) → NoneClimbs folder path (n + 1)
+climbs_more folder path n before this k lt off leads = elim (cases_lt k n) [
+  | inl less ↦ before k less off leads
+  | inr not ↦
+      let is : k ≡ n = omega (arith, lt, not) in
+      this (subst (λ (i : ℕ). is_rooted (climbing_way i folder path) ≡ false) is off) (subst (λ (i : ℕ). leads_to folder (climbing_way i folder path) ≡ path) is leads)
+]
+
+-- a path without the slash that it begins with
+pub unrooted_is : (p : Bor (List ℕ)) (r : Option (Bor (List ℕ))) → MatchOption r (FindsCharPrefix 47 p.now None) (λ x. StripsPrefix (FindsCharPrefix 47) p.now x.now) → (unwrap_or r p).now ≡ without_front (codes "/") p.now
+unrooted_is p None h = sym (front-none (codes "/") p.now (strip_prefix_char 47 p.now None h (omega arith)))
+unrooted_is p (Some x) h = sym (front-here (codes "/") p.now x.now (strip_prefix_char 47 p.now (Some x) h (omega arith)))
+
+-- where neither those ways nor the one by the root lead to a path, no way does
+pub wayless : (folder path : List ℕ) → NoneClimbs folder path (length folder + 1) → ((is_rooted (by_root folder path) ≡ false) × (leads_to folder (by_root folder path) ≡ path) → ⊥) → IsWayless folder path
+wayless folder path none far way off (inl root) = no_way folder path root far way off
+wayless folder path none far way off (inr (k, le, is)) = λ leads.
+    none k (omega (arith, le)) (ap is_rooted (sym is) ∙ off) (ap (leads_to folder) (sym is) ∙ leads)

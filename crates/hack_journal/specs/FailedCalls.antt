@@ -63,22 +63,22 @@ FailsToEnd f noted old new (Err _) = CannotEnd f noted old new
 
 -- ---- recovery
 
--- one call failed, at some path
-abbrev pub OneFailed : {F : Type 0} → Filing F → F → F → Type 0
-OneFailed f old new = (path : List ℕ) × (LookFailed f path old new ⊎ WriteFailed f path old new)
+-- one call failed, at a path of which P holds
+abbrev pub OneFailed : {F : Type 0} → Filing F → (List ℕ → Type 0) → F → F → Type 0
+OneFailed f P old new = (path : List ℕ) × P path × (LookFailed f path old new ⊎ WriteFailed f path old new)
 
--- the error of a file is that of the one call that failed, at the path that it names; a refusal of the
--- journal is none's, and refused memory may be the files'
-abbrev pub IsOfFailedCall : {F : Type 0} → Filing F → F → F → RecoverFault → Type 0
-IsOfFailedCall f old new Memory = NoneFailed f old new ⊎ OneFailed f old new
-IsOfFailedCall f old new (NotJournal j) = NoneFailed f old new
-IsOfFailedCall f old new (Changed p j) = NoneFailed f old new
-IsOfFailedCall f old new (Files (fs.Read p)) = LookFailed f (string_bytes p) old new
-IsOfFailedCall f old new (Files (fs.Write p)) = WriteFailed f (string_bytes p) old new
-IsOfFailedCall f old new (Files (fs.NotText p)) = ⊥
-IsOfFailedCall f old new (Files fs.Memory) = ⊥
+-- the error of a file is that of the one call that failed, at the path that it names, of which P holds;
+-- a refusal of the journal is none's, and refused memory may be the files', at such a path
+abbrev pub IsOfFailedCall : {F : Type 0} → Filing F → (List ℕ → Type 0) → F → F → RecoverFault → Type 0
+IsOfFailedCall f P old new Memory = NoneFailed f old new ⊎ OneFailed f P old new
+IsOfFailedCall f P old new (NotJournal j) = NoneFailed f old new
+IsOfFailedCall f P old new (Changed p j) = NoneFailed f old new
+IsOfFailedCall f P old new (Files (fs.Read p)) = P (string_bytes p) × LookFailed f (string_bytes p) old new
+IsOfFailedCall f P old new (Files (fs.Write p)) = P (string_bytes p) × WriteFailed f (string_bytes p) old new
+IsOfFailedCall f P old new (Files (fs.NotText p)) = ⊥
+IsOfFailedCall f P old new (Files fs.Memory) = ⊥
 
 -- no call failed, or the error is that of the one that did
-abbrev pub FailsOnlySo : {F T : Type 0} → Filing F → F → F → Result T RecoverFault → Type 0
-FailsOnlySo f old new (Ok _) = NoneFailed f old new
-FailsOnlySo f old new (Err fault) = IsOfFailedCall f old new fault
+abbrev pub FailsOnlySo : {F T : Type 0} → Filing F → (List ℕ → Type 0) → F → F → Result T RecoverFault → Type 0
+FailsOnlySo f P old new (Ok _) = NoneFailed f old new
+FailsOnlySo f P old new (Err fault) = IsOfFailedCall f P old new fault

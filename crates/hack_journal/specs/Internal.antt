@@ -1,10 +1,12 @@
 -- What only private functions of the crate promise each other.
-use Rattle.std.specs.Prelude.{◌≡◌, ◌≢◌, ◌⊎◌, ◌++◌, [], ◌∷◌, ℕ, false, true, List, Option, Some, None, IsSome, string_bytes}
+use Rattle.std.specs.Prelude.{◌≡◌, ◌≢◌, ◌⊎◌, ◌<◌, ◌++◌, [], ◌∷◌, ℕ, false, true, List, Option, Some, None, IsSome, string_bytes}
 use Rattle.hack_base.specs.Counters.{GrowsBy}
 use Rattle.hack_files.specs.Files.{Change, Contents, Makes, Trace}
 use Rattle.hack_files.specs.declared.fs.FsFault.TheVariants as fs
+use Rattle.hack_base.specs.PathTexts.{is_rooted}
 use Rattle.hack_journal.specs.Journal.{Edit}
-use Rattle.hack_journal.specs.Rows.{Spot, AreFirst, IsFresh, IsTextOf, file_at, is_of_journal}
+use Rattle.hack_journal.specs.Keeping.{climbing_way}
+use Rattle.hack_journal.specs.Rows.{Spot, AreFirst, IsFresh, IsTextOf, file_at, is_of_journal, leads_to}
 use Rattle.hack_journal.specs.SafeFiles.{AfterEachFront, KeepFirst, IsSafe, StaysSafe, gives, changes_besides, IsJournaled, first_entry_of}
 use Rattle.hack_journal.specs.Strangers.{first_stranger, is_edit_of_manifest}
 use Rattle.hack_journal.specs.declared.recover.RecoverFault.{RecoverFault}
@@ -39,12 +41,13 @@ IsOver es path now new = SomeEntryHas (λ old. IsCutOf new old now) es path
 
 -- ---- errors
 
--- a file at a path of which P holds can't be read or written, or memory was refused
-abbrev pub FailsAt : (List ℕ → Type 0) → RecoverFault → Type 0
-FailsAt P Memory = Unit {0}
-FailsAt P (NotJournal j) = ⊥
-FailsAt P (Changed p j) = ⊥
-FailsAt P (Files f) = NamesPath P f
+-- the path is that of one of the row's first k files
+abbrev pub IsFileOfRow : List ℕ → ℕ → List ℕ → Type 0
+IsFileOfRow journal k path = (i : ℕ) × (i < k) × (path ≡ file_at journal i)
+
+-- or of one of these entries
+abbrev pub IsFileOrEntry : List ℕ → ℕ → List Edit → List ℕ → Type 0
+IsFileOrEntry journal k es path = IsFileOfRow journal k path ⊎ HasEntry es path
 
 -- this path couldn't be read, or memory was refused
 abbrev pub IsReadFault : List ℕ → RecoverFault → Type 0
@@ -73,11 +76,10 @@ IsMemoryRefused (NotJournal j) = ⊥
 IsMemoryRefused (Changed p j) = ⊥
 IsMemoryRefused (Files f) = ⊥
 
--- the error of a failed call of files at this path, or of refused memory: no refusal of the journal
-pub record FaultsAtPath (path : List ℕ) (fault : RecoverFault) : Type 0 where
+-- the error of a failed call of files, or of refused memory: no refusal of the journal
+pub record IsFilesFault (fault : RecoverFault) : Type 0 where
   pub failures : (old new : ℕ) → GrowsBy 1 old new → CountsRecoverFault old new fault
   pub kind : ¬ IsJournalRefusal fault
-  pub named : FailsAt (λ p. p ≡ path) fault
 
 -- the error says that this path holds no journal; or memory was refused
 abbrev pub NamesNoJournal : List ℕ → RecoverFault → Type 0
@@ -192,3 +194,9 @@ abbrev pub ShortensRow : Spot → List Edit → List Edit → Trace → Trace �
 ShortensRow spot es fs old_trace new_trace old new =
     (first : Contents) → IsJournaled spot first es old → IsAllBack spot.journal first old
     → StaysSafe spot first old_trace new_trace old new × IsJournaled spot first fs new
+
+-- ---- ways
+
+-- no way that climbs fewer steps than these from a folder leads to the path
+abbrev pub NoneClimbs : List ℕ → List ℕ → ℕ → Type 0
+NoneClimbs folder path n = (k : ℕ) → k < n → is_rooted (climbing_way k folder path) ≡ false → leads_to folder (climbing_way k folder path) ≢ path

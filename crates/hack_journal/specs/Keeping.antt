@@ -1,7 +1,8 @@
 -- Why an edit is refused. No cause can be made up: a look that failed left its path unseen, and a write
 -- that failed was refused.
-use Rattle.std.specs.Prelude.{◌≡◌, ◌≢◌, ◌⊎◌, ◌+◌, ℕ, List, Option, Some, None, Result, Ok, Err, IsSome, true, false, length}
-use Rattle.hack_base.specs.PathTexts.{is_rooted}
+use Rattle.std.specs.Prelude.{◌≡◌, ◌≢◌, ◌⊎◌, ◌≤◌, ◌+◌, ◌++◌, ℕ, zero, suc, List, Option, Some, None, Result, Ok, Err, IsSome, true, false, codes, length}
+use Rattle.std.specs.List.{repeat}
+use Rattle.hack_base.specs.PathTexts.{is_rooted, normal_of, parent_of, under_of, without_front}
 use Rattle.hack_files.specs.declared.fs.FileFault.{FileFault}
 use Rattle.hack_files.specs.declared.fs.FileFault.TheVariants.{Memory, Device}
 use Rattle.hack_files.specs.declared.fs.Files.{Ghosts as Filing}
@@ -32,9 +33,24 @@ abbrev pub IsOther : {F : Type 0} → Filing F → Noted → List ℕ → Option
 IsOther f noted path bytes old =
     f.tells → is_edit_of_manifest (record { path = path; held = held_first (first_entry_of noted.entries path) (f.bytes_at old path); wrote = bytes }) ≡ false
 
--- from a folder that is absolute no relative path leads to this one
+-- the folder so many steps above this one
+abbrev pub folder_above : ℕ → List ℕ → List ℕ
+folder_above zero folder = folder
+folder_above (suc k) folder = parent_of (folder_above k folder)
+
+-- the way that climbs so many steps from a folder, and goes on by what of the path is behind the
+-- folder there: all of it where the path isn't inside
+abbrev pub climbing_way : ℕ → List ℕ → List ℕ → List ℕ
+climbing_way k folder path = repeat k (codes "../") ++ without_front (codes "/") (under_of path (folder_above k (normal_of folder)))
+
+-- the way climbs so from the folder, by no more steps than this is long
+abbrev pub ClimbsTo : List ℕ → List ℕ → List ℕ → Type 0
+ClimbsTo folder path way = (k : ℕ) × (k ≤ length folder) × (way ≡ climbing_way k folder path)
+
+-- no relative path leads from the folder to this one: none at all from an absolute folder, and from a
+-- relative one none that climbs until the path is inside
 abbrev pub IsWayless : List ℕ → List ℕ → Type 0
-IsWayless folder path = is_rooted folder ≡ true → (way : List ℕ) → is_rooted way ≡ false → leads_to folder way ≢ path
+IsWayless folder path = (way : List ℕ) → is_rooted way ≡ false → (is_rooted folder ≡ true) ⊎ ClimbsTo folder path way → leads_to folder way ≢ path
 
 -- the file behind the one that comes next isn't seen, or is there already
 abbrev pub CannotLookAhead : {F : Type 0} → Filing F → Noted → F → F → Type 0

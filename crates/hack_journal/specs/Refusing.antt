@@ -1,5 +1,5 @@
 -- Which writes and removals were refused, and by whom.
-use Rattle.std.specs.Prelude.{◌≡◌, ◌⊎◌, ◌≤◌, ◌+◌, ◌∷◌, [], ℕ, List, MatchResult, Result, OnErr, IsErr, IsTrue, All, length}
+use Rattle.std.specs.Prelude.{◌≡◌, ◌⊎◌, ◌≤◌, ◌+◌, ◌∷◌, [], ℕ, List, MatchResult, Result, OnErr, IsTrue, All, length}
 use Rattle.hack_base.specs.Counters.{GrowsBy}
 use Rattle.hack_files.specs.Files.{GrowsAtLeastBy}
 use Rattle.hack_files.specs.declared.fs.Files.{Ghosts as Filing}

@@ -3,13 +3,15 @@
 //! The first file has the journal's own path. Each later one has that path, a `~` and its number.
 //! So an edit adds one file and rewrites none.
 
-ghost use Rattle.std.specs.Prelude.{◌≡◌, ◌≢◌, ◌↔◌, ◌+◌, ◌++◌, ℕ, List, IfNone, IfOk, IfSome, IsTrue};
-ghost use Rattle.std.specs.Prelude.{codes, false, length, string_bytes, true};
+ghost use Rattle.std.specs.Prelude.{◌≡◌, ◌↔◌, ◌+◌, ◌++◌, ℕ, List, IfNone, IfOk, IfSome, IsTrue};
+ghost use Rattle.std.specs.Prelude.{codes, false, length, string_bytes};
 ghost use Rattle.std.specs.List.{repeat};
-ghost use Rattle.hack_base.specs.PathTexts.{is_rooted};
+ghost use Rattle.hack_base.specs.PathTexts.{is_rooted, without_front};
+ghost use Rattle.hack_journal.specs.Internal.{NoneClimbs};
+ghost use Rattle.hack_journal.specs.Keeping.{IsWayless};
 ghost use Rattle.hack_journal.specs.Rows.{file_at, is_of_journal, leads_to};
 
-use hack_base::paths::{join, normal, parent};
+use hack_base::paths::{join, normal, parent, under};
 use std::alloc::{AllocError, Global};
 
 /// Where a journal lies, and the folder that the paths in its text are relative to.
@@ -37,7 +39,8 @@ pub(crate) fn is_of_journal(journal: &str, path: &str) -> bool
 }
 
 /// The path that leads from a folder to this one. `None` where none is found: from an absolute folder
-/// none leads to a path that is relative or has detours, and to each other one some does.
+/// none leads to a path that is relative or has detours, and to each other one some does; from a
+/// relative folder none leads there that climbs until the path is inside.
 pub(crate) fn relative(
     alloc: Global,
     folder: &str,
@@ -47,11 +50,9 @@ pub(crate) fn relative(
         is_rooted (string_bytes way) ≡ false)) }
     ensures leads { IfOk result (λ found. IfSome found (λ way.
         leads_to folder.now (string_bytes way) ≡ path.now)) }
-    ensures none { is_rooted folder.now ≡ true → IfOk result (λ found. IfNone found
-        ((way : List ℕ) → is_rooted way ≡ false → leads_to folder.now way ≢ path.now)) }
+    ensures none { IfOk result (λ found. IfNone found (IsWayless folder.now path.now)) }
 {
-    let near = near_way(alloc, folder, path)?;
-    if leads(alloc, folder, near.as_str(), path)? {
+    if let Some(near) = near_way(alloc, folder, path)? {
         return Ok(Some(near));
     }
     let far = far_way(alloc, folder, path)?;
@@ -81,31 +82,35 @@ pub(crate) fn absolute(alloc: Global, folder: &str, way: &str) -> Result<String,
     normal(alloc, joined.as_str())
 }
 
-/// The rest of a path behind a folder, if it is inside.
-fn inside<'a>(folder: &str, path: &'a str) -> Option<&'a str> {
-    if folder.is_empty() {
-        return Some(path);
-    }
-    if folder == "/" {
-        return path.strip_prefix('/');
-    }
-    path.strip_prefix(folder)?.strip_prefix('/')
+/// A path without the slash that it begins with.
+fn unrooted(path: &str) -> &str
+    ensures { result.now ≡ without_front (codes "/") path.now }
+{
+    path.strip_prefix('/').unwrap_or(path)
 }
 
 /// The way from a folder to a path: up until the path is inside, and then down.
-fn near_way(alloc: Global, folder: &str, path: &str) -> Result<String, AllocError> {
-    let mut way = String::new(alloc);
-    let mut above = folder;
-    for _ in 0..folder.len() {
-        if let Some(rest) = inside(above, path) {
-            way.push_str(rest)?;
-            return Ok(way);
+fn near_way(alloc: Global, folder: &str, path: &str) -> Result<Option<String>, AllocError>
+    ensures relative { IfOk result (λ found. IfSome found (λ way.
+        is_rooted (string_bytes way) ≡ false)) }
+    ensures leads { IfOk result (λ found. IfSome found (λ way.
+        leads_to folder.now (string_bytes way) ≡ path.now)) }
+    ensures none { IfOk result (λ found. IfNone found (NoneClimbs folder.now path.now
+        (length folder.now + 1))) }
+{
+    let folders = normal(alloc, folder)?;
+    let mut above = folders.as_str();
+    let mut ups = String::new(alloc);
+    for steps in 0..folder.len() + 1 {
+        let rest = unrooted(under(path, above));
+        let way = format!(in alloc; "{ups}{rest}")?;
+        if leads(alloc, folder, way.as_str(), path)? {
+            return Ok(Some(way));
         }
-        way.push_str("../")?;
+        ups.push_str("../")?;
         above = parent(above);
     }
-    way.push_str(path)?;
-    Ok(way)
+    Ok(None)
 }
 
 /// The way from an absolute folder up to the root, and then down: it climbs more often than there

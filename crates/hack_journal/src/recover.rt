@@ -1,6 +1,6 @@
 //! Puts back what an interrupted call had edited, and could not put back itself.
 
-ghost use Rattle.std.specs.Prelude.{◌≡◌, ◌⊎◌, ◌<◌, ◌++◌, [], ◌∷◌, List, Some, ℕ};
+ghost use Rattle.std.specs.Prelude.{◌≡◌, ◌<◌, ◌++◌, [], ◌∷◌, List, Some, ℕ};
 ghost use Rattle.std.specs.Prelude.{IfOk, IfErr, OnOk, string_bytes};
 ghost use Rattle.hack_base.specs.Names.{names_of};
 ghost use Rattle.hack_files.specs.Files.{Contents, KeepsAll, KeepsOthers, Makes, MakesOrNot};
@@ -12,11 +12,12 @@ ghost use Rattle.hack_journal.specs.CutFiles.{IsSafeOrCut, StaysSafeOrCut};
 ghost use Rattle.hack_journal.specs.Recovery.{AreTold, AreChanged, IsRestored, IsWhy, HasEntry};
 ghost use Rattle.hack_journal.specs.Recovery.{IsJournalRefusal, IsFailureCounted, IsOwn};
 ghost use Rattle.hack_journal.specs.FailedCalls.{FailsOnlySo};
-ghost use Rattle.hack_journal.specs.Internal.{AddsChanged, AddsIfOther, backs, FailsAt};
-ghost use Rattle.hack_journal.specs.Internal.{FaultsAtPath, IsBackBut, IsMemoryRefused};
+ghost use Rattle.hack_journal.specs.Internal.{AddsChanged, AddsIfOther, backs};
+ghost use Rattle.hack_journal.specs.Internal.{IsBackBut, IsFilesFault, IsMemoryRefused};
+ghost use Rattle.hack_journal.specs.Internal.{IsFileOfRow, IsFileOrEntry};
 ghost use Rattle.hack_journal.specs.Internal.{PutsBack, PutsBackOrSafe};
 ghost use Rattle.hack_journal.specs.Internal.{IsWhyNotTold, IsWriteFault};
-ghost use Rattle.hack_journal.specs.Recovery.{KeepsNoEntry, SparesOthers};
+ghost use Rattle.hack_journal.specs.Recovery.{IsJournalOrItsEntry, KeepsNoEntry, SparesOthers};
 
 use crate::contents::{look, put};
 use crate::cuts::is_own;
@@ -90,7 +91,7 @@ impl From<AllocError> for RecoverFault {
 
 /// The error of a write or a removal.
 fn write_fault(alloc: Global, path: &str, fault: FileFault) -> RecoverFault
-    ensures at { FaultsAtPath path.now result }
+    ensures kind { IsFilesFault result }
     ensures write { IsWriteFault path.now result }
 {
     match fault {
@@ -123,7 +124,8 @@ fn check<F: Files>(
     entry: &Entry,
 ) -> Result<(), RecoverFault>
     ensures failures { IsFailureCounted (F.failed files.old) (F.failed files.new) result }
-    ensures calls { FailsOnlySo F.Files files.old files.new result }
+    ensures calls { FailsOnlySo F.Files (HasEntry (edit_of entry.now ∷ []))
+        files.old files.new result }
     ensures told { OnOk result (F.tells → IsOwn (edits_of all.now) (edit_of entry.now).path
         (F.bytes_at files.old (edit_of entry.now).path)) }
     ensures why { IfErr result (IsWhyNotTold journal.now F.tells (edits_of all.now)
@@ -155,7 +157,8 @@ fn check_all<F: Files>(
     entries: &[Entry],
 ) -> Result<(), RecoverFault>
     ensures failures { IsFailureCounted (F.failed files.old) (F.failed files.new) result }
-    ensures calls { FailsOnlySo F.Files files.old files.new result }
+    ensures calls { FailsOnlySo F.Files (HasEntry (edits_of entries.now))
+        files.old files.new result }
     ensures told { OnOk result (F.tells →
         AreTold (edits_of all.now) (edits_of entries.now) (F.bytes_at files.old)) }
     ensures why { IfErr result (IsWhyNotTold journal.now F.tells (edits_of all.now)
@@ -185,7 +188,8 @@ fn put_back<F: Files>(
     paths: &mut Vec<String>,
 ) -> Result<(), RecoverFault>
     ensures failures { IsFailureCounted (F.failed files.old) (F.failed files.new) result }
-    ensures calls { FailsOnlySo F.Files files.old files.new result }
+    ensures calls { FailsOnlySo F.Files (HasEntry (edit_of entry.now ∷ []))
+        files.old files.new result }
     ensures back { OnOk result (F.tells → KeepsAll
         (after_change (gives (edit_of entry.now).path (edit_of entry.now).held)
         (F.bytes_at files.old))
@@ -198,7 +202,6 @@ fn put_back<F: Files>(
     ensures others { F.tells → KeepsOthers (edit_of entry.now).path
         (F.bytes_at files.old) (F.bytes_at files.new) }
     ensures fault { IfErr result (λ fault. ¬ IsJournalRefusal fault) }
-    ensures named { IfErr result (FailsAt (λ p. p ≡ (edit_of entry.now).path)) }
 {
     let now = match look(alloc, files, &entry.path) {
         Ok(now) => now,
@@ -225,7 +228,8 @@ fn put_all_back<F: Files>(
     paths: &mut Vec<String>,
 ) -> Result<(), RecoverFault>
     ensures failures { IsFailureCounted (F.failed files.old) (F.failed files.new) result }
-    ensures calls { FailsOnlySo F.Files files.old files.new result }
+    ensures calls { FailsOnlySo F.Files (HasEntry (edits_of entries.now))
+        files.old files.new result }
     ensures back { OnOk result (F.tells →
         KeepsAll (after (backs (edits_of entries.now)) (F.bytes_at files.old))
         (F.bytes_at files.new)) }
@@ -240,7 +244,6 @@ fn put_all_back<F: Files>(
     ensures others { F.tells → KeepsNoEntry (edits_of entries.now)
         (F.bytes_at files.old) (F.bytes_at files.new) }
     ensures fault { IfErr result (λ fault. ¬ IsJournalRefusal fault) }
-    ensures named { IfErr result (FailsAt (HasEntry (edits_of entries.now))) }
 {
     match entries.split_first() {
         None => Ok(()),
@@ -260,7 +263,8 @@ fn remove_files<F: Files>(
     count: u64,
 ) -> Result<(), RecoverFault>
     ensures failures { IsFailureCounted (F.failed files.old) (F.failed files.new) result }
-    ensures calls { FailsOnlySo F.Files files.old files.new result }
+    ensures calls { FailsOnlySo F.Files (IsFileOfRow journal.now count)
+        files.old files.new result }
     ensures gone { OnOk result (F.tells → (i : ℕ) → i < count →
         F.bytes_at files.new (file_at journal.now i) ≡ None) }
     ensures others { F.tells →
@@ -270,8 +274,6 @@ fn remove_files<F: Files>(
         StaysSafe spot first (F.trace files.old) (F.trace files.new)
         (F.bytes_at files.old) (F.bytes_at files.new) }
     ensures fault { IfErr result (λ fault. ¬ IsJournalRefusal fault) }
-    ensures named { IfErr result (FailsAt (λ p. (i : ℕ) × (i < count) ×
-        (p ≡ file_at journal.now i))) }
 {
     if count == 0 {
         return Ok(());
@@ -293,7 +295,8 @@ fn take_back<F: Files>(
     row: &Row,
 ) -> Result<Vec<String>, RecoverFault>
     ensures failures { IsFailureCounted (F.failed files.old) (F.failed files.new) result }
-    ensures calls { FailsOnlySo F.Files files.old files.new result }
+    ensures calls { FailsOnlySo F.Files (IsFileOrEntry (string_bytes place.now.journal)
+        row.now.count (edits_of row.now.entries.items)) files.old files.new result }
     ensures back { OnOk result (F.tells → KeepsBeside (string_bytes place.now.journal)
         row.now.count
         (after (backs (edits_of row.now.entries.items)) (F.bytes_at files.old))
@@ -314,9 +317,6 @@ fn take_back<F: Files>(
         → ¬ HasEntry (edits_of row.now.entries.items) path
         → F.bytes_at files.new path ≡ F.bytes_at files.old path }
     ensures fault { IfErr result (λ fault. ¬ IsJournalRefusal fault) }
-    ensures named { IfErr result (FailsAt (λ p. ((i : ℕ) × (i < row.now.count) ×
-        (p ≡ file_at (string_bytes place.now.journal) i)) ⊎
-        HasEntry (edits_of row.now.entries.items) p)) }
 {
     let mut paths = Vec::new(alloc);
     put_all_back(alloc, files, &row.entries, &mut paths)?;
@@ -339,8 +339,11 @@ pub fn recover<F: Files>(
 ) -> Result<Vec<String>, RecoverFault>
     // It ends at the first failed call of the files, and returns an error for it.
     ensures failures { IsFailureCounted (F.failed files.old) (F.failed files.new) result }
-    // That call wasn't made up: the path that the error names was unseen, or its write was refused.
-    ensures calls { FailsOnlySo F.Files files.old files.new result }
+    // That call wasn't made up: it was at a file of the row, or at the path of an entry, and the path
+    // that the error names was unseen, or its write was refused.
+    ensures calls { FailsOnlySo F.Files
+        (IsJournalOrItsEntry (spot_of place.now) F.tells (F.bytes_at files.old))
+        files.old files.new result }
     // Each kept path holds what it held at first, and no other path was changed.
     ensures restored { IfOk result (λ paths. F.tells →
         IsRestored (spot_of place.now) (names_of paths.items)
@@ -352,6 +355,11 @@ pub fn recover<F: Files>(
         KeepsAll first (F.bytes_at files.new)) }
     // An error says why not, and names the paths.
     ensures why { IfErr result (IsWhy (spot_of place.now) F.tells (F.bytes_at files.old)) }
+    // Where the journal's path holds nothing, nothing is written or removed.
+    ensures still { F.tells → F.whole →
+        F.bytes_at files.old (string_bytes place.now.journal) ≡ None →
+        Makes [] (F.trace files.old) (F.trace files.new)
+        (F.bytes_at files.old) (F.bytes_at files.new) }
     // Whatever the error is, no path is changed but the row's and those of its entries, and these
     // only where each holds what a call left there.
     ensures spared { IfErr result (λ _. F.tells → SparesOthers (spot_of place.now)

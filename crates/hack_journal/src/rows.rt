@@ -1,15 +1,15 @@
 //! Reads a journal: the entries of all files of its row.
 
 ghost use Rattle.std.specs.Prelude.{◌≡◌, ◌⊎◌, ◌++◌, [], List, ℕ, None, Some, IfOk, IfErr, OnOk};
-ghost use Rattle.std.specs.Prelude.{true, false, string_bytes};
+ghost use Rattle.std.specs.Prelude.{IsSome, true, false, string_bytes};
 ghost use Rattle.hack_base.specs.Counters.{GrowsBy};
 ghost use Rattle.hack_files.specs.Files.{KeepsAll, Makes};
 ghost use Rattle.hack_journal.specs.Journal.{Edit, edits_of};
 ghost use Rattle.hack_journal.specs.Rows.{AreFirst, IsRowRead, file_at, placed, spot_of};
 ghost use Rattle.hack_journal.specs.Recovery.{AreOfCall, CountsRecoverFault, IsFailureCounted};
-ghost use Rattle.hack_journal.specs.Recovery.{IsWhyUnread};
+ghost use Rattle.hack_journal.specs.Recovery.{IsReached, IsWhyUnread};
 ghost use Rattle.hack_journal.specs.FailedCalls.{FailsOnlySo};
-ghost use Rattle.hack_journal.specs.Internal.{FaultsAtPath, IsReadFault, IsReadMore, IsWhyTorn};
+ghost use Rattle.hack_journal.specs.Internal.{IsFilesFault, IsReadFault, IsReadMore, IsWhyTorn};
 ghost use Rattle.hack_journal.specs.Internal.{NamesNoJournal};
 
 use crate::contents::look;
@@ -30,7 +30,7 @@ pub struct Row {
 
 /// The error of reading a path.
 pub(crate) fn read_fault(alloc: Global, path: &str, fault: FileFault) -> RecoverFault
-    ensures at { FaultsAtPath path.now result }
+    ensures kind { IsFilesFault result }
     ensures read { IsReadFault path.now result }
 {
     match fault {
@@ -82,7 +82,9 @@ fn read_file<F: Files>(
     entries: &mut Vec<Entry>,
 ) -> Result<bool, RecoverFault>
     ensures failures { IsFailureCounted (F.failed files.old) (F.failed files.new) result }
-    ensures calls { FailsOnlySo F.Files files.old files.new result }
+    ensures calls { FailsOnlySo F.Files
+        (λ path. path ≡ file_at (string_bytes place.now.journal) number)
+        files.old files.new result }
     ensures none { IfOk result (λ there. there ≡ false → F.tells →
         F.bytes_at files.old (file_at (string_bytes place.now.journal) number) ≡ None) }
     ensures kept { IfOk result (λ there. there ≡ false → entries.new ≡ entries.old) }
@@ -121,7 +123,8 @@ fn read_files<F: Files>(
 ) -> Result<u64, RecoverFault>
     requires { entries.old.items ≡ [] }
     ensures failures { IsFailureCounted (F.failed files.old) (F.failed files.new) result }
-    ensures calls { FailsOnlySo F.Files files.old files.new result }
+    ensures calls { FailsOnlySo F.Files
+        (IsReached (spot_of place.now) F.tells (F.bytes_at files.old)) files.old files.new result }
     ensures read { IfOk result (λ count. F.tells → IsRowRead (spot_of place.now)
         (F.bytes_at files.old) count (edits_of entries.new.items)) }
     ensures why { IfErr result (IsWhyUnread (spot_of place.now) F.tells (F.bytes_at files.old)) }
@@ -146,12 +149,15 @@ pub fn row_at<F: Files>(
     place: &JournalPlace,
 ) -> Result<Option<Row>, RecoverFault>
     ensures failures { IsFailureCounted (F.failed files.old) (F.failed files.new) result }
-    ensures calls { FailsOnlySo F.Files files.old files.new result }
+    ensures calls { FailsOnlySo F.Files
+        (IsReached (spot_of place.now) F.tells (F.bytes_at files.old)) files.old files.new result }
     ensures none { IfOk result (λ found. found ≡ None → F.tells →
         F.bytes_at files.old (string_bytes place.now.journal) ≡ None) }
     ensures some { IfOk result (λ found. (row : Row) → found ≡ Some row → F.tells →
         IsRowRead (spot_of place.now) (F.bytes_at files.old) row.count
         (edits_of row.entries.items)) }
+    ensures there { IfOk result (λ found. (row : Row) → found ≡ Some row → F.tells →
+        IsSome (F.bytes_at files.old (string_bytes place.now.journal))) }
     ensures of_call { IfOk result (λ found. (row : Row) → found ≡ Some row →
         AreOfCall (string_bytes place.now.journal)
         (edits_of row.entries.items) (edits_of row.entries.items)) }

@@ -1,8 +1,9 @@
 use Rattle.std.proofs.Common.{◌-◌, ◌∙◌, List, ℕ, ap, sym, arith}
+use Rattle.hack_journal.specs.Internal.{IsFileOfRow}
 use Rattle.hack_journal.specs.Rows.{file_at}
 use Rattle.hack_files.specs.TraceLaws.{makes_none}
 use Rattle.hack_journal.specs.SafeLaws.{stay_none}
-use Rattle.hack_journal.proofs.FailedLemmas.{ends_then}
+use Rattle.hack_journal.proofs.FailedLemmas.{ends_then, ends_wider}
 use Rattle.hack_journal.proofs.RemovalLemmas.{back_but_safe, remove_failed, remove_went}
 use Rattle.hack_journal.proofs.recover.+remove_files.Goals as goal
 
@@ -24,4 +25,5 @@ returns-clause-safe g t c = λ whole spot first named but.
 
 pub returns-in-Ok-clause-calls : goal.returns-in-Ok-clause-calls
 returns-in-Ok-clause-calls g t c =
-    ends_then g.F.Files c.remove_files.result c.args.files.now c.remove.new.self c.remove_files.new.files (record { unseen = c.in-Ok.ensures.unseen_none; refused = c.in-Ok.ensures.refused_path }) c.remove_files.ensures.calls
+    ends_then g.F.Files (IsFileOfRow c.args.journal.now c.args.count) c.remove_files.result c.args.files.now c.remove.new.self c.remove_files.new.files (record { unseen = c.in-Ok.ensures.unseen_none; refused = c.in-Ok.ensures.refused_path })
+    (ends_wider g.F.Files (IsFileOfRow c.args.journal.now (c.args.count - 1)) (IsFileOfRow c.args.journal.now c.args.count) (λ p file. (file.0, omega (arith, file.1), file.2)) c.remove_files.result c.remove.new.self c.remove_files.new.files c.remove_files.ensures.calls)

@@ -1,5 +1,6 @@
-use Rattle.std.proofs.Common.{inr}
+use Rattle.std.proofs.Common.{[], ◌∷◌, inl, inr, refl}
 use Rattle.hack_journal.specs.Journal.{edit_of}
+use Rattle.hack_journal.specs.Recovery.{HasEntry}
 use Rattle.hack_files.proofs.FailedLemmas.{none_then}
 use Rattle.hack_journal.proofs.FailedLemmas.{fault_then, memory_only, write_failed}
 use Rattle.hack_journal.proofs.RecoverLemmas.{on_ok_always, put_keeps, put_made, put_or_not}
@@ -18,13 +19,13 @@ returns-in-Ok-put-clause-calls g c = none_then g.F.Files c.args.files.now c.look
 
 pub returns-in-Ok-2-clause-calls : goal.returns-in-Ok-2-clause-calls
 returns-in-Ok-2-clause-calls g c =
-    memory_only g.F.Files c.add_path.result c.args.files.now c.put.new.files c.add_path.ensures.fault
+    memory_only g.F.Files (HasEntry (edit_of c.args.entry.now ∷ [])) c.add_path.result c.args.files.now c.put.new.files c.add_path.ensures.fault
     (none_then g.F.Files c.args.files.now c.look.new.files c.put.new.files c.in-Ok.ensures.unseen c.in-Ok-2.ensures.calls)
 
 pub returns-clause-calls : goal.returns-clause-calls
 returns-clause-calls g c =
-    fault_then g.F.Files c.write_fault.result c.args.files.now c.look.new.files c.put.new.files c.in-Ok.ensures.unseen
-    (write_failed g.F.Files (edit_of c.args.entry.now).path c.write_fault.result c.look.new.files c.put.new.files (rw c.deref-in-Err-put.ensures at c.write_fault.ensures.write) (rw c.deref-2.ensures at c.in-Err-put.ensures.calls))
+    fault_then g.F.Files (HasEntry (edit_of c.args.entry.now ∷ [])) c.write_fault.result c.args.files.now c.look.new.files c.put.new.files c.in-Ok.ensures.unseen
+    (write_failed g.F.Files (HasEntry (edit_of c.args.entry.now ∷ [])) (edit_of c.args.entry.now).path c.write_fault.result c.look.new.files c.put.new.files (inl refl) (rw c.deref-in-Err-put.ensures at c.write_fault.ensures.write) (rw c.deref-2.ensures at c.in-Err-put.ensures.calls))
 
 pub returns-in-Ok-put-clause-made : goal.returns-in-Ok-put-clause-made
 returns-in-Ok-put-clause-made g c = λ whole.

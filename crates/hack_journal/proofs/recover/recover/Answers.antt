@@ -1,13 +1,19 @@
-use Rattle.std.proofs.Common.{◌∙◌, ap, [], inr}
+use Rattle.std.proofs.Common.{◌∙◌, ap, [], inl, inr, subst}
+use Rattle.std.specs.Prelude.{IsSome}
+use Rattle.std.proofs.lemmas.Bool.{false≢true}
 use Rattle.std.proofs.lemmas.Result.{err_from_is_err_and, IfErr-weaker}
 use Rattle.hack_base.specs.Names.{names_of}
 use Rattle.hack_journal.specs.Journal.{edits_of}
 use Rattle.hack_journal.specs.Rows.{spot_of}
+use Rattle.hack_journal.specs.Internal.{IsFileOrEntry}
+use Rattle.hack_journal.specs.Recovery.{HasEntry, IsJournalOrItsEntry, IsReached}
+use Rattle.hack_files.proofs.FailedLemmas.{none_then}
+use Rattle.hack_journal.proofs.FailedLemmas.{ends_then, ends_wider, fault_then, fault_wider}
 use Rattle.hack_files.specs.TraceLaws.{makes_more}
 use Rattle.hack_journal.specs.SafeLaws.{stay_none}
 use Rattle.hack_journal.proofs.FinishLemmas.{all_same}
 use Rattle.hack_journal.proofs.RowLemmas.{row_of}
-use Rattle.hack_journal.proofs.RecoverLemmas.{looked_puts, never_cut_no_journal, puts_stay, safe_at, safe_cut, safe_told, why_unread, why_failed, why_not_told, never_not_told, told_at, restored_of, comes_back_of, on_err_always, on_three, on_two, safe_none}
+use Rattle.hack_journal.proofs.RecoverLemmas.{looked_puts, never_cut_no_journal, puts_stay, safe_at, safe_cut, safe_told, why_unread, file_or_entry, why_failed, why_not_told, never_not_told, told_at, restored_of, comes_back_of, on_err_always, on_three, on_two, safe_none}
 use Rattle.hack_journal.proofs.recover.recover.Goals as goal
 
 pub returns-in_err-row-clause-why : goal.returns-in_err-row-clause-why
@@ -87,9 +93,45 @@ pub returns-clause-why : goal.returns-clause-why
 returns-clause-why g c =
     let s = spot_of c.args.place.now in
     let row = c.in-Some.row in
-    IfErr-weaker c.take_back.result _ _
-    (λ e h. why_failed s g.F.Files.tells row.count (edits_of row.entries.items) (g.F.Files.bytes_at c.args.files.now) e (λ tells. c.in_ok-row.ensures.some row c.in-Some.is tells) h)
-    c.take_back.ensures.named
+    let es = edits_of row.entries.items in
+    let m = g.F.Files.bytes_at c.args.files.now in
+    why_failed g.F.Files s m c.take_back.result c.check_all.new.files c.take_back.new.files c.take_back.ensures.fault
+    (ends_wider g.F.Files (IsFileOrEntry s.journal row.count es) (IsJournalOrItsEntry s g.F.Files.tells m) (file_or_entry s g.F.Files.tells row.count es m (c.in_ok-row.ensures.some row c.in-Some.is)) c.take_back.result _ _ c.take_back.ensures.calls)
+
+pub returns-in_err-row-clause-calls : goal.returns-in_err-row-clause-calls
+returns-in_err-row-clause-calls g c =
+    let s = spot_of c.args.place.now in
+    let m = g.F.Files.bytes_at c.args.files.now in
+    let p = err_from_is_err_and c.from_residual.result c.from_residual.ensures.1 in
+    rw (p.1, p.2) (fault_wider g.F.Files (IsReached s g.F.Files.tells m) (IsJournalOrItsEntry s g.F.Files.tells m) (λ q is. inl is) _ _ _ c.in_err-row.ensures.calls)
+
+pub returns-in_err-check_all-clause-calls : goal.returns-in_err-check_all-clause-calls
+returns-in_err-check_all-clause-calls g c =
+    let s = spot_of c.args.place.now in
+    let row = c.in-Some.row in
+    let es = edits_of row.entries.items in
+    let m = g.F.Files.bytes_at c.args.files.now in
+    let p = err_from_is_err_and c.from_residual-in_err-check_all.result c.from_residual-in_err-check_all.ensures.1 in
+    let calls = rw c.deref-3.ensures.value at c.in_err-check_all.ensures.calls in
+    rw (p.1, p.2) (fault_then g.F.Files (IsJournalOrItsEntry s g.F.Files.tells m) _ _ _ _ c.in_ok-row.ensures.calls
+    (fault_wider g.F.Files (HasEntry es) (IsJournalOrItsEntry s g.F.Files.tells m) (λ q has. inr (λ tells. (es, row_of s m row.count es (c.in_ok-row.ensures.some row c.in-Some.is tells), has))) _ _ _ calls))
+
+pub returns-clause-calls : goal.returns-clause-calls
+returns-clause-calls g c =
+    let s = spot_of c.args.place.now in
+    let row = c.in-Some.row in
+    let es = edits_of row.entries.items in
+    let m = g.F.Files.bytes_at c.args.files.now in
+    let P = IsJournalOrItsEntry s g.F.Files.tells m in
+    ends_then g.F.Files P c.take_back.result c.args.files.now c.check_all.new.files c.take_back.new.files
+    (none_then g.F.Files c.args.files.now c.row_at.new.files c.check_all.new.files c.in_ok-row.ensures.calls c.in_ok-check_all.ensures.calls)
+    (ends_wider g.F.Files (IsFileOrEntry s.journal row.count es) P (file_or_entry s g.F.Files.tells row.count es m (c.in_ok-row.ensures.some row c.in-Some.is)) c.take_back.result _ _ c.take_back.ensures.calls)
+
+pub returns-in_err-check_all-clause-still : goal.returns-in_err-check_all-clause-still
+returns-in_err-check_all-clause-still g c = λ tells whole none. absurd (false≢true (subst IsSome none (c.in_ok-row.ensures.there c.in-Some.row c.in-Some.is tells)))
+
+pub returns-clause-still : goal.returns-clause-still
+returns-clause-still g c = λ tells whole none. absurd (false≢true (subst IsSome none (c.in_ok-row.ensures.there c.in-Some.row c.in-Some.is tells)))
 
 pub returns-clause-spared : goal.returns-clause-spared
 returns-clause-spared g c =

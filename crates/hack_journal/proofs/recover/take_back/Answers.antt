@@ -1,9 +1,12 @@
-use Rattle.std.proofs.Common.{◌≡◌, List, ℕ, ap, sym, subst, string_bytes}
+use Rattle.std.proofs.Common.{◌≡◌, List, ℕ, ap, inl, inr, sym, subst, string_bytes}
+use Rattle.std.proofs.lemmas.Result.{err_from_is_err_and}
 use Rattle.hack_base.specs.Names.{names_of}
 use Rattle.hack_journal.specs.Journal.{edits_of}
-use Rattle.hack_journal.specs.Recovery.{AreChanged}
+use Rattle.hack_journal.specs.Recovery.{AreChanged, HasEntry}
+use Rattle.hack_journal.specs.Internal.{IsFileOfRow, IsFileOrEntry}
 use Rattle.hack_journal.specs.Rows.{spot_of}
 use Rattle.hack_files.proofs.FailedLemmas.{none_then}
+use Rattle.hack_journal.proofs.FailedLemmas.{fault_then, fault_wider}
 use Rattle.hack_journal.proofs.RecoverLemmas.{changed_along, puts_safe, puts_then_safe}
 use Rattle.hack_journal.proofs.RemovalLemmas.{back_but_of}
 use Rattle.hack_journal.proofs.RowLemmas.{apart_from}
@@ -49,3 +52,19 @@ returns-clause-safe g c = λ tells whole first by is.
 
 pub returns-clause-calls : goal.returns-clause-calls
 returns-clause-calls g c = none_then g.F.Files c.args.files.now c.put_all_back.new.files c.remove_files.new.files c.in_ok-put_all_back.ensures.calls c.in_ok-remove_files.ensures.calls
+
+pub returns-in_err-put_all_back-clause-calls : goal.returns-in_err-put_all_back-clause-calls
+returns-in_err-put_all_back-clause-calls g c =
+    let es = edits_of c.args.row.now.entries.items in
+    let p = err_from_is_err_and c.from_residual.result c.from_residual.ensures.1 in
+    let calls = rw (ap edits_of c.deref.ensures.value) at c.in_err-put_all_back.ensures.calls in
+    rw (p.1, p.2) (fault_wider g.F.Files (HasEntry es) (IsFileOrEntry (string_bytes c.args.place.now.journal) c.args.row.now.count es) (λ q has. inr has) _ _ _ calls)
+
+pub returns-in_err-remove_files-clause-calls : goal.returns-in_err-remove_files-clause-calls
+returns-in_err-remove_files-clause-calls g c =
+    let j = string_bytes c.args.place.now.journal in
+    let count = c.args.row.now.count in
+    let P = IsFileOrEntry j count (edits_of c.args.row.now.entries.items) in
+    let p = err_from_is_err_and c.from_residual-in_err-remove_files.result c.from_residual-in_err-remove_files.ensures.1 in
+    let calls = rw c.deref-2.ensures at c.in_err-remove_files.ensures.calls in
+    rw (p.1, p.2) (fault_then g.F.Files P _ _ _ _ c.in_ok-put_all_back.ensures.calls (fault_wider g.F.Files (IsFileOfRow j count) P (λ q file. inl file) _ _ _ calls))

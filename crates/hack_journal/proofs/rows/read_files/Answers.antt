@@ -1,12 +1,13 @@
-use Rattle.std.proofs.Common.{◌∙◌, arith}
+use Rattle.std.proofs.Common.{◌≡◌, ◌∙◌, List, ℕ, arith}
 use Rattle.std.proofs.lemmas.Result.{err_from_is_err_and}
 use Rattle.std.proofs.lemmas.Grind.{common_steps}
 use Rattle.hack_journal.specs.Journal.{edits_of}
-use Rattle.hack_journal.specs.Rows.{spot_of}
+use Rattle.hack_journal.specs.Rows.{file_at, spot_of}
+use Rattle.hack_journal.specs.Recovery.{IsReached}
 use Rattle.hack_files.specs.TraceLaws.{makes_more}
 use Rattle.hack_files.proofs.FailedLemmas.{none_then}
-use Rattle.hack_journal.proofs.FailedLemmas.{fault_then}
-use Rattle.hack_journal.proofs.RecoverLemmas.{read_more_at, why_torn}
+use Rattle.hack_journal.proofs.FailedLemmas.{fault_then, fault_wider}
+use Rattle.hack_journal.proofs.RecoverLemmas.{reached_at, read_more_at, why_torn}
 use Rattle.hack_journal.proofs.rows.read_files.Goals as goal
 
 pub returns-in_err-read_file-clause-why : goal.returns-in_err-read_file-clause-why
@@ -18,7 +19,11 @@ returns-in_err-read_file-clause-why g c =
 pub returns-in_err-read_file-clause-calls : goal.returns-in_err-read_file-clause-calls
 returns-in_err-read_file-clause-calls g c =
     let p = err_from_is_err_and c.from_residual.result c.from_residual.ensures.1 in
-    rw (p.1, p.2) (fault_then g.F.Files _ c.args.files.now c.loop-number.files c.read_file.new.files c.loop-number.invariant.calls c.in_err-read_file.ensures.calls)
+    let s = spot_of c.args.place.now in
+    let m = g.F.Files.bytes_at c.args.files.now in
+    let P : List ℕ → Type 0 = λ path. path ≡ file_at s.journal c.loop-number.number in
+    rw (p.1, p.2) (fault_then g.F.Files (IsReached s g.F.Files.tells m) _ c.args.files.now c.loop-number.files c.read_file.new.files c.loop-number.invariant.calls
+    (fault_wider g.F.Files P (IsReached s g.F.Files.tells m) (reached_at s g.F.Files.tells c.loop-number.number (edits_of c.loop-number.entries.items) m c.loop-number.invariant.read) _ _ _ c.in_err-read_file.ensures.calls))
 
 pub loop-number-preserved : goal.loop-number-preserved
 loop-number-preserved g c =

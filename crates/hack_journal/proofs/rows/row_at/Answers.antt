@@ -2,7 +2,7 @@ use Rattle.std.proofs.Common.{◌≡◌, ◌∙◌, ap, sym, true, string_bytes}
 use Rattle.std.proofs.lemmas.Bool.{false≢true}
 use Rattle.hack_journal.specs.Rows.{file_at, spot_of}
 use Rattle.hack_journal.proofs.RowLemmas.{file_zero}
-use Rattle.hack_journal.proofs.RecoverLemmas.{no_call, why_no_journal}
+use Rattle.hack_journal.proofs.RecoverLemmas.{no_call, row_there, why_no_journal}
 use Rattle.hack_journal.proofs.rows.row_at.Goals as goal
 
 pub returns-then-count-eq0-clause-none : goal.returns-then-count-eq0-clause-none
@@ -20,3 +20,6 @@ returns-then-not-are_of_call-clause-why g c =
     (λ tells. no_call s (g.F.Files.bytes_at c.args.files.now) c.in_ok-count.count _ c.if-count-eq0.false (c.in_ok-count.ensures.read tells) (λ call.
     let yes : c.are_of_call.result ≡ true = c.are_of_call.ensures.1 (rw (c.deref.ensures, c.deref-2.ensures.value, c.deref-3.ensures.value) call) in
     false≢true (sym c.if-not-are_of_call.true ∙ yes)))
+
+pub returns-clause-there : goal.returns-clause-there
+returns-clause-there g c = λ row is tells. row_there (spot_of c.args.place.now) (g.F.Files.bytes_at c.args.files.now) c.in_ok-count.count _ c.if-count-eq0.false (c.in_ok-count.ensures.read tells)

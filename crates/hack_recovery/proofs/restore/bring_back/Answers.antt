@@ -17,5 +17,5 @@ returns-in-Ok-clause-told g c = tells_same c.args.term.now c.tell_all.result c.t
 pub returns-in-Err-clause-came : goal.returns-in-Err-clause-came
 returns-in-Err-clause-came g c =
     let came = c.in-Err.ensures in
-    stopped c.in-Err.fault (record { failures = came.failures; cause = of_failed_path g.F.Files c.args.files.now c.recover.new.files c.in-Err.fault came.calls; why = came.why; spared = came.spared; refused = came.refused; never = came.never; safe = came.safe; safe_after_cut = came.safe_after_cut }) c.tell_fault.ensures.told_as
+    stopped c.in-Err.fault (record { failures = came.failures; cause = of_failed_path g.F.Files _ c.args.files.now c.recover.new.files c.in-Err.fault came.calls; why = came.why; spared = came.spared; refused = came.refused; never = came.never; safe = came.safe; safe_after_cut = came.safe_after_cut }) c.tell_fault.ensures.told_as
     (stream_of g.E.Sink c.tell_why.new.err, c.tell_why.ensures, c.tell_fault.ensures.said)

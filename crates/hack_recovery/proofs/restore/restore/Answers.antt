@@ -36,6 +36,6 @@ returns g c =
     let counts = c.in-Err.ensures.failures in
     let told = c.tell_fault.ensures.told_as in
     unread c.in-Err.fault (record { same = c.in-Err.ensures.same; untraced = c.in-Err.ensures.untraced }) counts
-    (of_failed_path g.F.Files c.args.files.now c.row_at.new.files c.in-Err.fault c.in-Err.ensures.calls) why
+    (of_failed_path g.F.Files _ c.args.files.now c.row_at.new.files c.in-Err.fault c.in-Err.ensures.calls) why
     (λ t first safe off. look_failed spot g.F.Files.tells first held (g.F.Files.failed c.args.files.now) (g.F.Files.failed c.row_at.new.files) c.in-Err.fault c.tell_fault.result t why counts told safe off) told c.tell_fault.ensures.told
     (stream_of g.E.Sink c.tell_why.new.err, c.tell_why.ensures, c.tell_fault.ensures.said)
