@@ -37,7 +37,7 @@ SCRIPTS = [
     ["tests/broken_streams.py", built("cargo_hack_program"), built("powerset_list")],
     ["tests/kill_points.py", "--every", "3", built("cargo_hack_program")],
     ["tests/guarded_calls.py", "--races", "10", built("cargo_hack_program")],
-    ["tests/lists_by_definition.py", built("cargo_hack_program"), "--cases", "200", "--counts", "1"],
+    ["tests/lists_by_definition.py", built("cargo_hack_program"), "--cases", "200", "--counts", "1", "--maps", built("powerset_list")],
     ["tests/odd_calls.py", built("cargo_hack_program"), built("powerset_list"), "--cases", "500"],
 ]
 
