@@ -5,22 +5,7 @@ use Rattle.std.specs.Result.{is_err}
 use Rattle.hack_base.specs.Names.{Name}
 use Rattle.hack_files.specs.Files.{refused_path}
 use Rattle.hack_files.specs.declared.fs.Files.{Ghosts as Filing}
-use Rattle.hack_files.specs.declared.fs.FsFault.TheVariants as fs
-use Rattle.hack_journal.specs.FailedCalls.{IsOfFailedCall}
 use Rattle.hack_journal.specs.Refusing.{IsRefused}
-use Rattle.hack_journal.specs.declared.recover.RecoverFault.{RecoverFault}
-use Rattle.hack_journal.specs.declared.recover.RecoverFault.TheVariants as unrecovered
-use Rattle.hack_recovery.specs.FailedFiles.{IsOfFailedPath}
-
--- the error of a file is of the one call that failed
-pub of_failed_path : {F : Type 0} (f : Filing F) (P : List ℕ → Type 0) (old new : F) (fault : RecoverFault) → IsOfFailedCall f P old new fault → IsOfFailedPath f fault
-of_failed_path f P old new unrecovered.Memory h = tt
-of_failed_path f P old new (unrecovered.NotJournal j) h = tt
-of_failed_path f P old new (unrecovered.Changed p j) h = tt
-of_failed_path f P old new (unrecovered.Files (fs.Read p)) h = record { before = old; after = new; unseen = h.1.unseen }
-of_failed_path f P old new (unrecovered.Files (fs.Write p)) h = record { before = old; after = new; refused = h.1.refused }
-of_failed_path f P old new (unrecovered.Files (fs.NotText p)) h = h
-of_failed_path f P old new (unrecovered.Files fs.Memory) h = h
 
 -- the path whose write was refused
 pub refused_by : {F T E : Type 0} (f : Filing F) (path : Name) (old new : F) (r : Result T E) → is_err r ≡ true → f.refuses old new (refused_path r path) → IsRefused f path

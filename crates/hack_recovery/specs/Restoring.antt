@@ -6,7 +6,7 @@ use Rattle.hack_base.specs.Names.{Name}
 use Rattle.hack_base.specs.Streams.{Stream}
 use Rattle.hack_files.specs.Files.{Contents, KeepsAll, KeepsOthers, Makes, MakesOrNot, puts, removes}
 use Rattle.hack_files.specs.declared.fs.Files.{Ghosts as Filing}
-use Rattle.hack_journal.specs.Recovery.{CountsRecoverFault, IsJournalRefusal, IsRestored, IsWhy, IsWhyUnread, SparesOthers}
+use Rattle.hack_journal.specs.Recovery.{CountsRecoverFault, IsJournalOrItsEntry, IsJournalRefusal, IsReached, IsRestored, IsWhy, IsWhyUnread, SparesOthers}
 use Rattle.hack_journal.specs.Refusing.{IsRefused, IsUnseen}
 use Rattle.hack_journal.specs.Rows.{Spot}
 use Rattle.hack_journal.specs.CutFiles.{IsSafeOrCut, StaysSafeOrCut}
@@ -20,7 +20,7 @@ use Rattle.hack_term.specs.declared.term.Term.{Term}
 use Rattle.hack_words.specs.declared.cli.env.Env.{Env}
 use Rattle.hack_places.specs.CallPlaces.{PlacesAt}
 use Rattle.hack_places.specs.FileLooks.{Unchanged}
-use Rattle.hack_recovery.specs.FailedFiles.{IsOfFailedPath, OneFailedAt}
+use Rattle.hack_recovery.specs.FailedFiles.{FailsBetween, OneFailedAt}
 use Rattle.hack_recovery.specs.Scenes.{IsQuiet, OneMayFail, Scene, scene_with}
 use Rattle.hack_recovery.specs.Telling.{SaysFault, SaysRestored, SaysSettling, SaysStranger, SaysUncopied, Tells}
 use Rattle.hack_recovery.specs.declared.fault.CallFault.{CallFault}
@@ -28,11 +28,16 @@ use Rattle.hack_recovery.specs.declared.fault.CallFault.TheVariants.{Memory, Bus
 
 -- ---- a journal
 
+-- where none is, nothing is written or removed
+abbrev pub IsStill : Type 0 → Type 0 → Spot → FilesView → FilesView → Type 0
+IsStill tells whole spot old new = tells → whole → old.held spot.journal ≡ None → Makes [] old.trace new.trace old.held new.held
+
 -- what it keeps was brought back, also where a write was cut: these paths held something else, and the
 -- journal is gone
 pub record Recovers (tells whole : Type 0) (spot : Spot) (paths : List Name) (old new : FilesView) : Type 0 where
   pub failures : GrowsBy 0 old.failed new.failed
   pub restored : tells → IsRestored spot paths old.held new.held
+  pub still : IsStill tells whole spot old new
   pub comes_back : tells → (first : Contents) → IsSafeOrCut spot first old.held → KeepsAll first new.held
   pub safe : tells → whole → (first : Contents) → IsSafe spot first old.held → StaysSafe spot first old.trace new.trace old.held new.held
   pub safe_after_cut : tells → whole → (first : Contents) → IsSafeOrCut spot first old.held → StaysSafeOrCut spot first old.trace new.trace old.held new.held
@@ -42,8 +47,9 @@ pub record Recovers (tells whole : Type 0) (spot : Spot) (paths : List Name) (ol
 -- left there
 pub record FailsToRestore {F : Type 0} (f : Filing F) (spot : Spot) (fault : RecoverFault) (old new : FilesView) : Type 0 where
   pub failures : CountsRecoverFault old.failed new.failed fault
-  pub cause : IsOfFailedPath f fault
+  pub cause : FailsBetween f (IsJournalOrItsEntry spot f.tells old.held) fault old new
   pub why : IsWhy spot f.tells old.held fault
+  pub still : IsStill f.tells f.whole spot old new
   pub spared : f.tells → SparesOthers spot old.held new.held
   pub refused : IsJournalRefusal fault → f.tells → KeepsAll old.held new.held
   pub never : IsJournalRefusal fault → f.tells → (first : Contents) → ¬ IsSafeOrCut spot first old.held
@@ -67,7 +73,7 @@ pub data IsBroughtBack {F : Type 0} (f : Filing F) (spot : Spot) (dir : Name) (c
 -- and nothing is changed; or it names none, and what it keeps was brought back. An error was reported
 -- where it isn't back; paths are shown from the folder `dir`
 pub data Restores {F : Type 0} (f : Filing F) (spot : Spot) (dir : Name) (old new : FilesView) (was now : Term) (err now_err : Stream) (came : Result Bool CallFault) : Type 0 where
-  unread : (fault : RecoverFault) → Unchanged f.tells f.whole old new → CountsRecoverFault old.failed new.failed fault → IsOfFailedPath f fault → IsWhyUnread spot f.tells old.held fault
+  unread : (fault : RecoverFault) → Unchanged f.tells f.whole old new → CountsRecoverFault old.failed new.failed fault → FailsBetween f (IsReached spot f.tells old.held) fault old new → IsWhyUnread spot f.tells old.held fault
       → (f.tells → (first : Contents) → IsSafeOrCut spot first old.held → came ≡ Ok false → GrowsBy 1 old.failed new.failed) → IsToldAs fault came → Tells was now came
       → SaysFault was.coloring fault came err now_err → Restores f spot dir old new was now err now_err came
   strange : (path : Name) → Unchanged f.tells f.whole old new → GrowsBy 0 old.failed new.failed → (f.tells → NamesStranger spot old.held path) → (f.tells → (first : Contents) → ¬ IsSafeOrCut spot first old.held) → came ≢ Ok true → Tells was now came

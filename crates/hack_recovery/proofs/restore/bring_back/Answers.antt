@@ -1,14 +1,14 @@
+use Rattle.std.proofs.Common.{refl}
 use Rattle.hack_base.specs.Names.{names_of}
 use Rattle.hack_base.specs.Streams.{stream_of}
 use Rattle.hack_recovery.specs.Restoring.IsBroughtBack.{brought, stopped}
-use Rattle.hack_recovery.proofs.FailedLemmas.{of_failed_path}
 use Rattle.hack_recovery.proofs.WayLemmas.{never_false, tells_same}
 use Rattle.hack_recovery.proofs.restore.bring_back.Goals as goal
 
 pub returns-in-Ok-clause-came : goal.returns-in-Ok-clause-came
 returns-in-Ok-clause-came g c =
     let came = c.in-Ok.ensures in
-    brought (names_of c.in-Ok.paths.items) (record { failures = came.failures; restored = came.restored; comes_back = came.comes_back; safe = came.safe; safe_after_cut = came.safe_after_cut })
+    brought (names_of c.in-Ok.paths.items) (record { failures = came.failures; restored = came.restored; still = came.still; comes_back = came.comes_back; safe = came.safe; safe_after_cut = came.safe_after_cut })
     (never_false c.tell_all.result c.tell_all.ensures.done) (rw c.deref.ensures.value at c.tell_all.ensures.said)
 
 pub returns-in-Ok-clause-told : goal.returns-in-Ok-clause-told
@@ -17,5 +17,5 @@ returns-in-Ok-clause-told g c = tells_same c.args.term.now c.tell_all.result c.t
 pub returns-in-Err-clause-came : goal.returns-in-Err-clause-came
 returns-in-Err-clause-came g c =
     let came = c.in-Err.ensures in
-    stopped c.in-Err.fault (record { failures = came.failures; cause = of_failed_path g.F.Files _ c.args.files.now c.recover.new.files c.in-Err.fault came.calls; why = came.why; spared = came.spared; refused = came.refused; never = came.never; safe = came.safe; safe_after_cut = came.safe_after_cut }) c.tell_fault.ensures.told_as
+    stopped c.in-Err.fault (record { failures = came.failures; cause = record { before = c.args.files.now; after = c.recover.new.files; first = refl; last = refl; failed = came.calls }; why = came.why; still = came.still; spared = came.spared; refused = came.refused; never = came.never; safe = came.safe; safe_after_cut = came.safe_after_cut }) c.tell_fault.ensures.told_as
     (stream_of g.E.Sink c.tell_why.new.err, c.tell_why.ensures, c.tell_fault.ensures.said)

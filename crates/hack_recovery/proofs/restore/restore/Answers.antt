@@ -1,10 +1,9 @@
-use Rattle.std.proofs.Common.{◌∙◌, ap, sym}
+use Rattle.std.proofs.Common.{◌∙◌, ap, refl, sym}
 use Rattle.std.specs.Option.{option_map}
 use Rattle.hack_journal.specs.Journal.{edit_of}
 use Rattle.hack_journal.specs.Rows.{spot_of}
 use Rattle.hack_files.specs.View.{FilesView, files_view}
 use Rattle.hack_recovery.specs.Restoring.Restores.{strange, trusted, unread}
-use Rattle.hack_recovery.proofs.FailedLemmas.{of_failed_path}
 use Rattle.hack_recovery.proofs.StrangerLemmas.{never_strange, none_named, one_named}
 use Rattle.hack_recovery.proofs.TellingLemmas.{look_failed}
 use Rattle.hack_base.specs.Streams.{stream_of}
@@ -36,6 +35,6 @@ returns g c =
     let counts = c.in-Err.ensures.failures in
     let told = c.tell_fault.ensures.told_as in
     unread c.in-Err.fault (record { same = c.in-Err.ensures.same; untraced = c.in-Err.ensures.untraced }) counts
-    (of_failed_path g.F.Files _ c.args.files.now c.row_at.new.files c.in-Err.fault c.in-Err.ensures.calls) why
+    (record { before = c.args.files.now; after = c.row_at.new.files; first = refl; last = refl; failed = c.in-Err.ensures.calls }) why
     (λ t first safe off. look_failed spot g.F.Files.tells first held (g.F.Files.failed c.args.files.now) (g.F.Files.failed c.row_at.new.files) c.in-Err.fault c.tell_fault.result t why counts told safe off) told c.tell_fault.ensures.told
     (stream_of g.E.Sink c.tell_why.new.err, c.tell_why.ensures, c.tell_fault.ensures.said)
