@@ -92,13 +92,13 @@ FailsFor P (Err fault) = IsOfCause P fault
 abbrev pub RefusesOthers : {F : Type 0} → Filing F → List ℕ → F → F → Type 0
 RefusesOthers f path old new = (ps : List (List ℕ)) × f.refuses old new ps × ¬ Contains ps path
 
--- nothing but the journal was changed
+-- where changes are made whole or not at all: nothing but the journal was changed
 abbrev pub ChangesNoFile : {F : Type 0} → Filing F → List ℕ → F → F → Type 0
 ChangesNoFile f journal old new =
     f.whole → Makes [] (trace_besides journal (f.trace old)) (trace_besides journal (f.trace new)) (without journal (f.bytes_at old)) (without journal (f.bytes_at new))
 
--- nobody was told that something couldn't be kept; or it failed for that, and its own path was told: the
--- files below refused nothing there, and changed nothing
+-- nobody was told that something couldn't be kept; or it failed for that, and its own path was told, which
+-- the files below didn't refuse; but for the journal, they changed nothing
 abbrev pub TellsItsOwn : {F U T : Type 0} → Filing F → Noting U → List ℕ → Noted → List ℕ → Option (List ℕ) → F → F → U → U → Result T FileFault → Type 0
 TellsItsOwn f u folder noted path bytes old new was now result =
     (now ≡ was) ⊎ (FailsFor (IsOwnRefusal f folder noted path bytes old new) result × u.misses was now path × RefusesOthers f path old new × ChangesNoFile f noted.journal old new)
