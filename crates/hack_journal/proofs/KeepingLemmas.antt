@@ -1,5 +1,5 @@
 -- Why an edit is refused, one step after another.
-use Rattle.std.proofs.Common.{◌≡◌, ◌+◌, inl, inr, subst, sym, ℕ, List, Option, Some, None, Result, Ok, Err, false, length}
+use Rattle.std.proofs.Common.{◌≡◌, ◌+◌, inl, inr, subst, sym, ℕ, List, [], ◌∷◌, Option, Some, None, Result, Ok, Err, false, length}
 use Rattle.std.specs.Prelude.{IsSome}
 use Rattle.hack_files.specs.Files.{KeepsAll}
 use Rattle.hack_files.specs.declared.fs.FileFault.{FileFault}
@@ -7,13 +7,15 @@ use Rattle.hack_files.specs.declared.fs.FileFault.TheVariants.{Memory, Device}
 use Rattle.hack_files.specs.declared.fs.Files.{Ghosts as Filing}
 use Rattle.hack_files.specs.FailedCalls.{NoneFailed, WriteFailed}
 use Rattle.hack_journal.specs.FailedCalls.{FailsRefusedAt}
-use Rattle.hack_journal.specs.Internal.{IsHeld}
+use Rattle.hack_journal.specs.Internal.{IsHeld, RefusesNextAtMost}
 use Rattle.hack_journal.specs.Journal.{Edit}
-use Rattle.hack_journal.specs.Keeping.{CannotAppend, CannotLookAhead, FailsOf, IsOfCause, IsOther, held_first}
-use Rattle.hack_journal.specs.Rows.{Noted, file_at}
+use Rattle.hack_journal.specs.Keeping.{CannotAppend, CannotLookAhead, FailsOf, IsOfCause, IsOther, RefusesOthers, held_first}
+use Rattle.hack_journal.specs.Rows.{Noted, file_at, is_of_journal}
 use Rattle.hack_journal.specs.SafeFiles.{first_entry_of}
 use Rattle.hack_journal.specs.Strangers.{is_edit_of_manifest}
+use Rattle.hack_base.proofs.Members.{Contains-cons_cases, Contains-nil}
 use Rattle.hack_files.proofs.FailedLemmas.{look_then, none_then, write_then}
+use Rattle.hack_journal.proofs.RowLemmas.{apart_from}
 
 -- a cause of a wider kind
 pub cause_wider : (P Q : Type 0) (fault : FileFault) → (P → Q) → IsOfCause P fault → IsOfCause Q fault
@@ -53,3 +55,23 @@ pub append_then : {F : Type 0} (f : Filing F) (folder : List ℕ) (noted : Noted
 append_then f folder noted path a b c none same (inl way) = inl way
 append_then f folder noted path a b c none same (inr (inl ahead)) = inr (inl (ahead_then f noted a b c none same ahead))
 append_then f folder noted path a b c none same (inr (inr refused)) = inr (inr (write_then f (file_at noted.journal (length noted.entries)) a b c none refused))
+
+-- ---- refused paths
+
+-- after calls that refused none
+pub next_then : {F : Type 0} (f : Filing F) (noted : Noted) (a b c : F) → f.refuses a b [] → RefusesNextAtMost f noted b c → RefusesNextAtMost f noted a c
+next_then f noted a b c none (inl h) = inl (f.refuses_more a b c [] [] none h)
+next_then f noted a b c none (inr h) = inr (f.refuses_more a b c [] (file_at noted.journal (length noted.entries) ∷ []) none h)
+
+-- a path that isn't set aside for the journal isn't that of the row's next file
+pub refuses_others : {F : Type 0} (f : Filing F) (noted : Noted) (path : List ℕ) (a b : F) → is_of_journal noted.journal path ≡ false → RefusesNextAtMost f noted a b → RefusesOthers f path a b
+refuses_others f noted path a b out (inl h) = ([], h, Contains-nil path)
+refuses_others f noted path a b out (inr h) =
+    let next = file_at noted.journal (length noted.entries) in (
+      next ∷ [],
+      h,
+      λ has. elim (Contains-cons_cases next [] path has) [
+        | inl is ↦ apart_from noted.journal (length noted.entries) path out (sym is)
+        | inr none ↦ Contains-nil path none
+      ],
+    )

@@ -1,12 +1,13 @@
 -- What only private functions of the crate promise each other.
-use Rattle.std.specs.Prelude.{◌≡◌, ◌≢◌, ◌⊎◌, ◌<◌, ◌++◌, [], ◌∷◌, ℕ, false, true, List, Option, Some, None, IsSome, string_bytes}
+use Rattle.std.specs.Prelude.{◌≡◌, ◌≢◌, ◌⊎◌, ◌<◌, ◌++◌, [], ◌∷◌, ℕ, false, true, List, Option, Some, None, IsSome, length, string_bytes}
 use Rattle.hack_base.specs.Counters.{GrowsBy}
 use Rattle.hack_files.specs.Files.{Change, Contents, Makes, Trace}
+use Rattle.hack_files.specs.declared.fs.Files.{Ghosts as Filing}
 use Rattle.hack_files.specs.declared.fs.FsFault.TheVariants as fs
 use Rattle.hack_base.specs.PathTexts.{is_rooted}
 use Rattle.hack_journal.specs.Journal.{Edit}
 use Rattle.hack_journal.specs.Keeping.{climbing_way}
-use Rattle.hack_journal.specs.Rows.{Spot, AreFirst, IsFresh, IsTextOf, file_at, is_of_journal, leads_to}
+use Rattle.hack_journal.specs.Rows.{Noted, Spot, AreFirst, IsFresh, IsTextOf, file_at, is_of_journal, leads_to}
 use Rattle.hack_journal.specs.SafeFiles.{AfterEachFront, KeepFirst, IsSafe, StaysSafe, gives, changes_besides, IsJournaled, first_entry_of}
 use Rattle.hack_journal.specs.Strangers.{first_stranger, is_edit_of_manifest}
 use Rattle.hack_journal.specs.declared.recover.RecoverFault.{RecoverFault}
@@ -181,6 +182,10 @@ pub record IsNotable (journal : List ℕ) (entries : List Edit) (now : Contents)
   pub apart : is_of_journal journal e.path ≡ false
   pub known : is_edit_of_manifest e ≡ true
   pub held : IsHeld (first_entry_of entries e.path) (now e.path) e.held
+
+-- nothing was refused, or the write of the row's next file alone
+abbrev pub RefusesNextAtMost : {F : Type 0} → Filing F → Noted → F → F → Type 0
+RefusesNextAtMost f noted old new = f.refuses old new [] ⊎ f.refuses old new (file_at noted.journal (length noted.entries) ∷ [])
 
 -- changes of the journal alone were made
 pub record Hidden (journal : List ℕ) (old_trace new_trace : Trace) (old new : Contents) : Type 0 where

@@ -1,15 +1,16 @@
 -- Why an edit is refused. No cause can be made up: a look that failed left its path unseen, and a write
 -- that failed was refused.
-use Rattle.std.specs.Prelude.{◌≡◌, ◌≢◌, ◌⊎◌, ◌≤◌, ◌+◌, ◌++◌, ℕ, zero, suc, List, Option, Some, None, Result, Ok, Err, IsSome, true, false, codes, length}
+use Rattle.std.specs.Prelude.{◌≡◌, ◌≢◌, ◌⊎◌, ◌≤◌, ◌+◌, ◌++◌, [], ℕ, zero, suc, List, Option, Some, None, Result, Ok, Err, IsSome, Contains, true, false, codes, length}
 use Rattle.std.specs.List.{repeat}
 use Rattle.hack_base.specs.PathTexts.{is_rooted, normal_of, parent_of, under_of, without_front}
 use Rattle.hack_files.specs.declared.fs.FileFault.{FileFault}
 use Rattle.hack_files.specs.declared.fs.FileFault.TheVariants.{Memory, Device}
 use Rattle.hack_files.specs.declared.fs.Files.{Ghosts as Filing}
+use Rattle.hack_files.specs.Files.{Makes}
 use Rattle.hack_files.specs.FailedCalls.{LookFailed, NoneFailed, WriteFailed}
 use Rattle.hack_journal.specs.Journal.{Edit}
 use Rattle.hack_journal.specs.Rows.{Noted, file_at, is_of_journal, leads_to}
-use Rattle.hack_journal.specs.SafeFiles.{first_entry_of}
+use Rattle.hack_journal.specs.SafeFiles.{first_entry_of, trace_besides, without}
 use Rattle.hack_journal.specs.Strangers.{is_edit_of_manifest}
 use Rattle.hack_journal.specs.declared.unkept.Unkept.{Ghosts as Noting}
 
@@ -87,7 +88,17 @@ abbrev pub FailsFor : {T : Type 0} → Type 0 → Result T FileFault → Type 0
 FailsFor P (Ok _) = ⊥
 FailsFor P (Err fault) = IsOfCause P fault
 
--- nobody was told that something couldn't be kept; or it failed for that, and its own path was told
+-- these files refused no write or removal, or some, but none of this path
+abbrev pub RefusesOthers : {F : Type 0} → Filing F → List ℕ → F → F → Type 0
+RefusesOthers f path old new = (ps : List (List ℕ)) × f.refuses old new ps × ¬ Contains ps path
+
+-- where changes are made whole or not at all: nothing but the journal was changed
+abbrev pub ChangesNoFile : {F : Type 0} → Filing F → List ℕ → F → F → Type 0
+ChangesNoFile f journal old new =
+    f.whole → Makes [] (trace_besides journal (f.trace old)) (trace_besides journal (f.trace new)) (without journal (f.bytes_at old)) (without journal (f.bytes_at new))
+
+-- nobody was told that something couldn't be kept; or it failed for that, and its own path was told, which
+-- the files below didn't refuse; but for the journal, they changed nothing
 abbrev pub TellsItsOwn : {F U T : Type 0} → Filing F → Noting U → List ℕ → Noted → List ℕ → Option (List ℕ) → F → F → U → U → Result T FileFault → Type 0
 TellsItsOwn f u folder noted path bytes old new was now result =
-    (now ≡ was) ⊎ (FailsFor (IsOwnRefusal f folder noted path bytes old new) result × u.misses was now path)
+    (now ≡ was) ⊎ (FailsFor (IsOwnRefusal f folder noted path bytes old new) result × u.misses was now path × RefusesOthers f path old new × ChangesNoFile f noted.journal old new)

@@ -14,7 +14,7 @@ ghost use Rattle.hack_journal.specs.Keeping.{IsOther};
 ghost use Rattle.hack_journal.specs.Rows.{file_at, is_of_journal};
 ghost use Rattle.hack_journal.specs.SafeFiles.{SomeEntryHasBytes, first_entry_of};
 ghost use Rattle.hack_journal.specs.SafeFiles.{without};
-ghost use Rattle.hack_journal.specs.Internal.{Hidden, IsHeld, IsNotable};
+ghost use Rattle.hack_journal.specs.Internal.{Hidden, IsHeld, IsNotable, RefusesNextAtMost};
 ghost use Rattle.hack_journal.specs.Strangers.{is_edit_of_manifest};
 
 use crate::contents::look;
@@ -33,6 +33,7 @@ impl<F: Files, U: Unkept> Journaled<F, U> {
     fn held_at_first(&mut self, path: &str) -> Result<Option<Vec<u8>>, FileFault>
         ensures handed { F.stays self.old.files self.new.files }
         ensures below { Grows (F.failed self.old.files) (F.failed self.new.files) }
+        ensures refused_none { F.refuses self.old.files self.new.files [] }
         ensures rest { self.new ≡ record self.old { files = self.new.files } }
         ensures held { IfOk result (λ held. F.tells →
             IsHeld (first_entry_of self.old.notes.entries path.now)
@@ -58,6 +59,7 @@ impl<F: Files, U: Unkept> Journaled<F, U> {
     fn entry(&mut self, path: &str, bytes: Option<&[u8]>) -> Result<Entry, FileFault>
         ensures handed { F.stays self.old.files self.new.files }
         ensures below { Grows (F.failed self.old.files) (F.failed self.new.files) }
+        ensures refused_none { F.refuses self.old.files self.new.files [] }
         ensures rest { self.new ≡ record self.old { files = self.new.files } }
         ensures path { IfOk result (λ entry. (edit_of entry).path ≡ path.now) }
         ensures wrote { IfOk result (λ entry.
@@ -85,6 +87,7 @@ impl<F: Files, U: Unkept> Journaled<F, U> {
     fn look_ahead(&mut self) -> Result<String, FileFault>
         ensures handed { F.stays self.old.files self.new.files }
         ensures below { Grows (F.failed self.old.files) (F.failed self.new.files) }
+        ensures refused_none { F.refuses self.old.files self.new.files [] }
         ensures rest { self.new ≡ record self.old { files = self.new.files } }
         ensures path { IfOk result (λ path. string_bytes path ≡
             file_at self.old.notes.journal (length self.old.notes.entries + 1)) }
@@ -113,6 +116,8 @@ impl<F: Files, U: Unkept> Journaled<F, U> {
     fn append(&mut self, entry: Entry) -> Result<(), FileFault>
         ensures handed { F.stays self.old.files self.new.files }
         ensures below { Grows (F.failed self.old.files) (F.failed self.new.files) }
+        ensures refused { RefusesNextAtMost F.Files self.old.notes
+            self.old.files self.new.files }
         ensures journal { self.new.notes.journal ≡ self.old.notes.journal }
         ensures rest { self.new ≡
             record self.old { files = self.new.files; notes = self.new.notes } }
@@ -145,6 +150,8 @@ impl<F: Files, U: Unkept> Journaled<F, U> {
     pub(crate) fn keep(&mut self, path: &str, bytes: Option<&[u8]>) -> Result<(), FileFault>
         ensures handed { F.stays self.old.files self.new.files }
         ensures below { Grows (F.failed self.old.files) (F.failed self.new.files) }
+        ensures refused { RefusesNextAtMost F.Files self.old.notes
+            self.old.files self.new.files }
         ensures journal { self.new.notes.journal ≡ self.old.notes.journal }
         ensures rest { self.new ≡
             record self.old { files = self.new.files; notes = self.new.notes } }

@@ -140,3 +140,22 @@ returns-clause-below g c = grow_more _ _ _ c.in_ok-after.ensures.below (_, c.in_
 
 pub returns-in_err-text-clause-hidden : goal.returns-in_err-text-clause-hidden
 returns-in_err-text-clause-hidden g c = λ whole. hidden_none _ _ _ _ _ (makes_none _ _)
+
+pub returns-in_err-text-clause-refused : goal.returns-in_err-text-clause-refused
+returns-in_err-text-clause-refused g c = inl (g.F.Files.refuses_none c.args.self.now.files)
+
+pub returns-in_err-after-clause-refused : goal.returns-in_err-after-clause-refused
+returns-in_err-after-clause-refused g c = inl c.in_err-after.ensures.refused_none
+
+pub returns-in_err-write-clause-refused : goal.returns-in_err-write-clause-refused
+returns-in_err-write-clause-refused g c =
+    let notes : c.look_ahead.new.self.notes ≡ c.args.self.now.notes = ap (λ s. s.notes) c.in_ok-after.ensures.rest in
+    let path = c.next.ensures.path ∙ ap (λ (n : Noted). file_at n.journal (length n.entries)) notes in
+    let refused = subst (λ (q : List ℕ). g.F.Files.refuses c.look_ahead.new.self.files c.write.new.self (q ∷ [])) path c.in_err-write.ensures.refused_path in
+    inr (g.F.Files.refuses_more _ _ _ [] _ c.in_ok-after.ensures.refused_none refused)
+
+pub returns-in-Ok-clause-refused : goal.returns-in-Ok-clause-refused
+returns-in-Ok-clause-refused g c = inl (g.F.Files.refuses_more _ _ _ [] [] c.in_ok-after.ensures.refused_none c.in_ok-write.ensures.refused_path)
+
+pub returns-clause-refused : goal.returns-clause-refused
+returns-clause-refused g c = inl (g.F.Files.refuses_more _ _ _ [] [] c.in_ok-after.ensures.refused_none c.in_ok-write.ensures.refused_path)

@@ -1,4 +1,4 @@
-use Rattle.std.proofs.Common.{◌≡◌, ◌∙◌, ap, arith, false, inl, inr, sym}
+use Rattle.std.proofs.Common.{◌≡◌, ◌∙◌, [], ap, arith, false, inl, inr, sym}
 use Rattle.std.proofs.lemmas.Result.{on_ok_weaker, on_err_weaker}
 use Rattle.hack_journal.specs.Rows.{is_of_journal}
 use Rattle.hack_files.specs.TraceLaws.{makes_none}
@@ -7,8 +7,9 @@ use Rattle.hack_journal.specs.SafeLaws.{stays_none, stays_more}
 use Rattle.hack_journal.proofs.RefusingLemmas.{counted_below}
 use Rattle.hack_journal.proofs.SafeLemmas.{hidden_put, hidden_alone, hidden_or_not, put_or_not_stays, at_either}
 use Rattle.hack_files.specs.FailedCalls.{WriteFailed}
+use Rattle.hack_base.proofs.Members.{Contains-nil}
 use Rattle.hack_files.proofs.FailedLemmas.{write_then}
-use Rattle.hack_journal.proofs.KeepingLemmas.{cause_wider, fails_then, fails_write}
+use Rattle.hack_journal.proofs.KeepingLemmas.{cause_wider, fails_then, fails_write, refuses_others}
 use Rattle.hack_journal.proofs.journaled.Journaled.change.Goals as goal
 
 pub returns-then-is_of_journal-clause-cause : goal.returns-then-is_of_journal-clause-cause
@@ -18,10 +19,23 @@ pub returns-in-Err-clause-cause : goal.returns-in-Err-clause-cause
 returns-in-Err-clause-cause g c = cause_wider _ _ c.in-Err.fault (λ h. inl (inr h)) c.in-Err.ensures.why
 
 pub returns-then-is_of_journal-clause-unkept : goal.returns-then-is_of_journal-clause-unkept
-returns-then-is_of_journal-clause-unkept g c = inr (inl (sym c.is_of_journal.ensures ∙ c.if-is_of_journal.true), rw c.of.ensures.path at c.note.ensures.path)
+returns-then-is_of_journal-clause-unkept g c = inr (
+  inl (sym c.is_of_journal.ensures ∙ c.if-is_of_journal.true),
+  rw c.of.ensures.path at c.note.ensures.path,
+  ([], g.F.Files.refuses_none c.args.self.now.files, Contains-nil c.args.path.now),
+  λ whole. makes_none _ _,
+)
 
 pub returns-in-Err-clause-unkept : goal.returns-in-Err-clause-unkept
-returns-in-Err-clause-unkept g c = inr (cause_wider _ _ c.in-Err.fault inr c.in-Err.ensures.why, rw (c.of-in-Err.ensures.path, ap (λ s. s.unkept) c.in-Err.ensures.rest) at c.note-in-Err.ensures.path)
+returns-in-Err-clause-unkept g c =
+    let s = c.args.self.now in
+    let out : is_of_journal s.notes.journal c.args.path.now ≡ false = sym c.is_of_journal.ensures ∙ c.if-is_of_journal.false in
+    inr (
+      cause_wider _ _ c.in-Err.fault inr c.in-Err.ensures.why,
+      rw (c.of-in-Err.ensures.path, ap (λ s. s.unkept) c.in-Err.ensures.rest) at c.note-in-Err.ensures.path,
+      refuses_others g.F.Files s.notes c.args.path.now s.files c.keep.new.self.files out c.in-Err.ensures.refused,
+      λ whole. hidden_alone _ _ _ _ _ (c.in-Err.ensures.hidden whole),
+    )
 
 pub returns-in-Ok-clause-cause : goal.returns-in-Ok-clause-cause
 returns-in-Ok-clause-cause g c =

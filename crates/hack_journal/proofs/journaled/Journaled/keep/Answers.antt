@@ -12,7 +12,7 @@ use Rattle.hack_journal.specs.Journal.{edit_of}
 use Rattle.std.proofs.Common.{inl, inr, string_bytes}
 use Rattle.std.proofs.lemmas.Result.{err_from_is_err_and}
 use Rattle.hack_journal.specs.Keeping.{CannotAppend}
-use Rattle.hack_journal.proofs.KeepingLemmas.{append_then, cause_wider, fails_then}
+use Rattle.hack_journal.proofs.KeepingLemmas.{append_then, cause_wider, fails_then, next_then}
 use Rattle.hack_journal.proofs.journaled.Journaled.keep.Goals as goal
 
 pub returns-in_err-entry-clause-why : goal.returns-in_err-entry-clause-why
@@ -70,3 +70,16 @@ pub returns-clause-hidden : goal.returns-clause-hidden
 returns-clause-hidden g c = λ whole.
     let hidden = rw (ap (λ s. s.notes.journal) c.in_ok-entry.ensures.rest) at (c.append.ensures.hidden whole) in
     hidden_then _ _ _ _ _ _ _ (c.in_ok-entry.ensures.untraced whole) hidden
+
+pub returns-then-tells-clause-refused : goal.returns-then-tells-clause-refused
+returns-then-tells-clause-refused g c = inl (g.F.Files.refuses_none c.args.self.now.files)
+
+pub returns-in_err-entry-clause-refused : goal.returns-in_err-entry-clause-refused
+returns-in_err-entry-clause-refused g c = inl c.in_err-entry.ensures.refused_none
+
+pub returns-clause-refused : goal.returns-clause-refused
+returns-clause-refused g c =
+    let s = c.args.self.now in
+    let mid = c.entry.new.self in
+    let notes : mid.notes ≡ s.notes = ap (λ s. s.notes) c.in_ok-entry.ensures.rest in
+    next_then g.F.Files s.notes s.files mid.files c.append.new.self.files c.in_ok-entry.ensures.refused_none (rw notes at c.append.ensures.refused)
