@@ -25,12 +25,6 @@ manifest_by (answer.Args args) = optional_text args.manifest_path
 manifest_by (answer.Print text) = None
 manifest_by answer.List = None
 
--- whether a parsed command line asks for more messages
-abbrev pub verbose_by : Parsed → Bool
-verbose_by (answer.Args args) = args.verbose
-verbose_by (answer.Print text) = false
-verbose_by answer.List = false
-
 -- whether a parsed command line asks for a text, or for cargo's list
 abbrev pub prints_by : Parsed → Bool
 prints_by (answer.Args args) = false
@@ -47,10 +41,6 @@ pub data Asks {A : Type 0} (of : Parsed → A) (refused : A) (env : Env) (words 
 -- and names none
 abbrev pub AsksForEdits : Env → List Name → Edits → Option Name → Type 0
 AsksForEdits env words does path = Asks {A = Edits × Option Name} (λ read. (edits_by read, manifest_by read)) (edits.None, None) env words (does, path)
-
--- whether a command line asks for more messages; one that is refused doesn't
-abbrev pub AsksVerbose : Env → List Name → Bool → Type 0
-AsksVerbose = Asks verbose_by false
 
 -- whether a command line asks for a text, or for cargo's list; one that is refused doesn't
 abbrev pub AsksToPrint : Env → List Name → Bool → Type 0

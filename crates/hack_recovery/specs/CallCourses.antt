@@ -29,7 +29,7 @@ use Rattle.hack_words.specs.declared.cli.edits.Edits.{Edits}
 use Rattle.hack_words.specs.declared.cli.edits.Edits.TheVariants as edits
 use Rattle.hack_recovery.specs.declared.fault.CallFault.{CallFault}
 use Rattle.hack_recovery.specs.declared.fault.CallFault.TheVariants.{Memory}
-use Rattle.hack_recovery.specs.AskedEdits.{AsksForEdits, AsksToPrint, AsksVerbose}
+use Rattle.hack_recovery.specs.AskedEdits.{AsksForEdits, AsksToPrint}
 use Rattle.hack_words.specs.Edits.{is_change, is_restore}
 use Rattle.hack_recovery.specs.Admission.{IsAdmitted}
 use Rattle.hack_places.specs.CallPlaces.{ArePlacesOf, PlacesAt, is_left}
@@ -224,10 +224,10 @@ pub data CopiesAndRuns {F L U J : Type 0} (f : Filing F) (l : Filing L) (u : Not
 
 -- how a call with a journal goes: a guard of the workspace's folder is asked for, and whatever came of
 -- the call, it is left with the exit status (that it is left last of all is tested alone); nothing hangs
--- on whether it came, which is told where more is asked for. Or memory was refused for its start
+-- on whether it came, but that it is told where it didn't. Or memory was refused for its start
 pub data IsJournaledCall {F L U J : Type 0} (f : Filing F) (l : Filing L) (u : Noting U) (j : Filing J) (talks watched : Type 0) (words : List Name) (env : Env) (places : PlacesAt) (old new : Scene) : Type 0 where
-  performed : (came verbose : Bool) (status : ℕ) (guards last : GuardsView) (err : Stream) (ran : Scene) → (watched → guards ≡ after_start places.folder came old.guards)
-      → AsksVerbose env words verbose → SaysWatched old.host.term.coloring came verbose old.streams.err err
+  performed : (came : Bool) (status : ℕ) (guards last : GuardsView) (err : Stream) (ran : Scene) → (watched → guards ≡ after_start places.folder came old.guards)
+      → SaysWatched old.host.term.coloring came old.streams.err err
       → CopiesAndRuns f l u j talks words env places (record (scene_with old.files old.host.term err old) { guards = guards }) ran
       → IsStatus env.deny_warnings ran.host status → (watched → last ≡ after_leave status guards) → new ≡ record ran { guards = last }
       → IsJournaledCall f l u j talks watched words env places old new

@@ -145,11 +145,10 @@ abbrev pub SaysUnrestored : Coloring → Bool → Bool → Stream → Stream →
 SaysUnrestored coloring true left old new = new ≡ old
 SaysUnrestored coloring false left old new = WritesText (info_line coloring (unrestored_text left)) old new
 
--- where no guard watches and more is asked for, that is said
-abbrev pub SaysWatched : Coloring → Bool → Bool → Stream → Stream → Type 0
-SaysWatched coloring true verbose old new = new ≡ old
-SaysWatched coloring false false old new = new ≡ old
-SaysWatched coloring false true old new = WritesText (info_line coloring unwatched_text) old new
+-- where no guard watches, that is said
+abbrev pub SaysWatched : Coloring → Bool → Stream → Stream → Type 0
+SaysWatched coloring true old new = new ≡ old
+SaysWatched coloring false old new = WritesText (info_line coloring unwatched_text) old new
 
 -- ---- what stays
 

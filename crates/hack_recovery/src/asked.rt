@@ -6,8 +6,8 @@ ghost use Rattle.hack_rules.specs.declared.fault.CliFault.TheVariants.{Memory};
 ghost use Rattle.hack_words.specs.Start.{wants_rustup as rustup_wanted};
 ghost use Rattle.hack_run.specs.Readings.{IsEarlyReading};
 ghost use Rattle.hack_run.specs.TemporaryEdits.{RestoresEdits};
-ghost use Rattle.hack_recovery.specs.AskedEdits.{AsksForEdits, AsksToPrint, AsksVerbose};
-ghost use Rattle.hack_recovery.specs.AskedEdits.{edits_by, manifest_by, prints_by, verbose_by};
+ghost use Rattle.hack_recovery.specs.AskedEdits.{AsksForEdits, AsksToPrint};
+ghost use Rattle.hack_recovery.specs.AskedEdits.{edits_by, manifest_by, prints_by};
 
 use hack_base::copies::copy_of;
 use hack_run::reading::Reading;
@@ -22,8 +22,6 @@ pub struct Asked {
     /// Whether it asks for a text or cargo's list, for which no manifest matters.
     pub prints: bool,
     pub edits: Edits,
-    /// Whether it asks for more messages.
-    pub verbose: bool,
     pub manifest_path: Option<String>,
     /// What the command line is read into, unless an argument needs rustup's version.
     pub reading: Option<Reading>,
@@ -37,8 +35,6 @@ impl Asked {
             asked.prints) }
         ensures asks { IfOk result (λ asked. AsksForEdits env.now (names_of words.now)
             asked.edits (optional_text asked.manifest_path)) }
-        ensures verbose { IfOk result (λ asked. AsksVerbose env.now (names_of words.now)
-            asked.verbose) }
         // Where edits come back, none is asked for that stays, whatever rustup answers.
         ensures back { IfOk result (λ asked. asked.edits ≡ Edits.Temporary
             → RestoresEdits env.now (names_of words.now)) }
@@ -50,12 +46,10 @@ impl Asked {
             Reading::Accepted(parsed, notices) => {
                 let prints = prints(&parsed);
                 let edits = edits_by(&parsed);
-                let verbose = is_verbose(&parsed);
                 let manifest_path = manifest_by(&parsed)?;
                 Ok(Asked {
                     prints,
                     edits,
-                    verbose,
                     manifest_path,
                     reading: early(words, Reading::Accepted(parsed, notices)),
                 })
@@ -65,7 +59,6 @@ impl Asked {
                 Ok(Asked {
                     prints: false,
                     edits: Edits::None,
-                    verbose: false,
                     manifest_path: None,
                     reading: early(words, Reading::Refused(fault)),
                 })
@@ -101,16 +94,6 @@ fn edits_by(parsed: &Parsed) -> Edits
     match parsed {
         Parsed::Args(args) => args.edits(),
         Parsed::Print(_) | Parsed::List => Edits::None,
-    }
-}
-
-/// Whether a parsed command line asks for more messages.
-fn is_verbose(parsed: &Parsed) -> bool
-    ensures { result ≡ verbose_by parsed.now }
-{
-    match parsed {
-        Parsed::Args(args) => args.verbose,
-        Parsed::Print(_) | Parsed::List => false,
     }
 }
 

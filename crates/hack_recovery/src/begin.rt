@@ -7,7 +7,6 @@ ghost use Rattle.hack_base.specs.Counters.{GrowsBy};
 ghost use Rattle.hack_base.specs.Names.{names_of, optional_text};
 ghost use Rattle.hack_files.specs.Files.{KeepsAll, Makes};
 ghost use Rattle.hack_journal.specs.Rows.{spot_of};
-ghost use Rattle.hack_recovery.specs.AskedEdits.{AsksVerbose};
 ghost use Rattle.hack_recovery.specs.CallCourses.{ArePlacesFound, Begins, IsLookedAt, start_of};
 ghost use Rattle.hack_recovery.specs.CallCourses.{workspace_of};
 ghost use Rattle.hack_places.specs.FileLooks.{AreLooksCounted, AreLooksSeen, IsOfLooked};
@@ -33,7 +32,6 @@ use std::alloc::{AllocError, Global};
 #[derive(Drop)]
 pub(crate) struct Begun {
     pub edits: Edits,
-    pub verbose: bool,
     pub places: Places,
     /// The place of the journal once more, for the call itself.
     pub place: JournalPlace,
@@ -85,8 +83,6 @@ pub(crate) fn begin<F: Files, K: Locks>(
         (names_of words.now) env.now begun.edits (places_view begun.places) begun.is_left
         (files_view F.Files files.old)) }
     ensures place { IfOk result (λ begun. spot_of begun.place ≡ spot_of begun.places.place) }
-    ensures verbose { IfOk result (λ begun. AsksVerbose env.now (names_of words.now)
-        begun.verbose) }
     ensures reading { IfOk result (λ begun. IfSome begun.reading
         (IsEarlyReading env.now (names_of words.now))) }
     ensures counted { OnOk result (GrowsBy 0 (F.failed files.old) (F.failed files.new)) }
@@ -110,7 +106,6 @@ pub(crate) fn begin<F: Files, K: Locks>(
     let place = place_at(alloc, folder, journal)?;
     Ok(Begun {
         edits: asked.edits,
-        verbose: asked.verbose,
         places,
         place,
         is_left,

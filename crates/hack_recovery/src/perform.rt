@@ -7,7 +7,6 @@ ghost use Rattle.hack_base.specs.Names.{names_of};
 ghost use Rattle.hack_base.specs.Streams.{stream_of};
 ghost use Rattle.hack_journal.specs.Rows.{spot_of};
 ghost use Rattle.hack_journaled.specs.Journals.{contents_seen};
-ghost use Rattle.hack_recovery.specs.AskedEdits.{AsksVerbose};
 ghost use Rattle.hack_words.specs.Edits.{is_restore};
 ghost use Rattle.hack_recovery.specs.CallCourses.{Continues, IsCallCourse, RunsOverJournal};
 ghost use Rattle.hack_recovery.specs.CallCourses.{CopiesAndRuns, IsJournaledCall, IsLockedCourse};
@@ -215,7 +214,6 @@ fn guarded<F: Overwrites, L: Files, U: Unkept, K: Locks, G: Guards, C: Starts, O
     requires reading { IfSome begun.reading
         (IsEarlyReading host.old.env.now (names_of words.now)) }
     requires place { spot_of begun.place ≡ spot_of begun.places.place }
-    requires verbose { AsksVerbose host.old.env.now (names_of words.now) begun.verbose }
     ensures host { IsSameHost host.old host.new }
     ensures status { IsStatus host.old.env.now.deny_warnings
         (host_view C.Caller O.Sink host.new) result.0 }
@@ -296,7 +294,6 @@ fn go_on<F: Overwrites, L: Files, U: Unkept, K: Locks, G: Guards, C: Starts, O: 
     requires reading { IfSome begun.reading
         (IsEarlyReading host.old.env.now (names_of words.now)) }
     requires place { spot_of begun.place ≡ spot_of begun.places.place }
-    requires verbose { AsksVerbose host.old.env.now (names_of words.now) begun.verbose }
     ensures host { IsSameHost host.old host.new }
     ensures status { IsStatus host.old.env.now.deny_warnings
         (host_view C.Caller O.Sink host.new) result.0 }
@@ -346,7 +343,6 @@ fn journaled<F: Overwrites, L: Files, U: Unkept, G: Guards, C: Starts, O: Sink, 
     requires reading { IfSome begun.reading
         (IsEarlyReading host.old.env.now (names_of words.now)) }
     requires place { spot_of begun.place ≡ spot_of begun.places.place }
-    requires verbose { AsksVerbose host.old.env.now (names_of words.now) begun.verbose }
     ensures host { IsSameHost host.old host.new }
     ensures status { IsStatus host.old.env.now.deny_warnings
         (host_view C.Caller O.Sink host.new) result.0 }
@@ -363,7 +359,7 @@ fn journaled<F: Overwrites, L: Files, U: Unkept, G: Guards, C: Starts, O: Sink, 
 {
     match guards.start(host.alloc, begun.places.place.folder.as_str()) {
         Ok(watches) => {
-            tell_watch(watches, begun.verbose, host.term, host.err);
+            tell_watch(watches, host.term, host.err);
             let ended = copied(words, begun, files, lockfiles, unkept, host);
             guards.leave(ended.0);
             ended
@@ -418,12 +414,12 @@ fn copied<F: Overwrites, L: Files, U: Unkept, C: Starts, O: Sink, E: Sink>(
     }
 }
 
-/// Says, where more is asked for, that nobody restores the manifests where this call ends early.
-fn tell_watch<E: Sink>(watches: bool, verbose: bool, term: &Term, err: &mut E)
-    ensures { SaysWatched term.now.coloring watches verbose
+/// Says, where no guard watches, that nobody restores the manifests where this call ends early.
+fn tell_watch<E: Sink>(watches: bool, term: &Term, err: &mut E)
+    ensures { SaysWatched term.now.coloring watches
         (stream_of E.Sink err.old) (stream_of E.Sink err.new) }
 {
-    if watches || !verbose {
+    if watches {
         return;
     }
     let text =

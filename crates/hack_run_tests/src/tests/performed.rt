@@ -142,13 +142,10 @@ fn own_lines(rt: HostRuntime) -> Result<(), Wrong> {
             | no copy
             | status 0
 
-            > performed: hack check --no-dev-deps -v; guard missing
+            > performed: hack check --no-dev-deps; guard missing
             | info: no guard could be started: where this call is interrupted, the next one restores the manifests
             | info: --no-dev-deps modifies real `Cargo.toml` while cargo-hack is running and restores it when finished
-            | info: removing dev-dependencies from /w/Cargo.toml
-            | info: running `cargo check --manifest-path Cargo.toml` (1/1)
-            | info: restoring /w/Cargo.toml
-            | info: restoring /w/Cargo.lock
+            | info: running `cargo check` on p (1/1)
             | no copy
             | status 0
         "#,

@@ -1,4 +1,4 @@
-use Rattle.std.proofs.Common.{[], None, ap, false, inl, refl, string_bytes}
+use Rattle.std.proofs.Common.{[], None, ap, false, inl, refl}
 use Rattle.std.specs.Prelude.{not}
 use Rattle.hack_base.specs.Streams.{stream_of}
 use Rattle.hack_journal.specs.Rows.{Spot}

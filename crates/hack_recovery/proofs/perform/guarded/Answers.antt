@@ -48,6 +48,3 @@ returns-else-not-is_back-clause-in_lanes g c =
 
 pub returns-in-Err-clause-in_lanes : goal.returns-in-Err-clause-in_lanes
 returns-in-Err-clause-in_lanes g c = unperformed (inl (ap (λ (t : Term). not t.error) c.report.ensures.noted)) (c.report.ensures.still.0 ∙ c.in-Err.ensures.still.0)
-
-pub go_on-requires-clause-verbose : goal.go_on-requires-clause-verbose
-go_on-requires-clause-verbose g c = rw c.in-Ok.ensures.host.env c.requires.verbose

@@ -12,8 +12,8 @@ pub returns-in-Ok-clause-goes : goal.returns-in-Ok-clause-goes
 returns-in-Ok-clause-goes g c = λ locks.
     let guards = g.G.Guards.shown c.start.new.self in
     let ran : Scene = scene_of g.F.Files g.L.Files g.U.Unkept g.C.Caller g.O.Sink g.E.Sink c.copied-ended.result.1 c.copied-ended.result.2 c.copied-ended.result.3 locks guards c.copied-ended.new.host in
-    performed c.in-Ok.watches c.args.begun.verbose c.copied-ended.result.0 guards (g.G.Guards.shown c.leave.new.self) (stream_of g.E.Sink c.tell_watch.new.err) ran
-    (rw c.as_str.ensures.value at c.in-Ok.ensures.started) c.requires.verbose c.tell_watch.ensures (c.copied-ended.ensures.goes locks guards) c.copied-ended.ensures.status c.leave.ensures refl
+    performed c.in-Ok.watches c.copied-ended.result.0 guards (g.G.Guards.shown c.leave.new.self) (stream_of g.E.Sink c.tell_watch.new.err) ran
+    (rw c.as_str.ensures.value at c.in-Ok.ensures.started) c.tell_watch.ensures (c.copied-ended.ensures.goes locks guards) c.copied-ended.ensures.status c.leave.ensures refl
 
 pub returns-in-Err-clause-goes : goal.returns-in-Err-clause-goes
 returns-in-Err-clause-goes g c = λ locks.

@@ -22,15 +22,6 @@ returns-in_ok-fault-in-Refused-clause-asks c =
     let told = refusal (ComesTo (around_of c.args.env.now Unasked) (names_of c.args.words.now)) c.in-Refused.fault c.in-Refused.ensures c.in_ok-fault-in-Refused.ensures.1 in
     faulty told.0 told.1 refl
 
-pub returns-in_ok-manifest_path-in-Accepted-clause-verbose : goal.returns-in_ok-manifest_path-in-Accepted-clause-verbose
-returns-in_ok-manifest_path-in-Accepted-clause-verbose c =
-    parsed c.in-Accepted.parsed (map note_of c.in-Accepted.notices.items) c.in-Accepted.ensures.0 c.is_verbose-verbose.ensures
-
-pub returns-in_ok-fault-in-Refused-clause-verbose : goal.returns-in_ok-fault-in-Refused-clause-verbose
-returns-in_ok-fault-in-Refused-clause-verbose c =
-    let told = refusal (ComesTo (around_of c.args.env.now Unasked) (names_of c.args.words.now)) c.in-Refused.fault c.in-Refused.ensures c.in_ok-fault-in-Refused.ensures.1 in
-    faulty told.0 told.1 refl
-
 pub returns-in_ok-manifest_path-in-Accepted-clause-prints : goal.returns-in_ok-manifest_path-in-Accepted-clause-prints
 returns-in_ok-manifest_path-in-Accepted-clause-prints c =
     parsed c.in-Accepted.parsed (map note_of c.in-Accepted.notices.items) c.in-Accepted.ensures.0 c.prints-prints.ensures
