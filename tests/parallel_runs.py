@@ -14,6 +14,7 @@ import pty
 import re
 import select
 import shlex
+import shutil
 import signal
 import subprocess
 import sys
@@ -22,7 +23,7 @@ import time
 
 sys.dont_write_bytecode = True
 from killed_calls import heed_signals  # noqa: E402
-from small_workspace import write  # noqa: E402
+from small_workspace import library, write  # noqa: E402
 
 FEATURES = "abcdefgh"
 MANIFEST = '[package]\nname = "p"\n\n[features]\n' + "".join(f"{it} = []\n" for it in FEATURES) + '\n[dev-dependencies]\nd = "1"\n'
@@ -244,14 +245,20 @@ def surroundings(program):
     """Which variables a run finds, on a pipe and on a terminal."""
     with tempfile.TemporaryDirectory(prefix="parallel-runs-") as folder:
         world = World(os.path.realpath(folder), {"a": "sleep 0.5"})
-        processors = int(subprocess.run(["nproc"], capture_output=True, text=True, check=True).stdout)
+        write(f"{world.folder}/bin/nproc", '#!/bin/sh\necho "${OMP_NUM_THREADS:-${OMP_THREAD_LIMIT:-8}}"\n', 0o755)
+        world.environment |= {"PATH": f"{world.folder}/bin:{os.environ['PATH']}", "OMP_NUM_THREADS": "2", "OMP_THREAD_LIMIT": "2"}
+        quotas = with_quotas(world)
+        for quota, jobs in {"max 100000": 4, "600000 100000": 3, "50000 100000": 1, "": 4}.items() if quotas else []:
+            write(quotas, quota)
+            call(program, world, f"check {SET} --parallel 2")
+            found = {it[3] for it in world.notes() if it[0] == "started"}
+            if found != {str(jobs)}:
+                yield f"of 8 processors, with the quota {quota!r}, the jobs are {found}"
         call(program, world, f"check {SET} --parallel 2")
         notes = [it for it in world.notes() if it[0] == "started"]
         targets = {it[2] for it in notes}
         if targets != {"target", f"{world.folder}/w/built/cargo-hack-lane-1"}:
             yield f"the target folders are {targets}"
-        if {it[3] for it in notes} != {str(max(1, processors // 2))}:
-            yield f"the jobs are {[it[3] for it in notes]}"
         if {it[4] for it in notes} != {"-"}:
             yield "colours are asked for on a pipe"
         world.environment["CARGO_BUILD_JOBS"] = "7"
@@ -266,20 +273,68 @@ def surroundings(program):
         shown = on_terminal(program, world, f"check {SET} --parallel 2")
         if {it[4] for it in world.notes() if it[0] == "started"} != {"always"}:
             yield "no colours are asked for on a terminal"
+        on_terminal(program, world, f"check {SET} --parallel 2", subprocess.DEVNULL)
+        if {it[4] for it in world.notes() if it[0] == "started"} != {"-"}:
+            yield "colours are asked for though the output goes elsewhere"
         if not re.search(rb"\r[^\r\n]*\d+ ended, \d+ running", shown):
             yield f"no progress is shown on a terminal: {shown[:300]}"
         if b"running `" not in shown or b"output of check" not in shown:
             yield "runs are not shown on a terminal"
 
 
-def on_terminal(program, world, words):
-    """What a call shows on a terminal."""
+# Opens the file that CPU_MAX names in place of the quota of processors.
+QUOTA = r"""
+#define _GNU_SOURCE
+#include <dlfcn.h>
+#include <fcntl.h>
+#include <stdarg.h>
+#include <stdlib.h>
+#include <string.h>
+#include <sys/types.h>
+
+int open(const char *path, int flags, ...) {
+    static int (*below)(const char *, int, ...);
+    const char *quota = getenv("CPU_MAX");
+    va_list more;
+    va_start(more, flags);
+    mode_t mode = va_arg(more, mode_t);
+    va_end(more);
+    if (!below) below = dlsym(RTLD_NEXT, "open");
+    return below(quota && !strcmp(path, "/sys/fs/cgroup/cpu.max") ? quota : path, flags, mode);
+}
+"""
+
+
+def with_quotas(world):
+    """The path of a file that calls read in place of the quota of processors, if there is a C compiler."""
+    if shutil.which("cc") is None:
+        return None
+    library(f"{world.folder}/quota.so", QUOTA)
+    world.environment |= {"LD_PRELOAD": f"{world.folder}/quota.so", "CPU_MAX": f"{world.folder}/cpu.max"}
+    return world.environment["CPU_MAX"]
+
+
+def in_one_stream(program):
+    """Where both outputs go to one file, what a run writes to both stays in order."""
+    with tempfile.TemporaryDirectory(prefix="parallel-runs-") as folder:
+        world = World(os.path.realpath(folder), {"a": "echo more; echo most >&2; echo last"})
+        shown = []
+        for more in ("", " --parallel 3"):
+            world.forget()
+            words = [program, "hack", *f"check {SET}{more}".split()]
+            how = {"cwd": f"{world.folder}/w", "env": world.environment, "stdin": subprocess.DEVNULL, "check": False}
+            shown.append(subprocess.run(words, stdout=subprocess.PIPE, stderr=subprocess.STDOUT, **how).stdout)
+        if shown[0] != shown[1] or b"more\nmost\nlast\n" not in shown[0]:
+            yield f"in one file one by one shows {shown[0]}, side by side {shown[1]}"
+
+
+def on_terminal(program, world, words, out=None):
+    """What a call shows on a terminal, with its standard output there or elsewhere."""
     world.forget()
     parent, child = pty.openpty()
     environment = world.environment | {"TERM": "xterm"}
-    with subprocess.Popen(
-        [program, "hack", *words.split()], cwd=f"{world.folder}/w", env=environment, stdin=child, stdout=child, stderr=child
-    ) as it:
+    streams = {"stdin": child, "stdout": child if out is None else out, "stderr": child}
+    with subprocess.Popen([program, "hack", *words.split()], cwd=f"{world.folder}/w", env=environment, **streams) as it:
         os.close(child)
         shown = b""
         while True:
@@ -361,7 +416,7 @@ def main():
     program = os.path.realpath(sys.argv[1])
     checks = [(name, compared(program, name, *row)) for name, row in CALLS.items()]
     checks += [("gains", gains(program)), ("surroundings", surroundings(program)), ("interrupted", interrupted(program))]
-    checks += [("closed", closed(program))]
+    checks += [("closed", closed(program)), ("in one stream", in_one_stream(program))]
     failed = 0
     for _, faults in checks:
         found = list(faults)

@@ -53,8 +53,8 @@ fn call_here(rt: &HostRuntime) -> u8 {
     status
 }
 
-/// Who runs programs. Those that are started ahead share the processors, and have colors where
-/// messages go to a terminal, unless the environment decides that.
+/// Who runs programs. Those that are started ahead share the processors, and have colors where both
+/// streams go to a terminal, unless the environment decides that.
 fn children<'a, S: System>(
     rt: &'a HostRuntime,
     system: &S,
@@ -73,6 +73,7 @@ fn children<'a, S: System>(
         Processors::Unshared
     };
     let colors = is_terminal
+        && rt.stdout().is_terminal()
         && is_unset(system, "CARGO_TERM_COLOR")
         && is_unset(system, "NO_COLOR");
     children.share(processors, colors);

@@ -3,7 +3,7 @@
 
 use std::fs::File;
 use std::io::Write;
-use std::os::unix::prelude::{FileExt, OpenOptionsExt};
+use std::os::unix::prelude::{FileExt, MetadataExt, OpenOptionsExt};
 use std::rt::Files;
 use std::{fs, io};
 
@@ -14,6 +14,16 @@ pub fn nameless_file<R: Files<File = File>>(rt: &R, path: &str) -> io::Result<Fi
     let file = options.open(rt, path)?;
     fs::remove_file(rt, path)?;
     Ok(file)
+}
+
+/// Whether this process's standard output and its standard error go to one file, as a terminal or a log:
+/// then what a child writes to both has to stay in order.
+pub fn are_streams_one<R: Files>(rt: &R) -> bool {
+    let out = fs::metadata(rt, "/proc/self/fd/1");
+    match (out, fs::metadata(rt, "/proc/self/fd/2")) {
+        (Ok(out), Ok(err)) => out.dev() == err.dev() && out.ino() == err.ino(),
+        _ => false,
+    }
 }
 
 /// Copies all of a file, whatever its position is: a child that has the file moved it.

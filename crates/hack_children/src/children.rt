@@ -3,7 +3,7 @@
 
 ghost use Rattle.std.specs.Prelude.{◌≡◌, ◌<◌, [], IfSome, false, vec_len};
 
-use crate::captures::nameless_file;
+use crate::captures::{are_streams_one, nameless_file};
 use crate::commands::{lane_command, lane_folder};
 use crate::processors::{Processors, count_processors, jobs_for};
 use crate::progress::Progress;
@@ -22,7 +22,8 @@ use std::{io, thread};
 const PAUSE: u64 = 5;
 
 /// Runs programs of the system as `Child` does, and starts others ahead of their turn. What such a
-/// one writes goes into files, and to the standard streams of this process at its turn.
+/// one writes goes into files, one where both standard streams of this process go to one, and to these
+/// at its turn.
 #[derive(Drop)]
 pub struct Children<R: Processes + Files<File = File> + Clock + Drop> {
     rt: R,
@@ -112,10 +113,14 @@ impl<R: Processes + Files<File = File> + Clock + Drop> Children<R> {
     ) -> io::Result<Running<R::Started>> {
         let mut command = lane_command(alloc, program, words, target, jobs, self.colors)?;
         let output = self.capture(alloc, place, "out")?;
-        let errors = self.capture(alloc, place, "err")?;
+        let errors = if are_streams_one(&self.rt) {
+            None
+        } else {
+            Some(self.capture(alloc, place, "err")?)
+        };
         command.stdin(Stdio::null());
         command.stdout(output.try_clone()?);
-        command.stderr(errors.try_clone()?);
+        command.stderr(errors.as_ref().unwrap_or(&output).try_clone()?);
         let child = command.spawn(&self.rt)?;
         Ok(Running {
             place,

@@ -23,7 +23,8 @@ pub struct Running<P: OpenProcess> {
     pub place: usize,
     pub child: Child<P>,
     pub output: File,
-    pub errors: File,
+    /// What it wrote to its standard error, unless that is in `output` too.
+    pub errors: Option<File>,
 }
 
 impl<P: OpenProcess> Running<P> {
@@ -43,7 +44,9 @@ impl<P: OpenProcess> Running<P> {
     /// Writes all that the child wrote. What can't be written is let go.
     pub fn show<O: Write, E: Write>(&self, out: &mut O, err: &mut E) {
         let _ = copy_whole(&self.output, out);
-        let _ = copy_whole(&self.errors, err);
+        if let Some(errors) = &self.errors {
+            let _ = copy_whole(errors, err);
+        }
     }
 
     /// Ends the child with all that it started, unless it has ended, and waits for it. What a child
