@@ -6,6 +6,7 @@ use hack_starts::starts::Starts;
 use std::alloc::{AllocError, Global};
 use std::io;
 use std::process::Processes;
+use std::rt::Files;
 
 /// Ends only where the last of the lanes runs at the same time.
 const FIRST: &str = r#"until [ -e "$1/third" ]; do sleep 0.01; done; rm "$1/third"; echo first"#;
@@ -37,6 +38,10 @@ const GONE: &str =
 const COUNTED: &str =
     r#"xargs -0 sh -c '"$@" heavy' sh < "/proc/$PPID/cmdline" 2>&1 | uniq -c | tr -s ' ' | tr '\n' ','"#;
 
+/// The number of processors, of which a quota may allow fewer.
+const PROCESSORS: &str =
+    r#"n=$(nproc); if read -r time period && [ "$time" != max ]; then most=$((time / period)); [ "$n" -lt "$most" ] || n=$most; [ "$n" -gt 0 ] || n=1; fi 2>/dev/null < /sys/fs/cgroup/cpu.max; echo "$n""#;
+
 const HEAVY: &str = "yes x | head -c 10485760; yes y | head -c 10485760 >&2";
 
 /// Prints a line for each row, after what the programs themselves wrote.
@@ -57,12 +62,12 @@ pub fn rows<R: Print, S: Starts + Drop>(
 }
 
 /// Prints whether the number of processors is what a shell is told.
-pub fn told_by_nproc<R: Print + Processes, S: Starts + Drop>(
+pub fn told_by_nproc<R: Print + Processes + Files, S: Starts + Drop>(
     rt: &R,
     alloc: Global,
     shells: &mut Shells<S>,
 ) -> io::Result<()> {
-    let wanted = shells.read(alloc, "nproc")?;
+    let wanted = shells.read(alloc, PROCESSORS)?;
     let is_same = count_processors(rt, alloc) == wanted.as_str().parse::<usize>().ok();
     println!(rt; "as many processors as nproc tells: {is_same}")
 }
@@ -186,7 +191,7 @@ fn name_taken<R: Print, S: Starts + Drop>(
     shells: &mut Shells<S>,
     number: u32,
 ) -> io::Result<()> {
-    let make = format!(in alloc; "echo kept > \"$1/cargo-hack-{number}-7.err\"")?;
+    let make = format!(in alloc; "echo kept > \"$1/cargo-hack-{number}-7.out\"")?;
     shells.run(alloc, make.as_str())?;
     let started = shells.start(alloc, 7, 1, "echo never")?;
     let kept = shells.read(alloc, r#"cat "$1"/*; rm "$1"/*"#)?;
