@@ -126,8 +126,8 @@ REPORT = (
     "(?:error: in {0} these features fail together, and no part of them that may be chosen fails:\n"
     "(?P<conflicts>(?:    .+\n)+))?"
     "(?:error: in {0} these features fail together, and not all parts of them were tried:\n(?P<unfinished>    .+\n))?"
-    "(?:info: in {0} (?:each (?P<other>other )?allowed set lies inside one of (?P<count>\\d+) sets that passed"
-    "|(?P<so_far>\\d+) sets passed so far)(?P<passing>:\n(?:    .+\n)+)?(?(passing)|\n))?"
+    "(?:info: in {0} (?:each (?P<other>other )?allowed set lies inside (?:one of (?P<count>\\d+) sets|(?P<one>the one set)) that passed"
+    "|(?P<so_far>1(?= set )|\\d+(?= sets )) sets? passed so far)(?P<passing>:\n(?:    .+\n)+)?(?(passing)|\n))?"
     "(?P<more>warning: in {0} the search isn't complete, since --most-runs ended it: other sets may fail\n)?"
 )
 
@@ -144,9 +144,11 @@ def report_of(spots, text, is_verbose):
         found = re.compile(REPORT.format(re.escape(spot.head))).match(text)
         text = text[found.end():]
         conflicts = texts_in(found["conflicts"])
-        count = found["count"] or found["so_far"]
+        must(found["count"] != "1", f"one of 1 sets, in {spot.head}")
+        inside = "1" if found["one"] else found["count"]
+        count = inside or found["so_far"]
         must(count is None or bool(found["so_far"]) == bool(found["more"]), f"so far, in {spot.head}")
-        must(not found["count"] or bool(found["other"]) == bool(conflicts), f"each other one, in {spot.head}")
+        must(not inside or bool(found["other"]) == bool(conflicts), f"each other one, in {spot.head}")
         must(count is None or bool(found["passing"]) == is_verbose, f"which sets passed, in {spot.head}")
         passing = texts_in(found["passing"]) if found["passing"] else None
         unfinished = texts_in(found["unfinished"])
@@ -417,7 +419,8 @@ def left(head, unfinished):
 
 
 def others(head, count, *sets):
-    return [f"info: in {head} each other allowed set lies inside one of {count} sets that passed" + ":" * bool(sets),
+    inside = "the one set" if count == 1 else f"one of {count} sets"
+    return [f"info: in {head} each other allowed set lies inside {inside} that passed" + ":" * bool(sets),
             *(f"    {it}" for it in sets)]
 
 
@@ -426,7 +429,7 @@ def each(head, count=1, *sets):
 
 
 def so_far(head, count, *sets):
-    return [f"info: in {head} {count} sets passed so far" + ":" * bool(sets), *(f"    {it}" for it in sets)]
+    return [f"info: in {head} {count} set{'s' * (count > 1)} passed so far" + ":" * bool(sets), *(f"    {it}" for it in sets)]
 
 
 ROWS = {

@@ -325,7 +325,7 @@ PAIRS = {
         CONFLICTS + ["--workspace", "--package-rules"],
         ["compact,json,trace", "", "json,trace", "compact", "compact,trace", "compact,json", "binary,trace", "binary,compact"],
         ["info: running `cargo check --all-features` on tool (9)"],
-        [TOGETHER, "    compact,trace", OTHERS, "info: in tool each allowed set lies inside one of 1 sets that passed"],
+        [TOGETHER, "    compact,trace", OTHERS, "info: in tool each allowed set lies inside the one set that passed"],
     ),
     "as many runs as are allowed": (
         CONFLICTS + ["--package", "codec", "--package-rules", "--most-runs", "5", "--no-dev-deps"],

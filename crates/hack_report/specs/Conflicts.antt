@@ -62,9 +62,12 @@ unfinished_remarks spot plain candidates (Some set) = one_remark Error (spot ++ 
 
 -- how many greatest sets passed, by whether the search is complete, and whether it found no conflict
 abbrev pub passing_text : List ℕ → ℕ → List ℕ → Bool → Bool → List ℕ
-passing_text spot count sets false none = spot ++ (codes " " ++ (decimal count ++ (codes " sets passed so far" ++ sets)))
-passing_text spot count sets true true = spot ++ (codes " each allowed set lies inside one of " ++ (decimal count ++ (codes " sets that passed" ++ sets)))
-passing_text spot count sets true false = spot ++ (codes " each other allowed set lies inside one of " ++ (decimal count ++ (codes " sets that passed" ++ sets)))
+passing_text spot count sets false none = if count == 1 then spot ++ (codes " 1 set passed so far" ++ sets)
+    else spot ++ (codes " " ++ (decimal count ++ (codes " sets passed so far" ++ sets)))
+passing_text spot count sets true true = if count == 1 then spot ++ (codes " each allowed set lies inside the one set that passed" ++ sets)
+    else spot ++ (codes " each allowed set lies inside one of " ++ (decimal count ++ (codes " sets that passed" ++ sets)))
+passing_text spot count sets true false = if count == 1 then spot ++ (codes " each other allowed set lies inside the one set that passed" ++ sets)
+    else spot ++ (codes " each other allowed set lies inside one of " ++ (decimal count ++ (codes " sets that passed" ++ sets)))
 
 -- in a verbose call also which
 abbrev pub passing_lines : Bool → Bool → List (List Name) → List Build → List ℕ

@@ -211,17 +211,22 @@ impl<'a> About<'a> {
             ≡ passing_text self.entry.spot.now count sets.now complete alone) }
     {
         let spot = self.spot;
-        if !complete {
-            return format!(in self.alloc; "{spot} {count} sets passed so far{sets}");
-        }
-        if alone {
-            return format!(in self.alloc;
+        match (complete, alone, count) {
+            (false, _, 1) => format!(in self.alloc; "{spot} 1 set passed so far{sets}"),
+            (false, _, _) => format!(in self.alloc; "{spot} {count} sets passed so far{sets}"),
+            (true, true, 1) => format!(in self.alloc;
+                "{spot} each allowed set lies inside the one set that passed{sets}"
+            ),
+            (true, true, _) => format!(in self.alloc;
                 "{spot} each allowed set lies inside one of {count} sets that passed{sets}"
-            );
+            ),
+            (true, false, 1) => format!(in self.alloc;
+                "{spot} each other allowed set lies inside the one set that passed{sets}"
+            ),
+            (true, false, _) => format!(in self.alloc;
+                "{spot} each other allowed set lies inside one of {count} sets that passed{sets}"
+            ),
         }
-        format!(in self.alloc;
-            "{spot} each other allowed set lies inside one of {count} sets that passed{sets}"
-        )
     }
 
     /// In a verbose call the sets that passed, a line for each.

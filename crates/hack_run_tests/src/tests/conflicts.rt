@@ -82,12 +82,12 @@ fn all_pass_or_all_fail(rt: HostRuntime) -> Result<(), Wrong> {
             | cargo check --manifest-path Cargo.toml --no-default-features --features a,b,c,d,e
             | err
             | info: running `cargo check --no-default-features --features a,b,c,d,e` on p (1)
-            | info: in p each allowed set lies inside one of 1 sets that passed
+            | info: in p each allowed set lies inside the one set that passed
             | status 0
 
             > count report: hack check --feature-powerset --find-conflicts -v; features a b
             | 1 runs
-            | info: in p each allowed set lies inside one of 1 sets that passed:
+            | info: in p each allowed set lies inside the one set that passed:
             |     a,b
             | status 0
 
@@ -129,11 +129,11 @@ fn a_package_without_features(rt: HostRuntime) -> Result<(), Wrong> {
             | cargo check --manifest-path Cargo.toml
             | err
             | info: running `cargo check` on p (1)
-            | info: in p each allowed set lies inside one of 1 sets that passed
+            | info: in p each allowed set lies inside the one set that passed
             | status 0
 
             > report: hack check --feature-powerset --find-conflicts -v
-            | info: in p each allowed set lies inside one of 1 sets that passed:
+            | info: in p each allowed set lies inside the one set that passed:
             |     its default features
             | status 0
 
@@ -197,13 +197,13 @@ fn sets_that_are_allowed(rt: HostRuntime) -> Result<(), Wrong> {
             | cargo check --manifest-path Cargo.toml --no-default-features --features a
             | error: in p these features fail together, and no part of them that may be chosen fails:
             |     all features
-            | info: in p each other allowed set lies inside one of 1 sets that passed
+            | info: in p each other allowed set lies inside the one set that passed
             | status 1
 
             > calls report: hack check --feature-powerset --find-conflicts --exclude-all-features; features a; optional d; fails 101 cargo check --manifest-path Cargo.toml --all-features
             | asked
             | cargo check --manifest-path Cargo.toml --no-default-features --features a
-            | info: in p each allowed set lies inside one of 1 sets that passed
+            | info: in p each allowed set lies inside the one set that passed
             | status 0
         "#,
     )
@@ -239,15 +239,15 @@ fn packages_targets_and_most_runs(rt: HostRuntime) -> Result<(), Wrong> {
             | info: running `cargo check --no-default-features --features a` on q (2)
             |
             | info: running `cargo check --no-default-features` on q (3)
-            | info: in p each allowed set lies inside one of 1 sets that passed
+            | info: in p each allowed set lies inside the one set that passed
             | error: in q these features fail together, and no part of them that may be chosen fails:
             |     a
-            | info: in q each other allowed set lies inside one of 1 sets that passed
+            | info: in q each other allowed set lies inside the one set that passed
             | status 1
 
             > count report: hack check --workspace --feature-powerset --find-conflicts --most-runs 2; fails 101 cargo check --manifest-path q/Cargo.toml --no-default-features --features a
             | 2 runs
-            | info: in p each allowed set lies inside one of 1 sets that passed
+            | info: in p each allowed set lies inside the one set that passed
             | error: in q these features fail together, and not all parts of them were tried:
             |     a
             | warning: in q the search isn't complete, since --most-runs ended it: other sets may fail
@@ -255,13 +255,13 @@ fn packages_targets_and_most_runs(rt: HostRuntime) -> Result<(), Wrong> {
 
             > count report: hack check --workspace --feature-powerset --find-conflicts --most-runs 1
             | 1 runs
-            | info: in p each allowed set lies inside one of 1 sets that passed
+            | info: in p each allowed set lies inside the one set that passed
             | warning: in q the search isn't complete, since --most-runs ended it: other sets may fail
             | status 0
 
             > count report: hack check --workspace --feature-powerset --find-conflicts --most-runs 1; deny warnings
             | 1 runs
-            | info: in p each allowed set lies inside one of 1 sets that passed
+            | info: in p each allowed set lies inside the one set that passed
             | warning: in q the search isn't complete, since --most-runs ended it: other sets may fail
             | status 1
 
@@ -269,7 +269,7 @@ fn packages_targets_and_most_runs(rt: HostRuntime) -> Result<(), Wrong> {
             | 3 runs
             | error: in p these features fail together, and not all parts of them were tried:
             |     a,b
-            | info: in p 1 sets passed so far:
+            | info: in p 1 set passed so far:
             |     b
             | warning: in p the search isn't complete, since --most-runs ended it: other sets may fail
             | warning: in q the search isn't complete, since --most-runs ended it: other sets may fail
@@ -280,8 +280,8 @@ fn packages_targets_and_most_runs(rt: HostRuntime) -> Result<(), Wrong> {
             | asked
             | cargo check --target x --target y --manifest-path p/Cargo.toml --no-default-features --features a
             | cargo check --target x --target y --manifest-path q/Cargo.toml --no-default-features --features a
-            | info: in p each allowed set lies inside one of 1 sets that passed
-            | info: in q each allowed set lies inside one of 1 sets that passed
+            | info: in p each allowed set lies inside the one set that passed
+            | info: in q each allowed set lies inside the one set that passed
             | status 0
 
             > calls report: hack check --workspace --feature-powerset --find-conflicts --target y --target x; says cargo -vV = release: 1.63.0; says rustup run stable cargo -vV = release: 1.63.0; fails 101 cargo check --target y --manifest-path p/Cargo.toml --no-default-features --features a
@@ -291,12 +291,12 @@ fn packages_targets_and_most_runs(rt: HostRuntime) -> Result<(), Wrong> {
             | cargo check --target y --manifest-path p/Cargo.toml --no-default-features --features a
             | cargo check --target y --manifest-path p/Cargo.toml --no-default-features
             | cargo check --target y --manifest-path q/Cargo.toml --no-default-features --features a
-            | info: in p for x each allowed set lies inside one of 1 sets that passed
-            | info: in q for x each allowed set lies inside one of 1 sets that passed
+            | info: in p for x each allowed set lies inside the one set that passed
+            | info: in q for x each allowed set lies inside the one set that passed
             | error: in p for y these features fail together, and no part of them that may be chosen fails:
             |     a
-            | info: in p for y each other allowed set lies inside one of 1 sets that passed
-            | info: in q for y each allowed set lies inside one of 1 sets that passed
+            | info: in p for y each other allowed set lies inside the one set that passed
+            | info: in q for y each allowed set lies inside the one set that passed
             | status 1
         "#,
     )
@@ -315,7 +315,7 @@ fn manifests_come_back(rt: HostRuntime) -> Result<(), Wrong> {
             | info: running `cargo check --no-default-features` on p (2)
             | error: in p these features fail together, and no part of them that may be chosen fails:
             |     f
-            | info: in p each other allowed set lies inside one of 1 sets that passed
+            | info: in p each other allowed set lies inside the one set that passed
             + root edited
             + root as it was
             | status 1
