@@ -1,5 +1,5 @@
 -- The packages of a call whose samples are looked for long.
-use Rattle.std.specs.Prelude.{ℕ, ◌++◌, List, [], Option, Some, None, codes, length, nat_lt, option_and_then, if◌then◌else◌}
+use Rattle.std.specs.Prelude.{ℕ, ◌++◌, List, [], Option, Some, None, codes, length, min, nat_lt, option_and_then, if◌then◌else◌}
 use Rattle.std.specs.List.{filter_map}
 use Rattle.std.specs.Fmt.{decimal}
 use Rattle.hack_base.specs.Names.{Name}
@@ -16,10 +16,10 @@ use Rattle.hack_planner.specs.declared.fault.PackagesFault.{PackagesFault}
 abbrev pub look_text : Name → ℕ → ℕ → List ℕ
 look_text pkg n t = codes "looking for a sample of `" ++ (pkg ++ (codes "`: " ++ (decimal n ++ (codes " features at strength " ++ decimal t))))
 
--- the same, where there is a strength, and there are many patterns of so many candidates
+-- the same, where there is a strength, and there are many patterns of so many candidates, or of all where they are fewer
 abbrev pub look_among : Name → ℕ → Option ℕ → Option (List ℕ)
 look_among pkg n None = None
-look_among pkg n (Some t) = if nat_lt many_patterns (patterns n t) then Some (look_text pkg n t) else None
+look_among pkg n (Some t) = if nat_lt many_patterns (patterns n (min t n)) then Some (look_text pkg n t) else None
 
 -- the same of a package with these rules, under a powerset
 abbrev pub look_of : PackageRulesRecord → Name → Features → Option (List ℕ)

@@ -94,7 +94,7 @@ fn look_of(
 }
 
 /// The text on a package of so many candidates, where there is a strength and there are many
-/// patterns.
+/// patterns: of all candidates, where they are fewer.
 fn look_among(
     alloc: Global,
     name: &str,
@@ -107,7 +107,7 @@ fn look_among(
     let Some(strength) = strength else {
         return Ok(None);
     };
-    if !has_many_patterns(alloc, candidates, strength)? {
+    if !has_many_patterns(alloc, candidates, strength.min(candidates))? {
         return Ok(None);
     }
     Ok(Some(look_text(alloc, name, candidates, strength)?))
