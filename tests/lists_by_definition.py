@@ -487,10 +487,15 @@ def runs_of(workspace, asked, package, sample):
     if not sets and (asked.include or not normal + optional):
         return ["plain"]
     keeps_all = keeps_all and not rules.drops_all
-    if asked.has("--feature-powerset") and not keeps_all and len(sets) > 1 and (rules.depth is None or rules.depth > 1):
-        sets = sets[-1:] + sets[:-1]
+    if asked.has("--feature-powerset") and not keeps_all:
+        sets = last_first(sets, rules.depth)
     front = ["all"] * keeps_all + ["none"] * (not rules.drops_none)
     return front + sets
+
+
+def last_first(sets, depth):
+    """These sets, the last one before the others, in place of a run with all features, unless the depth is below 2."""
+    return sets[-1:] + sets[:-1] if depth is None or depth > 1 else sets
 
 
 # ---- Versions. One is its major and its minor version; the patch that a range names only warns.
@@ -890,8 +895,14 @@ def try_case(program, workspace, uses, trailing, counts, rng):
 # ---- Feature maps by themselves.
 
 NAMES = "abc"
-# The options of powerset-list that each map is tried under.
-MAP_RULES = [[], ["--depth", "1"], ["--depth", "2"], ["--at-least-one-of", "a,c"], ["--mutually-exclusive-features", "a,c"]]
+# The options of powerset-list that each map is tried under, and what they say.
+MAP_RULES = [
+    ([], {}),
+    (["--depth", "1"], {"depth": 1}),
+    (["--depth", "2"], {"depth": 2}),
+    (["--at-least-one-of", "a,c"], {"required": ["ac"]}),
+    (["--mutually-exclusive-features", "a,c"], {"exclusive": ["ac"]}),
+]
 
 
 def maps():
@@ -906,9 +917,7 @@ def list_of(features, depth=None, required=(), exclusive=()):
     if not features:
         return ["cargo check"]
     keys = sorted(features)
-    sets = Choice(features, [[key] for key in keys], depth, required, exclusive).listed()
-    if len(sets) > 1 and not (depth is not None and depth < 2):
-        sets = sets[-1:] + sets[:-1]
+    sets = last_first(Choice(features, [[key] for key in keys], depth, required, exclusive).listed(), depth)
     none = "cargo check --no-default-features"
     return [none] * (not required) + [f"{none} --features {','.join(keys[it] for it in chosen)}" for chosen in sets]
 
@@ -916,14 +925,8 @@ def list_of(features, depth=None, required=(), exclusive=()):
 def try_maps(program):
     """Asks for the list of each map under each rule, and returns how many lists were right, and how many weren't."""
     passed = failed = 0
-    for features, words in itertools.product(maps(), MAP_RULES):
-        option, value = words or (None, None)
-        wanted = list_of(
-            features,
-            int(value) if option == "--depth" else None,
-            [value.split(",")] if option == "--at-least-one-of" else [],
-            [value.split(",")] if option == "--mutually-exclusive-features" else [],
-        )
+    for features, (words, rules) in itertools.product(maps(), MAP_RULES):
+        wanted = list_of(features, **rules)
         ran = subprocess.run([program, *words], input=json.dumps(features), capture_output=True, text=True, check=False)
         fault = difference("".join(f"{line}\n" for line in wanted), ran, [])
         passed += not fault
@@ -937,7 +940,7 @@ def try_maps(program):
 def main():
     reader = argparse.ArgumentParser(usage=__doc__)
     reader.add_argument("program")
-    reader.add_argument("--maps", default=None)
+    reader.add_argument("--maps")
     for option, default in (("--cases", 300), ("--seed", 1), ("--counts", 7)):
         reader.add_argument(option, type=int, default=default)
     asked = reader.parse_args()

@@ -247,6 +247,15 @@ def surroundings(program):
         world = World(os.path.realpath(folder), {"a": "sleep 0.5"})
         write(f"{world.folder}/bin/nproc", '#!/bin/sh\necho "${OMP_NUM_THREADS:-${OMP_THREAD_LIMIT:-8}}"\n', 0o755)
         world.environment |= {"PATH": f"{world.folder}/bin:{os.environ['PATH']}", "OMP_NUM_THREADS": "2", "OMP_THREAD_LIMIT": "2"}
+        call(program, world, f"check {SET} --parallel 2")
+        notes = [it for it in world.notes() if it[0] == "started"]
+        targets = {it[2] for it in notes}
+        if targets != {"target", f"{world.folder}/w/built/cargo-hack-lane-1"}:
+            yield f"the target folders are {targets}"
+        if {it[3] for it in notes} != {str(max(1, allowed(8) // 2))}:
+            yield f"the jobs are {[it[3] for it in notes]}"
+        if {it[4] for it in notes} != {"-"}:
+            yield "colours are asked for on a pipe"
         quotas = with_quotas(world)
         for quota, jobs in {"max 100000": 4, "600000 100000": 3, "50000 100000": 1, "": 4}.items() if quotas else []:
             write(quotas, quota)
@@ -254,13 +263,6 @@ def surroundings(program):
             found = {it[3] for it in world.notes() if it[0] == "started"}
             if found != {str(jobs)}:
                 yield f"of 8 processors, with the quota {quota!r}, the jobs are {found}"
-        call(program, world, f"check {SET} --parallel 2")
-        notes = [it for it in world.notes() if it[0] == "started"]
-        targets = {it[2] for it in notes}
-        if targets != {"target", f"{world.folder}/w/built/cargo-hack-lane-1"}:
-            yield f"the target folders are {targets}"
-        if {it[4] for it in notes} != {"-"}:
-            yield "colours are asked for on a pipe"
         world.environment["CARGO_BUILD_JOBS"] = "7"
         call(program, world, f"check {SET} --parallel 2")
         if {it[3] for it in world.notes() if it[0] == "started"} != {"7"}:
@@ -280,6 +282,16 @@ def surroundings(program):
             yield f"no progress is shown on a terminal: {shown[:300]}"
         if b"running `" not in shown or b"output of check" not in shown:
             yield "runs are not shown on a terminal"
+
+
+def allowed(processors):
+    """As many of these processors as the quota of this machine allows, if it has one."""
+    try:
+        with open("/sys/fs/cgroup/cpu.max", encoding="utf-8") as it:
+            time_used, period = map(int, it.read().split())
+    except (OSError, ValueError):
+        return processors
+    return min(processors, max(1, time_used // period))
 
 
 # Opens the file that CPU_MAX names in place of the quota of processors.

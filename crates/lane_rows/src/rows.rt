@@ -40,7 +40,7 @@ const COUNTED: &str =
 
 /// The number of processors, of which a quota may allow fewer.
 const PROCESSORS: &str =
-    r#"n=$(nproc); if read -r time period && [ "$time" != max ]; then most=$((time / period)); [ "$n" -lt "$most" ] || n=$most; [ "$n" -gt 0 ] || n=1; fi 2>/dev/null < /sys/fs/cgroup/cpu.max; echo "$n""#;
+    r#"unset OMP_NUM_THREADS OMP_THREAD_LIMIT; n=$(nproc); if read -r time period && [ "$time" != max ]; then most=$((time / period)); [ "$n" -lt "$most" ] || n=$most; [ "$n" -gt 0 ] || n=1; fi 2>/dev/null < /sys/fs/cgroup/cpu.max; echo "$n""#;
 
 const HEAVY: &str = "yes x | head -c 10485760; yes y | head -c 10485760 >&2";
 
