@@ -1,5 +1,7 @@
 # Everything goes through the kit's command `rt`, which has to be in the PATH.
 PREFIX ?= /usr/local
+# Not every shell turns a `~` behind a `=` into the home folder.
+override PREFIX := $(patsubst ~/%,$(HOME)/%,$(PREFIX))
 
 POWERSET_LIST := crates/powerset_list/out/powerset_list
 CARGO_HACK := crates/cargo_hack_program/out/cargo_hack_program
@@ -7,7 +9,7 @@ SHARE = $(DESTDIR)$(PREFIX)/share
 BASH_FILES = $(SHARE)/bash-completion/completions
 
 .DEFAULT_GOAL := help
-.PHONY: help run program programs install install-completions uninstall dist manual test quick layout planted bench faults stand-ins
+.PHONY: help kit prefix run program programs install install-completions uninstall dist manual test quick layout planted bench faults stand-ins
 
 help:
 	@echo 'make run      calls cargo hack on the workspace in examples/, over a cargo in memory, by a trial build without proofs'
@@ -24,32 +26,39 @@ help:
 	@echo 'make faults   proves and builds powerset-list, and tries calls that it refuses'
 	@echo 'make stand-ins proves and builds the programs that answer as cargo and rustup in tests, and tries them'
 
+kit:
+	@command -v rt > /dev/null || { echo "make: the command rt isn't in the PATH; README.md says what it is" >&2; exit 1; }
+
 # A trial build proves nothing, and so is ready in less than two minutes.
-run:
+run: kit
 	@cd crates/sample_calls && rt try < stdin
 
-test:
+test: kit
 	@tests/gate.py
 
-quick:
+quick: kit
 	@tests/quick_check '$(CRATE)'
 
-layout:
+layout: kit
 	@for crate in crates/*/; do (cd "$$crate" && rt fmt) || exit 1; done
 
 # Each edit is a wrong body that the prover has to refuse.
-planted:
+planted: kit
 	@tests/planted_edits.py $(CRATE)
 
 # Proves powerset-list and what it uses, as far as that is not done yet, and leaves it at POWERSET_LIST.
-program:
+program: kit
 	@tools/build_programs.py powerset_list
 
 # Both programs, side by side.
-programs:
+programs: kit
 	@tools/build_programs.py cargo_hack_program powerset_list
 
-install: programs install-completions
+# Whether programs may be put there is known before they are proved.
+prefix:
+	@mkdir -p '$(DESTDIR)$(PREFIX)/bin' && test -w '$(DESTDIR)$(PREFIX)/bin'
+
+install: prefix programs install-completions
 	install -D -m 755 $(CARGO_HACK) '$(DESTDIR)$(PREFIX)/bin/cargo-hack'
 	install -D -m 755 $(POWERSET_LIST) '$(DESTDIR)$(PREFIX)/bin/powerset-list'
 	install -D -m 644 man/cargo-hack.1 '$(SHARE)/man/man1/cargo-hack.1'
@@ -88,5 +97,5 @@ bench: programs
 faults: program
 	@tests/powerset_list_refusals.py $(POWERSET_LIST)
 
-stand-ins:
+stand-ins: kit
 	@tests/stand_ins.py

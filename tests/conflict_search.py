@@ -36,7 +36,7 @@ FIND, MOST = "--find-conflicts", "--most-runs"
 
 # How a report names a run with all features, which is their position too, behind those of the candidates; one without features;
 # and a plain one.
-ALL, NONE, DEFAULTS = "all features", "no feature at all", "its default features"
+ALL, NONE, DEFAULTS = "all features", "no feature at all", "the package as it is: it has no feature to choose"
 
 # A set that may be chosen: how a report names it, its place in the order of a powerset, the names that are on in its run, the
 # candidates that one of its own turns on, and all that are on. The last two are the same, but where several candidates

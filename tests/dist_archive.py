@@ -10,6 +10,7 @@ The last line is `N passed, M failed`, and the status is 1 where one failed.
 import hashlib
 import os
 import pathlib
+import re
 import subprocess
 import sys
 import tarfile
@@ -41,6 +42,8 @@ def rows(folder, programs):
     yield "SHA256SUMS names each file", {name for _, name in sums} == files
     yield "each sum is its file's", all(hashlib.sha256((folder / name).read_bytes()).hexdigest() == sum for sum, name in sums)
     yield "licences and README are there", {"LICENSE-APACHE", "LICENSE-MIT", "README.md"} <= files
+    links = re.findall(r"\]\(([^)#:\s]+)(?:#[^)]*)?\)", (folder / "README.md").read_text("utf-8"))
+    yield "what the README links to is there", set(links) <= files
     shells = {f"completions/{it}" for it in ("cargo-hack.bash", "_cargo-hack", "cargo-hack.fish")}
     yield "man pages and completions are there", shells | {"man/cargo-hack.1", "man/powerset-list.1"} <= files
     status, text = called([folder / "cargo-hack", "hack", "--version"])

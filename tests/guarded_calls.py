@@ -193,6 +193,32 @@ def left_out(place):
     place.as_before(but=lock)
 
 
+def past_one_that_leaves_out(place):
+    """A package that one workspace leaves out may be a member of the one around it, as cargo has it: a call from there has that
+    one's journal."""
+    place.lay_out()
+    write(f"{place.workspace}/a/Cargo.toml", '[workspace]\nexclude = ["b"]\n')
+    write(f"{place.workspace}/a/b/Cargo.toml", '[package]\nname = "b"\nversion = "0.0.0"\n')
+    place.remember()
+    place.interrupt(folder=f"{place.workspace}/a/b")
+    place.was_edited()
+    place.restores(RESTORE, BOTH)
+    place.as_before()
+
+
+def left_out_by_a_killed_call(place):
+    """Where a killed call had the workspace leave out a member, that is taken back before it is seen whose lockfile it is: the
+    next call from this member has its guard restore it."""
+    place.lay_out()
+    write(f"{place.workspace}/Cargo.toml", '[workspace]\nmembers = ["*"]\n')
+    place.remember()
+    place.interrupt(words=LEAVES_OUT)
+    must("exclude" in read(f"{place.workspace}/Cargo.toml"), "the member isn't left out")
+    place.interrupt(MORE + ENDS_IT, folder=f"{place.workspace}/q")
+    place.was_edited()
+    place.as_before()
+
+
 # ---- `--restore`.
 
 
@@ -513,6 +539,8 @@ def all_tries(place, places, count):
         "from elsewhere": from_elsewhere,
         "from a member": from_a_member,
         "from a package left out": left_out,
+        "past a workspace that leaves it out": past_one_that_leaves_out,
+        "from a member that a killed call left out": left_out_by_a_killed_call,
         "--restore": restore,
         "--restore and the lockfile": restore_of_lockfile,
         "--restore beside others": restore_beside,

@@ -1,6 +1,7 @@
 """Calls of cargo-hack on a small workspace that end early, and what they leave: for the scripts kill_points.py and
 guarded_calls.py.
 """
+import contextlib
 import os
 import re
 import shutil
@@ -88,7 +89,8 @@ def tree(folder):
             if os.path.islink(path):
                 files[os.path.relpath(path, folder)] = os.readlink(path)
             elif name in names:
-                with open(path, "rb") as it:
+                # (a guard that is still at work may have renamed it meanwhile)
+                with contextlib.suppress(FileNotFoundError), open(path, "rb") as it:
                     files[os.path.relpath(path, folder)] = stat.S_IMODE(os.fstat(it.fileno()).st_mode), it.read()
     return files
 

@@ -267,7 +267,7 @@ def surroundings(program):
         call(program, world, f"check {SET} --parallel 2")
         if {it[3] for it in world.notes() if it[0] == "started"} != {"7"}:
             yield "the environment's jobs aren't kept"
-        for words in ("--target-dir x", "--target-dir=x"):
+        for words in ("--target-dir x", "--target-dir=x", "--config build.target-dir=x", "--config=build.target-dir=x"):
             call(program, world, f"check {SET} --parallel 3 {words}")
             notes = [it for it in world.notes() if it[0] in ("started", "ended")]
             if {it[2] for it in notes} != {"target"} or any(a[0] == b[0] for a, b in zip(notes, notes[1:])):

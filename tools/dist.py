@@ -4,8 +4,8 @@
 usage: tools/dist.py [--to FOLDER] CARGO_HACK POWERSET_LIST
 
 Writes FOLDER/cargo-hack-VERSION-x86_64-linux.tar.gz (FOLDER is `dist` unless named): a folder of that name with both
-programs without their symbols, the licences, the README, the man pages and completions where there are some, and the
-file SHA256SUMS, which `sha256sum -c` reads. The same programs give the same archive, byte for byte.
+programs without their symbols, the licences, the README and all that it links to, the man pages and completions where
+there are some, and the file SHA256SUMS, which `sha256sum -c` reads. The same programs give the same archive, byte for byte.
 """
 
 import argparse
@@ -19,8 +19,8 @@ import tarfile
 import tempfile
 
 ROOT = pathlib.Path(__file__).resolve().parent.parent
-TEXTS = ("LICENSE-APACHE", "LICENSE-MIT", "README.md")
-FOLDERS = ("man", "completions")
+TEXTS = ("LICENSE-APACHE", "LICENSE-MIT", "README.md", "CHANGELOG.md", "CONTRIBUTING.md")
+FOLDERS = ("docs", "man", "completions")
 
 
 def stripped(program):

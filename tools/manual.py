@@ -54,7 +54,8 @@ HIDDEN = [
             "Run up to NUM commands at once, from 1 to 256, in the order and with the outcomes of one by one.",
             "Each has an empty input, and what it writes appears whole at its turn. The first builds into the target folder, others"
             " into folders cargo-hack-lane-K in it, which stay; dependencies are built once for each. Unless CARGO_BUILD_JOBS is"
-            " set, the processors are shared between them. Where cargo gets --target-dir, they go one by one.",
+            " set, the processors are shared between them, whatever build.jobs says. Where cargo gets --target-dir, or"
+            " build.target-dir by --config, they go one by one.",
             "Toolchains, lockfiles and cleaning wait until nothing runs. After a failed run, without --keep-going, what was started"
             " ahead is ended, and shows nothing.",
             "This flag may not be used together with --print-command-list or --clean-per-run flag.",
@@ -76,7 +77,7 @@ HIDDEN = [
         "--find-conflicts",
         [
             "Find the least sets of features that fail, and how many greatest ones pass, by few runs of the powerset.",
-            "First all features are on, and then each run is chosen by those before. A set that fails is made smaller, until no"
+            "First all features are on that the options choose from, and then each run is chosen by those before. A set that fails is made smaller, until no"
             " allowed part of it fails: it is a conflict. No set is run that holds a failed one, or lies inside one that passed."
             " The sets are of any size: with --package-rules no depth and no strength counts.",
             "At the end an error names the conflicts of each package, and a line says how many greatest sets passed, with --verbose"
@@ -115,6 +116,7 @@ ENVIRONMENT = [
     ),
     ("CARGO_TERM_COLOR, NO_COLOR", "Whether messages are coloured."),
     ("GITHUB_ACTIONS", "Where it is set, each run is a group of the log."),
+    ("CARGO_BUILD_JOBS, TMPDIR", "Under --parallel: how many jobs each cargo has, and where outputs wait for their turn."),
 ]
 
 

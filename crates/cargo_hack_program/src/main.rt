@@ -9,7 +9,7 @@ use hack_recovery::call::{Outside, call};
 use hack_recovery::guards::ShellGuards;
 use hack_recovery::keepers::Keepers;
 use hack_recovery::locks::FolderLocks;
-use hack_start::system::{HostSystem, System, Variable};
+use hack_recovery::system::{HostSystem, System, Variable};
 use hack_term::term::{Coloring, Term};
 use std::io::IsTerminal;
 use std::process::ExitCode;

@@ -10,8 +10,8 @@ use hack_recovery::call::{Outside, call};
 use hack_recovery::guards::FakeGuards;
 use hack_recovery::keepers::Keepers;
 use hack_recovery::locks::{FakeLocks, Holder};
-use hack_start::started::Started;
-use hack_start::system::{FakeSystem, Variable};
+use hack_recovery::started::Started;
+use hack_recovery::system::{FakeSystem, Variable};
 use hack_term::term::{Coloring, Term};
 use std::alloc::{AllocError, Global};
 

@@ -7,8 +7,8 @@ use Rattle.hack_base.specs.PathTexts.{join_of, normal_of, parent_of}
 use Rattle.hack_files.specs.Files.{Contents, KeepsAll}
 use Rattle.hack_places.proofs.LookLemmas.{all_same, seen_first}
 use Rattle.hack_places.specs.FileLooks.{IsOfLooked, IsOfPath}
-use Rattle.hack_places.specs.Folders.{Saying, above, bytes_say, first_some, folder_said, folders, manifest_in, said_in}
-use Rattle.hack_places.specs.LookedPaths.{AreLeft, IsOwnFolderLook, IsRepositoryLook, IsWorkspaceLook}
+use Rattle.hack_places.specs.Folders.{Saying, above, first_some, folder_said, folders, said_in, saying_in}
+use Rattle.hack_places.specs.LookedPaths.{AreLeft, IsManifestLook, IsOwnFolderLook, IsRepositoryLook}
 use Rattle.hack_places.specs.LookedPaths.IsOwnFolderLook.{file, head, itself, linked}
 use Rattle.hack_places.specs.Repositories.{has_head, is_folder, link_in, repository_in}
 use Rattle.hack_places.specs.declared.look.LookFault.{LookFault}
@@ -53,29 +53,36 @@ module _ {A : Type 0} (tells : Type 0) (found : Name → Option A) where
     none = λ t. ap (λ (o : Option A). option_or o (first_some found h.passed)) (e t) ∙ h.none t;
   }
 
--- ---- the way to the workspace's folder
+-- ---- the way up, from manifest to manifest
 
--- what a folder's manifest says, which was looked at after others
-pub said_first : (held mid : Contents) (folder : Name) (said : Option Saying) → KeepsAll held mid → said ≡ option_map bytes_say (manifest_in mid folder) → said_in held folder ≡ folder_said folder said
-said_first held mid folder said same looked =
-    ap (folder_said folder) (sym (subst (λ (m : Contents). said ≡ option_map bytes_say (manifest_in m folder)) (all_same held mid same) looked))
+-- what is said in a folder, which was looked at after others
+pub said_first : (held mid : Contents) (pkg_dir folder : Name) (said : Saying) → KeepsAll held mid → said ≡ saying_in mid pkg_dir folder → said_in held pkg_dir folder ≡ folder_said folder said
+said_first held mid pkg_dir folder said same looked =
+    ap (folder_said folder) (sym (subst (λ (m : Contents). said ≡ saying_in m pkg_dir folder) (all_same held mid same) looked))
 
-pub way_start : (T : Type 0) (held : Contents) (start : Name) (n m : ℕ) → folders start ≡ above n start → m ≡ n → AreLeft T (said_in held) (folders start) (above m start)
-way_start T held start n m all is = subst (λ (k : ℕ). AreLeft T (said_in held) (folders start) (above k start)) (sym is)
-    (subst (λ (left : List Name). AreLeft T (said_in held) (folders start) left) all (all_left T (said_in held) (folders start)))
+-- what is so of files after looks is so of them at first
+pub manifest_first : {A : Type 0} (T : Type 0) (found : Contents → Name → Option A) (first mid : Contents) (some : List Name) (path : Name) → (T → KeepsAll first mid) → IsManifestLook T (found mid) some path
+    → IsManifestLook T (found first) some path
+manifest_first T found first mid some path same (folder, (others, left), is) =
+    (folder, (others, record { passed = left.passed; are = left.are; none = seen_first T (λ (m : Contents). first_some (found m) left.passed ≡ None) first mid same left.none }), is)
 
-pub way_up : (T : Type 0) (held : Contents) (start folder up : Name) (n m : ℕ) → m ≡ suc n → up ≡ parent_of folder → (T → said_in held folder ≡ None)
-    → AreLeft T (said_in held) (folders start) (above m folder) → AreLeft T (said_in held) (folders start) (above n up)
-way_up T held start folder up n m is parent none left =
-    subst (λ (p : Name). AreLeft T (said_in held) (folders start) (above n p)) (sym parent)
-    (others_left T (said_in held) (folders start) (above n (parent_of folder)) folder (subst (λ (k : ℕ). AreLeft T (said_in held) (folders start) (above k folder)) is left) none)
+module _ (T : Type 0) (found : Name → Option Name) (start : Name) where
+  pub way_start : (n m : ℕ) → folders start ≡ above n start → m ≡ n → AreLeft T found (folders start) (above m start)
+  way_start n m all is = subst (λ (k : ℕ). AreLeft T found (folders start) (above k start)) (sym is)
+      (subst (λ (left : List Name). AreLeft T found (folders start) left) all (all_left T found (folders start)))
 
--- the next folder's manifest is looked at
-pub way_look : (T : Type 0) (held : Contents) (start folder : Name) (n m : ℕ) (fault : LookFault) → m ≡ suc n → AreLeft T (said_in held) (folders start) (above m folder)
-    → IsOfPath (join_of folder (codes "Cargo.toml")) fault → IsOfLooked (IsWorkspaceLook T held start) fault
-way_look T held start folder n m fault is left named =
-    looked_at (IsWorkspaceLook T held start) (join_of folder (codes "Cargo.toml")) fault
-    (folder, (above n (parent_of folder), subst (λ (k : ℕ). AreLeft T (said_in held) (folders start) (above k folder)) is left), refl) named
+  pub way_up : (folder up : Name) (n m : ℕ) → m ≡ suc n → up ≡ parent_of folder → (T → found folder ≡ None)
+      → AreLeft T found (folders start) (above m folder) → AreLeft T found (folders start) (above n up)
+  way_up folder up n m is parent none left =
+      subst (λ (p : Name). AreLeft T found (folders start) (above n p)) (sym parent)
+      (others_left T found (folders start) (above n (parent_of folder)) folder (subst (λ (k : ℕ). AreLeft T found (folders start) (above k folder)) is left) none)
+
+  -- the next folder's manifest is looked at
+  pub way_look : (folder : Name) (n m : ℕ) (fault : LookFault) → m ≡ suc n → AreLeft T found (folders start) (above m folder)
+      → IsOfPath (join_of folder (codes "Cargo.toml")) fault → IsOfLooked (IsManifestLook T found (folders start)) fault
+  way_look folder n m fault is left named =
+      looked_at (IsManifestLook T found (folders start)) (join_of folder (codes "Cargo.toml")) fault
+      (folder, (above n (parent_of folder), subst (λ (k : ℕ). AreLeft T found (folders start) (above k folder)) is left), refl) named
 
 -- ---- a repository's own folder
 

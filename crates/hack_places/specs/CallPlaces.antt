@@ -5,15 +5,16 @@ use Rattle.hack_base.specs.PathTexts.{join_of}
 use Rattle.hack_files.specs.Files.{Contents}
 use Rattle.hack_places.specs.JournalPlaces.{journal_beside, journal_of, lockfile_copy}
 
--- the workspace's folder; the journal, and where an older version had it, with its folder; the
--- lockfile, whether it is that of the call's package, which the workspace may leave out, and its copy
+-- the workspace's folder, as it was found, and by its path without symbolic links; the folder of the call's
+-- package; the journal, and where an older version had it, with its folder; the lockfile, and its copy
 pub record PlacesAt : Type 0 where
+  pub found : Name
+  pub pkg_dir : Name
   pub folder : Name
   pub journal : Name
   pub older_folder : Name
   pub older : Name
   pub lockfile : Name
-  pub shared : Bool
   pub copy : Name
 
 -- the places of a workspace's folder; the journal's was looked for

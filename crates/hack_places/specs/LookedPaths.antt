@@ -5,7 +5,7 @@ use Rattle.hack_base.specs.Names.{Name}
 use Rattle.hack_base.specs.PathTexts.{join_of, normal_of}
 use Rattle.hack_files.specs.Files.{Contents}
 use Rattle.hack_places.specs.CallPlaces.{PlacesAt}
-use Rattle.hack_places.specs.Folders.{first_some, folders, said_in}
+use Rattle.hack_places.specs.Folders.{first_some, folders, said_in, with_manifest}
 use Rattle.hack_places.specs.Repositories.{has_head, is_folder, link_in, repository_in}
 
 -- these folders are left of some: nothing was found in those before them
@@ -18,9 +18,17 @@ pub record AreLeft {A : Type 0} (tells : Type 0) (found : Name → Option A) (so
 abbrev pub ComesNext : {A : Type 0} → Type 0 → (Name → Option A) → List Name → Name → Type 0
 ComesNext tells found some folder = (others : List Name) × AreLeft tells found some (folder ∷ others)
 
--- the manifest of the next folder, from the start up, as long as none says where the workspace is
+-- the manifest of the next of these folders, as long as nothing was found in those before it
+abbrev pub IsManifestLook : {A : Type 0} → Type 0 → (Name → Option A) → List Name → Name → Type 0
+IsManifestLook tells found some path = (folder : Name) × ComesNext tells found some folder × (path ≡ join_of folder (codes "Cargo.toml"))
+
+-- that of the next folder, from the start up, as long as none has a manifest
+abbrev pub IsPackageLook : Type 0 → Contents → Name → Name → Type 0
+IsPackageLook tells held start = IsManifestLook tells (with_manifest held) (folders start)
+
+-- that of the next folder, from the package's up, as long as none says where its workspace is
 abbrev pub IsWorkspaceLook : Type 0 → Contents → Name → Name → Type 0
-IsWorkspaceLook tells held start path = (folder : Name) × ComesNext tells (said_in held) (folders start) folder × (path ≡ join_of folder (codes "Cargo.toml"))
+IsWorkspaceLook tells held pkg_dir = IsManifestLook tells (said_in held pkg_dir) (folders pkg_dir)
 
 -- what is looked at, in order, for the own folder of a repository whose topmost folder this may be, with this `.git`:
 -- each, where those before it don't decide it

@@ -5,11 +5,12 @@ use Rattle.hack_places.specs.declared.places.Places.{Places}
 
 abbrev pub places_view : Places → PlacesAt
 places_view places = record {
+  found = string_bytes places.found;
+  pkg_dir = string_bytes places.pkg_dir;
   folder = string_bytes places.place.folder;
   journal = string_bytes places.place.journal;
   older_folder = string_bytes places.older.folder;
   older = string_bytes places.older.journal;
   lockfile = string_bytes places.lockfile;
-  shared = places.is_shared;
   copy = string_bytes places.copy;
 }

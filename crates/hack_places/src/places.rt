@@ -18,27 +18,31 @@ use std::alloc::{AllocError, Global};
 /// Where a call's workspace is, its journal, and what else is kept while manifests are edited.
 #[derive(Drop)]
 pub struct Places {
-    /// The folder of the workspace, and its journal.
+    /// The folder of the workspace, as it was found.
+    pub found: String,
+    /// The folder of the call's package.
+    pub pkg_dir: String,
+    /// The folder of the workspace, by its path without symbolic links, and its journal.
     pub place: JournalPlace,
     /// The same folder, and where an older version had the journal.
     pub older: JournalPlace,
     pub lockfile: String,
-    /// Whether it is that of the call's package, which the workspace may leave out.
-    pub is_shared: bool,
     /// The path of the lockfile's copy.
     pub copy: String,
 }
 
 impl Places {
-    /// The places of a workspace's folder. `is_shared` says whether its lockfile is that of the call's
-    /// package.
+    /// The places of a workspace, whose folder was found as `found`, and has the path `folder` without
+    /// symbolic links.
     pub fn of<F: Files>(
         alloc: Global,
+        found: String,
+        pkg_dir: String,
         folder: &str,
-        is_shared: bool,
         files: &mut F,
     ) -> Result<Places, LookFault>
-        ensures shared { IfOk result (λ places. places.is_shared ≡ is_shared) }
+        ensures named { IfOk result (λ places. (places.found ≡ found)
+            × (places.pkg_dir ≡ pkg_dir)) }
         ensures found { IfOk result (λ places. ArePlacesOf F.tells (F.bytes_at files.old)
             folder.now (places_view places)) }
         ensures counted { AreLooksCounted (F.failed files.old) (F.failed files.new) result }
@@ -54,10 +58,11 @@ impl Places {
         let lockfile = join(alloc, folder, "Cargo.lock")?;
         let copy = lockfile_copy(alloc, journal.as_str())?;
         Ok(Places {
+            found,
+            pkg_dir,
             place: place_at(alloc, folder, journal)?,
             older: place_at(alloc, folder, older)?,
             lockfile,
-            is_shared,
             copy,
         })
     }

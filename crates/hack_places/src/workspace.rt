@@ -1,24 +1,24 @@
-//! The folder of the workspace that a call is about, found as cargo does.
+//! The folders of the package and the workspace that a call is about, found as cargo does.
 
-ghost use Rattle.std.specs.Prelude.{◌≡◌, [], IfErr, IfOk, Some, codes, option_map};
+ghost use Rattle.std.specs.Prelude.{◌≡◌, [], IfErr, IfOk, codes, is_some, option_map};
 ghost use Rattle.std.specs.Prelude.{string_bytes};
+ghost use Rattle.std.specs.List.{list_any};
+ghost use Rattle.toml.specs.Data.{get_member};
+ghost use Rattle.toml.specs.View.{array_view, table_view};
 ghost use Rattle.hack_base.specs.Names.{optional_text};
 ghost use Rattle.hack_base.specs.PathTexts.{join_of, normal_of};
 ghost use Rattle.hack_files.specs.Files.{KeepsAll, Makes};
-ghost use Rattle.toml.specs.Data.{get_member};
-ghost use Rattle.std.specs.List.{list_any};
-ghost use Rattle.toml.specs.View.{array_view, table_view};
 ghost use Rattle.hack_manifest.specs.Manifest.{texts_in};
 ghost use Rattle.hack_places.specs.Folders.{bytes_say, field_says, fields_leave_out, has_part};
-ghost use Rattle.hack_places.specs.Folders.{is_inside, torn_says};
-ghost use Rattle.hack_places.specs.Folders.{leads_to, leaves_out, manifest_in, start_at};
-ghost use Rattle.hack_places.specs.Folders.{text_leaves_out, texts_at};
-ghost use Rattle.hack_places.specs.Internal.{saying_in};
-ghost use Rattle.hack_places.specs.Folders.{text_in_bytes, text_says, tree_says, workspace_from};
+ghost use Rattle.hack_places.specs.Folders.{is_inside, leads_to, leaves_out, manifest_in};
+ghost use Rattle.hack_places.specs.Folders.{package_from, saying_in, start_at, text_in_bytes};
+ghost use Rattle.hack_places.specs.Folders.{text_leaves_out, text_says, texts_at, torn_says};
+ghost use Rattle.hack_places.specs.Folders.{tree_says, workspace_around, workspace_says};
+ghost use Rattle.hack_places.specs.Internal.{saying};
 ghost use Rattle.hack_places.specs.FileLooks.{AreLooksCounted, AreLooksSeen, IsOfLooked, IsOfPath};
-ghost use Rattle.hack_places.specs.LookedPaths.{IsWorkspaceLook};
+ghost use Rattle.hack_places.specs.LookedPaths.{IsPackageLook, IsWorkspaceLook};
 
-use crate::look::{LookFault, held};
+use crate::look::{LookFault, held, is_there};
 use hack_base::paths::{join, normal, parent, under};
 use hack_files::fs::Files;
 use hack_manifest::lookup::{find_table, value_at};
@@ -26,24 +26,23 @@ use std::alloc::{AllocError, Global};
 use toml::value::Array;
 use toml::{Table, Value};
 
-/// The folder of the workspace: at or above the folder of `--manifest-path`, or else the current
-/// one, the nearest whose manifest is a workspace's, or what the nearest says that names its
-/// workspace; if there is none, the nearest with a manifest.
+/// The folder of the package that a call is about: at or above the folder of `--manifest-path`, or else the
+/// current one, the nearest that has a manifest; if none has, that folder itself.
 #[tactic(auto, using(hack_files::proofs::FilesLemmas::trace_steps))]
-pub fn workspace<F: Files>(
+pub fn package_dir<F: Files>(
     alloc: Global,
     manifest_path: Option<&str>,
     dir: &str,
     files: &mut F,
 ) -> Result<String, LookFault>
     // Where the files show what they hold, it is that folder.
-    ensures found { IfOk result (λ folder. F.tells
-        → string_bytes folder ≡ workspace_from (F.bytes_at files.old)
+    ensures found { IfOk result (λ pkg_dir. F.tells
+        → string_bytes pkg_dir ≡ package_from (F.bytes_at files.old)
         (start_at (option_map (λ path. path.now) manifest_path.entry) dir.now)) }
     // An error names the manifest that can't be looked at. Nothing is changed.
     ensures counted { AreLooksCounted (F.failed files.old) (F.failed files.new) result }
     ensures seen { AreLooksSeen F.Files files.old files.new result }
-    ensures looked { IfErr result (IsOfLooked (IsWorkspaceLook F.tells (F.bytes_at files.old)
+    ensures looked { IfErr result (IsOfLooked (IsPackageLook F.tells (F.bytes_at files.old)
         (start_at (option_map (λ path. path.now) manifest_path.entry) dir.now))) }
     ensures same { F.tells → KeepsAll (F.bytes_at files.old) (F.bytes_at files.new) }
     ensures untraced { F.whole → Makes [] (F.trace files.old) (F.trace files.new)
@@ -53,19 +52,35 @@ pub fn workspace<F: Files>(
     nearest(alloc, start.as_str(), files)
 }
 
-/// Whether the workspace in this folder leaves out the package that the call is about, as cargo has it:
-/// one of the paths in `workspace.exclude` leads to the folder where cargo starts, or around it, and none
-/// in `workspace.members` does. Such a package has a lockfile of its own.
+/// The nearest folder with a manifest, at or above this one; if there is none, this one.
+#[tactic(auto, using(crate::proofs::LookLemmas::look_steps))]
+fn nearest<F: Files>(alloc: Global, start: &str, files: &mut F) -> Result<String, LookFault>
+    ensures found { IfOk result (λ pkg_dir. F.tells
+        → string_bytes pkg_dir ≡ package_from (F.bytes_at files.old) start.now) }
+    ensures counted { AreLooksCounted (F.failed files.old) (F.failed files.new) result }
+    ensures seen { AreLooksSeen F.Files files.old files.new result }
+    ensures looked { IfErr result (IsOfLooked (IsPackageLook F.tells (F.bytes_at files.old)
+        start.now)) }
+    ensures same { F.tells → KeepsAll (F.bytes_at files.old) (F.bytes_at files.new) }
+    ensures untraced { F.whole → Makes [] (F.trace files.old) (F.trace files.new)
+        (F.bytes_at files.old) (F.bytes_at files.new) }
+{
+    let mut folder = start;
+    // Each folder's path is shorter than that of one inside it.
+    for _step in 0..start.len() {
+        if has_manifest(alloc, folder, files)? {
+            return Ok(String::from_str(alloc, folder)?);
+        }
+        folder = parent(folder);
+    }
+    Ok(String::from_str(alloc, start)?)
+}
+
+/// Whether a folder has a manifest.
 #[tactic(auto, using(hack_files::proofs::FilesLemmas::trace_steps))]
-pub fn leaves_out<F: Files>(
-    alloc: Global,
-    folder: &str,
-    manifest_path: Option<&str>,
-    dir: &str,
-    files: &mut F,
-) -> Result<bool, LookFault>
-    ensures found { IfOk result (λ out. F.tells → out ≡ leaves_out (F.bytes_at files.old) folder.now
-        (start_at (option_map (λ path. path.now) manifest_path.entry) dir.now)) }
+fn has_manifest<F: Files>(alloc: Global, folder: &str, files: &mut F) -> Result<bool, LookFault>
+    ensures found { IfOk result (λ there. F.tells
+        → there ≡ is_some (manifest_in (F.bytes_at files.old) folder.now)) }
     ensures counted { AreLooksCounted (F.failed files.old) (F.failed files.new) result }
     ensures seen { AreLooksSeen F.Files files.old files.new result }
     ensures named { IfErr result (IsOfPath (join_of folder.now (codes "Cargo.toml"))) }
@@ -73,20 +88,79 @@ pub fn leaves_out<F: Files>(
     ensures untraced { F.whole → Makes [] (F.trace files.old) (F.trace files.new)
         (F.bytes_at files.old) (F.bytes_at files.new) }
 {
-    let start = start(alloc, manifest_path, dir)?;
+    let path = join(alloc, folder, "Cargo.toml")?;
+    is_there(alloc, path.as_str(), files)
+}
+
+/// The folder of a package's workspace: at or above the package's, the nearest whose manifest is a workspace's
+/// that doesn't leave the package out, or what the nearest says that names its workspace. If there is none, the
+/// nearest whose workspace leaves the package out, since an edit may say so that an interrupted call left; else
+/// the package's own.
+#[tactic(auto, using(crate::proofs::LookLemmas::look_steps))]
+pub fn workspace<F: Files>(alloc: Global, pkg_dir: &str, files: &mut F) -> Result<String, LookFault>
+    // Where the files show what they hold, it is that folder.
+    ensures found { IfOk result (λ folder. F.tells
+        → string_bytes folder ≡ workspace_around (F.bytes_at files.old) pkg_dir.now) }
+    // An error names the manifest that can't be looked at. Nothing is changed.
+    ensures counted { AreLooksCounted (F.failed files.old) (F.failed files.new) result }
+    ensures seen { AreLooksSeen F.Files files.old files.new result }
+    ensures looked { IfErr result (IsOfLooked (IsWorkspaceLook F.tells (F.bytes_at files.old)
+        pkg_dir.now)) }
+    ensures same { F.tells → KeepsAll (F.bytes_at files.old) (F.bytes_at files.new) }
+    ensures untraced { F.whole → Makes [] (F.trace files.old) (F.trace files.new)
+        (F.bytes_at files.old) (F.bytes_at files.new) }
+{
+    let mut folder = pkg_dir;
+    let mut leaving = None;
+    // Each folder's path is shorter than that of one inside it.
+    for _step in 0..pkg_dir.len() {
+        match said_at(alloc, folder, pkg_dir, files)? {
+            Said::Here => return Ok(String::from_str(alloc, folder)?),
+            Said::At(path) => return Ok(within(alloc, folder, path.as_str())?),
+            Said::Out => leaving = leaving.or(Some(folder)),
+            Said::Nothing => {}
+        }
+        folder = parent(folder);
+    }
+    Ok(String::from_str(alloc, leaving.unwrap_or(pkg_dir))?)
+}
+
+/// Whether the workspace in a folder leaves out a package, as cargo has it: one of the paths in
+/// `workspace.exclude` leads to the package's folder, or around it, and none in `workspace.members` does. Such
+/// a package has a lockfile of its own.
+pub fn leaves_out<F: Files>(
+    alloc: Global,
+    folder: &str,
+    pkg_dir: &str,
+    files: &mut F,
+) -> Result<bool, LookFault>
+    ensures found { IfOk result (λ out. F.tells
+        → out ≡ leaves_out (F.bytes_at files.old) folder.now pkg_dir.now) }
+    ensures counted { AreLooksCounted (F.failed files.old) (F.failed files.new) result }
+    ensures seen { AreLooksSeen F.Files files.old files.new result }
+    ensures named { IfErr result (IsOfPath (join_of folder.now (codes "Cargo.toml"))) }
+    ensures same { F.tells → KeepsAll (F.bytes_at files.old) (F.bytes_at files.new) }
+    ensures untraced { F.whole → Makes [] (F.trace files.old) (F.trace files.new)
+        (F.bytes_at files.old) (F.bytes_at files.new) }
+{
     match text_of(manifest(alloc, folder, files)?) {
-        Some(text) => Ok(text_leaves_out(alloc, folder, start.as_str(), text.as_str())?),
+        Some(text) => Ok(text_leaves_out(alloc, folder, pkg_dir, text.as_str())?),
         None => Ok(false),
     }
 }
 
 /// The same of a manifest's text.
-fn text_leaves_out(alloc: Global, folder: &str, path: &str, text: &str) -> Result<bool, AllocError>
-    ensures { IfOk result (λ out. out ≡ text_leaves_out folder.now path.now text.now) }
+fn text_leaves_out(
+    alloc: Global,
+    folder: &str,
+    pkg_dir: &str,
+    text: &str,
+) -> Result<bool, AllocError>
+    ensures { IfOk result (λ out. out ≡ text_leaves_out folder.now pkg_dir.now text.now) }
 {
     match toml::table_from_str(alloc, text) {
         Ok(tree) => match find_table(&tree, "workspace") {
-            Some(fields) => fields_leave_out(alloc, folder, path, fields),
+            Some(fields) => fields_leave_out(alloc, folder, pkg_dir, fields),
             None => Ok(false),
         },
         Err(e) if e.is_memory() => Err(AllocError),
@@ -98,14 +172,14 @@ fn text_leaves_out(alloc: Global, folder: &str, path: &str, text: &str) -> Resul
 fn fields_leave_out(
     alloc: Global,
     folder: &str,
-    path: &str,
+    pkg_dir: &str,
     fields: &Table,
 ) -> Result<bool, AllocError>
     ensures { IfOk result (λ out. out
-        ≡ fields_leave_out folder.now path.now (table_view fields.now)) }
+        ≡ fields_leave_out folder.now pkg_dir.now (table_view fields.now)) }
 {
-    let is_excluded = one_leads(alloc, folder, path, fields, "exclude")?;
-    let is_member = one_leads(alloc, folder, path, fields, "members")?;
+    let is_excluded = one_leads(alloc, folder, pkg_dir, fields, "exclude")?;
+    let is_member = one_leads(alloc, folder, pkg_dir, fields, "members")?;
     Ok(is_excluded && !is_member)
 }
 
@@ -178,51 +252,28 @@ pub(crate) fn within(alloc: Global, folder: &str, path: &str) -> Result<String, 
     normal(alloc, path.as_str())
 }
 
-/// The workspace's folder, at or above this one.
-#[tactic(auto, using(crate::proofs::LookLemmas::look_steps))]
-fn nearest<F: Files>(alloc: Global, start: &str, files: &mut F) -> Result<String, LookFault>
-    ensures found { IfOk result (λ folder. F.tells
-        → string_bytes folder ≡ workspace_from (F.bytes_at files.old) start.now) }
-    ensures counted { AreLooksCounted (F.failed files.old) (F.failed files.new) result }
-    ensures seen { AreLooksSeen F.Files files.old files.new result }
-    ensures looked { IfErr result (IsOfLooked (IsWorkspaceLook F.tells (F.bytes_at files.old)
-        start.now)) }
-    ensures same { F.tells → KeepsAll (F.bytes_at files.old) (F.bytes_at files.new) }
-    ensures untraced { F.whole → Makes [] (F.trace files.old) (F.trace files.new)
-        (F.bytes_at files.old) (F.bytes_at files.new) }
-{
-    let mut folder = start;
-    let mut nearest = None;
-    // Each folder's path is shorter than that of one inside it.
-    for _step in 0..start.len() {
-        match said_at(alloc, folder, files)? {
-            Said::Here => return Ok(String::from_str(alloc, folder)?),
-            Said::At(path) => return Ok(within(alloc, folder, path.as_str())?),
-            Said::Unsaid => nearest = nearest.or(Some(folder)),
-            Said::Absent => {}
-        }
-        folder = parent(folder);
-    }
-    Ok(String::from_str(alloc, nearest.unwrap_or(start))?)
-}
-
-/// What the manifest in a folder says of its workspace.
+/// What the manifest in a folder says of a package's workspace.
 #[derive(Drop)]
 pub enum Said {
-    /// There is no manifest.
-    Absent,
     /// The manifest is the workspace's itself.
     Here,
+    /// It is that of a workspace which leaves the package out.
+    Out,
     /// That of the workspace is in another folder, by `package.workspace`.
     At(String),
-    /// It doesn't say, or is no manifest.
-    Unsaid,
+    /// It doesn't say, is no manifest, or there is none.
+    Nothing,
 }
 
 /// What is said in a folder.
-fn said_at<F: Files>(alloc: Global, folder: &str, files: &mut F) -> Result<Said, LookFault>
+fn said_at<F: Files>(
+    alloc: Global,
+    folder: &str,
+    pkg_dir: &str,
+    files: &mut F,
+) -> Result<Said, LookFault>
     ensures found { IfOk result (λ said. F.tells
-        → saying_in said ≡ option_map bytes_say (manifest_in (F.bytes_at files.old) folder.now)) }
+        → saying said ≡ saying_in (F.bytes_at files.old) pkg_dir.now folder.now) }
     ensures counted { AreLooksCounted (F.failed files.old) (F.failed files.new) result }
     ensures seen { AreLooksSeen F.Files files.old files.new result }
     ensures named { IfErr result (IsOfPath (join_of folder.now (codes "Cargo.toml"))) }
@@ -231,27 +282,27 @@ fn said_at<F: Files>(alloc: Global, folder: &str, files: &mut F) -> Result<Said,
         (F.bytes_at files.old) (F.bytes_at files.new) }
 {
     match manifest(alloc, folder, files)? {
-        Some(bytes) => Ok(said_by(alloc, bytes.as_slice())?),
-        None => Ok(Said::Absent),
+        Some(bytes) => Ok(said_by(alloc, folder, pkg_dir, bytes.as_slice())?),
+        None => Ok(Said::Nothing),
     }
 }
 
 /// What a manifest of these bytes says.
-fn said_by(alloc: Global, bytes: &[u8]) -> Result<Said, AllocError>
-    ensures { IfOk result (λ said. saying_in said ≡ Some (bytes_say bytes.now)) }
+fn said_by(alloc: Global, folder: &str, pkg_dir: &str, bytes: &[u8]) -> Result<Said, AllocError>
+    ensures { IfOk result (λ said. saying said ≡ bytes_say folder.now pkg_dir.now bytes.now) }
 {
     match str::from_utf8(bytes) {
-        Ok(text) => said_by_text(alloc, text),
+        Ok(text) => said_by_text(alloc, folder, pkg_dir, text),
         Err(_) => Ok(said_by_torn(bytes)),
     }
 }
 
 /// What a manifest of this text says.
-fn said_by_text(alloc: Global, text: &str) -> Result<Said, AllocError>
-    ensures { IfOk result (λ said. saying_in said ≡ Some (text_says text.now)) }
+fn said_by_text(alloc: Global, folder: &str, pkg_dir: &str, text: &str) -> Result<Said, AllocError>
+    ensures { IfOk result (λ said. saying said ≡ text_says folder.now pkg_dir.now text.now) }
 {
     match toml::table_from_str(alloc, text) {
-        Ok(tree) => said_by_tree(alloc, &tree),
+        Ok(tree) => said_by_tree(alloc, folder, pkg_dir, &tree),
         Err(e) if e.is_memory() => Err(AllocError),
         Err(_) => Ok(said_by_torn(text.as_bytes())),
     }
@@ -260,12 +311,12 @@ fn said_by_text(alloc: Global, text: &str) -> Result<Said, AllocError>
 /// What is said by a manifest that is no text or no TOML: it is the workspace's own where the beginning
 /// of a table `workspace` stands somewhere in it. A call that was killed may have cut it.
 fn said_by_torn(bytes: &[u8]) -> Said
-    ensures { saying_in result ≡ Some (torn_says bytes.now) }
+    ensures { saying result ≡ torn_says bytes.now }
 {
     if has_table(bytes) {
         Said::Here
     } else {
-        Said::Unsaid
+        Said::Nothing
     }
 }
 
@@ -284,27 +335,50 @@ fn has_table(bytes: &[u8]) -> bool
 }
 
 /// What the manifest with this tree says.
-fn said_by_tree(alloc: Global, tree: &Table) -> Result<Said, AllocError>
-    ensures { IfOk result (λ said. saying_in said ≡ Some (tree_says (table_view tree.now))) }
+fn said_by_tree(
+    alloc: Global,
+    folder: &str,
+    pkg_dir: &str,
+    tree: &Table,
+) -> Result<Said, AllocError>
+    ensures { IfOk result (λ said. saying said
+        ≡ tree_says folder.now pkg_dir.now (table_view tree.now)) }
 {
-    if find_table(tree, "workspace").is_some() {
-        return Ok(Said::Here);
+    if let Some(fields) = find_table(tree, "workspace") {
+        return said_by_workspace(alloc, folder, pkg_dir, fields);
     }
     match find_table(tree, "package") {
-        Some(package) => said_by_package(alloc, package),
-        None => Ok(Said::Unsaid),
+        Some(fields) => said_by_package(alloc, fields),
+        None => Ok(Said::Nothing),
+    }
+}
+
+/// What the table `workspace` says.
+fn said_by_workspace(
+    alloc: Global,
+    folder: &str,
+    pkg_dir: &str,
+    fields: &Table,
+) -> Result<Said, AllocError>
+    ensures { IfOk result (λ said. saying said
+        ≡ workspace_says folder.now pkg_dir.now (table_view fields.now)) }
+{
+    if fields_leave_out(alloc, folder, pkg_dir, fields)? {
+        Ok(Said::Out)
+    } else {
+        Ok(Said::Here)
     }
 }
 
 /// What the table `package` says.
 fn said_by_package(alloc: Global, table: &Table) -> Result<Said, AllocError>
-    ensures { IfOk result (λ said. saying_in said
-        ≡ Some (field_says (get_member (codes "workspace") (table_view table.now)))) }
+    ensures { IfOk result (λ said. saying said
+        ≡ field_says (get_member (codes "workspace") (table_view table.now))) }
 {
     match value_at(table, "workspace") {
-        None => Ok(Said::Unsaid),
+        None => Ok(Said::Nothing),
         Some(Value::String(path)) => Ok(Said::At(String::from_str(alloc, path.as_str())?)),
-        Some(_) => Ok(Said::Unsaid),
+        Some(_) => Ok(Said::Nothing),
     }
 }
 

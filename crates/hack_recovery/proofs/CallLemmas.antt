@@ -3,6 +3,7 @@ use Rattle.std.proofs.Common.{◌≡◌, ℕ, Bool, true, false, List, Option, r
 use Rattle.std.specs.Prelude.{Ok}
 use Rattle.hack_base.specs.Counters.{GrowsBy}
 use Rattle.hack_base.specs.Names.{Name}
+use Rattle.hack_base.specs.Streams.{Stream}
 use Rattle.hack_base.specs.declared.writes.Sink.{Ghosts as Taking}
 use Rattle.hack_files.specs.Files.{Contents, KeepsAllBut}
 use Rattle.hack_files.specs.declared.fs.Files.{Ghosts as Filing}
@@ -24,7 +25,8 @@ use Rattle.hack_recovery.specs.FailedFiles.{RefusesThese}
 use Rattle.hack_recovery.specs.GuardEvents.{GuardsView}
 use Rattle.hack_recovery.specs.LockEvents.{LocksView}
 use Rattle.hack_recovery.specs.Scenes.{Scene, Untouched, scene_with}
-use Rattle.hack_recovery.specs.Telling.{SaysUnrestored, SaysUnseen, SaysUnsure}
+use Rattle.hack_recovery.specs.Telling.{SaysStanding, SaysUnrestored, SaysUnseen, SaysUnsure}
+use Rattle.hack_recovery.specs.declared.admit.Standing.{Standing}
 use Rattle.hack_recovery.specs.declared.admit.Way.TheVariants.{Plain}
 use Rattle.hack_words.specs.declared.cli.edits.Edits.{Edits}
 
@@ -54,12 +56,12 @@ course-known f l u j talks records watched real ws vs e d files lockfiles unkept
     (subst (λ (x : List Name). IsCallCourse f l u j talks records watched real x e (scene files lockfiles unkept locks guards calls o t fails k) new) words h)))))
 
 -- a call that goes on plainly: one that is to restore does nothing but say so, and any other is performed
-pub plain_course : {F L U J : Type 0} (f : Filing F) (l : Filing L) (u : Noting U) (j : Filing J) (talks records watched : Type 0) (real : Name → Name) (words : List Name) (env : Env) (does : Edits) (places : PlacesAt) (left restores : Bool) (old at new : Scene) → is_restore does ≡ restores
-    → Begins f.tells records real words env does places left old.files → IsAdmitted records does places.folder left old.locks at.locks (Ok Plain) → Untouched f.tells f.whole old at → GrowsBy 0 old.files.failed at.files.failed
+pub plain_course : {F L U J : Type 0} (f : Filing F) (l : Filing L) (u : Noting U) (j : Filing J) (talks records watched : Type 0) (real : Name → Name) (words : List Name) (env : Env) (does : Edits) (places : PlacesAt) (standing : Standing) (left restores : Bool) (old at new : Scene)
+    → is_restore does ≡ restores → Begins f.tells records real words env does places left old.files → IsAdmitted records does places.folder left old.locks at.locks (Ok (Plain standing)) → Untouched f.tells f.whole old at → GrowsBy 0 old.files.failed at.files.failed
     → at.host.term ≡ old.host.term → at.streams ≡ old.streams → (is_restore does ≡ true → (new ≡ scene_with at.files at.host.term new.streams.err at) × SaysUnrestored old.host.term.coloring env.by_guard left old.streams.err new.streams.err)
-    → (is_restore does ≡ false → PerformsUnjournaled f talks words env at new) → IsCallCourse f l u j talks records watched real words env old new
-plain_course f l u j talks records watched real words env does places left true old at new is begins admitted untouched counted term streams same ran =
-    let ended : Scene → Type 0 = λ (x : Scene). Untouched f.tells f.whole old x × GrowsBy 0 old.files.failed x.files.failed × IsAdmitted records does places.folder left old.locks x.locks (Ok Plain) × (x.host.term ≡ old.host.term) in
+    → (is_restore does ≡ false → (term : Term) × (err : Stream) × SaysStanding standing old.host.term term old.streams.err err × PerformsUnjournaled f talks words env (scene_with at.files term err at) new) → IsCallCourse f l u j talks records watched real words env old new
+plain_course f l u j talks records watched real words env does places standing left true old at new is begins admitted untouched counted term streams same ran =
+    let ended : Scene → Type 0 = λ (x : Scene). Untouched f.tells f.whole old x × GrowsBy 0 old.files.failed x.files.failed × IsAdmitted records does places.folder left old.locks x.locks (Ok (Plain standing)) × (x.host.term ≡ old.host.term) in
     let still = subst ended (sym (same is).0) (
       record {
         files = untouched.files;
@@ -75,9 +77,10 @@ plain_course f l u j talks records watched real words env does places left true 
       admitted,
       term,
     ) in
-    unrestored does places (record { left = left; begins = begins; admitted = still.2; untouched = still.0; counted = still.1 }) is still.3 (same is).1
-plain_course f l u j talks records watched real words env does places left false old at new is begins admitted untouched counted term streams same ran =
-    without_journal does places at (record { left = left; begins = begins; admitted = admitted; untouched = untouched; counted = counted }) is term streams (ran is)
+    unrestored does places standing (record { left = left; begins = begins; admitted = still.2; untouched = still.0; counted = still.1 }) is still.3 (same is).1
+plain_course f l u j talks records watched real words env does places standing left false old at new is begins admitted untouched counted term streams same ran =
+    let r = ran is in
+    without_journal does places standing at r.0 r.1 (record { left = left; begins = begins; admitted = admitted; untouched = untouched; counted = counted }) is term streams r.2 r.3
 
 -- a call in which a look failed: one that would change manifests ends, and any other is performed
 -- after a warning

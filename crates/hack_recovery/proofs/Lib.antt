@@ -9,3 +9,4 @@ mod StrangerLemmas
 mod TellingLemmas
 mod SaidLemmas
 mod SettledLemmas
+mod CopyLemmas

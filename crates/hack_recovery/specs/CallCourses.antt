@@ -23,6 +23,7 @@ use Rattle.hack_files.specs.declared.fs.Files.{Ghosts as Filing}
 use Rattle.hack_run.specs.Worlds.{IsStatus}
 use Rattle.hack_term.specs.declared.term.Term.{Term}
 use Rattle.hack_words.specs.declared.cli.env.Env.{Env}
+use Rattle.hack_recovery.specs.declared.admit.Standing.{Standing}
 use Rattle.hack_recovery.specs.declared.admit.Way.{Way}
 use Rattle.hack_recovery.specs.declared.admit.Way.TheVariants.{Plain, Guarded}
 use Rattle.hack_words.specs.declared.cli.edits.Edits.{Edits}
@@ -35,14 +36,14 @@ use Rattle.hack_recovery.specs.Admission.{IsAdmitted}
 use Rattle.hack_places.specs.CallPlaces.{ArePlacesOf, PlacesAt, is_left}
 use Rattle.hack_places.specs.FileLooks.{Unchanged}
 use Rattle.hack_base.specs.PathTexts.{join_of}
-use Rattle.hack_places.specs.Folders.{folders, leaves_out, start_at, workspace_from}
-use Rattle.hack_places.specs.LookedPaths.{IsPlaceLook, IsRepositoryLook, IsWorkspaceLook}
+use Rattle.hack_places.specs.Folders.{folders, package_from, start_at, workspace_around}
+use Rattle.hack_places.specs.LookedPaths.{IsPackageLook, IsPlaceLook, IsRepositoryLook, IsWorkspaceLook}
 use Rattle.hack_recovery.specs.FailedFiles.{RefusesThese}
 use Rattle.hack_recovery.specs.GuardEvents.{GuardsView, after_leave, after_start}
 use Rattle.hack_recovery.specs.LockEvents.{LocksView, after_release}
 use Rattle.hack_recovery.specs.Restoring.{KeepsCopy, TakesBack, journal_spot}
 use Rattle.hack_recovery.specs.Scenes.{IsQuiet, IsToldWhy, OneMayFail, Refuses, Scene, Untouched, said_in, scene_with, world_in}
-use Rattle.hack_recovery.specs.Telling.{SaysUnkept, SaysUnrestored, SaysUnseen, SaysUnsure, SaysWatched, Warns}
+use Rattle.hack_recovery.specs.Telling.{SaysStanding, SaysUnkept, SaysUnrestored, SaysUnseen, SaysUnsure, SaysWatched, Warns}
 use Rattle.hack_recovery.specs.Texts.{copy_keeps, copy_left, copy_may_keep, journal_may_stay, journal_stays, stay_text}
 
 -- ---- the beginning
@@ -51,18 +52,21 @@ use Rattle.hack_recovery.specs.Texts.{copy_keeps, copy_left, copy_may_keep, jour
 abbrev pub start_of : Env → Option Name → Name
 start_of env path = start_at path (string_bytes env.current_dir)
 
--- the folder of its workspace: what a guard calls is called there, and needs no manifest that says so
+-- the folders of its package and of its workspace: what a guard calls is called in the workspace's, and needs no
+-- manifest that says so
+abbrev pub package_of : Contents → Env → Option Name → Name
+package_of held env path = if env.by_guard then string_bytes env.current_dir else package_from held (start_of env path)
+
 abbrev pub workspace_of : Contents → Env → Option Name → Name
-workspace_of held env path = if env.by_guard then string_bytes env.current_dir else workspace_from held (start_of env path)
+workspace_of held env path = if env.by_guard then string_bytes env.current_dir else workspace_around held (package_from held (start_of env path))
 
 -- the places of a call that names this manifest, or none, and whether an interrupted call left anything
 -- there; the workspace's folder is known by its path without symbolic links
 pub record ArePlacesFound (tells records : Type 0) (real : Name → Name) (held : Contents) (path : Option Name) (env : Env) (places : PlacesAt) (left : Bool) : Type 0 where
-  pub folder : Name
-  pub found : tells → folder ≡ workspace_of held env path
-  pub is_real : records → places.folder ≡ real folder
+  pub pkg_dir : tells → places.pkg_dir ≡ package_of held env path
+  pub found : tells → places.found ≡ workspace_of held env path
+  pub is_real : records → places.folder ≡ real places.found
   pub are : ArePlacesOf tells held places.folder places
-  pub shared : tells → places.shared ≡ not (leaves_out held folder (start_of env path))
   pub seen : tells → left ≡ is_left held places
 
 -- The call asks for no text and no list of cargo's. What it does to manifests, its places, and whether an interrupted call left
@@ -82,12 +86,17 @@ pub record DecidesHowToGoOn (tells whole records : Type 0) (real : Name → Name
   pub untouched : Untouched tells whole old new
   pub counted : GrowsBy 0 old.files.failed new.files.failed
 
--- a path that is looked at to find the places of a call that names this manifest, or none: on the way up
--- to the workspace's folder, its manifest, on the way from there to its repository, or where an
--- interrupted call may have left something
+-- a path that is looked at to find the folders of a call's package and workspace, unless a guard calls: on the
+-- way up to the package's, or from there to the workspace's
+pub data IsFolderLook (tells : Type 0) (held : Contents) (path : Option Name) (env : Env) (looked : Name) : Type 0 where
+  for_package : env.by_guard ≡ false → IsPackageLook tells held (start_of env path) looked → IsFolderLook tells held path env looked
+  for_workspace : env.by_guard ≡ false → (pkg_dir : Name) → (tells → pkg_dir ≡ package_from held (start_of env path)) → IsWorkspaceLook tells held pkg_dir looked
+      → IsFolderLook tells held path env looked
+
+-- a path that is looked at to find the places of a call that names this manifest, or none: for these folders, on the
+-- way from the workspace's to its repository, or where an interrupted call may have left something
 pub data IsLookedAt (tells records : Type 0) (real : Name → Name) (held : Contents) (path : Option Name) (env : Env) (looked : Name) : Type 0 where
-  for_workspace : env.by_guard ≡ false → IsWorkspaceLook tells held (start_of env path) looked → IsLookedAt tells records real held path env looked
-  for_members : (folder : Name) → (tells → folder ≡ workspace_of held env path) → looked ≡ join_of folder (codes "Cargo.toml") → IsLookedAt tells records real held path env looked
+  for_folders : IsFolderLook tells held path env looked → IsLookedAt tells records real held path env looked
   for_repository : (folder top : Name) → (tells → folder ≡ workspace_of held env path) → (records → top ≡ real folder) → IsRepositoryLook tells held (folders top) looked
       → IsLookedAt tells records real held path env looked
   for_places : (folder : Name) (places : PlacesAt) → (tells → folder ≡ workspace_of held env path) → (records → places.folder ≡ real folder)
@@ -276,11 +285,13 @@ pub data IsCallCourse {F L U J : Type 0} (f : Filing F) (l : Filing L) (u : Noti
   turned_away : (does : Edits) (places : PlacesAt) (fault : CallFault) → DecidesHowToGoOn f.tells f.whole records real words env does places old new (Err fault) → IsToldWhy fault old new
       → IsCallCourse f l u j talks records watched real words env old new
   -- it is to restore, and nothing is left, or another call has the lock: nothing was changed or called
-  unrestored : (does : Edits) (places : PlacesAt) (decides : DecidesHowToGoOn f.tells f.whole records real words env does places old new (Ok Plain)) → is_restore does ≡ true → new.host.term ≡ old.host.term
-      → SaysUnrestored old.host.term.coloring env.by_guard decides.left old.streams.err new.streams.err → IsCallCourse f l u j talks records watched real words env old new
-  -- nothing is to be guarded, or nothing can be: the call is performed without a journal
-  without_journal : (does : Edits) (places : PlacesAt) (at : Scene) → DecidesHowToGoOn f.tells f.whole records real words env does places old at (Ok Plain) → is_restore does ≡ false
-      → at.host.term ≡ old.host.term → at.streams ≡ old.streams → PerformsUnjournaled f talks words env at new → IsCallCourse f l u j talks records watched real words env old new
+  unrestored : (does : Edits) (places : PlacesAt) (standing : Standing) (decides : DecidesHowToGoOn f.tells f.whole records real words env does places old new (Ok (Plain standing))) → is_restore does ≡ true
+      → new.host.term ≡ old.host.term → SaysUnrestored old.host.term.coloring env.by_guard decides.left old.streams.err new.streams.err → IsCallCourse f l u j talks records watched real words env old new
+  -- nothing is to be guarded, or nothing can be: the call is performed without a journal, after it was said whose
+  -- edits may stand
+  without_journal : (does : Edits) (places : PlacesAt) (standing : Standing) (at : Scene) (term : Term) (err : Stream) → DecidesHowToGoOn f.tells f.whole records real words env does places old at (Ok (Plain standing)) → is_restore does ≡ false
+      → at.host.term ≡ old.host.term → at.streams ≡ old.streams → SaysStanding standing old.host.term term old.streams.err err → PerformsUnjournaled f talks words env (scene_with at.files term err at) new
+      → IsCallCourse f l u j talks records watched real words env old new
   -- the lock is this call's
   under_its_lock : (does : Edits) (places : PlacesAt) (at : Scene) → DecidesHowToGoOn f.tells f.whole records real words env does places old at (Ok Guarded) → at.host.term ≡ old.host.term
       → at.streams ≡ old.streams → IsLockedCourse f l u j talks records watched words env does places at new → IsCallCourse f l u j talks records watched real words env old new

@@ -9,9 +9,9 @@ use Rattle.hack_process.specs.Calls.{Call}
 use Rattle.hack_process.specs.declared.caller.Caller.{Ghosts as Calling}
 use Rattle.hack_run.specs.Lanes.{IsLaneCall}
 use Rattle.hack_run.specs.declared.host.Host.{Host}
-use Rattle.hack_start.specs.Started.{GivesStart}
-use Rattle.hack_start.specs.SystemView.{SystemView}
-use Rattle.hack_start.specs.declared.started.Started.{Started}
+use Rattle.hack_recovery.specs.Started.{GivesStart}
+use Rattle.hack_recovery.specs.SystemView.{SystemView}
+use Rattle.hack_recovery.specs.declared.started.Started.{Started}
 use Rattle.hack_starts.specs.Events.{Event}
 use Rattle.hack_words.specs.declared.cli.env.Env.{Env}
 use Rattle.hack_recovery.specs.AskedEdits.{AsksForEdits}

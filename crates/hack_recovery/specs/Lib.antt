@@ -1,3 +1,7 @@
+pub mod SystemView
+pub mod FakeSystemView
+pub mod Started
+pub mod InternalStart
 pub mod AskedEdits
 pub mod LockEvents
 pub mod MemoryLocks

@@ -10,10 +10,10 @@ use Rattle.hack_run.specs.CallTrace.{colored_by}
 use Rattle.hack_files.specs.View.{files_view}
 use Rattle.hack_run.specs.Worlds.{IsStatus}
 use Rattle.hack_session.specs.StepOutput.{streams}
-use Rattle.hack_start.specs.Started.{GivesStart, SetsColoring, auto_coloring_of, start_fault_text}
-use Rattle.hack_start.specs.SystemView.{SystemView}
-use Rattle.hack_start.specs.declared.started.StartFault.{StartFault}
-use Rattle.hack_start.specs.declared.started.Started.{Started}
+use Rattle.hack_recovery.specs.Started.{GivesStart, SetsColoring, auto_coloring_of, start_fault_text}
+use Rattle.hack_recovery.specs.SystemView.{SystemView}
+use Rattle.hack_recovery.specs.declared.started.StartFault.{StartFault}
+use Rattle.hack_recovery.specs.declared.started.Started.{Started}
 use Rattle.hack_term.specs.Lines.{error_line}
 use Rattle.hack_term.specs.declared.term.Coloring.{Coloring}
 use Rattle.hack_term.specs.declared.term.Term.{Term}

@@ -1,5 +1,5 @@
 -- What becomes of what an interrupted call left.
-use Rattle.std.specs.Prelude.{◌≡◌, ◌≢◌, ◌⊎◌, [], ℕ, Bool, true, false, IfErr, List, OnOk, Some, None, Ok, Err, Result, string_bytes, if◌then◌else◌}
+use Rattle.std.specs.Prelude.{◌≡◌, ◌≢◌, ◌⊎◌, [], ℕ, Bool, true, false, IfErr, List, OnOk, Option, Some, None, Ok, Err, Result, codes, string_bytes, if◌then◌else◌}
 use Rattle.std.specs.Option.{option_or}
 use Rattle.hack_base.specs.Counters.{GrowsBy}
 use Rattle.hack_base.specs.Names.{Name}
@@ -18,13 +18,15 @@ use Rattle.hack_files.specs.View.{FilesView}
 use Rattle.hack_term.specs.declared.term.Coloring.{Coloring}
 use Rattle.hack_term.specs.declared.term.Term.{Term}
 use Rattle.hack_words.specs.declared.cli.env.Env.{Env}
+use Rattle.hack_base.specs.PathTexts.{join_of}
 use Rattle.hack_places.specs.CallPlaces.{PlacesAt}
+use Rattle.hack_places.specs.Folders.{leaves_out}
 use Rattle.hack_places.specs.FileLooks.{Unchanged}
 use Rattle.hack_recovery.specs.FailedFiles.{FailsBetween, OneFailedAt}
 use Rattle.hack_recovery.specs.Scenes.{IsQuiet, OneMayFail, Scene, scene_with}
 use Rattle.hack_recovery.specs.Telling.{SaysFault, SaysRestored, SaysSettling, SaysStranger, SaysUncopied, Tells}
 use Rattle.hack_recovery.specs.declared.fault.CallFault.{CallFault}
-use Rattle.hack_recovery.specs.declared.fault.CallFault.TheVariants.{Memory, Busy, Unlocked}
+use Rattle.hack_recovery.specs.declared.fault.CallFault.TheVariants.{Memory, Busy, NoCopy, Unlocked}
 
 -- ---- a journal
 
@@ -84,27 +86,42 @@ pub data Restores {F : Type 0} (f : Filing F) (spot : Spot) (dir : Name) (old ne
 -- ---- the copy of the lockfile
 
 module _ {F L : Type 0} (f : Filing F) (l : Filing L) (places : PlacesAt) where
-  -- why it isn't copied, also where memory was refused: the lockfile was left unseen, or the write of the
-  -- copy was refused
-  abbrev pub IsWhyUncopied : ℕ → ℕ → ℕ → ℕ → CallFault → Type 0
-  IsWhyUncopied before now first last Busy = ⊥
-  IsWhyUncopied before now first last Unlocked = ⊥
-  IsWhyUncopied before now first last fault = (GrowsBy 1 first last × IsUnseen l places.lockfile) ⊎ (GrowsBy 1 before now × IsRefused f places.copy)
+  -- one call failed, at this path: the lockfile was left unseen, the write of the copy was refused, or the
+  -- manifest was left unseen that says whether the lockfile is that of the call's package
+  abbrev pub FailsToCopy : Name → ℕ → ℕ → ℕ → ℕ → Type 0
+  FailsToCopy path before now first last =
+      ((path ≡ places.lockfile) × GrowsBy 1 first last × IsUnseen l path)
+      ⊎ (((path ≡ places.copy) × GrowsBy 1 before now × IsRefused f path) ⊎ ((path ≡ join_of places.found (codes "Cargo.toml")) × GrowsBy 1 before now × IsUnseen f path))
 
-  -- the lockfile was copied, if there is one and it is that of the call's package, no other file is changed,
-  -- and no call failed; where it isn't done, there is a cause, and at most the copy is changed, and then it
-  -- has what that lockfile holds
+  -- why the lockfile isn't copied; where memory was refused, also a look at that manifest may have failed
+  abbrev pub IsWhyUncopied : Name → ℕ → ℕ → ℕ → ℕ → CallFault → Type 0
+  IsWhyUncopied path before now first last Memory = FailsToCopy path before now first last ⊎ (OneMayFail before now × GrowsBy 0 first last)
+  IsWhyUncopied path before now first last Busy = ⊥
+  IsWhyUncopied path before now first last Unlocked = ⊥
+  IsWhyUncopied path before now first last NoCopy = FailsToCopy path before now first last
+
+  -- nothing is said where it is copied, or need not be; else why it isn't, with the path that failed
+  abbrev pub EndsCopying : Coloring → ℕ → ℕ → ℕ → ℕ → Result (Unit {0}) CallFault → Stream → Stream → Type 0
+  EndsCopying coloring before now first last (Ok done) old new = new ≡ old
+  EndsCopying coloring before now first last (Err fault) old new = (path : Name) × IsWhyUncopied path before now first last fault × SaysUncopied coloring path fault old new
+
+  -- what the lockfile's copy is to hold: what the lockfile does, if there is one, unless the workspace leaves out the
+  -- call's package, which has a lockfile of its own; else what it held
+  abbrev pub copy_of : Contents → Contents → Option (List ℕ)
+  copy_of held lockfiles = if leaves_out held places.found places.pkg_dir then held places.copy else option_or (lockfiles places.lockfile) (held places.copy)
+
+  -- the lockfile was copied, no other file is changed, and no call failed; where it isn't done, there is a cause,
+  -- and at most the copy is changed, and then it has what that lockfile holds
   pub record KeepsCopy (came : Result (Unit {0}) CallFault) (old new : Scene) : Type 0 where
-    pub copied : OnOk came (f.tells → l.tells → new.files.held places.copy ≡ (if places.shared then option_or (old.lockfiles.held places.lockfile) (old.files.held places.copy) else old.files.held places.copy))
-    pub why : IfErr came (IsWhyUncopied old.files.failed new.files.failed old.lockfiles.failed new.lockfiles.failed)
+    pub copied : OnOk came (f.tells → l.tells → new.files.held places.copy ≡ copy_of old.files.held old.lockfiles.held)
     pub others : f.tells → KeepsOthers places.copy old.files.held new.files.held
     pub counted : OnOk came (GrowsBy 0 old.files.failed new.files.failed × GrowsBy 0 old.lockfiles.failed new.lockfiles.failed)
     pub failed : OneMayFail old.files.failed new.files.failed × OneMayFail old.lockfiles.failed new.lockfiles.failed
     pub made : f.whole → Makes [] old.files.trace new.files.trace old.files.held new.files.held
-        ⊎ ((bytes : Name) × (places.shared ≡ true) × (l.tells → old.lockfiles.held places.lockfile ≡ Some bytes) × MakesOrNot (puts places.copy bytes) old.files.trace new.files.trace old.files.held new.files.held)
+        ⊎ ((bytes : Name) × (f.tells → leaves_out old.files.held places.found places.pkg_dir ≡ false) × (l.tells → old.lockfiles.held places.lockfile ≡ Some bytes) × MakesOrNot (puts places.copy bytes) old.files.trace new.files.trace old.files.held new.files.held)
     pub same : Unchanged l.tells l.whole old.lockfiles new.lockfiles
     pub host : new.host ≡ old.host
-    pub said : SaysUncopied old.host.term.coloring came old.streams.err new.streams.err
+    pub ends : EndsCopying old.host.term.coloring old.files.failed new.files.failed old.lockfiles.failed new.lockfiles.failed came old.streams.err new.streams.err
     pub quiet : IsQuiet old new
 
   -- the copy is gone, no other file is changed, and no call failed; the guard gives the lockfile what the

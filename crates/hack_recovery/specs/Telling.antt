@@ -13,7 +13,9 @@ use Rattle.hack_journal.specs.declared.recover.RecoverFault.{RecoverFault}
 use Rattle.hack_journal.specs.declared.recover.RecoverFault.TheVariants as unrecovered
 use Rattle.hack_places.specs.CallPlaces.{PlacesAt}
 use Rattle.hack_recovery.specs.FailedFiles.{OneFailedAt}
-use Rattle.hack_recovery.specs.Texts.{left_text, restored_text, row_text, short_unsure_text, stranger_text, short_unkept_text, unkept_text, unknown_text, unrestored_text, unseen_text, unsettled_text, unsure_text, unwatched_text}
+use Rattle.hack_recovery.specs.declared.admit.Standing.{Standing}
+use Rattle.hack_recovery.specs.declared.admit.Standing.TheVariants.{Nobodys, Anothers, Interrupted}
+use Rattle.hack_recovery.specs.Texts.{beside_text, left_text, restored_text, row_text, short_unsure_text, stranger_text, short_unkept_text, unkept_text, unknown_text, unlocked_text, unrestored_text, unseen_text, unsettled_text, unsure_text, unwatched_text}
 use Rattle.hack_recovery.specs.declared.fault.CallFault.{CallFault}
 use Rattle.hack_recovery.specs.declared.fault.CallFault.TheVariants.{Memory, Busy, Unlocked, NoCopy}
 use Rattle.hack_term.specs.Lines.{error_line, info_line, warning_line}
@@ -31,6 +33,13 @@ Tells was now (Err fault) = (fault ≡ Memory) × (now ≡ was)
 abbrev pub SaysOrStarves : {T : Type 0} → List ℕ → Result T CallFault → Stream → Stream → Type 0
 SaysOrStarves line (Ok done) old new = WritesText line old new
 SaysOrStarves line (Err fault) old new = new ≡ old
+
+-- whose edits may stand while a call goes on: one of another call is told, and a warning given of those of an
+-- interrupted one
+abbrev pub SaysStanding : Standing → Term → Term → Stream → Stream → Type 0
+SaysStanding Nobodys was now old new = (now ≡ was) × (new ≡ old)
+SaysStanding Anothers was now old new = (now ≡ was) × WritesText (info_line was.coloring beside_text) old new
+SaysStanding Interrupted was now old new = (now ≡ record was { warn = true }) × WritesText (warning_line was.coloring unlocked_text) old new
 
 -- ---- a journal
 
@@ -69,13 +78,13 @@ SaysRestored coloring dir paths (Err refused) old new = (k : ℕ) × (k < length
 
 -- ---- the lockfile and its copy
 
--- why it isn't copied: the system's words, where a file failed
-abbrev pub SaysUncopied : Coloring → Result (Unit {0}) CallFault → Stream → Stream → Type 0
-SaysUncopied coloring (Ok done) old new = new ≡ old
-SaysUncopied coloring (Err Memory) old new = new ≡ old
-SaysUncopied coloring (Err Busy) old new = ⊥
-SaysUncopied coloring (Err Unlocked) old new = ⊥
-SaysUncopied coloring (Err NoCopy) old new = SaysReason coloring old new
+-- why it isn't copied: the system's words, and the path that failed, unless memory is refused for that
+abbrev pub SaysUncopied : Coloring → Name → CallFault → Stream → Stream → Type 0
+SaysUncopied coloring path Memory old new = new ≡ old
+SaysUncopied coloring path Busy old new = ⊥
+SaysUncopied coloring path Unlocked old new = ⊥
+SaysUncopied coloring path NoCopy old new =
+    (mid : Stream) × SaysReason coloring old mid × (WritesText (info_line coloring (unsettled_text path)) mid new ⊎ (new ≡ mid))
 
 -- a call at this path failed: the system's words, and the error, unless memory was refused for it
 abbrev pub SaysFailed : Coloring → Name → Result Bool CallFault → Stream → Stream → Type 0

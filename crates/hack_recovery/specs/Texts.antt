@@ -25,6 +25,14 @@ unsure_text path = codes "failed to read from file `" ++ (path ++ codes "`: edit
 abbrev pub short_unsure_text : Name
 short_unsure_text = codes "edits of an interrupted call may stand"
 
+-- another call edits manifests meanwhile
+abbrev pub beside_text : Name
+beside_text = codes "another call is editing the manifests of this workspace: this one sees its edits"
+
+-- edits may stand of an interrupted call, and nobody restores them
+abbrev pub unlocked_text : Name
+unlocked_text = codes "edits of an interrupted call may stand: the folder of the workspace can't be locked"
+
 -- why nothing is restored, by whether something is left
 abbrev pub unrestored_text : Bool → Name
 unrestored_text true = codes "another call is editing the manifests of this workspace, and restores them"

@@ -12,9 +12,19 @@ use std::alloc::Global;
 #[derive(Clone, Copy, Debug, PartialEq, Eq)]
 pub enum Way {
     /// Without a journal, and without looking at what an interrupted call left.
-    Plain,
+    Plain(Standing),
     /// Under its own lock of the workspace's folder.
     Guarded,
+}
+
+/// Whose edits may stand while a call goes on without a journal.
+#[derive(Clone, Copy, Debug, PartialEq, Eq)]
+pub enum Standing {
+    Nobodys,
+    /// Those of another call, which has the lock and restores them.
+    Anothers,
+    /// Those of an interrupted call: it left something, and the folder can't be locked.
+    Interrupted,
 }
 
 /// How a call may go on that does this to manifests, where an interrupted call of its workspace left
@@ -30,7 +40,7 @@ pub fn admit<K: Locks>(
         (K.shown locks.old) (K.shown locks.new) result }
 {
     if !needs_lock(edits, is_left) {
-        return Ok(Way::Plain);
+        return Ok(Way::Plain(Standing::Nobodys));
     }
     let holder = locks.take(alloc, folder)?;
     decided(edits, is_left, holder)
@@ -53,14 +63,17 @@ fn decided(edits: Edits, is_left: bool, holder: Holder) -> Result<Way, CallFault
             if edits.is_edit() {
                 return Err(CallFault::Busy);
             }
-            Ok(Way::Plain)
+            Ok(Way::Plain(Standing::Anothers))
         }
         // Without a lock a journal of this call would be useless.
         Holder::Unknown => {
-            if edits.is_change() && is_left {
+            if !is_left {
+                return Ok(Way::Plain(Standing::Nobodys));
+            }
+            if edits.is_change() {
                 return Err(CallFault::Unlocked);
             }
-            Ok(Way::Plain)
+            Ok(Way::Plain(Standing::Interrupted))
         }
     }
 }

@@ -7,11 +7,10 @@ ghost use Rattle.hack_base.specs.Counters.{GrowsBy};
 ghost use Rattle.hack_base.specs.Names.{names_of, optional_text};
 ghost use Rattle.hack_files.specs.Files.{KeepsAll, Makes};
 ghost use Rattle.hack_journal.specs.Rows.{spot_of};
-ghost use Rattle.hack_recovery.specs.CallCourses.{ArePlacesFound, Begins, IsLookedAt, start_of};
-ghost use Rattle.hack_recovery.specs.CallCourses.{workspace_of};
+ghost use Rattle.hack_recovery.specs.CallCourses.{ArePlacesFound, Begins, IsFolderLook};
+ghost use Rattle.hack_recovery.specs.CallCourses.{IsLookedAt, package_of, workspace_of};
 ghost use Rattle.hack_places.specs.FileLooks.{AreLooksCounted, AreLooksSeen, IsOfLooked};
 ghost use Rattle.hack_recovery.specs.InternalHalts.{IsHalt};
-ghost use Rattle.hack_places.specs.LookedPaths.{IsWorkspaceLook};
 ghost use Rattle.hack_places.specs.PlacesView.{places_view};
 ghost use Rattle.hack_run.specs.Readings.{IsEarlyReading};
 ghost use Rattle.hack_files.specs.View.{files_view};
@@ -23,7 +22,7 @@ use hack_files::fs::Files;
 use hack_journal::place::JournalPlace;
 use hack_places::look::LookFault;
 use hack_places::places::{Places, place_at};
-use hack_places::workspace::{leaves_out, workspace};
+use hack_places::workspace::{package_dir, workspace};
 use hack_run::reading::Reading;
 use hack_words::cli::{Edits, Env};
 use std::alloc::{AllocError, Global};
@@ -134,38 +133,51 @@ fn find<F: Files, K: Locks>(
         (F.bytes_at files.old) (F.bytes_at files.new) }
 {
     let named = text_in(&asked.manifest_path);
-    let dir = env.current_dir.as_str();
-    let found = folder_of(alloc, named, env, files)?;
-    let is_out = leaves_out(alloc, found.as_str(), named, dir, files)?;
-    let folder = locks.real(alloc, found.as_str())?;
-    let places = Places::of(alloc, folder.as_str(), !is_out, files)?;
+    let folders = folders_of(alloc, named, env, files)?;
+    let folder = locks.real(alloc, folders.found.as_str())?;
+    let Folders { pkg_dir, found } = folders;
+    let places = Places::of(alloc, found, pkg_dir, folder.as_str(), files)?;
     let is_left = places.is_left(alloc, files)?;
     Ok(Found { places, is_left })
 }
 
-/// The folder of the workspace. What a guard calls is called there, so that it also finds the journal
-/// where the workspace's manifest was cut or is reached by a link.
-#[tactic(auto, using(hack_files::proofs::FilesLemmas::trace_steps))]
-fn folder_of<F: Files>(
+/// The folders of a call's package and of its workspace.
+#[derive(Drop)]
+struct Folders {
+    pkg_dir: String,
+    found: String,
+}
+
+/// The folders of the package and of the workspace. What a guard calls is called in the workspace's, so that it
+/// also finds the journal where the workspace's manifest was cut or is reached by a link.
+#[tactic(auto, using(hack_places::proofs::LookLemmas::look_steps))]
+fn folders_of<F: Files>(
     alloc: Global,
     named: Option<&str>,
     env: &Env,
     files: &mut F,
-) -> Result<String, LookFault>
-    ensures found { IfOk result (λ folder. F.tells → string_bytes folder ≡ workspace_of
-        (F.bytes_at files.old) env.now (option_map (λ path. path.now) named.entry)) }
+) -> Result<Folders, LookFault>
+    ensures found { IfOk result (λ folders. F.tells
+        → (string_bytes folders.pkg_dir ≡ package_of (F.bytes_at files.old) env.now
+        (option_map (λ path. path.now) named.entry))
+        × (string_bytes folders.found ≡ workspace_of (F.bytes_at files.old) env.now
+        (option_map (λ path. path.now) named.entry))) }
     ensures counted { AreLooksCounted (F.failed files.old) (F.failed files.new) result }
     ensures seen { AreLooksSeen F.Files files.old files.new result }
-    ensures looked { IfErr result (IsOfLooked (λ looked. (env.now.by_guard ≡ false)
-        × IsWorkspaceLook F.tells (F.bytes_at files.old)
-        (start_of env.now (option_map (λ path. path.now) named.entry)) looked)) }
+    ensures looked { IfErr result (IsOfLooked (IsFolderLook F.tells (F.bytes_at files.old)
+        (option_map (λ path. path.now) named.entry) env.now)) }
     ensures same { F.tells → KeepsAll (F.bytes_at files.old) (F.bytes_at files.new) }
     ensures untraced { F.whole → Makes [] (F.trace files.old) (F.trace files.new)
         (F.bytes_at files.old) (F.bytes_at files.new) }
 {
     let dir = env.current_dir.as_str();
     if env.by_guard {
-        return Ok(String::from_str(alloc, dir)?);
+        return Ok(Folders {
+            pkg_dir: String::from_str(alloc, dir)?,
+            found: String::from_str(alloc, dir)?,
+        });
     }
-    workspace(alloc, named, dir, files)
+    let pkg_dir = package_dir(alloc, named, dir, files)?;
+    let found = workspace(alloc, pkg_dir.as_str(), files)?;
+    Ok(Folders { pkg_dir, found })
 }

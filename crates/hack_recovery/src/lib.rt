@@ -1,6 +1,6 @@
-//! A whole call that restores first what an interrupted one left, and keeps a journal while it
-//! edits, under the eyes of a guard: which calls are journaled, who may use a journal, and what it
-//! may tell.
+//! All that the program does: it reads what the system gives a call, restores first what an
+//! interrupted one left, and keeps a journal while it edits, under the eyes of a guard: which calls
+//! are journaled, who may use a journal, and what it may tell.
 #![tactic(auto)]
 
 pub mod admit;
@@ -15,5 +15,7 @@ mod lockfile;
 pub mod locks;
 pub mod perform;
 mod restore;
+pub mod started;
+pub mod system;
 mod unjournaled;
 mod unseen;

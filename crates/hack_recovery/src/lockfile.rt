@@ -14,9 +14,10 @@ ghost use Rattle.hack_files.specs.Files.{CountsFailedCall, KeepsAll, KeepsOthers
 ghost use Rattle.hack_files.specs.Files.{MakesOrNot, puts, removes};
 ghost use Rattle.hack_journal.specs.FailedCalls.{FailsUnseenAt};
 ghost use Rattle.hack_journal.specs.Refusing.{IsRefused};
+ghost use Rattle.hack_places.specs.Folders.{leaves_out};
 ghost use Rattle.hack_places.specs.PlacesView.{places_view};
 ghost use Rattle.hack_recovery.specs.FailedFiles.{OneFailedAt};
-ghost use Rattle.hack_recovery.specs.Restoring.{IsWhyUncopied};
+ghost use Rattle.hack_recovery.specs.Restoring.{EndsCopying, copy_of};
 ghost use Rattle.hack_recovery.specs.Scenes.{OneMayFail};
 ghost use Rattle.hack_recovery.specs.Telling.{SaysFailed, SaysIfNotDone, SaysOfLockfile};
 ghost use Rattle.hack_recovery.specs.Telling.{SaysSettling, SaysUncopied, Tells};
@@ -33,14 +34,16 @@ use hack_files::fs::{FileFault, Files};
 use hack_files::reason::tell_reason;
 use hack_journal::contents::look;
 use hack_journal::entries::same;
+use hack_places::look::LookFault;
 use hack_places::places::Places;
+use hack_places::workspace::leaves_out;
 use hack_process::process::Caller;
 use hack_run::host::Host;
 use hack_term::term::Term;
 use std::alloc::Global;
 
-/// Copies the lockfile, if there is one and it is that of the call's package. Where that can't be done,
-/// the system's reason is reported.
+/// Copies the lockfile, if there is one, unless the workspace leaves out the call's package. Where that can't be
+/// done, the system's reason is reported, and the path.
 #[tactic(auto, using(crate::proofs::CountLemmas::counts))]
 pub(crate) fn keep_copy<F: Files, L: Files, E: Sink>(
     alloc: Global,
@@ -52,13 +55,12 @@ pub(crate) fn keep_copy<F: Files, L: Files, E: Sink>(
 ) -> Result<(), CallFault>
     ensures copied { OnOk result (F.tells → L.tells
         → F.bytes_at files.new (string_bytes places.now.copy)
-        ≡ (if places.now.is_shared
-        then option_or (L.bytes_at lockfiles.old (string_bytes places.now.lockfile))
-        (F.bytes_at files.old (string_bytes places.now.copy))
-        else F.bytes_at files.old (string_bytes places.now.copy))) }
-    ensures why { IfErr result (IsWhyUncopied F.Files L.Files (places_view places.now)
+        ≡ copy_of F.Files L.Files (places_view places.now)
+        (F.bytes_at files.old) (L.bytes_at lockfiles.old)) }
+    ensures ends { EndsCopying F.Files L.Files (places_view places.now) term.now.coloring
         (F.failed files.old) (F.failed files.new)
-        (L.failed lockfiles.old) (L.failed lockfiles.new)) }
+        (L.failed lockfiles.old) (L.failed lockfiles.new) result
+        (stream_of E.Sink err.old) (stream_of E.Sink err.new) }
     ensures counted { OnOk result (GrowsBy 0 (F.failed files.old) (F.failed files.new)) }
     ensures lockfiles_counted { OnOk result
         (GrowsBy 0 (L.failed lockfiles.old) (L.failed lockfiles.new)) }
@@ -68,47 +70,104 @@ pub(crate) fn keep_copy<F: Files, L: Files, E: Sink>(
         (F.bytes_at files.old) (F.bytes_at files.new) }
     ensures made { F.whole → Makes [] (F.trace files.old) (F.trace files.new)
         (F.bytes_at files.old) (F.bytes_at files.new)
-        ⊎ ((bytes : Name) × (places.now.is_shared ≡ true) × (L.tells → L.bytes_at lockfiles.old
+        ⊎ ((bytes : Name) × (F.tells → leaves_out (F.bytes_at files.old)
+        (string_bytes places.now.found) (string_bytes places.now.pkg_dir) ≡ false)
+        × (L.tells → L.bytes_at lockfiles.old
         (string_bytes places.now.lockfile) ≡ Some bytes)
         × MakesOrNot (puts (string_bytes places.now.copy) bytes)
         (F.trace files.old) (F.trace files.new) (F.bytes_at files.old) (F.bytes_at files.new)) }
     ensures same { L.tells → KeepsAll (L.bytes_at lockfiles.old) (L.bytes_at lockfiles.new) }
     ensures untraced { L.whole → Makes [] (L.trace lockfiles.old) (L.trace lockfiles.new)
         (L.bytes_at lockfiles.old) (L.bytes_at lockfiles.new) }
-    ensures said { SaysUncopied term.now.coloring result
-        (stream_of E.Sink err.old) (stream_of E.Sink err.new) }
 {
-    if !places.is_shared {
-        return Ok(());
-    }
-    match look(alloc, lockfiles, places.lockfile.as_str()) {
-        Ok(None) => Ok(()),
-        Ok(Some(bytes)) => match files.write(places.copy.as_str(), &bytes) {
-            Ok(()) => Ok(()),
-            Err(fault) => Err(copy_fault(alloc, fault, files, term, err)),
-        },
-        Err(fault) => Err(copy_fault(alloc, fault, lockfiles, term, err)),
+    match leaves_out(alloc, places.found.as_str(), places.pkg_dir.as_str(), files) {
+        Ok(true) => Ok(()),
+        Ok(false) => copy_lockfile(alloc, places, files, lockfiles, term, err),
+        Err(LookFault::Memory) => Err(CallFault::Memory),
+        Err(LookFault::Device(path)) => {
+            tell_uncopied(alloc, path.as_str(), files, term, err);
+            Err(CallFault::NoCopy)
+        }
     }
 }
 
-/// Reports why these files failed, and returns why the call isn't performed.
+/// Copies the lockfile, if there is one.
+#[tactic(auto, using(crate::proofs::CountLemmas::counts))]
+fn copy_lockfile<F: Files, L: Files, E: Sink>(
+    alloc: Global,
+    places: &Places,
+    files: &mut F,
+    lockfiles: &mut L,
+    term: &Term,
+    err: &mut E,
+) -> Result<(), CallFault>
+    ensures copied { OnOk result (F.tells → L.tells
+        → F.bytes_at files.new (string_bytes places.now.copy)
+        ≡ option_or (L.bytes_at lockfiles.old (string_bytes places.now.lockfile))
+        (F.bytes_at files.old (string_bytes places.now.copy))) }
+    ensures ends { EndsCopying F.Files L.Files (places_view places.now) term.now.coloring
+        (F.failed files.old) (F.failed files.new)
+        (L.failed lockfiles.old) (L.failed lockfiles.new) result
+        (stream_of E.Sink err.old) (stream_of E.Sink err.new) }
+    ensures counted { OnOk result (GrowsBy 0 (F.failed files.old) (F.failed files.new)) }
+    ensures lockfiles_counted { OnOk result
+        (GrowsBy 0 (L.failed lockfiles.old) (L.failed lockfiles.new)) }
+    ensures failed { OneMayFail (F.failed files.old) (F.failed files.new) }
+    ensures lockfiles_failed { OneMayFail (L.failed lockfiles.old) (L.failed lockfiles.new) }
+    ensures others { F.tells → KeepsOthers (string_bytes places.now.copy)
+        (F.bytes_at files.old) (F.bytes_at files.new) }
+    ensures made { F.whole → Makes [] (F.trace files.old) (F.trace files.new)
+        (F.bytes_at files.old) (F.bytes_at files.new)
+        ⊎ ((bytes : Name) × (L.tells → L.bytes_at lockfiles.old
+        (string_bytes places.now.lockfile) ≡ Some bytes)
+        × MakesOrNot (puts (string_bytes places.now.copy) bytes)
+        (F.trace files.old) (F.trace files.new) (F.bytes_at files.old) (F.bytes_at files.new)) }
+    ensures same { L.tells → KeepsAll (L.bytes_at lockfiles.old) (L.bytes_at lockfiles.new) }
+    ensures untraced { L.whole → Makes [] (L.trace lockfiles.old) (L.trace lockfiles.new)
+        (L.bytes_at lockfiles.old) (L.bytes_at lockfiles.new) }
+{
+    let lockfile = places.lockfile.as_str();
+    let copy = places.copy.as_str();
+    match look(alloc, lockfiles, lockfile) {
+        Ok(None) => Ok(()),
+        Ok(Some(bytes)) => match files.write(copy, &bytes) {
+            Ok(()) => Ok(()),
+            Err(fault) => Err(copy_fault(alloc, copy, fault, files, term, err)),
+        },
+        Err(fault) => Err(copy_fault(alloc, lockfile, fault, lockfiles, term, err)),
+    }
+}
+
+/// Reports why these files failed at a path, and returns why the call isn't performed.
 fn copy_fault<F: Files, E: Sink>(
     alloc: Global,
+    path: &str,
     fault: FileFault,
     files: &F,
     term: &Term,
     err: &mut E,
 ) -> CallFault
     ensures fault { (result ≡ CallFault.Memory) ⊎ (result ≡ CallFault.NoCopy) }
-    ensures said { SaysUncopied term.now.coloring (Err result)
+    ensures said { SaysUncopied term.now.coloring path.now result
         (stream_of E.Sink err.old) (stream_of E.Sink err.new) }
 {
     match fault {
         FileFault::Memory => CallFault::Memory,
         FileFault::Device => {
-            tell_reason(alloc, files, term, err);
+            tell_uncopied(alloc, path, files, term, err);
             CallFault::NoCopy
         }
+    }
+}
+
+/// Says why these files failed, and at which path.
+fn tell_uncopied<F: Files, E: Sink>(alloc: Global, path: &str, files: &F, term: &Term, err: &mut E)
+    ensures { SaysUncopied term.now.coloring path.now CallFault.NoCopy
+        (stream_of E.Sink err.old) (stream_of E.Sink err.new) }
+{
+    tell_reason(alloc, files, term, err);
+    if let Ok(text) = format!(in alloc; "failed to read or write file `{path}`") {
+        let _ = term.info(&text, err);
     }
 }
 

@@ -4,7 +4,7 @@
 ghost use Rattle.std.specs.Prelude.{◌≡◌, ◌↔◌, ℕ, IfSome, IsTrue, Ok, false, not, string_bytes};
 ghost use Rattle.std.specs.Prelude.{true};
 ghost use Rattle.hack_base.specs.Names.{names_of};
-ghost use Rattle.hack_base.specs.Streams.{stream_of};
+ghost use Rattle.hack_base.specs.Streams.{Stream, stream_of};
 ghost use Rattle.hack_journal.specs.Rows.{spot_of};
 ghost use Rattle.hack_journaled.specs.Journals.{contents_seen};
 ghost use Rattle.hack_words.specs.Edits.{is_restore};
@@ -16,15 +16,15 @@ ghost use Rattle.hack_recovery.specs.LaneCalls.{AreItsPlaces, AsksToRestore, Hos
 ghost use Rattle.hack_recovery.specs.LockEvents.{LocksView};
 ghost use Rattle.hack_places.specs.PlacesView.{places_view};
 ghost use Rattle.hack_recovery.specs.Restoring.{TakesBack};
-ghost use Rattle.hack_recovery.specs.Scenes.{Refuses, scene_beside, scene_of};
-ghost use Rattle.hack_recovery.specs.Telling.{SaysUnrestored, SaysWatched};
+ghost use Rattle.hack_recovery.specs.Scenes.{Refuses, scene_beside, scene_of, scene_with};
+ghost use Rattle.hack_recovery.specs.Telling.{SaysStanding, SaysUnrestored, SaysWatched};
 ghost use Rattle.hack_recovery.specs.Texts.{unrestored_text as text_of_unrestored};
 ghost use Rattle.hack_run.specs.Lanes.{IsLaneCall};
 ghost use Rattle.hack_run.specs.Readings.{IsEarlyReading};
 ghost use Rattle.hack_files.specs.View.{FilesView, files_view};
 ghost use Rattle.hack_run.specs.Worlds.{IsSameHost, IsStatus, host_view};
 
-use crate::admit::{Way, admit};
+use crate::admit::{Standing, Way, admit};
 use crate::begin::{Begun, Halt, begin};
 use crate::closing::{close, tell_unkept};
 use crate::fault::CallFault;
@@ -114,8 +114,8 @@ pub fn perform<
         begun.is_left,
         &mut keepers.locks,
     ) {
-        Ok(Way::Plain) => {
-            let status = plainly(words, begun, &mut files, host);
+        Ok(Way::Plain(standing)) => {
+            let status = plainly(words, begun, standing, &mut files, host);
             (status, files, lockfiles, unkept)
         }
         Ok(Way::Guarded) => guarded(words, begun, files, lockfiles, unkept, keepers, host),
@@ -142,10 +142,12 @@ fn report<C: Caller, O: Sink, E: Sink>(fault: CallFault, host: &mut Host<'_, C, 
     host.status()
 }
 
-/// Performs a call without a journal. Where it is to restore, there is nothing that it may.
+/// Performs a call without a journal, after it is said whose edits may stand. Where it is to restore, there is
+/// nothing that it may.
 fn plainly<F: Files, C: Starts, O: Sink, E: Sink>(
     words: &[String],
     begun: Begun,
+    standing: Standing,
     files: &mut F,
     host: &mut Host<'_, C, O, E>,
 ) -> u8
@@ -159,13 +161,15 @@ fn plainly<F: Files, C: Starts, O: Sink, E: Sink>(
     ensures said { is_restore begun.edits ≡ true
         → SaysUnrestored host.old.term.now.coloring host.old.env.now.by_guard begun.is_left
         (stream_of E.Sink host.old.err.now) (stream_of E.Sink host.new.err.now) }
-    ensures runs { is_restore begun.edits ≡ false → (lockfiles : FilesView) (unkept : ℕ)
-        (locks : LocksView) (guards : GuardsView) → PerformsUnjournaled F.Files C.tells
-        (names_of words.now) host.old.env.now
+    ensures runs { is_restore begun.edits ≡ false → (term : Term) × (err : Stream)
+        × SaysStanding standing host.old.term.now term (stream_of E.Sink host.old.err.now) err
+        × ((lockfiles : FilesView) (unkept : ℕ) (locks : LocksView) (guards : GuardsView)
+        → PerformsUnjournaled F.Files C.tells (names_of words.now) host.old.env.now
+        (scene_with (files_view F.Files files.old) term err
         (scene_beside C.Caller O.Sink E.Sink (files_view F.Files files.old) lockfiles unkept
-        locks guards host.old)
+        locks guards host.old))
         (scene_beside C.Caller O.Sink E.Sink (files_view F.Files files.new) lockfiles unkept
-        locks guards host.new) }
+        locks guards host.new)) }
     ensures still { is_restore begun.edits ≡ true
         → (host.new.caller.now ≡ host.old.caller.now) × (host.new.out.now ≡ host.old.out.now) }
     ensures in_lanes { is_restore begun.edits ≡ false → IsLaneCall C.did C.course C.tells C.calls
@@ -176,7 +180,28 @@ fn plainly<F: Files, C: Starts, O: Sink, E: Sink>(
         tell_unrestored(host.env.by_guard, begun.is_left, host.term, host.err);
         return host.status();
     }
+    tell_standing(standing, host.term, host.err);
     unjournaled(words, begun.reading, files, host)
+}
+
+/// Says whose edits may stand while the call goes on.
+fn tell_standing<E: Sink>(standing: Standing, term: &mut Term, err: &mut E)
+    ensures { SaysStanding standing term.old term.new
+        (stream_of E.Sink err.old) (stream_of E.Sink err.new) }
+{
+    match standing {
+        Standing::Nobodys => {}
+        Standing::Anothers => {
+            let text =
+                "another call is editing the manifests of this workspace: this one sees its edits";
+            let _ = term.info(text, err);
+        }
+        Standing::Interrupted => {
+            let text =
+                "edits of an interrupted call may stand: the folder of the workspace can't be locked";
+            let _ = term.warn(text, err);
+        }
+    }
 }
 
 /// Says why nothing is restored, unless the guard calls.

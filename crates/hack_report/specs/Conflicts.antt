@@ -41,7 +41,7 @@ names_at candidates positions = flat_map (λ position. slice_index_or candidates
 
 -- the names of a set, with commas between them, or in words what was built for it
 abbrev pub build_text : Bool → List (List Name) → Build → List ℕ
-build_text plain candidates NoFeatures = if plain then codes "its default features" else codes "no feature at all"
+build_text plain candidates NoFeatures = if plain then codes "the package as it is: it has no feature to choose" else codes "no feature at all"
 build_text plain candidates AllFeatures = codes "all features"
 build_text plain candidates (Set positions) = join_by (λ name. name) (codes ",") (names_at candidates positions.items)
 

@@ -276,7 +276,10 @@ impl<'a> About<'a> {
             ≡ build_text self.entry.plain (groups_of self.entry.candidates.now) set.now) }
     {
         match set {
-            Build::NoFeatures if self.plain => String::from_str(self.alloc, "its default features"),
+            Build::NoFeatures if self.plain => String::from_str(
+                self.alloc,
+                "the package as it is: it has no feature to choose",
+            ),
             Build::NoFeatures => String::from_str(self.alloc, "no feature at all"),
             Build::AllFeatures => String::from_str(self.alloc, "all features"),
             Build::Set(positions) => {

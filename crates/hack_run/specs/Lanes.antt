@@ -32,9 +32,17 @@ use Rattle.hack_side.specs.Turns.{RunsAll, RunsSerially}
 abbrev pub target_folder : ContextRecord → Name
 target_folder cx = unwrap_or cx.metadata.target_directory (cx.metadata.workspace_root ++ codes "/target")
 
--- a word names the folder that cargo builds into, or the next word does
+-- a word is the option for the folder that cargo builds into
+abbrev pub is_target_option : Name → Bool
+is_target_option word = bytes_eq word (codes "--target-dir") || starts_with nat_eq word (codes "--target-dir=")
+
+-- a word is a value of `--config` that names that folder, by itself or behind the option
+abbrev pub is_configured_dir : Name → Bool
+is_configured_dir word = starts_with nat_eq word (codes "build.target-dir") || starts_with nat_eq word (codes "--config=build.target-dir")
+
+-- a word names that folder, or the next word does
 abbrev pub is_target_dir : Name → Bool
-is_target_dir word = bytes_eq word (codes "--target-dir") || starts_with nat_eq word (codes "--target-dir=")
+is_target_dir word = is_target_option word || is_configured_dir word
 
 -- cargo is told by an argument where to build: then it heeds no variable for that
 abbrev pub names_target_dir : List Name → Bool

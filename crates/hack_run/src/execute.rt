@@ -12,7 +12,8 @@ ghost use Rattle.hack_run.specs.Conclusions.{SaysSearch, version_conclusion};
 ghost use Rattle.hack_run.specs.Internal.{MayPerformItsPlan, PerformsAtMostOne, PerformsItsPlan};
 ghost use Rattle.hack_run.specs.Internal.{HandsSteps, ReportsFound};
 ghost use Rattle.hack_run.specs.Lanes.{MayRunInLanes, RunsInLanes, RunsOne};
-ghost use Rattle.hack_run.specs.Lanes.{is_target_dir, lanes_for, names_target_dir};
+ghost use Rattle.hack_run.specs.Lanes.{is_configured_dir, is_target_dir, is_target_option};
+ghost use Rattle.hack_run.specs.Lanes.{lanes_for, names_target_dir};
 ghost use Rattle.hack_run.specs.Lanes.{target_folder as target};
 ghost use Rattle.hack_drive.specs.Answered.{IsAnswered};
 ghost use Rattle.hack_run.specs.Shown.{HasNoPlan, KeepsLooks, SaysNoPlan, SaysRuns};
@@ -403,7 +404,21 @@ fn names_target_dir(words: &[String]) -> bool
 fn is_target_dir(word: &str) -> bool
     ensures { result ≡ is_target_dir word.now }
 {
+    is_target_option(word) || is_configured_dir(word)
+}
+
+/// Whether a word is the option for that folder.
+fn is_target_option(word: &str) -> bool
+    ensures { result ≡ is_target_option word.now }
+{
     word == "--target-dir" || word.starts_with("--target-dir=")
+}
+
+/// Whether a word is a value of `--config` that names that folder, by itself or behind the option.
+fn is_configured_dir(word: &str) -> bool
+    ensures { result ≡ is_configured_dir word.now }
+{
+    word.starts_with("build.target-dir") || word.starts_with("--config=build.target-dir")
 }
 
 /// The folder that cargo builds into.

@@ -134,12 +134,12 @@ fn a_package_without_features(rt: HostRuntime) -> Result<(), Wrong> {
 
             > report: hack check --feature-powerset --find-conflicts -v
             | info: in p each allowed set lies inside the one set that passed:
-            |     its default features
+            |     the package as it is: it has no feature to choose
             | status 0
 
             > report: hack check --feature-powerset --find-conflicts --most-runs 1; fails 101 cargo check --manifest-path Cargo.toml
             | error: in p these features fail together, and no part of them that may be chosen fails:
-            |     its default features
+            |     the package as it is: it has no feature to choose
             | status 1
         "#,
     )

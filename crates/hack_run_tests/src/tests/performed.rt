@@ -102,6 +102,18 @@ fn own_lines(rt: HostRuntime) -> Result<(), Wrong> {
             | no copy
             | status 1
 
+            > performed: hack check; lock theirs; file: /w/.cargo-hack-journal; | edited files; | end
+            | info: another call is editing the manifests of this workspace: this one sees its edits
+            | info: running `cargo check` on p (1/1)
+            | no copy
+            | status 0
+
+            > performed: hack check; lock unknown; file: /w/.cargo-hack-journal; | edited files; | end
+            | warning: edits of an interrupted call may stand: the folder of the workspace can't be locked
+            | info: running `cargo check` on p (1/1)
+            | no copy
+            | status 0
+
             > performed: hack --restore; file: /w/.cargo-hack-journal; | torn
             | info: a journal goes on in files that are named as it is, with `~1`, `~2` and so on behind that, which are to be removed with it
             | error: `/w/.cargo-hack-journal` is not a whole journal of edited files; put back by hand what it tells, and remove it
@@ -170,29 +182,36 @@ fn files_that_fail(rt: HostRuntime) -> Result<(), Wrong> {
             | no copy
             | status 1
 
-            > performed: hack check --no-dev-deps; broken look 4
+            > performed: hack check --no-dev-deps; broken look 3
             | error: failed to read from file `/w/Cargo.toml`
             | no copy
             | status 1
 
-            > performed: hack check --no-dev-deps; broken look 19
+            > performed: hack check --no-dev-deps; broken look 18
             | error: failed to read or write file `/w/.cargo-hack-journal~lock`
             | no copy
             | status 1
 
-            > performed: hack check --no-dev-deps; broken call 2
+            > performed: hack check --no-dev-deps; broken look 19
+            | info: failed to read or write file `/w/Cargo.toml`
             | error: the lockfile can't be copied to where the journal lies
             | no copy
             | status 1
 
-            > performed: hack check --no-dev-deps; broken look 25
+            > performed: hack check --no-dev-deps; broken call 2
+            | info: failed to read or write file `/w/Cargo.lock`
+            | error: the lockfile can't be copied to where the journal lies
+            | no copy
+            | status 1
+
+            > performed: hack check --no-dev-deps; broken look 26
             | info: --no-dev-deps modifies real `Cargo.toml` while cargo-hack is running and restores it when finished
             | error: failed to write to file `/w/Cargo.toml`
             | info: an edit was refused, since what it replaces can't be kept in `/w/.cargo-hack-journal`
             | no copy
             | status 1
 
-            > performed: hack check --no-dev-deps; broken look 27; broken call 5
+            > performed: hack check --no-dev-deps; broken look 28; broken call 5
             | info: --no-dev-deps modifies real `Cargo.toml` while cargo-hack is running and restores it when finished
             | info: running `cargo check` on p (1/1)
             | error: failed to write to file `/w/Cargo.toml`
@@ -201,21 +220,21 @@ fn files_that_fail(rt: HostRuntime) -> Result<(), Wrong> {
             | copy: # lock
             | status 1
 
-            > performed: hack check --no-dev-deps; broken look 33
+            > performed: hack check --no-dev-deps; broken look 34
             | info: --no-dev-deps modifies real `Cargo.toml` while cargo-hack is running and restores it when finished
             | info: running `cargo check` on p (1/1)
             | warning: `/w/.cargo-hack-journal` may stay: then the next call brings back what it tells
             | copy: # lock
             | status 0
 
-            > performed: hack check --no-dev-deps; broken look 34
+            > performed: hack check --no-dev-deps; broken look 35
             | info: --no-dev-deps modifies real `Cargo.toml` while cargo-hack is running and restores it when finished
             | info: running `cargo check` on p (1/1)
             | warning: `/w/.cargo-hack-journal~lock` stays: the next call removes it
             | copy: # lock
             | status 0
 
-            > performed: hack check --no-dev-deps; broken look 34; broken call 5
+            > performed: hack check --no-dev-deps; broken look 35; broken call 5
             | info: --no-dev-deps modifies real `Cargo.toml` while cargo-hack is running and restores it when finished
             | info: running `cargo check` on p (1/1)
             | error: failed to write to file `/w/Cargo.lock`

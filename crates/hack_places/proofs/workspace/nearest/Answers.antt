@@ -1,14 +1,12 @@
-use Rattle.std.proofs.Common.{◌≡◌, ◌∙◌, ◌-◌, ◌+◌, suc, [], length, Some, None, ap, arith, refl, string_bytes, sym}
+use Rattle.std.proofs.Common.{◌≡◌, ◌∙◌, ◌-◌, ◌+◌, suc, [], length, None, ap, arith, refl, sym}
 use Rattle.std.proofs.lemmas.Result.{err_from_is_err_and}
-use Rattle.std.specs.Option.{option_map}
 use Rattle.hack_files.specs.TraceLaws.{makes_more, makes_none}
-use Rattle.hack_places.specs.Folders.{At, Here, Nothing, workspace_from}
+use Rattle.hack_places.specs.Folders.{package_from, with_manifest}
 use Rattle.hack_places.proofs.CountLemmas.{grows_then}
-use Rattle.hack_places.proofs.FolderLemmas.{after_absent, after_unsaid, or_now, rest_here, rest_none, rest_of, rest_there, step_is, unwrap_now}
+use Rattle.hack_places.proofs.FolderLemmas.{near_above, near_here, near_of, near_step, none_with}
 use Rattle.hack_places.proofs.LookLemmas.{seen_none, seen_more}
-use Rattle.hack_places.proofs.LookedLemmas.{said_first, way_look, way_start, way_up}
+use Rattle.hack_places.proofs.LookedLemmas.{way_look, way_start, way_up}
 use Rattle.hack_places.proofs.workspace.nearest.Goals as goal
-use Rattle.hack_places.proofs.workspace.nearest.Goals.{in-Unsaid, in-Absent}
 
 pub loop-step-init : goal.loop-step-init
 loop-step-init g c =
@@ -17,8 +15,8 @@ loop-step-init g c =
     let none : length start - 0 ≡ length start = omega arith in
     record {
       utf8 = c.utf8.start;
-      found = λ t. sym (ap (λ k. rest_of held start None k start) none);
-      way = way_start g.F.Files.tells held start (length start) _ refl none;
+      found = λ t. sym (ap (λ k. near_of held start k start) none);
+      way = way_start g.F.Files.tells (with_manifest held) start (length start) _ refl none;
       counted = λ low. omega (arith, low);
       seen = seen_none g.F.Files _;
       same = λ t q. refl;
@@ -28,73 +26,40 @@ loop-step-init g c =
 pub loop-step-preserved : goal.loop-step-preserved
 loop-step-preserved g c =
     let held = g.F.Files.bytes_at c.args.files.now in
+    let mid = g.F.Files.bytes_at c.loop-step.files in
     let start = c.args.start.now in
-    let near = option_map (λ k. k.now) c.loop-step.nearest in
-    let later = option_map (λ k. k.now) c.match-branch-2.nearest in
+    let folder = c.loop-step.folder.now in
+    let there = c.in_ok-has_manifest.field-0 in
     let n = length start - (c.loop-step._step + 1) in
     let more : length start - c.loop-step._step ≡ suc n = omega (arith, c.loop-step-test.true) in
     record {
       utf8 = c.parent-folder.utf8;
-      found = elim c.match-branch-2.branch [
-        | in-Unsaid w ↦ λ t. step_is (workspace_from held start ≡ rest_of held start later n c.parent-folder.result.now) held (g.F.Files.bytes_at c.loop-step.files) (workspace_from held start) start c.loop-step.folder.now near n _ (Some Nothing)
-            more (c.loop-step.invariant.found t) (c.loop-step.invariant.same t) ((rw w.in-Unsaid.is at c.in_ok-said_at.ensures.found) t)
-            (after_unsaid held (workspace_from held start) start c.loop-step.folder.now c.parent-folder.result.now near later n
-            (ap (option_map (λ k. k.now)) (w.nearest-is ∙ w.or-nearest.ensures) ∙ or_now c.loop-step.nearest c.loop-step.folder) c.parent-folder.ensures)
-        | in-Absent w ↦ λ t. step_is (workspace_from held start ≡ rest_of held start later n c.parent-folder.result.now) held (g.F.Files.bytes_at c.loop-step.files) (workspace_from held start) start c.loop-step.folder.now near n _ None
-            more (c.loop-step.invariant.found t) (c.loop-step.invariant.same t) ((rw w.in-Absent.is at c.in_ok-said_at.ensures.found) t)
-            (after_absent held (workspace_from held start) start c.loop-step.folder.now c.parent-folder.result.now near later n (ap (option_map (λ k. k.now)) w.nearest-is) c.parent-folder.ensures)
-      ];
-      way = elim c.match-branch-2.branch [
-        | in-Unsaid w ↦ way_up g.F.Files.tells held start c.loop-step.folder.now c.parent-folder.result.now n _ more c.parent-folder.ensures
-            (λ t. said_first held (g.F.Files.bytes_at c.loop-step.files) c.loop-step.folder.now (Some Nothing) (c.loop-step.invariant.same t) ((rw w.in-Unsaid.is at c.in_ok-said_at.ensures.found) t)) c.loop-step.invariant.way
-        | in-Absent w ↦ way_up g.F.Files.tells held start c.loop-step.folder.now c.parent-folder.result.now n _ more c.parent-folder.ensures
-            (λ t. said_first held (g.F.Files.bytes_at c.loop-step.files) c.loop-step.folder.now None (c.loop-step.invariant.same t) ((rw w.in-Absent.is at c.in_ok-said_at.ensures.found) t)) c.loop-step.invariant.way
-      ];
-      counted = grows_then 0 _ _ _ c.loop-step.invariant.counted c.in_ok-said_at.ensures.counted;
-      seen = seen_more g.F.Files _ _ _ c.loop-step.invariant.seen c.in_ok-said_at.ensures.seen;
-      same = λ t q. c.in_ok-said_at.ensures.same t q ∙ c.loop-step.invariant.same t q;
-      untraced = λ w. makes_more [] [] _ _ _ _ _ _ (c.loop-step.invariant.untraced w) (c.in_ok-said_at.ensures.untraced w);
+      found = λ t. near_step (package_from held start ≡ near_of held start n c.parent-folder.result.now) held mid (package_from held start) start folder n _ there
+          more (c.loop-step.invariant.found t) (c.loop-step.invariant.same t) (c.in_ok-has_manifest.ensures.found t)
+          (λ is w. w ∙ near_above held start n folder (sym c.if-branch.false ∙ is) ∙ sym (ap (near_of held start n) c.parent-folder.ensures));
+      way = way_up g.F.Files.tells (with_manifest held) start folder c.parent-folder.result.now n _ more c.parent-folder.ensures
+          (λ t. near_step (with_manifest held folder ≡ None) held mid (package_from held start) start folder n _ there
+          more (c.loop-step.invariant.found t) (c.loop-step.invariant.same t) (c.in_ok-has_manifest.ensures.found t)
+          (λ is w. none_with held folder (sym c.if-branch.false ∙ is))) c.loop-step.invariant.way;
+      counted = grows_then 0 _ _ _ c.loop-step.invariant.counted c.in_ok-has_manifest.ensures.counted;
+      seen = seen_more g.F.Files _ _ _ c.loop-step.invariant.seen c.in_ok-has_manifest.ensures.seen;
+      same = λ t q. c.in_ok-has_manifest.ensures.same t q ∙ c.loop-step.invariant.same t q;
+      untraced = λ w. makes_more [] [] _ _ _ _ _ _ (c.loop-step.invariant.untraced w) (c.in_ok-has_manifest.ensures.untraced w);
     }
 
-pub returns-in_err-said_at-clause-looked : goal.returns-in_err-said_at-clause-looked
-returns-in_err-said_at-clause-looked g c =
+pub returns-in_err-has_manifest-clause-looked : goal.returns-in_err-has_manifest-clause-looked
+returns-in_err-has_manifest-clause-looked g c =
     let p = err_from_is_err_and c.from_residual.result c.from_residual.ensures.1 in
-    rw (p.1, p.2) (way_look g.F.Files.tells (g.F.Files.bytes_at c.args.files.now) c.args.start.now c.loop-step.folder.now (length c.args.start.now - (c.loop-step._step + 1)) _ _ (omega (arith, c.loop-step-test.true))
-    c.loop-step.invariant.way c.in_err-said_at.ensures.named)
+    let start = c.args.start.now in
+    rw (p.1, p.2) (way_look g.F.Files.tells (with_manifest (g.F.Files.bytes_at c.args.files.now)) start c.loop-step.folder.now (length start - (c.loop-step._step + 1)) _ _ (omega (arith, c.loop-step-test.true))
+    c.loop-step.invariant.way c.in_err-has_manifest.ensures.named)
 
-pub returns-in-Here-clause-found : goal.returns-in-Here-clause-found
-returns-in-Here-clause-found g c = λ t.
+pub returns-then-branch-clause-found : goal.returns-then-branch-clause-found
+returns-then-branch-clause-found g c = λ t.
     let held = g.F.Files.bytes_at c.args.files.now in
     let start = c.args.start.now in
-    let near = option_map (λ k. k.now) c.loop-step.nearest in
     let n = length start - (c.loop-step._step + 1) in
     let more : length start - c.loop-step._step ≡ suc n = omega (arith, c.loop-step-test.true) in
-    step_is _ held (g.F.Files.bytes_at c.loop-step.files) (workspace_from held start) start c.loop-step.folder.now near n _ (Some Here)
-    more (c.loop-step.invariant.found t) (c.loop-step.invariant.same t) ((rw c.in-Here.is at c.in_ok-said_at.ensures.found) t)
-    (λ said w. c.in_ok-from_str-in-Here.ensures.ok ∙ sym (w ∙ rest_here held start near n c.loop-step.folder.now said))
-
-pub returns-in-At-clause-found : goal.returns-in-At-clause-found
-returns-in-At-clause-found g c = λ t.
-    let held = g.F.Files.bytes_at c.args.files.now in
-    let start = c.args.start.now in
-    let near = option_map (λ k. k.now) c.loop-step.nearest in
-    let n = length start - (c.loop-step._step + 1) in
-    let more : length start - c.loop-step._step ≡ suc n = omega (arith, c.loop-step-test.true) in
-    step_is _ held (g.F.Files.bytes_at c.loop-step.files) (workspace_from held start) start c.loop-step.folder.now near n _ (Some (At (string_bytes c.in-At.path)))
-    more (c.loop-step.invariant.found t) (c.loop-step.invariant.same t) ((rw c.in-At.is at c.in_ok-said_at.ensures.found) t)
-    (λ said w. (rw c.as_str.ensures.value at c.in_ok-within-in-At.ensures) ∙ sym (w ∙ rest_there held start near n c.loop-step.folder.now (string_bytes c.in-At.path) said))
-
-pub returns-clause-found : goal.returns-clause-found
-returns-clause-found g c = λ t.
-    let held = g.F.Files.bytes_at c.args.files.now in
-    let start = c.args.start.now in
-    let near = option_map (λ k. k.now) c.loop-step.nearest in
-    let none : length start - c.loop-step._step ≡ 0 = omega (arith, c.loop-step-test.false) in
-    c.in_ok-from_str.ensures.ok ∙ ap (λ k. k.now) c.unwrap_or.ensures ∙ unwrap_now c.loop-step.nearest c.args.start
-    ∙ sym (c.loop-step.invariant.found t ∙ ap (λ k. rest_of held start near k c.loop-step.folder.now) none ∙ rest_none held start near c.loop-step.folder.now)
-
-pub returns-in-Here-clause-seen : goal.returns-in-Here-clause-seen
-returns-in-Here-clause-seen g c = seen_more g.F.Files _ _ _ c.loop-step.invariant.seen c.in_ok-said_at.ensures.seen
-
-pub returns-in-At-clause-seen : goal.returns-in-At-clause-seen
-returns-in-At-clause-seen g c = seen_more g.F.Files _ _ _ c.loop-step.invariant.seen c.in_ok-said_at.ensures.seen
+    near_step _ held (g.F.Files.bytes_at c.loop-step.files) (package_from held start) start c.loop-step.folder.now n _ c.in_ok-has_manifest.field-0
+    more (c.loop-step.invariant.found t) (c.loop-step.invariant.same t) (c.in_ok-has_manifest.ensures.found t)
+    (λ is w. c.in_ok-from_str.ensures.ok ∙ sym (w ∙ near_here held start n c.loop-step.folder.now (sym c.if-branch.true ∙ is)))

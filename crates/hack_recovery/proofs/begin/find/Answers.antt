@@ -1,18 +1,16 @@
-use Rattle.std.proofs.Common.{◌≡◌, ◌∙◌, ap, false, refl, string_bytes, subst, sym}
-use Rattle.std.specs.Prelude.{codes, not}
+use Rattle.std.proofs.Common.{◌≡◌, ◌∙◌, ap, string_bytes, subst, sym}
 use Rattle.std.proofs.lemmas.Result.{err_from_is_err_and}
 use Rattle.hack_base.specs.Names.{Name, optional_text}
-use Rattle.hack_base.specs.PathTexts.{join_of}
 use Rattle.hack_files.specs.Files.{Contents, KeepsAll}
 use Rattle.hack_places.specs.CallPlaces.{ArePlacesOf, PlacesAt, is_left}
-use Rattle.hack_places.specs.Folders.{folders, leaves_out}
+use Rattle.hack_places.specs.Folders.{folders}
 use Rattle.hack_places.specs.JournalPlaces.{journal_of}
-use Rattle.hack_places.specs.LookedPaths.{IsPlaceLook, IsWorkspaceLook}
+use Rattle.hack_places.specs.LookedPaths.{IsPlaceLook}
 use Rattle.hack_places.specs.PlacesView.{places_view}
 use Rattle.hack_places.proofs.LookLemmas.{seen_first, seen_more}
-use Rattle.hack_places.proofs.LookedLemmas.{looked_at, looked_more, repository_first}
-use Rattle.hack_recovery.specs.CallCourses.{IsLookedAt, start_of}
-use Rattle.hack_recovery.specs.CallCourses.IsLookedAt.{for_members, for_places, for_repository, for_workspace}
+use Rattle.hack_places.proofs.LookedLemmas.{looked_more, repository_first}
+use Rattle.hack_recovery.specs.CallCourses.{IsFolderLook, IsLookedAt}
+use Rattle.hack_recovery.specs.CallCourses.IsLookedAt.{for_folders, for_places, for_repository}
 use Rattle.hack_recovery.proofs.begin.find.Goals as goal
 
 -- the places that were found after looks, by what files held at first
@@ -30,64 +28,55 @@ pub returns-clause-found : goal.returns-clause-found
 returns-clause-found g c =
     let T = g.F.Files.tells in
     let first : Contents = g.F.Files.bytes_at c.args.files.now in
-    let mid : Contents = g.F.Files.bytes_at c.folder_of.new.files in
-    let out : Contents = g.F.Files.bytes_at c.leaves_out.new.files in
     let late : Contents = g.F.Files.bytes_at c.of.new.files in
-    let start = start_of c.args.env.now (optional_text c.args.asked.now.manifest_path) in
-    let folder = string_bytes c.in_ok-found.found in
     let places : PlacesAt = places_view c.in_ok-places.places in
     let left = c.in_ok-is_left.is_left in
     let are = c.in_ok-places.ensures.found in
-    let same : T → KeepsAll first out = λ t q. c.in_ok-is_out.ensures.same t q ∙ c.in_ok-found.ensures.same t q in
-    let is_out : T → c.in_ok-is_out.is_out ≡ leaves_out mid folder start = rw (c.text_in-named.ensures, c.as_str-dir.ensures.value, c.as_str.ensures.value) at c.in_ok-is_out.ensures.found in
+    let named = c.in_ok-places.ensures.named in
+    let same : T → KeepsAll first (g.F.Files.bytes_at c.folders_of.new.files) = c.in_ok-folders.ensures.same in
+    let looked = rw c.text_in-named.ensures at c.in_ok-folders.ensures.found in
     record {
-      folder = folder;
-      found = rw c.text_in-named.ensures at c.in_ok-found.ensures.found;
-      is_real = λ t. are.folder_is ∙ c.as_str-3.ensures.value ∙ (rw c.as_str-2.ensures.value at c.in_ok-folder.ensures) t;
-      are = places_first T first out c.as_str-3.result.now places same are;
-      shared = λ t. c.in_ok-places.ensures.shared ∙ ap not (seen_first T (λ (m : Contents). c.in_ok-is_out.is_out ≡ leaves_out m folder start) first mid c.in_ok-found.ensures.same is_out t);
+      pkg_dir = λ t. ap string_bytes named.1 ∙ (looked t).0;
+      found = λ t. ap string_bytes named.0 ∙ (looked t).1;
+      is_real = λ t. are.folder_is ∙ c.as_str-2.ensures.value ∙ (rw c.as_str.ensures.value at c.in_ok-folder.ensures) t ∙ sym (ap (λ text. g.K.Locks.real c.args.locks.now (string_bytes text)) named.0);
+      are = places_first T first (g.F.Files.bytes_at c.folders_of.new.files) c.as_str-2.result.now places same are;
       seen = seen_first T (λ (m : Contents). left ≡ is_left m places) first late (λ t q. c.in_ok-places.ensures.same t q ∙ same t q) c.in_ok-is_left.ensures.found;
     }
 
 pub returns-clause-seen : goal.returns-clause-seen
 returns-clause-seen g c =
-    seen_more g.F.Files c.args.files.now c.folder_of.new.files c.is_left.new.files c.in_ok-found.ensures.seen
-    (seen_more g.F.Files c.folder_of.new.files c.leaves_out.new.files c.is_left.new.files c.in_ok-is_out.ensures.seen
-    (seen_more g.F.Files c.leaves_out.new.files c.of.new.files c.is_left.new.files c.in_ok-places.ensures.seen c.in_ok-is_left.ensures.seen))
+    seen_more g.F.Files c.args.files.now c.folders_of.new.files c.is_left.new.files c.in_ok-folders.ensures.seen
+    (seen_more g.F.Files c.folders_of.new.files c.of.new.files c.is_left.new.files c.in_ok-places.ensures.seen c.in_ok-is_left.ensures.seen)
 
-pub returns-in_err-found-clause-looked : goal.returns-in_err-found-clause-looked
-returns-in_err-found-clause-looked g c =
+pub returns-in_err-folders-clause-looked : goal.returns-in_err-folders-clause-looked
+returns-in_err-folders-clause-looked g c =
     let p = err_from_is_err_and c.from_residual.result c.from_residual.ensures.1 in
-    let start = start_of c.args.env.now (optional_text c.args.asked.now.manifest_path) in
-    let asked : Name → Type 0 = λ path. (c.args.env.now.by_guard ≡ false) × IsWorkspaceLook g.F.Files.tells (g.F.Files.bytes_at c.args.files.now) start path in
-    rw (p.1, p.2) (looked_more asked _ _ (λ path look. for_workspace look.0 look.1) (rw c.text_in-named.ensures at c.in_err-found.ensures.looked))
-
-pub returns-in_err-is_out-clause-looked : goal.returns-in_err-is_out-clause-looked
-returns-in_err-is_out-clause-looked g c =
-    let p = err_from_is_err_and c.from_residual-in_err-is_out.result c.from_residual-in_err-is_out.ensures.1 in
-    let folder = string_bytes c.in_ok-found.found in
-    let looked : Name → Type 0 = IsLookedAt g.F.Files.tells g.K.Locks.tells (g.K.Locks.real c.args.locks.now) (g.F.Files.bytes_at c.args.files.now) (optional_text c.args.asked.now.manifest_path) c.args.env.now in
-    rw (p.1, p.2) (looked_at looked (join_of folder (codes "Cargo.toml")) _
-    (for_members folder (rw c.text_in-named.ensures at c.in_ok-found.ensures.found) refl)
-    (rw c.as_str.ensures.value at c.in_err-is_out.ensures.named))
+    let T = g.F.Files.tells in
+    let first : Contents = g.F.Files.bytes_at c.args.files.now in
+    let path = optional_text c.args.asked.now.manifest_path in
+    let Look : Name → Type 0 = IsLookedAt T g.K.Locks.tells (g.K.Locks.real c.args.locks.now) first path c.args.env.now in
+    rw (p.1, p.2) (looked_more (IsFolderLook T first path c.args.env.now) Look _ (λ looked look. for_folders look)
+    (rw c.text_in-named.ensures at c.in_err-folders.ensures.looked))
 
 pub returns-in_err-places-clause-looked : goal.returns-in_err-places-clause-looked
 returns-in_err-places-clause-looked g c =
     let p = err_from_is_err_and c.from_residual-in_err-places.result c.from_residual-in_err-places.ensures.1 in
-    let folder = c.as_str-3.result.now in
+    let folder = c.as_str-2.result.now in
+    let looked = rw c.text_in-named.ensures at c.in_ok-folders.ensures.found in
     rw (p.1, p.2) (looked_more _ _ _ (λ path look.
-    for_repository (string_bytes c.in_ok-found.found) folder (rw c.text_in-named.ensures at c.in_ok-found.ensures.found)
-    (λ t. c.as_str-3.ensures.value ∙ (rw c.as_str-2.ensures.value at c.in_ok-folder.ensures) t)
-    (repository_first g.F.Files.tells (g.F.Files.bytes_at c.args.files.now) (g.F.Files.bytes_at c.leaves_out.new.files) (folders folder) path
-    (λ t q. c.in_ok-is_out.ensures.same t q ∙ c.in_ok-found.ensures.same t q) look)) c.in_err-places.ensures.looked)
+    for_repository (string_bytes c.in_ok-folders.folders.found) folder (λ t. (looked t).1)
+    (λ t. c.as_str-2.ensures.value ∙ (rw c.as_str.ensures.value at c.in_ok-folder.ensures) t)
+    (repository_first g.F.Files.tells (g.F.Files.bytes_at c.args.files.now) (g.F.Files.bytes_at c.folders_of.new.files) (folders folder) path
+    c.in_ok-folders.ensures.same look)) c.in_err-places.ensures.looked)
 
 pub returns-in_err-is_left-clause-looked : goal.returns-in_err-is_left-clause-looked
 returns-in_err-is_left-clause-looked g c =
     let p = err_from_is_err_and c.from_residual-in_err-is_left.result c.from_residual-in_err-is_left.ensures.1 in
     let are = c.in_ok-places.ensures.found in
     let places : PlacesAt = places_view c.in_ok-places.places in
+    let looked = rw c.text_in-named.ensures at c.in_ok-folders.ensures.found in
     rw (p.1, p.2) (looked_more (IsPlaceLook places) _ _ (λ path look.
-    for_places (string_bytes c.in_ok-found.found) places (rw c.text_in-named.ensures at c.in_ok-found.ensures.found)
-    (λ t. are.folder_is ∙ c.as_str-3.ensures.value ∙ (rw c.as_str-2.ensures.value at c.in_ok-folder.ensures) t)
-    (places_first g.F.Files.tells (g.F.Files.bytes_at c.args.files.now) (g.F.Files.bytes_at c.leaves_out.new.files) c.as_str-3.result.now places
-    (λ t q. c.in_ok-is_out.ensures.same t q ∙ c.in_ok-found.ensures.same t q) are) look) c.in_err-is_left.ensures.looked)
+    for_places (string_bytes c.in_ok-folders.folders.found) places (λ t. (looked t).1)
+    (λ t. are.folder_is ∙ c.as_str-2.ensures.value ∙ (rw c.as_str.ensures.value at c.in_ok-folder.ensures) t)
+    (places_first g.F.Files.tells (g.F.Files.bytes_at c.args.files.now) (g.F.Files.bytes_at c.folders_of.new.files) c.as_str-2.result.now places
+    c.in_ok-folders.ensures.same are) look) c.in_err-is_left.ensures.looked)

@@ -6,7 +6,7 @@ use Rattle.hack_base.specs.Streams.{WritesText, stream_of}
 use Rattle.hack_run.specs.CallTrace.{colored_by}
 use Rattle.hack_files.specs.View.{files_view}
 use Rattle.hack_run.specs.Worlds.{IsStatus, host_view}
-use Rattle.hack_start.specs.declared.started.StartFault.TheVariants.{Memory}
+use Rattle.hack_recovery.specs.declared.started.StartFault.TheVariants.{Memory}
 use Rattle.hack_term.specs.Lines.{error_line}
 use Rattle.hack_term.specs.declared.term.Term.{Term}
 use Rattle.hack_words.specs.AskedColoring.{AsksColoring}

@@ -32,7 +32,7 @@ returns-in-Ok-Plain-clause-goes g c =
     let guards = g.G.Guards.shown c.args.keepers.now.guards in
     let seen : FilesView = files_view g.F.Files c.begin.new.files in
     let at : Scene = scene_of g.F.Files g.L.Files g.U.Unkept g.C.Caller g.O.Sink g.E.Sink c.begin.new.files c.args.lockfiles c.args.unkept locks guards c.args.host.now in
-    plain_course g.F.Files g.L.Files g.U.Unkept _ _ _ _ _ _ _ begun.edits (places_view begun.places) begun.is_left (is_restore begun.edits) _ at _ refl
+    plain_course g.F.Files g.L.Files g.U.Unkept _ _ _ _ _ _ _ begun.edits (places_view begun.places) c.in-Ok-Plain.standing begun.is_left (is_restore begun.edits) _ at _ refl
     c.in-Ok.ensures.begun (rw (c.in-Ok-Plain.field-0-is, c.as_str-2.ensures.value) at c.in-Ok-Plain.ensures)
     (record {
       files = record { same = c.in-Ok.ensures.same; untraced = c.in-Ok.ensures.untraced };
@@ -51,7 +51,9 @@ returns-in-Ok-Plain-clause-goes g c =
           ∙ ap (λ out. scene_by seen lockfiles unkept locks guards (host_view g.C.Caller g.O.Sink c.args.host.now) (streams g.O.Sink g.E.Sink out c.plainly-status.new.host.err.now)) (came.still on).1),
       came.said on,
     ))
-    (λ off. came.runs off lockfiles unkept locks guards)
+    (λ off.
+    let ran = came.runs off in
+    (ran.0, ran.1, ran.2, ran.3 lockfiles unkept locks guards))
 
 pub returns-in-Ok-Guarded-clause-goes : goal.returns-in-Ok-Guarded-clause-goes
 returns-in-Ok-Guarded-clause-goes g c =

@@ -2,7 +2,7 @@ use Rattle.std.proofs.Common.{◌∙◌, Bool, ap, codes, sym}
 use Rattle.std.specs.Prelude.{◌||◌, nat_eq}
 use Rattle.std.specs.List.{starts_with}
 use Rattle.std.proofs.lemmas.Str.Pattern.{starts_text}
-use Rattle.hack_run.proofs.execute.is_target_dir.Goals as goal
+use Rattle.hack_run.proofs.execute.is_target_option.Goals as goal
 
 pub returns-else-eq : goal.returns-else-eq
 returns-else-eq c =

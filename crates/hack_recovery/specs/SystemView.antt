@@ -2,8 +2,8 @@
 use Rattle.std.specs.Prelude.{List, Option, option_map, string_bytes}
 use Rattle.std.proofs.Common.{Global, String, Vec}
 use Rattle.hack_base.specs.Names.{Name, names_of}
-use Rattle.hack_start.specs.declared.system.Variable.{Variable}
-use Rattle.hack_start.specs.declared.system.Variable.TheVariants as code
+use Rattle.hack_recovery.specs.declared.system.Variable.{Variable}
+use Rattle.hack_recovery.specs.declared.system.Variable.TheVariants as code
 
 -- a variable is not set, or has a text, or is set to what is not UTF-8
 pub data VariableState : Type 0 where

@@ -1,6 +1,6 @@
 use Rattle.std.proofs.Common.{◌≡◌, drop}
-use Rattle.hack_start.specs.FakeSystemView.{settings_of, state_in}
-use Rattle.hack_start.proofs.system.FakeSystemSystem.variable.Given as goal
+use Rattle.hack_recovery.specs.FakeSystemView.{settings_of, state_in}
+use Rattle.hack_recovery.proofs.system.FakeSystemSystem.variable.Given as goal
 
 abbrev pub invariant-loop-key : goal.invariant-loop-key
 invariant-loop-key l =

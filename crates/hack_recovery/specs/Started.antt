@@ -7,11 +7,11 @@ use Rattle.hack_base.specs.Names.{Name, names_of}
 use Rattle.hack_term.specs.declared.term.Coloring.{Coloring}
 use Rattle.hack_term.specs.declared.term.Coloring.TheVariants.{Always, Auto}
 use Rattle.hack_words.specs.declared.cli.env.Env.{Env}
-use Rattle.hack_start.specs.declared.started.StartFault.{StartFault}
-use Rattle.hack_start.specs.declared.started.StartFault.TheVariants as fault
-use Rattle.hack_start.specs.declared.started.Started.{Started}
+use Rattle.hack_recovery.specs.declared.started.StartFault.{StartFault}
+use Rattle.hack_recovery.specs.declared.started.StartFault.TheVariants as fault
+use Rattle.hack_recovery.specs.declared.started.Started.{Started}
 use Rattle.hack_words.specs.EnvView.{IsEnvBy}
-use Rattle.hack_start.specs.SystemView.{SystemView, VariableState, Unset, Text, NotText}
+use Rattle.hack_recovery.specs.SystemView.{SystemView, VariableState, Unset, Text, NotText}
 
 -- a terminal that can show colours: TERM is set to a text, but not to dumb
 abbrev pub is_capable : VariableState → Bool

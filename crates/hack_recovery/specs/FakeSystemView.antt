@@ -2,9 +2,9 @@
 use Rattle.std.specs.Prelude.{List, [], ◌∷◌, map, bytes_eq, string_bytes, if◌then◌else◌}
 use Rattle.std.proofs.Common.{Global, String}
 use Rattle.hack_base.specs.Names.{Name, optional_text}
-use Rattle.hack_start.specs.declared.system.Variable.{Variable}
-use Rattle.hack_start.specs.declared.system.FakeSystem.{FakeSystem}
-use Rattle.hack_start.specs.SystemView.{SystemView, VariableState, Unset, argument_names, state_of}
+use Rattle.hack_recovery.specs.declared.system.Variable.{Variable}
+use Rattle.hack_recovery.specs.declared.system.FakeSystem.{FakeSystem}
+use Rattle.hack_recovery.specs.SystemView.{SystemView, VariableState, Unset, argument_names, state_of}
 
 -- a variable as plain data
 pub record Setting : Type 0 where

@@ -4,11 +4,11 @@ ghost use Rattle.std.specs.Prelude.{◌≡◌, IfOk, false, string_bytes};
 ghost use Rattle.std.specs.Option.{unwrap_or};
 ghost use Rattle.hack_base.specs.Names.{optional_text};
 ghost use Rattle.hack_term.specs.declared.term.Coloring.TheVariants.{Auto};
-ghost use Rattle.hack_start.specs.SystemView.{state_of};
-ghost use Rattle.hack_start.specs.Internal.{GivesFlag, GivesText};
-ghost use Rattle.hack_start.specs.Started.{GivesEnv, GivesStart, GivesWords};
-ghost use Rattle.hack_start.specs.Started.{SetsColoring, auto_coloring_of, start_fault_text, is_capable};
-ghost use Rattle.hack_start.specs.Started.{is_unset as unset};
+ghost use Rattle.hack_recovery.specs.SystemView.{state_of};
+ghost use Rattle.hack_recovery.specs.InternalStart.{GivesFlag, GivesText};
+ghost use Rattle.hack_recovery.specs.Started.{GivesEnv, GivesStart, GivesWords};
+ghost use Rattle.hack_recovery.specs.Started.{SetsColoring, auto_coloring_of, start_fault_text, is_capable};
+ghost use Rattle.hack_recovery.specs.Started.{is_unset as unset};
 
 use crate::system::{System, Variable};
 use hack_term::term::Coloring;
@@ -39,7 +39,7 @@ impl StartFault {
 }
 
 impl From<AllocError> for StartFault {
-    ghost use Rattle.hack_start.specs.declared.started.StartFault.TheVariants.{Memory};
+    ghost use Rattle.hack_recovery.specs.declared.started.StartFault.TheVariants.{Memory};
 
     ghost from_gives = { λ _ e. e ≡ Memory };
 
@@ -49,7 +49,7 @@ impl From<AllocError> for StartFault {
 }
 
 impl<T: Drop> From<AllocFailed<T>> for StartFault {
-    ghost use Rattle.hack_start.specs.declared.started.StartFault.TheVariants.{Memory};
+    ghost use Rattle.hack_recovery.specs.declared.started.StartFault.TheVariants.{Memory};
 
     ghost from_gives = { λ _ e. e ≡ Memory };
 

@@ -3,10 +3,10 @@ use Rattle.std.specs.Prelude.{◌≡◌, Bool, Option, Result, Ok, Err, false, t
 use Rattle.std.proofs.Common.{Global, String}
 use Rattle.std.specs.Option.{is_some}
 use Rattle.hack_base.specs.Names.{optional_text}
-use Rattle.hack_start.specs.Started.{is_not_text, variable_text}
-use Rattle.hack_start.specs.SystemView.{VariableState}
-use Rattle.hack_start.specs.declared.started.StartFault.{StartFault}
-use Rattle.hack_start.specs.declared.started.StartFault.TheVariants as start
+use Rattle.hack_recovery.specs.Started.{is_not_text, variable_text}
+use Rattle.hack_recovery.specs.SystemView.{VariableState}
+use Rattle.hack_recovery.specs.declared.started.StartFault.{StartFault}
+use Rattle.hack_recovery.specs.declared.started.StartFault.TheVariants as start
 
 -- the text of a variable, if it is set; else memory was refused, or it is not UTF-8
 abbrev pub GivesText : Type 0 → VariableState → Result (Option (String Global)) StartFault → Type 0

@@ -3,9 +3,9 @@
 
 ghost use Rattle.std.specs.Prelude.{◌≡◌, IfOk, None};
 ghost use Rattle.hack_base.specs.Names.{optional_text};
-ghost use Rattle.hack_start.specs.SystemView.{SystemView, argument_names, state_of};
-ghost use Rattle.hack_start.specs.SystemView.{Unset};
-ghost use Rattle.hack_start.specs.FakeSystemView.{view_of, settings_of, state_in};
+ghost use Rattle.hack_recovery.specs.SystemView.{SystemView, argument_names, state_of};
+ghost use Rattle.hack_recovery.specs.SystemView.{Unset};
+ghost use Rattle.hack_recovery.specs.FakeSystemView.{view_of, settings_of, state_in};
 
 use hack_base::copies::copies;
 use std::alloc::{AllocError, Global};

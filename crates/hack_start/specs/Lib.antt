@@ -1,4 +1,0 @@
-pub mod SystemView
-pub mod FakeSystemView
-pub mod Started
-pub mod Internal
