@@ -103,12 +103,7 @@ fn has_work(old: &Table, pieces: &[Piece<'_>]) -> bool
 fn any_dev(pieces: &[Piece<'_>]) -> bool
     ensures { result ≡ some_dev (slice_view pieces.now) }
 {
-    for piece in pieces {
-        if is_dev_path(&piece.path) {
-            return true;
-        }
-    }
-    false
+    pieces.iter().any(|piece| is_dev_path(&piece.path))
 }
 
 /// Whether some piece of a text is one of development dependencies.
@@ -239,12 +234,7 @@ fn path_loses(old: &Table, path: &[String]) -> bool
 fn any_inline(old: &Table, pieces: &[Piece<'_>]) -> bool
     ensures { result ≡ some_inline (table_view old.now) (slice_view pieces.now) }
 {
-    for piece in pieces {
-        if holds_inline(old, piece) {
-            return true;
-        }
-    }
-    false
+    pieces.iter().any(|piece| holds_inline(old, piece))
 }
 
 /// Whether a piece is a key with its value at `target` or `target.X`, which holds development

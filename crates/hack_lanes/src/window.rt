@@ -229,24 +229,16 @@ impl Window {
     fn is_pending(&self, place: usize) -> bool
         ensures { result ≡ is_pending place (map pending_of self.now.children.items) }
     {
-        for child in &self.children {
-            if child.is_at(place) {
-                return true;
-            }
-        }
-        false
+        self.children.iter().any(|child| child.is_at(place))
     }
 
     /// Whether the command of a place was started, and hasn't been seen to have ended.
     fn is_running(&self, place: usize) -> bool
         ensures { result ≡ is_running place (map pending_of self.now.children.items) }
     {
-        for child in &self.children {
-            if child.is_at(place) && !child.over {
-                return true;
-            }
-        }
-        false
+        self.children
+            .iter()
+            .any(|child| child.is_at(place) && !child.over)
     }
 
     /// The first lane that no command runs in, where one more may be started.
@@ -271,12 +263,7 @@ impl Window {
     fn has_none(&self, lane: usize) -> bool
         ensures { result ≡ is_free lane (map pending_of self.now.children.items) }
     {
-        for child in &self.children {
-            if !child.leaves(lane) {
-                return false;
-            }
-        }
-        true
+        self.children.iter().all(|child| child.leaves(lane))
     }
 
     /// Looks which of the started commands have ended.

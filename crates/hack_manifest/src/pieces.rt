@@ -129,10 +129,5 @@ fn is_value_of(piece: &Piece<'_>, name: &str) -> bool
 pub fn is_inline(pieces: &[Piece<'_>], name: &str) -> bool
     ensures { result ≡ is_inline name.now (slice_view pieces.now) }
 {
-    for piece in pieces {
-        if is_value_of(piece, name) {
-            return true;
-        }
-    }
-    false
+    pieces.iter().any(|piece| is_value_of(piece, name))
 }
