@@ -100,6 +100,7 @@ fn has_work(old: &Table, pieces: &[Piece<'_>]) -> bool
 }
 
 /// Whether some piece is one of development dependencies.
+#[tactic(auto, using(hack_base::proofs::Chains::mapped))]
 fn any_dev(pieces: &[Piece<'_>]) -> bool
     ensures { result ≡ some_dev (slice_view pieces.now) }
 {
@@ -231,6 +232,7 @@ fn path_loses(old: &Table, path: &[String]) -> bool
 }
 
 /// Whether some piece holds development dependencies inline.
+#[tactic(auto, using(hack_base::proofs::Chains::mapped))]
 fn any_inline(old: &Table, pieces: &[Piece<'_>]) -> bool
     ensures { result ≡ some_inline (table_view old.now) (slice_view pieces.now) }
 {

@@ -243,6 +243,7 @@ fn is_array_value(value: &Value) -> bool
 }
 
 /// Whether there is a header `[workspace]`.
+#[tactic(auto, using(hack_base::proofs::Chains::mapped))]
 fn any_header(pieces: &[Piece<'_>]) -> bool
     ensures { result ≡ some_header (slice_view pieces.now) }
 {
@@ -250,6 +251,7 @@ fn any_header(pieces: &[Piece<'_>]) -> bool
 }
 
 /// Whether some path has control characters.
+#[tactic(auto, using(hack_base::proofs::Chains::mapped))]
 fn any_control(paths: &[&str]) -> bool
     ensures { result ≡ some_path_control (names_behind paths.now) }
 {

@@ -226,6 +226,7 @@ impl Window {
     }
 
     /// Whether the command of a place was started, and isn't told yet.
+    #[tactic(auto, using(hack_base::proofs::Chains::mapped))]
     fn is_pending(&self, place: usize) -> bool
         ensures { result ≡ is_pending place (map pending_of self.now.children.items) }
     {
@@ -233,6 +234,7 @@ impl Window {
     }
 
     /// Whether the command of a place was started, and hasn't been seen to have ended.
+    #[tactic(auto, using(hack_base::proofs::Chains::mapped))]
     fn is_running(&self, place: usize) -> bool
         ensures { result ≡ is_running place (map pending_of self.now.children.items) }
     {
@@ -260,6 +262,7 @@ impl Window {
     }
 
     /// Whether no command runs in a lane.
+    #[tactic(auto, using(hack_base::proofs::Chains::mapped))]
     fn has_none(&self, lane: usize) -> bool
         ensures { result ≡ is_free lane (map pending_of self.now.children.items) }
     {

@@ -126,6 +126,7 @@ fn is_value_of(piece: &Piece<'_>, name: &str) -> bool
 
 /// Whether some piece is a key of just this name with its value: then a table of this name is
 /// written inline.
+#[tactic(auto, using(hack_base::proofs::Chains::mapped))]
 pub fn is_inline(pieces: &[Piece<'_>], name: &str) -> bool
     ensures { result ≡ is_inline name.now (slice_view pieces.now) }
 {
