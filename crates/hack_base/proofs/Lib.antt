@@ -1,6 +1,7 @@
 pub mod Members
 pub mod Passes
 pub mod Steps
+pub mod Chains
 pub mod NameLemmas
 pub mod CutLemmas
 pub mod NumberLemmas

@@ -100,15 +100,11 @@ fn has_work(old: &Table, pieces: &[Piece<'_>]) -> bool
 }
 
 /// Whether some piece is one of development dependencies.
+#[tactic(auto, using(hack_base::proofs::Chains::mapped))]
 fn any_dev(pieces: &[Piece<'_>]) -> bool
     ensures { result ≡ some_dev (slice_view pieces.now) }
 {
-    for piece in pieces {
-        if is_dev_path(&piece.path) {
-            return true;
-        }
-    }
-    false
+    pieces.iter().any(|piece| is_dev_path(&piece.path))
 }
 
 /// Whether some piece of a text is one of development dependencies.
@@ -236,15 +232,11 @@ fn path_loses(old: &Table, path: &[String]) -> bool
 }
 
 /// Whether some piece holds development dependencies inline.
+#[tactic(auto, using(hack_base::proofs::Chains::mapped))]
 fn any_inline(old: &Table, pieces: &[Piece<'_>]) -> bool
     ensures { result ≡ some_inline (table_view old.now) (slice_view pieces.now) }
 {
-    for piece in pieces {
-        if holds_inline(old, piece) {
-            return true;
-        }
-    }
-    false
+    pieces.iter().any(|piece| holds_inline(old, piece))
 }
 
 /// Whether a piece is a key with its value at `target` or `target.X`, which holds development

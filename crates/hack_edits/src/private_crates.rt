@@ -243,37 +243,26 @@ fn is_array_value(value: &Value) -> bool
 }
 
 /// Whether there is a header `[workspace]`.
+#[tactic(auto, using(hack_base::proofs::Chains::mapped))]
 fn any_header(pieces: &[Piece<'_>]) -> bool
     ensures { result ≡ some_header (slice_view pieces.now) }
 {
-    for piece in pieces {
-        if is_header_of(piece, WORKSPACE) {
-            return true;
-        }
-    }
-    false
+    pieces.iter().any(|piece| is_header_of(piece, WORKSPACE))
 }
 
 /// Whether some path has control characters.
+#[tactic(auto, using(hack_base::proofs::Chains::mapped))]
 fn any_control(paths: &[&str]) -> bool
     ensures { result ≡ some_path_control (names_behind paths.now) }
 {
-    for path in paths {
-        if has_control(path) {
-            return true;
-        }
-    }
-    false
+    paths.iter().any(|path| has_control(path))
 }
 
 /// Whether a text has control characters.
 fn has_control(text: &str) -> bool
     ensures { result ≡ some_control text.now }
 {
-    for byte in text.as_bytes() {
-        if *byte < 32 || *byte == 127 {
-            return true;
-        }
-    }
-    false
+    text.as_bytes()
+        .iter()
+        .any(|byte| *byte < 32 || *byte == 127)
 }

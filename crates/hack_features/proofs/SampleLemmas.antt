@@ -7,7 +7,7 @@ use Rattle.std.proofs.lemmas.Bool.Decides.{eqb_tells}
 use Rattle.std.proofs.lemmas.List.{take_all, get_or-replicate}
 use Rattle.std.proofs.Math.ListN.{get_or-map}
 use Rattle.std.proofs.lemmas.List.FromFn.{get_or-map-range_with_len, length-map-range_with_len}
-use Rattle.std.proofs.lemmas.List.Folds.{list_all-append}
+use Rattle.std.proofs.lemmas.List.Folds.{list_all-append, list_all-map}
 use Rattle.std.proofs.lemmas.List.Elements.{All-map, All-weaker, All-contains, Contains-get_or}
 use Rattle.hack_base.proofs.Members.{Contains-nil, Contains-head, Contains-map, Contains-map_from}
 use Rattle.hack_base.proofs.Passes.{some_passes, any_passes, all_pass, each_passes}
@@ -95,10 +95,6 @@ any-same : {X : Type 0} (f g : X → Bool) (xs : List X) → ((x : X) → f x �
 any-same f g [] h = refl
 any-same f g (x ∷ xs) h = ap (λ b. b || list_any f xs) (h x) ∙ ap (λ b. g x || b) (any-same f g xs h)
 
-all-mapped : {X Y : Type 0} (f : Y → Bool) (g : X → Y) (xs : List X) → list_all f (map g xs) ≡ list_all (λ x. f (g x)) xs
-all-mapped f g [] = refl
-all-mapped f g (x ∷ xs) = ap (λ b. f (g x) && b) (all-mapped f g xs)
-
 -- a set that has one of all positions isn't empty
 some_member : (n : ℕ) (s : List Bool) → has_one_of s (positions_of (replicate n true)) ≡ true → positions_of s ≢ []
 some_member n s h e =
@@ -167,7 +163,7 @@ module _ (r : Rules) where
       let ys : List ℕ = get_or cands p [] in
       let g = providers_of marks cands in
       let E : Name → Type 0 = IsEnabledBy c (positions_of s) in
-      let is : is_on providers s p ≡ list_all (λ y. has_one_of s (g y)) ys = ap (has_each s) (rows p) ∙ all-mapped (has_one_of s) g ys in (
+      let is : is_on providers s p ≡ list_all (λ y. has_one_of s (g y)) ys = ap (has_each s) (rows p) ∙ list_all-map (has_one_of s) g ys in (
         λ t. subst (All E) (at p).same (All-map E (name_at names) ys (λ k d lt.
             (provided s e (get_or ys k d) ((at p).within k d lt)).0 (each_passes (λ y. has_one_of s (g y)) ys (sym is ∙ t) (get_or ys k d) (Contains-get_or ys k d lt)))),
         λ on. is ∙ all_pass (λ y. has_one_of s (g y)) ys (λ y cy.
@@ -185,7 +181,7 @@ module _ (r : Rules) where
 
   groups-same : (s : List Bool) → has_each s (map positions_of serves) ≡ whole_of r (positions_of s)
   groups-same s =
-      all-mapped (has_one_of s) positions_of serves
+      list_all-map (has_one_of s) positions_of serves
       ∙ all-same (λ row. has_one_of s (positions_of row)) (λ row. list_any (bit row) (positions_of s)) serves (λ row. meet-either s row)
 
   pub listed_iff : (s : List Bool) → length s ≡ n → samples.IsListedMask may n required s ↔ IsListed c (positions_of s)

@@ -5,11 +5,12 @@ use Rattle.std.specs.List.{list_all, list_any, filter_map, cons_option}
 use Rattle.std.proofs.lemmas.List.{map-append, get_or_default, get_or_push, take_more}
 use Rattle.std.proofs.Math.ListN.{get_or-append}
 use Rattle.hack_routes.proofs.MarkLemmas.{nil_from}
-use Rattle.std.proofs.lemmas.Bool.{leb-true, le-leb, and_cases, and_parts, and_from, or_cases, or_right, cases_eq}
+use Rattle.std.proofs.lemmas.Bool.{leb-true, le-leb, and_parts, and_from, or_cases, or_right, cases_eq}
 use Rattle.std.proofs.lemmas.Bool.Decides.{eqb_tells}
 use Rattle.std.proofs.lemmas.List.Sums.{sum_by-cons}
 use Rattle.std.proofs.lemmas.List.Elements.{All-contains, All-head, All-tail, All-nil, All-cons, All-append, Contains-get_or, Contains-push, Contains-push_cases, Contains-append_left}
-use Rattle.hack_base.proofs.Members.{Contains-nil, Contains-cons_cases, Contains-head, Contains-tail, Contains-map, Contains-map_from, lt_or_same}
+use Rattle.hack_base.proofs.Chains.{some_fails}
+use Rattle.hack_base.proofs.Members.{Contains-nil, Contains-cons_cases, Contains-head, Contains-map, Contains-map_from, lt_or_same}
 use Rattle.hack_base.proofs.Passes.{all_pass, each_passes, some_passes, any_passes}
 use Rattle.hack_base.proofs.NameLemmas.{from_not_true, from_not_false}
 use Rattle.hack_features.proofs.Coverage.{named_in}
@@ -408,14 +409,6 @@ unlifted-more groups k group lifted lt more =
     ∙ ap (λ n. unlifted_groups (take k groups) lifted ++ cond (bit lifted n) [] (group ∷ [])) (let e : length (take k groups) ≡ k = omega (arith, length-take k groups) in e)
 
 -- redundancy
-
-some_fails : {X : Type 0} (p : X → Bool) (xs : List X) → list_all p xs ≡ false → (x : X) × Contains xs x × (p x ≡ false)
-some_fails p [] e = absurd (let t : true ≡ false = e in cc)
-some_fails p (x ∷ xs) e =
-    elim (and_cases (p x) (list_all p xs) e) [
-      | inl w ↦ (x, Contains-head x xs, w)
-      | inr w ↦ let r = some_fails p xs w in (r.0, Contains-tail x xs r.0 r.1, r.2)
-    ]
 
 -- what a table of which candidate spares which says of redundancy
 module _ (c : Choice) (rows : List (List Bool)) (h : (p q : ℕ) → p < length c.candidates → q < length c.candidates → IsTrue (cell rows p q) ↔ Spares c p q) (s : List ℕ) (sel : IsSelection (length c.candidates) s) where

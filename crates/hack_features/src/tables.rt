@@ -78,6 +78,7 @@ fn are_ends(routes: &Routes, names: &[usize]) -> bool
 }
 
 /// Whether some candidate has no names.
+#[tactic(auto, using(hack_base::proofs::Chains::mapped))]
 fn is_some_nameless(candidates: &[Vec<usize>]) -> bool
     ensures { result ≡ list_any (λ names. length names == 0) (rows_of candidates.now) }
 {
@@ -356,6 +357,7 @@ impl Tables {
 
     /// Whether each exclusion group is reached by at most one name of the candidates at the
     /// positions and at `last`.
+    #[tactic(auto, using(hack_base::proofs::Chains::mapped))]
     pub(crate) fn is_exclusive(&self, positions: &[usize], last: usize) -> bool
         ensures { result ≡ is_exclusive (rows_of self.now.hits.items) (positions.now ++ last ∷ []) }
     {
@@ -366,6 +368,7 @@ impl Tables {
 
     /// Whether each exclusion group is reached by at most one name of the set's members and of
     /// `last`.
+    #[tactic(auto, using(hack_base::proofs::Chains::mapped))]
     pub(crate) fn is_exclusive_in(&self, set: &[bool], last: usize) -> bool
         ensures { result ≡ is_exclusive (rows_of self.now.hits.items)
             (positions_of set.now ++ last ∷ []) }
@@ -395,6 +398,7 @@ impl Tables {
     }
 
     /// Whether each at-least-one group is served by one of those at the positions.
+    #[tactic(auto, using(hack_base::proofs::Chains::mapped))]
     pub(crate) fn is_required(&self, positions: &[usize]) -> bool
         ensures { result ≡ is_required (rows_of self.now.serves.items) positions.now }
     {

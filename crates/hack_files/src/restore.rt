@@ -71,15 +71,11 @@ impl Manager {
     }
 
     /// Returns whether the bytes of this path are kept already.
+    #[tactic(auto, using(hack_base::proofs::Chains::mapped))]
     pub fn keeps(&self, path: &str) -> bool
         ensures { result ≡ is_kept (registered_files self.now) path.now }
     {
-        for file in &self.saved {
-            if file.path.as_str() == path {
-                return true;
-            }
-        }
-        false
+        self.saved.iter().any(|file| file.path.as_str() == path)
     }
 
     /// Keeps the bytes of a file, where `needs_restore` is true and its path is not kept yet.

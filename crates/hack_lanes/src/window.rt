@@ -226,27 +226,21 @@ impl Window {
     }
 
     /// Whether the command of a place was started, and isn't told yet.
+    #[tactic(auto, using(hack_base::proofs::Chains::mapped))]
     fn is_pending(&self, place: usize) -> bool
         ensures { result ≡ is_pending place (map pending_of self.now.children.items) }
     {
-        for child in &self.children {
-            if child.is_at(place) {
-                return true;
-            }
-        }
-        false
+        self.children.iter().any(|child| child.is_at(place))
     }
 
     /// Whether the command of a place was started, and hasn't been seen to have ended.
+    #[tactic(auto, using(hack_base::proofs::Chains::mapped))]
     fn is_running(&self, place: usize) -> bool
         ensures { result ≡ is_running place (map pending_of self.now.children.items) }
     {
-        for child in &self.children {
-            if child.is_at(place) && !child.over {
-                return true;
-            }
-        }
-        false
+        self.children
+            .iter()
+            .any(|child| child.is_at(place) && !child.over)
     }
 
     /// The first lane that no command runs in, where one more may be started.
@@ -268,15 +262,11 @@ impl Window {
     }
 
     /// Whether no command runs in a lane.
+    #[tactic(auto, using(hack_base::proofs::Chains::mapped))]
     fn has_none(&self, lane: usize) -> bool
         ensures { result ≡ is_free lane (map pending_of self.now.children.items) }
     {
-        for child in &self.children {
-            if !child.leaves(lane) {
-                return false;
-            }
-        }
-        true
+        self.children.iter().all(|child| child.leaves(lane))
     }
 
     /// Looks which of the started commands have ended.

@@ -104,15 +104,11 @@ impl Features {
 }
 
 /// Returns whether one of the features has the name.
+#[tactic(auto, using(hack_base::proofs::Chains::mapped))]
 fn has_name(features: &[Feature], name: &str) -> bool
     ensures { result ≡ list_any (bytes_eq name.now) (texts_of features.now) }
 {
-    for feature in features {
-        if name == feature.name() {
-            return true;
-        }
-    }
-    false
+    features.iter().any(|feature| name == feature.name())
 }
 
 /// Returns the dependencies of a package.
@@ -183,16 +179,12 @@ fn is_named(features: &BTreeMap<String, Vec<String>>, dep: &str) -> bool
 }
 
 /// Returns whether one of the values names the dependency by `dep:`.
+#[tactic(auto, using(hack_base::proofs::Chains::mapped))]
 fn one_names(values: &[String], dep: &str) -> bool
     ensures { result ≡ list_any (bytes_eq (codes "dep:" ++ dep.now))
         (names_of values.now) }
 {
-    for value in values {
-        if names_dep(value.as_str(), dep) {
-            return true;
-        }
-    }
-    false
+    values.iter().any(|value| names_dep(value.as_str(), dep))
 }
 
 /// Returns whether the value names the dependency by `dep:`.
@@ -299,15 +291,11 @@ fn add_paths(
 }
 
 /// Returns whether one of the kinds is that of a normal dependency, for every target.
+#[tactic(auto, using(hack_base::proofs::Chains::mapped))]
 fn one_is_normal(kinds: &[DepKindInfo]) -> bool
     ensures { result ≡ list_any is_normal (map kind_view kinds.now) }
 {
-    for kind in kinds {
-        if is_normal(kind) {
-            return true;
-        }
-    }
-    false
+    kinds.iter().any(|kind| is_normal(kind))
 }
 
 /// Returns whether the kind is that of a normal dependency, for every target.

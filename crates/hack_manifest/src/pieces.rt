@@ -126,13 +126,9 @@ fn is_value_of(piece: &Piece<'_>, name: &str) -> bool
 
 /// Whether some piece is a key of just this name with its value: then a table of this name is
 /// written inline.
+#[tactic(auto, using(hack_base::proofs::Chains::mapped))]
 pub fn is_inline(pieces: &[Piece<'_>], name: &str) -> bool
     ensures { result ≡ is_inline name.now (slice_view pieces.now) }
 {
-    for piece in pieces {
-        if is_value_of(piece, name) {
-            return true;
-        }
-    }
-    false
+    pieces.iter().any(|piece| is_value_of(piece, name))
 }

@@ -21,12 +21,7 @@ fn has_place(plan: &Plan, member: usize, first: usize, end: usize) -> bool
     ensures { result
         ≡ list_any (of_package plan.now member) (range_with_len first (end - first)) }
 {
-    for place in first..end {
-        if is_of(plan, member, place) {
-            return true;
-        }
-    }
-    false
+    (first..end).any(|place| is_of(plan, member, place))
 }
 
 /// The versions that the package uses, as indices, in order.

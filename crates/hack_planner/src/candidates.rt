@@ -33,39 +33,29 @@ use hack_words::cli::Args;
 use std::alloc::{AllocError, Global};
 
 /// Whether one of `names` is `name`.
+#[tactic(auto, using(hack_base::proofs::Chains::mapped))]
 pub(crate) fn has_name(names: &[String], name: &str) -> bool
     ensures { result ≡ name_in (names_of names.now) name.now }
 {
-    for own in names {
-        if name == own.as_str() {
-            return true;
-        }
-    }
-    false
+    names.iter().any(|own| name == own.as_str())
 }
 
 /// Whether one of the features, or groups, has the name.
+#[tactic(auto, using(hack_base::proofs::Chains::mapped))]
 pub(crate) fn one_has(features: &[Feature], name: &str) -> bool
     ensures { result ≡ one_names (groups_of features.now) name.now }
 {
-    for feature in features {
-        if has_name(feature.as_group(), name) {
-            return true;
-        }
-    }
-    false
+    features
+        .iter()
+        .any(|feature| has_name(feature.as_group(), name))
 }
 
 /// Whether one of the names is one of the others.
+#[tactic(auto, using(hack_base::proofs::Chains::mapped))]
 fn shares_name(others: &[String], names: &[String]) -> bool
     ensures { result ≡ list_any (name_in (names_of others.now)) (names_of names.now) }
 {
-    for name in names {
-        if has_name(others, name.as_str()) {
-            return true;
-        }
-    }
-    false
+    names.iter().any(|name| has_name(others, name.as_str()))
 }
 
 /// Whether the name is excluded or in a group, so that it is no candidate by itself.
@@ -76,15 +66,14 @@ fn is_taken(asked: &PackageRules, name: &str) -> bool
 }
 
 /// Whether the feature stays a candidate by itself.
+#[tactic(auto, using(hack_base::proofs::Chains::mapped))]
 fn stays(asked: &PackageRules, feature: &Feature) -> bool
     ensures { result ≡ stays_for (rules_in asked.now) (group_of feature.now) }
 {
-    for name in feature.as_group() {
-        if is_taken(asked, name.as_str()) {
-            return false;
-        }
-    }
-    true
+    feature
+        .as_group()
+        .iter()
+        .all(|name| !is_taken(asked, name.as_str()))
 }
 
 /// Whether `--optional-deps` asks for the optional dependency: it has its name, or no names at all.
@@ -105,16 +94,12 @@ fn is_known(features: &Features, name: &str) -> bool
 }
 
 /// Whether a feature or an optional dependency of the package has each of the names.
+#[tactic(auto, using(hack_base::proofs::Chains::mapped))]
 fn are_known(features: &Features, names: &[String]) -> bool
     ensures { result ≡ list_all (known_to features.now)
         (names_of names.now) }
 {
-    for name in names {
-        if !is_known(features, name.as_str()) {
-            return false;
-        }
-    }
-    true
+    names.iter().all(|name| is_known(features, name.as_str()))
 }
 
 /// Whether the group is applied to the package. It isn't if it has an unknown name and

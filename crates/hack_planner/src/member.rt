@@ -58,13 +58,11 @@ pub(crate) fn matches_some(members: &[Member<'_>], spec: &str) -> bool
 }
 
 /// Whether one of the members has the name.
+#[tactic(auto, using(hack_base::proofs::Chains::mapped))]
 pub(crate) fn is_called(members: &[Member<'_>], name: &str) -> bool
     ensures { result ≡ is_called (map member_view members.now) name.now }
 {
-    for member in members {
-        if member.pkg.name.as_str() == name {
-            return true;
-        }
-    }
-    false
+    members
+        .iter()
+        .any(|member| member.pkg.name.as_str() == name)
 }

@@ -322,15 +322,13 @@ fn held_groups(alloc: Global, args: &Args, name: &str) -> Result<Vec<Feature>, A
 }
 
 /// Whether the group is lifted for the package of that name.
+#[tactic(auto, using(hack_base::proofs::Chains::mapped))]
 fn is_lifted(args: &Args, name: &str, group: &Feature) -> bool
     ensures { result ≡ lifted_for args.now name.now (group_of group.now) }
 {
-    for lift in &args.allow_together {
-        if lifts(lift, name, group) {
-            return true;
-        }
-    }
-    false
+    args.allow_together
+        .iter()
+        .any(|lift| lifts(lift, name, group))
 }
 
 /// Whether the lift is for the package of that name and for this group.

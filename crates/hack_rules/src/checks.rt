@@ -31,13 +31,9 @@ pub fn clash(option: Opt, other: Opt, uses: &[Use]) -> Result<(), CliFault>
 }
 
 /// Whether the name is one of these.
+#[tactic(auto, using(hack_base::proofs::Chains::mapped))]
 pub fn has(names: &[String], name: &str) -> bool
     ensures { result ≡ is_among (names_of names.now) name.now }
 {
-    for one in names {
-        if one.as_str() == name {
-            return true;
-        }
-    }
-    false
+    names.iter().any(|one| one.as_str() == name)
 }

@@ -38,15 +38,11 @@ use hack_options::Opt;
 use hack_term::term::Coloring;
 use std::alloc::Global;
 
+#[tactic(auto, using(hack_base::proofs::Chains::mapped))]
 fn group_has(groups: &[Feature], name: &str) -> bool
     ensures { result ≡ is_in_group (groups_of groups.now) name.now }
 {
-    for group in groups {
-        if has(group.as_group(), name) {
-            return true;
-        }
-    }
-    false
+    groups.iter().any(|group| has(group.as_group(), name))
 }
 
 /// The colouring of the command line, else that of the environment.

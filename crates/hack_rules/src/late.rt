@@ -152,15 +152,11 @@ fn is_message_format(one: &Use) -> bool
 }
 
 /// Whether cargo's messages are formatted: then lines of `cargo hack` would be in the way.
+#[tactic(auto, using(hack_base::proofs::Chains::mapped))]
 fn formats_messages(uses: &[Use]) -> bool
     ensures { result ≡ list_any message_format (views uses.now) }
 {
-    for one in uses {
-        if is_message_format(one) {
-            return true;
-        }
-    }
-    false
+    uses.iter().any(|one| is_message_format(one))
 }
 
 /// How the lines of a run are grouped.
@@ -238,15 +234,11 @@ fn is_beside_restore(one: &Use) -> bool
 }
 
 /// Whether all uses are of these options.
+#[tactic(auto, using(hack_base::proofs::Chains::mapped))]
 fn are_beside_restore(uses: &[Use]) -> bool
     ensures { result ≡ list_all beside_restore (views uses.now) }
 {
-    for one in uses {
-        if !is_beside_restore(one) {
-            return false;
-        }
-    }
-    true
+    uses.iter().all(|one| is_beside_restore(one))
 }
 
 /// Refuses other arguments beside `--restore`.

@@ -178,15 +178,11 @@ fn is_named(group: &Feature, names: &[String]) -> bool
 }
 
 /// Whether one group has exactly these names, in this order.
+#[tactic(auto, using(hack_base::proofs::Chains::mapped))]
 fn has_names(groups: &[Feature], names: &[String]) -> bool
     ensures { result ≡ list_any (same_names (names_of names.now)) (map group_of groups.now) }
 {
-    for group in groups {
-        if is_named(group, names) {
-            return true;
-        }
-    }
-    false
+    groups.iter().any(|group| is_named(group, names))
 }
 
 /// Each value must lift one of the groups. `lifts` is what the values were read as.

@@ -370,12 +370,7 @@ pub(crate) fn keep<E: Sink>(
 fn is_broken(found: &[Found]) -> bool
     ensures { MatchBool result (Contains found.now Found.Broken) (AreUnbroken found.now) }
 {
-    for one in found {
-        if one.is_broken() {
-            return true;
-        }
-    }
-    false
+    found.iter().any(|one| one.is_broken())
 }
 
 /// How many runs go side by side. A folder that an argument names would be that of all lanes.

@@ -11,15 +11,11 @@ use hack_options::Opt;
 use std::alloc::{AllocError, Global};
 
 /// Whether the option was used. An alias counts as the option that it means.
+#[tactic(auto, using(hack_base::proofs::Chains::mapped))]
 pub fn given(option: Opt, uses: &[Use]) -> bool
     ensures { result ≡ is_given option (views uses.now) }
 {
-    for one in uses {
-        if one.is_of(option) {
-            return true;
-        }
-    }
-    false
+    uses.iter().any(|one| one.is_of(option))
 }
 
 /// The first argument that no option takes; later ones are arguments of this subcommand.
