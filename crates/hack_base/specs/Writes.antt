@@ -22,10 +22,6 @@ HasFailed None new = ⊤
 HasFailed (Some n) None = ⊥
 HasFailed (Some n) (Some m) = (n ≤ m) × (n < 2 ^ 64 - 1 → n < m)
 
--- a text was written whole, or some failure was counted; of a sink that counts none nothing is said
-abbrev pub Writes : Option (List ℕ) → Option (List ℕ) → Option ℕ → Option ℕ → List ℕ → Type 0
-Writes old new before now text = HasFailed before now ⊎ (Appends old new text × NoFewer before now)
-
 -- an error comes only with a failure that was counted
 abbrev pub CountsErrors : {T E : Type 0} → Option ℕ → Option ℕ → Result T E → Type 0
 CountsErrors old new (Ok done) = NoFewer old new

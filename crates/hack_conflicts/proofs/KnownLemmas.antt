@@ -38,14 +38,6 @@ needs_later r a b h set less w x needs = λ s choice within lacks. passed_later 
 pub least_later : (r : Rules) (a b : List Run) → ((run : Run) → Contains a run → Contains b run) → (set : List Bool) → IsLeast r a set → IsLeast r b set
 least_later r a b h set least = λ x member. needs_later r a b h set set (λ p has. has) x (least x member)
 
-pub cut_off : (r : Rules) (most : Option ℕ) (k : Known) (s : List Bool) → IsSpent most (length k.runs.items) → IsNext r k s → IsCutOff r most k
-cut_off r most k s spent next = record {
-  spent = spent;
-  unsettled = (s, next.choice, λ (settled : IsSettled k s). elim settled [ inl h ↦ next.clear.conflicts h | inr h ↦ next.fresh h ]);
-  going = next.clear.going;
-  blamed = next.blamed;
-}
-
 -- nothing was recorded
 
 pub sound_as : (k m : Known) → told m ≡ told k → conflicts_of m ≡ conflicts_of k → passing_of m ≡ passing_of k → (r : Rules) (most : Option ℕ) → IsSound r most k → IsSound r most m
@@ -75,9 +67,6 @@ module _ (k m : Known) (same : told m ≡ told k) (same_conflicts : m.conflicts 
 -- one more run was recorded
 
 module _ (k m : Known) (s : List Bool) (o : BuildOutcome) (ran : told m ≡ told k ++ record { set = s; outcome = o } ∷ []) (same_conflicts : m.conflicts ≡ k.conflicts) (same_passing : m.passing ≡ k.passing) where
-  new_run : Run
-  new_run = record { set = s; outcome = o }
-
   pub runs_kept : (run : Run) → Contains (told k) run → Contains (told m) run
   runs_kept run h = subst (λ l. Contains l run) (sym ran) (Contains-append_left (told k) (record { set = s; outcome = o } ∷ []) run h)
 

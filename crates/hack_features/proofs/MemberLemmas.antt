@@ -58,9 +58,6 @@ inserted k (false ∷ s) (suc p) lt h =
 
 -- no test depends on where among the others a position is
 module _ (xs ys : List ℕ) (p : ℕ) where
-  among : List ℕ
-  among = xs ++ p ∷ ys
-
   last : List ℕ
   last = (xs ++ ys) ++ p ∷ []
 
@@ -166,10 +163,6 @@ pub length-positions : (k : ℕ) (s : List Bool) → length (filter (λ b. b) s)
 length-positions k [] = refl
 length-positions k (true ∷ s) = let e = length-positions (k + 1) s in omega (arith, e)
 length-positions k (false ∷ s) = length-positions (k + 1) s
-
-and-false : (a b : Bool) → (a && b) ≡ false → (a ≡ false) ⊎ (b ≡ false)
-and-false true b h = inr h
-and-false false b h = inl refl
 
 none-next-by : (g : ℕ → Bool) (s : List Bool) (k : ℕ) → k < length s → (b : Bool) → has s k ≡ b → (b && g k) ≡ false → list_all (λ q. not (g q)) (positions_of (take k s)) ≡ true
     → list_all (λ q. not (g q)) (positions_of (take (k + 1) s)) ≡ true

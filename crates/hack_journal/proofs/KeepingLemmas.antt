@@ -36,16 +36,6 @@ pub fails_write : {F T : Type 0} (f : Filing F) (path : List ℕ) (r : Result T 
 fails_write f path (Ok v) a b h = h
 fails_write f path (Err fault) a b h = of_cause (WriteFailed f path a b) fault h
 
--- what is held at first is known
-first_is : (o : Option Edit) (now held : Option (List ℕ)) → IsHeld o now held → held ≡ held_first o now
-first_is None now held is = sym is
-first_is (Some e) now held is = sym is
-
-pub is_other : {F : Type 0} (f : Filing F) (noted : Noted) (path : List ℕ) (bytes held : Option (List ℕ)) (old : F) → (f.tells → IsHeld (first_entry_of noted.entries path) (f.bytes_at old path) held)
-    → is_edit_of_manifest (record { path = path; held = held; wrote = bytes }) ≡ false → IsOther f noted path bytes old
-is_other f noted path bytes held old is none = λ t.
-    subst (λ (h : Option (List ℕ)). is_edit_of_manifest (record { path = path; held = h; wrote = bytes }) ≡ false) (first_is (first_entry_of noted.entries path) (f.bytes_at old path) held (is t)) none
-
 -- why the row gets no file, told from before calls that only looked
 pub ahead_then : {F : Type 0} (f : Filing F) (noted : Noted) (a b c : F) → NoneFailed f a b → (f.tells → KeepsAll (f.bytes_at a) (f.bytes_at b)) → CannotLookAhead f noted b c → CannotLookAhead f noted a c
 ahead_then f noted a b c none same (inl look) = inl (look_then f (file_at noted.journal (length noted.entries + 1)) a b c none look)

@@ -11,9 +11,6 @@ length_front bs xs ys e = omega (arith, ap length e, length-append xs ys)
 pub IsCharBoundary-rest : (bs xs ys : List ℕ) → bs ≡ xs ++ ys → IsUtf8 ys → IsCharBoundary bs (length bs - length ys)
 IsCharBoundary-rest bs xs ys e u = let P : ℕ → Type 0 = λ n. IsCharBoundary bs n in subst P (sym (length_front bs xs ys e)) (IsCharBoundary-at_seam bs xs ys e u)
 
-pub drop_front : (bs xs ys : List ℕ) → bs ≡ xs ++ ys → drop (length bs - length ys) bs ≡ ys
-drop_front bs xs ys e = rw (length_front bs xs ys e) (rw e (drop_at xs ys (length xs) refl))
-
 -- an argument is a prefix, a letter and the rest
 pub word_parts : (word letter rest : List ℕ) (at : ℕ) → drop at word ≡ letter ++ rest → word ≡ (take at word ++ letter) ++ rest
 word_parts word letter rest at e = sym (take-append-drop at word) ∙ ap (λ (t : List ℕ). take at word ++ t) e ∙ sym (append_assoc (take at word) letter rest)

@@ -9,10 +9,6 @@ use Rattle.hack_metadata.specs.declared.ask.fault.AskFault.TheVariants as ask
 use Rattle.hack_load.specs.FilesAfterLoading.{LeavesFew}
 use Rattle.hack_load.specs.Internal.{MayFail, ReadsOnly}
 
--- nothing is done yet
-pub nothing : (tells : Type 0) (a : Contents) (x : ℕ) → Whole tells a a x x
-nothing tells a x = (λ low. omega (arith, low), λ t q. refl)
-
 -- a count that stays, and then grows
 pub count-more : (k x y z : ℕ) → GrowsBy 0 x y → GrowsBy k y z → GrowsBy k x z
 count-more k x y z f g = λ low. let first = f low in let second = g (omega (arith, first)) in omega (arith, first, second)

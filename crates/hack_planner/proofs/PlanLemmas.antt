@@ -36,9 +36,6 @@ of-kind w p f Normal groups runs g r h = inr (g, r)
 of-kind w p f (Each list sets) groups runs g r h = inl (g ∙ h.2)
 of-kind w p f (Powerset list sets) groups runs g r h = inl (g ∙ h.1)
 
-pub same_some : {X : Type 0} (a b : X) → Some a ≡ Some b → a ≡ b
-same_some a b e = cc
-
 -- what follows beside each element of the first list
 pub zip-weaker : {A B : Type 0} (R S : A → B → Type 0) → ((x : A) (y : B) → R x y → S x y) → (xs : List A) (ys : List B) → AllZip R xs ys → AllZip S xs ys
 zip-weaker R S f [] [] h = tt

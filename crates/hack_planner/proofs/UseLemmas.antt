@@ -132,12 +132,6 @@ right-more cx ids s versions p one of_call at are told =
 
 -- ---- packages in a plan
 
-pub turned : (b other : Bool) → not b ≡ other → b ≡ not other
-turned true true e = absurd (cc)
-turned true false e = refl
-turned false true e = refl
-turned false false e = absurd (cc)
-
 pub not-true : (b : Bool) → ¬ IsTrue b → b ≡ false
 not-true true none = absurd (none refl)
 not-true false none = refl

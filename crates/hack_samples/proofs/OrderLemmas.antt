@@ -36,12 +36,6 @@ before_trans s t u a b =
       ]
     ]
 
--- truth values that differ
-pub differ : (a b : Bool) → not (beq a b) ≡ true → a ≡ true → b ≡ false
-differ true true h e = sym h
-differ true false h e = refl
-differ false b h e = absurd (not_both e refl)
-
 module _ {X : Type 0} (R : X → X → Type 0) (xs : List X) (i : ℕ) (y : X) where
   both-past : (a b : ℕ) (d : X) → a < b + 1 → i < a → b < length xs → i ≤ length xs → AllPairs R xs → R (get_or (insert xs i y) a d) (get_or xs b d)
   both-past a b d lt in' below le pairs =
@@ -86,9 +80,6 @@ module _ {X : Type 0} (xs : List X) (i : ℕ) (y : X) where
         | inl w ↦ Contains-append_left (take i xs) (y ∷ drop i xs) x w
         | inr w ↦ Contains-append_right (take i xs) (y ∷ drop i xs) x (Contains-append_right (y ∷ []) (drop i xs) x w)
       ]
-
-  pub added-insert : Contains (insert xs i y) y
-  added-insert = Contains-append_right (take i xs) (y ∷ drop i xs) y (Contains-append_left (y ∷ []) (drop i xs) y (Contains-push [] y))
 
   pub only-insert : (x : X) → Contains (insert xs i y) x → Contains xs x ⊎ (x ≡ y)
   only-insert x h =

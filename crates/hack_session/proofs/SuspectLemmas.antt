@@ -42,9 +42,6 @@ single-failed plan h part f =
       | inr e ↦ (ap (λ (x : Handed). is_failed x.outcome) e ∙ ap is_failed f.failed, ap (part_at plan) e ∙ f.of)
     ]
 
-pub none-failed : (plan : PlanView) (h : Handed) (part : Part) → is_failed h.outcome ≡ false → HasFailedRun plan (h ∷ []) part → ⊥
-none-failed plan h part passed f = bools-differ (single-failed plan h part f).0 passed
-
 -- failed runs among earlier and later steps
 pub failed-before : (plan : PlanView) (xs ys : List Handed) (part : Part) → HasFailedRun plan xs part → HasFailedRun plan (xs ++ ys) part
 failed-before plan xs ys part f = record { by = f.by; among = Contains-append_left xs ys f.by f.among; failed = f.failed; of = f.of }

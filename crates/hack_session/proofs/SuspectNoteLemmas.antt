@@ -32,15 +32,6 @@ notes-some plan piece e found n old mid new (Ok v) is count first then =
     adds-then old mid new (headed_lines plan piece e found) (missed_lines n e) first then
     ∙ ap (λ k. old ++ (headed_lines plan piece e found ++ missed_lines k e)) count ∙ ap (λ s. old ++ notes_of plan piece e s) (sym is)
 
--- the notes on one more part
-pub notes-more : (plan : PlanView) (piece : Option Partition) (xs : List Explained) (i : ℕ) (x : Explained) (old new : List Note) → i < length xs → x ≡ get_or xs i x → new ≡ old ++ suspect_notes_on plan piece (explained_view x) → old ≡ flat_map (suspect_notes_on plan piece) (map explained_view (take i xs))
-    → new ≡ flat_map (suspect_notes_on plan piece) (map explained_view (take (i + 1) xs))
-notes-more plan piece xs i x old new lt is adds before =
-    let f = suspect_notes_on plan piece in
-    let front = map explained_view (take i xs) in
-    adds ∙ ap (λ l. l ++ f (explained_view x)) before
-    ∙ sym (ap (flat_map f) (map_more explained_view xs i x lt ∙ ap (λ y. front ++ explained_view y ∷ []) (sym is)) ∙ flat_map-append f front (explained_view x ∷ []) ∙ ap (λ l. flat_map f front ++ l) (append-nil (f (explained_view x))))
-
 pub any-setting : {Z : Type 0} (found : List (Vec Setting Z)) → list_any (λ v. has_setting v.items) found ≡ list_any has_setting (rows_of found)
 any-setting [] = refl
 any-setting (v ∷ found) = ap (λ b. has_setting v.items || b) (any-setting found)
