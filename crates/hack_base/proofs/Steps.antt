@@ -1,15 +1,14 @@
 -- Steps of loops over lists, and over lists mapped by a function.
-use Rattle.std.proofs.Common.{◌≡◌, ℕ, ◌+◌, ◌<◌, arith, List, [], ◌∷◌, ◌++◌, length, get_or, take, map, refl, sym, ◌∙◌, ap, subst, Bool, true, false, Contains, Option, Some, None}
-use Rattle.std.specs.Prelude.{◌&&◌, ◌||◌, Vec}
-use Rattle.std.specs.List.{list_all, list_any, filter_map, cons_option}
-use Rattle.std.proofs.lemmas.Bool.{and_from, or_from}
+use Rattle.std.proofs.Common.{◌≡◌, ℕ, ◌+◌, ◌<◌, arith, List, [], ◌∷◌, ◌++◌, length, get_or, take, map, refl, sym, ◌∙◌, ap, subst, Bool, true, false, Contains, Option, Some, None, inl, inr}
+use Rattle.std.specs.Prelude.{◌&&◌, Vec}
+use Rattle.std.specs.List.{list_all, filter_map, cons_option}
+use Rattle.std.proofs.lemmas.Bool.{and_from}
 use Rattle.std.proofs.lemmas.List.{take_more, get_or-map, length-map}
 use Rattle.std.proofs.lemmas.List.Folds.{list_all-append}
-use Rattle.std.proofs.Common.{inl, inr}
 use Rattle.std.proofs.Math.ListN.{get_or-append}
 use Rattle.std.proofs.Math.Seq.{get_or-append_seam}
 use Rattle.hack_base.proofs.Members.{Contains-map, lt_or_same}
-use Rattle.hack_base.proofs.Passes.{each_passes, any_passes}
+use Rattle.hack_base.proofs.Passes.{each_passes}
 
 -- what a loop has seen after one more element, mapped by a function
 pub seen-next : {X Y : Type 0} (f : X → Y) (xs : List X) (k : ℕ) (x : X) → k < length xs → x ≡ get_or xs k x → take (k + 1) (map f xs) ≡ take k (map f xs) ++ f x ∷ []

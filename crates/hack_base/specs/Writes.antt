@@ -1,5 +1,5 @@
 -- What is written to a sink, and how often that failed.
-use Rattle.std.specs.Prelude.{◌≡◌, ◌<◌, ◌≤◌, ◌⊎◌, ◌&&◌, ◌+◌, ◌-◌, ◌^◌, ℕ, Bool, true, List, ◌++◌, codes, length, nat_eq, nat_lt, Option, Some, None, Result, Ok, Err, min, option_map, if◌then◌else◌, ⊤}
+use Rattle.std.specs.Prelude.{◌≡◌, ◌<◌, ◌≤◌, ◌&&◌, ◌+◌, ◌-◌, ◌^◌, ℕ, Bool, true, List, ◌++◌, codes, length, nat_eq, nat_lt, Option, Some, None, Result, Ok, Err, min, option_map, if◌then◌else◌, ⊤}
 use Rattle.std.specs.Io.KnownBytes.{Appends}
 
 -- known bytes grow by a prefix of the text, which may be all of it

@@ -9,7 +9,7 @@ use Rattle.std.proofs.lemmas.List.Elements.{All-push, All-weaker, All-contains, 
 use Rattle.hack_conflicts.specs.Sets.{IsWithin, AreApart, rows_of}
 use Rattle.hack_conflicts.specs.Rules.{IsChoice}
 use Rattle.hack_conflicts.specs.Runs.{Run, runs_in, HasFailed, HasPassed, IsPassed, IsNew, IsCourse, Needs, IsLeast, IsSpent}
-use Rattle.hack_conflicts.specs.Internal.{IsSound, Grows, IsNext, IsWidest, IsCutOff, IsSettled, told, conflicts_of, passing_of}
+use Rattle.hack_conflicts.specs.Internal.{IsSound, Grows, IsNext, IsWidest, told, conflicts_of, passing_of}
 use Rattle.hack_conflicts.specs.declared.rules.Rules.{Rules}
 use Rattle.hack_conflicts.specs.declared.known.Known.{Known}
 use Rattle.hack_conflicts.specs.declared.tried.Tried.{Tried}

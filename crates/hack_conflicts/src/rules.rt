@@ -1,6 +1,6 @@
 //! What sets are chosen from, and by which rules.
 
-ghost use Rattle.std.specs.Prelude.{◌≡◌, ◌<◌, ◌≤◌, ◌↔◌, ℕ, List, Bool, All, Contains, IfOk, IsTrue};
+ghost use Rattle.std.specs.Prelude.{◌≡◌, ◌<◌, ◌≤◌, ◌↔◌, ℕ, List, Bool, All, IfOk, IsTrue};
 ghost use Rattle.std.specs.Prelude.{MatchOption};
 ghost use Rattle.hack_conflicts.specs.Sets.{rows_of, Has, IsWithin};
 ghost use Rattle.hack_conflicts.specs.Rules.{Meets, IsRequired, IsExclusive, IsPreorder, IsClosed};

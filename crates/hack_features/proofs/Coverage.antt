@@ -8,7 +8,7 @@ use Rattle.hack_base.proofs.Members.{Contains-nil, Contains-cons_cases}
 use Rattle.hack_base.specs.Names.{Name}
 use Rattle.hack_routes.specs.FeatureMap.{Chain, here, step, Enables, IsKey}
 use Rattle.hack_sets.specs.Sets.{IsSelection, IsWithin, Pairwise}
-use Rattle.hack_features.specs.Rules.{Choice, names_at, names_in, IsEnabledBy, IsRedundant, NotBothReach, IsExclusive, IsRequired, IsPermitted, Covers, IsWanted}
+use Rattle.hack_features.specs.Rules.{Choice, names_at, names_in, IsEnabledBy, IsRedundant, NotBothReach, IsExclusive, IsRequired, Covers, IsWanted}
 
 pub Chain-append : {edge : Name → Name → Type 0} {x y z : Name} → Chain edge x y → Chain edge y z → Chain edge x z
 Chain-append here d = d

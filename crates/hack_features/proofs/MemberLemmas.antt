@@ -9,11 +9,10 @@ use Rattle.std.proofs.lemmas.List.Elements.{All-push, All-weaker, All-head, All-
 use Rattle.hack_base.proofs.Steps.{all_one_more, all_fail, seen-next, row_items}
 use Rattle.std.proofs.lemmas.List.Folds.{list_all-append}
 use Rattle.std.proofs.lemmas.List.Sums.{sum_by-cons, sum_by-append}
-use Rattle.hack_samples.specs.Sets.{has, has_one_of}
+use Rattle.hack_samples.specs.Sets.{has, has_one_of, rows_of}
 use Rattle.hack_base.proofs.Members.{Contains-nil, Contains-cons_cases, Contains-head, Contains-tail}
 use Rattle.hack_base.proofs.Passes.{some_passes, any_passes, all_pass, each_passes}
 use Rattle.hack_features.specs.declared.rules.Rules.{Rules}
-use Rattle.hack_samples.specs.Sets.{rows_of}
 use Rattle.hack_features.specs.Tables.{keeps_depth, is_lean, is_exclusive, count_at}
 use Rattle.hack_routes.specs.Rows.{cell, bit}
 use Rattle.hack_features.specs.View.{may_of}

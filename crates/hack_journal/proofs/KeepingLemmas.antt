@@ -1,5 +1,5 @@
 -- Why an edit is refused, one step after another.
-use Rattle.std.proofs.Common.{◌≡◌, ◌+◌, inl, inr, subst, sym, ℕ, List, [], ◌∷◌, Option, Some, None, Result, Ok, Err, false, length}
+use Rattle.std.proofs.Common.{◌≡◌, ◌+◌, inl, inr, subst, sym, ℕ, List, [], ◌∷◌, Result, Ok, Err, false, length}
 use Rattle.std.specs.Prelude.{IsSome}
 use Rattle.hack_files.specs.Files.{KeepsAll}
 use Rattle.hack_files.specs.declared.fs.FileFault.{FileFault}
@@ -7,12 +7,9 @@ use Rattle.hack_files.specs.declared.fs.FileFault.TheVariants.{Memory, Device}
 use Rattle.hack_files.specs.declared.fs.Files.{Ghosts as Filing}
 use Rattle.hack_files.specs.FailedCalls.{NoneFailed, WriteFailed}
 use Rattle.hack_journal.specs.FailedCalls.{FailsRefusedAt}
-use Rattle.hack_journal.specs.Internal.{IsHeld, RefusesNextAtMost}
-use Rattle.hack_journal.specs.Journal.{Edit}
-use Rattle.hack_journal.specs.Keeping.{CannotAppend, CannotLookAhead, FailsOf, IsOfCause, IsOther, RefusesOthers, held_first}
+use Rattle.hack_journal.specs.Internal.{RefusesNextAtMost}
+use Rattle.hack_journal.specs.Keeping.{CannotAppend, CannotLookAhead, FailsOf, IsOfCause, RefusesOthers}
 use Rattle.hack_journal.specs.Rows.{Noted, file_at, is_of_journal}
-use Rattle.hack_journal.specs.SafeFiles.{first_entry_of}
-use Rattle.hack_journal.specs.Strangers.{is_edit_of_manifest}
 use Rattle.hack_base.proofs.Members.{Contains-cons_cases, Contains-nil}
 use Rattle.hack_files.proofs.FailedLemmas.{look_then, none_then, write_then}
 use Rattle.hack_journal.proofs.RowLemmas.{apart_from}

@@ -1,5 +1,5 @@
 -- What the files hold after several calls.
-use Rattle.std.proofs.Common.{inl, inr, ℕ, [], ◌∷◌, Result, Ok, Err, refl, sym, ◌∙◌, arith}
+use Rattle.std.proofs.Common.{inl, inr, ℕ, [], ◌∷◌, Result, Ok, Err, sym, ◌∙◌, arith}
 use Rattle.hack_base.specs.Names.{Name}
 use Rattle.hack_files.specs.Files.{Contents, Grows, KeepsAll}
 use Rattle.hack_base.specs.Counters.{GrowsBy}

@@ -1,5 +1,5 @@
 -- How the steps of a trial go together.
-use Rattle.std.proofs.Common.{◌≡◌, ◌+◌, ◌-◌, ◌<◌, ◌≤◌, ◌⊎◌, ℕ, zero, suc, Bool, true, false, List, [], ◌∷◌, ◌++◌, map, filter, length, get_or, take, drop, refl, sym, ap, subst, ◌∙◌, inl, inr, arith}
+use Rattle.std.proofs.Common.{◌≡◌, ◌+◌, ◌-◌, ◌<◌, ◌≤◌, ℕ, zero, suc, Bool, true, false, List, [], ◌∷◌, ◌++◌, map, filter, length, get_or, take, drop, refl, sym, ap, subst, ◌∙◌, inr, arith}
 use Rattle.std.specs.Prelude.{MatchBool}
 use Rattle.std.specs.List.{range_with_len}
 use Rattle.std.proofs.lemmas.List.{append_assoc, map-append}
@@ -11,7 +11,7 @@ use Rattle.hack_session.specs.Histories.{passed_step}
 use Rattle.hack_session.specs.declared.step.Handed.{Handed}
 use Rattle.hack_session.specs.declared.step.Step.{Step}
 use Rattle.hack_session.specs.declared.step.Step.TheVariants.{Prepare, Run}
-use Rattle.hack_msrv.specs.Trials.{ComesTo, StopsAt, failed_step, is_of, places_of, trial_steps}
+use Rattle.hack_msrv.specs.Trials.{ComesTo, StopsAt, failed_step, is_of, places_of}
 use Rattle.hack_msrv.specs.declared.trial.Came.{Came}
 use Rattle.hack_msrv.specs.declared.trial.Came.TheVariants.{Passed, Failed, Broken}
 use Rattle.hack_msrv.proofs.RangeLemmas.{filter-more, range-split}

@@ -1,5 +1,5 @@
 -- The sets of a package and its runs.
-use Rattle.std.proofs.Common.{◌≡◌, ◌∙◌, ℕ, ◌+◌, ◌-◌, ◌<◌, List, [], ◌∷◌, ◌++◌, length, get_or, take, drop, map, Contains, Bool, true, false, not, None, Some, Global, inl, inr, refl, ap, sym, subst, arith, eqb-true}
+use Rattle.std.proofs.Common.{◌≡◌, ◌∙◌, ℕ, ◌+◌, ◌-◌, ◌<◌, List, [], ◌∷◌, ◌++◌, length, get_or, take, drop, map, Contains, Bool, true, false, not, None, Global, inl, inr, refl, ap, sym, subst, arith, eqb-true}
 use Rattle.std.specs.Prelude.{Vec, nat_lt, ◌&&◌, ◌||◌, ◌==◌, if◌then◌else◌}
 use Rattle.std.specs.Borrow.{Bor}
 use Rattle.std.proofs.lemmas.List.{map-append, take-append-drop, length-map, get_or-map}

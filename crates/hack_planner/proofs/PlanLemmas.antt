@@ -3,7 +3,7 @@ use Rattle.std.proofs.Common.{◌≡◌, refl, sym, ap, subst, ◌∙◌, ℕ, �
 use Rattle.std.specs.Prelude.{IsSomeAnd, IsTrue, ◌↔◌, slice_get}
 use Rattle.std.specs.List.{AllZip}
 use Rattle.std.proofs.lemmas.Option.{slice_get-map, slice_get_read, get_or_from_slice_get}
-use Rattle.hack_planner.specs.Kinds.{package_choice}
+use Rattle.hack_planner.specs.Kinds.{package_choice, AreCovering}
 use Rattle.hack_planner.specs.PackageRules.{PackageRulesRecord}
 use Rattle.hack_features.specs.Rules.{IsWanted}
 use Rattle.hack_sets.specs.Sets.{IsSelection}
@@ -12,7 +12,6 @@ use Rattle.hack_load.specs.declared.features.Features.{Features}
 use Rattle.hack_metadata.specs.Records.{PackageRecord}
 use Rattle.hack_base.specs.Names.{Name}
 use Rattle.hack_planner.specs.Candidates.{candidates}
-use Rattle.hack_planner.specs.Kinds.{AreCovering}
 use Rattle.hack_planner.specs.KindsView.{IsKind, candidates_in, runs_of}
 use Rattle.hack_planner.specs.declared.kind.Kind.{Kind}
 use Rattle.hack_planner.specs.declared.kind.Kind.TheVariants.{Normal, Each, Powerset}

@@ -6,11 +6,8 @@ use Rattle.std.specs.declared.io.ErrorKind.{ErrorKind}
 use Rattle.std.specs.IoError.{error_kind}
 use Rattle.hack_base.specs.Writes.{HasFailed, NoFewer}
 use Rattle.hack_base.specs.WriteLaws.{NoFewer-trans, failed-later}
-use Rattle.hack_powerset_list.specs.declared.fault.ListFault.TheVariants.{NotText, Read, Write, Memory}
-use Rattle.hack_powerset_list.specs.declared.wishes.WordsFault.{WordsFault}
-use Rattle.hack_powerset_list.specs.declared.wishes.WordsFault.TheVariants as said
+use Rattle.hack_powerset_list.specs.declared.fault.ListFault.TheVariants.{Write, Memory}
 use Rattle.hack_powerset_list.specs.Faults.{is_memory_kind, told_as}
-use Rattle.hack_powerset_list.specs.Words.{list_fault}
 use Rattle.hack_powerset_list.specs.Streams.{IsCounted, CountsUnlessMemory}
 
 -- a read after tries that gave nothing

@@ -8,7 +8,6 @@ use Rattle.hack_samples.specs.Samples.{Shows, SomeShows, ShowEachPattern}
 use Rattle.hack_samples.specs.InternalDescendingPatterns.{IsPossible, Descends, CoversBelow, AreKept}
 use Rattle.hack_samples.specs.declared.sets.Setting.{Setting}
 use Rattle.hack_samples.proofs.SetLemmas.{told}
-use Rattle.hack_samples.proofs.ShowLemmas.{all-left}
 use Rattle.hack_samples.proofs.OrderLemmas.{three}
 use Rattle.hack_samples.proofs.SampleLemmas.{some-kept}
 

@@ -8,7 +8,7 @@ use Rattle.std.proofs.lemmas.List.Quantifiers.{all_pairs_remove}
 use Rattle.std.proofs.lemmas.List.Elements.{Contains-append_left, Contains-append_right, Contains-append_cases, Contains-push_cases}
 use Rattle.hack_samples.specs.Sets.{is_on, rows_of}
 use Rattle.hack_samples.specs.Order.{IsMaskBefore}
-use Rattle.hack_samples.specs.Samples.{Shows, SomeShows, IsNeeded, IsLean}
+use Rattle.hack_samples.specs.Samples.{Shows, SomeShows, IsNeeded}
 use Rattle.hack_samples.specs.InternalDescendingPatterns.{IsShownBelow, IsAlone, AreShown, AreKept}
 use Rattle.hack_samples.specs.declared.sets.Setting.{Setting}
 use Rattle.hack_samples.proofs.ShowLemmas.{all-left, all-last}

@@ -2,7 +2,7 @@
 use Rattle.std.proofs.Common.{◌≡◌, ℕ, ◌+◌, ◌<◌, List, [], ◌∷◌, length, get_or, set, take, refl, ◌∙◌, arith, Bool, true, false, inl, inr, Option, Some, None, Result, Ok, Err, MatchOption, IfOk, IfSome, is_some}
 use Rattle.std.proofs.lemmas.List.Folds.{list_any_at, list_any_more}
 use Rattle.hack_samples.specs.Sets.{has, has_one_of, has_each, IsInside}
-use Rattle.hack_samples.specs.Internal.{IsSuited, Meets, NoneMeets}
+use Rattle.hack_samples.specs.Internal.{Meets, NoneMeets}
 use Rattle.hack_samples.proofs.SetLemmas.{told, not_both, or-both, and-true, and-both, has-set_same, inside-join}
 
 -- what a call found is passed on: no set stays no set, and a set stays that set

@@ -1,14 +1,10 @@
 -- Lemmas on the notices that explain failed runs.
-use Rattle.std.proofs.Common.{◌≡◌, ℕ, ◌+◌, ◌<◌, List, [], ◌∷◌, ◌++◌, length, get_or, take, map, refl, sym, ◌∙◌, ap, append_assoc, append-nil, String, Global, string_bytes, codes}
+use Rattle.std.proofs.Common.{◌≡◌, ℕ, ◌+◌, List, [], ◌∷◌, ◌++◌, map, refl, sym, ◌∙◌, ap, append_assoc, String, Global, string_bytes, codes, false, ◌||◌, Vec}
 use Rattle.std.specs.List.{flat_map, join_by, list_any}
-use Rattle.std.proofs.lemmas.List.{map_more}
-use Rattle.std.proofs.lemmas.List.Concat.{flat_map-append}
 use Rattle.std.proofs.lemmas.List.Folds.{flat_map-map}
 use Rattle.hack_base.specs.Notes.{Note}
 use Rattle.hack_plan.specs.View.{PlanView}
-use Rattle.hack_session.specs.declared.suspects.Explained.{Explained}
-use Rattle.hack_session.specs.Suspects.{ExplainedView, candidate_count, explained_view}
-use Rattle.std.proofs.Common.{false, ◌||◌, Vec}
+use Rattle.hack_session.specs.Suspects.{ExplainedView, candidate_count}
 use Rattle.hack_samples.specs.Sets.{rows_of}
 use Rattle.std.specs.Prelude.{Err, Ok, OnOk, Option, Result, Some, nat_eq, nat_lt, slice_get}
 use Rattle.hack_partition.specs.declared.partition.Partition.{Partition}

@@ -4,8 +4,7 @@
 //! counts its failures shows that an error comes only with one: where it never fails, lines are
 //! written.
 
-ghost use Rattle.std.specs.Prelude.{◌≡◌, IfSome, IfNone, OnOk, true, false};
-ghost use Rattle.std.specs.Prelude.{string_bytes};
+ghost use Rattle.std.specs.Prelude.{◌≡◌, IfSome, IfNone, OnOk, true, false, string_bytes};
 ghost use Rattle.std.specs.Io.KnownBytes.{Appends};
 ghost use Rattle.hack_base.specs.Writes.{AppendsFront, CountsErrors};
 ghost use Rattle.hack_term.specs.Lines.{coloring_name, IsNoColoring, coloring_of};

@@ -1,4 +1,4 @@
-use Rattle.std.proofs.Common.{◌≡◌, ◌∙◌, inl, inr, false, true, IfErr, IfOk, List, ap, sym, subst, map}
+use Rattle.std.proofs.Common.{◌≡◌, ◌∙◌, inl, inr, false, true, IfErr, IfOk, List, ap, sym, subst, map, OnErr, OnOk}
 use Rattle.std.specs.Prelude.{◌||◌}
 use Rattle.hack_prepare.specs.FailureCounts.{WriteFails}
 use Rattle.hack_words.specs.declared.cli.args.Args.{Args}
@@ -15,7 +15,6 @@ use Rattle.hack_prepare.specs.EditNotes.{notes}
 use Rattle.hack_prepare.proofs.CountLemmas.{calls_grow}
 use Rattle.hack_prepare.proofs.FaultLemmas.{asked-fault}
 use Rattle.hack_prepare.proofs.MemberLemmas.{or_left, or_right, told-none, wanted-is}
-use Rattle.std.proofs.Common.{OnErr, OnOk}
 use Rattle.hack_prepare.specs.Writes.{AreWrites, BeginWrites, MakesSome}
 use Rattle.hack_prepare.proofs.OrderLemmas.{none-in-order}
 use Rattle.hack_prepare.proofs.WriteLemmas.{begun_none}
