@@ -2,7 +2,7 @@
 use Rattle.std.specs.Prelude.{ℕ, List, [], ◌∷◌, ◌++◌, Option, None, false, codes, flat_map}
 use Rattle.hack_base.specs.Names.{Name}
 use Rattle.hack_sets.specs.Sets.{items_at}
-use Rattle.hack_process.specs.CommandTexts.{Command, with_names}
+use Rattle.hack_process.specs.CommandTexts.{Command, with_names, shown_features}
 use Rattle.hack_plan.specs.Runs.{PackageRun, Plain, AllFeatures, NoDefaultFeatures, Set}
 
 -- the text of a run's command, with the names of the candidates
