@@ -12,9 +12,8 @@ ghost use Rattle.hack_journal.specs.LockfilesApart.{KeepsLockfiles, KeepsOtherFi
 ghost use Rattle.hack_journal.specs.Refusing.{AreJust, HoldsByKind, IsRefused, IsRefusedOrUnkept};
 ghost use Rattle.hack_journal.specs.Rows.{KeepsBeside, RemovesOwn, spot_of};
 ghost use Rattle.hack_journal.specs.SafeFiles.{AreBack, Stays, StaysSafe, without};
-ghost use Rattle.hack_journaled.specs.Journals.{BetweenBoth, IsAccounted, IsWhyItStays};
-ghost use Rattle.hack_journaled.specs.Journals.{OnlyEndFailed};
-ghost use Rattle.hack_journaled.specs.Journals.{contents_seen, files_seen, world_seen};
+ghost use Rattle.hack_journaled.specs.Journals.{BetweenBoth, IsAccounted, files_seen, world_seen};
+ghost use Rattle.hack_journaled.specs.Journals.{IsWhyItStays, OnlyEndFailed, contents_seen};
 ghost use Rattle.hack_run.specs.CallChanges.{IsChangeTrace};
 ghost use Rattle.hack_run.specs.CallTrace.{IsCallTrace};
 ghost use Rattle.hack_run.specs.Lanes.{IsLaneCall};

@@ -1,8 +1,7 @@
 //! The manifest in the folder of the workspace, which gets all its edits in one write.
 
-ghost use Rattle.std.specs.Prelude.{◌≡◌, ◌⊎◌, ◌&&◌, ◌||◌, [], IfErr, IfOk, OnOk, OnErr};
-ghost use Rattle.std.specs.Prelude.{option_copied, option_map, string_bytes, true, false};
-ghost use Rattle.std.specs.Prelude.{MatchBool, Some};
+ghost use Rattle.std.specs.Prelude.{◌≡◌, IfErr, option_copied, option_map, string_bytes, MatchBool};
+ghost use Rattle.std.specs.Prelude.{◌⊎◌, ◌&&◌, ◌||◌, [], IfOk, OnOk, OnErr, true, false, Some};
 ghost use Rattle.std.specs.List.{find};
 ghost use Rattle.hack_base.specs.Names.{Name, names_behind};
 ghost use Rattle.hack_base.specs.Notes.{AddsNotes};

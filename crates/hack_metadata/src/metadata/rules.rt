@@ -11,11 +11,10 @@ ghost use Rattle.hack_metadata.specs.FieldResults.{KeepsOtherFields};
 ghost use Rattle.hack_metadata.specs.Internal.{ReturnsKey};
 ghost use Rattle.hack_metadata.specs.RecordViews.{limits_view, rules_view, rules_reading};
 ghost use Rattle.hack_metadata.specs.Records.{no_rules};
-ghost use Rattle.hack_metadata.specs.RuleTables.{filled_names, group_from, groups_from};
-ghost use Rattle.hack_metadata.specs.RuleTables.{groups_of_items, is_rule_key, key_in, names_from};
-ghost use Rattle.hack_metadata.specs.RuleTables.{number_from, optional_from, other_key, read_known};
-ghost use Rattle.hack_metadata.specs.RuleTables.{read_limits, read_rules, read_table, rules_in};
-ghost use Rattle.hack_metadata.specs.RuleTables.{table_in};
+ghost use Rattle.hack_metadata.specs.RuleTables.{filled_names, groups_of_items, optional_from};
+ghost use Rattle.hack_metadata.specs.RuleTables.{group_from, groups_from, is_rule_key, number_from};
+ghost use Rattle.hack_metadata.specs.RuleTables.{key_in, other_key, read_table, rules_in, table_in};
+ghost use Rattle.hack_metadata.specs.RuleTables.{names_from, read_known, read_limits, read_rules};
 
 use crate::metadata::object::{Object, find, into_object, take};
 use crate::metadata::package::{texts_from, texts_in};
