@@ -1,5 +1,5 @@
 -- Which packages use a version: what versions with their packages say of it, and what it says of a plan.
-use Rattle.std.proofs.Common.{◌≡◌, ◌↔◌, ◌⊎◌, refl, sym, ap, subst, ◌∙◌, arith, ℕ, zero, suc, ◌+◌, ◌*◌, List, [], ◌∷◌, map, inl, inr, Bool, true, false, not, Option, Some, None, IfSome, IsTrue, All, Contains, option_map}
+use Rattle.std.proofs.Common.{◌≡◌, ◌↔◌, ◌⊎◌, refl, sym, ap, subst, ◌∙◌, arith, ℕ, zero, suc, ◌+◌, ◌*◌, List, [], ◌∷◌, map, inl, inr, Bool, true, false, Option, Some, None, IfSome, IsTrue, All, Contains, option_map}
 use Rattle.std.specs.Prelude.{slice_get}
 use Rattle.std.specs.List.{AllZip}
 use Rattle.std.proofs.lemmas.List.Elements.{All-cons, All-contains, All-head, All-tail}

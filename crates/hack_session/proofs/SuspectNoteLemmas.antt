@@ -1,6 +1,6 @@
 -- Lemmas on the notices that explain failed runs.
 use Rattle.std.proofs.Common.{◌≡◌, ℕ, ◌+◌, List, [], ◌∷◌, ◌++◌, map, refl, sym, ◌∙◌, ap, append_assoc, String, Global, string_bytes, codes, false, ◌||◌, Vec}
-use Rattle.std.specs.List.{flat_map, join_by, list_any}
+use Rattle.std.specs.List.{join_by, list_any}
 use Rattle.std.proofs.lemmas.List.Folds.{flat_map-map}
 use Rattle.hack_base.specs.Notes.{Note}
 use Rattle.hack_plan.specs.View.{PlanView}
