@@ -12,23 +12,20 @@ fail by the names that are on, the conflicts are the least of all sets that fail
 made again with `--keep-going`, which changes nothing, and with `--most-runs`, which ends it.
 The last line is `N passed, M failed`, and the status is 1 where one failed.
 """
-import argparse
 import copy
 import itertools
-import json
-import os
-import random
 import re
-import shlex
 import sys
-import tempfile
 from collections import namedtuple
+from functools import partial
 
 sys.dont_write_bytecode = True
-from killed_calls import Wrong, must, tree  # noqa: E402
+from killed_calls import must, tree  # noqa: E402
 from lists_by_definition import FORMS, LISTED, Asked, Plan, Rules, Set, choice_of, refusal, table_of  # noqa: E402
 from random_workspace import random_words, random_workspace  # noqa: E402
-from version_search import EDITS, Call, Fails, Tools, asked_at, readable, small_workspace, uses_of  # noqa: E402
+from search_calls import (  # noqa: E402
+    EDITS, Call, Called, Fails, Tools, asked_at, gone_fault, readable, refusal_fault, run_all, small_workspace, uses_of,
+)
 
 FIND, MOST = "--find-conflicts", "--most-runs"
 
@@ -280,19 +277,13 @@ class Judged:
         self.must(not missed, f"these pass, and lie inside none that was built: {missed}")
 
 
-class Case:
-    """A call in a workspace, and its plan."""
+class Case(Called):
+    """A call, and its plan."""
 
     def __init__(self, program, tools, call):
-        self.program, self.tools, self.call = program, tools, call
-        self.words = ["--log-group", call.group] if call.group else []
-        self.words += [word for it in call.uses for word in it.words] + (["--"] + call.trailing if call.trailing else [])
-        self.environment = {"CARGO_HACK_DENY_WARNINGS": "true"} if call.denies else {}
+        super().__init__(program, tools, call)
         self.plan = Plan(without_sizes(tools.workspace), Asked(call.uses, call.trailing), "")
         self.spots = [] if self.plan.causes else spots_of(self.plan)
-
-    def ask(self, more, fails):
-        return self.tools.call(self.program, more + self.words, fails, self.environment)
 
     def is_clear(self):
         """Each command says of which package and slot it is, and what is on."""
@@ -512,7 +503,7 @@ FEW = [
 ]
 
 
-def row_fault(program, row, folder):
+def row_fault(program, folder, row):
     """What is wrong with a call of the table, if something is."""
     workspace = with_features(small_workspace(row.packages, f"{folder}/w"))
     workspace["minor"] = 60 if row.more == "old" else 90
@@ -532,7 +523,7 @@ def row_fault(program, row, folder):
         case.judge_more(fails, *case.judge(fails), max(1, len(runs) - 1))
 
 
-def few_fault(program, row, folder):
+def few_fault(program, folder, row):
     """What is wrong with a call over twenty features, if something is."""
     conflicts, most, passing = row
     tools = Tools(small_workspace(TWENTY, f"{folder}/w"), f"{folder}/tools")
@@ -561,20 +552,14 @@ GONE = {
 }
 
 
-def gone_fault(program, row, folder):
+def gone_row_fault(program, folder, row):
     """What is wrong with a call in which cargo goes, if something is."""
     failing, last, words, command = row
-    tools = Tools(small_workspace("p:a,b q:a", f"{folder}/w"), f"{folder}/tools")
     numbers = dict.fromkeys(failing, "exit 101")
-    numbers[last] = f"rm {shlex.quote(tools.folder)}/cargo; {numbers.get(last, ':')}"
-    files = tree(f"{folder}/w")
+    numbers[last] = f"rm @/cargo; {numbers.get(last, ':')}"
     asked = ["check", "--feature-powerset", FIND, "--no-dev-deps", *words.split()]
-    ended, _ = tools.call(program, asked, Fails((), numbers), {})
-    wanted = f"error: could not execute process `{tools.folder}/cargo {command}` (never executed)"
-    told = [it for it in ended.stderr.splitlines() if it.startswith("error: ")]
-    must((ended.returncode, told) == (1, [wanted]), f"status {ended.returncode}, {ended.stderr}\nwanted\n{wanted}")
-    must(not re.search("allowed set|so far|fail together", ended.stderr), f"it says what was found: {ended.stderr}")
-    must(tree(f"{folder}/w") == files, "the files aren't what they were")
+    tools = Tools(small_workspace("p:a,b q:a", f"{folder}/w"), f"{folder}/tools")
+    gone_fault(program, tools, asked, numbers, f"cargo {command}", "allowed set|so far|fail together")
 
 
 # The arguments that a search excludes, in the order in which they are checked.
@@ -614,13 +599,6 @@ def refusals():
     rows[f"{search} {FIND} --rust-version --workspace-behavior=cargo"] = \
         "--find-rust-version may not be used together with --workspace-behavior=cargo"
     return {words: f"error: {it}" for words, it in rows.items()}
-
-
-def refusal_fault(program, tools, words, error):
-    """What is wrong with a refusal, if something is."""
-    ended, calls = tools.call(program, words.split(), Fails(), {})
-    found = ended.returncode, ended.stdout, ended.stderr.splitlines()[-1:], calls
-    must(found == (1, "", [error], []), f"status {ended.returncode}, {ended.stderr}{ended.stdout}{calls}, and not {error}")
 
 
 # ---- Random calls.
@@ -664,8 +642,8 @@ def wide_case(rng, root):
     return workspace, Call(uses_of(" ".join(words)), [], rng.choice([None, None, "github-actions"]), rng.random() < 0.2)
 
 
-def random_case(program, folder, rng):
-    """A random call in a random workspace, whose plan isn't too large."""
+def random_case(program, folder, rng, _):
+    """A random call in a random workspace, whose plan isn't too large; and which commands fail."""
     while True:
         if rng.random() < 0.5:
             workspace, call = wide_case(rng, f"{folder}/w")
@@ -675,10 +653,12 @@ def random_case(program, folder, rng):
         workspace["cargo"], workspace["rustup"] = f"{folder}/tools/cargo", f"{folder}/tools/rustup"
         case = Case(program, Tools(workspace, f"{folder}/tools"), call)
         if case.plan.causes and rng.random() < 0.5:
-            return case
+            break
         chosen = [len(it.sets.chosen) for it in case.spots]
         if chosen and max(chosen) <= 200 and sum(chosen) <= 600 and case.is_clear():
-            return case
+            break
+    fails, case.fails_by_names = random_fails(rng, case) if case.spots else (Fails(), False)
+    return case, fails
 
 
 def random_fails(rng, case):
@@ -699,66 +679,34 @@ def random_fails(rng, case):
     return fails, style in ("names", "none")
 
 
-def try_case(program, folder, rng, counts):
+def try_case(counts, case, fails, rng):
     """Tries a random call, and counts what it did."""
-    case = random_case(program, folder, rng)
-    fails, is_by_names = random_fails(rng, case) if case.spots else (Fails(), False)
-    try:
-        judged, ended, calls = case.judge(fails)
-        if judged is None:
-            counts["refused"] += 1
-            return
-        for it in judged if is_by_names else []:
-            lines = {one: asked_at(case.plan, rank) for rank, one in zip(it.spot.ranks, it.sets.chosen)}
-            it.judge_least(lambda one, lines=lines: lines[one] in fails.lines)
-        runs = len(runs_in(case.plan, calls, fails))
-        counts["cut short"] += case.judge_more(fails, judged, ended, calls, rng.randint(1, runs + 1))
-        for what, more in (("runs", runs), ("of sets", sum(len(it.sets.chosen) for it in judged)),
-                           ("conflicts", sum(len(it.conflicts) for it in judged)),
-                           ("greatest sets", sum(len(it.greatest) for it in judged)),
-                           ("inexact packages", sum(not it.sets.is_exact for it in judged))):
-            counts[what] += more
-    except Wrong as wrong:
-        shown = f"{case.words}\n{json.dumps(case.tools.workspace)}\nfailing {sorted(fails.lines)} {sorted(fails.numbers)}"
-        raise Wrong(f"{shown}\n{wrong}") from wrong
+    judged, ended, calls = case.judge(fails)
+    if judged is None:
+        counts["refused"] += 1
+        return
+    for it in judged if case.fails_by_names else []:
+        lines = {one: asked_at(case.plan, rank) for rank, one in zip(it.spot.ranks, it.sets.chosen)}
+        it.judge_least(lambda one, lines=lines: lines[one] in fails.lines)
+    runs = len(runs_in(case.plan, calls, fails))
+    counts["cut short"] += case.judge_more(fails, judged, ended, calls, rng.randint(1, runs + 1))
+    for what, more in (("runs", runs), ("of sets", sum(len(it.sets.chosen) for it in judged)),
+                       ("conflicts", sum(len(it.conflicts) for it in judged)),
+                       ("greatest sets", sum(len(it.greatest) for it in judged)),
+                       ("inexact packages", sum(not it.sets.is_exact for it in judged))):
+        counts[what] += more
 
 
 # ---- All of them.
 
 
 def main():
-    reader = argparse.ArgumentParser(usage=__doc__)
-    reader.add_argument("program")
-    for option, default in (("--cases", 80), ("--seed", 1)):
-        reader.add_argument(option, type=int, default=default)
-    asked = reader.parse_args()
-    program = os.path.realpath(asked.program)
-    passed = failed = 0
-
-    def look(name, what):
-        nonlocal passed, failed
-        try:
-            with tempfile.TemporaryDirectory(prefix="conflict-search-") as folder:
-                what(os.path.realpath(folder))
-            passed += 1
-        except Wrong as wrong:
-            print(f"{name}: {wrong}")
-            failed += 1
-
-    for judge, rows in ((row_fault, ROWS.items()), (few_fault, [(it[0], it) for it in FEW]), (gone_fault, GONE.items())):
-        for name, row in rows:
-            look(name, lambda folder, judge=judge, row=row: judge(program, row, folder))
-    for words, error in refusals().items():
-        look(words, lambda folder, words=words, error=error: refusal_fault(
-            program, Tools(small_workspace("p", f"{folder}/w"), f"{folder}/tools"), words, error))
+    tries = [(name, row_fault, row) for name, row in ROWS.items()] + [(row[0], few_fault, row) for row in FEW]
+    tries += [(name, gone_row_fault, row) for name, row in GONE.items()]
+    tries += [(words, refusal_fault, words, error) for words, error in refusals().items()]
     names = ("refused", "runs", "of sets", "conflicts", "greatest sets", "inexact packages", "cut short")
     counts = dict.fromkeys(names, 0)
-    for number in range(asked.cases):
-        rng = random.Random(f"{asked.seed}/{number}")
-        look(f"case {number} of seed {asked.seed}", lambda folder, rng=rng: try_case(program, folder, rng, counts))
-    print(f"{asked.cases} random calls: " + ", ".join(f"{count} {what}" for what, count in counts.items()))
-    print(f"{passed} passed, {failed} failed")
-    return 1 if failed else 0
+    return run_all(__doc__, tries, random_case, partial(try_case, counts), counts)
 
 
 if __name__ == "__main__":

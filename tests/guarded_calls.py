@@ -28,7 +28,7 @@ from killed_calls import (  # noqa: E402
     EDITS, ENDS_ALL, ENDS_IT, LEAVES_OUT, MORE, PLAIN, RESTORE, Place, alive, commit, difference, git, heed_signals, left_of,
     must, read, run_all, tree, wait_for,
 )
-from small_workspace import FILES, write  # noqa: E402
+from small_workspace import FILES, number_and_programs, write  # noqa: E402
 
 BOTH = ["p/Cargo.toml", "q/Cargo.toml"]
 NOTHING_LEFT = "info: nothing is left to restore\n"
@@ -553,14 +553,8 @@ def all_tries(place, places, count):
 
 
 def main():
-    words = sys.argv[1:]
-    count = 200
-    if words[:1] == ["--races"] and len(words) > 1:
-        count, words = int(words[1]), words[2:]
-    if len(words) != 1:
-        sys.exit(__doc__)
+    count, [program] = number_and_programs("--races", 200, __doc__)
     heed_signals()
-    program = os.path.realpath(words[0])
     with tempfile.TemporaryDirectory() as folder:
         folder = os.path.realpath(folder)
         beside = Place(program, f"{folder}/no repository")

@@ -32,7 +32,7 @@ from killed_calls import (  # noqa: E402
     EDITS, ENDS_ALL, ENDS_IT, LEAVES_OUT, MORE, PLAIN, RESTORE, Place, Wrong, alive, commit, difference, heed_signals, left_of,
     must, read, rewrite, run_all, tells_of, tree, wait_for,
 )
-from small_workspace import FILES, library, write  # noqa: E402
+from small_workspace import FILES, library, number_and_programs, write  # noqa: E402
 
 # Kills programs of this name before the call of that number, or stops them, and says so by a file: the program itself, or the
 # one that its guard calls. With KILL_CUTS only writes of manifests are counted, and that one is made but for its last byte. With
@@ -519,14 +519,8 @@ def kills(places, preload, every):
 
 
 def main():
-    words = sys.argv[1:]
-    every = 1
-    if words[:1] == ["--every"] and len(words) > 1:
-        every, words = int(words[1]), words[2:]
-    if len(words) != 1:
-        sys.exit(__doc__)
+    every, [program] = number_and_programs("--every", 1, __doc__)
     heed_signals()
-    program = os.path.realpath(words[0])
     with tempfile.TemporaryDirectory() as folder:
         folder = os.path.realpath(folder)
         # (Paths with a space try that nobody splits them.)

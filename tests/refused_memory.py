@@ -21,7 +21,7 @@ import sys
 import tempfile
 
 sys.dont_write_bytecode = True
-from small_workspace import FILES, library, stand_in, write, write_files  # noqa: E402
+from small_workspace import FILES, library, number_and_programs, stand_in, write, write_files  # noqa: E402
 
 # Refuses the call of that number in programs of this name, and says so by a file.
 ALLOCATOR = r"""
@@ -190,13 +190,7 @@ def try_call(name, words, places, preload, every, given="", steps=()):
 
 
 def main():
-    words = sys.argv[1:]
-    every = 1
-    if words[:1] == ["--every"] and len(words) > 1:
-        every, words = int(words[1]), words[2:]
-    if not words or len(words) > 3:
-        sys.exit(__doc__)
-    programs = [os.path.realpath(it) for it in words]
+    every, programs = number_and_programs("--every", 1, __doc__, 3)
     calls = [(name, [programs[0], "hack", *more], "", 1, ()) for name, more in CALLS.items()]
     calls += [(name, [programs[0], "hack", *more], "", 2, ()) for name, more in WIDE.items()]
     if len(programs) > 1:

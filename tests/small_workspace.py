@@ -1,8 +1,9 @@
-"""A small workspace with a private member, the stand-in for cargo there, and libraries that are loaded before a program: for
-the scripts refused_memory.py, kill_points.py, broken_streams.py and whole_calls.py.
+"""A small workspace with a private member, the stand-in for cargo there, libraries that are loaded before a program, and what a
+script is called with: for refused_memory.py, kill_points.py, guarded_calls.py, broken_streams.py and whole_calls.py.
 """
 import os
 import subprocess
+import sys
 
 # Its files. `q` is private, the lockfile is one that cargo wouldn't write, and the workspace's manifest ends with a letter of
 # two bytes.
@@ -17,6 +18,16 @@ PACKAGE = (
     '{{"id":"{0}","name":"{0}","version":"0.1.0","dependencies":[],"features":{1},"manifest_path":"{2}/{0}/Cargo.toml",'
     '"publish":{3},"rust_version":"1.60"}}'
 )
+
+
+def number_and_programs(option, number, usage, most=1):
+    """The number that an option gives in front of the programs that a script is called with, or else this one; and these."""
+    words = sys.argv[1:]
+    if words[:1] == [option] and len(words) > 1:
+        number, words = int(words[1]), words[2:]
+    if not 0 < len(words) <= most:
+        sys.exit(usage)
+    return number, [os.path.realpath(it) for it in words]
 
 
 def write(path, text, mode=0o644):

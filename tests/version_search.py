@@ -11,97 +11,22 @@ has to be what a list of the commands says. Where the runs of a package fail bel
 to be the least of all on which they pass, by looking at all of them.
 The last line is `N passed, M failed`, and the status is 1 where one failed.
 """
-import argparse
-import json
-import os
-import random
 import re
-import shlex
-import subprocess
 import sys
-import tempfile
 from collections import namedtuple
+from functools import partial
 
 sys.dont_write_bytecode = True
-from killed_calls import tree  # noqa: E402
+from killed_calls import must, tree  # noqa: E402
 from lists_by_definition import LISTED, Asked, Plan, cleaning, refusal, under, version_of  # noqa: E402
-from random_workspace import Use, lay_out, metadata, random_words, random_workspace, told  # noqa: E402
-from small_workspace import write  # noqa: E402
+from random_workspace import Use, random_words, random_workspace  # noqa: E402
+from search_calls import (  # noqa: E402
+    EDITS, Call, Called, Fails, Tools, asked_at, gone_fault, readable, refusal_fault, run_all, small_workspace, uses_of,
+)
 
 FIND = "--find-rust-version"
 
-# The script in place of cargo and rustup: it notes what it is asked to run, and the file `fails` says whether that fails.
-SCRIPT = """#!/bin/sh
-case "$*" in
-"run stable cargo -vV") {stable}; exit;;
--vV) {version}; exit;;
---version) echo 'rustup 1.27.1 (54dd3d00f 2024-04-24)'; exit;;
-*"metadata "*) exec cat @/metadata;;
-*locate-project*) exec cat @/located;;
-esac
-read -r n < @/number
-echo $((n + 1)) > @/number
-printf '%s\\n' "${0##*/} $*" >> @/calls
-. @/fails
-"""
-
 FAILED = "process didn't exit successfully: `{}` (exit status: 101)"
-
-
-# ---- A workspace, and calls in it.
-
-
-class Tools:
-    """The scripts in place of cargo and rustup, for a workspace."""
-
-    def __init__(self, workspace, folder):
-        self.workspace, self.folder = workspace, folder
-        lay_out(workspace, folder)
-        text = SCRIPT.replace("{stable}", told(workspace["stable"])).replace("{version}", told(workspace["minor"]))
-        for tool in ("cargo", "rustup"):
-            workspace[tool] = f"{folder}/{tool}"
-        self.text = text.replace("@", shlex.quote(folder))
-        write(f"{folder}/metadata", json.dumps(metadata(workspace)))
-        write(f"{folder}/located", json.dumps({"root": workspace["located"]}))
-
-    def call(self, program, words, fails, environment):
-        """How a call ends, and what it has the tools run. Some lines fail, and some numbers of commands; a number may have a
-        line of the shell instead, which is run."""
-        for tool in ("cargo", "rustup"):
-            write(f"{self.folder}/{tool}", self.text, 0o755)
-        write(f"{self.folder}/fails", "\n".join(['case "$n:$*" in', *fails.cases(), "esac", "exit 0", ""]))
-        write(f"{self.folder}/number", "0\n")
-        write(f"{self.folder}/calls", "")
-        variables = {"PATH": os.environ["PATH"], "CARGO": f"{self.folder}/cargo", "CARGO_HACK_RUSTUP": f"{self.folder}/rustup"}
-        ended = subprocess.run([program, "hack", *words], cwd=self.workspace["folder"], env={**variables, **environment},
-                               stdin=subprocess.DEVNULL, capture_output=True, text=True, check=False, timeout=60)
-        with open(f"{self.folder}/calls", encoding="utf-8") as it:
-            return ended, it.read().splitlines()
-
-
-class Fails:
-    """Which commands fail: some by their arguments, some by their number."""
-
-    def __init__(self, lines=(), numbers=()):
-        self.lines = set(lines)
-        self.numbers = dict(numbers) if isinstance(numbers, dict) else {it: "exit 101" for it in numbers}
-
-    def behind(self, count):
-        """The same, where the numbers begin behind so many commands."""
-        return Fails(self.lines, {number + count: what for number, what in self.numbers.items()})
-
-    def cases(self):
-        """What the script does at a command's number and arguments."""
-        does = [f"{number}:*) {what};;" for number, what in self.numbers.items()]
-        return does + [f"*:{shlex.quote(line)}) exit 101;;" for line in sorted(self.lines)]
-
-    def has(self, number, line):
-        return number in self.numbers or line in self.lines
-
-
-def asked_at(plan, rank):
-    """What the run at a place asks of its tool."""
-    return plan.own_line(rank).rstrip("\n").split(" ", 1)[1]
 
 
 # ---- A search, by its definition.
@@ -262,26 +187,17 @@ class Search:
 
 # ---- Comparing.
 
-# Which manifests are edited, which the rows have.
-EDITS = re.compile(r"info: (removing (dev-dependencies|private crates) from|restoring|--no-(dev-deps|private) modifies real) .*\n")
+class Case(Called):
+    """A call, and its plan. Where the plan has a sample, or `is_listed`, a list of its commands is asked for: the notices of the
+    search have to be those of the list."""
 
-Call = namedtuple("Call", "uses trailing group denies")
-
-
-class Case:
-    """A call in a workspace, and its plan. Where the plan has a sample, or `is_listed`, a list of its commands is asked for: the
-    notices of the search have to be those of the list."""
-
-    def __init__(self, program, tools, asked, is_listed):
-        self.program, self.tools, self.call = program, tools, asked
-        self.words = ["--log-group", asked.group] if asked.group else []
-        self.words += [word for it in asked.uses for word in it.words] + (["--"] + asked.trailing if asked.trailing else [])
-        self.environment = {"CARGO_HACK_DENY_WARNINGS": "true"} if asked.denies else {}
-        asks = Asked(asked.uses, asked.trailing)
-        asks.denies = asked.denies
+    def __init__(self, program, tools, call, is_listed):
+        super().__init__(program, tools, call)
+        asks = Asked(call.uses, call.trailing)
+        asks.denies = call.denies
         self.listed, whole = None, ""
         if is_listed or asks.has("--strength") or asks.has("--package-rules"):
-            self.listed, _ = tools.call(program, [LISTED] + self.words, Fails(), self.environment)
+            self.listed, _ = self.ask([LISTED], Fails())
             whole = self.listed.stdout
         self.plan = Plan(tools.workspace, asks, whole)
 
@@ -293,65 +209,29 @@ class Case:
         # (a list prepares each version too)
         return re.sub("info: running .*\n", "", EDITS.sub("", self.listed.stderr))
 
-    def fault(self, fails):
-        """What is wrong with the search where these commands fail, if something is; and what it should be, and was."""
+    def judge(self, fails):
+        """What the search should be where these commands fail, which it is; and how it ended."""
         root, stable = self.tools.workspace["root"], int("stable" in self.plan.asked.range)
         files = tree(root)
-        ended, calls = self.tools.call(self.program, [FIND] + self.words, fails.behind(stable), self.environment)
-        if tree(root) != files:
-            return "the files aren't what they were", None, ended
+        ended, calls = self.ask([FIND], fails.behind(stable))
+        must(tree(root) == files, "the files aren't what they were")
         if self.plan.causes:
-            return refusal(self.plan.causes, ended), None, ended
+            fault = refusal(self.plan.causes, ended)
+            must(not fault, fault)
+            return None, ended
         status = self.listed.returncode if self.listed else 0
         search = Search(self.plan, fails, self.call.group, self.notices(ended), status)
         wanted = [search.status, search.calls, search.err, search.out]
         found = [ended.returncode, calls, EDITS.sub("", ended.stderr), ended.stdout]
         for what, one, other in zip(("status", "commands", "standard error", "standard output"), wanted, found):
-            if one != other:
-                return f"{what}: wanted\n{readable(one)}\nwas\n{readable(other)}", search, ended
+            must(one == other, f"{what}: wanted\n{readable(one)}\nwas\n{readable(other)}")
         for member, (least, _) in search.found.items():
-            if search.least_of_all(member) not in (None, least):
-                return f"1.{search.least_of_all(member)} passes, and 1.{least} was found", search, ended
-        return None, search, ended
-
-
-def readable(what):
-    return "\n".join(what) if isinstance(what, list) else str(what)
+            sure = search.least_of_all(member)
+            must(sure in (None, least), f"1.{sure} passes, and 1.{least} was found")
+        return search, ended
 
 
 # ---- Calls whose trials and last lines are written here.
-
-VALUED = ("--version-range", "--version-step", "--target", "--depth", "--features", "--exclude-features", "--package",
-          "--exclude", "--include-features", "--group-features", "--mutually-exclusive-features", "--at-least-one-of")
-
-
-def uses_of(text):
-    """The uses of options in a text."""
-    words, uses = iter(text.split()), []
-    for word in words:
-        value = next(words) if word in VALUED else None
-        name = word if word.startswith("-") else "subcommand"
-        uses.append(Use(name, value, [word] if value is None else [word, value], [word]))
-    return uses
-
-
-def package(text, root):
-    """A package: its name, its `rust-version` after an equals sign, and its features after a colon."""
-    rest, _, features = text.partition(":")
-    name, _, own = rest.partition("=")
-    features = {it: [] for it in features.split(",") if it}
-    return {"id": f"path+file://{root}/{name}#0.1.0", "name": name, "version": "0.1.0", "dependencies": [],
-            "manifest": features, "record": features, "private": False, "publish": None, "metadata": None,
-            "manifest_path": f"{root}/{name}/Cargo.toml", "rust_version": own or None}
-
-
-def small_workspace(texts, root):
-    """A workspace of such packages, with all of them the current ones."""
-    packages = [package(it, root) for it in texts.split()]
-    members = [it["id"] for it in packages]
-    return {"root": root, "packages": packages, "members": members, "nodes": {it: [] for it in members},
-            "located": f"{root}/Cargo.toml", "folder": root, "minor": 90, "stable": 83, "metadata": None}
-
 
 # The packages, the arguments behind `check`, what fails, the versions in the order in which they are tried, the status, the
 # last lines, and more: `deny`, or the kind of log groups. What fails are the runs of a package below a version or at one, a
@@ -508,52 +388,42 @@ def fails_of(text, plan):
 PREPARED = re.compile(r"rustup (?:run 1\.(\d+) cargo --version|toolchain add 1\.(\d+) --no-self-update --target .*)")
 
 
-def row_fault(program, row, folder):
+def row_fault(program, folder, row):
     """What is wrong with a call of the table, if something is."""
     tools = Tools(small_workspace(row.packages, f"{folder}/w"), f"{folder}/tools")
     group = row.more if row.more == "github-actions" else None
     case = Case(program, tools, Call(uses_of(f"check {row.words}"), [], group, row.more == "deny"), False)
-    fault, search, ended = case.fault(fails_of(row.fails, case.plan))
+    _, ended = case.judge(fails_of(row.fails, case.plan))
     with open(f"{tools.folder}/calls", encoding="utf-8") as it:
         tried = [one[1] or one[2] for one in map(PREPARED.fullmatch, it.read().splitlines()) if one]
     names = {"rustup": tools.workspace["rustup"], "cargo": tools.workspace["cargo"], "root": tools.workspace["root"]}
     lines = [it.format(**names) for it in row.lines]
     for what, one, other in (("trials", row.tried.split(), tried), ("status", row.status, ended.returncode),
                              ("last lines", lines, ended.stderr.splitlines()[-len(lines):])):
-        if one != other:
-            fault = fault or f"{what}: wanted\n{readable(one)}\nwas\n{readable(other)}"
-    return fault
+        must(one == other, f"{what}: wanted\n{readable(one)}\nwas\n{readable(other)}")
 
 
 # ---- Calls that end early, for another reason than a preparation that fails; and refused ones.
 
-# What is done at the command of a number, the options, the tool that can't be started then, and its command.
+# What is done at the command of a number, the options, and the command that can't be started then.
 GONE = {
-    "rustup is gone before a run": ({1: "rm @/rustup"}, "", "rustup", "run 1.63 cargo check --manifest-path p/Cargo.toml"),
-    "rustup is gone before a toolchain": ({2: "rm @/rustup"}, "", "rustup", "toolchain add 1.61 --no-self-update"),
+    "rustup is gone before a run": ({0: "rm @/rustup"}, "", "rustup run 1.63 cargo check --manifest-path p/Cargo.toml"),
+    "rustup is gone before a toolchain": ({1: "rm @/rustup"}, "", "rustup toolchain add 1.61 --no-self-update"),
     "rustup is gone before a run, after one failed": (
-        {2: "exit 101", 3: "rm @/rustup"}, "", "rustup",
-        "run 1.60 cargo check --manifest-path q/Cargo.toml"),
-    "cargo is gone before a cleaning": ({3: "rm @/cargo"}, "--clean-per-run", "cargo", "clean --package p"),
+        {1: "exit 101", 2: "rm @/rustup"}, "", "rustup run 1.60 cargo check --manifest-path q/Cargo.toml"),
+    "cargo is gone before a cleaning": ({2: "rm @/cargo"}, "--clean-per-run", "cargo clean --package p"),
 }
 
 
-def gone_fault(program, row, folder):
+def gone_row_fault(program, folder, row):
     """What is wrong with a call in which a tool goes, if something is."""
-    numbers, words, tool, command = row
-    tools = Tools(small_workspace("p q" if "q/" in command else "p", f"{folder}/w"), f"{folder}/tools")
-    numbers = {it - 1: what.replace("@", shlex.quote(tools.folder)) for it, what in numbers.items()}
-    place = "1.60..=1.60" if "q/" in command else "1.60..=1.63"
-    files = tree(f"{folder}/w")
+    numbers, words, command = row
+    packages, place = ("p q", "1.60..=1.60") if "q/" in command else ("p", "1.60..=1.63")
     asked = [FIND, "check", "--no-dev-deps", "--version-range", place, *words.split()]
-    ended, _ = tools.call(program, asked, Fails((), numbers), {})
-    wanted = ["info: cargo is chosen by CARGO_HACK_CARGO_SRC or CARGO, and rustup by CARGO_HACK_RUSTUP",
-              f"error: could not execute process `{tools.folder}/{tool} {command}` (never executed)"]
-    if ended.returncode != 1 or ended.stderr.splitlines()[-2:] != wanted:
-        return f"status {ended.returncode}, {ended.stderr}\nwanted\n{readable(wanted)}"
-    if re.search(r"fails: |pass ", ended.stderr):
-        return f"it says what was found: {ended.stderr}"
-    return None if tree(f"{folder}/w") == files else "the files aren't what they were"
+    tools = Tools(small_workspace(packages, f"{folder}/w"), f"{folder}/tools")
+    lines = gone_fault(program, tools, asked, numbers, command, "fails: |pass ")
+    chosen = "info: cargo is chosen by CARGO_HACK_CARGO_SRC or CARGO, and rustup by CARGO_HACK_RUSTUP"
+    must(lines[-2] == chosen, f"before the error it says {lines[-2]}")
 
 
 # The arguments that a search excludes, in the order in which they are checked.
@@ -583,16 +453,13 @@ def refusals():
     errors[f"check --rust-version {ranged}"] = "error: --version-range may not be used together with --rust-version"
     errors["check --partition 3/2"] = "error: bad or out-of-range partition: 3/2"
     errors[f"--restore {ranged}"] = "error: --restore may not be used together with other arguments"
-    return errors
+    return {f"{FIND} {words}": it for words, it in errors.items()}
 
 
-def refusal_fault(program, tools, words, error):
-    """What is wrong with a refusal, if something is."""
-    ended, calls = tools.call(program, [FIND] + words.split(), Fails(), {})
-    told_last = ended.stderr.splitlines()[-1:]
-    if (ended.returncode, ended.stdout, told_last, calls) == (1, "", [error], []):
-        return None
-    return f"status {ended.returncode}, {ended.stderr}{ended.stdout}{calls}, and not {error}"
+def help_fault(program, folder):
+    tools = Tools(small_workspace("p", f"{folder}/w"), f"{folder}/tools")
+    shown = tools.call(program, ["--help"], Fails(), {})[0].stdout
+    must("--version-range" in shown and FIND not in shown, "it isn't that of cargo-hack")
 
 
 # ---- Random calls.
@@ -648,8 +515,8 @@ def random_fails(rng, plan):
     return fails
 
 
-def random_case(program, folder, rng, is_listed):
-    """A random call in a random workspace, whose plan isn't too large."""
+def random_case(program, folder, rng, number):
+    """A random call in a random workspace, whose plan isn't too large; and which commands fail."""
     while True:
         workspace = random_workspace(rng, f"{folder}/w", 3)
         if rng.random() < 0.85:
@@ -661,62 +528,31 @@ def random_case(program, folder, rng, is_listed):
         plan = Plan(workspace, Asked(asked.uses, asked.trailing), "")
         counts = [0] if plan.causes else [len(it) for it in plan.runs.values()]
         if len(plan.places) <= 500 and max(counts, default=0) <= 9 and (not plan.causes or rng.random() < 0.2):
-            return Case(program, Tools(workspace, f"{folder}/tools"), asked, is_listed or asked.denies)
+            case = Case(program, Tools(workspace, f"{folder}/tools"), asked, number % 3 == 0 or asked.denies)
+            return case, random_fails(rng, case.plan)
+
+
+def try_case(counts, case, fails, _):
+    """Tries a random call, and counts what it did."""
+    search, _ = case.judge(fails)
+    if search is None:
+        counts["refused"] += 1
+        return
+    found = list(search.found.values())
+    for what, more in (("ended", search.end is not None), ("packages", len(found)),
+                       ("trials", sum(map(len, search.tried.values()))), ("passed whole", sum(it[1] is None for it in found)),
+                       ("failed at once", sum(it[0] is None for it in found))):
+        counts[what] += more
 
 
 # ---- All of them.
 
 
 def main():
-    reader = argparse.ArgumentParser(usage=__doc__)
-    reader.add_argument("program")
-    for option, default in (("--cases", 80), ("--seed", 1)):
-        reader.add_argument(option, type=int, default=default)
-    asked = reader.parse_args()
-    program = os.path.realpath(asked.program)
-    passed = failed = 0
-
-    def tell(name, fault):
-        nonlocal passed, failed
-        if fault:
-            print(f"{name}: {fault}")
-        passed, failed = passed + (not fault), failed + bool(fault)
-
-    def in_folder(look):
-        with tempfile.TemporaryDirectory(prefix="version-search-") as folder:
-            return look(os.path.realpath(folder))
-
-    for name, row in ROWS.items():
-        tell(name, in_folder(lambda folder, row=row: row_fault(program, row, folder)))
-    for name, row in GONE.items():
-        tell(name, in_folder(lambda folder, row=row: gone_fault(program, row, folder)))
-    with tempfile.TemporaryDirectory(prefix="version-search-") as folder:
-        tools = Tools(small_workspace("p", f"{folder}/w"), f"{folder}/tools")
-        for words, error in refusals().items():
-            tell(words, refusal_fault(program, tools, words, error))
-        shown = tools.call(program, ["--help"], Fails(), {})[0].stdout
-        tell("the help", None if "--version-range" in shown and FIND not in shown else "it isn't that of cargo-hack")
+    tries = [(name, row_fault, row) for name, row in ROWS.items()] + [(name, gone_row_fault, row) for name, row in GONE.items()]
+    tries += [(words, refusal_fault, words, error) for words, error in refusals().items()] + [("the help", help_fault)]
     counts = dict.fromkeys(("refused", "ended", "packages", "trials", "passed whole", "failed at once"), 0)
-    for number in range(asked.cases):
-        rng = random.Random(f"{asked.seed}/{number}")
-        with tempfile.TemporaryDirectory(prefix="version-search-") as folder:
-            case = random_case(program, os.path.realpath(folder), rng, number % 3 == 0)
-            fails = random_fails(rng, case.plan)
-            fault, search, _ = case.fault(fails)
-        if fault:
-            fault = f"{case.words}\n{json.dumps(case.tools.workspace)}\nfailing {sorted(fails.lines)} {fails.numbers}\n{fault}"
-        tell(f"case {number} of seed {asked.seed}", fault)
-        counts["refused"] += search is None
-        if search:
-            found = list(search.found.values())
-            for what, more in (("ended", search.end is not None), ("packages", len(found)),
-                               ("trials", sum(map(len, search.tried.values()))),
-                               ("passed whole", sum(it[1] is None for it in found)),
-                               ("failed at once", sum(it[0] is None for it in found))):
-                counts[what] += more
-    print(f"{asked.cases} random calls: " + ", ".join(f"{count} {what}" for what, count in counts.items()))
-    print(f"{passed} passed, {failed} failed")
-    return 1 if failed else 0
+    return run_all(__doc__, tries, random_case, partial(try_case, counts), counts)
 
 
 if __name__ == "__main__":

@@ -1,7 +1,5 @@
 -- A text is split at the first occurrence of a byte.
-use Rattle.std.proofs.Common.{◌≡◌, ◌≢◌, ℕ, ◌+◌, ◌<◌, ◌==◌, ◌++◌, List, ◌∷◌, Bool, true, false, cond}
-use Rattle.std.proofs.Common.{length, take, drop, get_or, nat_lt, lt-ltb, length-append, Some, None}
-use Rattle.std.proofs.Common.{arith, refl, ap, sym, ◌∙◌}
+use Rattle.std.proofs.Common.{◌≡◌, ◌≢◌, ℕ, ◌+◌, ◌<◌, ◌==◌, ◌++◌, List, ◌∷◌, Bool, true, false, cond, length, take, drop, get_or, nat_lt, lt-ltb, length-append, Some, None, arith, refl, ap, sym, ◌∙◌}
 use Rattle.std.specs.List.{after_first, position_or_len}
 use Rattle.std.proofs.lemmas.Bool.Decides.{nat_tests}
 use Rattle.std.proofs.lemmas.Bool.{eqb-true, ltb-true}

@@ -1,6 +1,5 @@
 -- Lists of names in one text.
-use Rattle.std.specs.Prelude.{ℕ, Bool, List, ◌==◌, ◌⊎◌, ◌&&◌, ◌||◌, ◌-◌, if◌then◌else◌}
-use Rattle.std.specs.Prelude.{length, take, drop, Contains, slice_index, nat_lt}
+use Rattle.std.specs.Prelude.{ℕ, Bool, List, ◌==◌, ◌⊎◌, ◌&&◌, ◌||◌, ◌-◌, if◌then◌else◌, length, take, drop, Contains, slice_index, nat_lt}
 use Rattle.std.specs.List.{slice_split, list_any, filter}
 
 -- a comma

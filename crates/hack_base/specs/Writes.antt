@@ -1,5 +1,5 @@
 -- What is written to a sink, and how often that failed.
-use Rattle.std.specs.Prelude.{◌≡◌, ◌<◌, ◌≤◌, ◌⊎◌, ◌&&◌, ◌+◌, ◌-◌, ◌^◌, ℕ, Bool, true, List, ◌++◌, codes, length, nat_eq, nat_lt, Option, Some, None, Result, Ok, Err, min, option_map, if◌then◌else◌, ⊤}
+use Rattle.std.specs.Prelude.{◌≡◌, ◌<◌, ◌≤◌, ◌&&◌, ◌+◌, ◌-◌, ◌^◌, ℕ, Bool, true, List, ◌++◌, codes, length, nat_eq, nat_lt, Option, Some, None, Result, Ok, Err, min, option_map, if◌then◌else◌, ⊤}
 use Rattle.std.specs.Io.KnownBytes.{Appends}
 
 -- known bytes grow by a prefix of the text, which may be all of it
@@ -21,10 +21,6 @@ abbrev pub HasFailed : Option ℕ → Option ℕ → Type 0
 HasFailed None new = ⊤
 HasFailed (Some n) None = ⊥
 HasFailed (Some n) (Some m) = (n ≤ m) × (n < 2 ^ 64 - 1 → n < m)
-
--- a text was written whole, or some failure was counted; of a sink that counts none nothing is said
-abbrev pub Writes : Option (List ℕ) → Option (List ℕ) → Option ℕ → Option ℕ → List ℕ → Type 0
-Writes old new before now text = HasFailed before now ⊎ (Appends old new text × NoFewer before now)
 
 -- an error comes only with a failure that was counted
 abbrev pub CountsErrors : {T E : Type 0} → Option ℕ → Option ℕ → Result T E → Type 0

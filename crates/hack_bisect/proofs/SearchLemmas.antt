@@ -192,21 +192,3 @@ module _ (greatest : ℕ) (o : TrialOutcome) where
     few = omega arith;
     answered = h;
   }
-
-  pub alone_passed : o ≡ Passed → IsGoing greatest alone 0 greatest
-  alone_passed e = record {
-    first = alone_first;
-    halving = alone_halving;
-    once = alone_pairs (λ (earlier later : Trial). earlier.place ≢ later.place);
-    within = alone_within;
-    whole = alone_pairs (λ (earlier later : Trial). earlier.outcome ≢ Broken);
-    few = omega arith;
-    halved = omega arith;
-    left = record {
-      beside = All-cons (IsBeside 0 greatest) (record { place = greatest; outcome = o }) [] (inr (e, omega arith)) (All-nil (IsBeside 0 greatest));
-      low_failed = inl refl;
-      high_passed = subst (λ (p : TrialOutcome). HasPassed (record { place = greatest; outcome = p } ∷ []) greatest) (sym e) (Contains-push [] (record { place = greatest; outcome = Passed }));
-    };
-    ordered = omega arith;
-    top = omega arith;
-  }

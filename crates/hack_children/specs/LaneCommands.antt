@@ -1,6 +1,5 @@
 -- How a program is started in a lane, and where it builds.
-use Rattle.std.specs.Prelude.{◌≡◌, ◌≢◌, ◌++◌, ◌==◌, ℕ, Bool, false, List, Option, Some, None}
-use Rattle.std.specs.Prelude.{option_map, codes, decimal, if◌then◌else◌}
+use Rattle.std.specs.Prelude.{◌≡◌, ◌≢◌, ◌++◌, ◌==◌, ℕ, Bool, false, List, Option, Some, None, option_map, codes, decimal, if◌then◌else◌}
 use Rattle.std.specs.Process.{command_program, command_args, command_var, command_dir, clears_env}
 use Rattle.std.specs.declared.process.command.Command.{Command}
 use Rattle.std.proofs.Common.{Global}

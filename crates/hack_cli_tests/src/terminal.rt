@@ -14,7 +14,6 @@ use crate::page::{Page, name_of};
 use hack_holds::{Ask, Wrong, hold};
 use hack_term::term::{Coloring, LogGroup, LogGroupGuard, Notice, NoticeKind, Term};
 use std::alloc::{AllocError, Global};
-use std::io;
 
 #[derive(Drop)]
 struct Terminal {

@@ -1,6 +1,6 @@
 //! Positions of candidates, and which sets of them a search for conflicts chooses.
 
-ghost use Rattle.std.specs.Prelude.{◌≡◌, ◌<◌, All, IfOk, length};
+ghost use Rattle.std.specs.Prelude.{◌≡◌, ◌<◌, IfOk, length};
 ghost use Rattle.hack_features.specs.View.{choice_of};
 ghost use Rattle.hack_closures.specs.Closures.{AreAlone};
 ghost use Rattle.hack_closures.specs.Internal.{AreRows, IsTold};

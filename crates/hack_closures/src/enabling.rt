@@ -1,6 +1,6 @@
 //! What each position enables.
 
-ghost use Rattle.std.specs.Prelude.{◌≡◌, ◌<◌, ◌↔◌, [], ◌∷◌, length, All, IfOk, IsTrue};
+ghost use Rattle.std.specs.Prelude.{◌<◌, ◌↔◌, [], ◌∷◌, All, IfOk, IsTrue};
 ghost use Rattle.hack_conflicts.specs.Sets.{rows_of};
 ghost use Rattle.hack_features.specs.Rules.{CandidateReaches};
 ghost use Rattle.hack_features.specs.View.{choice_of, size_of};

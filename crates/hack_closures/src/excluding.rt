@@ -1,6 +1,6 @@
 //! The rows that say which positions exclude each other.
 
-ghost use Rattle.std.specs.Prelude.{◌≡◌, ◌<◌, ◌↔◌, ◌⊎◌, [], length, All, IfOk, IsTrue, ℕ, false};
+ghost use Rattle.std.specs.Prelude.{◌≡◌, ◌<◌, ◌↔◌, ◌⊎◌, [], length, All, IfOk, ℕ, false};
 ghost use Rattle.std.specs.List.{slice_index_or};
 ghost use Rattle.hack_conflicts.specs.Sets.{rows_of, Has};
 ghost use Rattle.hack_features.specs.View.{choice_of, size_of};

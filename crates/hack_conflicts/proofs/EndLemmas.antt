@@ -39,9 +39,6 @@ sound_none r most k e f g =
       passing_apart = no_pairs AreApart (passing_of k) passing;
     }
 
-none_there : {X : Type 0} (xs : List X) (x : X) → xs ≡ [] → ¬ Contains xs x
-none_there xs x e (i, lt, is) = let none : length xs ≡ 0 = ap length e in absurd (omega arith)
-
 -- what is settled by what is known is decided by what is found
 pub decided_by : (k : Known) (passing : List (List Bool)) → ((s : List Bool) → HasPassed (told k) s → IsInside passing s) → (s : List Bool) → IsSettled k s → IsDecided (conflicts_of k) passing s
 decided_by k passing covers s settled = elim settled [

@@ -9,7 +9,7 @@ use Rattle.std.proofs.lemmas.List.Elements.{All-push, All-weaker, All-contains, 
 use Rattle.hack_conflicts.specs.Sets.{IsWithin, AreApart, rows_of}
 use Rattle.hack_conflicts.specs.Rules.{IsChoice}
 use Rattle.hack_conflicts.specs.Runs.{Run, runs_in, HasFailed, HasPassed, IsPassed, IsNew, IsCourse, Needs, IsLeast, IsSpent}
-use Rattle.hack_conflicts.specs.Internal.{IsSound, Grows, IsNext, IsWidest, IsCutOff, IsSettled, told, conflicts_of, passing_of}
+use Rattle.hack_conflicts.specs.Internal.{IsSound, Grows, IsNext, IsWidest, told, conflicts_of, passing_of}
 use Rattle.hack_conflicts.specs.declared.rules.Rules.{Rules}
 use Rattle.hack_conflicts.specs.declared.known.Known.{Known}
 use Rattle.hack_conflicts.specs.declared.tried.Tried.{Tried}
@@ -37,14 +37,6 @@ needs_later r a b h set less w x needs = λ s choice within lacks. passed_later 
 
 pub least_later : (r : Rules) (a b : List Run) → ((run : Run) → Contains a run → Contains b run) → (set : List Bool) → IsLeast r a set → IsLeast r b set
 least_later r a b h set least = λ x member. needs_later r a b h set set (λ p has. has) x (least x member)
-
-pub cut_off : (r : Rules) (most : Option ℕ) (k : Known) (s : List Bool) → IsSpent most (length k.runs.items) → IsNext r k s → IsCutOff r most k
-cut_off r most k s spent next = record {
-  spent = spent;
-  unsettled = (s, next.choice, λ (settled : IsSettled k s). elim settled [ inl h ↦ next.clear.conflicts h | inr h ↦ next.fresh h ]);
-  going = next.clear.going;
-  blamed = next.blamed;
-}
 
 -- nothing was recorded
 
@@ -75,9 +67,6 @@ module _ (k m : Known) (same : told m ≡ told k) (same_conflicts : m.conflicts 
 -- one more run was recorded
 
 module _ (k m : Known) (s : List Bool) (o : BuildOutcome) (ran : told m ≡ told k ++ record { set = s; outcome = o } ∷ []) (same_conflicts : m.conflicts ≡ k.conflicts) (same_passing : m.passing ≡ k.passing) where
-  new_run : Run
-  new_run = record { set = s; outcome = o }
-
   pub runs_kept : (run : Run) → Contains (told k) run → Contains (told m) run
   runs_kept run h = subst (λ l. Contains l run) (sym ran) (Contains-append_left (told k) (record { set = s; outcome = o } ∷ []) run h)
 

@@ -5,7 +5,6 @@ use Rattle.std.proofs.lemmas.Bool.{cases_order}
 use Rattle.std.proofs.lemmas.List.{drop-append-le, drop_all, get_or-drop, get_or-map, get_or_append_left, get_or_default, get_or_push, length-append, length-drop, length-map, length-take, take_more}
 use Rattle.std.proofs.lemmas.List.Elements.{All-append, All-cons, All-contains, All-nil, Contains-get_or}
 use Rattle.hack_conflicts.specs.Runs.{AreBlamed, Finding, HasFailed, IsClear, IsFinding, IsOpen, IsToldOf, IsUnfinished, Run, run_of, runs_in}
-use Rattle.hack_conflicts.specs.Rules.{IsChoice}
 use Rattle.hack_conflicts.specs.Sets.{HasInside, IsWithin}
 use Rattle.hack_conflicts.specs.declared.rules.Rules.{Rules}
 use Rattle.hack_conflicts.specs.declared.tried.BuildOutcome.{BuildOutcome}

@@ -1,8 +1,7 @@
 -- A set without a position and all that enable it, and how many members sets have.
-use Rattle.std.proofs.Common.{◌≡◌, ◌<◌, ◌≤◌, ℕ, zero, suc, List, length, arith, Bool, true, false, cond, sym, ◌∙◌, subst, inl, inr, ◌≢◌, refl}
+use Rattle.std.proofs.Common.{◌≡◌, ◌<◌, ◌≤◌, ℕ, zero, suc, List, length, arith, Bool, true, false, cond, sym, ◌∙◌, subst, inl, inr, ◌≢◌, refl, replicate}
 use Rattle.std.specs.Prelude.{not}
 use Rattle.std.proofs.lemmas.Bool.{false≢true, cases_eq, cases_Bool, and_parts, and_from, not-true, not_from_false, both_ways}
-use Rattle.std.proofs.Common.{replicate}
 use Rattle.std.proofs.lemmas.List.{length-replicate, get_or-replicate}
 use Rattle.hack_conflicts.proofs.SetLemmas.{has_below}
 use Rattle.hack_conflicts.specs.Sets.{Has, mark, IsWithin}

@@ -49,14 +49,6 @@ module _ (k m : Known) (s : List Bool) (ran : told m ≡ told k ++ record { set 
     | inr e ↦ absurd (passed-not-failed (ap (λ (run : Run). run.outcome) e))
   ]
 
-  pub clear_passed : (t : List Bool) → IsClear k t → IsClear m t
-  clear_passed t h = record {
-    going = going_passed h.going;
-    failed = λ u there. h.failed u (failed_before u there);
-    conflicts = subst (λ v. ¬ HasInside (rows_of v.items) t) (sym same_conflicts) h.conflicts;
-    passing = subst (λ v. ¬ HasInside (rows_of v.items) t) (sym same_passing) h.passing;
-  }
-
   fresh_passed : (large : List Bool) → IsPart s large → ¬ IsPassed (told k) large → ¬ IsPassed (told m) large
   fresh_passed large part fresh (t, there, w) = elim (run_cases k m s Passed ran same_conflicts same_passing (record { set = t; outcome = Passed }) there) [
     | inl old ↦ fresh (t, old, w)
@@ -73,9 +65,6 @@ module _ (k m : Known) (s : List Bool) (ran : told m ≡ told k ++ record { set 
     passing = subst (λ v. ¬ HasInside (rows_of v.items) large) (sym same_passing) h.passing;
     blamed = λ t there. subst (λ v. HasInside (rows_of v.items) t ⊎ IsWithin large t) (sym same_conflicts) (h.blamed t (failed_before t there));
   }
-
-  pub passed_now : IsPassed (told m) s
-  passed_now = (s, run_there k m s Passed ran same_conflicts same_passing, λ p has. has)
 
 module _ (k m : Known) (s : List Bool) (ran : told m ≡ told k ++ record { set = s; outcome = Failed } ∷ []) (same_conflicts : m.conflicts ≡ k.conflicts) (same_passing : m.passing ≡ k.passing) where
   going_failed : IsGoing k → IsGoing m

@@ -7,8 +7,7 @@ ghost use Rattle.hack_conflicts.specs.Rules.{IsPreorder, IsChoice, IsPlain, size
 ghost use Rattle.hack_conflicts.specs.Runs.{Run, run_of, runs_in, IsCourse, IsFaultOf, IsFinding};
 ghost use Rattle.hack_conflicts.specs.Runs.{IsClear, IsToldOf, finding_of};
 ghost use Rattle.hack_conflicts.specs.Internal.{IsSound, IsSteady, IsSettled, IsCutOff, IsGoing};
-ghost use Rattle.hack_conflicts.specs.Internal.{worth, told};
-ghost use Rattle.hack_conflicts.specs.Internal.{conflicts_of, passing_of, AreOthers};
+ghost use Rattle.hack_conflicts.specs.Internal.{worth, told, conflicts_of, passing_of, AreOthers};
 
 use crate::builds::Builds;
 use crate::fault::{End, SearchFault};

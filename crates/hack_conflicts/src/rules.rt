@@ -1,11 +1,10 @@
 //! What sets are chosen from, and by which rules.
 
-ghost use Rattle.std.specs.Prelude.{◌≡◌, ◌<◌, ◌≤◌, ◌↔◌, ℕ, List, Bool, All, Contains, IfOk, IsTrue};
+ghost use Rattle.std.specs.Prelude.{◌≡◌, ◌<◌, ◌≤◌, ◌↔◌, ℕ, List, Bool, All, IfOk, IsTrue};
 ghost use Rattle.std.specs.Prelude.{MatchOption};
 ghost use Rattle.hack_conflicts.specs.Sets.{rows_of, Has, IsWithin};
-ghost use Rattle.hack_conflicts.specs.Rules.{Meets, IsRequired, IsExclusive, IsPreorder, IsClosed};
-ghost use Rattle.hack_conflicts.specs.Rules.{IsChoice};
-ghost use Rattle.hack_conflicts.specs.Rules.{enables, row_of, size_of, HasAbove, HasOneOf};
+ghost use Rattle.hack_conflicts.specs.Rules.{Meets, IsChoice, enables, size_of, HasAbove, HasOneOf};
+ghost use Rattle.hack_conflicts.specs.Rules.{IsRequired, IsExclusive, IsPreorder, IsClosed, row_of};
 ghost use Rattle.hack_conflicts.specs.Internal.{IsWithout, Clashes};
 
 use crate::sets::{has, is_within, set_at};

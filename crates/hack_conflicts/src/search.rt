@@ -2,12 +2,11 @@
 
 ghost use Rattle.std.specs.Prelude.{◌<◌, ◌≤◌, ◌+◌, ◌*◌, ◌⊎◌, ℕ, List, Bool, IfOk, IfErr, OnOk};
 ghost use Rattle.std.specs.Prelude.{length};
-ghost use Rattle.hack_conflicts.specs.Sets.{Has, IsWithin, IsInside, HasInside, rows_of};
+ghost use Rattle.hack_conflicts.specs.Sets.{Has, IsWithin, IsInside, rows_of};
 ghost use Rattle.hack_conflicts.specs.Rules.{IsPreorder, IsClosed, IsChoice, IsPlain, size_of};
 ghost use Rattle.hack_conflicts.specs.Internal.{IsSound, Grows, IsEnd, IsNext, IsSteady, IsQueue};
-ghost use Rattle.hack_conflicts.specs.Internal.{AreCovered};
-ghost use Rattle.hack_conflicts.specs.Internal.{Avoids, Leaves, IsSettled, Clashes, members, worth};
-ghost use Rattle.hack_conflicts.specs.Internal.{told, conflicts_of, passing_of};
+ghost use Rattle.hack_conflicts.specs.Internal.{AreCovered, Avoids, Leaves, IsSettled, Clashes};
+ghost use Rattle.hack_conflicts.specs.Internal.{members, worth, told};
 
 use crate::builds::Builds;
 use crate::fault::End;

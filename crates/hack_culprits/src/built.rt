@@ -1,9 +1,8 @@
 //! What was built for a package and a slot.
 
 ghost use Rattle.std.specs.Prelude.{◌≡◌, ◌≢◌, All, Bool, Contains, IfOk, MatchBool, MatchOption};
-ghost use Rattle.hack_conflicts.specs.declared.tried.BuildOutcome.{BuildOutcome as Ended};
 ghost use Rattle.hack_plan.specs.AddedRuns.{added_run};
-ghost use Rattle.hack_culprits.specs.Built.{Made, run_for};
+ghost use Rattle.hack_culprits.specs.Built.{run_for};
 ghost use Rattle.hack_culprits.specs.Internal.{made_in};
 
 use hack_closures::Build;

@@ -1,6 +1,6 @@
 //! The search for the conflicts of one package.
 
-ghost use Rattle.std.specs.Prelude.{◌≡◌, [], IfErr, IfOk, List};
+ghost use Rattle.std.specs.Prelude.{IfErr, IfOk};
 ghost use Rattle.hack_closures.specs.View.{search_of};
 ghost use Rattle.hack_conflicts.specs.Rules.{IsPreorder};
 ghost use Rattle.hack_conflicts.specs.Runs.{finding_of};

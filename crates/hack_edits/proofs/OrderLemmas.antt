@@ -8,13 +8,12 @@ use Rattle.std.proofs.lemmas.List.Elements.{All-from_recursion, recursion_from_A
 use Rattle.std.proofs.lemmas.Cmp.{nat_list_cmp_total}
 use Rattle.std.proofs.lemmas.Map.Views.{All-insert_key}
 use Rattle.std.proofs.lemmas.Map.Lookups.{exact_bytes}
-use Rattle.hack_base.specs.Names.{Name}
+use Rattle.hack_base.specs.Names.{Name, names_behind}
 use Rattle.hack_edits.specs.Members.{in_order}
 use Rattle.std.specs.Borrow.{Bor}
 use Rattle.std.specs.BTreeSet.{insert_key}
 use Rattle.std.specs.Cmp.Lexicographic.{slice_cmp}
 use Rattle.std.specs.Ordering.{match_ordering, ordering_reverse}
-use Rattle.hack_base.specs.Names.{names_behind}
 
 texts-match : (o : Ordering) (a b c : List (Bor (List ℕ))) → names_behind (match_ordering o a b c) ≡ match_ordering o (names_behind a) (names_behind b) (names_behind c)
 texts-match Less a b c = refl

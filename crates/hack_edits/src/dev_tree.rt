@@ -6,10 +6,9 @@ ghost use Rattle.toml.specs.Data.{no_members, table};
 ghost use Rattle.toml.specs.Parse.{parse_document};
 ghost use Rattle.toml.specs.View.{view, items_of, table_view, array_view};
 ghost use Rattle.hack_manifest.specs.Manifest.{list_of_items};
-ghost use Rattle.hack_edits.specs.DevTree.{items_left, without_texts};
-ghost use Rattle.hack_edits.specs.DevTree.{unless_empty};
+ghost use Rattle.hack_edits.specs.DevTree.{items_left, without_texts, unless_empty, tidied_tree};
+ghost use Rattle.hack_edits.specs.DevTree.{reads_as_left};
 ghost use Rattle.hack_edits.specs.InternalTreeEquality.{same};
-ghost use Rattle.hack_edits.specs.DevTree.{tidied_tree, reads_as_left};
 ghost use Rattle.hack_edits.specs.KeyPaths.{dev_key};
 ghost use Rattle.hack_edits.specs.Tables.{remove_member, put_each, in_table, in_array};
 

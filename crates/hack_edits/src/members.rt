@@ -1,10 +1,9 @@
 //! Which members of a workspace are private crates, and which private crates no member's text leads
 //! to.
 
-ghost use Rattle.std.specs.Prelude.{◌≡◌, false, not, codes, filter, fold, IfOk, OnOk};
-ghost use Rattle.std.specs.Prelude.{string_bytes};
+ghost use Rattle.std.specs.Prelude.{◌≡◌, false, not, codes, filter, fold, IfOk, OnOk, string_bytes};
 ghost use Rattle.std.specs.List.{list_any};
-ghost use Rattle.hack_base.specs.Names.{Name};
+ghost use Rattle.hack_base.specs.Names.{Name, names_behind};
 ghost use Rattle.std.specs.BTreeSet.{insert_key};
 ghost use Rattle.std.specs.Cmp.Lexicographic.{slice_cmp};
 ghost use Rattle.std.specs.Ordering.{nat_cmp};
@@ -12,11 +11,8 @@ ghost use Rattle.toml.specs.Data.{get_member};
 ghost use Rattle.hack_base.specs.PathTexts.{join_of, normal_of};
 ghost use Rattle.hack_manifest.specs.Manifest.{list_of_items};
 ghost use Rattle.toml.specs.View.{view, table_view, array_view};
-ghost use Rattle.hack_base.specs.Names.{names_behind};
 ghost use Rattle.hack_edits.specs.KeyPaths.{members_key};
-ghost use Rattle.hack_edits.specs.Members.{in_order, leads};
-ghost use Rattle.hack_edits.specs.Members.{item_led};
-ghost use Rattle.hack_edits.specs.Members.{unled_by};
+ghost use Rattle.hack_edits.specs.Members.{in_order, leads, item_led, unled_by};
 ghost use Rattle.hack_edits.specs.Lookup.{items_in};
 
 use hack_base::paths::{join, normal};

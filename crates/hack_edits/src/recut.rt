@@ -1,6 +1,6 @@
 //! Whether what is left of a key's piece is cut again as one piece with that key.
 
-ghost use Rattle.std.specs.Prelude.{◌≡◌, true, false, length, IfOk, IsTrue, IsFalse};
+ghost use Rattle.std.specs.Prelude.{◌≡◌, false, IfOk, IsTrue, IsFalse};
 ghost use Rattle.hack_base.specs.Names.{names_of};
 ghost use Rattle.hack_edits.specs.LeftPieces.{EndsInFeed, KeepsKey};
 

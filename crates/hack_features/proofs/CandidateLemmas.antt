@@ -1,7 +1,7 @@
 -- References to candidates, and rows of tables.
-use Rattle.std.proofs.Common.{◌≡◌, ℕ, zero, suc, ◌<◌, ◌≤◌, arith, List, [], ◌∷◌, length, get_or, refl, sym, ◌∙◌, ap, Bool, true}
+use Rattle.std.proofs.Common.{◌≡◌, ℕ, zero, suc, ◌≤◌, arith, List, [], ◌∷◌, length, refl, Bool, true}
 use Rattle.std.specs.Prelude.{not}
-use Rattle.std.proofs.lemmas.List.{get_or-map, length-map}
+use Rattle.std.proofs.lemmas.List.{length-map}
 use Rattle.std.specs.Borrow.{Bor}
 use Rattle.hack_features.specs.declared.feature.Feature.{Feature}
 use Rattle.hack_features.specs.Feature.{group_of, candidates_of}
@@ -12,11 +12,6 @@ pub past_end : (rows : List (List Bool)) (p q : ℕ) → length rows ≤ p → n
 past_end [] p q h = refl
 past_end (row ∷ rows) zero q h = absurd (omega arith)
 past_end (row ∷ rows) (suc p) q h = past_end rows p q (omega arith)
-
--- the names of the candidate that a reference refers to
-pub candidate_at : (features : List (Bor Feature)) (k : ℕ) (feature : Bor Feature) → k < length features → feature ≡ get_or features k feature → get_or (candidates_of features) k [] ≡ group_of feature.now
-candidate_at features k feature h e =
-    get_or-map (λ (f : Bor Feature). group_of f.now) features k feature [] h ∙ ap (λ (f : Bor Feature). group_of f.now) (sym e)
 
 pub length-candidates_of : (features : List (Bor Feature)) → length (candidates_of features) ≡ length features
 length-candidates_of features = length-map features (λ (f : Bor Feature). group_of f.now)

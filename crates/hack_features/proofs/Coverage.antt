@@ -8,7 +8,7 @@ use Rattle.hack_base.proofs.Members.{Contains-nil, Contains-cons_cases}
 use Rattle.hack_base.specs.Names.{Name}
 use Rattle.hack_routes.specs.FeatureMap.{Chain, here, step, Enables, IsKey}
 use Rattle.hack_sets.specs.Sets.{IsSelection, IsWithin, Pairwise}
-use Rattle.hack_features.specs.Rules.{Choice, names_at, names_in, IsEnabledBy, IsRedundant, NotBothReach, IsExclusive, IsRequired, IsPermitted, Covers, IsWanted}
+use Rattle.hack_features.specs.Rules.{Choice, names_at, names_in, IsEnabledBy, IsRedundant, NotBothReach, IsExclusive, IsRequired, Covers, IsWanted}
 
 pub Chain-append : {edge : Name → Name → Type 0} {x y z : Name} → Chain edge x y → Chain edge y z → Chain edge x z
 Chain-append here d = d
@@ -94,17 +94,6 @@ module _ (c : Choice) (s : List ℕ) (i p : ℕ) (at : i < length s) (is : p ≡
 
   pub within_left : IsWithin c.depth s → IsWithin c.depth (remove s i)
   within_left h = within_shorter c.depth s (remove s i) (omega (arith, length-remove s i at)) h
-
-  pub redundant_kept : IsRedundant c (remove s i) → IsRedundant c s
-  redundant_kept r = (r.0, r.1, member_kept r.0 r.2, member_kept r.1 r.3, r.4)
-
-  -- the law: a permitted set is still permitted after a position is taken out
-  pub permitted_left : IsPermitted c s → IsPermitted c (remove s i)
-  permitted_left h = record {
-    within = within_left h.within;
-    lean = λ r. h.lean (redundant_kept r);
-    exclusive = exclusive_left h.exclusive;
-  }
 
   pub selection_left : (n : ℕ) → IsSelection n s → IsSelection n (remove s i)
   selection_left n h = record {

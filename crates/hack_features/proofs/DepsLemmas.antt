@@ -1,5 +1,5 @@
 -- Tables of what each key enables, and of the keys that serve a group.
-use Rattle.std.proofs.Common.{◌≡◌, ℕ, suc, ◌+◌, ◌<◌, List, arith, [], ◌∷◌, ◌++◌, refl, sym, ◌∙◌, ap, subst, map, Option, Some, None, IsSome, IfSome, Bool, true, false, cond, IsTrue, ◌⊎◌, inl, inr, ◌↔◌, Contains, ◌||◌, length, get_or, take, String, Vec, string_bytes}
+use Rattle.std.proofs.Common.{◌≡◌, ℕ, suc, ◌+◌, ◌<◌, List, arith, [], ◌∷◌, ◌++◌, refl, sym, ◌∙◌, ap, subst, Option, Some, None, IsSome, IfSome, Bool, true, false, cond, IsTrue, ◌⊎◌, inl, inr, ◌↔◌, Contains, ◌||◌, length, get_or, take}
 use Rattle.std.specs.List.{All, list_any}
 use Rattle.std.specs.Option.{is_some}
 use Rattle.std.specs.Map.{lookup}
@@ -11,11 +11,11 @@ use Rattle.std.specs.Ordering.{nat_cmp, is_eq}
 use Rattle.std.proofs.lemmas.Slice.Eq.{bytes_eq-Decides}
 use Rattle.std.proofs.lemmas.Map.Text.{is_eq-slice_cmp}
 use Rattle.std.proofs.lemmas.List.{take_more, get_or-map, length-map}
-use Rattle.hack_base.proofs.Members.{Contains-head, Contains-tail, Contains-nil, Contains-cons_cases}
+use Rattle.hack_base.proofs.Members.{Contains-nil}
 use Rattle.hack_base.proofs.NameLemmas.{same_text, differ}
 use Rattle.hack_routes.proofs.NameSetLemmas.{has-more, has_just-nil}
-use Rattle.hack_base.specs.Names.{Name, names_of}
-use Rattle.hack_routes.specs.FeatureMap.{FeatureMap, IsKey, Enables, here}
+use Rattle.hack_base.specs.Names.{Name}
+use Rattle.hack_routes.specs.FeatureMap.{FeatureMap, Enables, here}
 use Rattle.hack_features.specs.Deps.{IsDepsOf, AreDepsOf, AreServers, ServeGroups, dropped, kept}
 use Rattle.hack_routes.specs.NameSets.{NameSet, has_name, get_at}
 use Rattle.hack_features.specs.InternalDeps.{IsServedBy}

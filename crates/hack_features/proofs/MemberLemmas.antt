@@ -9,11 +9,10 @@ use Rattle.std.proofs.lemmas.List.Elements.{All-push, All-weaker, All-head, All-
 use Rattle.hack_base.proofs.Steps.{all_one_more, all_fail, seen-next, row_items}
 use Rattle.std.proofs.lemmas.List.Folds.{list_all-append}
 use Rattle.std.proofs.lemmas.List.Sums.{sum_by-cons, sum_by-append}
-use Rattle.hack_samples.specs.Sets.{has, has_one_of}
+use Rattle.hack_samples.specs.Sets.{has, has_one_of, rows_of}
 use Rattle.hack_base.proofs.Members.{Contains-nil, Contains-cons_cases, Contains-head, Contains-tail}
 use Rattle.hack_base.proofs.Passes.{some_passes, any_passes, all_pass, each_passes}
 use Rattle.hack_features.specs.declared.rules.Rules.{Rules}
-use Rattle.hack_samples.specs.Sets.{rows_of}
 use Rattle.hack_features.specs.Tables.{keeps_depth, is_lean, is_exclusive, count_at}
 use Rattle.hack_routes.specs.Rows.{cell, bit}
 use Rattle.hack_features.specs.View.{may_of}
@@ -58,9 +57,6 @@ inserted k (false ∷ s) (suc p) lt h =
 
 -- no test depends on where among the others a position is
 module _ (xs ys : List ℕ) (p : ℕ) where
-  among : List ℕ
-  among = xs ++ p ∷ ys
-
   last : List ℕ
   last = (xs ++ ys) ++ p ∷ []
 
@@ -166,10 +162,6 @@ pub length-positions : (k : ℕ) (s : List Bool) → length (filter (λ b. b) s)
 length-positions k [] = refl
 length-positions k (true ∷ s) = let e = length-positions (k + 1) s in omega (arith, e)
 length-positions k (false ∷ s) = length-positions (k + 1) s
-
-and-false : (a b : Bool) → (a && b) ≡ false → (a ≡ false) ⊎ (b ≡ false)
-and-false true b h = inr h
-and-false false b h = inl refl
 
 none-next-by : (g : ℕ → Bool) (s : List Bool) (k : ℕ) → k < length s → (b : Bool) → has s k ≡ b → (b && g k) ≡ false → list_all (λ q. not (g q)) (positions_of (take k s)) ≡ true
     → list_all (λ q. not (g q)) (positions_of (take (k + 1) s)) ≡ true

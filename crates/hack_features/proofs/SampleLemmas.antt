@@ -11,14 +11,13 @@ use Rattle.std.proofs.lemmas.List.Folds.{list_all-append, list_all-map}
 use Rattle.std.proofs.lemmas.List.Elements.{All-map, All-weaker, All-contains, Contains-get_or}
 use Rattle.hack_base.proofs.Members.{Contains-nil, Contains-head, Contains-map, Contains-map_from}
 use Rattle.hack_base.proofs.Passes.{some_passes, any_passes, all_pass, each_passes}
-use Rattle.hack_samples.specs.Sets.{has, has_one_of, has_each, is_on}
+use Rattle.hack_samples.specs.Sets.{has, has_one_of, has_each, is_on, rows_of}
 use Rattle.hack_samples.specs.Samples as samples
 use Rattle.hack_samples.specs.Order as orders
 use Rattle.hack_samples.specs.declared.sets.Setting.{Setting}
 use Rattle.hack_base.specs.Names.{Name}
 use Rattle.hack_features.specs.declared.rules.Rules.{Rules}
 use Rattle.hack_sets.specs.Sets.{IsSelection, IsBefore, Pairwise}
-use Rattle.hack_samples.specs.Sets.{rows_of}
 use Rattle.hack_features.specs.Rules.{Choice, names_at, IsEnabledBy, IsListed}
 use Rattle.hack_features.specs.InternalCover.{set_enables_test}
 use Rattle.hack_routes.specs.Rows.{bit}

@@ -11,8 +11,7 @@ use Rattle.hack_features.specs.Tables.{count_at, keeps_depth, is_lean, is_exclus
 use Rattle.hack_routes.specs.Rows.{cell}
 use Rattle.hack_features.specs.View.{may_of, size_of}
 use Rattle.hack_features.specs.Samples.{positions_from, positions_of, IsSame}
-use Rattle.hack_samples.specs.Sets.{IsInside}
-use Rattle.hack_samples.specs.Sets.{rows_of}
+use Rattle.hack_samples.specs.Sets.{IsInside, rows_of}
 
 -- what holds of each element of a list still does after one is taken out
 All-remove : {X : Type 0} (P : X → Type 0) (s : List X) (i : ℕ) → All P s → All P (remove s i)

@@ -1,5 +1,5 @@
 -- What each key of a feature map enables, and the keys that serve an at-least-one group, as tables of texts.
-use Rattle.std.specs.Prelude.{◌≢◌, List, [], ◌∷◌, ◌++◌, Option, IfSome, IsSome, Bool, IsTrue, ◌↔◌}
+use Rattle.std.specs.Prelude.{◌≢◌, List, [], ◌∷◌, ◌++◌, IfSome, IsSome, IsTrue, ◌↔◌}
 use Rattle.std.specs.BTreeMap.{BTreeMap}
 use Rattle.std.specs.Borrow.{Bor}
 use Rattle.hack_base.specs.Names.{Name}

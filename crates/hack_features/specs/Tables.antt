@@ -1,5 +1,5 @@
 -- What tables answer on sets, entry by entry.
-use Rattle.std.specs.Prelude.{◌≡◌, ◌<◌, ℕ, List, [], Bool, false, true, not, nat_le, sum_by, length, Option, None, Some, IsTrue, ◌↔◌, ◌||◌, ◌==◌}
+use Rattle.std.specs.Prelude.{◌≡◌, ◌<◌, ℕ, List, [], Bool, true, not, nat_le, sum_by, length, Option, None, Some, IsTrue, ◌↔◌}
 use Rattle.std.specs.List.{slice_index_or, list_all, list_any}
 use Rattle.hack_sets.specs.Sets.{IsSelection}
 use Rattle.hack_routes.specs.Rows.{bit, cell}

@@ -2,10 +2,9 @@
 
 ghost use Rattle.std.specs.Prelude.{◌≡◌, ◌<◌, ◌↔◌, ◌||◌, bytes_eq, length, IsTrue, IfOk};
 ghost use Rattle.hack_routes.specs.FeatureMap.{FeatureMap, feature_map};
-ghost use Rattle.hack_features.specs.Deps.{AreDepsOf, AreServers, IsDepsOf};
+ghost use Rattle.hack_features.specs.Deps.{AreDepsOf, AreServers, IsDepsOf, ServeGroups};
 ghost use Rattle.hack_routes.specs.NameSets.{has_name};
 ghost use Rattle.hack_features.specs.InternalDeps.{IsServedBy};
-ghost use Rattle.hack_features.specs.Deps.{ServeGroups};
 ghost use Rattle.hack_features.specs.Feature.{group_of, groups_of};
 ghost use Rattle.hack_routes.specs.Places.{name_at};
 ghost use Rattle.hack_routes.specs.RoutesView.{routed_names};

@@ -1,8 +1,6 @@
 //! A feature of a package: one name, a group of several names, or a feature of a dependency.
 
-ghost use Rattle.std.specs.Prelude.{◌≡◌, ◌↔◌, ◌∷◌, [], ◌++◌, length, Some, IsTrue, IfOk, Any};
-ghost use Rattle.std.specs.Prelude.{Contains, string_bytes};
-ghost use Rattle.std.specs.List.{join_with_byte};
+ghost use Rattle.std.specs.Prelude.{◌≡◌, ◌↔◌, Some, IsTrue, IfOk, Any, Contains};
 ghost use Rattle.hack_base.specs.Names.{names_of};
 ghost use Rattle.hack_routes.specs.FeatureMap.{feature_map, Reaches};
 ghost use Rattle.std.specs.Cmp.{IsTotalOrder};

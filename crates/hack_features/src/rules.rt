@@ -6,9 +6,8 @@ ghost use Rattle.hack_sets.specs.Sets.{IsSelection};
 ghost use Rattle.hack_samples.specs.Sets.{rows_of};
 ghost use Rattle.hack_features.specs.Rules.{Choice, IsPermitted, IsRequired};
 ghost use Rattle.hack_features.specs.Rules.{IsFirstCover, IsWanted};
-ghost use Rattle.hack_features.specs.Tables.{keeps_depth as depth_test};
+ghost use Rattle.hack_features.specs.Tables.{keeps_depth as depth_test, AreTables};
 ghost use Rattle.hack_features.specs.InternalTables.{wanted_test};
-ghost use Rattle.hack_features.specs.Tables.{AreTables};
 ghost use Rattle.hack_features.specs.ChoiceView.{choice, choice_in};
 ghost use Rattle.hack_features.specs.PlacedView.{IsPlaced};
 ghost use Rattle.hack_routes.specs.declared.reach.Edges.TheVariants.{Enabling};
@@ -41,13 +40,12 @@ pub struct Rules<'a> {
 }
 
 impl<'a> Rules<'a> {
-    ghost use Rattle.std.specs.Prelude.{◌↔◌, ◌++◌, ◌∷◌, min};
+    ghost use Rattle.std.specs.Prelude.{◌↔◌, ◌++◌, ◌∷◌, min, ◌<◌};
     ghost use Rattle.hack_sets.specs.Sets.{IsWithin};
     ghost use Rattle.hack_sets.specs.InternalQuestions.{AreLimits, IsFree};
     ghost use Rattle.hack_features.specs.View.{choice_of, size_of, questions_asked, may_of};
     ghost use Rattle.hack_features.specs.View.{whole_of, asked_in};
     ghost use Rattle.hack_features.specs.Samples.{positions_of, IsSame};
-    ghost use Rattle.std.specs.Prelude.{◌<◌};
     ghost use Rattle.std.specs.List.{slice_index_or};
     ghost use Rattle.hack_features.specs.Rules.{IsExclusive, CandidateReaches};
     ghost use Rattle.hack_features.specs.Tables.{is_required};
@@ -308,8 +306,7 @@ fn is_wanted(depth: Option<usize>, tables: &Tables, positions: &[usize]) -> bool
 }
 
 impl Questions for Rules<'_> {
-    ghost use Rattle.std.specs.Prelude.{◌≡◌, ◌<◌, ◌≤◌, ◌+◌, ◌-◌, ◌^◌, ◌++◌, ◌∷◌, ◌↔◌, min, ℕ};
-    ghost use Rattle.std.specs.Prelude.{List};
+    ghost use Rattle.std.specs.Prelude.{◌≡◌, ◌<◌, ◌≤◌, ◌+◌, ◌-◌, ◌^◌, ◌++◌, ◌∷◌, ◌↔◌, min, ℕ, List};
     ghost use Rattle.hack_features.specs.View.{choice_of, size_of, questions_asked, may_of};
     ghost use Rattle.hack_features.specs.View.{whole_of};
     ghost use Rattle.hack_features.specs.ClosureLaws.{may_of-empty, may_of-remove};

@@ -1,13 +1,11 @@
 //! Samples of a package's sets, which show each pattern of a few candidates that some listed set
 //! shows.
 
-ghost use Rattle.std.specs.Prelude.{◌≡◌, map, IfOk, replicate, ◌++◌, ◌∷◌, [], length, true};
-ghost use Rattle.hack_samples.specs.Sets.{rows_of as rows_in, tables_of};
-ghost use Rattle.hack_samples.specs.Sets.{rows_of};
+ghost use Rattle.std.specs.Prelude.{◌≡◌, map, IfOk, replicate, ◌++◌, ◌∷◌, [], true};
+ghost use Rattle.hack_samples.specs.Sets.{tables_of, rows_of};
 ghost use Rattle.hack_sets.specs.Forest.{sets_in};
 ghost use Rattle.hack_features.specs.Samples.{positions_of};
-ghost use Rattle.hack_features.specs.InternalSamples.{one_leads, providers_of};
-ghost use Rattle.hack_features.specs.InternalSamples.{all_providers};
+ghost use Rattle.hack_features.specs.InternalSamples.{one_leads, providers_of, all_providers};
 
 use crate::members::members_of;
 use crate::placed::Placed;
@@ -96,9 +94,7 @@ fn sets_from(alloc: Global, sets: &[Vec<bool>]) -> Result<FeatureSets, AllocErro
 }
 
 impl Allowed for Rules<'_> {
-    ghost use Rattle.std.specs.Prelude.{◌≡◌, ◌<◌, ◌+◌, ◌-◌, ◌^◌, min, ℕ, List, Bool, true, false};
-    ghost use Rattle.std.specs.Prelude.{length, slice_set};
-    ghost use Rattle.hack_samples.specs.Sets.{has};
+    ghost use Rattle.std.specs.Prelude.{◌≡◌, ◌<◌, ◌+◌, ◌-◌, ◌^◌, min, true};
     ghost use Rattle.hack_features.specs.View.{size_of, questions_asked, may_of};
     ghost use Rattle.hack_features.specs.Samples.{positions_of, IsSame};
     ghost use Rattle.hack_features.specs.ClosureLaws.{may-empty, may-inside, same_none, same_more};

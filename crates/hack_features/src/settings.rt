@@ -1,7 +1,7 @@
 //! Which candidates are on: those that a set enables, and those that all features of the package
 //! enable.
 
-ghost use Rattle.std.specs.Prelude.{◌≡◌, ◌∷◌, [], map, flat_map, length, IfOk};
+ghost use Rattle.std.specs.Prelude.{◌≡◌, [], map, flat_map, length, IfOk};
 ghost use Rattle.std.specs.List.{slice_index_or};
 ghost use Rattle.hack_samples.specs.Sets.{rows_of};
 ghost use Rattle.hack_features.specs.InternalSettings.{leads_to_each, AreKeyPlaces};

@@ -2,8 +2,7 @@
 //! or files that fail when a test wants it.
 
 ghost use Rattle.std.specs.Prelude.{◌≡◌, ◌↔◌, ◌⊎◌, [], ◌∷◌, ◌++◌, List, ℕ, Some, None};
-ghost use Rattle.std.specs.Prelude.{string_bytes};
-ghost use Rattle.std.specs.Prelude.{IfOk, IfErr, OnOk, OnErr, IsTrue, IsSome};
+ghost use Rattle.std.specs.Prelude.{string_bytes, IfOk, IfErr, OnOk, OnErr, IsTrue, IsSome};
 ghost use Rattle.hack_files.specs.Files.{Contents, CountsFailedCall, Trace};
 ghost use Rattle.hack_base.specs.Counters.{GrowsBy};
 ghost use Rattle.hack_files.specs.Files.{KeepsOthers, KeepsAll, Makes, MakesOrNot, puts, removes};

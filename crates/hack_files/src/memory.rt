@@ -4,7 +4,7 @@ ghost use Rattle.std.specs.Prelude.{◌≡◌, ◌++◌, ◌∷◌, [], List, �
 ghost use Rattle.std.proofs.Common.{inl};
 ghost use Rattle.std.specs.Option.{option_map};
 ghost use Rattle.hack_base.specs.Counters.{GrowsBy};
-ghost use Rattle.hack_files.specs.Files.{Change, GrowsAtLeastBy, in_order};
+ghost use Rattle.hack_files.specs.Files.{GrowsAtLeastBy, in_order};
 ghost use Rattle.hack_files.specs.RefusalLaws.{at_least_none, at_least_more, at_least_some};
 ghost use Rattle.hack_files.specs.Memory.{held_after, change_of};
 

@@ -1,9 +1,8 @@
 //! Files that are restored: what they hold is kept before they are edited, and written back at the
 //! end.
 
-ghost use Rattle.std.specs.Prelude.{◌≡◌, ◌<◌, ◌↔◌, ◌⊎◌, [], ◌∷◌, ◌++◌, List, Some, cond, false, true};
-ghost use Rattle.std.specs.Prelude.{option_map};
-ghost use Rattle.std.specs.Prelude.{OnOk, OnErr, IfErr, IsTrue};
+ghost use Rattle.std.specs.Prelude.{◌≡◌, ◌<◌, ◌↔◌, ◌⊎◌, [], ◌∷◌, ◌++◌, List, Some, cond, false};
+ghost use Rattle.std.specs.Prelude.{true, option_map, OnOk, OnErr, IfErr, IsTrue};
 ghost use Rattle.std.specs.Bool.{OnTrue, OnFalse};
 ghost use Rattle.hack_files.specs.Files.{CountsFailedCall, KeepsAll, KeepsOthers};
 ghost use Rattle.hack_base.specs.Counters.{GrowsBy};

@@ -13,8 +13,7 @@ use Rattle.hack_closures.specs.Closures.{IsBuildFor}
 use Rattle.hack_closures.specs.declared.build.Build.{Build}
 use Rattle.hack_closures.specs.declared.build.Build.TheVariants.{NoFeatures, AllFeatures, Set}
 use Rattle.hack_conflicts.specs.declared.rules.Rules.{Rules as SearchRules}
-use Rattle.hack_sets.proofs.OrderLemmas.{before_trans}
-use Rattle.hack_sets.proofs.OrderLemmas.{Increases, Stand, front_below, none_first, other_last, same_last, same_of}
+use Rattle.hack_sets.proofs.OrderLemmas.{before_trans, Increases, Stand, front_below, none_first, other_last, same_last, same_of}
 use Rattle.hack_features.specs.Rules.{Choice}
 use Rattle.hack_sets.specs.Sets.{IsBefore}
 use Rattle.hack_hunt.specs.Hunts.{AreInOrder, Precedes}

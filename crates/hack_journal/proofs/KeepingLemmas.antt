@@ -1,5 +1,5 @@
 -- Why an edit is refused, one step after another.
-use Rattle.std.proofs.Common.{◌≡◌, ◌+◌, inl, inr, subst, sym, ℕ, List, [], ◌∷◌, Option, Some, None, Result, Ok, Err, false, length}
+use Rattle.std.proofs.Common.{◌≡◌, ◌+◌, inl, inr, subst, sym, ℕ, List, [], ◌∷◌, Result, Ok, Err, false, length}
 use Rattle.std.specs.Prelude.{IsSome}
 use Rattle.hack_files.specs.Files.{KeepsAll}
 use Rattle.hack_files.specs.declared.fs.FileFault.{FileFault}
@@ -7,12 +7,9 @@ use Rattle.hack_files.specs.declared.fs.FileFault.TheVariants.{Memory, Device}
 use Rattle.hack_files.specs.declared.fs.Files.{Ghosts as Filing}
 use Rattle.hack_files.specs.FailedCalls.{NoneFailed, WriteFailed}
 use Rattle.hack_journal.specs.FailedCalls.{FailsRefusedAt}
-use Rattle.hack_journal.specs.Internal.{IsHeld, RefusesNextAtMost}
-use Rattle.hack_journal.specs.Journal.{Edit}
-use Rattle.hack_journal.specs.Keeping.{CannotAppend, CannotLookAhead, FailsOf, IsOfCause, IsOther, RefusesOthers, held_first}
+use Rattle.hack_journal.specs.Internal.{RefusesNextAtMost}
+use Rattle.hack_journal.specs.Keeping.{CannotAppend, CannotLookAhead, FailsOf, IsOfCause, RefusesOthers}
 use Rattle.hack_journal.specs.Rows.{Noted, file_at, is_of_journal}
-use Rattle.hack_journal.specs.SafeFiles.{first_entry_of}
-use Rattle.hack_journal.specs.Strangers.{is_edit_of_manifest}
 use Rattle.hack_base.proofs.Members.{Contains-cons_cases, Contains-nil}
 use Rattle.hack_files.proofs.FailedLemmas.{look_then, none_then, write_then}
 use Rattle.hack_journal.proofs.RowLemmas.{apart_from}
@@ -35,16 +32,6 @@ fails_then f P Q (Err fault) a b c none to h = cause_wider P Q fault to h
 pub fails_write : {F T : Type 0} (f : Filing F) (path : List ℕ) (r : Result T FileFault) (a b : F) → FailsRefusedAt f path a b r → FailsOf f (WriteFailed f path a b) a b r
 fails_write f path (Ok v) a b h = h
 fails_write f path (Err fault) a b h = of_cause (WriteFailed f path a b) fault h
-
--- what is held at first is known
-first_is : (o : Option Edit) (now held : Option (List ℕ)) → IsHeld o now held → held ≡ held_first o now
-first_is None now held is = sym is
-first_is (Some e) now held is = sym is
-
-pub is_other : {F : Type 0} (f : Filing F) (noted : Noted) (path : List ℕ) (bytes held : Option (List ℕ)) (old : F) → (f.tells → IsHeld (first_entry_of noted.entries path) (f.bytes_at old path) held)
-    → is_edit_of_manifest (record { path = path; held = held; wrote = bytes }) ≡ false → IsOther f noted path bytes old
-is_other f noted path bytes held old is none = λ t.
-    subst (λ (h : Option (List ℕ)). is_edit_of_manifest (record { path = path; held = h; wrote = bytes }) ≡ false) (first_is (first_entry_of noted.entries path) (f.bytes_at old path) held (is t)) none
 
 -- why the row gets no file, told from before calls that only looked
 pub ahead_then : {F : Type 0} (f : Filing F) (noted : Noted) (a b c : F) → NoneFailed f a b → (f.tells → KeepsAll (f.bytes_at a) (f.bytes_at b)) → CannotLookAhead f noted b c → CannotLookAhead f noted a c

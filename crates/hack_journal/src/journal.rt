@@ -7,10 +7,8 @@ ghost use Rattle.std.specs.Prelude.{◌≡◌, ◌++◌, ◌<◌, ◌≤◌, [],
 ghost use Rattle.std.specs.Prelude.{length, string_bytes};
 ghost use Rattle.std.specs.Option.{option_map};
 ghost use Rattle.std.specs.Str.{IsUtf8};
-ghost use Rattle.hack_journal.specs.Journal.{Edit, edit_of, edits_of, HaveTextPaths};
-ghost use Rattle.hack_journal.specs.Journal.{lines, content_text, edit_text, edits_text};
-ghost use Rattle.hack_journal.specs.Journal.{journal_text};
-ghost use Rattle.hack_journal.specs.Journal.{ReadsValue};
+ghost use Rattle.hack_journal.specs.Journal.{Edit, edit_of, edits_of, lines, edit_text, ReadsValue};
+ghost use Rattle.hack_journal.specs.Journal.{HaveTextPaths, content_text, edits_text, journal_text};
 ghost use Rattle.hack_journal.specs.Internal.{BeginsWithoutSpace};
 ghost use Rattle.hack_journal.specs.Keeping.{IsOfCause, IsWayless};
 ghost use Rattle.hack_journal.specs.Rows.{IsNoteOf};

@@ -7,15 +7,13 @@
 //! replaces: then an [`Unkept`] is told of it. It keeps edits of manifests alone, since the next
 //! call restores nothing for a journal that names anything else.
 
-ghost use Rattle.std.specs.Prelude.{◌≡◌, ◌<◌, ◌+◌, [], ◌∷◌, ℕ, None, Some, length};
-ghost use Rattle.std.specs.Prelude.{Ok, false, true};
+ghost use Rattle.std.specs.Prelude.{◌≡◌, ◌<◌, ◌+◌, [], ◌∷◌, ℕ, None, Some, length, Ok, false, true};
 ghost use Rattle.std.specs.Prelude.{IfOk, OnOk, OnErr, IsTrue, IsSome, ◌↔◌, string_bytes};
 ghost use Rattle.std.specs.Option.{option_map};
 ghost use Rattle.hack_files.specs.Files.{Contents, CountsFailedCall, KeepsOthers, KeepsAll};
 ghost use Rattle.hack_files.specs.Files.{Makes, MakesOrNot, refused_path};
 ghost use Rattle.hack_journal.specs.Keeping.{FailsToChange, TellsItsOwn};
-ghost use Rattle.hack_journal.specs.Rows.{spot_of, file_at, is_of_journal, KeepsBeside};
-ghost use Rattle.hack_journal.specs.Rows.{RemovesOwn};
+ghost use Rattle.hack_journal.specs.Rows.{spot_of, file_at, is_of_journal, KeepsBeside, RemovesOwn};
 ghost use Rattle.hack_journal.specs.SafeFiles.{SomeEntryHasBytes, AreBack, gives};
 ghost use Rattle.hack_journal.specs.SafeFiles.{IsJournaled, Stays, trace_besides, without};
 ghost use Rattle.hack_journal.specs.Internal.{ShortensRow};

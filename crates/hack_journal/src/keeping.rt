@@ -1,19 +1,16 @@
 //! How journaled files keep what a change replaces: an entry is made, and its file is added to the
 //! journal's row. Each step says why it fails.
 
-ghost use Rattle.std.specs.Prelude.{◌≡◌, ◌⊎◌, ◌<◌, ◌++◌, ◌+◌, ◌^◌, [], ◌∷◌, None, Some, length};
-ghost use Rattle.std.specs.Prelude.{Ok, false, true};
-ghost use Rattle.std.specs.Prelude.{IfOk, OnOk, string_bytes};
+ghost use Rattle.std.specs.Prelude.{◌≡◌, ◌⊎◌, ◌<◌, ◌++◌, ◌+◌, ◌^◌, [], ◌∷◌, None, Some, length, Ok};
+ghost use Rattle.std.specs.Prelude.{false, true, IfOk, OnOk, string_bytes};
 ghost use Rattle.std.specs.Option.{option_map};
-ghost use Rattle.hack_files.specs.Files.{KeepsAll};
-ghost use Rattle.hack_files.specs.Files.{Makes, Grows};
+ghost use Rattle.hack_files.specs.Files.{KeepsAll, Makes, Grows};
 ghost use Rattle.hack_files.specs.FailedCalls.{LookFailed};
 ghost use Rattle.hack_journal.specs.Journal.{edit_of};
 ghost use Rattle.hack_journal.specs.Keeping.{CannotAppend, CannotKeep, CannotLookAhead, FailsOf};
 ghost use Rattle.hack_journal.specs.Keeping.{IsOther};
 ghost use Rattle.hack_journal.specs.Rows.{file_at, is_of_journal};
-ghost use Rattle.hack_journal.specs.SafeFiles.{SomeEntryHasBytes, first_entry_of};
-ghost use Rattle.hack_journal.specs.SafeFiles.{without};
+ghost use Rattle.hack_journal.specs.SafeFiles.{SomeEntryHasBytes, first_entry_of, without};
 ghost use Rattle.hack_journal.specs.Internal.{Hidden, IsHeld, IsNotable, RefusesNextAtMost};
 ghost use Rattle.hack_journal.specs.Strangers.{is_edit_of_manifest};
 

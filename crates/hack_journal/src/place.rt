@@ -3,8 +3,8 @@
 //! The first file has the journal's own path. Each later one has that path, a `~` and its number.
 //! So an edit adds one file and rewrites none.
 
-ghost use Rattle.std.specs.Prelude.{◌≡◌, ◌↔◌, ◌+◌, ◌++◌, ℕ, List, IfNone, IfOk, IfSome, IsTrue};
-ghost use Rattle.std.specs.Prelude.{codes, false, length, string_bytes};
+ghost use Rattle.std.specs.Prelude.{◌≡◌, ◌↔◌, ◌+◌, ◌++◌, IfNone, IfOk, IfSome, IsTrue, codes};
+ghost use Rattle.std.specs.Prelude.{false, length, string_bytes};
 ghost use Rattle.std.specs.List.{repeat};
 ghost use Rattle.hack_base.specs.PathTexts.{is_rooted, without_front};
 ghost use Rattle.hack_journal.specs.Internal.{NoneClimbs};

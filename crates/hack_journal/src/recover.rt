@@ -12,10 +12,9 @@ ghost use Rattle.hack_journal.specs.CutFiles.{IsSafeOrCut, StaysSafeOrCut};
 ghost use Rattle.hack_journal.specs.Recovery.{AreTold, AreChanged, IsRestored, IsWhy, HasEntry};
 ghost use Rattle.hack_journal.specs.Recovery.{IsJournalRefusal, IsFailureCounted, IsOwn};
 ghost use Rattle.hack_journal.specs.FailedCalls.{FailsOnlySo};
-ghost use Rattle.hack_journal.specs.Internal.{AddsChanged, AddsIfOther, backs};
-ghost use Rattle.hack_journal.specs.Internal.{IsBackBut, IsFilesFault, IsMemoryRefused};
-ghost use Rattle.hack_journal.specs.Internal.{IsFileOfRow, IsFileOrEntry};
-ghost use Rattle.hack_journal.specs.Internal.{PutsBack, PutsBackOrSafe};
+ghost use Rattle.hack_journal.specs.Internal.{AddsChanged, AddsIfOther, backs, IsBackBut};
+ghost use Rattle.hack_journal.specs.Internal.{IsFilesFault, IsMemoryRefused, IsFileOfRow};
+ghost use Rattle.hack_journal.specs.Internal.{IsFileOrEntry, PutsBack, PutsBackOrSafe};
 ghost use Rattle.hack_journal.specs.Internal.{IsWhyNotTold, IsWriteFault};
 ghost use Rattle.hack_journal.specs.Recovery.{IsJournalOrItsEntry, KeepsNoEntry, SparesOthers};
 

@@ -1,11 +1,11 @@
 //! Reads a journal: the entries of all files of its row.
 
-ghost use Rattle.std.specs.Prelude.{◌≡◌, ◌⊎◌, ◌++◌, [], List, ℕ, None, Some, IfOk, IfErr, OnOk};
-ghost use Rattle.std.specs.Prelude.{IsSome, true, false, string_bytes};
+ghost use Rattle.std.specs.Prelude.{◌≡◌, ◌++◌, [], ℕ, None, Some, IfOk, IfErr, OnOk, IsSome, true};
+ghost use Rattle.std.specs.Prelude.{false, string_bytes};
 ghost use Rattle.hack_base.specs.Counters.{GrowsBy};
 ghost use Rattle.hack_files.specs.Files.{KeepsAll, Makes};
-ghost use Rattle.hack_journal.specs.Journal.{Edit, edits_of};
-ghost use Rattle.hack_journal.specs.Rows.{AreFirst, IsRowRead, file_at, placed, spot_of};
+ghost use Rattle.hack_journal.specs.Journal.{edits_of};
+ghost use Rattle.hack_journal.specs.Rows.{IsRowRead, file_at, placed, spot_of};
 ghost use Rattle.hack_journal.specs.Recovery.{AreOfCall, CountsRecoverFault, IsFailureCounted};
 ghost use Rattle.hack_journal.specs.Recovery.{IsReached, IsWhyUnread};
 ghost use Rattle.hack_journal.specs.FailedCalls.{FailsOnlySo};

@@ -1,7 +1,7 @@
 //! A whole call over files with a journal: wherever it ends, nothing is lost.
 
-ghost use Rattle.std.specs.Prelude.{◌≡◌, ◌⊎◌, ◌≤◌, ◌+◌, ◌-◌, ◌^◌, ℕ, None, false, min};
-ghost use Rattle.std.specs.Prelude.{IfSome, length, string_bytes, true};
+ghost use Rattle.std.specs.Prelude.{◌≡◌, ◌⊎◌, ◌+◌, ◌-◌, ◌^◌, ℕ, None, false, min, IfSome, length};
+ghost use Rattle.std.specs.Prelude.{string_bytes, true};
 ghost use Rattle.hack_base.specs.Names.{names_of};
 ghost use Rattle.hack_base.specs.Counters.{GrowsBy};
 ghost use Rattle.hack_files.specs.Files.{KeepsAll, KeepsAllBut};
@@ -9,13 +9,11 @@ ghost use Rattle.hack_files.specs.View.{files_view};
 ghost use Rattle.hack_journal.specs.FailedCalls.{CannotEnd};
 ghost use Rattle.hack_journal.specs.FileCalls.{spot_in};
 ghost use Rattle.hack_journal.specs.LockfilesApart.{KeepsLockfiles, KeepsOtherFiles};
-ghost use Rattle.hack_journal.specs.Refusing.{AreJust, HoldsByKind, IsRefused};
-ghost use Rattle.hack_journal.specs.Refusing.{IsRefusedOrUnkept};
+ghost use Rattle.hack_journal.specs.Refusing.{AreJust, HoldsByKind, IsRefused, IsRefusedOrUnkept};
 ghost use Rattle.hack_journal.specs.Rows.{KeepsBeside, RemovesOwn, spot_of};
 ghost use Rattle.hack_journal.specs.SafeFiles.{AreBack, Stays, StaysSafe, without};
-ghost use Rattle.hack_journaled.specs.Journals.{BetweenBoth, IsAccounted, IsWhyItStays};
-ghost use Rattle.hack_journaled.specs.Journals.{OnlyEndFailed};
-ghost use Rattle.hack_journaled.specs.Journals.{contents_seen, files_seen, world_seen};
+ghost use Rattle.hack_journaled.specs.Journals.{BetweenBoth, IsAccounted, files_seen, world_seen};
+ghost use Rattle.hack_journaled.specs.Journals.{IsWhyItStays, OnlyEndFailed, contents_seen};
 ghost use Rattle.hack_run.specs.CallChanges.{IsChangeTrace};
 ghost use Rattle.hack_run.specs.CallTrace.{IsCallTrace};
 ghost use Rattle.hack_run.specs.Lanes.{IsLaneCall};

@@ -6,14 +6,13 @@ use Rattle.std.proofs.lemmas.List.Edits.{length-remove}
 use Rattle.std.proofs.lemmas.List.Elements.{All-append, All-cons, All-head, All-map, All-nil, All-tail, Contains-append_cases, Contains-get_or}
 use Rattle.hack_base.proofs.Members.{Contains-cons_cases, Contains-head, Contains-map_from, Contains-nil, Contains-tail}
 use Rattle.hack_base.proofs.Passes.{all_pass, any_passes, each_passes, some_passes}
-use Rattle.hack_samples.specs.Sets.{has, IsInside}
+use Rattle.hack_samples.specs.Sets.{has, IsInside, rows_of}
 use Rattle.hack_features.specs.declared.rules.Rules.{Rules}
 use Rattle.hack_features.specs.ClosureLaws.{may-inside, may_of-empty, may_of-remove}
 use Rattle.hack_sets.specs.Questions.{IsWholeSet, is_whole}
 use Rattle.hack_features.specs.Rules.{IsListed}
 use Rattle.hack_features.specs.Samples.{positions_from, positions_of, IsSame}
 use Rattle.hack_sets.specs.Sets.{IsListing, IsSelection, Pairwise}
-use Rattle.hack_samples.specs.Sets.{rows_of}
 use Rattle.hack_features.specs.Tables.{is_required}
 use Rattle.hack_routes.specs.Rows.{bit}
 use Rattle.hack_features.specs.View.{choice_of, may_of, size_of, whole_of}

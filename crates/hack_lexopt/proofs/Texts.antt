@@ -1,6 +1,6 @@
 -- Where a text may be split again.
-use Rattle.std.proofs.Common.{◌≡◌, ℕ, ◌-◌, List, ◌++◌, length, drop, arith, length-append, append_assoc, take, subst, sym, ap, ◌∙◌, refl}
-use Rattle.std.proofs.lemmas.List.{drop_at, take-append-drop}
+use Rattle.std.proofs.Common.{◌≡◌, ℕ, ◌-◌, List, ◌++◌, length, drop, arith, length-append, append_assoc, take, subst, sym, ap, ◌∙◌}
+use Rattle.std.proofs.lemmas.List.{take-append-drop}
 use Rattle.std.proofs.lemmas.Str.{IsCharBoundary-at_seam}
 use Rattle.std.specs.Str.{IsCharBoundary, IsUtf8}
 
@@ -10,9 +10,6 @@ length_front bs xs ys e = omega (arith, ap length e, length-append xs ys)
 -- the start of what is left of a text is a character boundary
 pub IsCharBoundary-rest : (bs xs ys : List ℕ) → bs ≡ xs ++ ys → IsUtf8 ys → IsCharBoundary bs (length bs - length ys)
 IsCharBoundary-rest bs xs ys e u = let P : ℕ → Type 0 = λ n. IsCharBoundary bs n in subst P (sym (length_front bs xs ys e)) (IsCharBoundary-at_seam bs xs ys e u)
-
-pub drop_front : (bs xs ys : List ℕ) → bs ≡ xs ++ ys → drop (length bs - length ys) bs ≡ ys
-drop_front bs xs ys e = rw (length_front bs xs ys e) (rw e (drop_at xs ys (length xs) refl))
 
 -- an argument is a prefix, a letter and the rest
 pub word_parts : (word letter rest : List ℕ) (at : ℕ) → drop at word ≡ letter ++ rest → word ≡ (take at word ++ letter) ++ rest

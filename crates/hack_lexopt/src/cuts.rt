@@ -8,9 +8,8 @@ ghost use Rattle.hack_base.specs.Cuts.{front_of};
 ghost use Rattle.hack_lexopt.specs.Cuts.{FlagCut, ShortFlag, cut_of, untaken_of};
 ghost use Rattle.hack_lexopt.specs.Cuts.{first_letter, after_letter, attached_value, unexpected_of};
 ghost use Rattle.hack_lexopt.specs.Cuts.{is_plain_word as plain, is_long};
-ghost use Rattle.hack_lexopt.specs.Parsers.{cut_in, flag_in, option_at};
+ghost use Rattle.hack_lexopt.specs.Parsers.{cut_in, flag_in, option_at, untaken_at, untaken_rest};
 ghost use Rattle.hack_lexopt.specs.Internal.{letter_in};
-ghost use Rattle.hack_lexopt.specs.Parsers.{untaken_at, untaken_rest};
 
 use crate::arg::{Arg, Flag};
 

@@ -1,5 +1,5 @@
 -- What the files hold after several calls.
-use Rattle.std.proofs.Common.{inl, inr, ℕ, [], ◌∷◌, Result, Ok, Err, refl, sym, ◌∙◌, arith}
+use Rattle.std.proofs.Common.{inl, inr, ℕ, [], ◌∷◌, Result, Ok, Err, sym, ◌∙◌, arith}
 use Rattle.hack_base.specs.Names.{Name}
 use Rattle.hack_files.specs.Files.{Contents, Grows, KeepsAll}
 use Rattle.hack_base.specs.Counters.{GrowsBy}
@@ -8,10 +8,6 @@ use Rattle.hack_metadata.specs.declared.ask.fault.AskFault.{AskFault}
 use Rattle.hack_metadata.specs.declared.ask.fault.AskFault.TheVariants as ask
 use Rattle.hack_load.specs.FilesAfterLoading.{LeavesFew}
 use Rattle.hack_load.specs.Internal.{MayFail, ReadsOnly}
-
--- nothing is done yet
-pub nothing : (tells : Type 0) (a : Contents) (x : ℕ) → Whole tells a a x x
-nothing tells a x = (λ low. omega (arith, low), λ t q. refl)
 
 -- a count that stays, and then grows
 pub count-more : (k x y z : ℕ) → GrowsBy 0 x y → GrowsBy k y z → GrowsBy k x z

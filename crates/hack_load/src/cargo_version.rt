@@ -1,14 +1,12 @@
 //! What cargo reports of itself by `cargo -vV`: its minor version and its host.
 
-ghost use Rattle.std.specs.Prelude.{◌≡◌, IfOk, OnErr, option_copied, string_bytes};
-ghost use Rattle.std.specs.Prelude.{true};
+ghost use Rattle.std.specs.Prelude.{◌≡◌, IfOk, OnErr, option_copied, string_bytes, true};
 ghost use Rattle.hack_base.specs.Names.{optional_text};
 ghost use Rattle.hack_process.specs.Calls.{MayAdd};
 ghost use Rattle.hack_process.specs.CommandTexts.{text_of};
 ghost use Rattle.hack_process.specs.Commands.{asked_of, command_of};
 ghost use Rattle.hack_load.specs.CargoQuestions.{FailsSelf, IsSelf, TellsSelf, TellsVersion};
-ghost use Rattle.hack_load.specs.CargoQuestions.{self_command};
-ghost use Rattle.hack_load.specs.CargoQuestions.{told_version, unknown_version};
+ghost use Rattle.hack_load.specs.CargoQuestions.{self_command, told_version, unknown_version};
 ghost use Rattle.std.specs.Result.{result_unwrap_or};
 ghost use Rattle.hack_versions.specs.ToolTexts.{answer_fault_text};
 

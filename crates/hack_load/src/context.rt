@@ -1,23 +1,19 @@
 //! All that is loaded for one call: what its arguments ask for, what cargo reports of the
 //! workspace, the manifest and the features of each member, and the current package.
 
-ghost use Rattle.std.specs.Prelude.{◌≡◌, ◌<◌, ◌⊎◌, ◌↔◌, [], ℕ, true};
-ghost use Rattle.std.specs.Prelude.{Contains, Some, IfOk, IfErr, IsTrue, OnOk};
-ghost use Rattle.std.specs.Prelude.{false, not, length, map, option_copied, option_map};
+ghost use Rattle.std.specs.Prelude.{◌≡◌, ◌<◌, ◌⊎◌, ◌↔◌, ℕ, true, Some, IfOk, OnOk, false, not, map};
+ghost use Rattle.std.specs.Prelude.{[], Contains, IfErr, IsTrue, length, option_copied, option_map};
 ghost use Rattle.std.specs.Option.{option_map_or};
 ghost use Rattle.hack_base.specs.Names.{optional_text};
 ghost use Rattle.hack_process.specs.Commands.{command_of, plain_command};
 ghost use Rattle.hack_metadata.specs.RecordViews.{package_view, place_at};
 ghost use Rattle.hack_metadata.specs.MetadataView.{metadata_view};
 ghost use Rattle.hack_load.specs.Contexts.{IsWholeContext, is_member_or_none, place_among};
-ghost use Rattle.hack_load.specs.Contexts.{package_at, manifest_at};
-ghost use Rattle.hack_load.specs.Contexts.{features_at, is_private_at, rust_version_at};
-ghost use Rattle.hack_load.specs.Contexts.{verbose_name, manifest_rust_version};
-ghost use Rattle.hack_load.specs.ContextOf.{AreFeatures, IsContextCause, IsContextFrom};
-ghost use Rattle.hack_load.specs.ContextOf.{IsContextOf};
-ghost use Rattle.hack_load.specs.ContextOf.{IsLoadCause, IsNodeFault, IsTooOld};
+ghost use Rattle.hack_load.specs.Contexts.{package_at, manifest_at, features_at, is_private_at};
+ghost use Rattle.hack_load.specs.Contexts.{rust_version_at, verbose_name, manifest_rust_version};
+ghost use Rattle.hack_load.specs.ContextOf.{AreFeatures, IsContextCause, IsContextFrom, IsTooOld};
+ghost use Rattle.hack_load.specs.ContextOf.{IsContextOf, IsLoadCause, IsNodeFault, warnings_of};
 ghost use Rattle.hack_load.specs.Internal.{IsOfNode};
-ghost use Rattle.hack_load.specs.ContextOf.{warnings_of};
 ghost use Rattle.hack_load.specs.Candidates.{MissesNode};
 ghost use Rattle.hack_load.specs.CargoQuestions.{told_version};
 ghost use Rattle.hack_load.specs.Names.{name_text};

@@ -4,9 +4,8 @@ ghost use Rattle.std.specs.Prelude.{◌≡◌, IfErr, IfOk, Some, None, map, opt
 ghost use Rattle.serde_json.specs.View.{members_view};
 ghost use Rattle.hack_load.specs.Located.{root_at, root_in, current_of, has_manifest};
 ghost use Rattle.hack_load.specs.RootFaults.{IsRootRefusal};
-ghost use Rattle.hack_load.specs.Internal.{IsNotJson};
+ghost use Rattle.hack_load.specs.Internal.{IsNotJson, IsOfProcess};
 ghost use Rattle.hack_load.specs.CargoQuestions.{FailsLocate, locate};
-ghost use Rattle.hack_load.specs.Internal.{IsOfProcess};
 ghost use Rattle.hack_metadata.specs.QuestionCalls.{ReadsOutput};
 ghost use Rattle.hack_metadata.specs.RecordViews.{package_view, place_at};
 ghost use Rattle.hack_metadata.specs.MetadataView.{metadata_view};

@@ -1,21 +1,17 @@
 //! The manifests of the members of a workspace, read from their files.
 
-ghost use Rattle.std.specs.Prelude.{◌≡◌, ◌<◌, ◌⊎◌, [], IfOk, IfErr, Some, Contains, length, map};
-ghost use Rattle.std.specs.Prelude.{slice_get};
-ghost use Rattle.hack_files.specs.Files.{KeepsAll, Makes};
-ghost use Rattle.hack_base.specs.Counters.{GrowsBy};
-ghost use Rattle.hack_metadata.specs.RecordViews.{package_view, place_at};
+ghost use Rattle.std.specs.Prelude.{◌<◌, [], IfOk, IfErr, length};
+ghost use Rattle.hack_files.specs.Files.{Makes};
 ghost use Rattle.hack_metadata.specs.MetadataView.{metadata_view};
 ghost use Rattle.hack_load.specs.FailedLoads.{FailsOnlyReading, IsManifestAt, IsMemberPath};
-ghost use Rattle.hack_load.specs.Internal.{ReadsOnly};
+ghost use Rattle.hack_load.specs.Internal.{ReadsOnly, IsCallFaultOfFile, IsOfManifest};
 ghost use Rattle.hack_load.specs.CargoQuestions.{AreOfMembers, IsMemberFault, IsOfMember};
 ghost use Rattle.hack_load.specs.CargoQuestions.{IsPackageFault};
-ghost use Rattle.hack_load.specs.Internal.{IsCallFaultOfFile, IsOfManifest};
 
 use crate::fault::ContextFault;
 use hack_files::fs::{Files, FsFault, read_to_string};
 use hack_manifest::manifest::{Manifest, ManifestFault};
-use hack_metadata::metadata::{Metadata, Package, PackageId};
+use hack_metadata::metadata::{Metadata, PackageId};
 use std::alloc::Global;
 
 /// Reads the manifests of the members, in their order.

@@ -2,7 +2,6 @@
 
 ghost use Rattle.std.specs.Prelude.{◌≡◌, ◌++◌, ◌∷◌, [], Contains, IfOk, OnOk, OnErr, IfSome, Some};
 ghost use Rattle.std.specs.Prelude.{cond, filter, map, not, option_map, string_bytes};
-ghost use Rattle.hack_base.specs.Names.{names_of};
 ghost use Rattle.hack_metadata.specs.RecordViews.{place_at};
 ghost use Rattle.hack_process.specs.CommandTexts.{with_names};
 ghost use Rattle.hack_process.specs.Commands.{command_of};

@@ -5,10 +5,9 @@ use Rattle.std.proofs.lemmas.Bool.{cases_Bool}
 use Rattle.std.proofs.lemmas.List.{take_at, drop_at}
 use Rattle.std.proofs.lemmas.Option.{same_Some}
 use Rattle.hack_base.specs.Names.{Name}
-use Rattle.hack_manifest.specs.LineRuns.{IsRun, IsShortest, IsCutInto}
+use Rattle.hack_manifest.specs.LineRuns.{IsRun, IsShortest, IsCutInto, chain_at}
 use Rattle.hack_manifest.specs.PieceFronts.{IsFrontTo}
 use Rattle.hack_manifest.specs.Paths.{View, AreCut, IsOwnKey, at_front, no_front, IsPathOfPiece, HavePaths, next_header, is_header, joined_pieces}
-use Rattle.hack_manifest.specs.LineRuns.{chain_at}
 use Rattle.hack_manifest.specs.Manifest.{Facts, IsReadAs, read_manifest}
 use Rattle.hack_base.specs.FieldReadings.{FieldReading}
 

@@ -15,10 +15,8 @@ use Rattle.toml.proofs.OnLiterals.{toml_on_literals}
 use Rattle.toml.proofs.Blanks.{skip_within}
 use Rattle.toml.proofs.Turns.{keyval_ok, lines_end, lines_more, document_some, items_end, items_more, val_atom, val_array}
 use Rattle.hack_base.specs.Names.{Name}
-use Rattle.hack_manifest.specs.LineRuns.{stands}
-use Rattle.hack_manifest.specs.Internal.{has_keys}
-use Rattle.hack_manifest.specs.LineRuns.{chain, chain_of_data, chain_at}
-use Rattle.hack_manifest.specs.Internal.{rest_of_read, IsBehindItems, is_over}
+use Rattle.hack_manifest.specs.LineRuns.{stands, chain, chain_of_data, chain_at}
+use Rattle.hack_manifest.specs.Internal.{has_keys, rest_of_read, IsBehindItems, is_over}
 
 -- nodes in which a path leads to data
 abbrev pub LeadsTo : Nodes → List Name → Name → Data → Type 0

@@ -14,9 +14,8 @@ use Rattle.toml.specs.Parse.{after_byte, val, keyval, header_key, expression, en
 use Rattle.hack_manifest.specs.declared.places.ScanState.{ScanState}
 use Rattle.hack_manifest.specs.declared.places.ScanState.TheVariants.{Start, Remark, Plain, Comment, Opened, Text, Escaped, Lost}
 use Rattle.hack_manifest.specs.LineRuns.{stands, IsRun}
-use Rattle.hack_manifest.specs.Internal.{has_keys}
+use Rattle.hack_manifest.specs.Internal.{has_keys, behind}
 use Rattle.hack_manifest.specs.Places.{start_step, deeper, plain_step, text_step, step, may_stand}
-use Rattle.hack_manifest.specs.Internal.{behind}
 use Rattle.hack_manifest.proofs.TextLeads.{Leads, leads-then, is_calm, calm-step, ws-stays, calm-drop, close-drop, is_stuck, at_place, skips, blank-stays, key-leads}
 use Rattle.hack_manifest.proofs.ValueLeads.{and-then, map-some, read_map-rest, byte-some, open-drop, keyval-leads, val-leads}
 

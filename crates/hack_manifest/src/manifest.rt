@@ -6,11 +6,9 @@ ghost use Rattle.toml.specs.Parse.{parse_document};
 ghost use Rattle.toml.specs.View.{table_view};
 ghost use Rattle.hack_manifest.specs.Manifest.{read_manifest};
 ghost use Rattle.hack_manifest.specs.PieceView.{slice_view};
-ghost use Rattle.hack_manifest.specs.ManifestResults.{ReturnsReading};
-ghost use Rattle.hack_manifest.specs.Internal.{ReturnsFacts};
-ghost use Rattle.hack_manifest.specs.ManifestResults.{IsManifest, facts_of};
+ghost use Rattle.hack_manifest.specs.ManifestResults.{ReturnsReading, IsManifest, facts_of};
 ghost use Rattle.hack_manifest.specs.ManifestResults.{IsRefusal};
-ghost use Rattle.hack_manifest.specs.Internal.{IsTomlFault, IsFieldFault};
+ghost use Rattle.hack_manifest.specs.Internal.{ReturnsFacts, IsTomlFault, IsFieldFault};
 
 use crate::fault::ReadFault;
 use crate::features::features_of;

@@ -5,11 +5,9 @@ ghost use Rattle.std.specs.Prelude.{true, IfOk, OnOk, IfSome, IfNone};
 ghost use Rattle.toml.specs.Parse.{skip_bom};
 ghost use Rattle.toml.specs.View.{view, table_view};
 ghost use Rattle.hack_base.specs.Names.{names_of};
-ghost use Rattle.hack_manifest.specs.LineRuns.{stands};
+ghost use Rattle.hack_manifest.specs.LineRuns.{stands, chain, chain_of_data, chain_at};
 ghost use Rattle.hack_manifest.specs.PieceFronts.{IsFrontTo};
-ghost use Rattle.hack_manifest.specs.Paths.{is_header};
-ghost use Rattle.hack_manifest.specs.LineRuns.{chain, chain_of_data, chain_at};
-ghost use Rattle.hack_manifest.specs.Paths.{IsOwnKey, IsPathOfPiece};
+ghost use Rattle.hack_manifest.specs.Paths.{is_header, IsOwnKey, IsPathOfPiece};
 
 use crate::plain::bare_name;
 use hack_base::copies::push_copies;

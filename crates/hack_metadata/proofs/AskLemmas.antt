@@ -1,5 +1,5 @@
 -- Errors of commands, and what follows from them.
-use Rattle.std.proofs.Common.{◌≡◌, inl, inr, ℕ, List, [], ◌∷◌, ◌++◌, Some, None, refl, sym, ◌∙◌, ap, subst, true, string_bytes, codes, map}
+use Rattle.std.proofs.Common.{◌≡◌, inl, inr, ℕ, List, [], ◌∷◌, ◌++◌, Some, None, refl, sym, ◌∙◌, ap, subst, true, string_bytes, codes, map, Global, String, ◌<◌, ◌+◌, length, get_or, take}
 use Rattle.hack_base.specs.Names.{Name}
 use Rattle.hack_process.specs.Calls.{Asked, Call}
 use Rattle.hack_process.specs.CommandTexts.{Command}
@@ -8,10 +8,8 @@ use Rattle.hack_process.specs.Faults.{IsFault, IsReadFault}
 use Rattle.hack_process.specs.declared.fault.ProcessFault.{ProcessFault}
 use Rattle.hack_process.specs.declared.fault.ProcessFault.TheVariants as p
 use Rattle.std.specs.Prelude.{MatchOption, Option}
-use Rattle.std.proofs.Common.{Global, String}
 use Rattle.hack_metadata.specs.QuestionCalls.{FailsToRead, ReadsOutput, MinorOf, TellsStableMinor}
 use Rattle.hack_metadata.specs.Requests.{version_command, platform_words}
-use Rattle.std.proofs.Common.{◌<◌, ◌+◌, length, get_or, take}
 use Rattle.std.proofs.lemmas.List.{take_more, map-append}
 use Rattle.std.proofs.lemmas.Grind.{flat_map-append}
 

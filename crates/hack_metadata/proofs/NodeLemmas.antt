@@ -2,10 +2,8 @@
 use Rattle.std.proofs.Common.{◌≡◌, ◌==◌, ℕ, Bool, true, false, cond, List, [], ◌∷◌, map, BTreeMap, Option, Some, None, option_map, option_copied, Ordering, Less, Equal, Greater, Ok, Err, nat_cmp, refl, sym, ap, ◌∙◌}
 use Rattle.std.specs.Borrow.{Bor}
 use Rattle.std.specs.Map.{lookup}
-use Rattle.std.specs.BTreeMap.{is_at}
-use Rattle.std.specs.Ordering.{is_eq}
-use Rattle.std.specs.BTreeMap.{insert_entry}
-use Rattle.std.specs.Ordering.{match_ordering}
+use Rattle.std.specs.BTreeMap.{is_at, insert_entry}
+use Rattle.std.specs.Ordering.{is_eq, match_ordering}
 use Rattle.serde_json.specs.Data.{Data, Items, item}
 use Rattle.hack_metadata.specs.Fields.{read_all}
 use Rattle.hack_base.specs.FieldReadings.{◌>>=◌, FieldReading}

@@ -4,8 +4,7 @@ use Rattle.serde_json.specs.Data.{Items, Members}
 use Rattle.hack_base.specs.Names.{Name}
 use Rattle.hack_metadata.specs.Fields.{array_in, read_all}
 use Rattle.hack_base.specs.FieldReadings.{◌>>=◌}
-use Rattle.hack_metadata.specs.FieldResults.{KeepsOtherFields}
-use Rattle.hack_metadata.specs.FieldResults.{ReturnsField}
+use Rattle.hack_metadata.specs.FieldResults.{KeepsOtherFields, ReturnsField}
 use Rattle.hack_metadata.specs.MetadataReading.{read_package, read_behind, read_metadata, place_of}
 use Rattle.hack_metadata.specs.Records.{PackageRecord}
 use Rattle.hack_metadata.specs.MetadataView.{metadata_view}

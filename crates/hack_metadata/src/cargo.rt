@@ -10,13 +10,11 @@ ghost use Rattle.std.specs.Char.{is_ascii_digit};
 ghost use Rattle.std.specs.Cmp.Lexicographic.{pointwise};
 ghost use Rattle.hack_metadata.specs.PackageSpecs.{Matches, HasBadId, HasBadVersion};
 ghost use Rattle.hack_metadata.specs.InternalSpecAnswers.{agrees_if_given, fits};
-ghost use Rattle.hack_metadata.specs.InternalSpecAnswers.{parts_at_separator};
-ghost use Rattle.hack_metadata.specs.InternalSpecAnswers.{behind_name, in_fragment, of_fragments};
-ghost use Rattle.hack_metadata.specs.InternalSpecAnswers.{is_same_place, alone_in};
-ghost use Rattle.hack_metadata.specs.InternalSpecAnswers.{IsUrlOrNone, IsNoUrl, IsSchemeCut};
-ghost use Rattle.hack_metadata.specs.InternalSpecAnswers.{IsBehind};
-ghost use Rattle.hack_metadata.specs.InternalSpecAnswers.{behind_separator, behind_byte, of_urls};
-ghost use Rattle.hack_metadata.specs.InternalSpecAnswers.{cut_by, earlier};
+ghost use Rattle.hack_metadata.specs.InternalSpecAnswers.{parts_at_separator, behind_name};
+ghost use Rattle.hack_metadata.specs.InternalSpecAnswers.{in_fragment, of_fragments, is_same_place};
+ghost use Rattle.hack_metadata.specs.InternalSpecAnswers.{alone_in, IsUrlOrNone, IsNoUrl};
+ghost use Rattle.hack_metadata.specs.InternalSpecAnswers.{IsSchemeCut, IsBehind, behind_separator};
+ghost use Rattle.hack_metadata.specs.InternalSpecAnswers.{behind_byte, of_urls, cut_by, earlier};
 ghost use Rattle.hack_metadata.specs.SpecViews.{identity_of};
 ghost use Rattle.hack_metadata.specs.Internal.{pair_view, version_view, url_view};
 

@@ -13,10 +13,9 @@ ghost use Rattle.hack_metadata.specs.MetadataReading.{read_metadata, read_behind
 ghost use Rattle.hack_metadata.specs.MetadataReading.{workspace_members_in, read_resolve};
 ghost use Rattle.hack_metadata.specs.MetadataReading.{place_of, distinct};
 ghost use Rattle.hack_metadata.specs.KnownIds.{are_known};
-ghost use Rattle.hack_metadata.specs.Internal.{Bounds};
+ghost use Rattle.hack_metadata.specs.Internal.{Bounds, place_in};
 ghost use Rattle.hack_metadata.specs.Records.{node_at};
 ghost use Rattle.hack_metadata.specs.RecordViews.{package_view, node_view, nodes_view, place_at};
-ghost use Rattle.hack_metadata.specs.Internal.{place_in};
 
 pub(crate) mod fault;
 pub(crate) mod object;

@@ -1,12 +1,11 @@
 -- Which run failed last in a search by halving.
-use Rattle.std.proofs.Common.{◌≡◌, ◌≢◌, ◌+◌, ◌-◌, ◌/◌, ◌<◌, ◌≤◌, ◌⊎◌, ℕ, zero, suc, List, [], ◌∷◌, All, Contains, Option, Some, None, length, get_or, take, refl, sym, ap, subst, ◌∙◌, inl, inr, arith}
+use Rattle.std.proofs.Common.{◌≡◌, ◌≢◌, ◌+◌, ◌-◌, ◌/◌, ◌<◌, ◌≤◌, ℕ, zero, suc, List, [], ◌∷◌, All, Option, Some, length, get_or, take, refl, sym, ap, subst, ◌∙◌, inl, inr, arith}
 use Rattle.std.specs.Prelude.{AllPairs, slice_get}
 use Rattle.std.specs.List.{AllZip}
 use Rattle.std.proofs.lemmas.List.{get_or-take, length-take-le}
 use Rattle.std.proofs.lemmas.List.Elements.{All-tail}
 use Rattle.hack_base.proofs.Members.{Contains-cons_cases, Contains-head, Contains-nil, Contains-tail}
 use Rattle.hack_bisect.specs.Searches.{AreHalving, HasFailed, IsBeside, Trial as Tried}
-use Rattle.hack_bisect.specs.declared.tries.TrialOutcome.{TrialOutcome}
 use Rattle.hack_bisect.specs.declared.tries.TrialOutcome.TheVariants as outcome
 use Rattle.hack_msrv.specs.Internal.{failed_after, kept}
 use Rattle.hack_msrv.specs.Searches.{HasFailedAt, IsTrialAt, outcome_of}

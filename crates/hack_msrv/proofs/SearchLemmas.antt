@@ -1,12 +1,12 @@
 -- How trials and searches go together, and what they say.
-use Rattle.std.proofs.Common.{◌≡◌, ◌≢◌, ◌+◌, ◌-◌, ◌<◌, ◌≤◌, ◌⊎◌, ℕ, zero, suc, Bool, List, [], ◌∷◌, ◌++◌, All, Contains, Option, Some, None, length, get_or, map, refl, sym, ap, subst, ◌∙◌, inl, inr, arith}
+use Rattle.std.proofs.Common.{◌≡◌, ◌+◌, ◌-◌, ◌<◌, ◌≤◌, ℕ, zero, suc, Bool, List, [], ◌∷◌, ◌++◌, All, Contains, Option, Some, None, length, get_or, map, refl, sym, ap, subst, ◌∙◌, inl, inr, arith}
 use Rattle.std.specs.Prelude.{AllPairs, slice_get}
 use Rattle.std.specs.List.{AllZip, flat_map}
 use Rattle.std.specs.Option.{option_map_or}
 use Rattle.std.proofs.lemmas.List.Elements.{All-cons, All-contains, All-nil, Contains-append_left, Contains-append_right, Contains-push}
 use Rattle.std.proofs.lemmas.Option.{slice_get-get_or}
 use Rattle.hack_base.proofs.Members.{Contains-cons_cases, Contains-head, Contains-nil, Contains-tail}
-use Rattle.hack_bisect.specs.Searches.{AreLeft, HasFailed, IsBeside, IsSearch, IsRight, Trial as Tried}
+use Rattle.hack_bisect.specs.Searches.{AreLeft, HasFailed, IsSearch, IsRight, Trial as Tried}
 use Rattle.hack_bisect.specs.declared.find.Least.{Least as LeastPlace}
 use Rattle.hack_bisect.specs.declared.find.Least.TheVariants.{At, Nowhere as NoPlace, Broken as BrokenOff}
 use Rattle.hack_bisect.specs.declared.tries.TrialOutcome.TheVariants as outcome
@@ -21,8 +21,8 @@ use Rattle.hack_msrv.specs.Trials.{AreTrials, ComesTo, IsTrial, Trial, failed_st
 use Rattle.hack_msrv.specs.declared.trial.Came.{Came}
 use Rattle.hack_msrv.specs.declared.trial.Came.TheVariants as came
 use Rattle.hack_msrv.specs.declared.found.Found.{Found}
-use Rattle.hack_msrv.specs.declared.found.Found.TheVariants.{Least, Nowhere, Broken}
-use Rattle.hack_msrv.proofs.FailureLemmas.{Climbs, IsLast, IsTop, climbs-of, last-failed, none-failed}
+use Rattle.hack_msrv.specs.declared.found.Found.TheVariants.{Least, Broken}
+use Rattle.hack_msrv.proofs.FailureLemmas.{Climbs, IsTop, climbs-of, last-failed, none-failed}
 use Rattle.hack_msrv.proofs.UseLemmas.{has-version}
 
 -- ---- what the trials of a package say

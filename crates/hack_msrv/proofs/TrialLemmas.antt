@@ -1,5 +1,5 @@
 -- How the steps of a trial go together.
-use Rattle.std.proofs.Common.{◌≡◌, ◌+◌, ◌-◌, ◌<◌, ◌≤◌, ◌⊎◌, ℕ, zero, suc, Bool, true, false, List, [], ◌∷◌, ◌++◌, map, filter, length, get_or, take, drop, refl, sym, ap, subst, ◌∙◌, inl, inr, arith}
+use Rattle.std.proofs.Common.{◌≡◌, ◌+◌, ◌-◌, ◌<◌, ◌≤◌, ℕ, zero, suc, Bool, true, false, List, [], ◌∷◌, ◌++◌, map, filter, length, get_or, take, drop, refl, sym, ap, subst, ◌∙◌, inr, arith}
 use Rattle.std.specs.Prelude.{MatchBool}
 use Rattle.std.specs.List.{range_with_len}
 use Rattle.std.proofs.lemmas.List.{append_assoc, map-append}
@@ -11,7 +11,7 @@ use Rattle.hack_session.specs.Histories.{passed_step}
 use Rattle.hack_session.specs.declared.step.Handed.{Handed}
 use Rattle.hack_session.specs.declared.step.Step.{Step}
 use Rattle.hack_session.specs.declared.step.Step.TheVariants.{Prepare, Run}
-use Rattle.hack_msrv.specs.Trials.{ComesTo, StopsAt, failed_step, is_of, places_of, trial_steps}
+use Rattle.hack_msrv.specs.Trials.{ComesTo, StopsAt, failed_step, is_of, places_of}
 use Rattle.hack_msrv.specs.declared.trial.Came.{Came}
 use Rattle.hack_msrv.specs.declared.trial.Came.TheVariants.{Passed, Failed, Broken}
 use Rattle.hack_msrv.proofs.RangeLemmas.{filter-more, range-split}
@@ -19,15 +19,6 @@ use Rattle.hack_msrv.proofs.RangeLemmas.{filter-more, range-split}
 -- a step fails behind others that passed
 pub stops-at : (front left : List Step) (step : Step) (steps : List Step) → steps ≡ front ++ step ∷ left → StopsAt steps (map passed_step front ++ failed_step step ∷ []) step
 stops-at front left step steps is = record { front = front; left = left; split = is; told = refl }
-
--- the same with more steps behind
-pub stops-before : (steps more : List Step) (handed : List Handed) (step : Step) → StopsAt steps handed step → StopsAt (steps ++ more) handed step
-stops-before steps more handed step s = record {
-  front = s.front;
-  left = s.left ++ more;
-  split = ap (λ l. l ++ more) s.split ∙ append_assoc s.front (step ∷ s.left) more;
-  told = s.told;
-}
 
 -- the same with steps before that passed
 pub stops-behind : (passed steps : List Step) (handed : List Handed) (step : Step) → StopsAt steps handed step → StopsAt (passed ++ steps) (map passed_step passed ++ handed) step
@@ -44,11 +35,6 @@ pub comes-behind : (ended : Bool) (passed steps : List Step) (handed : List Hand
 comes-behind ended passed steps handed Passed c = ap (λ l. map passed_step passed ++ l) c ∙ sym (map-append passed_step passed steps)
 comes-behind ended passed steps handed (Failed place) c = (c.0, stops-behind passed steps handed (Run place) c.1)
 comes-behind ended passed steps handed Broken c = (c.0, stops-behind passed steps handed c.0 c.1, c.2)
-
--- a trial is broken where a preparation fails
-pub unprepared : (ended : Bool) (preparations : List Preparation) (runs : List Step) (handed : List Handed) (one : Preparation) → StopsAt (map Prepare preparations) handed (Prepare one)
-    → ComesTo ended (map Prepare preparations ++ runs) handed Broken
-unprepared ended preparations runs handed one s = (Prepare one, stops-before (map Prepare preparations) runs handed (Prepare one) s, inl refl)
 
 filter-kept : (q : ℕ → Bool) (x : ℕ) (xs : List ℕ) → q x ≡ true → filter q (x ∷ xs) ≡ x ∷ filter q xs
 filter-kept q x xs is = rw is refl

@@ -6,9 +6,9 @@ use Rattle.std.proofs.lemmas.List.Elements.{All-contains, Contains-append_left, 
 use Rattle.hack_bisect.specs.Searches.{Trial as Tried}
 use Rattle.hack_plan.specs.View.{PlanView}
 use Rattle.hack_session.specs.declared.step.Handed.{Handed}
-use Rattle.hack_msrv.specs.Internal.{HasVersion, MayTry, TriesVersions, failed_after, kept}
+use Rattle.hack_msrv.specs.Internal.{HasVersion, MayTry, failed_after, kept}
 use Rattle.hack_msrv.specs.Searches.{IsTrialAt}
-use Rattle.hack_msrv.specs.Trials.{AreTrials, IsTrial, Trial}
+use Rattle.hack_msrv.specs.Trials.{AreTrials, Trial}
 
 all-left : {X : Type 0} (P : X → Type 0) (xs ys : List X) → All P (xs ++ ys) → All P xs
 all-left P xs ys h = λ k d lt. All-contains P (xs ++ ys) (get_or xs k d) h (Contains-append_left xs ys (get_or xs k d) (Contains-get_or xs k d lt))

@@ -3,8 +3,7 @@
 ghost use Rattle.std.specs.Prelude.{◌≡◌, ◌↔◌, ◌&&◌, IsTrue, Some, is_some};
 ghost use Rattle.hack_options.specs.Table.{entry, entry_of, meaning_of, is_same_option};
 ghost use Rattle.hack_options.specs.Texts.{shown_option, shown_option_name as name_of};
-ghost use Rattle.hack_options.specs.Texts.{aliased_option};
-ghost use Rattle.hack_options.specs.Texts.{has_usage as named_in_help, is_told};
+ghost use Rattle.hack_options.specs.Texts.{aliased_option, has_usage as named_in_help, is_told};
 ghost use Rattle.hack_options.specs.Texts.{shows_letter as letter_in_help};
 
 use crate::messages::WithAlias;

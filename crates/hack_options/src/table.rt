@@ -2,10 +2,9 @@
 //! says about it.
 
 ghost use Rattle.std.specs.Prelude.{◌≡◌, IsSome, is_some, Some};
-ghost use Rattle.hack_options.specs.Table.{entry, entry_of};
-ghost use Rattle.hack_options.specs.Texts.{is_told};
-ghost use Rattle.hack_options.specs.Table.{flag as flag_entry, once as once_entry};
+ghost use Rattle.hack_options.specs.Table.{entry, entry_of, flag as flag_entry, once as once_entry};
 ghost use Rattle.hack_options.specs.Table.{many as many_entry};
+ghost use Rattle.hack_options.specs.Texts.{is_told};
 
 use crate::opt::Opt;
 

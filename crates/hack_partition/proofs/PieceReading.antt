@@ -1,7 +1,5 @@
 -- A text that names a piece is read as it.
-use Rattle.std.proofs.Common.{◌≡◌, ◌≢◌, ℕ, ◌<◌, ◌≤◌, ◌&&◌, ◌++◌, List, [], ◌∷◌, Bool, true, false, not, cond}
-use Rattle.std.proofs.Common.{length, get_or, nat_lt, lt-ltb, append_assoc, option_and_then, Option, Some, None}
-use Rattle.std.proofs.Common.{arith, refl, ap, sym, subst, ◌∙◌}
+use Rattle.std.proofs.Common.{◌≡◌, ◌≢◌, ℕ, ◌<◌, ◌≤◌, ◌&&◌, ◌++◌, List, [], ◌∷◌, Bool, true, false, not, cond, length, get_or, nat_lt, lt-ltb, append_assoc, option_and_then, Option, Some, None, arith, refl, ap, sym, subst, ◌∙◌}
 use Rattle.std.proofs.lemmas.Bool.Decides.{nat_tests}
 use Rattle.std.proofs.lemmas.Bool.{ltb-true}
 use Rattle.hack_base.specs.Numbers.{number_of}

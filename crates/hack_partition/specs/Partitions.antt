@@ -1,6 +1,5 @@
 -- The texts of pieces and of their kinds.
-use Rattle.std.specs.Prelude.{◌≡◌, ℕ, ◌<◌, ◌≤◌, ◌&&◌, not, nat_lt, List, ◌++◌, codes, bytes_eq}
-use Rattle.std.specs.Prelude.{Option, Some, None, option_and_then, string_bytes, if◌then◌else◌}
+use Rattle.std.specs.Prelude.{◌≡◌, ℕ, ◌<◌, ◌≤◌, ◌&&◌, not, nat_lt, List, ◌++◌, codes, bytes_eq, Option, Some, None, option_and_then, string_bytes, if◌then◌else◌}
 use Rattle.hack_base.specs.Numbers.{IsNumber, number_of}
 use Rattle.hack_base.specs.Cuts.{front_of, rest_of}
 use Rattle.hack_partition.specs.declared.partition.PartitionKind.{PartitionKind}

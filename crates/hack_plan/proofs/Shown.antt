@@ -18,8 +18,7 @@ use Rattle.hack_plan.specs.Commands.{call_command, rustup_run_words, candidate_n
 use Rattle.hack_process.specs.Commands.{manifest_words}
 use Rattle.hack_plan.specs.View.{CallView}
 use Rattle.hack_plan.specs.Lines.{shown_manifest, shown_target}
-use Rattle.hack_plan.specs.Internal.{folder_behind}
-use Rattle.hack_plan.specs.Internal.{before_name, is_still_first, joined_names}
+use Rattle.hack_plan.specs.Internal.{folder_behind, before_name, is_still_first, joined_names}
 
 -- the option before a manifest's path
 abbrev option : List ℕ

@@ -1,6 +1,6 @@
 //! The parts of a plan that grow: the runs of its packages, and its last version.
 
-ghost use Rattle.std.specs.Prelude.{◌≡◌, ◌<◌, ◌-◌, IfOk, IsSomeAnd, OnOk, length, map, slice_get};
+ghost use Rattle.std.specs.Prelude.{◌≡◌, ◌<◌, ◌-◌, IfOk, OnOk, length, map};
 ghost use Rattle.hack_plan.specs.AddedRuns.{added_run};
 ghost use Rattle.hack_plan.specs.View.{plan_package_view};
 ghost use Rattle.hack_plan.specs.Growth.{count_at, with_changed, with_one_run};

@@ -8,12 +8,11 @@ ghost use Rattle.hack_features.specs.Feature.{groups_of};
 ghost use Rattle.hack_plan.specs.Runs.{run_of};
 ghost use Rattle.hack_process.specs.Commands.{command_of, manifest_words, plain_command};
 ghost use Rattle.hack_plan.specs.View.{call_view, plan_package_view};
-ghost use Rattle.hack_plan.specs.Commands.{toolchain_of, program_of, rustup_run_words};
+ghost use Rattle.hack_plan.specs.Commands.{toolchain_of, program_of, rustup_run_words, targets_in};
+ghost use Rattle.hack_plan.specs.Commands.{target_pair, run_words, candidate_names_at};
+ghost use Rattle.hack_plan.specs.Commands.{call_command, HasCollected, cleaned_words};
+ghost use Rattle.hack_plan.specs.Commands.{clean_command, lockfile_command, slot_target, slots_in};
 ghost use Rattle.hack_plan.specs.Inputs.{is_split};
-ghost use Rattle.hack_plan.specs.Commands.{targets_in, target_pair, run_words};
-ghost use Rattle.hack_plan.specs.Commands.{candidate_names_at, call_command};
-ghost use Rattle.hack_plan.specs.Commands.{HasCollected, cleaned_words, clean_command};
-ghost use Rattle.hack_plan.specs.Commands.{lockfile_command, slot_target, slots_in};
 
 use crate::parts::{CommandParts, PlanPackage};
 use crate::runs::Run;

@@ -1,7 +1,7 @@
 //! A run of a plan, in parts that are borrowed from the plan: its line in a list of commands, which
 //! costs what its bytes cost, and its command.
 
-ghost use Rattle.std.specs.Prelude.{◌≡◌, ◌++◌, ℕ, List, Some, None, IfOk, map, option_map};
+ghost use Rattle.std.specs.Prelude.{◌≡◌, ◌++◌, List, Some, None, IfOk, map, option_map};
 ghost use Rattle.std.specs.Prelude.{string_bytes, true};
 ghost use Rattle.std.specs.List.{flat_map};
 ghost use Rattle.std.specs.Fmt.{WritesOnOk};
@@ -12,14 +12,11 @@ ghost use Rattle.hack_process.specs.Commands.{command_of, manifest_words};
 ghost use Rattle.hack_process.specs.CommandTexts.{each_spaced, shown_features, shown_words};
 ghost use Rattle.hack_process.specs.CommandTexts.{with_names};
 ghost use Rattle.hack_plan.specs.View.{call_view, plan_package_view};
-ghost use Rattle.hack_plan.specs.Commands.{rustup_run_words, candidate_names_at};
-ghost use Rattle.hack_plan.specs.Commands.{run_command};
+ghost use Rattle.hack_plan.specs.Commands.{rustup_run_words, candidate_names_at, run_command};
 ghost use Rattle.hack_plan.specs.Commands.{run_names, run_words, target_pair, whole_command};
 ghost use Rattle.hack_plan.specs.Lines.{command_in, listed_text, line_names, own_in};
-ghost use Rattle.hack_plan.specs.Internal.{folder_behind};
+ghost use Rattle.hack_plan.specs.Internal.{folder_behind, before_name, joined_names, takes_option};
 ghost use Rattle.hack_plan.specs.Lines.{shown_manifest, shown_target};
-ghost use Rattle.hack_plan.specs.Internal.{before_name, joined_names};
-ghost use Rattle.hack_plan.specs.Internal.{takes_option};
 
 use crate::commands::{
     names_of, push_all, push_manifest, push_names, push_run, push_targets, run_word,

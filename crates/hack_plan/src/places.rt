@@ -12,7 +12,6 @@ ghost use Rattle.hack_plan.specs.declared.places.PlacesFault.TheVariants.{Memory
 
 use crate::blocks::{Blocks, MOST_PLACES, VersionUse};
 use crate::versions::{PlanInput, Versions};
-use hack_versions::rustup::VersionGroup;
 use hack_versions::version::{Version, VersionRange};
 use std::alloc::{AllocError, AllocFailed, Global};
 use std::marker::Model;

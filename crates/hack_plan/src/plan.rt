@@ -9,9 +9,8 @@ ghost use Rattle.hack_process.specs.CommandTexts.{listed_of};
 ghost use Rattle.hack_plan.specs.Prepared.{span_of};
 ghost use Rattle.hack_plan.specs.View.{call_view, plan_package_view};
 ghost use Rattle.hack_plan.specs.Commands.{HasCollected, command_of_entry, clean_command};
-ghost use Rattle.hack_plan.specs.Commands.{lockfile_command};
-ghost use Rattle.hack_plan.specs.Commands.{chosen_package_at};
-ghost use Rattle.hack_plan.specs.Commands.{name_in, ranked_command, slot_target, slots_in};
+ghost use Rattle.hack_plan.specs.Commands.{lockfile_command, chosen_package_at, name_in};
+ghost use Rattle.hack_plan.specs.Commands.{ranked_command, slot_target, slots_in};
 ghost use Rattle.hack_plan.specs.Lines.{command_in, listed_text};
 ghost use Rattle.hack_plan.specs.Plans.{counts_in, AreRunsOfPackages};
 
@@ -38,8 +37,7 @@ pub struct Plan {
 }
 
 impl Model for Plan {
-    ghost use Rattle.std.specs.Prelude.{map};
-    ghost use Rattle.std.specs.Prelude.{length};
+    ghost use Rattle.std.specs.Prelude.{map, length};
     ghost use Rattle.hack_plan.specs.Spans.{AreTiled};
     ghost use Rattle.hack_plan.specs.View.{PlanView, call_view, plan_package_view};
     ghost use Rattle.hack_plan.specs.Plans.{AreRunsOfPackages};

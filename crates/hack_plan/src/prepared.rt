@@ -1,11 +1,8 @@
 //! What is done before the runs of each version.
 
-ghost use Rattle.std.specs.Prelude.{◌≡◌, ◌++◌, ◌∷◌, [], List, ℕ, IfOk, OnOk, length, map};
-ghost use Rattle.std.specs.Prelude.{filter_map, not, slice_get, Some, None, option_map, IsTrue};
-ghost use Rattle.std.specs.Prelude.{◌↔◌, ◌&&◌, true};
-ghost use Rattle.hack_plan.specs.Prepared.{ArePrepared, HasPreparations, preparations_of};
+ghost use Rattle.std.specs.Prelude.{◌≡◌, IfOk, map, filter_map, slice_get, Some, IsTrue, ◌↔◌, true};
+ghost use Rattle.hack_plan.specs.Prepared.{ArePrepared, preparations_of, span_of};
 ghost use Rattle.hack_plan.specs.Internal.{AreFlags, version_at};
-ghost use Rattle.hack_plan.specs.Prepared.{span_of};
 
 use crate::parts::{PlanVersion, Preparation};
 use crate::places::Span;

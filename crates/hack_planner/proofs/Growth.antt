@@ -5,9 +5,8 @@ use Rattle.std.specs.List.{filter_map}
 use Rattle.std.proofs.lemmas.List.{length-map, map-append, take_all, take-append-drop, get_or-map}
 use Rattle.std.proofs.Math.Seq.{drop-cons}
 use Rattle.std.proofs.lemmas.List.Elements.{filter-append, filter_map-append, Contains-push_cases}
-use Rattle.hack_base.specs.Notes.{Note}
+use Rattle.hack_base.specs.Notes.{Note, note_if}
 use Rattle.hack_base.specs.declared.notice.NoticeKind.{NoticeKind}
-use Rattle.hack_base.specs.Notes.{note_if}
 use Rattle.hack_base.proofs.Steps.{seen-next, seen_here, filter_map-found}
 use Rattle.hack_planner.specs.Members.{Collects, ends, taken, left}
 

@@ -1,5 +1,5 @@
 -- The sets of a package and its runs.
-use Rattle.std.proofs.Common.{◌≡◌, ◌∙◌, ℕ, ◌+◌, ◌-◌, ◌<◌, List, [], ◌∷◌, ◌++◌, length, get_or, take, drop, map, Contains, Bool, true, false, not, None, Some, Global, inl, inr, refl, ap, sym, subst, arith, eqb-true}
+use Rattle.std.proofs.Common.{◌≡◌, ◌∙◌, ℕ, ◌+◌, ◌-◌, ◌<◌, List, [], ◌∷◌, ◌++◌, length, get_or, take, drop, map, Contains, Bool, true, false, not, None, Global, inl, inr, refl, ap, sym, subst, arith, eqb-true}
 use Rattle.std.specs.Prelude.{Vec, nat_lt, ◌&&◌, ◌||◌, ◌==◌, if◌then◌else◌}
 use Rattle.std.specs.Borrow.{Bor}
 use Rattle.std.proofs.lemmas.List.{map-append, take-append-drop, length-map, get_or-map}
@@ -139,10 +139,3 @@ pub made-covering : (w : PackageRulesRecord) (p : PackageRecord) (f : Features) 
     → AreCovering w p f runs
 made-covering w p f true runs rows h powerset all = covering-plain w p f h.sets runs (h.made.1 (ap (λ b. w.each_feature || b) powerset ∙ or-true w.each_feature)) (h.covers powerset all)
 made-covering w p f false runs rows h powerset all = covering-runs w p f h.sets runs h.made.1 (h.covers powerset all) h.made.2
-
--- what holds of some arguments, package and features holds of those that are equal to them
-pub moved : {A X Y : Type 0} (F : A → X → Y → Type 0) (a b : A) (x x' : X) (y y' : Y) → a ≡ b → Some x' ≡ Some x → Some y' ≡ Some y → F a x y → F b x' y'
-moved F a b x x' y y' ea ex ey h =
-    let e : x' ≡ x = cc in
-    let g : y' ≡ y = cc in
-    subst (λ t. F t x' y') ea (subst (λ t. F a t y') (sym e) (subst (λ t. F a x t) (sym g) h))

@@ -3,7 +3,7 @@ use Rattle.std.proofs.Common.{◌≡◌, refl, sym, ap, subst, ◌∙◌, ℕ, �
 use Rattle.std.specs.Prelude.{IsSomeAnd, IsTrue, ◌↔◌, slice_get}
 use Rattle.std.specs.List.{AllZip}
 use Rattle.std.proofs.lemmas.Option.{slice_get-map, slice_get_read, get_or_from_slice_get}
-use Rattle.hack_planner.specs.Kinds.{package_choice}
+use Rattle.hack_planner.specs.Kinds.{package_choice, AreCovering}
 use Rattle.hack_planner.specs.PackageRules.{PackageRulesRecord}
 use Rattle.hack_features.specs.Rules.{IsWanted}
 use Rattle.hack_sets.specs.Sets.{IsSelection}
@@ -12,7 +12,6 @@ use Rattle.hack_load.specs.declared.features.Features.{Features}
 use Rattle.hack_metadata.specs.Records.{PackageRecord}
 use Rattle.hack_base.specs.Names.{Name}
 use Rattle.hack_planner.specs.Candidates.{candidates}
-use Rattle.hack_planner.specs.Kinds.{AreCovering}
 use Rattle.hack_planner.specs.KindsView.{IsKind, candidates_in, runs_of}
 use Rattle.hack_planner.specs.declared.kind.Kind.{Kind}
 use Rattle.hack_planner.specs.declared.kind.Kind.TheVariants.{Normal, Each, Powerset}
@@ -35,9 +34,6 @@ pub of-kind : (w : PackageRulesRecord) (p : PackageRecord) (f : Features) (kind 
 of-kind w p f Normal groups runs g r h = inr (g, r)
 of-kind w p f (Each list sets) groups runs g r h = inl (g ∙ h.2)
 of-kind w p f (Powerset list sets) groups runs g r h = inl (g ∙ h.1)
-
-pub same_some : {X : Type 0} (a b : X) → Some a ≡ Some b → a ≡ b
-same_some a b e = cc
 
 -- what follows beside each element of the first list
 pub zip-weaker : {A B : Type 0} (R S : A → B → Type 0) → ((x : A) (y : B) → R x y → S x y) → (xs : List A) (ys : List B) → AllZip R xs ys → AllZip S xs ys

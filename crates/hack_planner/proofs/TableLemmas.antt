@@ -1,5 +1,5 @@
 -- The names that a table has, put together, and the fault of a package's rules.
-use Rattle.std.proofs.Common.{◌≡◌, ◌∙◌, ◌==◌, ◌||◌, ◌+◌, ℕ, Bool, true, false, not, cond, Option, None, Some, option_map, List, [], ◌∷◌, ◌++◌, length, map, Contains, Global, String, ap, refl, sym, subst, arith}
+use Rattle.std.proofs.Common.{◌≡◌, ◌∙◌, ◌==◌, ◌||◌, ◌+◌, ℕ, Bool, true, false, not, cond, Option, None, Some, option_map, List, [], ◌∷◌, length, map, Contains, Global, String, ap, refl, sym, subst, arith}
 use Rattle.std.specs.Prelude.{option_and_then, slice_get}
 use Rattle.std.specs.List.{list_any}
 use Rattle.std.specs.Option.{option_or}

@@ -1,5 +1,5 @@
 -- Which packages use a version: what versions with their packages say of it, and what it says of a plan.
-use Rattle.std.proofs.Common.{◌≡◌, ◌↔◌, ◌⊎◌, refl, sym, ap, subst, ◌∙◌, arith, ℕ, zero, suc, ◌+◌, ◌*◌, List, [], ◌∷◌, map, inl, inr, Bool, true, false, not, Option, Some, None, IfSome, IsTrue, All, Contains, option_map}
+use Rattle.std.proofs.Common.{◌≡◌, ◌↔◌, ◌⊎◌, refl, sym, ap, subst, ◌∙◌, arith, ℕ, zero, suc, ◌+◌, ◌*◌, List, [], ◌∷◌, map, inl, inr, Bool, true, false, Option, Some, None, IfSome, IsTrue, All, Contains, option_map}
 use Rattle.std.specs.Prelude.{slice_get}
 use Rattle.std.specs.List.{AllZip}
 use Rattle.std.proofs.lemmas.List.Elements.{All-cons, All-contains, All-head, All-tail}
@@ -131,12 +131,6 @@ right-more cx ids s versions p one of_call at are told =
     (λ t. same.0 (told.0 t), λ u. told.1 (same.1 u))
 
 -- ---- packages in a plan
-
-pub turned : (b other : Bool) → not b ≡ other → b ≡ not other
-turned true true e = absurd (cc)
-turned true false e = refl
-turned false true e = refl
-turned false false e = absurd (cc)
 
 pub not-true : (b : Bool) → ¬ IsTrue b → b ≡ false
 not-true true none = absurd (none refl)

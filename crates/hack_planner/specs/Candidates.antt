@@ -5,11 +5,10 @@ use Rattle.std.specs.Option.{option_map_or}
 use Rattle.std.specs.Str.{bytes_eq}
 use Rattle.hack_base.specs.Names.{Name}
 use Rattle.hack_features.specs.Feature.{groups_of}
-use Rattle.hack_base.specs.Notes.{Note}
+use Rattle.hack_base.specs.Notes.{Note, warning_note, info_note}
 use Rattle.hack_load.specs.declared.features.Features.{Features}
 use Rattle.hack_planner.specs.PackageRules.{PackageRulesRecord}
 use Rattle.hack_planner.specs.Texts.{feature_text, dependency_text, group_text}
-use Rattle.hack_base.specs.Notes.{warning_note, info_note}
 
 -- one of the names is x
 abbrev pub contains_name : List Name → Name → Bool

@@ -1,5 +1,5 @@
 -- The notices about the packages that a call runs on.
-use Rattle.std.specs.Prelude.{◌≡◌, ◌==◌, ◌++◌, ℕ, List, Bool, Option, not, map, filter, length, string_bytes}
+use Rattle.std.specs.Prelude.{◌≡◌, ◌==◌, ◌++◌, List, Bool, Option, not, map, filter, length, string_bytes}
 use Rattle.hack_base.specs.Names.{Name, names_of}
 use Rattle.hack_base.specs.Notes.{Note, info_note, warning_note}
 use Rattle.hack_words.specs.declared.cli.args.Args.{Args}

@@ -6,12 +6,11 @@ use Rattle.std.specs.Option.{option_or}
 use Rattle.std.specs.Result.{result_err}
 use Rattle.hack_base.specs.FieldReadings.{FieldReading}
 use Rattle.hack_base.specs.Names.{Name}
-use Rattle.hack_base.specs.Notes.{Note}
+use Rattle.hack_base.specs.Notes.{Note, warning_note}
 use Rattle.hack_load.specs.declared.features.Features.{Features}
 use Rattle.hack_metadata.specs.Records.{PackageRecord, RulesRecord}
 use Rattle.hack_words.specs.declared.cli.args.Args.{Args}
 use Rattle.hack_planner.specs.Candidates.{contains_name, is_found}
-use Rattle.hack_base.specs.Notes.{warning_note}
 use Rattle.hack_planner.specs.PackageRules.{PackageRulesRecord, call_rules}
 use Rattle.hack_planner.specs.Texts.{table_text}
 

@@ -1,7 +1,7 @@
 //! Which packages a call runs on, after its context was loaded, and which runs each of them has.
 
-ghost use Rattle.std.specs.Prelude.{◌≡◌, ◌<◌, ◌⊎◌, Contains, IfOk, IfErr, None, Some, length};
-ghost use Rattle.std.specs.Prelude.{map, option_copied, option_map, true};
+ghost use Rattle.std.specs.Prelude.{◌≡◌, ◌<◌, ◌⊎◌, Contains, IfOk, IfErr, None, Some, length, map};
+ghost use Rattle.std.specs.Prelude.{option_copied, option_map};
 ghost use Rattle.hack_load.specs.Contexts.{IsWholeContext, package_at, features_at};
 ghost use Rattle.hack_load.specs.ContextView.{context_view};
 ghost use Rattle.hack_load.specs.declared.features.Features.{Features as Loaded};

@@ -6,8 +6,7 @@ ghost use Rattle.hack_load.specs.ContextView.{context_view};
 ghost use Rattle.hack_load.specs.Contexts.{rust_version_at};
 ghost use Rattle.hack_rules.specs.declared.uses.behavior.WorkspaceBehavior.TheVariants.{Cargo};
 ghost use Rattle.std.specs.List.{AllZip};
-ghost use Rattle.hack_planner.specs.Calls.{IsOwn, IsBadOwn, IsMember, IsInputOf};
-ghost use Rattle.hack_planner.specs.Calls.{HasBadOwn};
+ghost use Rattle.hack_planner.specs.Calls.{IsOwn, IsBadOwn, IsMember, IsInputOf, HasBadOwn};
 ghost use Rattle.hack_planner.specs.Internal.{IsOwnFault};
 
 use crate::fault::{PlanFault, of_version};

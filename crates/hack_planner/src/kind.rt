@@ -1,7 +1,7 @@
 //! The runs of a package, and its candidates.
 
-ghost use Rattle.std.specs.Prelude.{◌≡◌, ◌<◌, ◌⊎◌, ◌++◌, [], IfErr, IfOk};
-ghost use Rattle.std.specs.Prelude.{IfSome, None, OnOk, Some, length, map, slice_get, string_bytes, true};
+ghost use Rattle.std.specs.Prelude.{◌≡◌, ◌<◌, ◌⊎◌, ◌++◌, [], IfErr, IfOk, IfSome, None, OnOk, Some};
+ghost use Rattle.std.specs.Prelude.{length, map, slice_get, true};
 ghost use Rattle.std.specs.List.{slice_index_or};
 ghost use Rattle.hack_features.specs.Feature.{groups_of};
 ghost use Rattle.hack_base.specs.Names.{names_of, names_behind};
@@ -9,9 +9,8 @@ ghost use Rattle.hack_plan.specs.Runs.{run_of};
 ghost use Rattle.hack_base.specs.Notes.{note_of};
 ghost use Rattle.hack_planner.specs.Candidates.{candidate_notes};
 ghost use Rattle.hack_metadata.specs.RecordViews.{package_view};
-ghost use Rattle.hack_planner.specs.Kinds.{AreRunSettings};
+ghost use Rattle.hack_planner.specs.Kinds.{AreRunSettings, AreCovering, package_choice};
 ghost use Rattle.hack_plan.specs.Commands.{candidate_names_at};
-ghost use Rattle.hack_planner.specs.Kinds.{AreCovering, package_choice};
 ghost use Rattle.hack_samples.specs.Sets.{rows_of};
 ghost use Rattle.hack_planner.specs.InternalKinds.{kind_from as kind_made};
 ghost use Rattle.hack_planner.specs.InternalLeastPlaces.{HasRunsAtLeast, IsOver};

@@ -3,11 +3,10 @@
 ghost use Rattle.std.specs.Prelude.{◌≡◌, ◌⊎◌, ◌↔◌, ◌++◌, ◌&&◌, IfOk};
 ghost use Rattle.std.specs.Prelude.{IfErr, OnOk, IsTrue, map, filter, not, string_bytes};
 ghost use Rattle.hack_base.specs.Names.{names_of};
-ghost use Rattle.hack_base.specs.Notes.{note_of};
+ghost use Rattle.hack_base.specs.Notes.{note_of, warning_note, info_note};
 ghost use Rattle.hack_planner.specs.Texts.{exclusion_text, lift_text as lift_words, private_text};
 ghost use Rattle.hack_planner.specs.Members.{MatchesSome, AllMatch, SelectsMembers, Collects};
 ghost use Rattle.hack_planner.specs.Members.{is_called as has_called};
-ghost use Rattle.hack_base.specs.Notes.{warning_note, info_note};
 ghost use Rattle.std.specs.List.{find};
 ghost use Rattle.std.specs.Option.{option_to_list};
 ghost use Rattle.std.specs.Str.{bytes_eq};

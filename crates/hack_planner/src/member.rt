@@ -1,8 +1,6 @@
 //! The members of a workspace, and which specifications match them.
 
 ghost use Rattle.std.specs.Prelude.{◌≡◌, ◌↔◌, IsTrue, map};
-ghost use Rattle.std.specs.List.{list_any};
-ghost use Rattle.std.specs.Str.{bytes_eq};
 ghost use Rattle.hack_base.specs.Names.{names_of};
 ghost use Rattle.hack_metadata.specs.PackageSpecs.{Matches};
 ghost use Rattle.hack_metadata.specs.SpecViews.{identity_of};

@@ -1,6 +1,6 @@
 //! The texts of notices about packages and their features.
 
-ghost use Rattle.std.specs.Prelude.{◌≡◌, ◌++◌, IfOk, codes, string_bytes, if◌then◌else◌, []};
+ghost use Rattle.std.specs.Prelude.{◌≡◌, ◌++◌, IfOk, codes, string_bytes};
 ghost use Rattle.std.specs.List.{join_with_byte};
 ghost use Rattle.hack_base.specs.Names.{names_of};
 ghost use Rattle.hack_planner.specs.Texts.{exclusion_text, lift_text};

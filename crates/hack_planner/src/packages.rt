@@ -1,12 +1,10 @@
 //! The packages that a call runs on.
 
-ghost use Rattle.std.specs.Prelude.{◌≡◌, ◌==◌, ◌⊎◌, IfOk, IfErr, length, map};
-ghost use Rattle.std.specs.Prelude.{option_copied};
+ghost use Rattle.std.specs.Prelude.{◌≡◌, ◌==◌, ◌⊎◌, IfOk, IfErr, length, map, option_copied};
 ghost use Rattle.hack_base.specs.Notes.{note_of};
-ghost use Rattle.hack_planner.specs.Members.{IsPackageList, IsAbout};
-ghost use Rattle.hack_planner.specs.MemberNotes.{AreListNotes};
-ghost use Rattle.hack_planner.specs.Members.{names_some as some_named};
+ghost use Rattle.hack_planner.specs.Members.{IsPackageList, IsAbout, names_some as some_named};
 ghost use Rattle.hack_planner.specs.Members.{members_without_names as all_unnamed};
+ghost use Rattle.hack_planner.specs.MemberNotes.{AreListNotes};
 ghost use Rattle.hack_planner.specs.MembersView.{member_view};
 ghost use Rattle.hack_planner.specs.PackagesView.{IsListFault};
 

@@ -1,7 +1,7 @@
 //! The plan of a call: what is run, in order, given what was loaded.
 
 ghost use Rattle.std.specs.Prelude.{◌≡◌, ◌≢◌, ◌⊎◌, All, Contains, IfOk, IfErr, IfSome, IsSome, map};
-ghost use Rattle.std.specs.Prelude.{List, ℕ, None, Some, true};
+ghost use Rattle.std.specs.Prelude.{List, ℕ, None, true};
 ghost use Rattle.hack_metadata.specs.RecordViews.{place_at};
 ghost use Rattle.hack_load.specs.ContextView.{context_view};
 ghost use Rattle.hack_planner.specs.ContextMembers.{AreChosen, AreChoiceNotes, IsChoiceFault};
@@ -10,7 +10,7 @@ ghost use Rattle.hack_versions.specs.RangeSteps.{NeedsStable};
 ghost use Rattle.hack_rules.specs.declared.uses.behavior.WorkspaceBehavior.TheVariants.{Cargo};
 ghost use Rattle.hack_plan.specs.Inputs.{AreVersionsOf, AreNotices, IsVersionsFault};
 ghost use Rattle.hack_plan.specs.View.{call_view};
-ghost use Rattle.hack_planner.specs.Calls.{IsInputOf, HasBadOwn, call_of, table_fault};
+ghost use Rattle.hack_planner.specs.Calls.{call_of, table_fault};
 ghost use Rattle.hack_planner.specs.CoveredSets.{AreCovered};
 ghost use Rattle.hack_planner.specs.CallPlan.{IsPlan, IsCause, IsPlanOf, IsCauseOf, latest_of};
 ghost use Rattle.hack_planner.specs.CallPlan.{IsPackagesCause, IsSureCause, IsSureCauseOf};

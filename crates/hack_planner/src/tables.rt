@@ -4,14 +4,13 @@ ghost use Rattle.std.specs.Prelude.{◌≡◌, ◌⊎◌, ◌==◌, IfErr, IfOk,
 ghost use Rattle.std.specs.Prelude.{filter, flat_map, fold, map, not, option_copied};
 ghost use Rattle.std.specs.List.{find, list_any};
 ghost use Rattle.hack_base.specs.Names.{names_of};
-ghost use Rattle.hack_base.specs.Notes.{note_of};
+ghost use Rattle.hack_base.specs.Notes.{note_of, warning_note};
 ghost use Rattle.hack_features.specs.Feature.{groups_of};
 ghost use Rattle.hack_load.specs.ContextView.{context_view};
 ghost use Rattle.hack_load.specs.Contexts.{features_at};
 ghost use Rattle.hack_metadata.specs.RecordViews.{package_view, place_at, rules_view};
 ghost use Rattle.hack_planner.specs.Calls.{grouped_at, own_fault_at, package_notes, table_fault};
 ghost use Rattle.hack_planner.specs.Internal.{SaysFault};
-ghost use Rattle.hack_base.specs.Notes.{warning_note};
 ghost use Rattle.hack_planner.specs.PackageRules.{rules_in};
 ghost use Rattle.hack_planner.specs.RulesFor.{each_once, first_excluded, first_there};
 ghost use Rattle.hack_planner.specs.RulesFor.{is_excluded as excludes, kept_once, names_of_table};

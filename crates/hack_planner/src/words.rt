@@ -2,7 +2,7 @@
 
 ghost use Rattle.std.specs.Prelude.{◌≡◌, IfOk, option_and_then, option_map};
 ghost use Rattle.hack_load.specs.Contexts.{package_at};
-ghost use Rattle.hack_base.specs.Names.{names_of, optional_text};
+ghost use Rattle.hack_base.specs.Names.{optional_text};
 ghost use Rattle.hack_metadata.specs.RecordViews.{package_view as package_record};
 ghost use Rattle.hack_load.specs.ContextView.{context_view};
 ghost use Rattle.hack_plan.specs.View.{call_view};

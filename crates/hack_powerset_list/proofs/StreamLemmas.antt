@@ -6,11 +6,8 @@ use Rattle.std.specs.declared.io.ErrorKind.{ErrorKind}
 use Rattle.std.specs.IoError.{error_kind}
 use Rattle.hack_base.specs.Writes.{HasFailed, NoFewer}
 use Rattle.hack_base.specs.WriteLaws.{NoFewer-trans, failed-later}
-use Rattle.hack_powerset_list.specs.declared.fault.ListFault.TheVariants.{NotText, Read, Write, Memory}
-use Rattle.hack_powerset_list.specs.declared.wishes.WordsFault.{WordsFault}
-use Rattle.hack_powerset_list.specs.declared.wishes.WordsFault.TheVariants as said
+use Rattle.hack_powerset_list.specs.declared.fault.ListFault.TheVariants.{Write, Memory}
 use Rattle.hack_powerset_list.specs.Faults.{is_memory_kind, told_as}
-use Rattle.hack_powerset_list.specs.Words.{list_fault}
 use Rattle.hack_powerset_list.specs.Streams.{IsCounted, CountsUnlessMemory}
 
 -- a read after tries that gave nothing
@@ -31,25 +28,6 @@ stops-refused T a b c e (Ok done) refused p q = absurd refused
 stops-refused T a b c e (Err f) refused p q = (λ real. failed-later a b c p (q.0 (ap (λ x. is_memory_kind (error_kind x)) (sym refused) ∙ real)), NoFewer-trans a b c p q.1)
 
 module _ (read_old read_new write_old write_new : Option ℕ) where
-  -- an error in the arguments is no error of streams
-  pub counted-words : (fault : WordsFault) → IsCounted read_old read_new write_old write_new (list_fault fault)
-  counted-words said.Usage = tt
-  counted-words (said.Number text) = tt
-  counted-words (said.Group option) = tt
-  counted-words said.Memory = tt
-
-  -- nor is an error of getting the arguments
-  pub counted-arguments : (kind : ErrorKind) → IsCounted read_old read_new write_old write_new (told_as kind NotText)
-  counted-arguments kind = elim (is_memory_kind kind) as (λ b. IsCounted read_old read_new write_old write_new (if b then Memory else NotText)) [ true ↦ tt | false ↦ tt ]
-
-  -- an error of reading, which counts a failure unless its kind is out of memory
-  pub counted-reading : (kind : ErrorKind) → (is_memory_kind kind ≡ false → HasFailed read_old read_new) → IsCounted read_old read_new write_old write_new (told_as kind Read)
-  counted-reading kind failed = told (is_memory_kind kind) refl
-    where
-      told : (b : Bool) → is_memory_kind kind ≡ b → IsCounted read_old read_new write_old write_new (if b then Memory else Read)
-      told true is = tt
-      told false is = failed is
-
   -- an error of writing, which counts a failure unless its kind is out of memory
   pub counted-writing : (kind : ErrorKind) → (is_memory_kind kind ≡ false → HasFailed write_old write_new) → IsCounted read_old read_new write_old write_new (told_as kind Write)
   counted-writing kind failed = told (is_memory_kind kind) refl

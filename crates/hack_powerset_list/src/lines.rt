@@ -1,12 +1,10 @@
 //! The lines of a command list.
 
-ghost use Rattle.std.specs.Prelude.{◌≡◌, ◌<◌, ◌++◌, [], ◌∷◌, codes, length, map, string_bytes};
-ghost use Rattle.std.specs.Prelude.{IfOk, OnOk, OnErr};
-ghost use Rattle.std.specs.Io.KnownBytes.{Appends};
+ghost use Rattle.std.specs.Prelude.{◌≡◌, ◌<◌, ◌++◌, [], codes, map, string_bytes, IfOk, OnOk};
+ghost use Rattle.std.specs.Prelude.{OnErr};
 ghost use Rattle.hack_base.specs.Names.{names_behind, names_of};
 ghost use Rattle.hack_features.specs.Feature.{name_of};
 ghost use Rattle.hack_process.specs.CommandTexts.{listed_of};
-ghost use Rattle.hack_process.specs.Commands.{command_of};
 ghost use Rattle.hack_base.specs.Writes.{AppendsFront};
 ghost use Rattle.hack_powerset_list.specs.LineWords.{PrintsText};
 ghost use Rattle.hack_powerset_list.specs.Internal.{own_command, TurnsPage};

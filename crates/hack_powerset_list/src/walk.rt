@@ -1,8 +1,7 @@
 //! A walk over the listed sets, one after the other, that doesn't keep them in memory.
 
-ghost use Rattle.std.specs.Prelude.{◌≡◌, ◌<◌, ◌≤◌, ◌++◌, ◌∷◌, [], ℕ, List, All, filter, map};
-ghost use Rattle.std.specs.Prelude.{length, IfOk, OnOk, OnErr, IsTrue, MatchOption, false};
-ghost use Rattle.std.specs.Prelude.{string_bytes};
+ghost use Rattle.std.specs.Prelude.{◌≡◌, ◌<◌, ◌≤◌, ◌∷◌, [], ℕ, List, All, map, IfOk, OnOk, false};
+ghost use Rattle.std.specs.Prelude.{◌++◌, filter, length, OnErr, IsTrue, MatchOption, string_bytes};
 ghost use Rattle.hack_features.specs.Feature.{name_of};
 ghost use Rattle.hack_sets.specs.Sets.{IsSelection, items_at};
 ghost use Rattle.hack_features.specs.View.{may_of, size_of, whole_of};

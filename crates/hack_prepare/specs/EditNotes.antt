@@ -2,9 +2,8 @@
 use Rattle.std.specs.Prelude.{◌++◌, ◌&&◌, Bool, List, [], codes, if◌then◌else◌}
 use Rattle.std.specs.List.{flat_map}
 use Rattle.hack_base.specs.Names.{Name}
-use Rattle.hack_base.specs.Notes.{Note}
+use Rattle.hack_base.specs.Notes.{Note, note_if}
 use Rattle.hack_base.specs.declared.notice.NoticeKind.TheVariants.{Info}
-use Rattle.hack_base.specs.Notes.{note_if}
 use Rattle.hack_prepare.specs.Prepared.{MemberManifest, Wanted, drops_at_root, gone_manifests, is_alone}
 use Rattle.hack_manifest.specs.LineRuns.{has_some}
 

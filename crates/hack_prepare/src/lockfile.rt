@@ -6,9 +6,7 @@ ghost use Rattle.hack_files.specs.Restore.{is_kept, registered_files};
 ghost use Rattle.hack_prepare.specs.FailedCalls.{FailsOnlySo};
 ghost use Rattle.hack_prepare.specs.FailureCounts.{CountsCalls};
 ghost use Rattle.hack_prepare.specs.Faults.{IsPathFaultOr};
-ghost use Rattle.hack_prepare.specs.Internal.{NoFault};
-ghost use Rattle.hack_prepare.specs.Internal.{Nowhere, Only};
-ghost use Rattle.hack_prepare.specs.Internal.{AnyStart, IsStep, KeepsNext};
+ghost use Rattle.hack_prepare.specs.Internal.{NoFault, Nowhere, Only, AnyStart, IsStep, KeepsNext};
 
 use crate::fault::{PrepareFault, of_file};
 use hack_files::fs::{Files, exists, read};

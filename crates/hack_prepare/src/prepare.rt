@@ -1,8 +1,7 @@
 //! What is done to the files of a workspace before the runs of a call, and undone at its end.
 
 ghost use Rattle.std.specs.Prelude.{◌≡◌, ◌<◌, ◌↔◌, ◌⊎◌, ◌||◌, IfErr, IfOk, IfSome, OnOk, IsTrue};
-ghost use Rattle.std.specs.Prelude.{OnErr};
-ghost use Rattle.std.specs.Prelude.{List, false, map, option_map, true};
+ghost use Rattle.std.specs.Prelude.{OnErr, List, false, map, option_map, true};
 ghost use Rattle.hack_files.specs.Files.{Change, Contents, Grows, Makes};
 ghost use Rattle.hack_base.specs.Counters.{GrowsBy};
 ghost use Rattle.hack_files.specs.Restore.{AreSafe, Brings, ComesBackBut, Tried, is_kept};
@@ -18,15 +17,12 @@ ghost use Rattle.hack_prepare.specs.Faults.{AtWrite, IsEditsFault};
 ghost use Rattle.hack_prepare.specs.Paths.{IsEdited, IsLookedAt, IsReadRoot, IsTouched};
 ghost use Rattle.hack_prepare.specs.Prepared.{HasPrivateRoot, HoldTexts, IsPartlyPrepared};
 ghost use Rattle.hack_prepare.specs.Prepared.{IsPrepared, KeepsUnedited};
-ghost use Rattle.hack_prepare.specs.PreparedView.{HasPrivateRootIn, HoldTextsIn};
-ghost use Rattle.hack_prepare.specs.PreparedView.{IsPartlyPreparedIn, IsPrepareFault};
-ghost use Rattle.hack_prepare.specs.PreparedView.{IsPreparedIn, IsTouchedIn, KeepsUneditedIn};
-ghost use Rattle.hack_prepare.specs.PreparedView.{AreWritesIn, BeginWritesIn};
-ghost use Rattle.hack_prepare.specs.PreparedView.{edits_in, notes_in};
-ghost use Rattle.hack_prepare.specs.Internal.{members_view};
-ghost use Rattle.hack_prepare.specs.PreparedView.{wanted_in, wanted_view};
+ghost use Rattle.hack_prepare.specs.PreparedView.{HasPrivateRootIn, IsPartlyPreparedIn, wanted_in};
+ghost use Rattle.hack_prepare.specs.PreparedView.{HoldTextsIn, IsPreparedIn, IsTouchedIn, edits_in};
+ghost use Rattle.hack_prepare.specs.PreparedView.{IsPrepareFault, KeepsUneditedIn, BeginWritesIn};
+ghost use Rattle.hack_prepare.specs.PreparedView.{AreWritesIn, notes_in, wanted_view};
+ghost use Rattle.hack_prepare.specs.Internal.{members_view, IsStep};
 ghost use Rattle.hack_prepare.specs.EditSteps.{KeepsHeld, KeepsInOrder, KeepsOnly};
-ghost use Rattle.hack_prepare.specs.Internal.{IsStep};
 ghost use Rattle.hack_prepare.specs.EditNotes.{notes};
 ghost use Rattle.hack_prepare.specs.Writes.{AreWrites, BeginWrites, MakesSome};
 

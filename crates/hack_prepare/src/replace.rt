@@ -5,9 +5,8 @@ ghost use Rattle.hack_files.specs.Files.{KeepsOthers, Makes, MakesOrNot, puts};
 ghost use Rattle.hack_prepare.specs.FailedCalls.{FailsOnlySo};
 ghost use Rattle.hack_prepare.specs.FailureCounts.{CountsCalls, WriteFails};
 ghost use Rattle.hack_prepare.specs.Faults.{IsPathFaultOr};
-ghost use Rattle.hack_prepare.specs.Internal.{NoFault};
-ghost use Rattle.hack_prepare.specs.Internal.{Nowhere, Only};
-ghost use Rattle.hack_prepare.specs.Internal.{HeldUnkept, IsStep, KeepsNext};
+ghost use Rattle.hack_prepare.specs.Internal.{NoFault, Nowhere, Only, HeldUnkept, IsStep};
+ghost use Rattle.hack_prepare.specs.Internal.{KeepsNext};
 
 use crate::fault::{PrepareFault, of_file};
 use hack_files::fs::{Files, write};

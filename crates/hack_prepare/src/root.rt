@@ -1,11 +1,9 @@
 //! The manifest in the folder of the workspace, which gets all its edits in one write.
 
-ghost use Rattle.std.specs.Prelude.{◌≡◌, ◌⊎◌, ◌&&◌, ◌||◌, [], IfErr, IfOk, OnOk, OnErr};
-ghost use Rattle.std.specs.Prelude.{option_copied, option_map, string_bytes, true, false};
-ghost use Rattle.std.specs.Prelude.{MatchBool, Some};
+ghost use Rattle.std.specs.Prelude.{◌≡◌, IfErr, option_copied, option_map, string_bytes, MatchBool};
+ghost use Rattle.std.specs.Prelude.{◌⊎◌, ◌&&◌, ◌||◌, [], IfOk, OnOk, OnErr, true, false, Some};
 ghost use Rattle.std.specs.List.{find};
-ghost use Rattle.hack_base.specs.Names.{Name};
-ghost use Rattle.hack_base.specs.Names.{names_behind};
+ghost use Rattle.hack_base.specs.Names.{Name, names_behind};
 ghost use Rattle.hack_base.specs.Notes.{AddsNotes};
 ghost use Rattle.hack_edits.specs.DevDeps.{IsWithoutDev};
 ghost use Rattle.hack_edits.specs.Members.{in_order};
@@ -13,22 +11,18 @@ ghost use Rattle.hack_edits.specs.PrivateCrates.{IsWithoutPrivate};
 ghost use Rattle.hack_prepare.specs.FailedCalls.{FailsOnlySo, IsAbsent};
 ghost use Rattle.hack_prepare.specs.FailureCounts.{CountsCalls, WriteFails};
 ghost use Rattle.hack_prepare.specs.Faults.{IsDevFault, IsPathFaultOr, IsPrivateFault};
-ghost use Rattle.hack_prepare.specs.Internal.{IsHeldFault};
+ghost use Rattle.hack_prepare.specs.Internal.{IsHeldFault, Nowhere, Only, OnlyIf, members_view};
+ghost use Rattle.hack_prepare.specs.Internal.{AnyStart, HeldUnkept, IsStep, KeepsBut, MakesRoot};
+ghost use Rattle.hack_prepare.specs.Internal.{MakesRootOrNot, KeepsNext, one_if, MayWriteRoot};
 ghost use Rattle.hack_prepare.specs.Faults.{IsRootFault, IsRootTextFault};
 ghost use Rattle.hack_prepare.specs.Paths.{IsReadRoot, IsTextless};
-ghost use Rattle.hack_prepare.specs.Internal.{Nowhere, Only, OnlyIf};
 ghost use Rattle.hack_prepare.specs.Prepared.{HoldTexts, drops_at_root, edits_root, gone_manifests};
 ghost use Rattle.hack_prepare.specs.Prepared.{is_root};
 ghost use Rattle.hack_manifest.specs.LineRuns.{has_some};
 ghost use Rattle.hack_prepare.specs.PreparedView.{wanted_view};
-ghost use Rattle.hack_prepare.specs.Internal.{members_view};
 ghost use Rattle.hack_prepare.specs.EditSteps.{IsRootText};
-ghost use Rattle.hack_prepare.specs.Internal.{AnyStart, HeldUnkept, IsStep, KeepsBut};
-ghost use Rattle.hack_prepare.specs.Internal.{MakesRoot, MakesRootOrNot};
-ghost use Rattle.hack_prepare.specs.Internal.{KeepsNext, one_if};
 ghost use Rattle.hack_prepare.specs.EditNotes.{dev_note, edit_notes, private_note, root_notes};
 ghost use Rattle.hack_prepare.specs.Writes.{AreRootWrites, IsOneIf, IsRootWrite, MakesSome};
-ghost use Rattle.hack_prepare.specs.Internal.{MayWriteRoot};
 
 use crate::edits::{without_dev, without_private};
 use crate::fault::{PrepareFault, of_file};

@@ -7,9 +7,8 @@ use Rattle.std.proofs.lemmas.Grind.{flat_map-append}
 use Rattle.std.proofs.lemmas.List.{take_more, map-append, at_drop_more, at_drop_all}
 use Rattle.std.proofs.lemmas.Slice.Eq.{slice_eq-Decides}
 use Rattle.hack_process.specs.CommandTexts.{with_names, spaced_word, each_spaced, is_manifest_path, shown_path, shown_words}
-use Rattle.hack_process.specs.Internal.{with_name, pending_option}
+use Rattle.hack_process.specs.Internal.{with_name, pending_option, awaits_path}
 use Rattle.hack_process.specs.OwnWords.{shown_own}
-use Rattle.hack_process.specs.Internal.{awaits_path}
 
 -- one more name, after a `,`
 join-push : (y : List ℕ) (names : List (List ℕ)) (x : List ℕ) → join_with_byte 44 (y ∷ names ++ x ∷ []) ≡ (join_with_byte 44 (y ∷ names) ++ codes ",") ++ x

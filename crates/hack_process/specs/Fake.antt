@@ -1,6 +1,5 @@
 -- What a caller in memory answers, and the calls that it shows.
-use Rattle.std.specs.Prelude.{ℕ, Bool, List, [], ◌∷◌, ◌++◌, map, bytes_eq}
-use Rattle.std.specs.Prelude.{string_bytes, if◌then◌else◌}
+use Rattle.std.specs.Prelude.{ℕ, Bool, List, [], ◌∷◌, ◌++◌, map, bytes_eq, string_bytes, if◌then◌else◌}
 use Rattle.hack_process.specs.declared.caller.End.{End}
 use Rattle.hack_process.specs.declared.fake.Made.{Made}
 use Rattle.hack_process.specs.declared.fake.Reply.{Reply}

@@ -1,6 +1,5 @@
 -- What the error of a command says.
-use Rattle.std.specs.Prelude.{◌≡◌, ◌≢◌, ◌⊎◌, ◌-◌, ◌==◌, ◌||◌, ℕ, Bool, List, [], ◌∷◌, ◌++◌}
-use Rattle.std.specs.Prelude.{codes, length, take, string_bytes}
+use Rattle.std.specs.Prelude.{◌≡◌, ◌≢◌, ◌⊎◌, ◌-◌, ◌==◌, ◌||◌, ℕ, Bool, List, [], ◌∷◌, ◌++◌, codes, length, take, string_bytes}
 use Rattle.std.specs.Fmt.{signed_decimal}
 use Rattle.std.specs.List.{suffix_len}
 use Rattle.std.specs.Str.{IsUtf8, trim_start}
@@ -8,8 +7,7 @@ use Rattle.hack_process.specs.declared.caller.End.{End}
 use Rattle.hack_process.specs.declared.caller.End.TheVariants.{Status, Signal, NeverStarted}
 use Rattle.hack_process.specs.declared.fault.Failure.{Failure}
 use Rattle.hack_process.specs.declared.fault.ProcessFault.{ProcessFault}
-use Rattle.hack_process.specs.declared.fault.ProcessFault.TheVariants.{Memory, EmptyProgram, Failed}
-use Rattle.hack_process.specs.declared.fault.ProcessFault.TheVariants.{NeverExecuted, NotText}
+use Rattle.hack_process.specs.declared.fault.ProcessFault.TheVariants.{Memory, EmptyProgram, Failed, NeverExecuted, NotText}
 use Rattle.hack_process.specs.Calls.{Asked, Answer, Call, AddsCall, MayAdd, IsSuccess, IsFailure}
 
 -- these bytes are UTF-8, and more than white space

@@ -3,8 +3,7 @@
 
 ghost use Rattle.std.specs.Prelude.{◌≡◌, ◌↔◌, [], List, IfOk, IsTrue, OnErr, Some, false};
 ghost use Rattle.hack_process.specs.Calls.{Call, AddsCall, MayAdd, WroteNothing, answer_of};
-ghost use Rattle.hack_process.specs.Calls.{asked_call};
-ghost use Rattle.hack_process.specs.Calls.{IsSuccess};
+ghost use Rattle.hack_process.specs.Calls.{asked_call, IsSuccess};
 ghost use Rattle.hack_process.specs.Faults.{end_text};
 
 use std::alloc::{AllocError, Global};

@@ -2,8 +2,7 @@
 
 ghost use Rattle.std.specs.Prelude.{◌≡◌, [], Some, string_bytes};
 ghost use Rattle.hack_process.specs.Faults.{IsCapturedText, ShowsNothing, ReportsAnswer};
-ghost use Rattle.hack_process.specs.Faults.{failure_text, fault_text};
-ghost use Rattle.hack_process.specs.Faults.{output_text};
+ghost use Rattle.hack_process.specs.Faults.{failure_text, fault_text, output_text};
 ghost use Rattle.hack_process.specs.Calls.{WroteNothing, answer_of};
 
 use crate::caller::{Called, End};

@@ -1,7 +1,7 @@
 //! What a search for conflicts found, as lines for the user.
 
-ghost use Rattle.std.specs.Prelude.{◌≡◌, ◌==◌, ◌++◌, [], IfOk, OnErr, OnOk, None, codes};
-ghost use Rattle.std.specs.Prelude.{option_copied, slice_get, string_bytes};
+ghost use Rattle.std.specs.Prelude.{◌≡◌, ◌++◌, [], IfOk, OnErr, OnOk, None, codes, option_copied};
+ghost use Rattle.std.specs.Prelude.{slice_get, string_bytes};
 ghost use Rattle.std.specs.List.{list_any, slice_index_or};
 ghost use Rattle.hack_base.specs.Names.{names_of};
 ghost use Rattle.hack_base.specs.Streams.{WritesAll, stream_of};

@@ -5,9 +5,8 @@ ghost use Rattle.std.specs.Prelude.{IsTrue, Contains};
 ghost use Rattle.std.specs.List.{slice_index_or};
 ghost use Rattle.hack_routes.specs.FeatureMap.{Chain};
 ghost use Rattle.hack_samples.specs.Sets.{rows_of};
-ghost use Rattle.hack_routes.specs.Rows.{bit};
+ghost use Rattle.hack_routes.specs.Rows.{bit, leads};
 ghost use Rattle.hack_routes.specs.InternalPlaces.{Leads, AddsPlaces, AreMarked};
-ghost use Rattle.hack_routes.specs.Rows.{leads};
 
 use std::alloc::{AllocError, Global};
 

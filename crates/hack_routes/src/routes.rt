@@ -5,10 +5,9 @@ ghost use Rattle.std.specs.Prelude.{◌≡◌, ◌==◌, ◌&&◌, ◌++◌, [],
 ghost use Rattle.std.specs.Prelude.{Contains};
 ghost use Rattle.std.specs.List.{slice_index_or};
 ghost use Rattle.hack_base.specs.Names.{Name};
-ghost use Rattle.hack_routes.specs.FeatureMap.{FeatureMap, feature_map};
+ghost use Rattle.hack_routes.specs.FeatureMap.{feature_map};
 ghost use Rattle.hack_samples.specs.Sets.{rows_of};
-ghost use Rattle.hack_routes.specs.Rows.{bit, cell};
-ghost use Rattle.hack_routes.specs.Rows.{leads};
+ghost use Rattle.hack_routes.specs.Rows.{bit, cell, leads};
 
 use crate::links::Links;
 use crate::marks::{all_marks, row_at};

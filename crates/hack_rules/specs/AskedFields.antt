@@ -1,7 +1,5 @@
 -- The fields of the arguments, as uses of options ask for them.
-use Rattle.std.specs.Prelude.{ℕ, ◌&&◌, not, ◌++◌, ◌-◌, List, [], ◌∷◌, Bool, false, if◌then◌else◌}
-use Rattle.std.specs.Prelude.{Option, Some, option_and_then}
-use Rattle.std.specs.Prelude.{codes, nat_lt, bytes_eq}
+use Rattle.std.specs.Prelude.{ℕ, ◌&&◌, not, ◌++◌, ◌-◌, List, [], ◌∷◌, Bool, false, if◌then◌else◌, Option, Some, option_and_then, codes, nat_lt, bytes_eq}
 use Rattle.std.specs.List.{list_any, repeat}
 use Rattle.std.specs.Option.{option_map_or, option_or, unwrap_or}
 use Rattle.std.specs.Result.{result_ok}

@@ -1,6 +1,5 @@
 -- Why a command line is refused, without where the texts of an error lie in memory.
-use Rattle.std.specs.Prelude.{ℕ, ◌≡◌, List, Option, Some, None, Result, Ok, Err, MatchOption}
-use Rattle.std.specs.Prelude.{string_bytes, option_map}
+use Rattle.std.specs.Prelude.{ℕ, ◌≡◌, List, Option, Some, None, Result, Ok, Err, MatchOption, string_bytes, option_map}
 use Rattle.hack_options.specs.declared.opt.Opt.{Opt}
 use Rattle.hack_rules.specs.Faults.{argument_fault_of as cut_fault_of, ArgumentFault as WrongCut}
 use Rattle.hack_rules.specs.declared.uses.fault.CutFault.{CutFault}

@@ -21,11 +21,9 @@ ghost use Rattle.hack_rules.specs.CliLists.{names_given};
 ghost use Rattle.hack_rules.specs.ListsView.{AreListsOf};
 ghost use Rattle.hack_rules.specs.Rules.{clash as clash_rule, counts, fault_if, first_of};
 ghost use Rattle.hack_rules.specs.Rules.{has_beside, is_among, needs as needs_rule};
-ghost use Rattle.hack_rules.specs.EarlyRules.{is_in_group, subcommand_rule};
-ghost use Rattle.hack_rules.specs.EarlyRules.{without_dev_deps as dev_deps_option};
-ghost use Rattle.hack_rules.specs.EarlyRules.{selects_targets};
-ghost use Rattle.hack_rules.specs.EarlyRules.{option_naming as naming_option};
-ghost use Rattle.hack_rules.specs.EarlyRules.{early_rules, together_rules};
+ghost use Rattle.hack_rules.specs.EarlyRules.{is_in_group, early_rules, together_rules};
+ghost use Rattle.hack_rules.specs.EarlyRules.{subcommand_rule, without_dev_deps as dev_deps_option};
+ghost use Rattle.hack_rules.specs.EarlyRules.{selects_targets, option_naming as naming_option};
 
 use crate::checks::{clash, has, needs};
 use crate::fault::{Beside, CliFault};

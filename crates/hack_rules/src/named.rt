@@ -14,11 +14,10 @@ ghost use Rattle.hack_rules.specs.CliFaults.{Checks, LiftForm, LiftGroup};
 ghost use Rattle.hack_rules.specs.CliLists.{names_given, optional_given, lift_of};
 ghost use Rattle.hack_rules.specs.CliLists.{lifts_one_of, same_names};
 ghost use Rattle.hack_rules.specs.LateRules.{lift_rule};
-ghost use Rattle.hack_rules.specs.Internal.{put_all};
+ghost use Rattle.hack_rules.specs.Internal.{put_all, AreReadAs};
 ghost use Rattle.hack_features.specs.Feature.{IsGroup, IsNormal, group_of};
 ghost use Rattle.hack_base.specs.Lists.{group_names, without_quotes};
 ghost use Rattle.hack_rules.specs.CliGroups.{AreGroupsOf, AreLifts};
-ghost use Rattle.hack_rules.specs.Internal.{AreReadAs};
 
 use crate::fault::CliFault;
 use crate::uses::{Use, given, value, values};

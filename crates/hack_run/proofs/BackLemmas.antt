@@ -13,10 +13,6 @@ use Rattle.hack_load.specs.FilesAfterLoading.{LeavesFew}
 use Rattle.hack_run.specs.TemporaryEdits.{IsClean}
 use Rattle.hack_files.specs.View.{FilesView}
 
--- nothing is done to files
-pub leaves_none : (held : Contents) (n : ℕ) → LeavesFew (Unit {0}) held held n n
-leaves_none held n = record { spoilt = []; failed = λ low. omega (arith, low); others = λ t q fine. refl }
-
 -- what questions leave, what is kept before it is written, and what is restored
 pub leaves : (tells : Type 0) (files : List Kept) (first asked mid last : Contents) (k n m o r : ℕ) → tells → LeavesFew tells first asked k n → AreSafe files asked mid → Grows n m
     → GrowsBy r m o → Brings files mid last r → LeavesFew (Unit {0}) first last k o

@@ -73,13 +73,6 @@ pub reads : (tells : Type 0) (rustup answer : Name) (c : Command) (old new : Lis
     → (v : Version) → TellsRelease (release_part answer) v → tells → ReadsStable rustup v old new
 reads tells rustup answer c old new is had v told t = (answer, subst (λ k. ReadsOutput k answer old new) is (had t), told)
 
--- stable's version was asked for
-pub is_asked : {E : Type 0} (P : Version → Type 0) (U : Name → Type 0) (r : Result Stable E) → IfOk r (IsLatest P U) → IfOk r (λ s. s ≢ Unasked)
-is_asked P U (Ok Unasked) p = absurd p
-is_asked P U (Ok (Known v)) p = λ none. absurd (cc)
-is_asked P U (Ok (Unknown text)) p = λ none. absurd (cc)
-is_asked P U (Err e) p = tt
-
 -- rustup was asked, and its answer read
 pub asks_rustup : {E : Type 0} (tells : Type 0) (wants : Bool) (rustup answer : Name) (c : Command) (old new : List Call) (r : Result Rustup E) → wants ≡ true → c ≡ rustup_command rustup
     → (tells → ReadsOutput c answer old new) → IfOk r (TellsMinor answer) → IfOk r (λ known. tells → AsksRustup wants rustup known old new)

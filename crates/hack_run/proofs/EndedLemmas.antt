@@ -9,8 +9,7 @@ use Rattle.hack_bisect.specs.declared.find.Least.{Least as LeastPlace}
 use Rattle.hack_bisect.specs.declared.tries.TrialOutcome.TheVariants as outcome
 use Rattle.hack_conflicts.specs.declared.tried.BuildOutcome.{BuildOutcome as Built}
 use Rattle.hack_conflicts.specs.declared.tried.BuildOutcome.TheVariants as built
-use Rattle.hack_culprits.specs.Built.{AreBrokenLast, AreHanded, Made, Tells, step_at, step_outcome, steps_from}
-use Rattle.hack_culprits.specs.Built.{AreUnbroken as AreUnbrokenRuns}
+use Rattle.hack_culprits.specs.Built.{AreBrokenLast, AreHanded, Made, Tells, step_at, step_outcome, steps_from, AreUnbroken as AreUnbrokenRuns}
 use Rattle.hack_culprits.specs.declared.fault.CulpritsFault.{CulpritsFault}
 use Rattle.hack_culprits.specs.declared.fault.CulpritsFault.TheVariants as cause
 use Rattle.hack_hunt.specs.Hunts.{EndsSo, RanHunts, Spot}

@@ -1,8 +1,7 @@
 -- The errors that end a call, as they are told.
-use Rattle.std.specs.Prelude.{◌≡◌, ◌⊎◌, ◌&&◌, Bool, Err, IfSome, List, None, Ok, Option, Result, Some, codes, false, map, option_map, string_bytes, true, ℕ, if◌then◌else◌}
+use Rattle.std.specs.Prelude.{◌≡◌, ◌⊎◌, ◌&&◌, Bool, Err, IfSome, List, None, Ok, Option, Result, Some, codes, false, map, option_map, string_bytes, true, ℕ, if◌then◌else◌, nat_eq, option_and_then}
 use Rattle.std.specs.List.{starts_with}
 use Rattle.std.specs.Option.{option_or, option_to_list, unwrap_or}
-use Rattle.std.specs.Prelude.{nat_eq, option_and_then}
 use Rattle.std.specs.Str.{bytes_eq}
 use Rattle.hack_base.specs.Names.{Name}
 use Rattle.hack_base.specs.Streams.{Stream, WritesAll, WritesText}

@@ -1,9 +1,8 @@
 //! What rustup is asked before there is a plan: its own version, and that of the toolchain
 //! `stable`.
 
-ghost use Rattle.std.specs.Prelude.{◌≡◌, ◌≢◌, IfErr, IfOk, IfSome, IsSome, IsSomeAnd, None, Ok};
-ghost use Rattle.std.specs.Prelude.{OnErr, Some};
-ghost use Rattle.std.specs.Prelude.{OnOk, false, string_bytes, true};
+ghost use Rattle.std.specs.Prelude.{◌≡◌, ◌≢◌, IfErr, IfOk, IfSome, IsSomeAnd, None, Ok, OnErr};
+ghost use Rattle.std.specs.Prelude.{Some, OnOk, false, string_bytes, true};
 ghost use Rattle.hack_base.specs.Names.{names_of};
 ghost use Rattle.hack_metadata.specs.Requests.{version_command as asks_stable};
 ghost use Rattle.hack_process.specs.Calls.{MayAdd};
@@ -16,15 +15,13 @@ ghost use Rattle.hack_versions.specs.ToolTexts.{TellsRelease, answer_fault_text,
 ghost use Rattle.hack_words.specs.RustupView.{unknown_of};
 ghost use Rattle.hack_words.specs.Start.{wants_rustup as rustup_wanted};
 ghost use Rattle.hack_run.specs.Loading.{IsMinorIn};
-ghost use Rattle.hack_run.specs.Questions.{CannotInstallStable, CannotReadStable};
-ghost use Rattle.hack_run.specs.Questions.{FailsStable, MayAskStable};
+ghost use Rattle.hack_run.specs.Questions.{CannotInstallStable, CannotReadStable, FailsStable};
+ghost use Rattle.hack_run.specs.Questions.{MayAskStable, AsksStable, InstallsStable, AsksRustup};
+ghost use Rattle.hack_run.specs.Questions.{ReadsStable, IsAnswerReason, IsInstallReason, IsReason};
+ghost use Rattle.hack_run.specs.Questions.{TellsReason, TellsStableReason, rustup_asked};
+ghost use Rattle.hack_run.specs.Questions.{rustup_command as asks_rustup};
 ghost use Rattle.hack_drive.specs.Answered.{IsAnswered, NeedsAnswer};
-ghost use Rattle.hack_run.specs.Questions.{AsksStable, InstallsStable};
 ghost use Rattle.hack_run.specs.Internal.{IsLatest, IsUnknown, TellsMinor};
-ghost use Rattle.hack_run.specs.Questions.{AsksRustup, ReadsStable};
-ghost use Rattle.hack_run.specs.Questions.{IsAnswerReason, IsInstallReason, IsReason};
-ghost use Rattle.hack_run.specs.Questions.{TellsReason, TellsStableReason};
-ghost use Rattle.hack_run.specs.Questions.{rustup_asked, rustup_command as asks_rustup};
 
 use hack_planner::stable::Stable;
 use hack_process::cargo::version;

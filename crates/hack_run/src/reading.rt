@@ -6,8 +6,7 @@ ghost use Rattle.hack_process.specs.Calls.{MayAdd};
 ghost use Rattle.hack_words.specs.ParseAnswers.{around_of};
 ghost use Rattle.hack_words.specs.Start.{wants_rustup as rustup_wanted};
 ghost use Rattle.hack_run.specs.Questions.{rustup_asked};
-ghost use Rattle.hack_run.specs.Readings.{IsEarlyReadingOrRefusal, IsReading};
-ghost use Rattle.hack_run.specs.Readings.{IsReadingOrRefusal};
+ghost use Rattle.hack_run.specs.Readings.{IsEarlyReadingOrRefusal, IsReading, IsReadingOrRefusal};
 ghost use Rattle.hack_run.specs.Internal.{ReadsAfterRustup};
 
 use crate::ask::rustup_for;

@@ -1,7 +1,6 @@
 //! A whole call of `cargo hack`: does what its command line asks for, and reports on the way.
 
-ghost use Rattle.std.specs.Prelude.{◌≡◌, ◌⊎◌, IsErr, OnOk, false, true};
-ghost use Rattle.std.specs.Prelude.{IfSome, map, string_bytes};
+ghost use Rattle.std.specs.Prelude.{◌≡◌, ◌⊎◌, IsErr, OnOk, false, true, IfSome, map, string_bytes};
 ghost use Rattle.std.specs.Io.KnownBytes.{Appends};
 ghost use Rattle.hack_base.specs.Names.{names_of};
 ghost use Rattle.hack_base.specs.Notes.{note_of};
@@ -20,8 +19,7 @@ ghost use Rattle.hack_run.specs.Readings.{IsEarlyReadingOrRefusal};
 ghost use Rattle.hack_run.specs.TemporaryEdits.{BringsBack, ComesBack, IsClean, RestoresEdits};
 ghost use Rattle.hack_run.specs.Internal.{IsUntoldRefusal};
 ghost use Rattle.hack_run.specs.Refusals.{AreRefused, ReportsRefusal, WritesError};
-ghost use Rattle.hack_run.specs.Shown.{ComesOfListing, SaysCall, SaysParsed};
-ghost use Rattle.hack_run.specs.Shown.{SaysRead, SaysText};
+ghost use Rattle.hack_run.specs.Shown.{ComesOfListing, SaysCall, SaysParsed, SaysRead, SaysText};
 ghost use Rattle.hack_run.specs.Shown.{SaysUnread, looks_of, scene_on};
 ghost use Rattle.hack_run.specs.Standing.{Between, EditsStand, ObeysAndEdits};
 ghost use Rattle.hack_files.specs.View.{files_view};

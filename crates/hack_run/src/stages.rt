@@ -2,8 +2,7 @@
 //! and its runs or their list.
 
 ghost use Rattle.std.specs.Prelude.{◌≡◌, ◌⊎◌, IfErr, IfOk, IfSome, IsOk, OnErr, OnOk, false, map};
-ghost use Rattle.std.specs.Prelude.{string_bytes};
-ghost use Rattle.std.specs.Prelude.{MatchBool, option_map, true};
+ghost use Rattle.std.specs.Prelude.{string_bytes, MatchBool, option_map, true};
 ghost use Rattle.hack_base.specs.Counters.{GrowsBy};
 ghost use Rattle.hack_base.specs.Streams.{WritesAll, stream_of};
 ghost use Rattle.hack_files.specs.Restore.{AreSafe, is_kept, registered_files};
@@ -14,11 +13,9 @@ ghost use Rattle.hack_load.specs.CargoQuestions.{told_version};
 ghost use Rattle.hack_prepare.specs.EditSteps.{KeepsOnly};
 ghost use Rattle.hack_prepare.specs.FailureCounts.{WriteFails};
 ghost use Rattle.hack_prepare.specs.PreparedView.{AreWritesIn, HoldTextsIn, IsPartlyPreparedIn};
+ghost use Rattle.hack_prepare.specs.PreparedView.{IsPrepareFault, IsPreparedIn, IsTouchedIn};
+ghost use Rattle.hack_prepare.specs.PreparedView.{KeepsUneditedIn, edits_in, notes_in, wanted_in};
 ghost use Rattle.hack_prepare.specs.FailedCalls.{IsOfFailedCallIn};
-ghost use Rattle.hack_prepare.specs.PreparedView.{IsPrepareFault, IsPreparedIn};
-ghost use Rattle.hack_prepare.specs.PreparedView.{IsTouchedIn};
-ghost use Rattle.hack_prepare.specs.PreparedView.{KeepsUneditedIn};
-ghost use Rattle.hack_prepare.specs.PreparedView.{edits_in, notes_in, wanted_in};
 ghost use Rattle.hack_prepare.specs.Writes.{MakesSome};
 ghost use Rattle.hack_files.specs.FailedCalls.{NoneFailed};
 ghost use Rattle.hack_files.specs.WriteBacks.{SaysReason};
@@ -26,10 +23,8 @@ ghost use Rattle.hack_files.specs.Files.{Grows, KeepsAllBut};
 ghost use Rattle.hack_run.specs.CallChanges.{LoadsAndChanges};
 ghost use Rattle.hack_run.specs.CallTrace.{AfterLoading, LoadsAndPerforms};
 ghost use Rattle.hack_run.specs.Errors.{ends_at_file};
-ghost use Rattle.hack_run.specs.Internal.{EditsAndPerforms, EditsDone, FollowsAndLeaves};
-ghost use Rattle.hack_run.specs.Internal.{FollowsEdits};
-ghost use Rattle.hack_run.specs.Internal.{KeepsAsMade};
-ghost use Rattle.hack_run.specs.Internal.{MayPerformItsPlan, PerformsItsPlan};
+ghost use Rattle.hack_run.specs.Internal.{EditsAndPerforms, FollowsAndLeaves, MayPerformItsPlan};
+ghost use Rattle.hack_run.specs.Internal.{EditsDone, FollowsEdits, KeepsAsMade, PerformsItsPlan};
 ghost use Rattle.hack_run.specs.Lanes.{FollowsInLanes, LoadsInLanes, MayRunInLanes, RunsInLanes};
 ghost use Rattle.hack_run.specs.LastingEdits.{LeavesAtMost};
 ghost use Rattle.hack_run.specs.Shown.{KeepsLooks, SaysAfterLoading, SaysItsPlan, SaysLoaded};

@@ -8,16 +8,10 @@ use Rattle.hack_samples.specs.Samples.{Shows, SomeShows, ShowEachPattern}
 use Rattle.hack_samples.specs.InternalDescendingPatterns.{IsPossible, Descends, CoversBelow, AreKept}
 use Rattle.hack_samples.specs.declared.sets.Setting.{Setting}
 use Rattle.hack_samples.proofs.SetLemmas.{told}
-use Rattle.hack_samples.proofs.ShowLemmas.{all-left}
 use Rattle.hack_samples.proofs.OrderLemmas.{three}
 use Rattle.hack_samples.proofs.SampleLemmas.{some-kept}
 
 module _ (may : List Bool → Bool) (n : ℕ) (required : List (List ℕ)) (providers : List (List (List ℕ))) where
-  -- what continues a pattern that isn't possible needs no set
-  pub covers-not : (pattern : List Setting) (limit more : ℕ) (sets : List (List Bool)) → (IsPossible may n required providers pattern → ⊥) → CoversBelow may n required providers pattern limit more sets
-  covers-not pattern limit more sets not rest descends few possible =
-      absurd (not (record { by = possible.by; listed = possible.listed; shows = all-left (λ setting. is_on providers possible.by setting.candidate ≡ setting.on) pattern rest possible.shows }))
-
   pub covers-all : (pattern : List Setting) (limit more : ℕ) (sets : List (List Bool)) → SomeShows providers pattern sets
       → ((x : Setting) → x.candidate < limit → 0 < more → CoversBelow may n required providers (pattern ++ x ∷ []) x.candidate (more - 1) sets) → CoversBelow may n required providers pattern limit more sets
   covers-all pattern limit more sets here each [] descends few possible = subst (λ p. SomeShows providers p sets) (sym (append-nil pattern)) here

@@ -36,6 +36,3 @@ and-end true false = refl
 -- one more group, and more groups
 pub each-push : (s : List Bool) (groups : List (List ℕ)) (group : List ℕ) → has_each s (groups ++ group ∷ []) ≡ (has_each s groups && has_one_of s group)
 each-push s groups group = list_all-append (has_one_of s) groups (group ∷ []) ∙ and-end (has_each s groups) (has_one_of s group)
-
-pub each-join : (s : List Bool) (first others : List (List ℕ)) → has_each s (first ++ others) ≡ (has_each s first && has_each s others)
-each-join s first others = list_all-append (has_one_of s) first others

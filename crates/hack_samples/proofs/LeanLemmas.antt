@@ -8,7 +8,7 @@ use Rattle.std.proofs.lemmas.List.Quantifiers.{all_pairs_remove}
 use Rattle.std.proofs.lemmas.List.Elements.{Contains-append_left, Contains-append_right, Contains-append_cases, Contains-push_cases}
 use Rattle.hack_samples.specs.Sets.{is_on, rows_of}
 use Rattle.hack_samples.specs.Order.{IsMaskBefore}
-use Rattle.hack_samples.specs.Samples.{Shows, SomeShows, IsNeeded, IsLean}
+use Rattle.hack_samples.specs.Samples.{Shows, SomeShows, IsNeeded}
 use Rattle.hack_samples.specs.InternalDescendingPatterns.{IsShownBelow, IsAlone, AreShown, AreKept}
 use Rattle.hack_samples.specs.declared.sets.Setting.{Setting}
 use Rattle.hack_samples.proofs.ShowLemmas.{all-left, all-last}
@@ -36,9 +36,6 @@ pub row-any : {Z : Type 0} (vs : List (Vec Bool Z)) (i : ℕ) (v : Vec Bool Z) �
 row-any vs i v lt is = get_or-map (λ l. l.items) vs i v [] lt ∙ ap (λ l. l.items) (sym is)
 
 module _ (providers : List (List (List ℕ))) where
-  pub some-left : (pattern : List Setting) (xs ys : List (List Bool)) → SomeShows providers pattern xs → SomeShows providers pattern (xs ++ ys)
-  some-left pattern xs ys h = record { by = h.by; chosen = Contains-append_left xs ys h.by h.chosen; shows = h.shows }
-
   pub some-right : (pattern : List Setting) (xs ys : List (List Bool)) → SomeShows providers pattern ys → SomeShows providers pattern (xs ++ ys)
   some-right pattern xs ys h = record { by = h.by; chosen = Contains-append_right xs ys h.by h.chosen; shows = h.shows }
 
@@ -134,15 +131,6 @@ pub record AreLeft (providers : List (List (List ℕ))) (t : ℕ) (first sets : 
   pub ordered : AllPairs IsMaskBefore first → AllPairs IsMaskBefore sets
 
 module _ (providers : List (List (List ℕ))) (t : ℕ) (first : List (List Bool)) where
-  pub left-all : AreLeft providers t first first 0
-  left-all = record {
-    within = omega arith;
-    needed = λ k d lt. absurd (omega arith);
-    shown = λ pattern few h. h;
-    only = λ s h. h;
-    ordered = λ h. h;
-  }
-
   pub left-kept : (sets : List (List Bool)) (place : ℕ) → place < length sets → AreLeft providers t first sets place → IsNeeded providers t sets (get_or sets place []) → AreLeft providers t first sets (place + 1)
   left-kept sets place lt h now = record {
     within = omega arith;
@@ -169,9 +157,6 @@ module _ (providers : List (List (List ℕ))) (t : ℕ) (first : List (List Bool
     only = λ s c. h.only s (other-is-one sets place s c);
     ordered = λ pairs. all_pairs_remove IsMaskBefore sets place lt (h.ordered pairs);
   }
-
-  pub left-lean : (sets : List (List Bool)) (place : ℕ) → length sets ≤ place → AreLeft providers t first sets place → IsLean providers t sets
-  left-lean sets place end h = λ k d lt. h.needed k d (omega arith)
 
 -- what is asked of a set beside the others, at its row
 module _ {Z : Type 0} (providers : List (List (List ℕ))) (t : ℕ) (vs : List (Vec Bool Z)) (i : ℕ) (v : Vec Bool Z) (s : List Bool) (lt : i < length vs) (is : v ≡ get_or vs i v) (same : s ≡ v.items) where

@@ -2,7 +2,7 @@
 use Rattle.std.proofs.Common.{◌≡◌, ℕ, ◌+◌, ◌<◌, List, [], ◌∷◌, length, get_or, set, take, refl, ◌∙◌, arith, Bool, true, false, inl, inr, Option, Some, None, Result, Ok, Err, MatchOption, IfOk, IfSome, is_some}
 use Rattle.std.proofs.lemmas.List.Folds.{list_any_at, list_any_more}
 use Rattle.hack_samples.specs.Sets.{has, has_one_of, has_each, IsInside}
-use Rattle.hack_samples.specs.Internal.{IsSuited, Meets, NoneMeets}
+use Rattle.hack_samples.specs.Internal.{Meets, NoneMeets}
 use Rattle.hack_samples.proofs.SetLemmas.{told, not_both, or-both, and-true, and-both, has-set_same, inside-join}
 
 -- what a call found is passed on: no set stays no set, and a set stays that set
@@ -46,10 +46,6 @@ module _ (may : List Bool → Bool) (n : ℕ) where
 
   pub meets-cons : (group : List ℕ) (groups : List (List ℕ)) (banned s : List Bool) → has_one_of s group ≡ true → Meets may n groups banned s → Meets may n (group ∷ groups) banned s
   meets-cons group groups banned s here h = record { suited = h.suited; met = and-both (has_one_of s group) (has_each s groups) here h.met }
-
-  -- a suited set meets no groups
-  pub meets-none : (banned s : List Bool) → IsSuited may n banned s → Meets may n [] banned s
-  meets-none banned s h = record { suited = h; met = refl }
 
   -- if no set with p meets the other groups, then a set that meets all groups doesn't have p
   pub tried : (group : List ℕ) (groups : List (List ℕ)) (banned s : List Bool) (p : ℕ) → NoneMeets may n groups banned (set s p true) → (t : List Bool) → IsInside s t → Meets may n (group ∷ groups) banned t → has t p ≡ false

@@ -1,12 +1,10 @@
 -- Lemmas on the order of sets.
-use Rattle.std.proofs.Common.{◌≡◌, ℕ, zero, suc, ◌+◌, ◌-◌, ◌<◌, ◌≤◌, List, [], ◌∷◌, length, get_or, take, drop, refl, sym, ◌∙◌, ap, subst, arith, Bool, true, false, ◌⊎◌, inl, inr, AllPairs, Contains, Vec}
-use Rattle.std.specs.Prelude.{not}
+use Rattle.std.proofs.Common.{◌≡◌, ℕ, zero, suc, ◌+◌, ◌-◌, ◌<◌, ◌≤◌, List, [], ◌∷◌, length, get_or, take, drop, refl, sym, ◌∙◌, ap, subst, arith, Bool, true, ◌⊎◌, inl, inr, AllPairs, Contains, Vec}
 use Rattle.std.specs.List.{insert}
-use mathlib.Core.Bool.{beq}
 use Rattle.std.proofs.lemmas.Bool.{cases_lt}
 use Rattle.std.proofs.lemmas.List.{take-append-drop, get_or_default}
 use Rattle.std.proofs.lemmas.List.Edits.{length-insert, get_or-insert_below, get_or-insert_at, get_or-insert_above}
-use Rattle.std.proofs.lemmas.List.Elements.{Contains-append_left, Contains-append_right, Contains-append_cases, Contains-push, Contains-push_cases}
+use Rattle.std.proofs.lemmas.List.Elements.{Contains-append_left, Contains-append_right, Contains-append_cases, Contains-push_cases}
 use Rattle.hack_samples.specs.Sets.{has, rows_of}
 use Rattle.hack_samples.specs.Order.{IsMaskBefore}
 use Rattle.hack_samples.specs.Internal.{BelongsAt}
@@ -35,12 +33,6 @@ before_trans s t u a b =
         | inr lt ↦ record { greatest = a.greatest; absent = a.absent; present = sym (b.above a.greatest lt) ∙ a.present; above = λ p more. a.above p more ∙ b.above p (omega arith) }
       ]
     ]
-
--- truth values that differ
-pub differ : (a b : Bool) → not (beq a b) ≡ true → a ≡ true → b ≡ false
-differ true true h e = sym h
-differ true false h e = refl
-differ false b h e = absurd (not_both e refl)
 
 module _ {X : Type 0} (R : X → X → Type 0) (xs : List X) (i : ℕ) (y : X) where
   both-past : (a b : ℕ) (d : X) → a < b + 1 → i < a → b < length xs → i ≤ length xs → AllPairs R xs → R (get_or (insert xs i y) a d) (get_or xs b d)
@@ -86,9 +78,6 @@ module _ {X : Type 0} (xs : List X) (i : ℕ) (y : X) where
         | inl w ↦ Contains-append_left (take i xs) (y ∷ drop i xs) x w
         | inr w ↦ Contains-append_right (take i xs) (y ∷ drop i xs) x (Contains-append_right (y ∷ []) (drop i xs) x w)
       ]
-
-  pub added-insert : Contains (insert xs i y) y
-  added-insert = Contains-append_right (take i xs) (y ∷ drop i xs) y (Contains-append_left (y ∷ []) (drop i xs) y (Contains-push [] y))
 
   pub only-insert : (x : X) → Contains (insert xs i y) x → Contains xs x ⊎ (x ≡ y)
   only-insert x h =

@@ -1,7 +1,7 @@
 //! Which sets of positions are allowed, and how often that may be asked.
 
-ghost use Rattle.std.specs.Prelude.{◌≡◌, ◌<◌, ◌≤◌, ◌+◌, ◌-◌, ◌^◌, ℕ, List, Bool, true, false};
-ghost use Rattle.std.specs.Prelude.{length, min, replicate, slice_set, IfOk, IfErr, IsTrue};
+ghost use Rattle.std.specs.Prelude.{◌≡◌, ◌<◌, ◌+◌, ◌-◌, ◌^◌, ℕ, List, Bool, true, false, length};
+ghost use Rattle.std.specs.Prelude.{min, replicate, slice_set, IfOk, IfErr};
 ghost use Rattle.hack_samples.specs.Sets.{has, IsInside};
 ghost use Rattle.hack_samples.specs.Questions.{IsTired};
 ghost use Rattle.hack_samples.specs.Internal.{StaysWithin};

@@ -1,10 +1,9 @@
 //! A sample of sets that shows each pattern of a few candidates that some listed set shows.
 
-ghost use Rattle.std.specs.Prelude.{◌≡◌, ◌<◌, ◌≤◌, ◌+◌, ◌-◌, ◌^◌, ◌++◌, ◌∷◌, [], ℕ, List, Bool};
-ghost use Rattle.std.specs.Prelude.{true, false, length, min, IsTrue, IfOk, IfErr, OnOk, MatchBool};
+ghost use Rattle.std.specs.Prelude.{◌≡◌, ◌<◌, ◌≤◌, ◌+◌, ◌-◌, ◌^◌, [], true, false, min, IfOk};
+ghost use Rattle.std.specs.Prelude.{IfErr, OnOk, MatchBool};
 ghost use Rattle.hack_samples.specs.Sets.{rows_of, tables_of};
-ghost use Rattle.hack_samples.specs.Samples.{IsListedMask, IsMaskSample, SomeShows};
-ghost use Rattle.hack_samples.specs.Samples.{ShowEachPattern, IsLean};
+ghost use Rattle.hack_samples.specs.Samples.{IsMaskSample, SomeShows, ShowEachPattern, IsLean};
 ghost use Rattle.hack_samples.specs.InternalDescendingPatterns.{CoversBelow, IsPossible, AreKept};
 ghost use Rattle.hack_samples.specs.Questions.{IsTired};
 ghost use Rattle.hack_samples.specs.Internal.{StaysWithin, IsShorter, IsChosen};

@@ -1,6 +1,6 @@
 //! What a set has to meet: it has to have a member of each group, and no banned position.
 
-ghost use Rattle.std.specs.Prelude.{◌≡◌, ℕ, List, Bool, false, length, IfOk, IsTrue, ◌↔◌, ◌&&◌};
+ghost use Rattle.std.specs.Prelude.{◌≡◌, List, Bool, false, length, IfOk, ◌↔◌, ◌&&◌};
 ghost use Rattle.hack_samples.specs.Sets.{has_one_of, has_each, rows_of};
 ghost use Rattle.hack_samples.specs.Internal.{IsClear};
 

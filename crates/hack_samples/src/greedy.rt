@@ -3,14 +3,10 @@
 //! Which members are added is not promised: contracts say only that the set stays allowed, keeps
 //! its members and has no banned position.
 
-ghost use Rattle.std.specs.Prelude.{◌≡◌, ◌<◌, ℕ, List, Bool, true, false, length, slice_set};
-ghost use Rattle.std.specs.Prelude.{IsTrue, IfOk, IfErr, OnOk};
-ghost use Rattle.hack_samples.specs.Sets.{has_each, rows_of};
-ghost use Rattle.hack_samples.specs.Internal.{may_join};
-ghost use Rattle.hack_samples.specs.Sets.{IsInside};
-ghost use Rattle.hack_samples.specs.Internal.{IsClear, IsSuited};
+ghost use Rattle.std.specs.Prelude.{◌≡◌, ◌<◌, List, Bool, true, false, length, IfOk, IfErr, OnOk};
+ghost use Rattle.hack_samples.specs.Sets.{has_each, rows_of, IsInside};
+ghost use Rattle.hack_samples.specs.Internal.{may_join, IsClear, IsSuited, StaysWithin};
 ghost use Rattle.hack_samples.specs.Questions.{IsTired};
-ghost use Rattle.hack_samples.specs.Internal.{StaysWithin};
 
 use crate::allowed::{Allowed, ask};
 use crate::demands::{Wanted, ban};

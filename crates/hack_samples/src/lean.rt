@@ -1,7 +1,7 @@
 //! Leaves the sets out of a sample that it doesn't need.
 
-ghost use Rattle.std.specs.Prelude.{◌≡◌, ◌<◌, ◌≤◌, ◌+◌, ◌++◌, ◌∷◌, [], ℕ, List, Bool, length};
-ghost use Rattle.std.specs.Prelude.{OnOk, IfOk, MatchBool, AllPairs};
+ghost use Rattle.std.specs.Prelude.{◌<◌, ◌≤◌, ◌+◌, ◌++◌, [], List, length, OnOk, IfOk, MatchBool};
+ghost use Rattle.std.specs.Prelude.{AllPairs};
 ghost use Rattle.std.specs.List.{slice_index_or, remove};
 ghost use Rattle.hack_samples.specs.Sets.{rows_of, tables_of};
 ghost use Rattle.hack_samples.specs.Order.{IsMaskBefore};

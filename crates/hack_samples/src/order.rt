@@ -1,8 +1,8 @@
 //! The order of sets: a set is before another if the greatest position that is in only one of them
 //! is in the other.
 
-ghost use Rattle.std.specs.Prelude.{◌≡◌, ℕ, List, Bool, length, OnOk, MatchOption, ◌⊎◌};
-ghost use Rattle.std.specs.Prelude.{All, AllPairs, Contains};
+ghost use Rattle.std.specs.Prelude.{◌≡◌, List, Bool, length, OnOk, MatchOption, ◌⊎◌, All, AllPairs};
+ghost use Rattle.std.specs.Prelude.{Contains};
 ghost use Rattle.std.specs.Ordering.{MatchOrdering};
 ghost use Rattle.hack_samples.specs.Sets.{rows_of};
 ghost use Rattle.hack_samples.specs.Order.{IsMaskBefore};

@@ -1,6 +1,6 @@
 //! Patterns, and whether sets show them.
 
-ghost use Rattle.std.specs.Prelude.{◌≡◌, ◌++◌, ◌∷◌, [], ℕ, List, Bool, IfOk, MatchBool};
+ghost use Rattle.std.specs.Prelude.{◌≡◌, ◌++◌, ◌∷◌, [], IfOk, MatchBool};
 ghost use Rattle.hack_samples.specs.Sets.{rows_of, tables_of};
 ghost use Rattle.hack_samples.specs.Samples.{Shows, SomeShows};
 

@@ -4,15 +4,13 @@
 //! the set has to meet. It is off if the set has no member of one of its rows, so each row is
 //! banned in turn.
 
-ghost use Rattle.std.specs.Prelude.{◌≡◌, ◌<◌, ℕ, List, Bool, true, false, length, slice_set};
-ghost use Rattle.std.specs.Prelude.{IsTrue, IfOk, IfErr, IfSome, IfNone, MatchOption};
-ghost use Rattle.hack_samples.specs.Sets.{IsInside};
-ghost use Rattle.hack_samples.specs.Internal.{IsClear, IsSuited, Meets, NoneMeets};
-ghost use Rattle.hack_samples.specs.Sets.{has_each, is_on, rows_of, tables_of};
-ghost use Rattle.hack_samples.specs.Samples.{IsListedMask, Shows};
-ghost use Rattle.hack_samples.specs.Internal.{NoneShows};
-ghost use Rattle.hack_samples.specs.Questions.{IsTired};
+ghost use Rattle.std.specs.Prelude.{◌≡◌, ◌<◌, List, Bool, true, false, length, slice_set, IfOk};
+ghost use Rattle.std.specs.Prelude.{IfErr, IfSome, IfNone, MatchOption};
+ghost use Rattle.hack_samples.specs.Sets.{IsInside, is_on, rows_of, tables_of};
+ghost use Rattle.hack_samples.specs.Internal.{IsClear, IsSuited, Meets, NoneMeets, NoneShows};
 ghost use Rattle.hack_samples.specs.Internal.{StaysWithin};
+ghost use Rattle.hack_samples.specs.Samples.{IsListedMask, Shows};
+ghost use Rattle.hack_samples.specs.Questions.{IsTired};
 
 use crate::allowed::Allowed;
 use crate::demands::{Wanted, ban, copies, joined};

@@ -1,6 +1,6 @@
 //! Sets of positions, and which candidates are on in them.
 
-ghost use Rattle.std.specs.Prelude.{◌≡◌, ◌<◌, ℕ, List, [], Bool, true, length, slice_set};
+ghost use Rattle.std.specs.Prelude.{◌≡◌, ◌<◌, [], true, length, slice_set};
 ghost use Rattle.std.specs.List.{slice_index_or};
 ghost use Rattle.hack_samples.specs.Sets.{has, has_one_of, has_each, is_on, rows_of, tables_of};
 

@@ -1,5 +1,5 @@
 -- Lemmas on the parts with failed runs, and on what came of a part's runs.
-use Rattle.std.proofs.Common.{◌≡◌, ◌≢◌, ℕ, List, [], ◌∷◌, ◌++◌, get_or, map, refl, sym, ◌∙◌, ap, subst, arith, Bool, true, false, ◌⊎◌, inl, inr, ◌↔◌, All, AllPairs, Contains, Some, None, append_assoc}
+use Rattle.std.proofs.Common.{◌≡◌, ◌≢◌, ℕ, List, [], ◌∷◌, ◌++◌, get_or, map, refl, sym, ◌∙◌, ap, subst, arith, Bool, true, false, ◌⊎◌, inl, inr, ◌↔◌, All, AllPairs, Contains, Some, None, append_assoc, Result, Ok, Err, IfOk}
 use Rattle.std.proofs.lemmas.List.Elements.{Contains-get_or, Contains-append_left, Contains-append_right, Contains-append_cases, Contains-push, Contains-push_cases}
 use Rattle.std.proofs.lemmas.List.Quantifiers.{all_pairs_push}
 use Rattle.hack_plan.specs.View.{PlanView}
@@ -8,16 +8,13 @@ use Rattle.hack_session.specs.declared.step.Handed.{Handed}
 use Rattle.hack_session.specs.declared.step.Outcome.{Outcome}
 use Rattle.hack_session.specs.declared.step.Outcome.TheVariants.{Passed, Failed}
 use Rattle.hack_session.specs.declared.suspects.Part.{Part}
-use Rattle.std.proofs.Common.{Result, Ok, Err, IfOk}
 use Rattle.std.specs.Prelude.{slice_get}
 use Rattle.std.specs.List.{slice_index_or}
 use Rattle.std.proofs.lemmas.List.{map-append}
 use Rattle.hack_suspects.specs.declared.suspect.RunOutcome.{RunOutcome as Ran}
-use Rattle.hack_suspects.specs.Suspects.{outcomes_of}
-use Rattle.hack_suspects.specs.Suspects.{RunOutcome as Run_outcome}
+use Rattle.hack_suspects.specs.Suspects.{outcomes_of, RunOutcome as Run_outcome}
 use Rattle.hack_session.specs.Histories.{Course}
-use Rattle.hack_session.specs.Suspects.{AreExplained, ExplainedView, IsExplained, run_outcome_of, part_explained, settings_in}
-use Rattle.hack_session.specs.Suspects.{AreDistinctParts, FailsBefore, HasFailedRun, part_at, part_where, part_of, plan_entry_of}
+use Rattle.hack_session.specs.Suspects.{AreExplained, ExplainedView, IsExplained, run_outcome_of, part_explained, settings_in, AreDistinctParts, FailsBefore, HasFailedRun, part_at, part_where, part_of, plan_entry_of}
 use Rattle.hack_session.specs.ListLines.{is_failed}
 use Rattle.hack_session.specs.Internal.{AddsOnce}
 
@@ -41,9 +38,6 @@ single-failed plan h part f =
       | inl none ↦ absurd (empty-none f.by none)
       | inr e ↦ (ap (λ (x : Handed). is_failed x.outcome) e ∙ ap is_failed f.failed, ap (part_at plan) e ∙ f.of)
     ]
-
-pub none-failed : (plan : PlanView) (h : Handed) (part : Part) → is_failed h.outcome ≡ false → HasFailedRun plan (h ∷ []) part → ⊥
-none-failed plan h part passed f = bools-differ (single-failed plan h part f).0 passed
 
 -- failed runs among earlier and later steps
 pub failed-before : (plan : PlanView) (xs ys : List Handed) (part : Part) → HasFailedRun plan xs part → HasFailedRun plan (xs ++ ys) part

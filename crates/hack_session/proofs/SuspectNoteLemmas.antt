@@ -1,14 +1,10 @@
 -- Lemmas on the notices that explain failed runs.
-use Rattle.std.proofs.Common.{◌≡◌, ℕ, ◌+◌, ◌<◌, List, [], ◌∷◌, ◌++◌, length, get_or, take, map, refl, sym, ◌∙◌, ap, append_assoc, append-nil, String, Global, string_bytes, codes}
-use Rattle.std.specs.List.{flat_map, join_by, list_any}
-use Rattle.std.proofs.lemmas.List.{map_more}
-use Rattle.std.proofs.lemmas.List.Concat.{flat_map-append}
+use Rattle.std.proofs.Common.{◌≡◌, ℕ, ◌+◌, List, [], ◌∷◌, ◌++◌, map, refl, sym, ◌∙◌, ap, append_assoc, String, Global, string_bytes, codes, false, ◌||◌, Vec}
+use Rattle.std.specs.List.{join_by, list_any}
 use Rattle.std.proofs.lemmas.List.Folds.{flat_map-map}
 use Rattle.hack_base.specs.Notes.{Note}
 use Rattle.hack_plan.specs.View.{PlanView}
-use Rattle.hack_session.specs.declared.suspects.Explained.{Explained}
-use Rattle.hack_session.specs.Suspects.{ExplainedView, candidate_count, explained_view}
-use Rattle.std.proofs.Common.{false, ◌||◌, Vec}
+use Rattle.hack_session.specs.Suspects.{ExplainedView, candidate_count}
 use Rattle.hack_samples.specs.Sets.{rows_of}
 use Rattle.std.specs.Prelude.{Err, Ok, OnOk, Option, Result, Some, nat_eq, nat_lt, slice_get}
 use Rattle.hack_partition.specs.declared.partition.Partition.{Partition}
@@ -31,15 +27,6 @@ notes-some plan piece e found n old mid new (Err x) is count first then = tt
 notes-some plan piece e found n old mid new (Ok v) is count first then =
     adds-then old mid new (headed_lines plan piece e found) (missed_lines n e) first then
     ∙ ap (λ k. old ++ (headed_lines plan piece e found ++ missed_lines k e)) count ∙ ap (λ s. old ++ notes_of plan piece e s) (sym is)
-
--- the notes on one more part
-pub notes-more : (plan : PlanView) (piece : Option Partition) (xs : List Explained) (i : ℕ) (x : Explained) (old new : List Note) → i < length xs → x ≡ get_or xs i x → new ≡ old ++ suspect_notes_on plan piece (explained_view x) → old ≡ flat_map (suspect_notes_on plan piece) (map explained_view (take i xs))
-    → new ≡ flat_map (suspect_notes_on plan piece) (map explained_view (take (i + 1) xs))
-notes-more plan piece xs i x old new lt is adds before =
-    let f = suspect_notes_on plan piece in
-    let front = map explained_view (take i xs) in
-    adds ∙ ap (λ l. l ++ f (explained_view x)) before
-    ∙ sym (ap (flat_map f) (map_more explained_view xs i x lt ∙ ap (λ y. front ++ explained_view y ∷ []) (sym is)) ∙ flat_map-append f front (explained_view x ∷ []) ∙ ap (λ l. flat_map f front ++ l) (append-nil (f (explained_view x))))
 
 pub any-setting : {Z : Type 0} (found : List (Vec Setting Z)) → list_any (λ v. has_setting v.items) found ≡ list_any has_setting (rows_of found)
 any-setting [] = refl

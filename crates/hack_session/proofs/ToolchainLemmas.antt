@@ -1,6 +1,5 @@
 -- Names of toolchains, and targets in one argument.
-use Rattle.std.proofs.Common.{◌≡◌, ◌≢◌, ℕ, List, [], ◌∷◌, ◌++◌, refl, sym, ap, ◌∙◌, Bool, true, false, map, length, arith, cond}
-use Rattle.std.proofs.Common.{String, Global, Option, Some, None, Bor, MatchOption, unwrap_or}
+use Rattle.std.proofs.Common.{◌≡◌, ◌≢◌, ℕ, List, [], ◌∷◌, ◌++◌, refl, sym, ap, ◌∙◌, Bool, true, false, map, length, arith, cond, String, Global, Option, Some, None, Bor, MatchOption, unwrap_or}
 use Rattle.std.specs.Prelude.{string_bytes, codes, ◌==◌}
 use Rattle.std.specs.List.{join_by}
 use Rattle.std.proofs.lemmas.List.Folds.{flat_map-map}

@@ -16,7 +16,7 @@ use Rattle.hack_session.specs.declared.step.Step.TheVariants.{Prepare, Skip, Run
 use Rattle.hack_session.specs.declared.step.Handed.{Handed}
 use Rattle.hack_session.specs.Statuses.{place_status, shown_total, status_text, told_name}
 use Rattle.hack_session.specs.StepOutput.{Manner, group_said}
-use Rattle.hack_session.specs.StepEffects.{Does, DoesAll, DoesTasks, Performed, Scene, State, Task, cleaning_task, is_run, own_task, run_tasks, task_of}
+use Rattle.hack_session.specs.StepEffects.{DoesAll, DoesTasks, Performed, Scene, State, Task, cleaning_task, is_run, own_task, run_tasks, task_of}
 
 -- each step is a run
 abbrev pub AreRuns : List Handed → Type 0

@@ -9,10 +9,9 @@ ghost use Rattle.hack_process.specs.Commands.{command_of, line_text};
 ghost use Rattle.hack_plan.specs.Commands.{clean_command};
 ghost use Rattle.hack_plan.specs.Lines.{listed_text};
 ghost use Rattle.hack_session.specs.Histories.{IsStepOf};
-ghost use Rattle.hack_session.specs.ListLines.{ListsAll, is_sent, is_sent_step};
+ghost use Rattle.hack_session.specs.ListLines.{ListsAll, is_sent, is_sent_step, line_of, page_of};
+ghost use Rattle.hack_session.specs.ListLines.{run_lines_at, step_lines};
 ghost use Rattle.hack_session.specs.Internal.{CountsLines};
-ghost use Rattle.hack_session.specs.ListLines.{line_of};
-ghost use Rattle.hack_session.specs.ListLines.{page_of, run_lines_at, step_lines};
 ghost use Rattle.hack_session.specs.JoinedLists.{listed_more, sent_more};
 
 use crate::lines::{LineFault, Lines};

@@ -11,8 +11,7 @@ ghost use Rattle.hack_session.specs.StepEffects.{DoesTask, DoesTasks, EnsuresToo
 ghost use Rattle.hack_session.specs.StepEffects.{Runs, Skips, cleaning_task, lockfile_tasks};
 ghost use Rattle.hack_session.specs.StepEffects.{own_task, scene_of};
 ghost use Rattle.hack_session.specs.StepOutput.{IsSameScreen, Streams, manner_on, streams_of};
-ghost use Rattle.hack_session.specs.Statuses.{place_status, shown_total};
-ghost use Rattle.hack_session.specs.Statuses.{told_name as name_told};
+ghost use Rattle.hack_session.specs.Statuses.{place_status, shown_total, told_name as name_told};
 
 use crate::calls::{call, call_in_group};
 use crate::rustup::install_toolchain;

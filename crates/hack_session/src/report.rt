@@ -5,10 +5,9 @@ ghost use Rattle.std.specs.Prelude.{is_some};
 ghost use Rattle.std.specs.BTreeMap.{get_by_text};
 ghost use Rattle.std.specs.List.{filter_map, flat_map, list_any};
 ghost use Rattle.hack_session.specs.Reports.{IsReport, command_text, package_group_text};
-ghost use Rattle.hack_session.specs.Reports.{report_text};
-ghost use Rattle.hack_session.specs.Reports.{failure_of, failures_of, is_of};
+ghost use Rattle.hack_session.specs.Reports.{report_text, failure_of, failures_of, is_of, run_at};
+ghost use Rattle.hack_session.specs.Reports.{texts_under, told_text};
 ghost use Rattle.hack_session.specs.Internal.{failure_view};
-ghost use Rattle.hack_session.specs.Reports.{run_at, texts_under, told_text};
 
 use crate::history::History;
 use crate::session::Session;

@@ -4,9 +4,8 @@ ghost use Rattle.std.specs.Prelude.{◌≡◌, ◌↔◌, IfOk, IsSome, OnErr, O
 ghost use Rattle.std.specs.Prelude.{string_bytes};
 ghost use Rattle.hack_process.specs.CommandTexts.{text_of};
 ghost use Rattle.hack_process.specs.Commands.{command_of};
-ghost use Rattle.hack_session.specs.StepOutput.{IsSameScreen, Says, SaysOn, cleaning_said};
-ghost use Rattle.hack_session.specs.StepOutput.{end_said, manner_on, opening_said, space_said};
-ghost use Rattle.hack_session.specs.StepOutput.{streams_of};
+ghost use Rattle.hack_session.specs.StepOutput.{IsSameScreen, SaysOn, cleaning_said, opening_said};
+ghost use Rattle.hack_session.specs.StepOutput.{Says, end_said, manner_on, space_said, streams_of};
 ghost use Rattle.hack_session.specs.Statuses.{of_text, on_text, running_text, status_text};
 
 use hack_base::writes::{Sink, write_front};

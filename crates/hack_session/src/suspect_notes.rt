@@ -1,24 +1,21 @@
 //! The notices on suspects.
 
-ghost use Rattle.std.specs.Prelude.{◌≡◌, ◌++◌, ◌∷◌, ◌-◌, [], IfOk, OnOk, map, nat_lt};
-ghost use Rattle.std.specs.Prelude.{codes, option_map, slice_get, string_bytes, take, unwrap_or};
-ghost use Rattle.std.specs.Prelude.{if◌then◌else◌};
+ghost use Rattle.std.specs.Prelude.{◌≡◌, ◌++◌, ◌∷◌, ◌-◌, [], IfOk, OnOk, map, nat_lt, codes, take};
+ghost use Rattle.std.specs.Prelude.{option_map, slice_get, string_bytes, unwrap_or, if◌then◌else◌};
 ghost use Rattle.std.specs.Fmt.{decimal};
 ghost use Rattle.std.specs.List.{flat_map, list_any, slice_index_or};
 ghost use Rattle.hack_base.specs.Names.{names_of};
-ghost use Rattle.hack_base.specs.Notes.{AddsNotes, note_of};
+ghost use Rattle.hack_base.specs.Notes.{AddsNotes, note_of, info_note};
 ghost use Rattle.hack_features.specs.Feature.{groups_of};
 ghost use Rattle.hack_plan.specs.Commands.{name_in};
 ghost use Rattle.hack_samples.specs.Sets.{rows_of};
 ghost use Rattle.hack_session.specs.Suspects.{explained_view};
-ghost use Rattle.hack_session.specs.SuspectNotes.{ending, for_target_text, has_setting, have_text};
-ghost use Rattle.hack_session.specs.SuspectNotes.{headed_lines, heading_text, lacking_text};
-ghost use Rattle.hack_base.specs.Notes.{info_note};
-ghost use Rattle.hack_session.specs.SuspectNotes.{missed_lines, missed_text, more_text, most_lines};
-ghost use Rattle.hack_session.specs.SuspectNotes.{package_candidates, piece_text, place_text};
-ghost use Rattle.hack_session.specs.SuspectNotes.{setting_text};
-ghost use Rattle.hack_session.specs.SuspectNotes.{state_text, suspect_notes_on, suspect_text};
-ghost use Rattle.hack_session.specs.SuspectNotes.{too_many_text, version_words, who_text};
+ghost use Rattle.hack_session.specs.SuspectNotes.{ending, headed_lines, heading_text, lacking_text};
+ghost use Rattle.hack_session.specs.SuspectNotes.{for_target_text, too_many_text, version_words};
+ghost use Rattle.hack_session.specs.SuspectNotes.{has_setting, missed_text, piece_text, place_text};
+ghost use Rattle.hack_session.specs.SuspectNotes.{have_text, more_text, state_text, who_text};
+ghost use Rattle.hack_session.specs.SuspectNotes.{missed_lines, setting_text, suspect_text};
+ghost use Rattle.hack_session.specs.SuspectNotes.{most_lines, package_candidates, suspect_notes_on};
 
 use crate::suspects::{Explained, Part, count_candidates};
 use hack_base::notice::{Notice, NoticeKind};

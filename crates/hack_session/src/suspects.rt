@@ -9,13 +9,12 @@ ghost use Rattle.hack_samples.specs.Sets.{rows_of};
 ghost use Rattle.hack_suspects.specs.Counts.{Fails, FailsWith, IsNumberOf};
 ghost use Rattle.hack_suspects.specs.Suspects.{outcomes_of};
 ghost use Rattle.hack_suspects.specs.Uses.{AreInOrderOfUse};
-ghost use Rattle.hack_session.specs.Suspects.{AreExplained, AreFound, AreOutcomes};
+ghost use Rattle.hack_session.specs.Suspects.{AreExplained, AreFound, AreOutcomes, FailsBefore};
+ghost use Rattle.hack_session.specs.Suspects.{HasFailedRun, IsExplained, candidate_count};
+ghost use Rattle.hack_session.specs.Suspects.{explained_view, part_at, part_explained, part_of};
+ghost use Rattle.hack_session.specs.Suspects.{plan_entry_of, settings_in};
 ghost use Rattle.hack_session.specs.Internal.{AddsOnce};
-ghost use Rattle.hack_session.specs.Suspects.{FailsBefore, HasFailedRun, IsExplained};
-ghost use Rattle.hack_session.specs.Suspects.{candidate_count};
-ghost use Rattle.hack_session.specs.Suspects.{explained_view, part_at, part_explained};
 ghost use Rattle.hack_session.specs.ListLines.{is_failed};
-ghost use Rattle.hack_session.specs.Suspects.{part_of, plan_entry_of, settings_in};
 
 use crate::session::Session;
 use crate::step::{Handed, Outcome, Step};

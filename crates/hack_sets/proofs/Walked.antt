@@ -55,10 +55,6 @@ map-behind s p [] = refl
 map-behind s p (x ∷ xs) = ap (λ l. l ∷ map (λ u. u ++ s) (map (λ u. u ++ p ∷ []) xs)) (append_assoc x (p ∷ []) s) ∙ ap (λ l. (x ++ p ∷ s) ∷ l) (map-behind s p xs)
 
 module _ (may : List ℕ → Bool) (closed : IsClosed may) where
-  pub front-closed : (u s : List ℕ) → may (u ++ s) ≡ true → may s ≡ true
-  front-closed [] s e = e
-  front-closed (p ∷ u) s e = front-closed u s (closed (p ∷ (u ++ s)) 0 (omega arith) e)
-
   -- the sets that are permitted when s follows them
   abbrev with : List ℕ → List ℕ → Bool
   with s u = may (u ++ s)

@@ -6,10 +6,8 @@ ghost use Rattle.std.specs.Prelude.{IfSome, All};
 ghost use Rattle.std.specs.List.{remove, slice_index_or};
 ghost use Rattle.hack_sets.specs.Sets.{IsSelection, IsListing};
 ghost use Rattle.hack_sets.specs.Forest.{sets_of, sets_in};
-ghost use Rattle.hack_sets.specs.Questions.{IsCheap};
-ghost use Rattle.hack_sets.specs.InternalQuestions.{with_next, AreComplete, AreOpen};
-ghost use Rattle.hack_sets.specs.Questions.{IsWholeSet, is_whole};
-ghost use Rattle.hack_sets.specs.InternalQuestions.{AreLimits};
+ghost use Rattle.hack_sets.specs.Questions.{IsCheap, IsWholeSet, is_whole};
+ghost use Rattle.hack_sets.specs.InternalQuestions.{with_next, AreComplete, AreOpen, AreLimits};
 
 use crate::forest::{FeatureSets, Forest, Pruned};
 use std::alloc::{AllocError, Global};

@@ -3,9 +3,8 @@
 ghost use Rattle.std.specs.Prelude.{◌≡◌, IfOk, List, ℕ, ◌<◌, AllPairs};
 ghost use Rattle.std.specs.Ordering.{MatchOrdering};
 ghost use Rattle.hack_sets.specs.Sets.{IsBefore, ListsSelections, IsWithin};
-ghost use Rattle.hack_sets.specs.InternalSets.{has_room};
+ghost use Rattle.hack_sets.specs.InternalSets.{has_room, with_each};
 ghost use Rattle.hack_samples.specs.Sets.{rows_of};
-ghost use Rattle.hack_sets.specs.InternalSets.{with_each};
 
 use std::alloc::{AllocError, Global};
 use std::cmp::Ordering;

@@ -5,7 +5,6 @@ ghost use Rattle.std.specs.Prelude.{false, length, map, option_map, slice_get};
 ghost use Rattle.hack_lanes.specs.Views.{offer_of};
 ghost use Rattle.hack_plan.specs.Commands.{command_of_entry};
 ghost use Rattle.hack_process.specs.Commands.{asked_of};
-ghost use Rattle.hack_session.specs.Schedules.{in_piece};
 ghost use Rattle.hack_side.specs.Turns.{AreOffers, HasPlace, IsWithin};
 
 use hack_base::copies::copies;

@@ -1,6 +1,5 @@
 -- What a program that replaces cargo or rustup in tests does with the files of a folder.
-use Rattle.std.specs.Prelude.{◌≡◌, ◌++◌, ℕ, List, [], Option, Some, MatchOption, codes}
-use Rattle.std.specs.Prelude.{string_bytes, unwrap_or, if◌then◌else◌}
+use Rattle.std.specs.Prelude.{◌≡◌, ◌++◌, ℕ, List, [], Option, Some, MatchOption, codes, string_bytes, unwrap_or, if◌then◌else◌}
 use Rattle.std.specs.Str.{IsUtf8}
 use Rattle.hack_files.specs.Files.{Contents, KeepsAll, KeepsOthers}
 use Rattle.hack_base.specs.Counters.{GrowsBy}

@@ -86,10 +86,6 @@ module _ (outcomes : List RunOutcome) (n t : ℕ) (row : List Bool) where
   finds-not : (pattern : List Setting) → IsShown false outcomes pattern → IsSuspect outcomes n t (pattern ++ []) → ⊥
   finds-not pattern passed suspect = suspect.suspicious.passed (subst (IsShown false outcomes) (sym (append-nil pattern)) passed)
 
-  pub finds-none : (pattern : List Setting) (first more : ℕ) (found : List (List Setting)) → IsShown false outcomes pattern → more ≡ 0 → FindsFrom outcomes n t row pattern first more found
-  finds-none pattern first more found passed is [] rises few shows suspect = absurd (finds-not pattern passed suspect)
-  finds-none pattern first more found passed is (x ∷ rest) rises few shows suspect = absurd (omega arith)
-
   -- each suspect that continues the pattern continues it with one more setting
   pub finds-all : (pattern : List Setting) (first limit more : ℕ) (found : List (List Setting)) → IsShown false outcomes pattern
       → ((x : Setting) → first ≤ x.candidate → x.candidate < limit → slice_get row x.candidate ≡ Some x.on → FindsFrom outcomes n t row (pattern ++ x ∷ []) (x.candidate + 1) (more - 1) found)

@@ -1,6 +1,6 @@
 //! How many selections there are of a few of the candidates.
 
-ghost use Rattle.std.specs.Prelude.{◌≡◌, ◌+◌, ◌-◌, ◌^◌, ℕ, suc, length, min, IfOk};
+ghost use Rattle.std.specs.Prelude.{◌≡◌, ◌+◌, ◌-◌, ◌^◌, ℕ, length, min, IfOk};
 ghost use Rattle.hack_suspects.specs.Suspects.{choices};
 ghost use Rattle.hack_suspects.specs.InternalWalks.{CountsChoices};
 

@@ -1,9 +1,8 @@
 //! Which small patterns explain the failed runs of a package: those that some failed run shows and
 //! no passed run, and that have no smaller part of this kind.
 
-ghost use Rattle.std.specs.Prelude.{◌≡◌, ◌<◌, ◌≤◌, ◌+◌, ◌*◌, ◌++◌, ◌∷◌, ◌-◌, ◌^◌, ℕ, []};
-ghost use Rattle.std.specs.Prelude.{false, min};
-ghost use Rattle.std.specs.Prelude.{length, remove, IfOk, IfErr, OnOk, MatchBool};
+ghost use Rattle.std.specs.Prelude.{◌≡◌, ◌<◌, ◌≤◌, ◌+◌, ◌*◌, ◌++◌, ◌∷◌, ◌-◌, ◌^◌, ℕ, [], false};
+ghost use Rattle.std.specs.Prelude.{min, length, remove, IfOk, IfErr, OnOk, MatchBool};
 ghost use Rattle.hack_samples.specs.Sets.{rows_of};
 ghost use Rattle.hack_suspects.specs.Suspects.{outcomes_of, choices, IsShown, Rises};
 ghost use Rattle.hack_samples.specs.Samples.{RowShows};

@@ -3,7 +3,7 @@
 use crate::answers::{Found, joined, word};
 use crate::table::Group;
 use hack_features::Feature;
-use hack_metadata::metadata::{Metadata, MetadataFault, Package, RulesTable, object_of};
+use hack_metadata::metadata::{Metadata, MetadataFault, RulesTable, object_of};
 use std::alloc::{AllocError, Global};
 
 /// `rules`: what the rules of the first argument, `package` or `workspace`, are where the second is

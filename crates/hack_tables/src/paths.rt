@@ -3,7 +3,7 @@
 use crate::answers::{Found, word};
 use crate::table::Group;
 use hack_base::paths::{join, normal, parent, stem, under};
-use std::alloc::{AllocError, Global};
+use std::alloc::Global;
 
 /// `stem`, `parent`, `normal` of a path; `under` of a path and a folder; `join` of a folder and a
 /// path.

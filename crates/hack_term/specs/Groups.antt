@@ -1,6 +1,5 @@
 -- Groups of lines in a log.
-use Rattle.std.specs.Prelude.{◌≡◌, ℕ, List, [], codes, bytes_eq, string_bytes, if◌then◌else◌}
-use Rattle.std.specs.Prelude.{Option, Some, None as Nothing}
+use Rattle.std.specs.Prelude.{◌≡◌, ℕ, List, [], codes, bytes_eq, string_bytes, if◌then◌else◌, Option, Some, None as Nothing}
 use Rattle.hack_base.specs.Writes.{line}
 use Rattle.hack_term.specs.Lines.{info_line}
 use Rattle.hack_term.specs.declared.term.Coloring.{Coloring}

@@ -1,6 +1,5 @@
 -- The lines that are printed for a user.
-use Rattle.std.specs.Prelude.{◌≡◌, ◌≤◌, ◌↔◌, ◌⊎◌, ℕ, Bool, IsTrue, List, [], ◌∷◌, ◌++◌, codes, bytes_eq, true}
-use Rattle.std.specs.Prelude.{Option, Some, None, if◌then◌else◌}
+use Rattle.std.specs.Prelude.{◌≡◌, ◌≤◌, ◌↔◌, ◌⊎◌, ℕ, Bool, IsTrue, List, [], ◌∷◌, ◌++◌, codes, bytes_eq, true, Option, Some, None, if◌then◌else◌}
 use Rattle.hack_base.specs.declared.notice.NoticeKind.{NoticeKind}
 use Rattle.hack_base.specs.declared.notice.NoticeKind.TheVariants.{Info, Warn, QuietWarn}
 use Rattle.hack_base.specs.Writes.{line}

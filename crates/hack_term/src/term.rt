@@ -4,15 +4,13 @@
 //! counts its failures shows that an error comes only with one: where it never fails, lines are
 //! written.
 
-ghost use Rattle.std.specs.Prelude.{◌≡◌, IfSome, IfNone, OnOk, true, false};
-ghost use Rattle.std.specs.Prelude.{string_bytes};
+ghost use Rattle.std.specs.Prelude.{◌≡◌, IfSome, IfNone, OnOk, true, false, string_bytes};
 ghost use Rattle.std.specs.Io.KnownBytes.{Appends};
 ghost use Rattle.hack_base.specs.Writes.{AppendsFront, CountsErrors};
-ghost use Rattle.hack_term.specs.Lines.{coloring_name, IsNoColoring, coloring_of};
-ghost use Rattle.hack_term.specs.Lines.{info_label as label_of_info};
-ghost use Rattle.hack_term.specs.Lines.{warning_label as label_of_warnings};
-ghost use Rattle.hack_term.specs.Lines.{error_label as label_of_errors, info_line, warning_line};
-ghost use Rattle.hack_term.specs.Lines.{error_line, notice_line, after_notice, IsExitStatus};
+ghost use Rattle.hack_term.specs.Lines.{coloring_name, warning_label as label_of_warnings};
+ghost use Rattle.hack_term.specs.Lines.{IsNoColoring, error_label as label_of_errors, warning_line};
+ghost use Rattle.hack_term.specs.Lines.{coloring_of, info_line, error_line, notice_line};
+ghost use Rattle.hack_term.specs.Lines.{info_label as label_of_info, after_notice, IsExitStatus};
 
 pub use crate::log_group::{LogGroup, LogGroupFault, LogGroupGuard};
 pub use hack_base::notice::{Notice, NoticeKind};

@@ -12,8 +12,7 @@ use Rattle.hack_versions.specs.declared.version.VersionFault.TheVariants as faul
 use Rattle.hack_base.specs.Numbers.{IsNumber}
 use Rattle.hack_versions.specs.VersionTexts.{IsBadNumber, HasVersionNumbers, LacksVersionNumber, IsVersionFault, IsCut, IsUncut, IsBare, IsBoundText, IsBoundFault, IsEndText, IsOpen, IsEndTextFault, IsRangeText, IsRangeTextFault}
 use Rattle.hack_base.specs.Cuts.{front_of, rest_of}
-use Rattle.hack_versions.specs.Readings.{BadRange, BadNumber, OpenInclusive, IsRefusedBy, bad_range_of}
-use Rattle.hack_versions.specs.Readings.{Sides, then_read, read_as, version_part_of, with_minor, version_of, bound_of, behind_equals, end_of, is_old, at_dots, range_at, range_of}
+use Rattle.hack_versions.specs.Readings.{BadRange, BadNumber, OpenInclusive, IsRefusedBy, bad_range_of, Sides, then_read, read_as, version_part_of, with_minor, version_of, bound_of, behind_equals, end_of, is_old, at_dots, range_at, range_of}
 use Rattle.std.specs.Option.{ok_or, option_map_or, option_transpose}
 use Rattle.hack_base.proofs.NumberLemmas.{number-read, number-unread}
 

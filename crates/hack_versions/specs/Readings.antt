@@ -1,7 +1,5 @@
 -- How texts are read as versions and as ranges of versions.
-use Rattle.std.specs.Prelude.{◌≡◌, ℕ, ◌==◌, List, [], ◌∷◌, Bool, false, not, if◌then◌else◌}
-use Rattle.std.specs.Prelude.{Option, Some, None, Result, Ok, Err, MatchOption, option_map, unwrap_or, ok_or}
-use Rattle.std.specs.Prelude.{codes, drop, nat_eq, string_bytes}
+use Rattle.std.specs.Prelude.{◌≡◌, ℕ, ◌==◌, List, [], ◌∷◌, Bool, false, not, if◌then◌else◌, Option, Some, None, Result, Ok, Err, MatchOption, option_map, unwrap_or, ok_or, codes, drop, nat_eq, string_bytes}
 use Rattle.std.specs.Option.{option_transpose}
 use Rattle.std.specs.Result.{result_map_both, result_flatten}
 use Rattle.std.specs.List.{starts_with}
@@ -9,8 +7,7 @@ use Rattle.hack_base.specs.Numbers.{number_of}
 use Rattle.hack_base.specs.Cuts.{front_of, rest_of}
 use Rattle.hack_versions.specs.declared.version.Version.{Version}
 use Rattle.hack_versions.specs.declared.version.MaybeVersion.{MaybeVersion}
-use Rattle.hack_versions.specs.declared.version.MaybeVersion.TheVariants.{Version as Given}
-use Rattle.hack_versions.specs.declared.version.MaybeVersion.TheVariants.{Msrv, Stable}
+use Rattle.hack_versions.specs.declared.version.MaybeVersion.TheVariants.{Version as Given, Msrv, Stable}
 use Rattle.hack_versions.specs.declared.version.VersionRange.{VersionRange}
 use Rattle.hack_versions.specs.declared.version.VersionFault.{VersionFault}
 use Rattle.hack_versions.specs.declared.version.VersionFault.TheVariants as fault

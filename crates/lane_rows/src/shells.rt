@@ -4,7 +4,7 @@ use hack_base::copies::copies;
 use hack_process::process::Called;
 use hack_starts::starts::{Lane, Starts};
 use std::alloc::{AllocError, Global};
-use std::{io, str};
+use std::str;
 
 /// Runs scripts by a starter.
 #[derive(Drop)]

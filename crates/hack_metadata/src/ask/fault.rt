@@ -1,6 +1,5 @@
 //! Why asking cargo for the metadata of a workspace failed.
 
-use crate::metadata::fault::MetadataFault;
 use hack_files::fs::FsFault;
 use hack_process::process::ProcessFault;
 use std::alloc::{AllocError, AllocFailed};

@@ -1,7 +1,7 @@
 //! The lockfile, which is kept while stable's cargo runs.
 
-ghost use Rattle.std.specs.Prelude.{◌≡◌, ◌↔◌, ◌++◌, ◌∷◌, [], List, ℕ, Some, IfOk, IfErr, OnOk};
-ghost use Rattle.std.specs.Prelude.{OnErr, IsOk, IsTrue, IsSome};
+ghost use Rattle.std.specs.Prelude.{◌≡◌, ◌↔◌, ◌++◌, ◌∷◌, [], List, IfOk, IfErr, OnOk, OnErr, IsOk};
+ghost use Rattle.std.specs.Prelude.{IsTrue, IsSome};
 ghost use Rattle.hack_files.specs.Files.{KeepsAll, Makes, MakesOrNot, refused_path};
 ghost use Rattle.hack_files.specs.Restore.{Kept, registered_files, write_of};
 ghost use Rattle.hack_metadata.specs.FailedQuestions.{FailsOnlyAt};

@@ -1,16 +1,15 @@
 //! JSON objects, whose fields are taken out one after another. The error names the first one that
 //! is missing or has the wrong type.
 
-ghost use Rattle.std.specs.Prelude.{◌≡◌, ◌≢◌, ◌⊎◌, List, Some, None, Err};
-ghost use Rattle.std.specs.Prelude.{IfOk, IfErr, option_map, string_bytes};
+ghost use Rattle.std.specs.Prelude.{◌≡◌, ◌≢◌, ◌⊎◌, Some, None, Err, IfOk, IfErr, option_map};
+ghost use Rattle.std.specs.Prelude.{string_bytes};
 ghost use Rattle.serde_json.specs.Data.{Members};
 ghost use Rattle.serde_json.specs.Find.{get_member, as_object};
 ghost use Rattle.serde_json.specs.View.{view, items_view, members_view};
 ghost use Rattle.hack_base.specs.Names.{optional_text};
-ghost use Rattle.hack_metadata.specs.Fields.{string_in, bool_in, array_in, object_in};
-ghost use Rattle.hack_metadata.specs.Fields.{nullable_in, optional_text_in, text_at};
+ghost use Rattle.hack_metadata.specs.Fields.{string_in, bool_in, array_in, object_in, nullable_in};
+ghost use Rattle.hack_metadata.specs.Fields.{optional_text_in, text_at, object_in_text};
 ghost use Rattle.std.specs.Option.{ok_or};
-ghost use Rattle.hack_metadata.specs.Fields.{object_in_text};
 ghost use Rattle.hack_metadata.specs.FieldResults.{KeepsOtherFields, ReturnsField};
 
 use crate::metadata::fault::MetadataFault;

@@ -4,16 +4,15 @@ ghost use Rattle.std.specs.Prelude.{◌≡◌, ◌<◌, ◌↔◌, [], Ok, codes
 ghost use Rattle.std.specs.declared.cmp.Ordering.{Ordering};
 ghost use Rattle.std.specs.declared.cmp.Ordering.TheVariants.{Less, Equal, Greater};
 ghost use Rattle.std.specs.Option.{ok_or};
-ghost use Rattle.hack_metadata.specs.RecordViews.{place_bytes};
+ghost use Rattle.hack_metadata.specs.RecordViews.{place_bytes, place_at, kind_view, node_dep_view};
+ghost use Rattle.hack_metadata.specs.RecordViews.{node_view, nodes_view};
 ghost use Rattle.serde_json.specs.View.{view, items_view, members_view};
 ghost use Rattle.hack_metadata.specs.Fields.{read_all, array_in};
 ghost use Rattle.hack_base.specs.FieldReadings.{◌>>=◌ as ◌≫=◌};
 ghost use Rattle.hack_metadata.specs.FieldResults.{ReturnsField};
 ghost use Rattle.hack_metadata.specs.MetadataReading.{read_from, read_kind, read_node_dep};
 ghost use Rattle.hack_metadata.specs.MetadataReading.{read_node, with_nodes, read_resolve};
-ghost use Rattle.hack_metadata.specs.RecordViews.{place_at, kind_view, node_dep_view};
 ghost use Rattle.hack_metadata.specs.Internal.{place_in};
-ghost use Rattle.hack_metadata.specs.RecordViews.{node_view, nodes_view};
 
 use crate::metadata::fault::MetadataFault;
 use crate::metadata::object::{Object, ObjectExt, element, remove_text};

@@ -1,8 +1,7 @@
 //! The rules that a package's own manifest has: the table `cargo-hack` in its `metadata`. Others
 //! keep their settings beside it, so where there is no such table there are no rules.
 
-ghost use Rattle.std.specs.Prelude.{◌≡◌, IfOk, [], None, codes, false, length, nat_le};
-ghost use Rattle.std.specs.Prelude.{option_map};
+ghost use Rattle.std.specs.Prelude.{◌≡◌, IfOk, [], None, codes, false, length, nat_le, option_map};
 ghost use Rattle.std.specs.Bool.{then_some};
 ghost use Rattle.serde_json.specs.Find.{as_bool};
 ghost use Rattle.serde_json.specs.View.{view, items_view, members_view};
@@ -12,12 +11,10 @@ ghost use Rattle.hack_metadata.specs.FieldResults.{KeepsOtherFields};
 ghost use Rattle.hack_metadata.specs.Internal.{ReturnsKey};
 ghost use Rattle.hack_metadata.specs.RecordViews.{limits_view, rules_view, rules_reading};
 ghost use Rattle.hack_metadata.specs.Records.{no_rules};
-ghost use Rattle.hack_metadata.specs.RuleTables.{filled_names, group_from, groups_from};
-ghost use Rattle.hack_metadata.specs.RuleTables.{groups_of_items};
-ghost use Rattle.hack_metadata.specs.RuleTables.{is_rule_key, key_in, names_from, number_from};
-ghost use Rattle.hack_metadata.specs.RuleTables.{optional_from, other_key, read_known};
-ghost use Rattle.hack_metadata.specs.RuleTables.{read_limits, read_rules, read_table, rules_in};
-ghost use Rattle.hack_metadata.specs.RuleTables.{table_in};
+ghost use Rattle.hack_metadata.specs.RuleTables.{filled_names, groups_of_items, optional_from};
+ghost use Rattle.hack_metadata.specs.RuleTables.{group_from, groups_from, is_rule_key, number_from};
+ghost use Rattle.hack_metadata.specs.RuleTables.{key_in, other_key, read_table, rules_in, table_in};
+ghost use Rattle.hack_metadata.specs.RuleTables.{names_from, read_known, read_limits, read_rules};
 
 use crate::metadata::object::{Object, find, into_object, take};
 use crate::metadata::package::{texts_from, texts_in};

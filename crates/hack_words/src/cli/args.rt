@@ -2,7 +2,7 @@
 
 ghost use Rattle.std.specs.Prelude.{◌≡◌, ◌++◌, ◌||◌, IfErr, IfOk, OnOk, codes, map, string_bytes};
 ghost use Rattle.std.specs.List.{repeat};
-ghost use Rattle.hack_base.specs.Names.{names_of, optional_text_ref, optional_text};
+ghost use Rattle.hack_base.specs.Names.{names_of};
 ghost use Rattle.hack_base.specs.Notes.{note_of};
 ghost use Rattle.hack_rules.specs.PassedWords.{leading_of};
 ghost use Rattle.hack_rules.specs.Uses.{is_given, views};

@@ -2,12 +2,10 @@
 
 ghost use Rattle.std.specs.Prelude.{◌≡◌, ◌++◌, IfOk, OnOk, codes, string_bytes};
 ghost use Rattle.hack_base.specs.Names.{optional_text_ref};
-ghost use Rattle.hack_base.specs.Notes.{AddsNotes};
-ghost use Rattle.hack_base.specs.Notes.{note_if};
-ghost use Rattle.hack_words.specs.CommandLine.{editing_notes, editing_words, old_notes, old_words};
-ghost use Rattle.hack_words.specs.CommandLine.{rustup_notes, rustup_words, unknown_words};
-ghost use Rattle.hack_words.specs.CommandLine.{editing_options as options_that_edit};
-ghost use Rattle.hack_words.specs.CommandLine.{new_form as newer_form};
+ghost use Rattle.hack_base.specs.Notes.{AddsNotes, note_if};
+ghost use Rattle.hack_words.specs.CommandLine.{editing_notes, editing_options as options_that_edit};
+ghost use Rattle.hack_words.specs.CommandLine.{editing_words, rustup_notes, new_form as newer_form};
+ghost use Rattle.hack_words.specs.CommandLine.{old_notes, old_words, rustup_words, unknown_words};
 ghost use Rattle.hack_words.specs.RustupView.{unknown_of};
 
 use hack_base::notice::{Notice, NoticeKind, tell};

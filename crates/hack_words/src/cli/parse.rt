@@ -1,22 +1,17 @@
 //! A command line into arguments, or the first error.
 
-ghost use Rattle.std.specs.Prelude.{◌≡◌, ◌++◌, ◌&&◌, IfOk, IfErr, MatchOption, map};
-ghost use Rattle.std.specs.Prelude.{string_bytes};
+ghost use Rattle.std.specs.Prelude.{◌≡◌, ◌++◌, ◌&&◌, IfOk, IfErr, MatchOption, map, string_bytes};
 ghost use Rattle.hack_base.specs.Names.{names_of};
 ghost use Rattle.hack_rules.specs.PassedWords.{leading_of};
 ghost use Rattle.hack_rules.specs.Rules.{counts, has_beside};
 ghost use Rattle.hack_rules.specs.Uses.{is_given, views};
 ghost use Rattle.hack_rules.specs.Values.{value_given};
 ghost use Rattle.hack_base.specs.Notes.{note_of};
-ghost use Rattle.hack_words.specs.ParseAnswers.{IsText};
-ghost use Rattle.hack_words.specs.Internal.{Judges, IsJudged, IsPrinted};
-ghost use Rattle.hack_words.specs.ParseAnswers.{AnswersCommandLine};
-ghost use Rattle.hack_words.specs.ParseAnswers.{Refuses};
-ghost use Rattle.hack_words.specs.Internal.{GivesCuts, around_in};
+ghost use Rattle.hack_words.specs.ParseAnswers.{IsText, AnswersCommandLine, Refuses};
+ghost use Rattle.hack_words.specs.Internal.{Judges, IsJudged, IsPrinted, GivesCuts, around_in};
 ghost use Rattle.hack_rules.specs.AskedFields.{is_old_asked};
-ghost use Rattle.hack_words.specs.CommandLine.{ComesFrom, ComesTo, Faulty, outcome_of};
-ghost use Rattle.hack_words.specs.CommandLine.{editing_notes, old_notes, rustup_notes};
-ghost use Rattle.hack_words.specs.CommandLine.{unknown_notes};
+ghost use Rattle.hack_words.specs.CommandLine.{ComesFrom, Faulty, outcome_of, old_notes};
+ghost use Rattle.hack_words.specs.CommandLine.{ComesTo, editing_notes, rustup_notes, unknown_notes};
 ghost use Rattle.hack_rules.specs.CliFaults.{fault_of};
 ghost use Rattle.hack_rules.specs.ListsView.{AreListsOf};
 ghost use Rattle.hack_words.specs.StartView.{start_in};

@@ -1,6 +1,6 @@
 //! The start of a command line, before options are parsed.
 
-ghost use Rattle.std.specs.Prelude.{◌≡◌, ◌||◌, IfOk, codes, nat_eq, bytes_eq};
+ghost use Rattle.std.specs.Prelude.{◌≡◌, ◌||◌, codes, nat_eq, bytes_eq};
 ghost use Rattle.std.specs.List.{starts_with};
 ghost use Rattle.hack_base.specs.Names.{names_of};
 ghost use Rattle.hack_words.specs.Start.{front_words, trailing_words, is_behavior as behavior};

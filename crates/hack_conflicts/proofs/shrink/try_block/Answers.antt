@@ -24,7 +24,6 @@ returns-clause-failing g c =
 
 pub returns-clause-lacks : goal.returns-clause-lacks
 returns-clause-lacks g c =
-    let u : List Bool = c.in_ok-smaller.smaller.items in
     if_some c.in_ok-left.left (λ less. IsWithin less.items c.as_slice.result.now) (λ less. (x : ℕ) → c.args.from ≤ x → x < c.args.to → ¬ Has less.items x)
     (λ less w x from to has. c.in_ok-smaller.ensures.lacks x from to (subst (λ v. Has v x) c.as_slice.ensures.value (w x has))) c.in_ok-left.ensures.within
 
@@ -38,7 +37,6 @@ returns-clause-needs g c =
     let r = c.args.rules.now in
     let s : List Bool = c.args.set.now in
     let v : List Bool = c.as_slice.result.now in
-    let u : List Bool = c.in_ok-smaller.smaller.items in
     let m = c.try_inside.new.known in
     if_none c.in_ok-left.left ((x : List Bool) → IsChoice r x → IsWithin x v → IsPassed (told m) x) (c.args.from + 1 ≡ c.args.to → Has s c.args.from → Needs r (told m) s c.args.from)
     (λ passed one member x choice inside lacks. passed x choice (subst (IsWithin x) (sym c.as_slice.ensures.value)

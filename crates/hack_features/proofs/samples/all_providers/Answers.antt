@@ -1,7 +1,6 @@
 use Rattle.std.proofs.Common.{◌∙◌, ◌∷◌, [], List, ℕ, map, ap}
 use Rattle.std.proofs.lemmas.List.{map-append}
-use Rattle.hack_samples.specs.Sets.{tables_of}
-use Rattle.hack_samples.specs.Sets.{rows_of}
+use Rattle.hack_samples.specs.Sets.{tables_of, rows_of}
 use Rattle.hack_features.specs.InternalSamples.{providers_of}
 use Rattle.hack_features.proofs.MemberLemmas.{step-map, rows-next}
 use Rattle.hack_features.proofs.samples.all_providers.Goals as goal

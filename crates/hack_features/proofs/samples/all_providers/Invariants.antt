@@ -1,6 +1,5 @@
 use Rattle.std.proofs.Common.{◌≡◌, take, map}
-use Rattle.hack_samples.specs.Sets.{tables_of}
-use Rattle.hack_samples.specs.Sets.{rows_of}
+use Rattle.hack_samples.specs.Sets.{tables_of, rows_of}
 use Rattle.hack_features.specs.InternalSamples.{providers_of}
 use Rattle.hack_features.proofs.samples.all_providers.Given as goal
 

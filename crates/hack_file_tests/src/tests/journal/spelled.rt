@@ -5,7 +5,7 @@
 //! of the text, and the length of each prefix that isn't refused as no journal.
 
 use crate::tests::journal::on;
-use crate::tests::text::{plain, push_shown, shown};
+use crate::tests::text::{plain, shown};
 use hack_holds::Wrong;
 use hack_journal::journal::{Entry, JournalFault, read_back, spell};
 use std::alloc::{AllocError, Global};

@@ -1,8 +1,7 @@
-use Rattle.std.proofs.Common.{◌≡◌, ap, sym, ◌∙◌, cond, rules}
+use Rattle.std.proofs.Common.{◌≡◌, ap, sym, ◌∙◌, cond, rules, take}
 use Rattle.std.specs.Str.{bytes_eq}
 use Rattle.std.specs.Option.{option_map}
 use Rattle.hack_files.specs.Memory.{change_of, held_after}
-use Rattle.std.proofs.Common.{take}
 use Rattle.std.specs.Prelude.{string_bytes}
 use Rattle.hack_files.proofs.FilesLemmas.{held_more}
 use Rattle.hack_files.proofs.memory.held_at.Goals as goal

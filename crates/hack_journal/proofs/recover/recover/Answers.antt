@@ -135,7 +135,6 @@ returns-clause-still g c = λ tells whole none. absurd (false≢true (subst IsSo
 
 pub returns-clause-spared : goal.returns-clause-spared
 returns-clause-spared g c =
-    let s = spot_of c.args.place.now in
     let row = c.in-Some.row in
     let es = edits_of row.entries.items in
     let bytes = g.F.Files.bytes_at in

@@ -1,7 +1,6 @@
-use Rattle.std.specs.List.{AllZip}
+use Rattle.std.specs.List.{AllZip, flat_map}
 use Rattle.hack_features.specs.Feature.{IsPath}
 use Rattle.std.proofs.Common.{map, take}
-use Rattle.std.specs.List.{flat_map}
 use Rattle.hack_load.specs.Candidates.{node_paths}
 use Rattle.hack_metadata.specs.RecordViews.{dependency_view, node_dep_view, package_view}
 use Rattle.hack_load.proofs.features.deps_paths.Given as goal

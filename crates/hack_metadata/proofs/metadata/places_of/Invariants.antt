@@ -1,7 +1,6 @@
 use Rattle.std.proofs.Common.{◌≡◌, take}
-use Rattle.hack_metadata.proofs.IdLemmas.{place_from}
+use Rattle.hack_metadata.proofs.IdLemmas.{place_from, ids_in}
 use Rattle.hack_metadata.specs.Internal.{place_in}
-use Rattle.hack_metadata.proofs.IdLemmas.{ids_in}
 use Rattle.hack_metadata.proofs.metadata.places_of.Given as goal
 
 -- the map has the ids of the packages so far

@@ -1,4 +1,4 @@
-use Rattle.std.proofs.Common.{◌≡◌, ◌<◌, ◌-◌, arith, length, sym, ◌∙◌}
+use Rattle.std.proofs.Common.{◌≡◌, ◌<◌, ◌-◌, arith, length}
 use Rattle.hack_msrv.proofs.SearchLemmas.{found-version}
 use Rattle.hack_msrv.proofs.package.find_version.Goals as goal
 

@@ -1,4 +1,4 @@
-use Rattle.std.proofs.Common.{◌≡◌, ◌≢◌, ◌+◌, ◌++◌, ◌∷◌, [], ℕ, List, length, arith, ap, inl, rules, refl, subst, sym, ◌∙◌}
+use Rattle.std.proofs.Common.{◌≡◌, ◌≢◌, ◌+◌, ◌++◌, ◌∷◌, [], ℕ, List, length, arith, ap, inl, rules, subst, sym, ◌∙◌}
 use Rattle.hack_msrv.specs.Internal.{AreSearched}
 use Rattle.hack_msrv.specs.Searches.{AreUnbroken}
 use Rattle.hack_msrv.specs.declared.found.Found.{Found}

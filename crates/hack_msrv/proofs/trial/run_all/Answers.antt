@@ -1,9 +1,9 @@
-use Rattle.std.proofs.Common.{◌≡◌, ◌-◌, List, [], ◌∷◌, ◌++◌, arith, filter, map, sym, subst}
+use Rattle.std.proofs.Common.{◌-◌, List, ◌++◌, arith, filter, map, sym, subst}
 use Rattle.std.specs.List.{range_with_len}
 use Rattle.hack_session.specs.Histories.{passed_step}
 use Rattle.hack_session.specs.declared.step.Handed.{Handed}
 use Rattle.hack_session.specs.declared.step.Step.TheVariants.{Run}
-use Rattle.hack_msrv.specs.Trials.{StopsAt, failed_step, is_of, places_of}
+use Rattle.hack_msrv.specs.Trials.{StopsAt, is_of, places_of}
 use Rattle.hack_msrv.proofs.TrialLemmas.{came-by, fails-at, runs-more}
 use Rattle.hack_msrv.proofs.trial.run_all.Goals as goal
 

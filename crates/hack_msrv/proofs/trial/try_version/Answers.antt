@@ -3,8 +3,8 @@ use Rattle.hack_plan.specs.declared.parts.Preparation.{Preparation}
 use Rattle.hack_session.specs.Histories.{passed_step}
 use Rattle.hack_session.specs.declared.step.Handed.{Handed}
 use Rattle.hack_session.specs.declared.step.Step.TheVariants.{Prepare, Run}
-use Rattle.hack_msrv.specs.Trials.{ComesTo, StopsAt, places_of, trial_steps}
-use Rattle.hack_msrv.proofs.TrialLemmas.{comes-behind, unprepared}
+use Rattle.hack_msrv.specs.Trials.{ComesTo, places_of, trial_steps}
+use Rattle.hack_msrv.proofs.TrialLemmas.{comes-behind}
 use Rattle.hack_msrv.proofs.trial.try_version.Goals as goal
 
 pub returns : goal.returns

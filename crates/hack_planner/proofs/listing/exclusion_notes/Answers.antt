@@ -1,10 +1,9 @@
 use Rattle.std.proofs.Common.{◌≡◌, ◌≤◌, ◌∙◌, ◌++◌, [], ◌∷◌, true, false, length, sym, ap, subst, map, string_bytes, arith}
 use Rattle.std.proofs.lemmas.List.{map-append}
 use Rattle.hack_base.specs.Names.{Name}
-use Rattle.hack_base.specs.Notes.{note_of}
+use Rattle.hack_base.specs.Notes.{note_of, warning_note}
 use Rattle.hack_planner.specs.Texts.{exclusion_text}
 use Rattle.hack_planner.specs.Members.{Collects, ends, MatchesSome}
-use Rattle.hack_base.specs.Notes.{warning_note}
 use Rattle.hack_planner.specs.MembersView.{member_view}
 use Rattle.hack_planner.proofs.Growth.{collects-taken, collects-left, collects-all}
 use Rattle.hack_planner.proofs.listing.exclusion_notes.Goals as goal

@@ -1,9 +1,8 @@
 use Rattle.std.proofs.Common.{take, map}
 use Rattle.hack_base.specs.Names.{names_of}
-use Rattle.hack_base.specs.Notes.{note_of}
+use Rattle.hack_base.specs.Notes.{note_of, warning_note}
 use Rattle.hack_planner.specs.Texts.{exclusion_text}
 use Rattle.hack_planner.specs.Members.{Collects, MatchesSome}
-use Rattle.hack_base.specs.Notes.{warning_note}
 use Rattle.hack_planner.specs.MembersView.{member_view}
 use Rattle.hack_planner.proofs.listing.exclusion_notes.Given as goal
 

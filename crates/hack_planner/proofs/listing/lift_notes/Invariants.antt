@@ -1,9 +1,8 @@
 use Rattle.std.proofs.Common.{◌≡◌, take, map, not, string_bytes}
 use Rattle.std.specs.Prelude.{filter}
-use Rattle.hack_base.specs.Notes.{note_of}
+use Rattle.hack_base.specs.Notes.{note_of, warning_note}
 use Rattle.hack_planner.specs.Texts.{lift_text}
 use Rattle.hack_planner.specs.Members.{is_called}
-use Rattle.hack_base.specs.Notes.{warning_note}
 use Rattle.hack_planner.specs.MembersView.{member_view}
 use Rattle.hack_planner.proofs.listing.lift_notes.Given as goal
 

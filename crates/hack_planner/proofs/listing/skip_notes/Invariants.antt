@@ -1,9 +1,8 @@
 use Rattle.std.proofs.Common.{◌≡◌, take, map}
 use Rattle.std.specs.Prelude.{filter, ◌&&◌}
-use Rattle.hack_base.specs.Notes.{note_of}
+use Rattle.hack_base.specs.Notes.{note_of, info_note}
 use Rattle.hack_planner.specs.Texts.{private_text}
 use Rattle.hack_planner.specs.Members.{Member}
-use Rattle.hack_base.specs.Notes.{info_note}
 use Rattle.hack_planner.specs.MembersView.{member_view}
 use Rattle.hack_planner.proofs.listing.skip_notes.Given as goal
 

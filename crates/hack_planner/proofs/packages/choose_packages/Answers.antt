@@ -4,11 +4,10 @@ use Rattle.std.specs.declared.string.String.{String}
 use Rattle.std.specs.declared.alloc.Global.{Global}
 use Rattle.hack_base.specs.Names.{Name, names_of}
 use Rattle.hack_features.specs.declared.feature.Feature.{Feature}
-use Rattle.hack_base.specs.Notes.{note_of}
+use Rattle.hack_base.specs.Notes.{note_of, warning_note, info_note}
 use Rattle.hack_planner.specs.Texts.{exclusion_text, lift_text, private_text}
 use Rattle.hack_words.specs.declared.cli.args.Args.{Args}
 use Rattle.hack_planner.specs.Members.{SelectsMembers, Collects, IsMatched, MatchesSome, is_called, is_skipped}
-use Rattle.hack_base.specs.Notes.{warning_note, info_note}
 use Rattle.hack_planner.specs.Members as plain
 use Rattle.hack_planner.specs.MembersView.{member_view}
 use Rattle.hack_planner.proofs.PackageLemmas.{three-lists}

@@ -41,7 +41,6 @@ pub chosen_packages-requires-clause-members : goal.chosen_packages-requires-clau
 chosen_packages-requires-clause-members c =
     let cx = context_view c.args.cx.now in
     let ids = c.in_ok-list.list.ids.items in
-    let input = c.in_ok-input.input in
     let chosen = c.as_slice-chosen.result.now in
     let same = ap (map id_of) c.as_slice-chosen.ensures.value ∙ c.in_ok-uses.ensures.same ∙ ap (map place_at) c.as_slice-ids.ensures.value in
     all-chosen (Contains cx.metadata.workspace_members) chosen ids same c.in_ok-list.ensures.members

@@ -2,10 +2,9 @@ use Rattle.std.proofs.Common.{◌≡◌, ◌∙◌, List, [], Bool, Result, Glob
 use Rattle.std.proofs.lemmas.Result.{IfOk-weaker}
 use Rattle.std.specs.Prelude.{filter}
 use Rattle.hack_base.specs.Names.{Name, names_of}
-use Rattle.hack_base.specs.Notes.{Note}
+use Rattle.hack_base.specs.Notes.{Note, warning_note}
 use Rattle.hack_metadata.specs.RecordViews.{package_view, rules_reading}
 use Rattle.hack_metadata.specs.declared.metadata.rules.RulesTable.{RulesTable}
-use Rattle.hack_base.specs.Notes.{warning_note}
 use Rattle.hack_planner.specs.RulesFor.{may_have, own_table_notes, table_notes}
 use Rattle.hack_planner.specs.Texts.{table_text}
 use Rattle.hack_planner.proofs.tables.table_notes.Goals as goal

@@ -1,9 +1,8 @@
 use Rattle.std.proofs.Common.{◌≡◌, map, take, not}
 use Rattle.std.specs.Prelude.{filter}
 use Rattle.hack_base.specs.Names.{names_of}
-use Rattle.hack_base.specs.Notes.{note_of}
+use Rattle.hack_base.specs.Notes.{note_of, warning_note}
 use Rattle.hack_planner.specs.RulesFor.{may_have}
-use Rattle.hack_base.specs.Notes.{warning_note}
 use Rattle.hack_planner.specs.Texts.{table_text}
 use Rattle.hack_planner.proofs.tables.unknown_notes.Given as goal
 

@@ -29,8 +29,6 @@ returns-in_err-print_whole-clause-err g c =
     let sets : List (List ℕ) = listed_in r in
     let front : List (List ℕ) = c.requires.last.front in
     let page : List ℕ = string_bytes c.args.page.now in
-    let others : set_lines names (filter (is_other r last) (below (may_of r) (length c.args.lines.now.features.now) (set_in c.args.room.now))) ≡ set_lines names front =
-    text-others names r front last (length c.args.lines.now.features.now) (set_in c.args.room.now) (sym c.requires.size) c.requires.none c.requires.last.same in
     let all : List ℕ = set_lines names (with_last_first c.args.last_first sets) in
     let is : all ≡ run_line names (Set last) ++ set_lines names front = first-text names sets front last c.requires.last.same c.args.last_first c.if-last_first.true in
     on_err-any c.from_residual.result _

@@ -22,9 +22,6 @@ may_begin-requires g t c =
     let asked = c.requires in
     let r = c.args.rules.now in
     let n : ℕ = size_of r in
-    let may : List ℕ → Bool = may_of r in
-    let test : List ℕ → Bool = is_other r c.args.lines.now.last.now in
-    let names : List Name = map name_of c.args.lines.now.features.now in
     let s : List ℕ = set_in c.args.room.now in
     let p : ℕ = c.loop-p.p in
     let lt : p < c.args.end.limit = c.loop-p-test.true in
@@ -34,9 +31,7 @@ may_begin-requires g t c =
 
 pub loop-p-preserved-then-not-may_begin : goal.loop-p-preserved-then-not-may_begin
 loop-p-preserved-then-not-may_begin g t c =
-    let asked = c.requires in
     let r = c.args.rules.now in
-    let n : ℕ = size_of r in
     let may : List ℕ → Bool = may_of r in
     let test : List ℕ → Bool = is_other r c.args.lines.now.last.now in
     let names : List Name = map name_of c.args.lines.now.features.now in
@@ -60,9 +55,6 @@ put-requires g t c =
     let asked = c.requires in
     let r = c.args.rules.now in
     let n : ℕ = size_of r in
-    let may : List ℕ → Bool = may_of r in
-    let test : List ℕ → Bool = is_other r c.args.lines.now.last.now in
-    let names : List Name = map name_of c.args.lines.now.features.now in
     let s : List ℕ = set_in c.args.room.now in
     let p : ℕ = c.loop-p.p in
     let lt : p < c.args.end.limit = c.loop-p-test.true in
@@ -75,9 +67,6 @@ print_other-requires-clause-set g t c =
     let asked = c.requires in
     let r = c.args.rules.now in
     let n : ℕ = size_of r in
-    let may : List ℕ → Bool = may_of r in
-    let test : List ℕ → Bool = is_other r c.args.lines.now.last.now in
-    let names : List Name = map name_of c.args.lines.now.features.now in
     let s : List ℕ = set_in c.args.room.now in
     let p : ℕ = c.loop-p.p in
     let lt : p < c.args.end.limit = c.loop-p-test.true in
@@ -89,15 +78,12 @@ pub returns-in_err-print_other-clause-err : goal.returns-in_err-print_other-clau
 returns-in_err-print_other-clause-err g t c =
     let asked = c.requires in
     let r = c.args.rules.now in
-    let n : ℕ = size_of r in
     let may : List ℕ → Bool = may_of r in
     let test : List ℕ → Bool = is_other r c.args.lines.now.last.now in
     let names : List Name = map name_of c.args.lines.now.features.now in
     let s : List ℕ = set_in c.args.room.now in
     let p : ℕ = c.loop-p.p in
     let lt : p < c.args.end.limit = c.loop-p-test.true in
-    let selection : IsSelection n (p ∷ s) =
-    selection-front n p s (omega (arith, lt, asked.limit)) (above-front c.args.end.limit p s lt asked.above) asked.set in
     let permitted : may (p ∷ s) ≡ true =
     ap (λ l. may (p ∷ l)) (sym (c.set.ensures ∙ c.loop-p.invariant.kept)) ∙ sym (c.may_begin.ensures.answer ∙ ap (λ f. f (p ∷ c.set.result.now)) c.loop-p.invariant.same_may) ∙ c.if-not-may_begin.false in
     let stood : set_in c.put.new.self ≡ p ∷ s = c.put.ensures.set ∙ ap (λ l. p ∷ l) c.loop-p.invariant.kept in
@@ -116,15 +102,12 @@ pub returns-in_err-longer-clause-err : goal.returns-in_err-longer-clause-err
 returns-in_err-longer-clause-err g t c =
     let asked = c.requires in
     let r = c.args.rules.now in
-    let n : ℕ = size_of r in
     let may : List ℕ → Bool = may_of r in
     let test : List ℕ → Bool = is_other r c.args.lines.now.last.now in
     let names : List Name = map name_of c.args.lines.now.features.now in
     let s : List ℕ = set_in c.args.room.now in
     let p : ℕ = c.loop-p.p in
     let lt : p < c.args.end.limit = c.loop-p-test.true in
-    let selection : IsSelection n (p ∷ s) =
-    selection-front n p s (omega (arith, lt, asked.limit)) (above-front c.args.end.limit p s lt asked.above) asked.set in
     let permitted : may (p ∷ s) ≡ true =
     ap (λ l. may (p ∷ l)) (sym (c.set.ensures ∙ c.loop-p.invariant.kept)) ∙ sym (c.may_begin.ensures.answer ∙ ap (λ f. f (p ∷ c.set.result.now)) c.loop-p.invariant.same_may) ∙ c.if-not-may_begin.false in
     let stood : set_in c.put.new.self ≡ p ∷ s = c.put.ensures.set ∙ ap (λ l. p ∷ l) c.loop-p.invariant.kept in
@@ -146,8 +129,6 @@ print_below-requires g t c κs within =
     let asked = c.requires in
     let r = c.args.rules.now in
     let n : ℕ = size_of r in
-    let may : List ℕ → Bool = may_of r in
-    let test : List ℕ → Bool = is_other r c.args.lines.now.last.now in
     let names : List Name = map name_of c.args.lines.now.features.now in
     let s : List ℕ = set_in c.args.room.now in
     let p : ℕ = c.loop-p.p in
@@ -185,15 +166,12 @@ pub returns-in_err-print_below-clause-err : goal.returns-in_err-print_below-clau
 returns-in_err-print_below-clause-err g t c =
     let asked = c.requires in
     let r = c.args.rules.now in
-    let n : ℕ = size_of r in
     let may : List ℕ → Bool = may_of r in
     let test : List ℕ → Bool = is_other r c.args.lines.now.last.now in
     let names : List Name = map name_of c.args.lines.now.features.now in
     let s : List ℕ = set_in c.args.room.now in
     let p : ℕ = c.loop-p.p in
     let lt : p < c.args.end.limit = c.loop-p-test.true in
-    let selection : IsSelection n (p ∷ s) =
-    selection-front n p s (omega (arith, lt, asked.limit)) (above-front c.args.end.limit p s lt asked.above) asked.set in
     let permitted : may (p ∷ s) ≡ true =
     ap (λ l. may (p ∷ l)) (sym (c.set.ensures ∙ c.loop-p.invariant.kept)) ∙ sym (c.may_begin.ensures.answer ∙ ap (λ f. f (p ∷ c.set.result.now)) c.loop-p.invariant.same_may) ∙ c.if-not-may_begin.false in
     let stood : set_in c.put.new.self ≡ p ∷ s = c.put.ensures.set ∙ ap (λ l. p ∷ l) c.loop-p.invariant.kept in
@@ -316,7 +294,6 @@ pub returns-clause-ok : goal.returns-clause-ok
 returns-clause-ok g t c =
     let asked = c.requires in
     let r = c.args.rules.now in
-    let n : ℕ = size_of r in
     let may : List ℕ → Bool = may_of r in
     let test : List ℕ → Bool = is_other r c.args.lines.now.last.now in
     let names : List Name = map name_of c.args.lines.now.features.now in

@@ -6,12 +6,11 @@ use Rattle.hack_base.proofs.Steps.{seen-next, seen_here}
 use Rattle.hack_base.specs.Names.{names_behind}
 use Rattle.hack_base.specs.Notes.{note_of}
 use Rattle.hack_prepare.specs.PreparedView.{member_manifest_view, wanted_view}
-use Rattle.hack_prepare.specs.Internal.{members_view}
+use Rattle.hack_prepare.specs.Internal.{members_view, IsAlonePath, Nowhere, Only}
 use Rattle.hack_prepare.specs.declared.wanted.Member.{Member}
 use Rattle.hack_prepare.specs.FailureCounts.{WriteFails}
 use Rattle.hack_prepare.proofs.CountLemmas.{fault_then, write_then}
 use Rattle.hack_prepare.proofs.FailedLemmas.{calls-on, failed-on, fault-wider, no-call}
-use Rattle.hack_prepare.specs.Internal.{IsAlonePath, Nowhere, Only}
 use Rattle.hack_prepare.proofs.MemberLemmas.{alone-goes, alone-path, others-fail, partly-fails, turned-fails, visited-alone, visited-fails, visited-goes, visited-left, visited-none}
 use Rattle.hack_prepare.proofs.members.edit_members.Goals.{then-goes+else-is_root+in_ok-push, else-goes+then-is_alone+in_ok-edit_member, else-goes+else-is_alone}
 use Rattle.hack_prepare.proofs.OrderLemmas.{next-all, next-alone, next-left}

@@ -1,19 +1,17 @@
-use Rattle.std.proofs.Common.{◌≡◌, ◌∙◌, true, IfSome, ap, sym, subst}
+use Rattle.std.proofs.Common.{◌≡◌, ◌∙◌, true, IfSome, ap, sym, subst, inl, inr}
 use Rattle.std.proofs.lemmas.Result.{err_from_is_err_and}
 use Rattle.hack_prepare.specs.FailureCounts.{WriteFails}
 use Rattle.hack_files.specs.Restore.{is_kept, registered_files}
 use Rattle.hack_base.specs.Names.{names_behind}
 use Rattle.hack_prepare.specs.PreparedView.{wanted_view}
-use Rattle.hack_prepare.specs.Internal.{members_view, ArePartlyTurned}
+use Rattle.hack_prepare.specs.Internal.{members_view, ArePartlyTurned, IsAlonePath, Nowhere, Only}
 use Rattle.hack_prepare.proofs.CountLemmas.{fault_then, none_then, write_then}
 use Rattle.hack_prepare.proofs.FailedLemmas.{calls-on, failed-on, fault-wider, root-calls}
 use Rattle.hack_prepare.specs.FailedCalls.{IsAbsent}
-use Rattle.hack_prepare.specs.Internal.{IsAlonePath, Nowhere, Only}
 use Rattle.hack_prepare.specs.Paths.{IsEdited, IsLookedAt, IsReadRoot}
 use Rattle.hack_prepare.proofs.FaultLemmas.{alone-edited, at-any, at-wider, root-spared, lock-among, members-among, root-among}
 use Rattle.hack_prepare.proofs.EditLemmas.{members-step, root-step, lock-step}
 use Rattle.hack_prepare.proofs.RootLemmas.{partly-all, partly-members, partly-root, prepared, unedited, unedited-apart}
-use Rattle.std.proofs.Common.{inl, inr}
 use Rattle.hack_prepare.specs.Prepared.{HoldTexts, IsPartlyPrepared}
 use Rattle.hack_prepare.specs.Writes.{AreWrites, BeginDevWrites, BeginWrites}
 use Rattle.hack_prepare.proofs.OrderLemmas.{made-in-order}

@@ -1,4 +1,4 @@
-use Rattle.std.proofs.Common.{◌≡◌, ◌∙◌, inl, inr, false, true, IfErr, IfOk, List, ap, sym, subst, map}
+use Rattle.std.proofs.Common.{◌≡◌, ◌∙◌, inl, inr, false, true, IfErr, IfOk, List, ap, sym, subst, map, OnErr, OnOk}
 use Rattle.std.specs.Prelude.{◌||◌}
 use Rattle.hack_prepare.specs.FailureCounts.{WriteFails}
 use Rattle.hack_words.specs.declared.cli.args.Args.{Args}
@@ -15,7 +15,6 @@ use Rattle.hack_prepare.specs.EditNotes.{notes}
 use Rattle.hack_prepare.proofs.CountLemmas.{calls_grow}
 use Rattle.hack_prepare.proofs.FaultLemmas.{asked-fault}
 use Rattle.hack_prepare.proofs.MemberLemmas.{or_left, or_right, told-none, wanted-is}
-use Rattle.std.proofs.Common.{OnErr, OnOk}
 use Rattle.hack_prepare.specs.Writes.{AreWrites, BeginWrites, MakesSome}
 use Rattle.hack_prepare.proofs.OrderLemmas.{none-in-order}
 use Rattle.hack_prepare.proofs.WriteLemmas.{begun_none}
@@ -89,8 +88,6 @@ returns-clause-told g c =
     let are = ap (map member_manifest_view) c.as_slice.ensures.value ∙ c.in_ok-members.ensures in
     let is = wanted-is cx c.args-args.result.now c.drops_dev-drops_dev.result c.workspace_root-folder.result.now c.as_str.result.now c.as_str-2.result.now c.args-args.ensures c.drops_dev-drops_dev.ensures
     c.workspace_root-folder.ensures (c.as_str.ensures.value ∙ c.in_ok-root.ensures) (c.as_str-2.ensures.value ∙ c.in_ok-lockfile.ensures) in
-    let old = g.F.Files.bytes_at c.args.files.now in
-    let new = g.F.Files.bytes_at c.edit.new.files in
     subst (λ (l : List MemberManifest). IfOk c.edit.result (λ told. map note_of told.items ≡ notes (wanted_in cx) l)) are
     (subst (λ (w : Wanted). IfOk c.edit.result (λ told. map note_of told.items ≡ notes w (members_view c.as_slice.result.now))) is c.edit.ensures.told)
 
@@ -101,7 +98,6 @@ returns-clause-err g c =
     let is = wanted-is cx c.args-args.result.now c.drops_dev-drops_dev.result c.workspace_root-folder.result.now c.as_str.result.now c.as_str-2.result.now c.args-args.ensures c.drops_dev-drops_dev.ensures
     c.workspace_root-folder.ensures (c.as_str.ensures.value ∙ c.in_ok-root.ensures) (c.as_str-2.ensures.value ∙ c.in_ok-lockfile.ensures) in
     let old = g.F.Files.bytes_at c.args.files.now in
-    let new = g.F.Files.bytes_at c.edit.new.files in
     let asked : edits (wanted_in cx) ≡ true = ap (λ (w : Wanted). w.drops_dev || w.no_private) (sym is) ∙ sym c.if-not-is_asked.ensures in
     asked-fault g.F.Files.tells cx old c.edit.result asked
     (subst (λ (l : List MemberManifest). IfErr c.edit.result (IsEditsFault (wanted_in cx) l g.F.Files.tells old)) are

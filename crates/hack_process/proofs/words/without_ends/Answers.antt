@@ -15,7 +15,6 @@ ended : (text front : List ℕ) → length front ≤ length text → front ≡ t
     → (0 < length front → ¬ (ends_line (get_or front (length front - 1) 0) ≡ true))
     → front ≡ without_line_ends text
 ended text front le e behind last =
-    let n : ℕ = length front in
     let here : 0 < length front → ends_line (get_or text (length front - 1) 0) ≡ false = λ some.
     ap ends_line (sym (get_or-take (length front) text (length front - 1) 0 (omega arith)) ∙ ap (λ l. get_or l (length front - 1) 0) (sym e)) ∙ not_true _ (last some) in
     let s : suffix_len ends_line text ≡ length text - length front = suffix_len_is ends_line text (length front) 0 le behind here in

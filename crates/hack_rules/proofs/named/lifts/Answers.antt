@@ -1,13 +1,11 @@
 use Rattle.std.proofs.Common.{rules, ◌≡◌, ◌∙◌, ap, subst, ℕ, List, None, Some, Option, MatchOption, map, not, string_bytes}
-use Rattle.std.specs.Option.{option_or}
+use Rattle.std.specs.Option.{option_or, is_none, option_map}
 use Rattle.std.proofs.lemmas.Result.{err_from_is_err_and}
 use Rattle.hack_features.specs.Feature.{group_of}
-use Rattle.hack_rules.specs.CliFaults.{Fault, fault_of}
+use Rattle.hack_rules.specs.CliFaults.{Fault, fault_of, LiftForm, LiftGroup}
 use Rattle.hack_rules.specs.declared.fault.CliFault.TheVariants as fault
 use Rattle.std.specs.List.{find}
-use Rattle.std.specs.Option.{is_none, option_map}
 use Rattle.hack_options.specs.declared.opt.Opt.TheVariants as opt
-use Rattle.hack_rules.specs.CliFaults.{LiftForm, LiftGroup}
 use Rattle.hack_rules.specs.CliLists.{lift_of, lifts_one_of}
 use Rattle.hack_rules.specs.Values.{values_given}
 use Rattle.hack_rules.specs.Uses.{views}

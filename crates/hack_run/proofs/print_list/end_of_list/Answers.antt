@@ -1,2 +1,0 @@
-use Rattle.hack_run.proofs.ShownLists.{list_said}
-use Rattle.hack_run.proofs.LaneLemmas.{may_follow_in_lanes}

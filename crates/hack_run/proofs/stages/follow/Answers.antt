@@ -1,4 +1,4 @@
-use Rattle.std.specs.Prelude.{◌||◌, Bool}
+use Rattle.std.specs.Prelude.{◌||◌, Bool, Err}
 use Rattle.std.specs.Result.{is_err}
 use Rattle.std.proofs.Common.{◌≡◌, ◌∙◌, ap, false, rules, IfOk, inl, inr, refl, string_bytes, subst, sym}
 use Rattle.hack_load.specs.Answers.{IsLoaded}
@@ -21,7 +21,6 @@ use Rattle.hack_prepare.specs.PreparedView.{notes_in}
 use Rattle.hack_run.specs.Shown.{has_edited, looks_of, scene_at, scene_on, unedited, unloaded}
 use Rattle.hack_run.proofs.ShownLemmas.{off_on}
 use Rattle.hack_run.proofs.ShownCalls.{edits_said, follows_said, looks_followed}
-use Rattle.std.specs.Prelude.{Err}
 use Rattle.std.proofs.lemmas.Result.{err_from_is_err_and}
 use Rattle.hack_run.proofs.stages.follow.Goals as goal
 

@@ -1,8 +1,7 @@
-use Rattle.std.proofs.Common.{◌≡◌, ◌<◌, ◌∙◌, [], ap, false, inl, inr, refl, true}
+use Rattle.std.proofs.Common.{◌≡◌, ◌<◌, ◌∙◌, [], ap, false, inl, inr, refl, true, ◌++◌, OnOk, Result, subst}
 use Rattle.std.specs.Prelude.{IfOk, not}
 use Rattle.hack_load.specs.Answers.{IsLoaded}
 use Rattle.hack_files.specs.Restore.{AreSafe, registered_files}
-use Rattle.std.proofs.Common.{◌++◌}
 use Rattle.std.proofs.lemmas.Bool.{cases_Bool}
 use Rattle.std.proofs.lemmas.List.Elements.{Contains-append_left, Contains-append_right}
 use Rattle.hack_files.proofs.RefusalLemmas.{but_restored, but_same, but_then}
@@ -15,7 +14,6 @@ use Rattle.hack_run.proofs.LoadingLemmas.{loaded}
 use Rattle.hack_run.proofs.TraceLemmas.{made, performs}
 use Rattle.hack_run.proofs.LaneLemmas.{on_success}
 use Rattle.hack_run.proofs.LastingLemmas.{left_behind}
-use Rattle.std.proofs.Common.{OnOk, Result, subst}
 use Rattle.hack_files.specs.Files.{KeepsAll}
 use Rattle.hack_load.specs.declared.fault.ContextFault.{ContextFault}
 use Rattle.hack_load.specs.declared.loaded.Loaded.{Loaded}

@@ -1,9 +1,7 @@
-use Rattle.std.proofs.Common.{◌≡◌, ◌∙◌, ap, codes, false, sym}
-use Rattle.std.specs.Prelude.{◌&&◌}
+use Rattle.std.proofs.Common.{◌≡◌, ◌∙◌, ap, codes, false, sym, string_bytes}
+use Rattle.std.specs.Prelude.{◌&&◌, nat_eq}
 use Rattle.std.specs.List.{starts_with}
-use Rattle.std.specs.Prelude.{nat_eq}
 use Rattle.std.specs.Str.{bytes_eq}
-use Rattle.std.proofs.Common.{string_bytes}
 use Rattle.std.proofs.lemmas.Str.Pattern.{starts_text}
 use Rattle.hack_run.proofs.ErrorLemmas.{first_false, second_false, unchosen}
 use Rattle.hack_run.proofs.tell.choice.Goals as goal

@@ -1,5 +1,4 @@
-use Rattle.std.proofs.Common.{◌∙◌, sym}
-use Rattle.std.proofs.Common.{get_or, []}
+use Rattle.std.proofs.Common.{◌∙◌, sym, get_or, []}
 use Rattle.hack_samples.specs.Sets.{tables_of}
 use Rattle.hack_samples.proofs.SetLemmas.{has_each-inside}
 use Rattle.hack_samples.proofs.search.hold_setting.Goals as goal

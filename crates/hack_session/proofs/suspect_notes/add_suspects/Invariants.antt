@@ -1,9 +1,8 @@
 use Rattle.std.proofs.Common.{◌≡◌, ◌++◌, map, take}
-use Rattle.hack_base.specs.Notes.{note_of}
+use Rattle.hack_base.specs.Notes.{note_of, info_note}
 use Rattle.hack_features.specs.Feature.{groups_of}
 use Rattle.hack_samples.specs.Sets.{rows_of}
 use Rattle.hack_session.specs.SuspectNotes.{suspect_text}
-use Rattle.hack_base.specs.Notes.{info_note}
 use Rattle.hack_session.proofs.suspect_notes.add_suspects.Given as goal
 
 abbrev pub invariant-loop-pattern : goal.invariant-loop-pattern

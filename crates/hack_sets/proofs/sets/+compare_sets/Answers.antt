@@ -1,8 +1,7 @@
 use Rattle.std.proofs.Common.{◌++◌, ◌∷◌, [], subst, sym, ◌∙◌}
 use Rattle.std.specs.Ordering.{nat_cmp}
 use Rattle.hack_sets.specs.Sets.{IsBefore}
-use Rattle.hack_sets.proofs.OrderLemmas.{before_trans}
-use Rattle.hack_sets.proofs.OrderLemmas.{Increases, Stand, none_first, same_last, other_last, same_of}
+use Rattle.hack_sets.proofs.OrderLemmas.{before_trans, Increases, Stand, none_first, same_last, other_last, same_of}
 use Rattle.hack_sets.proofs.sets.+compare_sets.Goals as goal
 
 pub returns-in-None-Some-clause-transitive : goal.returns-in-None-Some-clause-transitive

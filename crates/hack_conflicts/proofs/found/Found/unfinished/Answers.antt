@@ -1,4 +1,4 @@
-use Rattle.std.proofs.Common.{subst, arith, All, true, false}
+use Rattle.std.proofs.Common.{subst, arith, true, false}
 use Rattle.std.proofs.lemmas.List.{length-map, take_all}
 use Rattle.std.proofs.lemmas.List.Elements.{All-nil}
 use Rattle.hack_conflicts.specs.Sets.{rows_of}

@@ -1,7 +1,6 @@
 use Rattle.std.proofs.Common.{◌≡◌, ◌∙◌, ◌++◌, ◌∷◌, [], subst, sym, ap, map, replicate, true, List, Bool}
-use Rattle.hack_samples.specs.Sets.{tables_of}
+use Rattle.hack_samples.specs.Sets.{tables_of, rows_of}
 use Rattle.hack_samples.specs.Samples as samples
-use Rattle.hack_samples.specs.Sets.{rows_of}
 use Rattle.hack_features.specs.View.{choice_of, size_of}
 use Rattle.hack_features.specs.Samples.{IsSample, CoversPatterns, IsLean, positions_of}
 use Rattle.hack_features.specs.InternalSamples.{all_providers}

@@ -1,4 +1,4 @@
-use Rattle.std.proofs.Common.{◌≡◌, ◌∙◌, ◌++◌, ◌∷◌, [], inr, ℕ, List, ap, sym, subst, length}
+use Rattle.std.proofs.Common.{◌≡◌, ◌∙◌, ◌++◌, ◌∷◌, [], inr, ℕ, List, ap, sym, subst, length, inl, string_bytes}
 use Rattle.std.proofs.lemmas.Str.{IsUtf8-string_bytes}
 use Rattle.hack_journal.specs.Journal.{Edit, edit_of}
 use Rattle.hack_journal.specs.Rows.{Noted, file_at}
@@ -9,7 +9,6 @@ use Rattle.hack_journal.specs.SafeLaws.{stays_none}
 use Rattle.hack_journal.proofs.SafeLemmas.{append_hidden, append_made, append_noted, append_others, hidden_none, ready_of}
 use Rattle.hack_journal.proofs.FinishLemmas.{all_same}
 use Rattle.hack_journal.proofs.RefusingLemmas.{grow_more}
-use Rattle.std.proofs.Common.{inl, string_bytes}
 use Rattle.std.proofs.lemmas.Result.{err_from_is_err_and}
 use Rattle.hack_journal.specs.Keeping.{CannotAppend, CannotLookAhead, IsWayless}
 use Rattle.hack_files.proofs.FailedLemmas.{none_then, write_then}

@@ -1,4 +1,4 @@
-use Rattle.std.proofs.Common.{◌≡◌, ap, sym, subst}
+use Rattle.std.proofs.Common.{◌≡◌, ap, sym, subst, inl, inr, string_bytes}
 use Rattle.hack_files.specs.TraceLaws.{makes_none}
 use Rattle.hack_journal.specs.SafeLaws.{stays_none, stays_join}
 use Rattle.hack_journal.specs.SafeFiles.{Stays}
@@ -9,7 +9,6 @@ use Rattle.hack_journal.proofs.FinishLemmas.{all_same}
 use Rattle.hack_journal.proofs.RefusingLemmas.{grow_more}
 use Rattle.hack_journal.proofs.SafeLemmas.{hidden_none, hidden_then, notable_of, told_ok}
 use Rattle.hack_journal.specs.Journal.{edit_of}
-use Rattle.std.proofs.Common.{inl, inr, string_bytes}
 use Rattle.std.proofs.lemmas.Result.{err_from_is_err_and}
 use Rattle.hack_journal.specs.Keeping.{CannotAppend}
 use Rattle.hack_journal.proofs.KeepingLemmas.{append_then, cause_wider, fails_then, next_then}

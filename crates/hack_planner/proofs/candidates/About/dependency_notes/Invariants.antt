@@ -1,10 +1,9 @@
 use Rattle.std.proofs.Common.{◌≡◌, map, take, not, string_bytes}
 use Rattle.std.specs.Prelude.{filter}
 use Rattle.hack_features.specs.Feature.{groups_of}
-use Rattle.hack_base.specs.Notes.{note_of}
+use Rattle.hack_base.specs.Notes.{note_of, warning_note}
 use Rattle.hack_base.specs.Names.{names_of}
 use Rattle.hack_planner.specs.Texts.{dependency_text}
-use Rattle.hack_base.specs.Notes.{warning_note}
 use Rattle.hack_planner.specs.Candidates.{one_has}
 use Rattle.hack_planner.proofs.candidates.About.dependency_notes.Given as goal
 

@@ -1,9 +1,8 @@
 use Rattle.std.proofs.Common.{◌≡◌, map, take, not, string_bytes}
 use Rattle.std.specs.Prelude.{filter}
-use Rattle.hack_base.specs.Notes.{note_of}
+use Rattle.hack_base.specs.Notes.{note_of, warning_note}
 use Rattle.hack_base.specs.Names.{names_of}
 use Rattle.hack_planner.specs.Texts.{feature_text}
-use Rattle.hack_base.specs.Notes.{warning_note}
 use Rattle.hack_planner.specs.Candidates.{is_found}
 use Rattle.hack_planner.proofs.candidates.About.feature_notes.Given as goal
 

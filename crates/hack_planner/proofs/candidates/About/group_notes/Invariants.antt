@@ -1,9 +1,8 @@
 use Rattle.std.proofs.Common.{◌≡◌, map, take, not, string_bytes}
 use Rattle.std.specs.Prelude.{filter}
-use Rattle.hack_base.specs.Notes.{note_of}
+use Rattle.hack_base.specs.Notes.{note_of, info_note}
 use Rattle.hack_features.specs.Feature.{groups_of}
 use Rattle.hack_planner.specs.Texts.{group_text}
-use Rattle.hack_base.specs.Notes.{info_note}
 use Rattle.hack_planner.specs.Candidates.{applies}
 use Rattle.hack_planner.specs.PackageRules.{rules_in}
 use Rattle.hack_planner.proofs.candidates.About.group_notes.Given as goal

@@ -15,7 +15,6 @@ returns c =
     let optional = c.in_ok-optional_copies.ensures ∙ ap (option_map names_of) c.as_deref.ensures.value ∙ names-mapped args.optional_deps in
     let exclusive = c.in_ok-held_groups.ensures ∙ ap (λ (n : Name). filter (λ group. not (is_lifted args n group)) (groups_of args.mutually_exclusive_features.items)) c.as_str.ensures.value in
     let needed = c.in_ok-feature_copies-3.ensures ∙ ap groups_of c.deref-4.ensures.value in
-    let i = groups_of c.in_ok-feature_copies.field-0.items in
     let e = names_of c.in_ok-copies.field-0.items in
     let g = groups_of c.in_ok-feature_copies-2.field-0.items in
     let o = option_map (λ (names : Vec (String Global) Global). names_of names.items) c.in_ok-optional_copies.field-0 in

@@ -20,7 +20,6 @@ loop-key-preserved c =
     let x = string_bytes c.in-Some.key.now in
     let rest = names_of c.next.new.self in
     let old = table c.loop-key.self in
-    let new = table c.place_of.new.self in
     let adds = c.in_ok-place_of.ensures.adds in
     let before : (y : Name) → IsKey (feature_map c.args.map.now) y → Contains old y ⊎ Contains (x ∷ rest) y =
     subst (λ keys. (y : Name) → IsKey (feature_map c.args.map.now) y → Contains old y ⊎ Contains (names_of keys) y)
