@@ -1,7 +1,7 @@
 -- Which paths looks are at, one after another.
 use Rattle.std.proofs.Common.{◌≡◌, ◌∙◌, ◌++◌, ◌∷◌, [], ℕ, suc, Bool, List, Option, Some, None, ap, append_assoc, false, refl, subst, sym, string_bytes}
 use Rattle.std.specs.Prelude.{codes}
-use Rattle.std.specs.Option.{option_map, option_or}
+use Rattle.std.specs.Option.{option_or}
 use Rattle.hack_base.specs.Names.{Name}
 use Rattle.hack_base.specs.PathTexts.{join_of, normal_of, parent_of}
 use Rattle.hack_files.specs.Files.{Contents, KeepsAll}

@@ -1,7 +1,7 @@
 //! Where the journal of a call lies: in the own folder of the workspace's repository, so that it is
 //! in no package and in no `git status`; or else beside the workspace's manifest.
 
-ghost use Rattle.std.specs.Prelude.{◌≡◌, [], IfErr, IfOk, map, string_bytes};
+ghost use Rattle.std.specs.Prelude.{◌≡◌, [], IfErr, IfOk, string_bytes};
 ghost use Rattle.std.specs.List.{list_all};
 ghost use Rattle.hack_base.specs.Names.{optional_text};
 ghost use Rattle.hack_files.specs.Files.{KeepsAll, Makes};

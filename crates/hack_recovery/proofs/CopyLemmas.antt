@@ -1,5 +1,5 @@
 -- The lockfile's copy, made after a look.
-use Rattle.std.proofs.Common.{◌≡◌, ◌⊎◌, [], ℕ, List, Result, Some, false, inl, inr, refl}
+use Rattle.std.proofs.Common.{ℕ, Result, inl, inr}
 use Rattle.std.specs.Prelude.{Ok, Err}
 use Rattle.hack_base.specs.Counters.{GrowsBy}
 use Rattle.hack_base.specs.Names.{Name}

@@ -1,5 +1,5 @@
 -- The ways that a call can go.
-use Rattle.std.specs.Prelude.{◌≡◌, ◌⊎◌, ℕ, Bool, true, false, if◌then◌else◌, codes, not, nat_eq, IsSome, List, None, Ok, Err, Option, Result, string_bytes}
+use Rattle.std.specs.Prelude.{◌≡◌, ◌⊎◌, ℕ, Bool, true, false, if◌then◌else◌, not, nat_eq, IsSome, List, None, Ok, Err, Option, Result, string_bytes}
 use Rattle.std.specs.Bool.{then_some}
 use Rattle.hack_base.specs.Counters.{GrowsBy}
 use Rattle.hack_base.specs.Names.{Name}
@@ -35,7 +35,6 @@ use Rattle.hack_words.specs.Edits.{is_change, is_restore}
 use Rattle.hack_recovery.specs.Admission.{IsAdmitted}
 use Rattle.hack_places.specs.CallPlaces.{ArePlacesOf, PlacesAt, is_left}
 use Rattle.hack_places.specs.FileLooks.{Unchanged}
-use Rattle.hack_base.specs.PathTexts.{join_of}
 use Rattle.hack_places.specs.Folders.{folders, package_from, start_at, workspace_around}
 use Rattle.hack_places.specs.LookedPaths.{IsPackageLook, IsPlaceLook, IsRepositoryLook, IsWorkspaceLook}
 use Rattle.hack_recovery.specs.FailedFiles.{RefusesThese}

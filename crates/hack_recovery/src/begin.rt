@@ -1,7 +1,7 @@
 //! The beginning of a call: what it asks for, where its journal lies, and whether an interrupted call
 //! left anything.
 
-ghost use Rattle.std.specs.Prelude.{◌≡◌, [], IfErr, IfOk, IfSome, OnOk, false, option_map};
+ghost use Rattle.std.specs.Prelude.{◌≡◌, [], IfErr, IfOk, IfSome, OnOk, option_map};
 ghost use Rattle.std.specs.Prelude.{string_bytes};
 ghost use Rattle.hack_base.specs.Counters.{GrowsBy};
 ghost use Rattle.hack_base.specs.Names.{names_of, optional_text};

@@ -4,8 +4,8 @@
 //! A guard acts at once, so it gives the lockfile back what the copy has. Any later call can't tell
 //! cargo's change from a person's, so it leaves the lockfile as it is.
 
-ghost use Rattle.std.specs.Prelude.{◌≡◌, ◌≢◌, ◌⊎◌, [], Err, IfErr, None, Ok, OnOk, Some, false};
-ghost use Rattle.std.specs.Prelude.{if◌then◌else◌, string_bytes, true};
+ghost use Rattle.std.specs.Prelude.{◌≡◌, ◌≢◌, ◌⊎◌, [], Err, None, Ok, OnOk, Some, false};
+ghost use Rattle.std.specs.Prelude.{string_bytes, true};
 ghost use Rattle.std.specs.Option.{option_or};
 ghost use Rattle.hack_base.specs.Streams.{stream_of};
 ghost use Rattle.hack_base.specs.Counters.{GrowsBy};

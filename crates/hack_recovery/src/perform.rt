@@ -44,7 +44,6 @@ use hack_journaled::journaled::run_journaled;
 use hack_places::places::Places;
 use hack_process::process::Caller;
 use hack_run::host::Host;
-use hack_run::reading::Reading;
 use hack_starts::starts::Starts;
 use hack_term::term::Term;
 use hack_words::cli::Edits;

@@ -1,7 +1,6 @@
 //! Guards by the shell of the system. No contract says what it does; tests check it.
 
 ghost use Rattle.std.specs.Prelude.{◌≡◌, [], None, false};
-ghost use Rattle.hack_recovery.specs.GuardEvents.{GuardsView};
 
 use crate::guards::Guards;
 use std::alloc::{AllocError, Global};

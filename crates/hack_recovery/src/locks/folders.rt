@@ -1,7 +1,6 @@
 //! Locks on the folders of the operating system. No contract says who has them; tests check it.
 
 ghost use Rattle.std.specs.Prelude.{◌≡◌, [], None, false};
-ghost use Rattle.hack_recovery.specs.LockEvents.{LocksView};
 
 use crate::locks::{Holder, Locks};
 use std::alloc::{AllocError, Global};

@@ -1,4 +1,4 @@
-use Rattle.std.proofs.Common.{◌≡◌, ◌∙◌, [], inl, inr, refl, string_bytes, sym}
+use Rattle.std.proofs.Common.{◌∙◌, [], inl, inr, refl, string_bytes, sym}
 use Rattle.hack_files.specs.TraceLaws.{makes_more}
 use Rattle.hack_journal.proofs.RecoverLemmas.{put_or_not}
 use Rattle.hack_places.specs.PlacesView.{places_view}
