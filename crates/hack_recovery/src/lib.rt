@@ -17,5 +17,6 @@ pub mod perform;
 mod restore;
 pub mod started;
 pub mod system;
+mod tell;
 mod unjournaled;
 mod unseen;

@@ -17,8 +17,7 @@ ghost use Rattle.hack_recovery.specs.LockEvents.{LocksView};
 ghost use Rattle.hack_places.specs.PlacesView.{places_view};
 ghost use Rattle.hack_recovery.specs.Restoring.{TakesBack};
 ghost use Rattle.hack_recovery.specs.Scenes.{Refuses, scene_beside, scene_of, scene_with};
-ghost use Rattle.hack_recovery.specs.Telling.{SaysStanding, SaysUnrestored, SaysWatched};
-ghost use Rattle.hack_recovery.specs.Texts.{unrestored_text as text_of_unrestored};
+ghost use Rattle.hack_recovery.specs.Telling.{SaysStanding, SaysUnrestored};
 ghost use Rattle.hack_run.specs.Lanes.{IsLaneCall};
 ghost use Rattle.hack_run.specs.Readings.{IsEarlyReading};
 ghost use Rattle.hack_files.specs.View.{FilesView, files_view};
@@ -33,6 +32,7 @@ use crate::keepers::Keepers;
 use crate::lockfile::{keep_copy, settle};
 use crate::locks::Locks;
 use crate::restore::restore;
+use crate::tell::{tell_standing, tell_unrestored, tell_watch};
 use crate::unjournaled::unjournaled;
 use crate::unseen::blindly;
 use hack_base::writes::Sink;
@@ -181,48 +181,6 @@ fn plainly<F: Files, C: Starts, O: Sink, E: Sink>(
     }
     tell_standing(standing, host.term, host.err);
     unjournaled(words, begun.reading, files, host)
-}
-
-/// Says whose edits may stand while the call goes on.
-fn tell_standing<E: Sink>(standing: Standing, term: &mut Term, err: &mut E)
-    ensures { SaysStanding standing term.old term.new
-        (stream_of E.Sink err.old) (stream_of E.Sink err.new) }
-{
-    match standing {
-        Standing::Nobodys => {}
-        Standing::Anothers => {
-            let text =
-                "another call is editing the manifests of this workspace: this one sees its edits";
-            let _ = term.info(text, err);
-        }
-        Standing::Interrupted => {
-            let text =
-                "edits of an interrupted call may stand: the folder of the workspace can't be locked";
-            let _ = term.warn(text, err);
-        }
-    }
-}
-
-/// Says why nothing is restored, unless the guard calls.
-fn tell_unrestored<E: Sink>(by_guard: bool, is_left: bool, term: &Term, err: &mut E)
-    ensures { SaysUnrestored term.now.coloring by_guard is_left
-        (stream_of E.Sink err.old) (stream_of E.Sink err.new) }
-{
-    if by_guard {
-        return;
-    }
-    let _ = term.info(unrestored_text(is_left), err);
-}
-
-/// Why nothing is restored, though something is left, or since nothing is.
-fn unrestored_text(is_left: bool) -> &'static str
-    ensures { result.now ≡ text_of_unrestored is_left }
-{
-    if is_left {
-        "another call is editing the manifests of this workspace, and restores them"
-    } else {
-        "nothing is left to restore"
-    }
 }
 
 /// Performs a call under its own lock.
@@ -436,19 +394,6 @@ fn copied<F: Overwrites, L: Files, U: Unkept, C: Starts, O: Sink, E: Sink>(
         Ok(()) => over_journal(words, begun, files, lockfiles, unkept, host),
         Err(fault) => (report(fault, host), files, lockfiles, unkept),
     }
-}
-
-/// Says, where no guard watches, that nobody restores the manifests where this call ends early.
-fn tell_watch<E: Sink>(watches: bool, term: &Term, err: &mut E)
-    ensures { SaysWatched term.now.coloring watches
-        (stream_of E.Sink err.old) (stream_of E.Sink err.new) }
-{
-    if watches {
-        return;
-    }
-    let text =
-        "no guard could be started: where this call is interrupted, the next one restores the manifests";
-    let _ = term.info(text, err);
 }
 
 /// Performs a call over a journal, and closes it.

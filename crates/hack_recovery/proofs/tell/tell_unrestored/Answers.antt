@@ -1,7 +1,7 @@
 use Rattle.std.proofs.Common.{refl}
 use Rattle.hack_term.specs.Lines.{info_line}
 use Rattle.hack_recovery.proofs.SaidLemmas.{wrote_as}
-use Rattle.hack_recovery.proofs.perform.tell_unrestored.Goals as goal
+use Rattle.hack_recovery.proofs.tell.tell_unrestored.Goals as goal
 
 pub returns-then-by_guard : goal.returns-then-by_guard
 returns-then-by_guard g c = rw c.if-by_guard.true refl
