@@ -8,6 +8,7 @@ ghost use Rattle.hack_base.specs.Counters.{GrowsBy};
 ghost use Rattle.hack_files.specs.Files.{KeepsOthers, KeepsAll, Makes, MakesOrNot, puts, removes};
 ghost use Rattle.hack_files.specs.Files.{Grows, IsUnseenUnlessAbsent, refused_path};
 ghost use Rattle.hack_files.specs.Faults.{IsOfRead, IsOfText, IsOfWrite, IsUnseenUnlessNoText};
+ghost use Rattle.hack_files.specs.Faults.{file_text};
 
 pub use crate::disk::Disk;
 pub use crate::failing::{FailingFiles, FailingWriter};
@@ -177,6 +178,20 @@ pub enum FsFault {
     Memory,
 }
 
+impl FsFault {
+    /// The text: what stands before the path, the path, and what stands behind it.
+    pub(crate) fn parts(&self) -> (&str, &str, &str)
+        ensures { result.0.now ++ (result.1.now ++ result.2.now) ≡ file_text self.now }
+    {
+        match self {
+            FsFault::Read(path) => ("failed to read from file `", path.as_str(), "`"),
+            FsFault::Write(path) => ("failed to write to file `", path.as_str(), "`"),
+            FsFault::NotText(path) => ("file `", path.as_str(), "` is not UTF-8 text"),
+            FsFault::Memory => ("out of memory", "", ""),
+        }
+    }
+}
+
 /// Written out, so that the texts are proved.
 impl fmt::Display for FsFault {
     ghost use Rattle.hack_files.specs.Faults.{file_text};
@@ -184,12 +199,8 @@ impl fmt::Display for FsFault {
     ghost output = { λ fault. Some (file_text fault) };
 
     fn fmt<W: fmt::Write>(&self, f: &mut fmt::Formatter<W>) -> fmt::Result {
-        match self {
-            FsFault::Read(path) => write!(f, "failed to read from file `{path}`"),
-            FsFault::Write(path) => write!(f, "failed to write to file `{path}`"),
-            FsFault::NotText(path) => write!(f, "file `{path}` is not UTF-8 text"),
-            FsFault::Memory => f.write_str("out of memory"),
-        }
+        let (before, name, after) = self.parts();
+        write!(f, "{before}{name}{after}")
     }
 }
 
