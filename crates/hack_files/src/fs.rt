@@ -98,19 +98,6 @@ pub trait Files {
         ensures untraced { whole → Makes [] (trace self.old) (trace self.new)
             (bytes_at self.old) (bytes_at self.new) };
 
-    /// Removes what is at a path. A path that holds nothing is no error.
-    fn remove(&mut self, path: &str) -> Result<(), FileFault>
-        ensures stays { stays self.old self.new }
-        ensures counted { CountsFailedCall (failed self.old) (failed self.new) result }
-        ensures refused_path { refuses self.old self.new (refused_path result path.now) }
-        ensures unseen_none { unseen self.old self.new [] }
-        ensures removed { OnOk result (tells → bytes_at self.new path.now ≡ None) }
-        ensures others { tells → KeepsOthers path.now (bytes_at self.old) (bytes_at self.new) }
-        ensures traced { OnOk result (whole → Makes (removes path.now ∷ [])
-            (trace self.old) (trace self.new) (bytes_at self.old) (bytes_at self.new)) }
-        ensures refused { OnErr result (whole → MakesOrNot (removes path.now)
-            (trace self.old) (trace self.new) (bytes_at self.old) (bytes_at self.new)) };
-
     ghost stays_none: { (a : Self) → stays a a };
 
     ghost stays_more: { (a b c : Self) → stays a b → stays b c → stays a c };
@@ -142,8 +129,9 @@ pub trait Files {
     }
 }
 
-/// Files for a caller that keeps what is there before it edits it: nothing else may write over bytes.
-pub trait Overwrites: Files {
+/// What a journal needs of the files below it: it writes over bytes that it keeps, and removes its own
+/// files. The files of a call are `Files` alone, so a call can do neither.
+pub trait JournalFiles: Files {
     /// Writes bytes as `write` does. On the disk a write that is interrupted may leave the first of
     /// these bytes, before the rest of those that were there.
     fn overwrite(&mut self, path: &str, bytes: &[u8]) -> Result<(), FileFault>
@@ -164,6 +152,22 @@ pub trait Overwrites: Files {
     {
         self.write(path, bytes)
     }
+
+    /// Removes what is at a path. A path that holds nothing is no error.
+    fn remove(&mut self, path: &str) -> Result<(), FileFault>
+        ensures stays { Self.stays self.old self.new }
+        ensures counted { CountsFailedCall (Self.failed self.old) (Self.failed self.new) result }
+        ensures refused_path { Self.refuses self.old self.new (refused_path result path.now) }
+        ensures unseen_none { Self.unseen self.old self.new [] }
+        ensures removed { OnOk result (Self.tells → Self.bytes_at self.new path.now ≡ None) }
+        ensures others { Self.tells
+            → KeepsOthers path.now (Self.bytes_at self.old) (Self.bytes_at self.new) }
+        ensures traced { OnOk result (Self.whole → Makes (removes path.now ∷ [])
+            (Self.trace self.old) (Self.trace self.new)
+            (Self.bytes_at self.old) (Self.bytes_at self.new)) }
+        ensures refused { OnErr result (Self.whole → MakesOrNot (removes path.now)
+            (Self.trace self.old) (Self.trace self.new)
+            (Self.bytes_at self.old) (Self.bytes_at self.new)) };
 }
 
 /// Why a file can't be read or written. Each value but `Memory` has the path.
