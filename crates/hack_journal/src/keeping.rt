@@ -10,7 +10,8 @@ ghost use Rattle.hack_journal.specs.Journal.{edit_of};
 ghost use Rattle.hack_journal.specs.Keeping.{CannotAppend, CannotKeep, CannotLookAhead, FailsOf};
 ghost use Rattle.hack_journal.specs.Keeping.{IsOther};
 ghost use Rattle.hack_journal.specs.Rows.{file_at, is_of_journal};
-ghost use Rattle.hack_journal.specs.SafeFiles.{SomeEntryHasBytes, first_entry_of, without};
+ghost use Rattle.hack_journal.specs.SafeFiles.{HoldsUnkept, SomeEntryHasBytes, first_entry_of};
+ghost use Rattle.hack_journal.specs.SafeFiles.{without};
 ghost use Rattle.hack_journal.specs.Internal.{Hidden, IsHeld, IsNotable, RefusesNextAtMost};
 ghost use Rattle.hack_journal.specs.Strangers.{is_edit_of_manifest};
 
@@ -155,6 +156,8 @@ impl<F: Files, U: Unkept> Journaled<F, U> {
             (Some bytes.now) ⊎ (F.bytes_at self.new.files path.now ≡ Some bytes.now)) }
         ensures sure { SomeEntryHasBytes self.old.notes.entries path.now (Some bytes.now) →
             (result ≡ Ok tt) × (self.new ≡ self.old) }
+        ensures idle { F.tells → HoldsUnkept self.old.notes.entries (F.bytes_at self.old.files)
+            path.now bytes.now → self.new.notes ≡ self.old.notes }
         ensures others { F.tells → KeepsAll
             (without self.old.notes.journal (F.bytes_at self.old.files))
             (without self.old.notes.journal (F.bytes_at self.new.files)) }
