@@ -13,7 +13,7 @@ ghost use Rattle.hack_files.specs.Files.{Contents, CountsFailedCall, KeepsOthers
 ghost use Rattle.hack_files.specs.Files.{Makes, MakesOrNot, puts, refused_path};
 ghost use Rattle.hack_journal.specs.Keeping.{FailsToChange, TellsItsOwn};
 ghost use Rattle.hack_journal.specs.Rows.{spot_of, file_at, is_of_journal, KeepsBeside, RemovesOwn};
-ghost use Rattle.hack_journal.specs.SafeFiles.{SomeEntryHasBytes, AreBack};
+ghost use Rattle.hack_journal.specs.SafeFiles.{HoldsUnkept, SomeEntryHasBytes, AreBack};
 ghost use Rattle.hack_journal.specs.SafeFiles.{IsJournaled, Stays, trace_besides, without};
 ghost use Rattle.hack_journal.specs.Internal.{ShortensRow};
 ghost use Rattle.hack_journal.specs.Refusing.{IsCounted, IsRefusedOrUnkept};
@@ -116,6 +116,8 @@ impl<F: JournalFiles, U: Unkept> Journaled<F, U> {
         ensures stays { StaysJournaled F.Files self.old self.new }
         ensures cause { FailsToChange F.Files (string_bytes self.old.folder)
             self.old.notes path.now bytes.now self.old.files self.new.files result }
+        ensures idle { F.tells → HoldsUnkept self.old.notes.entries (F.bytes_at self.old.files)
+            path.now bytes.now → self.new.notes ≡ self.old.notes }
     {
         if self.notes.is_of_journal(path) {
             self.unkept.note(Refusal::of(path));
@@ -312,6 +314,9 @@ impl<F: JournalFiles, U: Unkept> Files for Journaled<F, U> {
         // It fails for memory, or for one of these causes.
         ensures cause { FailsToChange F.Files (string_bytes self.old.folder) self.old.notes
             path.now bytes.now self.old.files self.new.files result }
+        // What the path holds already needs no entry.
+        ensures idle { F.tells → HoldsUnkept self.old.notes.entries (F.bytes_at self.old.files)
+            path.now bytes.now → self.new.notes ≡ self.old.notes }
     {
         let outcome = self.change(path, bytes);
         counted(&mut self.failures, outcome)

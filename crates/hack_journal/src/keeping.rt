@@ -10,12 +10,13 @@ ghost use Rattle.hack_journal.specs.Journal.{edit_of};
 ghost use Rattle.hack_journal.specs.Keeping.{CannotAppend, CannotKeep, CannotLookAhead, FailsOf};
 ghost use Rattle.hack_journal.specs.Keeping.{IsOther};
 ghost use Rattle.hack_journal.specs.Rows.{file_at, is_of_journal};
-ghost use Rattle.hack_journal.specs.SafeFiles.{SomeEntryHasBytes, first_entry_of, without};
+ghost use Rattle.hack_journal.specs.SafeFiles.{HoldsUnkept, SomeEntryHasBytes, first_entry_of};
+ghost use Rattle.hack_journal.specs.SafeFiles.{without};
 ghost use Rattle.hack_journal.specs.Internal.{Hidden, IsHeld, IsNotable, RefusesNextAtMost};
 ghost use Rattle.hack_journal.specs.Strangers.{is_edit_of_manifest};
 
 use crate::contents::look;
-use crate::entries::{copy, first, tells};
+use crate::entries::{copy, first, same, tells};
 use crate::journal::{Entry, note_of};
 use crate::journaled::Journaled;
 use crate::strangers::edit_of_manifest;
@@ -141,7 +142,8 @@ impl<F: Files, U: Unkept> Journaled<F, U> {
     }
 
     /// Keeps what the path holds before it is to hold these bytes: adds an entry to the journal, unless
-    /// one of the path has these bytes already.
+    /// one of the path has these bytes already, or the path has held them all along. Then a call leaves
+    /// nothing there that somebody else's change could be taken for.
     pub(crate) fn keep(&mut self, path: &str, bytes: &[u8]) -> Result<(), FileFault>
         ensures handed { F.stays self.old.files self.new.files }
         ensures below { Grows (F.failed self.old.files) (F.failed self.new.files) }
@@ -150,10 +152,12 @@ impl<F: Files, U: Unkept> Journaled<F, U> {
         ensures journal { self.new.notes.journal ≡ self.old.notes.journal }
         ensures rest { self.new ≡
             record self.old { files = self.new.files; notes = self.new.notes } }
-        ensures told { OnOk result (SomeEntryHasBytes self.new.notes.entries path.now
-            (Some bytes.now)) }
+        ensures told { OnOk result (F.tells → SomeEntryHasBytes self.new.notes.entries path.now
+            (Some bytes.now) ⊎ (F.bytes_at self.new.files path.now ≡ Some bytes.now)) }
         ensures sure { SomeEntryHasBytes self.old.notes.entries path.now (Some bytes.now) →
             (result ≡ Ok tt) × (self.new ≡ self.old) }
+        ensures idle { F.tells → HoldsUnkept self.old.notes.entries (F.bytes_at self.old.files)
+            path.now bytes.now → self.new.notes ≡ self.old.notes }
         ensures others { F.tells → KeepsAll
             (without self.old.notes.journal (F.bytes_at self.old.files))
             (without self.old.notes.journal (F.bytes_at self.new.files)) }
@@ -170,6 +174,9 @@ impl<F: Files, U: Unkept> Journaled<F, U> {
             return Ok(());
         }
         let entry = self.entry(path, bytes)?;
+        if same(entry.held.as_deref(), Some(bytes)) {
+            return Ok(());
+        }
         self.append(entry)
     }
 }

@@ -5,7 +5,7 @@ use Rattle.hack_files.specs.TraceLaws.{makes_none}
 use Rattle.hack_journal.specs.RefusingLaws.{grows_none}
 use Rattle.hack_journal.specs.SafeLaws.{stays_none, stays_more}
 use Rattle.hack_journal.proofs.RefusingLemmas.{counted_below}
-use Rattle.hack_journal.proofs.SafeLemmas.{hidden_put, hidden_alone, hidden_or_not, put_or_not_stays, at_either}
+use Rattle.hack_journal.proofs.SafeLemmas.{hidden_put, hidden_alone, hidden_or_not, put_or_not_stays, same_or_not_stays, at_either}
 use Rattle.hack_files.specs.FailedCalls.{WriteFailed}
 use Rattle.hack_base.proofs.Members.{Contains-nil}
 use Rattle.hack_files.proofs.FailedLemmas.{write_then}
@@ -80,7 +80,10 @@ returns-in-Ok-clause-stays g c = λ tells whole.
     let out : is_of_journal c.args.self.now.notes.journal c.args.path.now ≡ false = sym c.is_of_journal.ensures ∙ c.if-is_of_journal.false in
     let makes = at_either c.overwrite.result _ _ _ _ _ c.overwrite.ensures.traced c.overwrite.ensures.refused whole in
     let told = rw c.in-Ok.is at c.keep.ensures.told in
-    stays_more _ _ _ _ _ _ _ _ _ _ (c.in-Ok.ensures.stays out tells whole) (put_or_not_stays _ _ _ _ _ _ _ _ out told makes)
+    stays_more _ _ _ _ _ _ _ _ _ _ (c.in-Ok.ensures.stays out tells whole) (elim (told tells) [
+      | inl has ↦ put_or_not_stays _ _ _ _ _ _ _ _ out has makes
+      | inr holds ↦ same_or_not_stays _ _ _ _ _ _ _ _ holds makes
+    ])
 
 pub returns-then-is_of_journal-clause-refused : goal.returns-then-is_of_journal-clause-refused
 returns-then-is_of_journal-clause-refused g c = λ whole. inl (makes_none _ _)
